@@ -1,0 +1,43 @@
+-- How a worked example is proved: the checker computes the reading and its print.
+use Rattle.std.proofs.Common.{◌≡◌, ℕ, true, Option, Some, None, refl, sym, ap, ◌∙◌, subst}
+use Rattle.syn_grammar.specs.Tokens.{Span, Stream, plain, visible}
+use Rattle.syn_grammar.specs.Rules.{Rule}
+use Rattle.syn_grammar.specs.Grammar.{Syntax, Reads, rule, print}
+use Rattle.syn_grammar.specs.Table.{table}
+use Rattle.syn_grammar.specs.Take.{Out}
+use Rattle.syn_grammar.specs.Run.{reads}
+use Rattle.syn_grammar.specs.Says.{Unread}
+use Rattle.syn_grammar.proofs.Means.{reads_told}
+use Rattle.syn_grammar.proofs.Held.{print_held}
+use Rattle.syn_grammar.proofs.Outcomes.{meaning_of_rule}
+
+-- from this byte to that
+abbrev pub at : ℕ → ℕ → Span
+at a b = record { start = a; stop = b }
+
+-- from the stream the rule reads a tree that prints so, spans aside, and this rest is left
+abbrev pub ReadsAs : Rule → Stream → Stream → Stream → Type 0
+ReadsAs k ts printed rest = (s : Syntax) × Reads table (rule k) s ts rest × (plain (print s) ≡ printed)
+
+-- what is computed, printed, and what it leaves
+abbrev pub printed_of : Out → Option (Stream × Stream)
+printed_of (Some p) = Some (plain (print p.0), p.1)
+printed_of None = None
+
+Said : Rule → Stream → Option (Stream × Stream) → Type 0
+Said k ts (Some q) = ReadsAs k ts q.0 q.1
+Said k ts None = Unit {0}
+
+pub computed : (k : Rule) (ts printed rest : Stream) → visible ts ≡ true → printed_of (reads k ts) ≡ Some (printed, rest) → ReadsAs k ts printed rest
+unfolding Said
+computed k ts printed rest v h = subst (Said k ts) h (go (reads k ts) refl)
+  where
+    go : (o : Out) → reads k ts ≡ o → Said k ts (printed_of o)
+    go None e = tt
+    go (Some p) e =
+        let t = reads_told k ts p v e in
+        (t.0, t.1, ap plain (sym (print_held t.0) ∙ ap print t.2))
+
+-- nothing is read where nothing is computed
+pub not_read : (k : Rule) (ts : Stream) → visible ts ≡ true → reads k ts ≡ None → Unread (rule k) ts
+not_read k ts v e = (meaning_of_rule k ts v).1.0 e

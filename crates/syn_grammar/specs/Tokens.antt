@@ -1,0 +1,368 @@
+-- TOKEN STREAMS, what stands at the front of one, and looks: the conditions of the lookahead.
+use Rattle.std.specs.Prelude.{ℕ, suc, ◌+◌, Bool, true, false, List, [], ◌∷◌, ◌++◌, nat_eq}
+use Rattle.syn_grammar.specs.Words.{Text, keywords, contextual, w_const, w_crate, w_self, w_Self_type, w_super, w_in, w_mut, w_as, w_try, w_static, w_async, w_unsafe, w_extern, w_fn, w_move, w_union, w_auto, w_default, w_trait, w_impl, bar, equals, exclamation, not_equals, colon, colons, apostrophe, less, less_equals, less_less, greater, pound, long_marks}
+
+-- where a token stands in the text, in bytes: from its first byte to the one behind its last
+pub record Span : Type 0 where
+  pub start : ℕ
+  pub stop : ℕ
+
+-- the span of what was not read from a text
+abbrev pub call_site : Span
+call_site = record { start = 0; stop = 0 }
+
+-- `( )`, `{ }`, `[ ]`, and the delimiters of an invisible group, which have no text
+pub data Delimiter : Type 0 where
+  Paren Brace Bracket None : Delimiter
+
+pub data LitKind : Type 0 where
+  Str ByteStr CStr Byte Char Int Float : LitKind
+
+-- an identifier by its text, or a literal by its kind and text
+pub data Leaf : Type 0 where
+  ident : Text → Leaf
+  literal : LitKind → Text → Leaf
+
+-- A token stream: each token tree, and what follows it. One type holds trees and lists of trees, so that every induction is short.
+pub data Stream : Type 0 where
+  end : Stream
+  leaf : Leaf → Span → Stream → Stream  -- an identifier or a literal
+  punct : ℕ → Bool → Span → Stream → Stream  -- a punctuation character, Joint (true) or Alone (false)
+  group : Delimiter → Span → Span → Stream → Stream → Stream  -- a group: the spans of its delimiters, its content, and what follows it
+
+-- one stream, and then another
+infixr 60 ◌⧺◌
+abbrev pub ◌⧺◌ : Stream → Stream → Stream
+end ⧺ r = r
+(leaf x sp m) ⧺ r = leaf x sp (m ⧺ r)
+(punct c j sp m) ⧺ r = punct c j sp (m ⧺ r)
+(group d o c i m) ⧺ r = group d o c i (m ⧺ r)
+
+-- the same with every span 0 to 0
+abbrev pub plain : Stream → Stream
+plain end = end
+plain (leaf x sp m) = leaf x call_site (plain m)
+plain (punct c j sp m) = punct c j call_site (plain m)
+plain (group d o c i m) = group d call_site call_site (plain i) (plain m)
+
+abbrev pub or : Bool → Bool → Bool
+or true b = true
+or false b = b
+
+abbrev pub and : Bool → Bool → Bool
+and true b = b
+and false b = false
+
+abbrev pub no : Bool → Bool
+no true = false
+no false = true
+
+abbrev pub pick : {X : Type 0} → Bool → X → X → X
+pick true a b = a
+pick false a b = b
+
+-- the delimiters have a text
+abbrev pub is_visible : Delimiter → Bool
+is_visible None = false
+is_visible _ = true
+
+-- a visible stream: no invisible group stands in it, at any depth
+abbrev pub visible : Stream → Bool
+visible end = true
+visible (leaf x sp m) = visible m
+visible (punct c j sp m) = visible m
+visible (group d o c i m) = and (is_visible d) (and (visible i) (visible m))
+
+-- its tokens at every depth, a group's two delimiters counted as one
+abbrev pub weight : Stream → ℕ
+weight end = 0
+weight (leaf x sp m) = suc (weight m)
+weight (punct c j sp m) = suc (weight m)
+weight (group d o c i m) = suc (weight i + weight m)
+
+-- TEXTS
+
+abbrev pub same_text : Text → Text → Bool
+same_text [] [] = true
+same_text (x ∷ l) (y ∷ m) = and (nat_eq x y) (same_text l m)
+same_text _ _ = false
+
+abbrev pub one_of_texts : Text → List Text → Bool
+one_of_texts x [] = false
+one_of_texts x (y ∷ l) = or (same_text x y) (one_of_texts x l)
+
+-- the second begins with the first
+abbrev pub begins_text : Text → Text → Bool
+begins_text [] m = true
+begins_text (x ∷ l) [] = false
+begins_text (x ∷ l) (y ∷ m) = and (nat_eq x y) (begins_text l m)
+
+-- THE FRONT OF A STREAM: the face of its first token tree, and notes of what stands behind or inside it
+
+-- What the first token tree is.
+pub data Face : Type 0 where
+  Ended : Face  -- there is none
+  Name : Face  -- an identifier whose text no rule asks for
+  Word : Text → Face  -- an identifier whose text some rule asks for
+  Sign : Text → Face  -- a punctuation character: the longest mark that begins there
+  Literal : LitKind → Face
+  Holds : Delimiter → Face  -- a group
+
+-- Notes: what the front of a stream tells besides its face. A token notes something only where `asked` says so, so that the
+-- front depends on the next one alone and lookahead stays short.
+pub data Next : Type 0 where
+  Before_equals : Next  -- an identifier: `=` follows it
+  Before_end : Next  -- `crate`, `self` or `super`: nothing follows it
+  Before_colons : Next  -- a word of a path: `::` follows it
+  Before_paren : Next  -- an identifier: a group in parentheses follows it
+  Before_less : Next  -- an identifier: `<` follows it
+  Before_bang : Next  -- `#`: `!` follows it
+  Before_type_rest : Next  -- an identifier: what may go on a type follows it (`::`, `<`, arguments in parentheses, or `as`)
+  Before_own_self : Next  -- `mut`: `self` follows it, and no `::` behind that
+  Before_parameter : Next  -- `<`: `>` or a parameter of generics follows it
+  Begins_item : Next  -- a word that begins an item in a block only with what follows it
+  Not_item : Next  -- a word that begins no item in a block because of what follows it
+  Bang_brace : Next  -- a path or `!`: `!` and a group in braces follow the path, or this group follows `!`
+  Bang_name : Next  -- the same with an identifier that isn't a keyword, or `try`, in place of the group
+  Bang_group : Next  -- the same with a group in parentheses or brackets
+  Lone_word : Next  -- a group in parentheses: its content is `crate`, `self` or `super` alone
+  Begins_in : Next  -- a group in parentheses: its content begins with `in`
+
+-- every note
+abbrev pub every_note : List Next
+every_note =
+    Before_equals ∷ Before_end ∷ Before_colons ∷ Before_paren ∷ Before_less ∷ Before_bang ∷ Before_type_rest ∷ Before_own_self
+    ∷ Before_parameter ∷ Begins_item ∷ Not_item ∷ Bang_brace ∷ Bang_name ∷ Bang_group ∷ Lone_word ∷ Begins_in ∷ []
+
+-- The front of a stream.
+pub record Front : Type 0 where
+  pub face : Face
+  pub notes : List Next  -- all that it tells
+
+abbrev pub front : Face → List Next → Front
+front f l = record { face = f; notes = l }
+
+abbrev pub delimiter_number : Delimiter → ℕ
+delimiter_number Paren = 0
+delimiter_number Brace = 1
+delimiter_number Bracket = 2
+delimiter_number None = 3
+
+abbrev pub kind_number : LitKind → ℕ
+kind_number Str = 0
+kind_number ByteStr = 1
+kind_number CStr = 2
+kind_number Byte = 3
+kind_number Char = 4
+kind_number Int = 5
+kind_number Float = 6
+
+abbrev pub next_number : Next → ℕ
+next_number Before_equals = 0
+next_number Before_end = 1
+next_number Before_colons = 2
+next_number Before_paren = 3
+next_number Before_less = 4
+next_number Before_bang = 5
+next_number Before_type_rest = 6
+next_number Before_own_self = 7
+next_number Before_parameter = 8
+next_number Begins_item = 9
+next_number Not_item = 10
+next_number Bang_brace = 11
+next_number Bang_name = 12
+next_number Bang_group = 13
+next_number Lone_word = 14
+next_number Begins_in = 15
+
+abbrev pub same_next : Next → Next → Bool
+same_next a b = nat_eq (next_number a) (next_number b)
+
+abbrev pub tells : Next → List Next → Bool
+tells n [] = false
+tells n (m ∷ l) = or (same_next n m) (tells n l)
+
+abbrev pub same_face : Face → Face → Bool
+same_face Ended Ended = true
+same_face Name Name = true
+same_face (Word x) (Word y) = same_text x y
+same_face (Sign x) (Sign y) = same_text x y
+same_face (Literal a) (Literal b) = nat_eq (kind_number a) (kind_number b)
+same_face (Holds a) (Holds b) = nat_eq (delimiter_number a) (delimiter_number b)
+same_face _ _ = false
+
+abbrev pub mem : Face → List Face → Bool
+mem a [] = false
+mem a (x ∷ l) = or (same_face a x) (mem a l)
+
+-- LOOKS: conditions on the front of a stream, by which forms choose
+
+pub data Look : Type 0 where
+  ended : Look  -- nothing stands next: the end of the stream or of the group's content
+  at_name : Look  -- an identifier that isn't a keyword stands next
+  at_word : Text → Look  -- the identifier of this text stands next
+  at_mark : Text → Look  -- this mark stands next: its characters, all but the last Joint; the spacing of the last isn't looked at
+  at_literal : LitKind → Look  -- a literal of this kind stands next
+  at_group : Delimiter → Look  -- a group with this delimiter stands next
+  noted : Next → Look  -- the front tells this note
+  ◌or_else◌ ◌and_also◌ ◌but_not◌ : Look → Look → Look  -- one or the other; both; the first and not the second
+
+infixr 30 ◌or_else◌
+infixr 35 ◌and_also◌
+infixr 35 ◌but_not◌
+abbrev pub is_ended : Face → Bool
+is_ended Ended = true
+is_ended _ = false
+
+abbrev pub is_name : Face → Bool
+is_name Name = true
+is_name (Word x) = one_of_texts x contextual
+is_name _ = false
+
+abbrev pub is_word : Text → Face → Bool
+is_word x (Word y) = same_text x y
+is_word x _ = false
+
+abbrev pub starts_mark : Text → Face → Bool
+starts_mark x (Sign y) = begins_text x y
+starts_mark x _ = false
+
+abbrev pub is_literal : LitKind → Face → Bool
+is_literal k (Literal l) = nat_eq (kind_number k) (kind_number l)
+is_literal k _ = false
+
+abbrev pub is_group : Delimiter → Face → Bool
+is_group d (Holds e) = nat_eq (delimiter_number d) (delimiter_number e)
+is_group d _ = false
+
+-- the front meets the look
+abbrev pub answers : Look → Front → Bool
+answers ended f = is_ended f.face
+answers at_name f = is_name f.face
+answers (at_word x) f = is_word x f.face
+answers (at_mark x) f = starts_mark x f.face
+answers (at_literal k) f = is_literal k f.face
+answers (at_group d) f = is_group d f.face
+answers (noted n) f = tells n f.notes
+answers (a or_else b) f = or (answers a f) (answers b f)
+answers (a and_also b) f = and (answers a f) (answers b f)
+answers (a but_not b) f = and (answers a f) (no (answers b f))
+
+-- THE FRONT OF A STREAM, from right to left
+
+-- what a token asks of the front behind it: each look that this front meets is told as the note beside it
+abbrev pub Asked : Type 0
+Asked = List (Look × Next)
+
+-- a parameter of generics stands next: `#`, a lifetime, `const`, or an identifier that no type goes on from
+abbrev pub at_parameter : Look
+at_parameter = at_mark pound or_else at_mark apostrophe or_else at_word w_const or_else at_name but_not noted Before_type_rest
+
+-- generics stand next, in a place where a type may stand too: `<` (and not `<=` or `<<`) and then `>` or a parameter
+abbrev pub at_generics : Look
+at_generics = (at_mark less but_not (at_mark less_equals or_else at_mark less_less)) and_also noted Before_parameter
+
+-- a word of a path stands next: an identifier that isn't a keyword, `self`, `Self`, `super` or `crate`
+abbrev pub at_path_word : Look
+at_path_word = at_name or_else at_word w_self or_else at_word w_Self_type or_else at_word w_super or_else at_word w_crate
+
+-- a path goes on with `::`, or ends before a `!` that isn't `!=`
+abbrev pub at_path_rest : Look
+at_path_rest = at_mark colons or_else at_mark exclamation but_not at_mark not_equals
+
+-- what stands behind the `!` of a path that goes on so
+abbrev pub asked_of_path : Look → Asked
+asked_of_path c = (c and_also noted Bang_brace, Bang_brace) ∷ (c and_also noted Bang_name, Bang_name) ∷ (c and_also noted Bang_group, Bang_group) ∷ []
+
+-- what a word of a path asks
+abbrev pub asked_by_path_word : Asked
+asked_by_path_word = (at_mark colons, Before_colons) ∷ asked_of_path at_path_rest
+
+-- what an identifier that isn't a keyword asks of the token tree behind it
+abbrev pub asked_by_name : Asked
+asked_by_name = (at_mark equals, Before_equals) ∷ (at_group Paren, Before_paren) ∷ (at_mark less, Before_less)
+    ∷ (at_mark colons or_else at_mark less but_not at_mark less_equals or_else at_group Paren or_else at_word w_as, Before_type_rest) ∷ asked_by_path_word
+
+-- what identifiers of this text ask
+abbrev pub asked_by_word : Text → Asked
+asked_by_word x = pick (one_of_texts x (w_crate ∷ w_self ∷ w_super ∷ [])) ((ended, Before_end) ∷ asked_by_path_word)
+    (pick (same_text x w_Self_type) asked_by_path_word
+    (pick (same_text x w_mut) ((at_word w_self but_not noted Before_colons, Before_own_self) ∷ [])
+    (pick (same_text x w_static) ((at_word w_mut or_else at_name, Begins_item) ∷ [])
+    (pick (same_text x w_async) ((at_word w_unsafe or_else at_word w_extern or_else at_word w_fn, Begins_item) ∷ [])
+    (pick (same_text x w_const) ((at_group Brace or_else at_word w_static or_else at_word w_move or_else at_mark bar or_else at_word w_async but_not noted Begins_item, Not_item) ∷ [])
+    (pick (same_text x w_unsafe) ((at_group Brace, Not_item) ∷ [])
+    (pick (same_text x w_union) ((at_name, Begins_item) ∷ asked_by_name)
+    (pick (same_text x w_auto) ((at_word w_trait, Begins_item) ∷ asked_by_name)
+    (pick (same_text x w_default) ((at_word w_unsafe or_else at_word w_impl, Begins_item) ∷ asked_by_name)
+    (pick (one_of_texts x contextual) asked_by_name []))))))))))
+
+-- what a mark asks by its last character
+abbrev pub asked_by_mark : Text → Asked
+asked_by_mark x = pick (same_text x exclamation) ((at_group Brace, Bang_brace) ∷ (at_name or_else at_word w_try, Bang_name) ∷ (at_group Paren or_else at_group Bracket, Bang_group) ∷ [])
+    (pick (same_text x colon) (asked_of_path at_path_word)
+    (pick (same_text x pound) ((at_mark exclamation, Before_bang) ∷ [])
+    (pick (same_text x less) ((at_mark greater or_else at_parameter, Before_parameter) ∷ []) [])))
+
+-- what the first token tree asks of what stands behind it: each of these that holds is noted
+abbrev pub asked : Face → Asked
+asked Name = asked_by_name
+asked (Word x) = asked_by_word x
+asked (Sign x) = asked_by_mark x
+asked _ = []
+
+-- what a group asks of its content
+abbrev pub asked_inside : Delimiter → Asked
+asked_inside Paren = ((at_word w_crate or_else at_word w_self or_else at_word w_super) and_also noted Before_end, Lone_word) ∷ (at_word w_in, Begins_in) ∷ []
+asked_inside _ = []
+
+-- the notes of those looks that the front behind meets
+abbrev pub note : Asked → Front → List Next
+note [] f = []
+note (p ∷ l) f = pick (answers p.0 f) (p.1 ∷ note l f) (note l f)
+
+-- the face of an identifier or a literal
+abbrev pub leaf_face : Leaf → Face
+leaf_face (ident x) = pick (one_of_texts x (keywords ++ contextual)) (Word x) Name
+leaf_face (literal k x) = Literal k
+
+-- the longest mark that this text begins with
+abbrev pub longest : List Text → Text → Text → Text
+longest [] x one = one
+longest (m ∷ l) x one = pick (begins_text m x) m (longest l x one)
+
+-- the longest mark that a Joint character begins before this face
+abbrev pub join : ℕ → Face → Face
+join c (Sign l) = Sign (longest long_marks (c ∷ l) (c ∷ []))
+join c _ = Sign (c ∷ [])
+
+-- the face of a punctuation character before this face
+abbrev pub char_face : ℕ → Bool → Face → Face
+char_face c true f = join c f
+char_face c false f = Sign (c ∷ [])
+
+-- of a mark of one character alone
+abbrev pub lone_notes : Face → List Next → List Next
+lone_notes (Sign (x ∷ [])) l = l
+lone_notes _ l = []
+
+-- a mark of one character notes what stands behind it, a mark of two what its second character does
+abbrev pub sign_notes : ℕ → Face → Front → List Next
+sign_notes c (Sign (x ∷ [])) f = note (asked (Sign (c ∷ []))) f
+sign_notes c (Sign (x ∷ y ∷ [])) f = lone_notes f.face f.notes
+sign_notes c _ f = []
+
+-- the front of a punctuation character before this front
+abbrev pub sign_front : ℕ → Bool → Front → Front
+sign_front c j f = front (char_face c j f.face) (sign_notes c (char_face c j f.face) f)
+
+-- the front of a stream
+abbrev pub class : Stream → Front
+class end = front Ended []
+class (leaf x sp m) = front (leaf_face x) (note (asked (leaf_face x)) (class m))
+class (punct c j sp m) = sign_front c j (class m)
+class (group d o c i m) = front (Holds d) (note (asked_inside d) (class i))
+
+-- the look holds of the front of this stream
+abbrev pub stands : Look → Stream → Bool
+stands c ts = answers c (class ts)

@@ -1,0 +1,161 @@
+#!/usr/bin/env python3
+"""Compares the table of the written grammar with an oracle: an executable reading of what the grammar should be, in Python.
+
+    tools/fuzz_grammar.py --oracle FOLDER [--stage N] [--count N] [--seed N]
+
+The repository holds no oracle. Give the folder of one by --oracle, or in the environment variable ORACLE; without it nothing is compared.
+It must have oracle.py (with KINDS, parse2, parse_prefix, flat, SynErr and the token classes) and gen.py (random sentences of its own).
+
+Random token trees, from sentences of the table and of the oracle's own, unchanged and changed, are read by the table in force
+(by a reader in Python of specs/Table.antt) and by the oracle. They must agree whether the whole is read, on its print, token by token
+with spacing; and whether a beginning is read, on its print and on how many trees are left. Prints each difference, and a summary."""
+import argparse
+import os
+import random
+import sys
+import time
+from pathlib import Path
+
+from grammarlib.fronts import Fronts
+from grammarlib.reader import Reader, Refused
+from grammarlib.sentences import LONGEST, Sentences, TooDeep
+from grammarlib.source import Source
+from grammarlib.tokens import SIGNS, Group, Ident, Literal, Punct, stream
+
+HERE = Path(__file__).resolve().parent
+# the oracle's name of a kind, and the rule that reads it
+KINDS = {'derive': 'derive_input', 'visibility': 'visibility', 'fields-unnamed': 'fields_unnamed', 'unnamed-field': 'unnamed_field'}
+SHOWN = 20
+
+
+class Oracle:
+    def __init__(self, folder, stage):
+        sys.path.insert(0, str(folder))
+        import gen
+        import oracle
+        oracle.STAGE = stage
+        self.o, self.own = oracle, gen
+        self.delimiters = {SIGNS[d][0]: d for d in ('Paren', 'Brace', 'Bracket')}
+
+    def to(self, trees):
+        o = self.o
+        made = {Ident: lambda t: o.Ident(t.text),
+                Punct: lambda t: o.Punct(t.character, t.joint),
+                Literal: lambda t: o.Lit(t.kind, t.text),
+                Group: lambda t: o.Group(SIGNS[t.delimiter][0], self.to(t.content))}
+        return [made[type(t)](t) for t in trees]
+
+    def back(self, trees):
+        o = self.o
+        made = {o.Ident: lambda t: Ident(t.text),
+                o.Punct: lambda t: Punct(t.ch, t.joint),
+                o.Lit: lambda t: Literal(t.kind, t.text),
+                o.Group: lambda t: Group(self.delimiters[t.delim], tuple(self.back(t.trees)))}
+        return [made[type(t)](t) for t in trees]
+
+    def whole(self, kind, trees):
+        try:
+            return self.back(self.o.flat(self.o.parse2(kind, self.to(trees))))
+        except self.o.SynErr:
+            return None
+
+    def beginning(self, kind, trees):
+        try:
+            tree, rest = self.o.parse_prefix(kind, self.to(trees))
+            return self.back(self.o.flat(tree)), len(rest)
+        except self.o.SynErr:
+            return None
+
+    def sentence(self, generator, kind):
+        return self.back(generator.trees(generator.atoms(kind, generator.r.randint(0, 2)), 0.1))
+
+
+class Table:
+    def __init__(self, reader):
+        self.reader = reader
+
+    def whole(self, rule, trees):
+        found = self.beginning(rule, trees)
+        return found[0] if found and not found[1] else None
+
+    def beginning(self, rule, trees):
+        try:
+            tree, rest = self.reader.read(('rule', (rule,)), stream(trees))
+            return self.reader.print(tree), len(rest.trees())
+        except Refused:
+            return None
+
+
+def text(trees):
+    words = []
+    for tree in trees:
+        if isinstance(tree, Group):
+            words += [SIGNS[tree.delimiter][0], text(tree.content), SIGNS[tree.delimiter][1]]
+        else:
+            words.append(tree.character + ('' if tree.joint else ' ') if isinstance(tree, Punct) else tree.text)
+    return ' '.join(w for w in words if w)
+
+
+def random_trees(sentences, oracle, generator, rule, kind):
+    r = sentences.random
+    if r.random() < 0.25:
+        trees = oracle.sentence(generator, kind)
+    else:
+        trees = sentences.sentence(rule, r.choice([3, 5, 7, 9]))
+    for _ in range(r.choice([0, 0, 1, 1, 1, 2, 3])):
+        trees = sentences.changed(trees)
+    return trees
+
+
+def compare(options):
+    source = Source(options.crate)
+    fronts = Fronts(source)
+    table = Table(Reader(fronts, source.table))
+    oracle = Oracle(options.oracle, options.stage)
+    kinds = [(k, r) for k, r in KINDS.items() if r in source.table]
+    dice = random.Random(options.seed)
+    sentences, generator = Sentences(fronts, source.table, dice), oracle.own.G(options.seed, options.stage)
+    started, inputs, accepted, begun, differ = time.time(), 0, 0, 0, 0
+    while inputs < options.count:
+        kind, rule = dice.choice(kinds)
+        try:
+            trees = random_trees(sentences, oracle, generator, rule, kind)
+        except TooDeep:
+            continue
+        if len(trees) > LONGEST:
+            continue
+        inputs += 1
+        mine, theirs = table.whole(rule, trees), oracle.whole(kind, trees)
+        first, second = table.beginning(rule, trees), oracle.beginning(kind, trees)
+        accepted += theirs is not None
+        begun += second is not None
+        if mine != theirs or first != second:
+            differ += 1
+            if differ <= SHOWN:
+                print(f'DIFFERENT {kind}: {text(trees)}')
+                print(f'  whole: table {mine}, oracle {theirs}')
+                print(f'  beginning: table {first}, oracle {second}', flush=True)
+    seconds = time.time() - started
+    print(f'{inputs} inputs, {accepted} read whole, {begun} read in part, {differ} differ '
+          f'({seconds:.0f} s, seed {options.seed}, stage {options.stage})')
+    return 1 if differ else 0
+
+
+def main():
+    parser = argparse.ArgumentParser(description=__doc__, formatter_class=argparse.RawDescriptionHelpFormatter)
+    parser.add_argument('--oracle', type=Path, default=os.environ.get('ORACLE') and Path(os.environ['ORACLE']))
+    parser.add_argument('--stage', type=int, default=1, help='how far the oracle builds the grammar')
+    parser.add_argument('--count', type=int, default=20000)
+    parser.add_argument('--seed', type=int, default=1)
+    parser.add_argument('--crate', type=Path, default=HERE.parent / 'crates' / 'syn_grammar')
+    options = parser.parse_args()
+    if not options.oracle:
+        sys.exit('fuzz_grammar: no oracle: the repository holds none; give the folder of one by --oracle FOLDER or in ORACLE')
+    if not (options.oracle / 'oracle.py').exists():
+        sys.exit(f'fuzz_grammar: no oracle.py stands in {options.oracle}')
+    sys.setrecursionlimit(10000)
+    sys.exit(compare(options))
+
+
+if __name__ == '__main__':
+    main()

@@ -1,0 +1,88 @@
+#!/usr/bin/env python3
+"""Checks the table of the written grammar and writes what the proofs need to know of each rule.
+
+    tools/grammar.py            reads crates/syn_grammar/specs/Table.antt, checks it, and writes the other files
+    tools/grammar.py --check    writes nothing; fails where a written file isn't what it would write
+    tools/grammar.py --crate F  the same of the crate in the folder F
+
+Fails, with a complaint for each fault, where the table breaks a test that the laws need (docs/GRAMMAR.md says what each means)."""
+import argparse
+import sys
+from pathlib import Path
+
+from grammarlib.antt import Fault
+from grammarlib.antt_text import Writer
+from grammarlib.apart import Apart
+from grammarlib.complaints import EXPLAINED, Tests
+from grammarlib.examples import Theorems, parse
+from grammarlib.fronts import Fronts
+from grammarlib.ranks import ranks
+from grammarlib.source import Source
+from grammarlib.starts import Starts
+from grammarlib.write import Files
+
+HERE = Path(__file__).resolve().parent
+SHOWN = 20  # complaints that are printed
+
+
+def checked(source):
+    """The files that the table gives, and the complaints about it."""
+    starts = Starts(Fronts(source), source.table)
+    tests = Tests(starts, Writer(source).look)
+    rank, circles = ranks(starts)
+    complaints = tests.complaints() + Apart(starts).complaints() + circles
+    return (None if complaints else Files(source, starts, tests, rank).all()), complaints
+
+
+def worked_examples(source):
+    """The file of the worked examples; tells of rules that lack one that is read or one that is refused."""
+    text, lacking = Theorems(source, Fronts(source)).file(parse(HERE / 'examples.txt', source.rules))
+    for rule in lacking:
+        print(f'grammar: tools/examples.txt wants an example of `{rule}` that is read, and one that is refused', file=sys.stderr)
+    return {'proofs/Examples.antt': text}
+
+
+def complain(complaints):
+    for complaint in complaints[:SHOWN]:
+        print(complaint, file=sys.stderr)
+    if len(complaints) > SHOWN:
+        print(f'.. and {len(complaints) - SHOWN} more', file=sys.stderr)
+    for code in dict.fromkeys(c.code for c in complaints):
+        print(f'{code}: {EXPLAINED[code]}', file=sys.stderr)
+
+
+def main():
+    parser = argparse.ArgumentParser(description=__doc__, formatter_class=argparse.RawDescriptionHelpFormatter)
+    parser.add_argument('--check', action='store_true', help='write nothing, and fail where a file differs')
+    parser.add_argument('--crate', type=Path, default=HERE.parent / 'crates' / 'syn_grammar')
+    options = parser.parse_args()
+    try:
+        source = Source(options.crate)
+        files, complaints = checked(source)
+        if not complaints:
+            files |= worked_examples(source)
+    except Fault as fault:
+        sys.exit(f'grammar: {fault}')
+    if complaints:
+        complain(complaints)
+        sys.exit(f'grammar: {len(complaints)} complaints; nothing was written')
+    for name in source.without_sentence():
+        print(f'grammar: no sentence explains `{name}`', file=sys.stderr)
+    page = HERE.parent / 'docs' / 'GRAMMAR.md'
+    told = page.read_text() if page.exists() else ''
+    for rule in source.rules:
+        if f'`{rule}`' not in told:
+            print(f'grammar: docs/GRAMMAR.md doesn\'t tell of the rule `{rule}`', file=sys.stderr)
+    stale = [p for p, text in files.items() if not (options.crate / p).exists() or (options.crate / p).read_text() != text]
+    if options.check:
+        if stale:
+            sys.exit('grammar: run tools/grammar.py; these files are not what it writes: ' + ', '.join(stale))
+        print(f'grammar: {len(source.rules)} rules, all files as written')
+        return
+    for path in stale:
+        (options.crate / path).write_text(files[path])
+    print(f'grammar: {len(source.rules)} rules; written: {", ".join(stale) or "nothing, all files stood so"}')
+
+
+if __name__ == '__main__':
+    main()

@@ -1,0 +1,206 @@
+"""The tests that the laws want of a table, with complaints that say what is wrong and where to look first.
+
+They are the tests of proofs/Reprint.antt (`fine`), proofs/Unique.antt (`sound`) and proofs/Low.antt; the checker computes them again.
+"""
+from dataclasses import dataclass
+
+from .fronts import ENDED, mentions_note, unique
+from .sheets import Sheet, Sheets
+
+EXPLAINED = {
+    'SEAM': 'a part asks what stands behind it, and the answer may differ in the print, where the next part begins with another face. '
+            'First: which notes does the token before it tell (plainly, telling, asking)? Then: does somebody ask who needn\'t?',
+    'HALT': 'an optional part was absent because a look was false; in the print of what follows it may be true. '
+            'First: let the token that follows tell the note (telling, asking); then: is the look too wide?',
+    'SHUN': 'a part that vanishes from the print asks that something doesn\'t follow, but that may follow. Narrow the look of the vanishing part.',
+    'GONE': 'what follows may vanish from the print, and a look before it asks for it. Ask for what surely stays, or don\'t let it vanish.',
+    'KEPT': 'a `when` may turn the other way in the print, because the face that it asks for is printed otherwise. '
+            'Let the form keep its first token, or ask by a look that both faces answer alike.',
+    'END': 'the content of a group may end where a vanishing part asks that nothing of the kind follows.',
+    'ENDED': 'a rule\'s last part asks that the stream doesn\'t end. Every rule must be readable alone.',
+    'SUPPLIED': 'the name before a supplied `_ :` may read or print nothing.',
+    'WILD': 'a supplied `_` would be printed as something that is taken for a nameless form again.',
+    'NAMED': 'a written name may be printed as something that is taken for a nameless form.',
+    'OPEN': 'a captured part must end by itself (with a group or a mark that asks nothing) and read at least one token.',
+    'LEAD': 'each member of such generics must begin a parameter in the print too, and what follows them must read and print something and end by itself.',
+    'LIST': 'a member of a list may read or print nothing, or begins with `>`.',
+    'MEMBER': 'a member of a list asks what stands behind it, and `,` and `>` answer differently.',
+    'UNION': 'two alternatives of a union may read the same stream. Let one turn away where the other reads (`when look then never else ..`), '
+             'or make them one rule with a choice by what stands next.',
+    'LEFT': 'a rule calls itself before it has read anything. Write the repetition to the right: an operand, and then the others.',
+}
+
+
+@dataclass(frozen=True)
+class Complaint:
+    code: str
+    rule: str
+    about: str
+
+    def __str__(self):
+        return f'{self.code} in rule {self.rule}: {self.about}'
+
+
+def face_words(face):
+    kind = face[0]
+    return {'Ended': 'the end', 'Name': 'a name'}.get(kind) or {
+        'Word': lambda: f'`{face[1]}`', 'Sign': lambda: f'`{face[1]}`',
+        'Literal': lambda: f'a literal {face[1][0]}', 'Holds': lambda: f'a {face[1][0]} group'}[kind]()
+
+
+class Tests:
+    """Solves the sheets of a table and collects the complaints."""
+
+    def __init__(self, starts, show_look):
+        self.starts, self.fronts, self.table = starts, starts.fronts, starts.table
+        self.sheets = Sheets(starts)
+        self.show = show_look
+        self.found = []
+        self.run()
+
+    def run(self):
+        sheets = self.sheets
+        while sheets.grown:  # the tests may ask for the notes of further rules
+            sheets.solve()
+            self.found = []
+            for rule, told in list(sheets.said):
+                self.fine(self.table[rule], rule, told)
+        for rule in self.table:
+            for look in sheets.said[rule, False].shuns:
+                if self.fronts.may(look, ENDED):
+                    self.report('ENDED', rule, self.show(look))
+
+    def report(self, code, rule, about):
+        self.found.append(Complaint(code, rule, about))
+
+    def complaints(self):
+        return unique(self.found)
+
+    # THE PRINT IS READ AGAIN
+
+    def fine(self, form, rule, told):
+        kind = form[0]
+        test = getattr(self, f'fine_{kind}', None)
+        if kind == '&':
+            self.fine_pair(form, rule, told)
+        elif kind in ('such', 'shaped'):
+            self.fine(form[2], rule, told)
+        elif kind == 'either':
+            self.fine(form[1], rule, told)
+            self.fine(form[2], rule, told)
+        elif test:
+            test(form, rule, told)
+
+    def fine_pair(self, form, rule, told):
+        first = self.sheets.sheet(form[1], told)
+        asked = self.sheets.heeds(told, first)
+        second = self.sheets.sheet(form[2], asked)
+        self.fine(form[1], rule, told)
+        self.fine(form[2], rule, asked)
+        self.seam(rule, first, second, self.starts.offs([], form[1]))
+
+    def seam(self, rule, first, second, offs):
+        """What the first form asks of what follows it, of the prints of the second."""
+        fronts = self.fronts
+        excluded = lambda face: any(fronts.must(c, face) for c in offs)
+        for a, b, told in second.moves:
+            if excluded(a):
+                continue
+            for look in first.ends:
+                if not fronts.agree(look, a, b, told):
+                    self.report('SEAM', rule, f'{self.show(look)}, where {face_words(a)} may be printed as {face_words(b)}')
+            for look in first.halts:
+                if not fronts.stays_off(look, a, b, told):
+                    self.report('HALT', rule, f'{self.show(look)}, where {face_words(a)} may be printed as {face_words(b)}')
+            for look in first.shuns:
+                if fronts.may(look, b):
+                    self.report('SHUN', rule, f'{self.show(look)}, before {face_words(b)}')
+        for a in second.stays:
+            for look in first.shuns:
+                if not excluded(a) and fronts.may(look, a):
+                    self.report('SHUN', rule, f'{self.show(look)}, before {face_words(a)}')
+        for a in second.gone:
+            for look in first.ends:
+                if not excluded(a) and fronts.may(look, a):
+                    self.report('GONE', rule, f'{self.show(look)}, where {face_words(a)} may vanish')
+
+    def fine_when(self, form, rule, told):
+        look = form[1]
+        asked = told or mentions_note(look)
+        self.fine(form[2], rule, asked)
+        self.fine(form[3], rule, asked)
+        self.kept(rule, look, self.sheets.sheet(form[2], asked), self.sheets.sheet(form[3], asked))
+
+    def fine_vanishing(self, form, rule, told):
+        look = form[2]
+        asked = told or mentions_note(look)
+        self.fine(form[3], rule, asked)
+        self.kept(rule, look, self.sheets.sheet(form[3], asked), Sheet(passes=True))
+
+    def kept(self, rule, look, yes, other):
+        fronts = self.fronts
+        for a, b, told in yes.moves:
+            if fronts.may(look, a) and not fronts.must(look, b) and not fronts.agree(look, a, b, told):
+                self.report('KEPT', rule, f'{self.show(look)}, where {face_words(a)} may be printed as {face_words(b)}')
+        for a, b, told in other.moves:
+            if not fronts.must(look, a) and fronts.may(look, b) and not fronts.agree(look, a, b, told):
+                self.report('KEPT', rule, f'not {self.show(look)}, where {face_words(a)} may be printed as {face_words(b)}')
+        for a in yes.gone:
+            if fronts.may(look, a):
+                self.report('KEPT', rule, f'{self.show(look)}, where {face_words(a)} may vanish')
+
+    def fine_inside(self, form, rule, told):
+        asked = bool(self.fronts.asked_inside(form[1]))
+        self.fine(form[2], rule, asked)
+        for look in self.sheets.sheet(form[2], asked).shuns:
+            if self.fronts.may(look, ENDED):
+                self.report('END', rule, self.show(look))
+
+    def fine_supplied(self, form, rule, told):
+        self.fine(form[2], rule, True)
+        self.fine(form[3], rule, False)
+        name = self.sheets.sheet(form[2], True)
+        look = ('and_also', ('at_name',), ('noted', form[1]))
+        if name.passes or name.gone:
+            self.report('SUPPLIED', rule, 'the first of its forms')
+        self.seam(rule, name, self.sheets.colon_sheet(), self.starts.offs([], form[2]))
+        for face in self.sheets.wild_out(name):
+            if self.fronts.may(look, face):
+                self.report('WILD', rule, face_words(face))
+        for move in name.moves:
+            if not self.fronts.stays_off(look, *move):
+                self.report('NAMED', rule, f'{face_words(move[0])} may be printed as {face_words(move[1])}')
+
+    def fine_captured(self, form, rule, told):
+        if not self.starts.closes(form[1]) or self.starts.passes(form[1]):
+            self.report('OPEN', rule, 'the captured form')
+
+    def fine_generics_before(self, form, rule, told):
+        x, y, behind = form[1:]
+        self.fine(('ordered', x, y), rule, False)
+        edges = unique(self.fronts.mark_heads(',') + self.fronts.mark_heads('>'))
+        for member in (x, y):
+            if not self.sheets.sure(self.fronts.at_parameter, edges, member):
+                self.report('LEAD', rule, 'a member may not begin a parameter in the print')
+        self.fine(behind, rule, False)
+        sheet = self.sheets.sheet(behind)
+        if not self.starts.closes(behind) or self.starts.passes(behind) or sheet.passes or sheet.gone:
+            self.report('LEAD', rule, 'what follows the generics')
+
+    def fine_ordered(self, form, rule, told):
+        fronts = self.fronts
+        edges = fronts.mark_heads(',') + fronts.mark_heads('>')
+        for member in form[1:3]:
+            self.fine(member, rule, False)
+            sheet = self.sheets.sheet(member)
+            if sheet.passes or sheet.gone:
+                self.report('LIST', rule, 'a member may read or print nothing')
+            for look in sheet.ends + sheet.halts:
+                if not (all(fronts.must(look, e) for e in edges) or not any(fronts.may(look, e) for e in edges)):
+                    self.report('MEMBER', rule, self.show(look))
+            for look in sheet.shuns:
+                if any(fronts.may(look, e) for e in edges):
+                    self.report('MEMBER', rule, f'{self.show(look)} (of a part that vanishes)')
+            for face in sheet.prints():
+                if fronts.may(('at_mark', '>'), face):
+                    self.report('LIST', rule, f'a member may begin with {face_words(face)}')

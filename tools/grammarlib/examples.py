@@ -1,0 +1,127 @@
+"""Worked examples as theorems: what a rule reads and prints, what it leaves, and what it refuses, computed by the checker.
+
+tools/examples.txt has one line an example:
+
+    name    rule    text  =>  print             the whole text is read, and printed so
+    name    rule    text  =>  print  ..  rest   the beginning is read, and this rest is left
+    name    rule    text  =>  refused           the whole text isn't read (but perhaps a beginning of it)
+    name    rule    text  =>  unread            no beginning of it is read either
+"""
+import re
+from dataclasses import dataclass
+
+from .antt import Fault
+from .antt_text import COMMON, CRATE, Writer, exports, use_lines
+from .reader import Reader, Refused
+from .tokens import Group, Ident, Literal, Punct, read_text, stream
+from .write import MARK
+
+UNFOLD = 'left is_end at_front sees take_token take_lifetime take_mark take_group before rows_for rows run reads'
+
+
+@dataclass
+class Example:
+    name: str
+    rule: str
+    text: str
+    printed: str = None
+    rest: str = ''
+    unread: bool = False
+
+
+def parse(path, rules):
+    found = []
+    for number, line in enumerate(path.read_text().split('\n'), 1):
+        if not line.strip() or line.startswith('#'):
+            continue
+        where = f'{path.name}, line {number}'
+        parts = re.match(r'(\w+)\s+(\w+)(?:\s+(.*?))?\s+=>\s?(.*)$', line)
+        if not parts:
+            raise Fault(f'{where}: an example is `name rule text => print`')
+        name, rule, text, answer = parts[1], parts[2], parts[3] or '', parts[4]
+        if rule not in rules:
+            raise Fault(f'{where}: no rule is named `{rule}`')
+        if name in rules:
+            raise Fault(f'{where}: `{name}` is the name of a rule; give the example another')
+        if any(e.name == name for e in found):
+            raise Fault(f'{where}: the name `{name}` stands twice')
+        if answer.strip() in ('refused', 'unread'):
+            found.append(Example(name, rule, text, unread=answer.strip() == 'unread'))
+            continue
+        printed, _, rest = f' {answer} '.partition(' .. ')
+        found.append(Example(name, rule, text, printed.strip(), rest.strip()))
+    return found
+
+
+class Theorems:
+    def __init__(self, source, fronts):
+        self.source, self.writer = source, Writer(source)
+        self.reader = Reader(fronts, source.table)
+
+    def span(self, span, plain):
+        return 'call_site' if plain else f'(at {span[0]} {span[1]})'
+
+    def stream(self, trees, plain=False):
+        """A stream as Antt (`plain`: every span is 0 to 0)."""
+        if not trees:
+            return 'end'
+        token, rest = trees[0], self.stream(trees[1:], plain)
+        rest = f'({rest})' if ' ' in rest else rest
+        if isinstance(token, Ident):
+            return f'leaf (ident {self.writer.text(token.text)}) {self.span(token.span, plain)} {rest}'
+        if isinstance(token, Literal):
+            return f'leaf (literal {token.kind} {self.writer.text(token.text)}) {self.span(token.span, plain)} {rest}'
+        if isinstance(token, Punct):
+            joint = 'true' if token.joint else 'false'
+            return f'punct {ord(token.character)} {joint} {self.span(token.span, plain)} {rest}'
+        content = self.stream(token.content, plain)
+        content = f'({content})' if ' ' in content else content
+        return f'group {token.delimiter} {self.span(token.opening, plain)} {self.span(token.closing, plain)} {content} {rest}'
+
+    def agree(self, example):
+        """The reader of the scripts agrees with what the example says; else the file is wrong, or the table."""
+        trees = read_text(example.text)
+        try:
+            tree, rest = self.reader.read(('rule', (example.rule,)), stream(trees))
+        except Refused:
+            return example.printed is None
+        left = rest.trees()
+        if example.printed is None:
+            return bool(left) and not example.unread
+        return self.reader.print(tree) == list(read_text(example.printed)) and left == list(read_text(example.rest))
+
+    def theorem(self, example):
+        trees = read_text(example.text)
+        comment = f'-- `{example.text}`' if example.text else '-- no tokens'
+        if example.unread:
+            claim, proof = f'Unread (rule {example.rule})\n    ({self.stream(trees)})', f'not_read {example.rule} _ refl refl'
+            comment += ': nothing is read'
+        elif example.printed is None:
+            claim, proof = f'Refused {example.rule}\n    ({self.stream(trees)})', f'not_derived {example.rule} _ refl refl'
+            comment += ' is refused'
+        else:
+            rest = trees[len(trees) - len(read_text(example.rest)):] if example.rest else ()
+            printed = self.stream(read_text(example.printed), True)
+            claim = f'ReadsAs {example.rule}\n    ({self.stream(trees)})\n    ({printed})\n    ({self.stream(rest)})'
+            proof = f'computed {example.rule} _ _ _ refl refl'
+            comment += f' prints `{example.printed}`' + (f' and leaves `{example.rest}`' if example.rest else '')
+        return f'{comment}\n{example.name} : {claim}\nunfolding {UNFOLD}\n{example.name} = {proof}\n'
+
+    def file(self, examples):
+        wrong = [e.name for e in examples if not self.agree(e)]
+        if wrong:
+            raise Fault('examples.txt: the table reads these otherwise: ' + ', '.join(wrong))
+        lacking = [k for k in self.source.rules if not any(e.rule == k and e.printed is not None for e in examples)
+                   or not any(e.rule == k and e.printed is None for e in examples)]
+        body = '\n'.join(self.theorem(e) for e in examples)
+        return self.with_head(body), lacking
+
+    def with_head(self, body):
+        specs = lambda name: (f'{CRATE}.specs.{name}', exports(self.source.crate / 'specs' / f'{name}.antt'))
+        modules = [
+            ('Rattle.std.proofs.Common', COMMON), specs('Words'), specs('Tokens'),
+            (f'{CRATE}.specs.Rules', ['Rule'] + self.source.rules), (f'{CRATE}.specs.Grammar', ['rule']),
+            specs('Take'), specs('Run'), (f'{CRATE}.specs.Says', ['Refused', 'Unread']),
+            (f'{CRATE}.proofs.Means', ['not_derived']), (f'{CRATE}.proofs.Shown', ['at', 'ReadsAs', 'computed', 'not_read'])]
+        about = '-- Worked examples, from tools/examples.txt: what each rule reads, prints and refuses. The checker computes each.'
+        return f'{MARK}\n{about}\n' + use_lines(body, modules) + '\n' + body

@@ -1,0 +1,108 @@
+"""Token trees for the scripts: a reader of simple texts, and the text of a list of trees."""
+import re
+from dataclasses import dataclass, field
+
+OPENING = {'(': 'Paren', '{': 'Brace', '[': 'Bracket'}
+CLOSING = {')': '(', '}': '{', ']': '['}
+SIGNS = {'Paren': '()', 'Brace': '{}', 'Bracket': '[]', 'None': ('', '')}
+MARKS = "~!@#$%^&*-=+|;:,<.>/?'"
+WORD = re.compile(r'[A-Za-z_]\w*')
+NUMBER = re.compile(r'\d\w*')
+STRING = re.compile(r'"[^"]*"')
+
+NO_SPAN = (0, 0)
+
+
+@dataclass(frozen=True)
+class Ident:
+    text: str
+    span: tuple = field(default=NO_SPAN, compare=False)
+
+
+@dataclass(frozen=True)
+class Literal:
+    kind: str
+    text: str
+    span: tuple = field(default=NO_SPAN, compare=False)
+
+
+@dataclass(frozen=True)
+class Punct:
+    character: str
+    joint: bool
+    span: tuple = field(default=NO_SPAN, compare=False)
+
+
+@dataclass(frozen=True)
+class Group:
+    delimiter: str
+    content: tuple
+    opening: tuple = field(default=NO_SPAN, compare=False)
+    closing: tuple = field(default=NO_SPAN, compare=False)
+
+
+class Stream:
+    """Token trees in a row, and what stands at their front (computed once)."""
+    __slots__ = ('token', 'rest', 'known_front')
+
+    def __init__(self, token=None, rest=None):
+        self.token, self.rest, self.known_front = token, rest, None
+
+    def trees(self, stop=None):
+        """The trees before the rest `stop`, else all."""
+        found, here = [], self
+        while here is not stop and here.token is not None:
+            found.append(here.token)
+            here = here.rest
+        return found
+
+
+def stream(trees):
+    here = Stream()
+    for tree in reversed(trees):
+        here = Stream(tree, here)
+    return here
+
+
+def mark(text, spans=None):
+    """The trees of a printed mark: all but its last character are Joint."""
+    return [Punct(c, n + 1 < len(text), spans[n] if spans else NO_SPAN) for n, c in enumerate(text)]
+
+
+LEAVES = [(WORD, Ident), (NUMBER, lambda text, span: Literal('Int', text, span)), (STRING, lambda text, span: Literal('Str', text, span))]
+
+
+def read_text(text):
+    """The token trees of a text of words, numbers, strings, marks and groups. Spans are byte offsets."""
+    trees, place = read_trees(text, 0, None)
+    return trees
+
+
+def read_trees(text, place, closing):
+    trees = []
+    while True:
+        while place < len(text) and text[place] == ' ':
+            place += 1
+        if place == len(text) or text[place] in CLOSING:
+            found = text[place] if place < len(text) else None
+            if (CLOSING[found] if found else None) != closing:
+                raise ValueError(f'unbalanced group in {text!r}')
+            return tuple(trees), place
+        character, span = text[place], (place, place + 1)
+        if character in OPENING:
+            content, stop = read_trees(text, place + 1, character)
+            trees.append(Group(OPENING[character], content, span, (stop, stop + 1)))
+            place = stop + 1
+            continue
+        for pattern, make in LEAVES:
+            found = pattern.match(text, place)
+            if found:
+                trees.append(make(found[0], found.span()))
+                place = found.end()
+                break
+        else:
+            if character not in MARKS:
+                raise ValueError(f'unexpected character {character!r} in {text!r}')
+            follows = text[place + 1:place + 2]
+            trees.append(Punct(character, bool(follows) and follows in MARKS or character == "'", span))
+            place += 1

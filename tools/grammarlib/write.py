@@ -1,0 +1,160 @@
+"""The files that are written from the table: what the proofs need to know of each rule."""
+import re
+
+from .antt_text import COMMON, CRATE, PRELUDE, Writer, argument, exports, use_lines
+from .ranks import HIGHEST
+from .sheets import Sheet
+
+MARK = '-- Written by tools/grammar.py from specs/Table.antt; edits are lost.'
+
+
+def truth(value):
+    return 'true' if value else 'false'
+
+
+class Files:
+    """Path (below the crate) and text of each file."""
+
+    def __init__(self, source, starts, tests, rank):
+        self.source, self.starts, self.said, self.rank = source, starts, tests.sheets.said, rank
+        self.writer = Writer(source)
+        self.rules = source.rules
+
+    def all(self):
+        return {
+            'specs/Rules.antt': self.rules_file(),
+            'specs/RuleNumbers.antt': self.numbers_file(),
+            'specs/Table.antt': self.table_file(),
+            'proofs/Said.antt': self.said_file(),
+            'proofs/Ranks.antt': self.ranks_file(),
+            'proofs/Each.antt': self.each_file(),
+        }
+
+    def specs(self, *names):
+        """Modules of specs/ with their public names; those of the rules as the table has them now."""
+        return [(f'{CRATE}.specs.{n}', ['Rule'] + self.rules if n == 'Rules' else self.exports(n)) for n in names]
+
+    def exports(self, name):
+        return exports(self.source.crate / 'specs' / f'{name}.antt')
+
+    def file(self, about, modules, body):
+        return f'{MARK}\n-- {about}\n' + use_lines(body, modules) + '\n' + body
+
+    def lines(self, line, of=None):
+        return ''.join(line(k) + '\n' for k in (of or self.rules))
+
+    # SPECS
+
+    def rules_file(self):
+        return (f'{MARK}\n-- The rules of the written grammar, by name.\npub data Rule : Type 0 where\n'
+                + self.lines(lambda k: f'  {k} : Rule'))
+
+    def numbers_file(self):
+        body = ('abbrev pub place : Rule → ℕ\n'
+                + ''.join(f'place {k} = {n}\n' for n, k in enumerate(self.rules))
+                + '\nabbrev pub same_rule : Rule → Rule → Bool\nsame_rule a b = nat_eq (place a) (place b)\n'
+                + '\nabbrev pub rules : List Rule\nrules = ' + ' ∷ '.join(self.rules) + ' ∷ []\n'
+                + '\nabbrev pub at_place : List Rule → ℕ → Rule\n'
+                + f'at_place [] n = {self.rules[0]}\nat_place (x ∷ l) zero = x\nat_place (x ∷ l) (suc n) = at_place l n\n'
+                + '\n-- the rule of each number is the one that has it\n'
+                + 'pub back : (k : Rule) → at_place rules (place k) ≡ k\n'
+                + self.lines(lambda k: f'back {k} = refl'))
+        modules = [('Rattle.std.specs.Prelude', PRELUDE)] + self.specs('Rules')
+        return self.file('Rules are told apart by their numbers.', modules, body)
+
+    def table_file(self):
+        """The table as it stands, with the `use` lines that it needs."""
+        text = (self.source.crate / 'specs' / 'Table.antt').read_text()
+        modules = [('Rattle.std.specs.Prelude', PRELUDE)] + self.specs('Words', 'Tokens', 'Rules', 'Shape', 'Grammar', 'Forms')
+        lines = use_lines(text, modules)
+        first = re.search(r'^use .*\n(?:use .*\n)*', text, re.M)
+        if first:
+            return text[:first.start()] + lines + text[first.end():]
+        head = re.match(r'(?:--.*\n)*', text)
+        return head[0] + lines + text[head.end():]
+
+    # PROOFS
+
+    def start_line(self, rule):
+        heads = self.writer.faces(self.starts.heads_of[rule])
+        offs = self.writer.looks(self.starts.offs_of[rule])
+        return f'start_of {rule} = record {{ heads = {heads}; passes = {truth(self.starts.start_of[rule][1])}; offs = {offs} }}'
+
+    def move(self, move):
+        a, b, told = move
+        notes = argument(self.writer.list(n[0] for n in told))
+        return f'move {argument(self.writer.face(a))} {argument(self.writer.face(b))} {notes}'
+
+    def sheet_line(self, rule, told):
+        sheet, w = self.said.get((rule, told)) or Sheet(), self.writer
+        fields = {'stays': w.faces(sheet.stays), 'moves': w.list(map(self.move, sheet.moves)), 'passes': truth(sheet.passes),
+                  'gone': w.faces(sheet.gone), 'ends': w.looks(sheet.ends), 'halts': w.looks(sheet.halts), 'shuns': w.looks(sheet.shuns)}
+        return f'sheet_of {truth(told)} {rule} = record {{ ' + '; '.join(f'{k} = {v}' for k, v in fields.items()) + ' }'
+
+    def block(self, about, signature, line):
+        """A definition with one line a rule."""
+        return f'-- {about}\n{signature}\n' + self.lines(line)
+
+    def twice(self, about, signature, line):
+        """A definition with one line a rule where nobody asks for its notes, and one where somebody does."""
+        return f'-- {about}\n{signature}\n' + self.lines(lambda k: line(k, False)) + self.lines(lambda k: line(k, True))
+
+    def said_values(self):
+        closed = self.starts.closed_of
+        return [
+            self.block('what each rule begins with, whether it may read nothing, and what never stands behind it',
+                       'abbrev pub start_of : Rule → Start', self.start_line),
+            self.block('it ends by itself',
+                       'abbrev pub closed_of : Rule → Bool', lambda k: f'closed_of {k} = {truth(closed[k])}'),
+            self.block('somebody asks for the notes of its front',
+                       'abbrev pub heard_of : Rule → Bool', lambda k: f'heard_of {k} = {truth((k, True) in self.said)}'),
+            self.twice('how its print may differ from what it read',
+                       'abbrev pub sheet_of : Bool → Rule → Sheet', self.sheet_line),
+        ]
+
+    def said_proofs(self):
+        absurd = 'absurd (true≢false (sym e))'
+        passes = lambda k: 'refl' if self.starts.start_of[k][1] else 'e'
+        closes = lambda k: 'refl' if self.starts.closed_of[k] else absurd
+        sheet = lambda k, told: '(refl, refl)' if (k, told) in self.said else absurd
+        return [
+            self.block('so it is', 'pub starts_hold : IsSaid start_of table', lambda k: f'starts_hold {k} = (refl, λ e. {passes(k)})'),
+            self.block('nor do these', 'pub offs_hold : IsOff start_of table', lambda k: f'offs_hold {k} = refl'),
+            self.block('nothing is asked behind it',
+                       'pub closed_hold : (k : Rule) → closed_of k ≡ true → closes closed_of (table k) ≡ true',
+                       lambda k: f'closed_hold {k} e = {closes(k)}'),
+            self.block('no stream is read by two forms of a union',
+                       'pub unions_hold : (k : Rule) → sound table start_of (table k) ≡ true', lambda k: f'unions_hold {k} = refl'),
+            self.twice('its sheet covers what its form prints',
+                       'pub sheets_hold : IsSheet sheet_of heard_of start_of closed_of table',
+                       lambda k, told: f'sheets_hold {truth(told)} {k} e = {sheet(k, told)}'),
+            self.block('nothing that may not follow is the end',
+                       'pub ends_hold : (k : Rule) → clear (sheet_of false k).shuns Ended ≡ true', lambda k: f'ends_hold {k} = refl'),
+        ]
+
+    def said_file(self):
+        lemmas = [('Heads', ['Start', 'IsSaid']), ('Offs', ['IsOff']), ('Extend', ['closes']), ('Apart', ['sound']),
+                  ('Again', ['move', 'clear']), ('Sheets', ['Sheet']), ('Reprint', ['IsSheet'])]
+        modules = ([('Rattle.std.proofs.Common', COMMON)] + self.specs('Words', 'Tokens', 'Rules', 'Table')
+                   + [(f'{CRATE}.proofs.{m}', names) for m, names in lemmas])
+        body = '\n'.join(self.said_values() + self.said_proofs())
+        return self.file('What the proofs say of each rule; the checker computes each line again.', modules, body)
+
+    def ranks_file(self):
+        body = '\n'.join([
+            self.block('how many rules may be called, one by the other, before it reads a token',
+                       'abbrev pub rank : Rule → ℕ', lambda k: f'rank {k} = {self.rank[k]}'),
+            self.block('not too many',
+                       f'pub ranks_low : (k : Rule) → nat_lt (rank k) {HIGHEST} ≡ true', lambda k: f'ranks_low {k} = refl'),
+            self.block('each of them has a lower rank, so no rule comes back to itself',
+                       'pub fronts_low : (k : Rule) → low start_of rank (rank k) (table k) ≡ true', lambda k: f'fronts_low {k} = refl'),
+        ])
+        modules = [('Rattle.std.proofs.Common', COMMON), ('Rattle.std.specs.Prelude', ['nat_lt'])] + self.specs('Rules', 'Table') + [
+            (f'{CRATE}.proofs.Said', ['start_of']), (f'{CRATE}.proofs.Low', ['low'])]
+        return self.file('How many rules may call one another before anything is read.', modules, body)
+
+    def each_file(self):
+        equation = lambda k: f'pub {k}_is : (ts : Stream) → reads {k} ts ≡ wrap Node (parse (table {k}) ts)\n{k}_is = reads_is {k}\n'
+        modules = [('Rattle.std.specs.Prelude', PRELUDE)] + self.specs('Tokens', 'Rules', 'Grammar', 'Table', 'Run') + [
+            (f'{CRATE}.proofs.Run', ['reads_is'])]
+        return self.file('What each rule reads is what its form reads.', modules, '\n'.join(map(equation, self.rules)))
