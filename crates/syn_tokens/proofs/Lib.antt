@@ -1,0 +1,17 @@
+pub mod Comparisons
+pub mod Copied
+pub mod Errors
+pub mod Faults
+pub mod Fronts
+pub mod Keywords
+pub mod Listing
+pub mod Literals
+pub mod Lookaheads
+pub mod Names
+pub mod Nexts
+pub mod Places
+pub mod Refused
+pub mod Streams
+pub mod TerminatedLists
+pub mod Wholes
+pub mod Words

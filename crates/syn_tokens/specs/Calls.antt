@@ -1,0 +1,14 @@
+-- What a call of a function that parses answers.
+use Rattle.std.specs.Prelude.{◌≡◌, List, Result, OnOk}
+use Rattle.std.specs.Fn.{Once, FnOnceReturnsAtMut}
+use denote.Ref.{MutBor}
+use Rattle.syn_grammar.specs.Tokens.{Stream}
+use Rattle.syn_tokens.specs.Faults.{FaultValue}
+
+-- it is an answer of the function f at the stream `old`; where it is a value, what f left is left
+pub record IsAnswer {F R T : Type 0} (calls : Once F (MutBor Stream × Unit {0}) (R × (MutBor Stream × Unit {0}))) (answers : R → Result T (List FaultValue)) (f : F) (old : Stream) (result : Result T (List FaultValue)) (new : Stream) : Type 0 where
+  pub answer : R
+  pub rest : Stream
+  pub called : FnOnceReturnsAtMut calls f old answer rest
+  pub same : result ≡ answers answer
+  pub goes_on : OnOk result (new ≡ rest)

@@ -1,0 +1,42 @@
+-- What an error tells.
+use Rattle.std.specs.Prelude.{◌≡◌, ℕ, List, [], ◌∷◌, ◌++◌, take, codes}
+use Rattle.std.specs.Coded.{Coded, coded×, coded_list, coded_ℕ}
+use Rattle.syn_tokens.specs.declared.span.Span.{Span}
+use Rattle.syn_tokens.specs.contracts.span.Span as span
+use Rattle.syn_tokens.specs.declared.error.Fault.{Fault}
+use Rattle.syn_tokens.specs.declared.refusal.Refusal.{Refusal}
+use Rattle.syn_tokens.specs.declared.refusal.Refusal.TheVariants.{Memory, Syntax}
+
+-- where, and the text
+abbrev pub FaultValue : Type 0
+FaultValue = Span × List ℕ
+
+abbrev pub coded_fault : Coded FaultValue
+coded_fault = coded× span.the_row.coded (coded_list coded_ℕ)
+
+abbrev pub fault_of : Fault → FaultValue
+fault_of f = (f.span, f.text.now)
+
+-- there are faults: the tokens are no such thing, and memory was not refused
+abbrev pub IsSyntaxError : List FaultValue → Type 0
+IsSyntaxError [] = ⊥
+IsSyntaxError (f ∷ fs) = Unit {0}
+
+abbrev pub first_span : List FaultValue → Span
+first_span [] = record { start = 0; end = 0 }
+first_span (f ∷ fs) = f.0
+
+abbrev pub first_text : List FaultValue → List ℕ
+first_text [] = codes "out of memory"
+first_text (f ∷ fs) = f.1
+
+-- the first four faults of two errors; memory with anything is memory
+abbrev pub combined : List FaultValue → List FaultValue → List FaultValue
+combined [] gs = []
+combined (f ∷ fs) [] = []
+combined (f ∷ fs) (g ∷ gs) = take 4 (f ∷ fs ++ g ∷ gs)
+
+-- the error that a refusal becomes
+abbrev pub IsRefusedAs : Refusal → List FaultValue → Type 0
+IsRefusedAs Memory fs = fs ≡ []
+IsRefusedAs (Syntax span expectation) fs = (text : List ℕ) × (fs ≡ (span, text) ∷ [])

@@ -1,0 +1,18 @@
+-- WHAT STANDS PAST THE NEXT TREE, where a lifetime counts as one.
+use Rattle.std.specs.Prelude.{ℕ, Bool, true, false, nat_eq}
+use Rattle.syn_grammar.specs.Tokens.{Stream, end, leaf, punct, group, ident, pick}
+
+-- behind a `'` that is joined to an identifier, that identifier too is past
+abbrev pub past_joined : Stream → Stream
+past_joined (leaf (ident x) sp m) = m
+past_joined ts = ts
+
+abbrev pub past_mark : ℕ → Bool → Stream → Stream
+past_mark c true m = pick (nat_eq c 39) (past_joined m) m
+past_mark c false m = m
+
+abbrev pub past : Stream → Stream
+past end = end
+past (leaf x sp m) = m
+past (punct c j sp m) = past_mark c j m
+past (group d o c i m) = m

@@ -1,0 +1,13 @@
+-- The trees of a stream by their places.
+use Rattle.std.specs.Prelude.{ℕ, zero, suc}
+use Rattle.syn_grammar.specs.Tokens.{Stream, end, leaf, punct, group}
+
+-- the one tree at this place, counted from 0; nothing where there is no such place
+abbrev pub place : ℕ → Stream → Stream
+place n end = end
+place zero (leaf x sp m) = leaf x sp end
+place zero (punct c j sp m) = punct c j sp end
+place zero (group d o c i m) = group d o c i end
+place (suc n) (leaf x sp m) = place n m
+place (suc n) (punct c j sp m) = place n m
+place (suc n) (group d o c i m) = place n m

@@ -1,0 +1,35 @@
+-- The stream that a list of token trees is.
+use Rattle.std.specs.Prelude.{ℕ, ◌+◌, List, [], ◌∷◌}
+use Rattle.syn_grammar.specs.Tokens.{ident, literal, Stream, end, leaf, punct, group}
+use Rattle.syn_tokens.specs.Spans.{at}
+use Rattle.syn_tokens.specs.Delimiters.{delimiter_of}
+use Rattle.syn_tokens.specs.Punct.{is_joint}
+use Rattle.syn_tokens.specs.Literals.{kind_of}
+use Rattle.syn_tokens.specs.declared.span.Span.{Span}
+use Rattle.syn_tokens.specs.declared.tree.TokenTree.{TokenTree}
+use Rattle.syn_tokens.specs.declared.tree.TokenTree.TheVariants as T
+
+-- a tree, and what follows it
+abbrev pub before : TokenTree → Stream → Stream
+before (T.Ident i) r = leaf (ident i.text) (at i.span) r
+before (T.Literal l) r = leaf (literal (kind_of l.kind) l.text) (at l.span) r
+before (T.Punct p) r = punct p.character (is_joint p.spacing) (at p.span) r
+before (T.Group x) r = group (delimiter_of x.delimiter) (at x.opening) (at x.closing) x.stream r
+
+abbrev pub stream_of : List TokenTree → Stream
+stream_of [] = end
+stream_of (t ∷ l) = before t (stream_of l)
+
+-- where a tree stands
+abbrev pub span_of : TokenTree → Span
+span_of (T.Ident i) = i.span
+span_of (T.Literal l) = l.span
+span_of (T.Punct p) = p.span
+span_of (T.Group x) = x.opening
+
+-- more than that of any stream in it
+abbrev pub bulk : Stream → ℕ
+bulk end = 0
+bulk (leaf x sp m) = 1 + bulk m
+bulk (punct c j sp m) = 1 + bulk m
+bulk (group d o c i m) = 2 + (bulk i + bulk m)

@@ -1,0 +1,250 @@
+//! The token trees that are left to read.
+ghost use Rattle.std.specs.Prelude.{◌≡◌, ◌<◌, IfOk, IfErr, OnErr, MatchOption, None, Some};
+ghost use Rattle.syn_grammar.specs.Tokens as grammar;
+ghost use Rattle.syn_grammar.specs.Tokens.{ended};
+ghost use Rattle.syn_grammar.specs.Take.{left, sees, take_group};
+ghost use Rattle.syn_grammar.specs.Run.{parse};
+ghost use Rattle.syn_grammar.specs.Says.{Says, Takes, Finished};
+ghost use Rattle.syn_tokens.specs.Refusals.{IsSyntax};
+ghost use Rattle.syn_tokens.specs.Nexts.{StandsNext};
+ghost use Rattle.syn_tokens.specs.Punct.{is_joint};
+ghost use Rattle.syn_tokens.specs.Trees.{stream_of};
+ghost use Rattle.syn_tokens.specs.Peeks.{past};
+ghost use Rattle.syn_tokens.specs.Peeks as peeks;
+ghost use Rattle.syn_tokens.specs.Opened.{SaysOpened, content_of};
+
+use crate::expectation::Expectation;
+use crate::front::{split, split_group};
+use crate::punct::{Punct, Spacing};
+use crate::read::{Peek, Read};
+use crate::refusal::{Reading, Refusal};
+use crate::span::Span;
+use crate::stream::TokenStream;
+use crate::token::{DelimiterKind, Delimiters};
+use crate::tree::TokenTree;
+use std::alloc::Global;
+use std::marker::Model;
+
+mod captures;
+mod faces;
+mod leaves;
+mod marks;
+
+/// The token trees that are left to read, and where they end.
+#[derive(Drop)]
+pub struct ParseBuffer<'a> {
+    trees: &'a [TokenTree],
+    end: Span,
+    alloc: Global,
+}
+
+impl<'a> Model for ParseBuffer<'a> {
+    ghost use Rattle.syn_grammar.specs.Tokens.{Stream};
+    ghost use Rattle.syn_grammar.specs.Codes.{stream_code};
+    ghost use Rattle.syn_tokens.specs.Trees.{stream_of};
+
+    ghost Value = { Stream };
+
+    ghost coded = { stream_code };
+
+    ghost view = { λ b. stream_of b.trees.now };
+}
+
+/// Where the last of these trees ends: an empty span behind it, 0 to 0 where there is none.
+fn end_of(trees: &[TokenTree]) -> Span {
+    let end = match trees.last() {
+        Some(TokenTree::Group(group)) => group.closing.end,
+        Some(tree) => tree.span().end,
+        None => 0,
+    };
+    Span { start: end, end }
+}
+
+/// What is left past a mark's character; where that makes a lifetime, past its identifier too.
+fn past_mark<'a>(punct: &Punct, rest: &'a [TokenTree]) -> &'a [TokenTree]
+    ensures { stream_of result.now ≡ peeks.past_mark punct.now.character (is_joint punct.now.spacing) (stream_of rest.now) }
+{
+    if punct.character() != '\'' || punct.spacing != Spacing::Joint {
+        return rest;
+    }
+    match split(rest) {
+        Some((TokenTree::Ident(_), rest)) => rest,
+        Some((TokenTree::Literal(_), _)) => rest,
+        Some((TokenTree::Punct(_), _)) => rest,
+        Some((TokenTree::Group(_), _)) => rest,
+        None => rest,
+    }
+}
+
+impl<'a> ParseBuffer<'a> {
+    /// All of a stream.
+    pub fn new(stream: &'a TokenStream) -> ParseBuffer<'a>
+        ensures { result ≡ stream.now }
+    {
+        ParseBuffer {
+            trees: stream.trees(),
+            end: end_of(stream.trees()),
+            alloc: stream.alloc(),
+        }
+    }
+
+    /// A buffer of its own over what is left.
+    pub fn fork(&self) -> ParseBuffer<'a>
+        ensures { result ≡ self.now }
+    {
+        ParseBuffer {
+            trees: self.trees,
+            end: self.end,
+            alloc: self.alloc,
+        }
+    }
+
+    /// Goes on where the other buffer stands.
+    pub fn advance_to(&mut self, fork: &ParseBuffer<'a>)
+        ensures { self.new ≡ fork.now }
+    {
+        self.trees = fork.trees;
+        self.end = fork.end;
+    }
+
+    /// Where what is read takes its memory from.
+    pub fn alloc(&self) -> Global {
+        self.alloc
+    }
+
+    /// Whether nothing is left.
+    #[tactic(auto, using(syn_grammar::proofs::Looks::sees_ended), unfolding(syn_grammar::specs::Take::is_end))]
+    pub fn is_empty(&self) -> bool
+        ensures { result ≡ sees ended self.now }
+    {
+        match split(self.trees) {
+            None => true,
+            Some((TokenTree::Ident(_), _)) => false,
+            Some((TokenTree::Literal(_), _)) => false,
+            Some((TokenTree::Punct(_), _)) => false,
+            Some((TokenTree::Group(_), _)) => false,
+        }
+    }
+
+    /// Where the next token stands; at the end of a group its closing sign, at the end of a stream the empty span
+    /// behind its last tree.
+    #[tactic(auto, using(crate::proofs::Nexts::first_stands))]
+    pub fn span(&self) -> Span
+        ensures { StandsNext self.now result }
+    {
+        match self.trees.first() {
+            Some(tree) => tree.span(),
+            None => self.end,
+        }
+    }
+
+    /// The refusal that something else stands next than was expected.
+    pub fn refusal(&self, expectation: Expectation) -> Refusal
+        ensures { IsSyntax result }
+    {
+        Refusal::Syntax {
+            span: self.span(),
+            expectation,
+        }
+    }
+
+    /// Whether a `T` stands next.
+    pub fn peek<T: Peek>(&self) -> bool
+        ensures { result ≡ sees T.look self.now }
+    {
+        T::peek(self)
+    }
+
+    /// Whether a `T` stands past the next tree, where a lifetime counts as one.
+    pub fn peek2<T: Peek>(&self) -> bool
+        ensures { result ≡ sees T.look (past self.now) }
+    {
+        T::peek(&self.past())
+    }
+
+    /// Whether a `T` stands past the next two trees, where a lifetime counts as one.
+    pub fn peek3<T: Peek>(&self) -> bool
+        ensures { result ≡ sees T.look (past (past self.now)) }
+    {
+        T::peek(&self.past().past())
+    }
+
+    /// What is left past the next tree, where a lifetime counts as one.
+    fn past(&self) -> ParseBuffer<'a>
+        ensures { result ≡ past self.now }
+    {
+        let trees = match split(self.trees) {
+            None => self.trees,
+            Some((TokenTree::Ident(_), rest)) => rest,
+            Some((TokenTree::Literal(_), rest)) => rest,
+            Some((TokenTree::Group(_), rest)) => rest,
+            Some((TokenTree::Punct(punct), rest)) => past_mark(punct, rest),
+        };
+        ParseBuffer {
+            trees,
+            end: self.end,
+            alloc: self.alloc,
+        }
+    }
+
+    /// The refusal that something else stands past the next tree than was expected.
+    pub fn refusal_behind(&self, expectation: Expectation) -> Refusal
+        ensures { IsSyntax result }
+    {
+        self.past().refusal(expectation)
+    }
+
+    /// Reads a `T`, as a part of what a rule reads.
+    pub fn read<T: Read>(&mut self) -> Reading<T>
+        ensures reads { Says IsSyntax T.syntax (parse T.form self.old) result self.new }
+        ensures moved { Takes T.takes self.old result self.new }
+    {
+        T::read(self)
+    }
+
+    /// Reads a group with these signs: its signs, and its content. Where it is refused, nothing is read.
+    pub fn read_group<K: DelimiterKind>(&mut self) -> Reading<(Delimiters<K>, ParseBuffer<'a>)>
+        ensures reads { SaysOpened IsSyntax (take_group K.delimiter self.old) result self.new }
+        ensures moved { Takes 1 self.old result self.new }
+        ensures inside { IfOk result (λ p. left p.1 < left self.old) }
+        ensures unchanged { OnErr result (self.new ≡ self.old) }
+        ensures syntax { IfErr result IsSyntax }
+    {
+        let Some((group, rest)) = split_group(self.trees, K::delimiter()) else {
+            return Err(self.refusal(K::expectation()));
+        };
+        self.trees = rest;
+        let content = ParseBuffer {
+            trees: group.stream.trees(),
+            end: group.closing,
+            alloc: self.alloc,
+        };
+        Ok((Delimiters::new(group.opening, group.closing), content))
+    }
+
+    /// The content of the group with these signs that stands next; nothing is read.
+    pub fn peek_group<K: DelimiterKind>(&self) -> Option<ParseBuffer<'a>>
+        ensures { MatchOption result (take_group K.delimiter self.now ≡ None) (λ b. content_of (take_group K.delimiter self.now) ≡ Some b) }
+    {
+        let (group, _) = split_group(self.trees, K::delimiter())?;
+        Some(ParseBuffer {
+            trees: group.stream.trees(),
+            end: group.closing,
+            alloc: self.alloc,
+        })
+    }
+
+    /// The end of a group or stream; refused where something is left.
+    #[tactic(auto, unfolding(syn_grammar::specs::Take::is_end))]
+    pub fn read_end(&self) -> Reading<()>
+        ensures { Finished IsSyntax self.now result }
+    {
+        match split(self.trees) {
+            None => Ok(()),
+            Some((TokenTree::Ident(_), _)) => Err(self.refusal(Expectation::UnexpectedToken)),
+            Some((TokenTree::Literal(_), _)) => Err(self.refusal(Expectation::UnexpectedToken)),
+            Some((TokenTree::Punct(_), _)) => Err(self.refusal(Expectation::UnexpectedToken)),
+            Some((TokenTree::Group(_), _)) => Err(self.refusal(Expectation::UnexpectedToken)),
+        }
+    }
+}

@@ -1,0 +1,106 @@
+//! Comparisons that take no account of spans.
+ghost use Rattle.std.specs.Prelude.{◌≡◌};
+ghost use Rattle.syn_grammar.specs.Same.{same_syntax};
+ghost use Rattle.syn_tokens.specs.InOrder.{in_order};
+
+use crate::ident::Ident;
+use crate::literal::Literal;
+use crate::punctuated::Punctuated;
+use crate::syntactic::Syntactic;
+use crate::token::{Mark, MarkKind, Word, WordKind};
+
+/// What can be compared whatever the spans.
+pub trait Compared: Syntactic {
+    /// Whether both stand for the same syntax, where spans don't count.
+    fn is_same(&self, other: &Self) -> bool
+        ensures same { result ≡ same_syntax (Self.syntax self.now) (Self.syntax other.now) };
+}
+
+impl Compared for Ident {
+    #[tactic(auto, using(syn_grammar::proofs::Same::bytes_same_text))]
+    fn is_same(&self, other: &Ident) -> bool {
+        self == other
+    }
+}
+
+impl Compared for Literal {
+    #[tactic(auto, using(syn_grammar::proofs::Same::bytes_same_text))]
+    fn is_same(&self, other: &Literal) -> bool {
+        self == other
+    }
+}
+
+/// Two words of one kind are the same.
+impl<K: WordKind> Compared for Word<K> {
+    #[tactic(auto, using(syn_grammar::proofs::Sets::same_text_refl))]
+    fn is_same(&self, _other: &Word<K>) -> bool {
+        true
+    }
+}
+
+/// Two marks of one kind are the same.
+impl<K: MarkKind<N>, const N: usize> Compared for Mark<K, N> {
+    #[tactic(auto, using(crate::proofs::Comparisons::same_placed))]
+    fn is_same(&self, _other: &Mark<K, N>) -> bool {
+        true
+    }
+}
+
+/// Both are there and the same, or neither is there.
+impl<T: Compared> Compared for Option<T> {
+    fn is_same(&self, other: &Option<T>) -> bool {
+        match (self, other) {
+            (Some(value), Some(other)) => value.is_same(other),
+            (None, None) => true,
+            (Some(_), None) => false,
+            (None, Some(_)) => false,
+        }
+    }
+}
+
+impl<T: Compared> Compared for Box<T> {
+    fn is_same(&self, other: &Box<T>) -> bool {
+        (**self).is_same(&**other)
+    }
+}
+
+impl<T: Compared, P: Compared> Compared for (T, P) {
+    fn is_same(&self, other: &(T, P)) -> bool {
+        self.0.is_same(&other.0) && self.1.is_same(&other.1)
+    }
+}
+
+/// As many, and the same in turn.
+impl<T: Compared> Compared for Vec<T> {
+    fn is_same(&self, other: &Vec<T>) -> bool {
+        same_in_order(self.as_slice(), other.as_slice())
+    }
+}
+
+#[tactic(auto, using(crate::proofs::Comparisons::unlike_lengths))]
+fn same_in_order<T: Compared>(a: &[T], b: &[T]) -> bool
+    ensures { result ≡ same_syntax (in_order T.syntax a.now) (in_order T.syntax b.now) }
+{
+    a.len() == b.len() && a.iter().zip(b).all(|(x, y)| x.is_same(y))
+}
+
+impl<T: Compared, P: Compared> Punctuated<T, P> {
+    ghost use Rattle.syn_tokens.specs.Listing.{list_of, joined_of};
+
+    /// Whether both have the same values and separators in turn, where spans don't count.
+    #[tactic(auto, using(crate::proofs::Comparisons::same_list, crate::proofs::Comparisons::same_joined))]
+    pub fn is_same(&self, other: &Punctuated<T, P>) -> bool
+        ensures list { result ≡ same_syntax (list_of T.syntax P.syntax self.now.pairs self.now.last) (list_of T.syntax P.syntax other.now.pairs other.now.last) }
+        ensures joined { result ≡ same_syntax (joined_of T.syntax P.syntax self.now.pairs self.now.last) (joined_of T.syntax P.syntax other.now.pairs other.now.last) }
+    {
+        if !same_in_order(self.pairs(), other.pairs()) {
+            return false;
+        }
+        match (self.trailing_value(), other.trailing_value()) {
+            (Some(a), Some(b)) => a.is_same(b),
+            (None, None) => true,
+            (Some(_), None) => false,
+            (None, Some(_)) => false,
+        }
+    }
+}

@@ -1,0 +1,12 @@
+//! The signs of a group.
+/// The two signs that stand around a group; those of a `None` group are invisible.
+#[derive(Clone, Copy, Debug, PartialEq, Eq)]
+pub enum Delimiter {
+    /// `( )`
+    Paren,
+    /// `{ }`
+    Brace,
+    /// `[ ]`
+    Bracket,
+    None,
+}

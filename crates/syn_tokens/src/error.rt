@@ -1,0 +1,172 @@
+//! What a public call says where it refuses.
+ghost use Rattle.std.specs.Prelude.{◌≡◌, [], ◌∷◌, ◌++◌, ◌↔◌, ◌≤◌, IsTrue, length, map, take};
+ghost use Rattle.syn_tokens.specs.Faults.{IsRefusedAs};
+
+use crate::refusal::Refusal;
+use crate::span::Span;
+use std::alloc::{AllocError, AllocFailed};
+use std::fmt;
+use std::marker::Model;
+
+/// One thing that is wrong: where, and what.
+#[derive(Clone, Copy, Debug)]
+pub struct Fault {
+    pub span: Span,
+    pub text: &'static str,
+}
+
+/// Why a call was refused: one to four faults of syntax, or none where memory was refused.
+#[derive(Debug, Drop)]
+pub struct Error {
+    faults: [Fault; 4],
+    count: usize,
+}
+
+impl Model for Error {
+    ghost use Rattle.std.specs.Prelude.{◌≡◌, List, ◌≤◌, length, map, take};
+    ghost use Rattle.std.specs.Coded.{coded_list};
+    ghost use Rattle.syn_tokens.specs.Faults.{FaultValue, coded_fault, fault_of};
+
+    ghost Value = { List FaultValue };
+
+    ghost coded = { coded_list coded_fault };
+
+    ghost view = { λ e. map fault_of (take e.count e.faults) };
+
+    ghost invariant = { λ e. (e.count ≤ 4) × (length e.faults ≡ 4) };
+}
+
+/// What a public call answers.
+pub type Result<T> = std::result::Result<T, Error>;
+
+/// Fills the places behind the faults.
+const NO_FAULT: Fault = Fault {
+    span: Span { start: 0, end: 0 },
+    text: "out of memory",
+};
+
+impl Error {
+    ghost use Rattle.syn_tokens.specs.Faults.{fault_of, first_span, combined};
+
+    /// The error with this fault.
+    pub fn new(span: Span, text: &'static str) -> Error
+        ensures { result ≡ (span, text.now) ∷ [] }
+    {
+        Error {
+            faults: [Fault { span, text }, NO_FAULT, NO_FAULT, NO_FAULT],
+            count: 1,
+        }
+    }
+
+    /// The error with one fault, from where the first token begins to where the last one ends.
+    pub fn new_range(first: Span, last: Span, text: &'static str) -> Error
+        ensures { result ≡ (record { start = first.start; end = last.end }, text.now) ∷ [] }
+    {
+        let span = Span {
+            start: first.start,
+            end: last.end,
+        };
+        Error::new(span, text)
+    }
+
+    /// The error where memory was refused.
+    pub fn memory() -> Error
+        ensures { result ≡ [] }
+    {
+        Error {
+            faults: [NO_FAULT; 4],
+            count: 0,
+        }
+    }
+
+    /// Whether memory was refused.
+    pub fn is_memory(&self) -> bool
+        ensures value { IsTrue result ↔ (self.now ≡ []) }
+        ensures few { length self.now ≤ 4 }
+    {
+        self.count == 0
+    }
+
+    /// The faults; none where memory was refused.
+    pub fn faults(&self) -> &[Fault]
+        ensures { map fault_of result.now ≡ self.now }
+    {
+        &self.faults[..self.count]
+    }
+
+    /// Where the first fault is; 0 to 0 where memory was refused.
+    pub fn span(&self) -> Span
+        ensures { result ≡ first_span self.now }
+    {
+        match self.faults().first() {
+            Some(fault) => fault.span,
+            None => Span::call_site(),
+        }
+    }
+
+    /// Adds the faults of another error behind its own, up to the fourth. Where either is the refusal of memory, it
+    /// becomes that.
+    pub fn combine(&mut self, other: Error)
+        ensures { self.new ≡ combined self.old other }
+    {
+        if self.is_memory() || other.is_memory() {
+            *self = Error::memory();
+            return;
+        }
+        for fault in other.faults() {
+            self.add(*fault);
+        }
+    }
+
+    /// One fault more, where there are fewer than four.
+    fn add(&mut self, fault: Fault)
+        ensures { self.new ≡ take 4 (self.old ++ fault_of fault ∷ []) }
+    {
+        if self.count < 4 {
+            self.faults[self.count] = fault;
+            self.count += 1;
+        }
+    }
+}
+
+impl fmt::Display for Error {
+    ghost use Rattle.std.specs.Prelude.{Some};
+    ghost use Rattle.syn_tokens.specs.Faults.{first_text};
+
+    ghost output = { λ e. Some (first_text e) };
+
+    fn fmt<W: fmt::Write>(&self, f: &mut fmt::Formatter<W>) -> fmt::Result {
+        let text = match self.faults().first() {
+            Some(fault) => fault.text,
+            None => "out of memory",
+        };
+        f.write_str(text)
+    }
+}
+
+impl From<AllocError> for Error {
+    ghost from_gives = { λ _ e. e ≡ [] };
+
+    fn from(_e: AllocError) -> Error {
+        Error::memory()
+    }
+}
+
+impl<T: Drop> From<AllocFailed<T>> for Error {
+    ghost from_gives = { λ _ e. e ≡ [] };
+
+    fn from(_e: AllocFailed<T>) -> Error {
+        Error::memory()
+    }
+}
+
+impl From<Refusal> for Error {
+    ghost from_gives = { IsRefusedAs };
+
+    fn from(refusal: Refusal) -> Error {
+        match refusal {
+            Refusal::Memory => Error::memory(),
+            Refusal::Syntax { span, expectation } => Error::new(span, expectation.as_str()),
+        }
+    }
+}

@@ -1,0 +1,123 @@
+//! Identifiers.
+ghost use Rattle.std.specs.Prelude.{◌≡◌, ◌∷◌, [], IfOk, IfErr, IsTrue, codes, if◌then◌else◌};
+ghost use Rattle.std.specs.Cmp.{on_equiv, on_per};
+ghost use Rattle.syn_grammar.specs.Tokens.{same_text};
+ghost use Rattle.syn_tokens.specs.Equal.{same_text_equiv, same_text_per};
+ghost use Rattle.syn_tokens.specs.Idents.{is_keyword, is_identifier};
+
+use crate::error::{Error, Result};
+use crate::identifier::is_identifier;
+use crate::keyword::is_keyword;
+use crate::span::Span;
+use crate::text::Text;
+use std::alloc::{AllocError, Global};
+use std::marker::Model;
+
+/// An identifier or a word of the language, such as `a`, `r#a`, `_` or `struct`. Two are equal where their texts are,
+/// wherever they stand.
+#[derive(Debug, Drop)]
+pub struct Ident {
+    text: Text,
+    keyword: bool,
+    pub span: Span,
+}
+
+impl Model for Ident {
+    ghost use Rattle.std.specs.Prelude.{◌≡◌};
+    ghost use Rattle.syn_tokens.specs.Idents.{IdentValue, is_keyword};
+
+    ghost Value = { IdentValue };
+
+    ghost view = { λ i. record { text = i.text; span = i.span } };
+
+    ghost invariant = { λ i. i.keyword ≡ is_keyword i.text };
+}
+
+impl PartialEq for Ident {
+    ghost eq = { λ a b. same_text a.text b.text };
+
+    ghost laws = { on_per (λ i. i.text) same_text_per };
+
+    #[tactic(auto, using(syn_grammar::proofs::Same::bytes_same_text))]
+    fn eq(&self, other: &Ident) -> bool {
+        self.text() == other.text()
+    }
+}
+
+impl Eq for Ident {
+    ghost laws = { on_equiv (λ i. i.text) same_text_equiv };
+}
+
+impl Ident {
+    /// The identifier of a text. It is refused where the text isn't an identifier: `_` or a character that Unicode lets
+    /// identifiers start with, and then such as they go on by; `r#` may stand before it.
+    pub fn new(alloc: Global, text: &str, span: Span) -> Result<Ident>
+        ensures identifier { IfOk result (λ i. IsTrue (is_identifier text.now)) }
+        ensures value { IfOk result (λ i. i ≡ record { text = text.now; span = span }) }
+        ensures err { IfErr result (λ e. e ≡ (if is_identifier text.now then [] else (span, codes "expected identifier") ∷ [])) }
+    {
+        if is_identifier(text) {
+            Ok(Ident::of_identifier(alloc, text, span)?)
+        } else {
+            Err(Error::new(span, "expected identifier"))
+        }
+    }
+
+    /// The identifier of a text that is known to be one; refused only where memory is.
+    pub fn of_identifier(
+        alloc: Global,
+        text: &str,
+        span: Span,
+    ) -> std::result::Result<Ident, AllocError>
+        requires { IsTrue (is_identifier text.now) }
+        ensures { IfOk result (λ i. i ≡ record { text = text.now; span = span }) }
+    {
+        Ok(Ident {
+            keyword: is_keyword(text),
+            text: Text::from_str(alloc, text)?,
+            span,
+        })
+    }
+
+    /// The same identifier once more, with the same span. It takes no memory, and is refused only where 2^64 - 1 copies
+    /// of the text are there.
+    pub fn copy(&self) -> std::result::Result<Ident, AllocError>
+        ensures { IfOk result (λ i. i ≡ self.now) }
+    {
+        Ok(Ident {
+            text: self.text.share()?,
+            keyword: self.keyword,
+            span: self.span,
+        })
+    }
+
+    /// The same as `copy`.
+    pub fn try_clone(&self, _alloc: Global) -> Result<Ident>
+        ensures ok { IfOk result (λ i. i ≡ self.now) }
+        ensures err { IfErr result (λ e. e ≡ []) }
+    {
+        Ok(self.copy()?)
+    }
+
+    /// Its text, with `r#` where that stands before it.
+    pub fn text(&self) -> &str
+        ensures { result.now ≡ self.now.text }
+    {
+        self.text.as_str()
+    }
+
+    /// Whether it is one of the words that are no names, such as `struct`; `r#struct` is a name.
+    pub fn is_keyword(&self) -> bool
+        ensures { result ≡ is_keyword self.now.text }
+    {
+        self.keyword
+    }
+
+    /// Whether it is the identifier of this text.
+    #[tactic(auto, using(syn_grammar::proofs::Same::bytes_same_text))]
+    pub fn is(&self, text: &str) -> bool
+        ensures { result ≡ same_text self.now.text text.now }
+    {
+        self.text() == text
+    }
+}

@@ -1,0 +1,101 @@
+//! Identifiers, literals and lifetimes, as rules read them.
+ghost use Rattle.std.specs.Prelude.{[], refl};
+ghost use Rattle.syn_grammar.specs.Words.{apostrophe};
+ghost use Rattle.syn_grammar.specs.Tokens.{at_mark, at_name};
+ghost use Rattle.syn_grammar.specs.Grammar.{any_literal, lifetime, name, token};
+ghost use Rattle.syn_grammar.proofs.Outcomes.{meaning_of};
+ghost use Rattle.syn_tokens.specs.Leaves.{at_any_literal, syntax_of_apostrophe};
+
+use crate::buffer::ParseBuffer;
+use crate::expectation::Expectation;
+use crate::ident::Ident;
+use crate::literal::Literal;
+use crate::read::{Peek, Read};
+use crate::refusal::Reading;
+use crate::span::Span;
+use crate::syntactic::Syntactic;
+
+/// A lifetime, such as `'a`: the span of its `'`, and its identifier, which may have any text. Two are equal where their
+/// identifiers are.
+#[derive(Debug, Drop)]
+#[derive_where(PartialEq, Eq)]
+pub struct Lifetime {
+    #[derive_where(skip(EqHashOrd))]
+    pub apostrophe: Span,
+    pub ident: Ident,
+}
+
+impl Syntactic for Lifetime {
+    ghost syntax = { λ l. syntax_of_apostrophe (l.apostrophe, l.ident) };
+}
+
+/// An identifier that is no keyword.
+impl Peek for Ident {
+    ghost look = { at_name };
+
+    fn peek(input: &ParseBuffer<'_>) -> bool {
+        input.is_at_name()
+    }
+
+    fn expectation() -> Expectation {
+        Expectation::Identifier
+    }
+}
+
+impl Read for Ident {
+    ghost form = { token [] name };
+
+    fn read(input: &mut ParseBuffer<'_>) -> Reading<Ident> {
+        input.read_name()
+    }
+
+    ghost meaning = { meaning_of (token [] name) refl };
+}
+
+/// A literal of any kind.
+impl Read for Literal {
+    ghost form = { token [] any_literal };
+
+    fn read(input: &mut ParseBuffer<'_>) -> Reading<Literal> {
+        input.read_literal()
+    }
+
+    ghost meaning = { meaning_of (token [] any_literal) refl };
+}
+
+impl Peek for Literal {
+    ghost look = { at_any_literal };
+
+    fn peek(input: &ParseBuffer<'_>) -> bool {
+        input.is_at_literal()
+    }
+
+    fn expectation() -> Expectation {
+        Expectation::Literal
+    }
+}
+
+/// A lifetime is looked for by its `'`.
+impl Peek for Lifetime {
+    ghost look = { at_mark apostrophe };
+
+    fn peek(input: &ParseBuffer<'_>) -> bool {
+        input.is_at_mark1('\'')
+    }
+
+    fn expectation() -> Expectation {
+        Expectation::Lifetime
+    }
+}
+
+/// `'` directly before an identifier of any text.
+impl Read for Lifetime {
+    ghost form = { lifetime };
+
+    fn read(input: &mut ParseBuffer<'_>) -> Reading<Lifetime> {
+        let (apostrophe, ident) = input.read_lifetime()?;
+        Ok(Lifetime { apostrophe, ident })
+    }
+
+    ghost meaning = { meaning_of lifetime refl };
+}

@@ -1,0 +1,35 @@
+//! Tokens, and buffers that read them.
+#![tactic(auto)]
+
+pub mod buffer;
+pub mod call;
+pub mod compare;
+mod copies;
+pub mod delimiter;
+pub mod error;
+pub mod expectation;
+mod front;
+pub mod ident;
+pub mod identifier;
+pub mod keyword;
+pub mod leaf;
+pub mod lists;
+pub mod literal;
+pub mod lookahead;
+pub mod parse;
+pub mod parse2;
+pub mod punct;
+pub mod punctuated;
+pub mod read;
+pub mod refusal;
+mod same;
+pub mod span;
+pub mod stream;
+pub mod syntactic;
+pub mod terminated;
+#[cfg(test)]
+mod tests;
+pub mod text;
+pub mod token;
+pub mod tree;
+pub mod try_clone;

@@ -1,0 +1,119 @@
+//! What was looked for at one place of a buffer.
+ghost use Rattle.std.specs.Prelude.{◌≡◌, [], ◌∷◌, ◌++◌, ◌≤◌, All, length, take};
+ghost use Rattle.syn_grammar.specs.Take.{sees};
+ghost use Rattle.syn_tokens.specs.Nexts.{StandsNext, HasFaultNext};
+ghost use Rattle.syn_tokens.specs.Looked.{MissedBy, fault_count};
+
+use crate::buffer::ParseBuffer;
+use crate::error::Error;
+use crate::expectation::Expectation;
+use crate::read::Peek;
+use std::marker::Model;
+
+/// How many names an error can tell.
+const MOST: usize = 4;
+
+/// A place in a buffer, and what was looked for there and didn't stand next: the first four names.
+#[derive(Drop)]
+pub struct Lookahead1<'a> {
+    buffer: ParseBuffer<'a>,
+    missed: [Expectation; 4],
+    count: usize,
+}
+
+impl<'a> Model for Lookahead1<'a> {
+    ghost use Rattle.std.specs.Prelude.{◌≡◌, ◌≤◌, length, take};
+    ghost use Rattle.syn_tokens.specs.Looked.{LookaheadValue, coded_lookahead};
+
+    ghost Value = { LookaheadValue };
+
+    ghost coded = { coded_lookahead };
+
+    ghost view = { λ l. record { stream = l.buffer; missed = take l.count l.missed } };
+
+    ghost invariant = { λ l. (l.count ≤ 4) × (length l.missed ≡ 4) };
+}
+
+impl<'a> ParseBuffer<'a> {
+    ghost use Rattle.syn_tokens.specs.Looked.{nothing_missed};
+
+    /// Begins to look for what stands next, at this place of the buffer. It takes no memory.
+    pub fn lookahead1(&self) -> Lookahead1<'a>
+        ensures { result ≡ nothing_missed self.now }
+    {
+        Lookahead1 {
+            buffer: self.fork(),
+            missed: [Expectation::UnexpectedToken; 4],
+            count: 0,
+        }
+    }
+}
+
+impl<'a> Lookahead1<'a> {
+    /// Whether a `T` stands next. Where it doesn't, its name is kept for the error, if there are fewer than four. It
+    /// takes no memory.
+    pub fn peek<T: Peek>(&mut self) -> bool
+        ensures seen { result ≡ sees T.look self.old.stream }
+        ensures place { self.new.stream ≡ self.old.stream }
+        ensures missed { MissedBy result self.old.missed self.new.missed }
+    {
+        if self.buffer.peek::<T>() {
+            return true;
+        }
+        self.miss(T::expectation());
+        false
+    }
+
+    /// One name more, where there are fewer than four.
+    fn miss(&mut self, name: Expectation)
+        ensures { self.new ≡ record self.old { missed = take 4 (self.old.missed ++ name ∷ []) } }
+    {
+        if self.count < MOST {
+            self.missed[self.count] = name;
+            self.count += 1;
+        }
+    }
+
+    /// The error that nothing which was looked for stands next: at the next token, for each of the first four names a
+    /// fault such as ``expected `struct` ``; where none was looked for, the fault `unexpected token`, or at the end of a
+    /// group or stream `unexpected end of input`. It takes no memory.
+    pub fn error(self) -> Error
+        ensures faults { length result ≡ fault_count self.entry.missed }
+        ensures place { All (λ f. StandsNext self.entry.stream f.0) result }
+    {
+        let Some((first, others)) = self.missed().split_first() else {
+            return self.unexpected();
+        };
+        let mut error = self.missing(*first);
+        for name in others {
+            error.combine(self.missing(*name));
+        }
+        error
+    }
+
+    /// The names that were missed.
+    fn missed(&self) -> &[Expectation]
+        ensures names { result.now ≡ self.now.missed }
+        ensures few { length result.now ≤ 4 }
+    {
+        &self.missed[..self.count]
+    }
+
+    /// The error that this doesn't stand next.
+    fn missing(&self, name: Expectation) -> Error
+        ensures { (text : _) × HasFaultNext self.now.stream text result }
+    {
+        self.buffer.error(name.as_str())
+    }
+
+    /// The error that anything stands next, or nothing.
+    fn unexpected(&self) -> Error
+        ensures { (text : _) × HasFaultNext self.now.stream text result }
+    {
+        if self.buffer.is_empty() {
+            self.buffer.error("unexpected end of input")
+        } else {
+            self.buffer.error("unexpected token")
+        }
+    }
+}

@@ -1,0 +1,150 @@
+//! Lists with separators.
+ghost use Rattle.std.specs.Prelude.{◌≡◌, ◌++◌, ◌-◌, ◌∷◌, ◌≢◌, ◌↔◌, ◌⊎◌, [], IfOk, OnOk, OnErr, IfSome, IsTrue, IsSome, MatchOption, None, Some, length, slice_get};
+ghost use Rattle.std.specs.Option.{option_copied};
+ghost use Rattle.syn_tokens.specs.Lists.{nothing_listed, values};
+
+pub mod iterators;
+
+use std::alloc::{AllocError, Global};
+use std::marker::Model;
+
+/// Values with separators between them; the last separator may stand or not.
+#[derive(Drop)]
+pub struct Punctuated<T, P> {
+    inner: Vec<(T, P)>,
+    last: Option<Box<T>>,
+    alloc: Global,
+}
+
+impl<T, P> Model for Punctuated<T, P> {
+    ghost use Rattle.std.specs.Prelude.{◌+◌, ◌<◌, ◌^◌, length};
+    ghost use Rattle.std.specs.Option.{option_map};
+    ghost use Rattle.syn_tokens.specs.Lists.{Sequence, coded_sequence};
+
+    ghost Value = { Sequence T P };
+
+    ghost coded = { coded_sequence T.code P.code };
+
+    ghost view = { λ p. record { pairs = p.inner.items; last = option_map (λ b. b.value) p.last } };
+
+    ghost invariant = { λ p. length p.inner.items + 1 < 2 ^ 64 };
+}
+
+impl<T, P> Punctuated<T, P> {
+    /// The empty list. It takes no memory.
+    pub fn new(alloc: Global) -> Punctuated<T, P>
+        ensures { result ≡ nothing_listed }
+    {
+        Punctuated {
+            inner: Vec::new(alloc),
+            last: None,
+            alloc,
+        }
+    }
+
+    /// How many values there are.
+    pub fn len(&self) -> usize
+        ensures { result ≡ length (values self.now) }
+    {
+        match self.last {
+            Some(_) => self.inner.len() + 1,
+            None => self.inner.len(),
+        }
+    }
+
+    /// Whether there are no values.
+    pub fn is_empty(&self) -> bool
+        ensures { IsTrue result ↔ (self.now ≡ nothing_listed) }
+    {
+        self.inner.is_empty() && self.last.is_none()
+    }
+
+    /// The first value.
+    pub fn first(&self) -> Option<&T>
+        ensures { option_copied result ≡ slice_get (values self.now) 0 }
+    {
+        match self.inner.first() {
+            Some((value, _)) => Some(value),
+            None => self.trailing_value(),
+        }
+    }
+
+    /// The last value.
+    pub fn last(&self) -> Option<&T>
+        ensures { option_copied result ≡ slice_get (values self.now) (length (values self.now) - 1) }
+    {
+        self.iter().next_back()
+    }
+
+    /// The values that a separator follows, each with it.
+    pub fn pairs(&self) -> &[(T, P)]
+        ensures { result.now ≡ self.now.pairs }
+    {
+        self.inner.as_slice()
+    }
+
+    /// The value at the end that no separator follows, if there is one.
+    pub fn trailing_value(&self) -> Option<&T>
+        ensures { option_copied result ≡ self.now.last }
+    {
+        match &self.last {
+            Some(value) => Some(&**value),
+            None => None,
+        }
+    }
+
+    /// Whether a separator follows the last value.
+    pub fn trailing_punct(&self) -> bool
+        ensures { IsTrue result ↔ ((self.now.last ≡ None) × (self.now.pairs ≢ [])) }
+    {
+        self.last.is_none() && !self.inner.is_empty()
+    }
+
+    /// Whether a value may be pushed: there is none yet, or a separator follows the last.
+    pub fn empty_or_trailing(&self) -> bool
+        ensures { IsTrue result ↔ (self.now.last ≡ None) }
+    {
+        self.last.is_none()
+    }
+}
+
+impl<T: Drop, P: Drop> Punctuated<T, P> {
+    /// Adds a value at the end. Where memory is refused, the list stays as it was, and the value is dropped.
+    pub fn push_value(&mut self, value: T) -> Result<(), AllocError>
+        requires { self.old.last ≡ None }
+        ensures ok { OnOk result (self.new ≡ record self.old { last = Some value }) }
+        ensures err { OnErr result (self.new ≡ self.old) }
+    {
+        self.last = Some(Box::new(self.alloc, value)?);
+        Ok(())
+    }
+
+    /// Adds a value and the separator behind it. Where memory is refused, the list stays as it was, and both are dropped.
+    pub fn push_pair(&mut self, value: T, punct: P) -> Result<(), AllocError>
+        requires { self.old.last ≡ None }
+        ensures ok { OnOk result (self.new ≡ record { pairs = self.old.pairs ++ (value, punct) ∷ []; last = None }) }
+        ensures err { OnErr result (self.new ≡ self.old) }
+    {
+        if self.inner.len() == usize::MAX - 1 {
+            return Err(AllocError);
+        }
+        self.inner.push((value, punct))?;
+        Ok(())
+    }
+
+    /// Adds a separator at the end. Where memory is refused, the list stays as it was, and the separator is dropped.
+    pub fn push_punct(&mut self, punct: P) -> Result<(), AllocError>
+        requires { IsSome self.old.last }
+        ensures ok { OnOk result (IfSome self.old.last (λ value. self.new ≡ record { pairs = self.old.pairs ++ (value, punct) ∷ []; last = None })) }
+        ensures err { OnErr result (self.new ≡ self.old) }
+    {
+        if self.inner.len() == usize::MAX - 1 {
+            return Err(AllocError);
+        }
+        self.inner.reserve(1)?;
+        if let Some(value) = self.last.take() {
+            self.inner.push((Box::into_inner(value), punct))?;
+        }
+        Ok(())
+    }
+}

@@ -1,0 +1,36 @@
+//! What values stand for.
+ghost use Rattle.syn_grammar.specs.Grammar.{Syntax};
+ghost use Rattle.syn_tokens.specs.InOrder.{in_order, pair_of};
+ghost use Rattle.syn_tokens.specs.Leaves.{maybe, syntax_of_ident, syntax_of_literal};
+
+use crate::ident::Ident;
+use crate::literal::Literal;
+
+/// A value that stands for syntax: for what was read, with its signs and spans.
+pub trait Syntactic {
+    ghost syntax: { Self → Syntax };
+}
+
+impl<T: Syntactic> Syntactic for Option<T> {
+    ghost syntax = { maybe T.syntax };
+}
+
+impl<T: Syntactic> Syntactic for Box<T> {
+    ghost syntax = { λ b. T.syntax b.value };
+}
+
+impl Syntactic for Ident {
+    ghost syntax = { syntax_of_ident };
+}
+
+impl Syntactic for Literal {
+    ghost syntax = { syntax_of_literal };
+}
+
+impl<T: Syntactic, P: Syntactic> Syntactic for (T, P) {
+    ghost syntax = { pair_of T.syntax P.syntax };
+}
+
+impl<T: Syntactic> Syntactic for Vec<T> {
+    ghost syntax = { λ v. in_order T.syntax v.items };
+}

@@ -1,0 +1,66 @@
+//! Texts that tokens share.
+ghost use Rattle.std.specs.Prelude.{◌≡◌, IfOk};
+
+use arrayvec::ArrayString;
+use std::alloc::{AllocError, Global};
+use std::marker::Model;
+use std::rc::{Rc, RcStr};
+
+/// How many bytes a text may have that lies beside the count of its copies.
+const SHORT: usize = 16;
+
+/// A text that its copies share, seen as its bytes.
+#[derive(Debug, Drop)]
+pub struct Text {
+    inner: Shared,
+}
+
+/// Where a text lies: a short one beside the count of its copies, so that it takes memory once and not twice.
+#[derive(Debug, Drop)]
+enum Shared {
+    Short(Rc<ArrayString<SHORT>>),
+    Long(RcStr),
+}
+
+impl Model for Text {
+    ghost use Rattle.std.specs.Prelude.{List, ℕ};
+    ghost use Rattle.syn_tokens.specs.Texts.{bytes_of};
+
+    ghost Value = { List ℕ };
+
+    ghost view = { λ t. bytes_of t.inner };
+}
+
+impl Text {
+    /// The text, in memory of its own.
+    pub fn from_str(alloc: Global, text: &str) -> Result<Text, AllocError>
+        ensures { IfOk result (λ t. t ≡ text.now) }
+    {
+        let inner = match ArrayString::from(text) {
+            Ok(short) => Shared::Short(Rc::new(alloc, short)?),
+            Err(_) => Shared::Long(RcStr::from_str(alloc, text)?),
+        };
+        Ok(Text { inner })
+    }
+
+    /// The same text once more. It takes no memory, and is refused only where 2^64 - 1 copies are there.
+    pub fn share(&self) -> Result<Text, AllocError>
+        ensures { IfOk result (λ t. t ≡ self.now) }
+    {
+        let inner = match &self.inner {
+            Shared::Short(short) => Shared::Short(short.clone()?),
+            Shared::Long(long) => Shared::Long(long.clone()?),
+        };
+        Ok(Text { inner })
+    }
+
+    /// The text itself.
+    pub fn as_str(&self) -> &str
+        ensures { result.now ≡ self.now }
+    {
+        match &self.inner {
+            Shared::Short(short) => short.as_str(),
+            Shared::Long(long) => long.as_str(),
+        }
+    }
+}

@@ -1,0 +1,51 @@
+//! The signs of groups.
+ghost use Rattle.syn_grammar.specs.Tokens as grammar;
+
+use crate::delimiter::Delimiter;
+use crate::expectation::Expectation;
+use crate::token::DelimiterKind;
+
+#[derive(Clone, Copy, Debug)]
+pub struct Paren;
+
+impl DelimiterKind for Paren {
+    ghost delimiter = { grammar.Paren };
+
+    fn delimiter() -> Delimiter {
+        Delimiter::Paren
+    }
+
+    fn expectation() -> Expectation {
+        Expectation::Parentheses
+    }
+}
+
+#[derive(Clone, Copy, Debug)]
+pub struct Brace;
+
+impl DelimiterKind for Brace {
+    ghost delimiter = { grammar.Brace };
+
+    fn delimiter() -> Delimiter {
+        Delimiter::Brace
+    }
+
+    fn expectation() -> Expectation {
+        Expectation::CurlyBraces
+    }
+}
+
+#[derive(Clone, Copy, Debug)]
+pub struct Bracket;
+
+impl DelimiterKind for Bracket {
+    ghost delimiter = { grammar.Bracket };
+
+    fn delimiter() -> Delimiter {
+        Delimiter::Bracket
+    }
+
+    fn expectation() -> Expectation {
+        Expectation::SquareBrackets
+    }
+}
