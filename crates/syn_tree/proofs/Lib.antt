@@ -1,0 +1,4 @@
+pub mod Compared
+pub mod Copied
+mod Lists
+mod Restricted

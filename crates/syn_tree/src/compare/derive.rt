@@ -1,0 +1,94 @@
+//! Comparisons of what derive macros are given.
+ghost use Rattle.std.specs.Prelude.{◌≡◌, ◌↔◌, IsTrue};
+ghost use Rattle.syn_grammar.specs.Grammar.{plain_syntax};
+ghost use Rattle.syn_grammar.specs.Same.{same_syntax};
+ghost use Rattle.syn_grammar.specs.Says.{itself};
+ghost use Rattle.syn_tree.specs.Views.{syntax_of_Data, syntax_of_DataStruct};
+ghost use Rattle.syn_tokens.specs.Comparison.{same_by, same_equiv, same_per};
+
+use crate::derive::{Data, DataStruct, DeriveInput};
+use syn_tokens::compare::Compared;
+
+/// Attributes have no values yet.
+impl Compared for DeriveInput {
+    #[tactic(auto, using(crate::proofs::Compared::same_attributed))]
+    fn is_same(&self, other: &DeriveInput) -> bool {
+        self.vis.is_same(&other.vis)
+            && self.ident.is_same(&other.ident)
+            && self.generics.is_same(&other.generics)
+            && self.shape.is_same(&other.shape)
+    }
+}
+
+/// Two are equal exactly where they are once every span is 0 to 0.
+impl PartialEq for DeriveInput {
+    ghost eq = { same_by itself };
+
+    ghost laws = { same_per itself };
+
+    #[tactic(auto, using(syn_grammar::proofs::Same::same_syntax_plain))]
+    fn eq(&self, other: &DeriveInput) -> bool
+        ensures same { result ≡ same_syntax self.now other.now }
+        ensures plain { IsTrue result ↔ (plain_syntax self.now ≡ plain_syntax other.now) }
+    {
+        self.is_same(other)
+    }
+}
+
+impl Eq for DeriveInput {
+    ghost laws = { same_equiv itself };
+}
+
+impl Compared for Data {
+    fn is_same(&self, other: &Data) -> bool {
+        match (self, other) {
+            (Data::Struct(a), Data::Struct(b)) => a.is_same(b),
+        }
+    }
+}
+
+/// Two are equal exactly where they are once every span is 0 to 0.
+impl PartialEq for Data {
+    ghost eq = { same_by syntax_of_Data };
+
+    ghost laws = { same_per syntax_of_Data };
+
+    #[tactic(auto, using(syn_grammar::proofs::Same::same_syntax_plain))]
+    fn eq(&self, other: &Data) -> bool
+        ensures same { result ≡ same_syntax (syntax_of_Data self.now) (syntax_of_Data other.now) }
+        ensures plain { IsTrue result ↔ (plain_syntax (syntax_of_Data self.now) ≡ plain_syntax (syntax_of_Data other.now)) }
+    {
+        self.is_same(other)
+    }
+}
+
+impl Eq for Data {
+    ghost laws = { same_equiv syntax_of_Data };
+}
+
+impl Compared for DataStruct {
+    fn is_same(&self, other: &DataStruct) -> bool {
+        self.struct_token.is_same(&other.struct_token)
+            && self.fields.is_same(&other.fields)
+            && self.semi_token.is_same(&other.semi_token)
+    }
+}
+
+/// Two are equal exactly where they are once every span is 0 to 0.
+impl PartialEq for DataStruct {
+    ghost eq = { same_by syntax_of_DataStruct };
+
+    ghost laws = { same_per syntax_of_DataStruct };
+
+    #[tactic(auto, using(syn_grammar::proofs::Same::same_syntax_plain))]
+    fn eq(&self, other: &DataStruct) -> bool
+        ensures same { result ≡ same_syntax (syntax_of_DataStruct self.now) (syntax_of_DataStruct other.now) }
+        ensures plain { IsTrue result ↔ (plain_syntax (syntax_of_DataStruct self.now) ≡ plain_syntax (syntax_of_DataStruct other.now)) }
+    {
+        self.is_same(other)
+    }
+}
+
+impl Eq for DataStruct {
+    ghost laws = { same_equiv syntax_of_DataStruct };
+}

@@ -1,0 +1,6 @@
+//! Copies of trees, spans included.
+
+mod data;
+mod derive;
+mod lower;
+mod restriction;

@@ -1,0 +1,37 @@
+//! Copies of what derive macros are given.
+use crate::derive::{Data, DataStruct, DeriveInput};
+use std::alloc::Global;
+use syn_tokens::error::Result;
+use syn_tokens::try_clone::TryClone;
+
+/// Attributes have no values yet.
+impl TryClone for DeriveInput {
+    #[tactic(auto, using(crate::proofs::Copied::attributed_is, crate::proofs::Copied::copied_shape))]
+    fn try_clone(&self, alloc: Global) -> Result<DeriveInput> {
+        Ok(DeriveInput {
+            attrs: Vec::new(alloc),
+            vis: self.vis.try_clone(alloc)?,
+            ident: self.ident.try_clone(alloc)?,
+            generics: self.generics.try_clone(alloc)?,
+            shape: self.shape.try_clone(alloc)?,
+        })
+    }
+}
+
+impl TryClone for Data {
+    fn try_clone(&self, alloc: Global) -> Result<Data> {
+        match self {
+            Data::Struct(shape) => Ok(Data::Struct(shape.try_clone(alloc)?)),
+        }
+    }
+}
+
+impl TryClone for DataStruct {
+    fn try_clone(&self, alloc: Global) -> Result<DataStruct> {
+        Ok(DataStruct {
+            struct_token: self.struct_token,
+            fields: self.fields.try_clone(alloc)?,
+            semi_token: self.semi_token,
+        })
+    }
+}

@@ -1,0 +1,28 @@
+//! Copies of visibilities.
+use crate::restriction::{VisRestricted, Visibility};
+use std::alloc::Global;
+use syn_tokens::error::Result;
+use syn_tokens::try_clone::TryClone;
+
+impl TryClone for Visibility {
+    fn try_clone(&self, alloc: Global) -> Result<Visibility> {
+        match self {
+            Visibility::Public(pub_token) => Ok(Visibility::Public(*pub_token)),
+            Visibility::Restricted(restricted) => {
+                Ok(Visibility::Restricted(restricted.try_clone(alloc)?))
+            }
+            Visibility::Inherited => Ok(Visibility::Inherited),
+        }
+    }
+}
+
+impl TryClone for VisRestricted {
+    fn try_clone(&self, alloc: Global) -> Result<VisRestricted> {
+        Ok(VisRestricted {
+            pub_token: self.pub_token,
+            paren_token: self.paren_token,
+            in_token: self.in_token,
+            path: self.path.try_clone(alloc)?,
+        })
+    }
+}

@@ -1,0 +1,119 @@
+//! What a derive macro is given.
+ghost use Rattle.std.specs.Prelude.{◌≡◌};
+ghost use Rattle.syn_grammar.specs.Rules as rules;
+ghost use Rattle.syn_grammar.specs.Grammar.{rule};
+ghost use Rattle.syn_grammar.proofs.Outcomes.{meaning_of_rule};
+ghost use Rattle.std.specs.Prelude.{None};
+ghost use Rattle.syn_grammar.specs.Grammar.{Node};
+ghost use Rattle.syn_grammar.specs.Run.{reads, wrap, named};
+ghost use Rattle.syn_tokens.specs.Refusals.{IsSyntax};
+ghost use Rattle.syn_tree.specs.Views.{syntax_of_DataStruct, syntax_of_Data, body_syntax};
+ghost use Rattle.syn_grammar.specs.Says.{Says, Moved, itself};
+
+use crate::data::Fields;
+use crate::lower::{Attribute, Generics};
+use crate::restriction::Visibility;
+use std::marker::Model;
+use syn_tokens::buffer::ParseBuffer;
+use syn_tokens::ident::Ident;
+use syn_tokens::read::Read;
+use syn_tokens::refusal::Reading;
+use syn_tokens::syntactic::Syntactic;
+use syn_tokens::token::{Paren, Semi, Struct};
+
+/// A struct, as a derive macro is given it.
+#[derive(Drop)]
+pub struct DeriveInput {
+    pub attrs: Vec<Attribute>,
+    pub vis: Visibility,
+    pub ident: Ident,
+    pub generics: Generics,
+    pub shape: Data,
+}
+
+impl Model for DeriveInput {
+    ghost use Rattle.syn_grammar.specs.Grammar.{Syntax};
+    ghost use Rattle.syn_grammar.specs.TreeCodes.{syntax_code};
+
+    ghost Value = { Syntax };
+
+    ghost coded = { syntax_code };
+
+    ghost use Rattle.syn_tree.specs.Views.{view_DeriveInput};
+
+    ghost view = { view_DeriveInput };
+}
+
+/// What kind of item it is, with what that kind has of its own.
+#[derive(Drop)]
+pub enum Data {
+    Struct(DataStruct),
+}
+
+/// What a struct has of its own.
+#[derive(Drop)]
+pub struct DataStruct {
+    pub struct_token: Struct,
+    pub fields: Fields,
+    pub semi_token: Option<Semi>,
+}
+
+impl Syntactic for DeriveInput {
+    ghost syntax = { itself };
+}
+
+impl Syntactic for DataStruct {
+    ghost syntax = { syntax_of_DataStruct };
+}
+
+impl Syntactic for Data {
+    ghost syntax = { syntax_of_Data };
+}
+
+/// A struct.
+impl Read for DeriveInput {
+    ghost form = { rule rules.derive_input };
+
+    ghost meaning = { meaning_of_rule rules.derive_input };
+
+    #[tactic(auto, using(syn_grammar::proofs::Each::derive_input_is))]
+    fn read(input: &mut ParseBuffer<'_>) -> Reading<DeriveInput> {
+        structure(input)
+    }
+}
+
+/// A visibility, `struct`, a name and what stands behind it.
+#[tactic(auto, using(syn_grammar::proofs::Each::structure_is))]
+fn structure(input: &mut ParseBuffer<'_>) -> Reading<DeriveInput>
+    ensures reads { Says IsSyntax itself (wrap Node (named rules.structure (reads rules.structure input.old) None)) result input.new }
+    ensures moved { Moved input.old result input.new }
+{
+    let vis = input.read()?;
+    let struct_token = input.read()?;
+    let ident = input.read()?;
+    let (fields, semi) = structure_body(input)?;
+    Ok(DeriveInput {
+        attrs: Vec::new(input.alloc()),
+        vis,
+        ident,
+        generics: Generics::empty(input.alloc()),
+        shape: Data::Struct(DataStruct {
+            struct_token,
+            fields,
+            semi_token: Some(semi),
+        }),
+    })
+}
+
+/// Fields in parentheses or none, and `;`.
+#[tactic(auto, using(syn_grammar::proofs::Each::structure_body_is))]
+fn structure_body(input: &mut ParseBuffer<'_>) -> Reading<(Fields, Semi)>
+    ensures reads { Says IsSyntax body_syntax (reads rules.structure_body input.old) result input.new }
+    ensures moved { Moved input.old result input.new }
+{
+    if input.peek::<Paren>() {
+        Ok((Fields::Unnamed(input.read()?), input.read()?))
+    } else {
+        Ok((Fields::Unit, input.read()?))
+    }
+}

@@ -1,0 +1,10 @@
+//! The syntax trees of items, with their parsers, copies and comparisons.
+#![tactic(auto)]
+
+mod compare;
+mod copies;
+pub mod data;
+pub mod derive;
+mod looks;
+pub mod lower;
+pub mod restriction;
