@@ -1,0 +1,13 @@
+use Rattle.std.proofs.Common.{◌++◌, take, ap, sym, ◌∙◌}
+use Rattle.std.proofs.lemmas.List.{take-append-drop}
+use Rattle.syn.proofs.reader.cursor.Cursor.skip_white_space.Goals as goal
+
+pub returns-clause-blank : goal.returns-clause-blank
+returns-clause-blank c =
+    let trimmed = c.trim_start.ensures.value in
+    let space = take trimmed.0 c.rest.result.now in (
+      space,
+      trimmed.2,
+      c.step_to.ensures.stands space
+          (sym c.rest.ensures ∙ (sym (take-append-drop trimmed.0 c.rest.result.now) ∙ ap (λ r. space ++ r) (sym trimmed.1))),
+    )

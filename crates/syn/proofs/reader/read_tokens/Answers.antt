@@ -1,0 +1,49 @@
+use Rattle.std.proofs.Common.{ℕ, List, ap, ◌∙◌}
+use Rattle.std.proofs.lemmas.Result.{err_from_is_err_and, MatchResult-weaker}
+use Rattle.syn.specs.declared.reader.lexer.Lexeme.{Lexeme}
+use Rattle.syn.specs.declared.reader.lexer.Lexeme.TheVariants.{Open, Close, Ident, Punct}
+use Rattle.syn.specs.Lexemes.{IsWhole, IsNamed}
+use Rattle.syn.proofs.Identifiers.{name_is_identifier}
+use Rattle.syn.proofs.Spelling.{spells_more, spells_visible}
+use Rattle.syn.proofs.reader.read_tokens.Goals as goal
+
+pub loop-lexeme-init : goal.loop-lexeme-init
+loop-lexeme-init c =
+    let same = c.into_iter-lexeme-iterator.ensures.into_iter_gives in
+    (tt, tt, rw same c.new-lexeme-items.ensures.text, rw (same, c.new-lexeme-items.ensures.beginning) (c.new-trees.ensures _))
+
+pub loop-lexeme-preserved : goal.loop-lexeme-preserved
+loop-lexeme-preserved c =
+    let same = c.loop-lexeme.invariant.2 in
+    let found = rw same at c.in-Some.ensures.steps.1 in
+    let follows = rw c.in_ok-lexeme.was at found in
+    (tt, tt, ap (λ t. t.now) c.in-Some.ensures.steps.0 ∙ same, c.in_ok-add.ensures _ _ _ c.loop-lexeme.invariant.3 follows)
+
+named : (text : List ℕ) (l : Lexeme) → IsWhole text l → IsNamed l
+named text (Open d s) h = tt
+named text (Close d s) h = tt
+named text (Ident x s) h = name_is_identifier x.now h.0
+named text (Punct p) h = tt
+
+pub add-requires : goal.add-requires
+add-requires c =
+    let follows = rw c.in_ok-lexeme.was at c.in-Some.ensures.steps.1 in
+    named _ _ follows.1.1
+
+pub returns-in_err-add-clause-spelled : goal.returns-in_err-add-clause-spelled
+returns-in_err-add-clause-spelled c =
+    let found = rw c.loop-lexeme.invariant.2 at c.in-Some.ensures.steps.1 in
+    let follows = rw c.in_ok-lexeme.was at found in
+    let error = err_from_is_err_and c.from_residual-in_err-add.result c.from_residual-in_err-add.ensures.1 in
+    rw (error.1, error.2) (c.in_err-add.ensures _ _ _ c.loop-lexeme.invariant.3 follows)
+
+pub returns-clause-spelled : goal.returns-clause-spelled
+returns-clause-spelled c =
+    let left = rw c.loop-lexeme.invariant.2 at c.in-None.ensures.steps.1 in
+    MatchResult-weaker c.finish.result (c.finish.ensures _ _ c.loop-lexeme.invariant.3)
+    (λ stream spells. spells_more _ 0 stream _ _ spells left) (λ error within. within)
+
+pub returns-clause-visible : goal.returns-clause-visible
+returns-clause-visible c =
+    MatchResult-weaker c.finish.result (c.finish.ensures _ _ c.loop-lexeme.invariant.3)
+    (λ stream spells. spells_visible _ 0 stream _ spells) (λ error within. tt)

@@ -1,0 +1,5 @@
+pub mod Places
+pub mod Spelling
+pub mod Lexemes
+pub mod Building
+pub mod Canonical

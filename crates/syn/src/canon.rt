@@ -1,0 +1,40 @@
+//! Canonical prints, and whether two streams have the same.
+ghost use Rattle.syn.specs.Canonical.{CanonicalOutcome, SameFormOutcome};
+ghost use Rattle.syn_tokens.specs.Faults.{IsSyntaxError};
+
+pub use crate::lawful::Canonical;
+use syn_print::ToTokens;
+use syn_tokens::error::Result;
+use syn_tokens::parse2::parse2;
+use syn_tokens::stream::TokenStream;
+
+/// The canonical print of what the tokens spell: the print of the tree that the whole stream is read as.
+///
+/// It is refused as `T`'s parser refuses the stream, at the same place, and where something is left over; else only where
+/// memory is. The stream is used up, whatever the answer.
+pub fn canonical<T: Canonical + Drop>(tokens: TokenStream) -> Result<TokenStream>
+    ensures canonical { CanonicalOutcome IsSyntaxError T.rule tokens result }
+{
+    let alloc = tokens.alloc();
+    let tree: T = parse2(tokens)?;
+    let mut printed = TokenStream::new(alloc);
+    tree.to_tokens(&mut printed)?;
+    Ok(printed)
+}
+
+/// Whether two streams spell the same, but for spans and for what no print keeps: whether the normal forms of their trees
+/// are equal, which is whether their canonical prints are, spans aside.
+///
+/// It is refused where one of them is no `T`, or where memory is refused. Both streams are used up, whatever the answer.
+pub fn same_form<T: Canonical + Drop>(left: TokenStream, right: TokenStream) -> Result<bool>
+    ensures same_form { SameFormOutcome IsSyntaxError T.rule left right result }
+{
+    let alloc = left.alloc();
+    let left_tree: T = parse2(left)?;
+    let right_tree: T = parse2(right)?;
+    let mut left_print = TokenStream::new(alloc);
+    let mut right_print = TokenStream::new(alloc);
+    left_tree.to_tokens(&mut left_print)?;
+    right_tree.to_tokens(&mut right_print)?;
+    Ok(left_print.is_same(&right_print))
+}

@@ -1,0 +1,18 @@
+//! What has a canonical print. (The trait and the function `canonical` can't stand in one module: their names differ in
+//! the case alone.)
+ghost use Rattle.std.specs.Prelude.{◌≡◌};
+ghost use Rattle.syn_grammar.specs.Grammar as grammar;
+ghost use Rattle.syn_grammar.specs.Rules.{Rule};
+
+use syn_print::ToTokens;
+use syn_tokens::parse::Parse;
+
+/// A type that is read and printed by one rule of the grammar, so that the laws of that rule hold for it: from one stream
+/// at most one tree is read, its print is read again with the same normal form, and equal normal forms print alike.
+pub trait Canonical: Parse + ToTokens {
+    /// The rule.
+    ghost rule: { Rule };
+
+    /// The rule is all that it reads.
+    ghost reads_rule: { Self.form ≡ grammar.rule rule };
+}

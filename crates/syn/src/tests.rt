@@ -1,0 +1,10 @@
+//! Tests of the library, by examples.
+mod canonical_prints;
+mod copies;
+mod derive_inputs;
+mod fields;
+mod handmade;
+mod outline;
+mod scarce_memory;
+mod support;
+mod visibilities;

@@ -1,0 +1,232 @@
+//! Texts that show trees whole: each token with its spans, each part that is there.
+use crate::data::{Field, Fields, FieldsUnnamed};
+use crate::derive::{Data, DeriveInput};
+use crate::lower::{Generics, Path, Type};
+use crate::restriction::{VisRestricted, Visibility};
+use crate::token::{Delimiter, Ident, Mark, Punct, Spacing, Span, TokenStream, TokenTree};
+use std::alloc::{AllocError, Global};
+
+/// A tree that can be shown.
+pub trait Outlined {
+    /// Adds what shows the tree: a word as `pub@0..3`, a mark as `::@3..4@4..5`, a group as `(@0..1` and `)@4..5`; the
+    /// character of a mark in a stream as `:@3..4`, or as `:+@3..4` where it is Joint.
+    fn show(&self, out: &mut TreeText) -> Result<(), AllocError>;
+}
+
+/// The text that shows a tree.
+pub fn outline<T: Outlined>(alloc: Global, tree: &T) -> Result<String, AllocError> {
+    let mut out = TreeText {
+        text: String::new(alloc),
+    };
+    tree.show(&mut out)?;
+    Ok(out.text)
+}
+
+/// A text that is being written.
+#[derive(Drop)]
+pub struct TreeText {
+    text: String,
+}
+
+impl TreeText {
+    fn word(&mut self, word: &str) -> Result<(), AllocError> {
+        if !self.text.is_empty() {
+            self.text.push(' ')?;
+        }
+        self.text.push_str(word)
+    }
+
+    fn place(&mut self, span: Span) -> Result<(), AllocError> {
+        let (start, end) = (span.start, span.end);
+        write!(self.text, "@{start}..{end}")?;
+        Ok(())
+    }
+
+    fn token(&mut self, word: &str, span: Span) -> Result<(), AllocError> {
+        self.word(word)?;
+        self.place(span)
+    }
+
+    fn mark<K, const N: usize>(&mut self, text: &str, mark: &Mark<K, N>) -> Result<(), AllocError> {
+        self.word(text)?;
+        for span in mark.spans.iter() {
+            self.place(*span)?;
+        }
+        Ok(())
+    }
+}
+
+impl TreeText {
+    #[cycle(shown)]
+    fn stream(&mut self, stream: &TokenStream) -> Result<(), AllocError> {
+        for tree in stream.trees() {
+            self.tree(tree)?;
+        }
+        Ok(())
+    }
+
+    #[cycle(shown)]
+    fn tree(&mut self, tree: &TokenTree) -> Result<(), AllocError> {
+        match tree {
+            TokenTree::Ident(ident) => self.token(ident.text(), ident.span),
+            TokenTree::Literal(literal) => self.token(literal.text(), literal.span),
+            TokenTree::Punct(punct) => self.punct(punct),
+            TokenTree::Group(group) => {
+                let (opening, closing) = signs(group.delimiter);
+                self.token(opening, group.opening)?;
+                self.stream(&group.stream)?;
+                self.token(closing, group.closing)
+            }
+        }
+    }
+
+    fn punct(&mut self, punct: &Punct) -> Result<(), AllocError> {
+        self.word("")?;
+        self.text.push(punct.character())?;
+        if punct.spacing == Spacing::Joint {
+            self.text.push('+')?;
+        }
+        self.place(punct.span)
+    }
+}
+
+fn signs(delimiter: Delimiter) -> (&'static str, &'static str) {
+    match delimiter {
+        Delimiter::Paren => ("(", ")"),
+        Delimiter::Brace => ("{", "}"),
+        Delimiter::Bracket => ("[", "]"),
+        Delimiter::None => ("<<", ">>"),
+    }
+}
+
+impl Outlined for TokenStream {
+    fn show(&self, out: &mut TreeText) -> Result<(), AllocError> {
+        out.stream(self)
+    }
+}
+
+impl Outlined for Ident {
+    fn show(&self, out: &mut TreeText) -> Result<(), AllocError> {
+        out.token(self.text(), self.span)
+    }
+}
+
+impl Outlined for Path {
+    fn show(&self, out: &mut TreeText) -> Result<(), AllocError> {
+        out.word("Path")?;
+        if let Some(leading_colon) = &self.leading_colon {
+            out.mark("::", leading_colon)?;
+        }
+        for (segment, separator) in self.segments.pairs() {
+            segment.ident.show(out)?;
+            out.mark("::", separator)?;
+        }
+        if let Some(segment) = self.segments.trailing_value() {
+            segment.ident.show(out)?;
+        }
+        Ok(())
+    }
+}
+
+impl Outlined for Type {
+    fn show(&self, out: &mut TreeText) -> Result<(), AllocError> {
+        out.word("Type")?;
+        let Type::Path(ty) = self;
+        ty.path.show(out)
+    }
+}
+
+impl Outlined for VisRestricted {
+    fn show(&self, out: &mut TreeText) -> Result<(), AllocError> {
+        out.token("pub", self.pub_token.span)?;
+        out.token("(", self.paren_token.opening)?;
+        if let Some(in_token) = &self.in_token {
+            out.token("in", in_token.span)?;
+        }
+        self.path.show(out)?;
+        out.token(")", self.paren_token.closing)
+    }
+}
+
+impl Outlined for Visibility {
+    fn show(&self, out: &mut TreeText) -> Result<(), AllocError> {
+        match self {
+            Visibility::Public(pub_token) => {
+                out.word("Public")?;
+                out.token("pub", pub_token.span)
+            }
+            Visibility::Restricted(restricted) => {
+                out.word("Restricted")?;
+                restricted.show(out)
+            }
+            Visibility::Inherited => out.word("Inherited"),
+        }
+    }
+}
+
+impl Outlined for Field {
+    fn show(&self, out: &mut TreeText) -> Result<(), AllocError> {
+        out.word("Field")?;
+        self.vis.show(out)?;
+        if let Some(ident) = &self.ident {
+            ident.show(out)?;
+        }
+        if let Some(colon_token) = &self.colon_token {
+            out.mark(":", colon_token)?;
+        }
+        self.ty.show(out)
+    }
+}
+
+impl Outlined for FieldsUnnamed {
+    fn show(&self, out: &mut TreeText) -> Result<(), AllocError> {
+        out.token("(", self.paren_token.opening)?;
+        for (field, separator) in self.unnamed.pairs() {
+            field.show(out)?;
+            out.mark(",", separator)?;
+        }
+        if let Some(field) = self.unnamed.trailing_value() {
+            field.show(out)?;
+        }
+        out.token(")", self.paren_token.closing)
+    }
+}
+
+impl Outlined for Fields {
+    fn show(&self, out: &mut TreeText) -> Result<(), AllocError> {
+        match self {
+            Fields::Unnamed(fields) => {
+                out.word("Unnamed")?;
+                fields.show(out)
+            }
+            Fields::Unit => out.word("Unit"),
+        }
+    }
+}
+
+impl Outlined for Generics {
+    fn show(&self, out: &mut TreeText) -> Result<(), AllocError> {
+        if let Some(lt_token) = &self.lt_token {
+            out.mark("<", lt_token)?;
+        }
+        if let Some(gt_token) = &self.gt_token {
+            out.mark(">", gt_token)?;
+        }
+        Ok(())
+    }
+}
+
+impl Outlined for DeriveInput {
+    fn show(&self, out: &mut TreeText) -> Result<(), AllocError> {
+        self.vis.show(out)?;
+        let Data::Struct(data) = &self.shape;
+        out.token("struct", data.struct_token.span)?;
+        self.ident.show(out)?;
+        self.generics.show(out)?;
+        data.fields.show(out)?;
+        if let Some(semi_token) = &data.semi_token {
+            out.mark(";", semi_token)?;
+        }
+        Ok(())
+    }
+}

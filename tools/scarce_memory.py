@@ -1,0 +1,67 @@
+#!/usr/bin/env python3
+"""Runs the tests of a crate with one request for memory refused: the first, the second, and so on.
+
+    tools/scarce_memory.py [CRATE [FIRST [LAST]]]      syn 1 60 where nothing else is said
+
+Each test that is judged has to pass, or to fail by the error of memory alone; those of a module scarce_memory have to
+pass. What does otherwise is printed with what it said. Nothing is proved here; each number takes some 20 seconds.
+"""
+
+import re
+import subprocess
+import sys
+from pathlib import Path
+
+# the tests of each crate that tell a want of memory from other errors: how their names begin
+JUDGED = {"syn": "tests::", "syn_canon": "tests::scarce_memory::"}
+
+CRATES = Path(__file__).resolve().parent.parent / "crates"
+TEST = re.compile(r"test (\S+) \.\.\. (ok|FAILED)$")
+# how a test ends that hands on an error of memory: an `Error` without faults, or std's own
+WANT_OF_MEMORY = re.compile(r"error: (Error \{.*count: 0 \}|.*AllocError.*|.*OutOfMemory.*)$")
+
+
+def run(crate, number):
+    """Each test of the run with its outcome and the lines that it printed."""
+    command = ["rt", "try", "--test", "--fail-alloc", str(number)]
+    done = subprocess.run(command, cwd=CRATES / crate, capture_output=True, text=True)
+    tests = []
+    for line in (done.stdout + done.stderr).splitlines():
+        found = TEST.match(line)
+        if found:
+            tests.append((found[1], found[2], []))
+        elif tests and line.startswith(" "):
+            tests[-1][2].append(line.strip())
+    return tests
+
+
+def is_wrong(name, outcome, lines):
+    """Whether the test answered something else than the right thing or a want of memory."""
+    if outcome == "ok":
+        return False
+    return "scarce_memory" in name or not any(WANT_OF_MEMORY.match(line) for line in lines)
+
+
+def main():
+    crate = sys.argv[1] if len(sys.argv) > 1 else "syn"
+    if crate not in JUDGED:
+        sys.exit(f"{crate}: only {' and '.join(JUDGED)} have such tests")
+    first = int(sys.argv[2]) if len(sys.argv) > 2 else 1
+    last = int(sys.argv[3]) if len(sys.argv) > 3 else 60
+    wrong = 0
+    for number in range(first, last + 1):
+        tests = run(crate, number)
+        if not tests:
+            sys.exit(f"{crate}, request {number}: no test ran")
+        tests = [test for test in tests if test[0].startswith(JUDGED[crate])]
+        refused = sum(outcome == "FAILED" for _, outcome, _ in tests)
+        print(f"{crate}, request {number}: {len(tests)} tests, {refused} ended for want of memory", flush=True)
+        for name, outcome, lines in tests:
+            if is_wrong(name, outcome, lines):
+                wrong += 1
+                print(f"  {name}: " + "; ".join(lines))
+    print(f"{wrong} wrong")
+    sys.exit(1 if wrong else 0)
+
+
+main()
