@@ -1,0 +1,91 @@
+//! Why the program ends without an answer.
+ghost use Rattle.std.specs.Prelude.{◌≡◌, ◌⊎◌};
+ghost use Rattle.syn_canon.specs.Statuses.{status_of, IsOfText};
+ghost use Rattle.syn_canon.specs.declared.failure.Failure.TheVariants.{OutOfMemory};
+
+use std::alloc::{AllocError, AllocFailed};
+use std::{fmt, io};
+use syn::error::Error;
+
+/// Why a run ends without an answer.
+#[derive(Drop)]
+pub(crate) enum Failure {
+    /// The words are no command.
+    Usage,
+    ReadFailed,
+    NotUtf8,
+    /// The text is not of the kind.
+    Refused(Error),
+    WriteFailed,
+    OutOfMemory,
+}
+
+impl Failure {
+    /// What the system's error means: that memory was refused, or else this.
+    pub(crate) fn from_io(error: &io::Error, otherwise: Failure) -> Failure
+        ensures { (result ≡ OutOfMemory) ⊎ (result ≡ otherwise) }
+    {
+        match error.kind() {
+            io::ErrorKind::OutOfMemory => Failure::OutOfMemory,
+            _ => otherwise,
+        }
+    }
+
+    /// The exit status.
+    pub(crate) fn status(&self) -> u8
+        ensures { result ≡ status_of self.now }
+    {
+        match self {
+            Failure::ReadFailed | Failure::NotUtf8 | Failure::Refused(_) | Failure::WriteFailed =>
+                1,
+            Failure::Usage => 2,
+            Failure::OutOfMemory => 3,
+        }
+    }
+}
+
+impl fmt::Display for Failure {
+    fn fmt<W: fmt::Write>(&self, f: &mut fmt::Formatter<W>) -> fmt::Result {
+        match self {
+            Failure::Usage => {
+                f.write_str("usage: syn_canon print|check KIND, or syn_canon list")
+            }
+            Failure::ReadFailed => f.write_str("read failed"),
+            Failure::NotUtf8 => f.write_str("refused at 0: input is not UTF-8"),
+            Failure::Refused(error) => {
+                let start = error.span().start;
+                write!(f, "refused at {start}: {error}")
+            }
+            Failure::WriteFailed => f.write_str("write failed"),
+            Failure::OutOfMemory => f.write_str("out of memory"),
+        }
+    }
+}
+
+impl From<Error> for Failure {
+    ghost from_gives = { λ _ f. IsOfText f };
+
+    fn from(error: Error) -> Failure {
+        if error.is_memory() {
+            Failure::OutOfMemory
+        } else {
+            Failure::Refused(error)
+        }
+    }
+}
+
+impl From<AllocError> for Failure {
+    ghost from_gives = { λ _ f. f ≡ OutOfMemory };
+
+    fn from(_e: AllocError) -> Failure {
+        Failure::OutOfMemory
+    }
+}
+
+impl<T: Drop> From<AllocFailed<T>> for Failure {
+    ghost from_gives = { λ _ f. f ≡ OutOfMemory };
+
+    fn from(_e: AllocFailed<T>) -> Failure {
+        Failure::OutOfMemory
+    }
+}

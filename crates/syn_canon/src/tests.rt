@@ -1,0 +1,6 @@
+//! Whole runs of the program, over readers and writers in memory.
+mod failing;
+mod refused;
+mod scarce_memory;
+mod support;
+mod words;
