@@ -18,7 +18,7 @@ JUDGED = {"syn": "tests::", "syn_canon": "tests::scarce_memory::"}
 CRATES = Path(__file__).resolve().parent.parent / "crates"
 TEST = re.compile(r"test (\S+) \.\.\. (ok|FAILED)$")
 # how a test ends that hands on an error of memory: an `Error` without faults, or std's own
-WANT_OF_MEMORY = re.compile(r"error: (Error \{.*count: 0 \}|.*AllocError.*|.*OutOfMemory.*)$")
+WANT_OF_MEMORY = re.compile(r"error: (Error \{.*count: 0 \}|.*AllocError.*|AllocFailed .*|.*OutOfMemory.*)$")
 
 
 def run(crate, number):
@@ -64,4 +64,5 @@ def main():
     sys.exit(1 if wrong else 0)
 
 
-main()
+if __name__ == "__main__":
+    main()
