@@ -9,7 +9,7 @@ use Rattle.syn_tokens.specs.declared.refusal.Refusal.TheVariants.{Memory, Syntax
 -- a refusal of the tokens becomes a syntax error
 pub syntax_becomes_error : (r : Refusal) (e : List FaultValue) → IsRefusedAs r e → IsSyntax r → IsSyntaxError e
 syntax_becomes_error Memory e h s = absurd s
-syntax_becomes_error (Syntax span expectation) e (text, h) s = subst IsSyntaxError (sym h) tt
+syntax_becomes_error (Syntax span expectation) e h s = subst IsSyntaxError (sym h) tt
 
 -- an error that is passed on
 pub same_error : {X E : Type 0} (r s : Result X E) (e : E) → IsErrAnd r (λ f. f ≡ e) → s ≡ Err e → r ≡ s

@@ -1,38 +1,43 @@
 -- Faults that are gathered at one place.
-use Rattle.std.proofs.Common.{◌≡◌, ℕ, ◌+◌, ◌<◌, List, [], ◌∷◌, ◌++◌, length, arith, length-append, subst, sym, refl}
-use Rattle.std.specs.Prelude.{All}
-use Rattle.std.proofs.lemmas.List.{take_all}
-use Rattle.std.proofs.lemmas.List.Elements.{All-append, All-cons, All-nil}
+use Rattle.std.proofs.Common.{◌≡◌, ℕ, ◌+◌, ◌<◌, ◌≤◌, List, [], ◌∷◌, ◌++◌, length, get_or, map, take, arith, length-append, refl, sym, ap, ◌∙◌}
+use Rattle.std.proofs.lemmas.List.{length-map, length-take-le, map_more, take_all}
 use Rattle.syn_grammar.specs.Tokens.{Stream}
+use Rattle.syn_tokens.specs.Expectations.{text_of}
 use Rattle.syn_tokens.specs.Faults.{FaultValue, combined}
-use Rattle.syn_tokens.specs.Nexts.{StandsNext, HasFaultNext}
+use Rattle.syn_tokens.specs.Looked.{HasFaultsNext, told}
+use Rattle.syn_tokens.specs.Nexts.{StandsNext}
+use Rattle.syn_tokens.specs.declared.expectation.Expectation.{Expectation}
+use Rattle.syn_tokens.specs.declared.span.Span.{Span}
 
-abbrev Here : Stream → FaultValue → Type 0
-Here ts f = StandsNext ts f.0
+-- the fault there that a name makes
+abbrev pub fault_at : Span → Expectation → FaultValue
+fault_at here name = (here, text_of name)
 
--- so many faults, all of them there
-pub record AllAt (ts : Stream) (n : ℕ) (faults : List FaultValue) : Type 0 where
-  pub count : length faults ≡ n
-  pub place : All (λ f. StandsNext ts f.0) faults
+-- a fault behind fewer than four
+pub one_told : (here : Span) (names : List Expectation) (i : ℕ) (d : Expectation) (f : FaultValue) (text : List ℕ) (start faults new : List FaultValue) →
+    faults ≡ start ++ map (fault_at here) (take i names) → start ≡ f ∷ [] → new ≡ (here, text) ∷ [] → text ≡ text_of (get_or names i d) → i < length names → length names < 4 →
+    combined faults new ≡ start ++ map (fault_at here) (take (i + 1) names)
+one_told here names i d f text start faults new x s n t l few =
+    ap (λ z. combined z new) (x ∙ ap (λ z. z ++ map (fault_at here) (take i names)) s)
+    ∙ ap (combined (f ∷ map (fault_at here) (take i names))) (n ∙ ap (λ z. (here, z) ∷ []) t)
+    ∙ take_all 4 (f ∷ (map (fault_at here) (take i names) ++ fault_at here (get_or names i d) ∷ [])) (omega (arith, length-append (map (fault_at here) (take i names)) (fault_at here (get_or names i d) ∷ []), length-map (take i names) (fault_at here), length-take-le i names (omega (arith, l)), l, few))
+    ∙ ap (λ z. f ∷ z) (sym (map_more (fault_at here) names i d l))
+    ∙ ap (λ z. z ++ map (fault_at here) (take (i + 1) names)) (sym s)
 
-lone : (ts : Stream) (f : FaultValue) → Here ts f → All (Here ts) (f ∷ [])
-lone ts f h = All-cons (Here ts) f [] h (All-nil (Here ts))
+by_texts : (here : Span) (names : List Expectation) → map (fault_at here) names ≡ map (λ text. (here, text)) (map text_of names)
+by_texts here [] = refl
+by_texts here (n ∷ names) = ap (λ l. fault_at here n ∷ l) (by_texts here names)
 
-pub one_fault : (ts : Stream) (text : List ℕ) (faults : List FaultValue) → HasFaultNext ts text faults → AllAt ts 1 faults
-one_fault ts text faults (span, e, h) = subst (AllAt ts 1) (sym e) (record { count = refl; place = lone ts (span, text) h })
-
-appended : (ts : Stream) (n : ℕ) (faults : List FaultValue) (f : FaultValue) → AllAt ts n faults → Here ts f → AllAt ts (n + 1) (faults ++ f ∷ [])
-appended ts n faults f h s = record {
-  count = omega (arith, length-append faults (f ∷ []), h.count);
-  place = All-append (Here ts) faults (f ∷ []) h.place (lone ts f s);
-}
-
-combined_is : (faults : List FaultValue) (f : FaultValue) → 0 < length faults → length faults < 4 → combined faults (f ∷ []) ≡ faults ++ f ∷ []
-combined_is [] f l m = absurd (omega arith)
-combined_is (g ∷ gs) f l m = take_all 4 (g ∷ gs ++ f ∷ []) (omega (arith, length-append (g ∷ gs) (f ∷ []), m))
-
--- and one more
-pub more_faults : (ts : Stream) (n : ℕ) (faults : List FaultValue) (text : List ℕ) (others : List FaultValue) → AllAt ts n faults → 0 < n → n < 4 → HasFaultNext ts text others → AllAt ts (n + 1) (combined faults others)
-more_faults ts n faults text others h l m (span, e, s) =
-    subst (λ (o : List FaultValue). AllAt ts (n + 1) (combined faults o)) (sym e)
-    (subst (AllAt ts (n + 1)) (sym (combined_is faults (span, text) (omega (arith, h.count, l)) (omega (arith, h.count, m)))) (appended ts n faults (span, text) h s))
+-- the faults of all names
+pub all_told : (ts : Stream) (here : Span) (first : Expectation) (others names : List Expectation) (missed : List (List ℕ)) (i : ℕ) (text : List ℕ) (start faults : List FaultValue) →
+    StandsNext ts here → names ≡ first ∷ others → map text_of names ≡ missed → faults ≡ start ++ map (fault_at here) (take i others) → start ≡ (here, text) ∷ [] → text ≡ text_of first → length others ≤ i →
+    HasFaultsNext ts (told ts missed) faults
+all_told ts here first others names missed i text start faults h a m x s t l = (
+  here,
+  x ∙ ap (λ z. z ++ map (fault_at here) (take i others)) s
+      ∙ ap (λ z. (here, z) ∷ map (fault_at here) (take i others)) t
+      ∙ ap (λ z. fault_at here first ∷ map (fault_at here) z) (take_all i others l)
+      ∙ ap (λ z. fault_at here first ∷ z) (by_texts here others)
+      ∙ ap (λ z. map (λ text. (here, text)) (told ts z)) (ap (map text_of) (sym a) ∙ m),
+  h,
+)

@@ -1,7 +1,9 @@
 -- Errors that were refusals.
-use Rattle.std.proofs.Common.{List, subst}
+use Rattle.std.proofs.Common.{ℕ, List, ◌≡◌, [], ◌∷◌, subst, ap, ◌∙◌}
+use Rattle.syn_grammar.specs.Tokens.{Stream}
 use Rattle.syn_tokens.specs.Refusals.{IsSyntax}
 use Rattle.syn_tokens.specs.Faults.{FaultValue, IsSyntaxError, IsRefusedAs}
+use Rattle.syn_tokens.specs.Nexts.{RefusedNext, HasFaultNext}
 use Rattle.syn_tokens.specs.declared.refusal.Refusal.{Refusal}
 use Rattle.syn_tokens.specs.declared.refusal.Refusal.TheVariants.{Memory, Syntax}
 
@@ -9,3 +11,8 @@ use Rattle.syn_tokens.specs.declared.refusal.Refusal.TheVariants.{Memory, Syntax
 pub refused_by_syntax : (r : Refusal) (e : List FaultValue) → IsRefusedAs r e → IsSyntaxError e → IsSyntax r
 refused_by_syntax Memory e h s = subst IsSyntaxError h s
 refused_by_syntax (Syntax span expectation) e h s = tt
+
+-- what was refused at the next token is a fault there, of the same text
+pub refused_next : (ts : Stream) (text : List ℕ) (r : Refusal) (e : List FaultValue) → IsRefusedAs r e → RefusedNext ts text r → HasFaultNext ts text e
+refused_next ts text Memory e h n = absurd n
+refused_next ts text (Syntax span expectation) e h (t, s) = (span, h ∙ ap (λ x. (span, x) ∷ []) t, s)

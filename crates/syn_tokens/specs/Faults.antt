@@ -1,6 +1,7 @@
 -- What an error tells.
 use Rattle.std.specs.Prelude.{◌≡◌, ℕ, List, [], ◌∷◌, ◌++◌, take, codes}
 use Rattle.std.specs.Coded.{Coded, coded×, coded_list, coded_ℕ}
+use Rattle.syn_tokens.specs.Expectations.{text_of}
 use Rattle.syn_tokens.specs.declared.span.Span.{Span}
 use Rattle.syn_tokens.specs.contracts.span.Span as span
 use Rattle.syn_tokens.specs.declared.error.Fault.{Fault}
@@ -36,7 +37,7 @@ combined [] gs = []
 combined (f ∷ fs) [] = []
 combined (f ∷ fs) (g ∷ gs) = take 4 (f ∷ fs ++ g ∷ gs)
 
--- the error that a refusal becomes
+-- the error that a refusal becomes: one fault there, with the text of what was expected
 abbrev pub IsRefusedAs : Refusal → List FaultValue → Type 0
 IsRefusedAs Memory fs = fs ≡ []
-IsRefusedAs (Syntax span expectation) fs = (text : List ℕ) × (fs ≡ (span, text) ∷ [])
+IsRefusedAs (Syntax span expectation) fs = fs ≡ (span, text_of expectation) ∷ []

@@ -2,6 +2,7 @@ pub mod Calls
 pub mod Comparison
 pub mod Delimiters
 pub mod Equal
+pub mod Expectations
 pub mod Falls
 pub mod Faults
 pub mod formers

@@ -1,12 +1,13 @@
 //! The token trees that are left to read.
-ghost use Rattle.std.specs.Prelude.{◌≡◌, ◌<◌, IfOk, IfErr, OnErr, MatchOption, None, Some};
+ghost use Rattle.std.specs.Prelude.{◌≡◌, ◌<◌, IfOk, IfErr, OnErr, MatchOption, None, Some, codes};
 ghost use Rattle.syn_grammar.specs.Tokens as grammar;
 ghost use Rattle.syn_grammar.specs.Tokens.{ended};
 ghost use Rattle.syn_grammar.specs.Take.{left, sees, take_group};
 ghost use Rattle.syn_grammar.specs.Run.{parse};
 ghost use Rattle.syn_grammar.specs.Says.{Says, Takes, Finished};
 ghost use Rattle.syn_tokens.specs.Refusals.{IsSyntax};
-ghost use Rattle.syn_tokens.specs.Nexts.{StandsNext};
+ghost use Rattle.syn_tokens.specs.Expectations.{text_of};
+ghost use Rattle.syn_tokens.specs.Nexts.{StandsNext, RefusedNext};
 ghost use Rattle.syn_tokens.specs.Punct.{is_joint};
 ghost use Rattle.syn_tokens.specs.Trees.{stream_of};
 ghost use Rattle.syn_tokens.specs.Peeks.{past};
@@ -140,7 +141,8 @@ impl<'a> ParseBuffer<'a> {
 
     /// The refusal that something else stands next than was expected.
     pub fn refusal(&self, expectation: Expectation) -> Refusal
-        ensures { IsSyntax result }
+        ensures syntax { IsSyntax result }
+        ensures next { RefusedNext self.now (text_of expectation) result }
     {
         Refusal::Syntax {
             span: self.span(),
@@ -189,7 +191,8 @@ impl<'a> ParseBuffer<'a> {
 
     /// The refusal that something else stands past the next tree than was expected.
     pub fn refusal_behind(&self, expectation: Expectation) -> Refusal
-        ensures { IsSyntax result }
+        ensures syntax { IsSyntax result }
+        ensures behind { RefusedNext (past self.now) (text_of expectation) result }
     {
         self.past().refusal(expectation)
     }
@@ -209,6 +212,7 @@ impl<'a> ParseBuffer<'a> {
         ensures inside { IfOk result (λ p. left p.1 < left self.old) }
         ensures unchanged { OnErr result (self.new ≡ self.old) }
         ensures syntax { IfErr result IsSyntax }
+        ensures fault { IfErr result (RefusedNext self.old K.fault) }
     {
         let Some((group, rest)) = split_group(self.trees, K::delimiter()) else {
             return Err(self.refusal(K::expectation()));
@@ -237,7 +241,8 @@ impl<'a> ParseBuffer<'a> {
     /// The end of a group or stream; refused where something is left.
     #[tactic(auto, unfolding(syn_grammar::specs::Take::is_end))]
     pub fn read_end(&self) -> Reading<()>
-        ensures { Finished IsSyntax self.now result }
+        ensures end { Finished IsSyntax self.now result }
+        ensures fault { IfErr result (RefusedNext self.now (codes "unexpected token")) }
     {
         match split(self.trees) {
             None => Ok(()),

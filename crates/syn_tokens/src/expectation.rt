@@ -1,4 +1,5 @@
 //! What a parser asks for and does not find.
+ghost use Rattle.std.specs.Prelude.{◌≡◌};
 
 /// What was expected where something else stands.
 #[derive(Clone, Copy, Debug)]
@@ -116,8 +117,12 @@ pub enum Expectation {
 }
 
 impl Expectation {
+    ghost use Rattle.syn_tokens.specs.Expectations.{text_of};
+
     /// The text that tells it, such as ``expected `struct` ``.
-    pub fn as_str(self) -> &'static str {
+    pub fn as_str(self) -> &'static str
+        ensures { result.now ≡ text_of self }
+    {
         match self {
             Expectation::Underscore => "expected `_`",
             Expectation::Abstract => "expected `abstract`",

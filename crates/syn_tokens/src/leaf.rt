@@ -1,5 +1,5 @@
 //! Identifiers, literals and lifetimes, as rules read them.
-ghost use Rattle.std.specs.Prelude.{[], refl};
+ghost use Rattle.std.specs.Prelude.{[], codes, refl};
 ghost use Rattle.syn_grammar.specs.Words.{apostrophe};
 ghost use Rattle.syn_grammar.specs.Tokens.{at_mark, at_name};
 ghost use Rattle.syn_grammar.specs.Grammar.{any_literal, lifetime, name, token};
@@ -32,6 +32,8 @@ impl Syntactic for Lifetime {
 /// An identifier that is no keyword.
 impl Peek for Ident {
     ghost look = { at_name };
+
+    ghost fault = { codes "expected identifier" };
 
     fn peek(input: &ParseBuffer<'_>) -> bool {
         input.is_at_name()
@@ -66,6 +68,8 @@ impl Read for Literal {
 impl Peek for Literal {
     ghost look = { at_any_literal };
 
+    ghost fault = { codes "expected literal" };
+
     fn peek(input: &ParseBuffer<'_>) -> bool {
         input.is_at_literal()
     }
@@ -78,6 +82,8 @@ impl Peek for Literal {
 /// A lifetime is looked for by its `'`.
 impl Peek for Lifetime {
     ghost look = { at_mark apostrophe };
+
+    ghost fault = { codes "expected lifetime" };
 
     fn peek(input: &ParseBuffer<'_>) -> bool {
         input.is_at_mark1('\'')

@@ -1,8 +1,8 @@
 //! What was looked for at one place of a buffer.
-ghost use Rattle.std.specs.Prelude.{◌≡◌, [], ◌∷◌, ◌++◌, ◌≤◌, All, length, take};
+ghost use Rattle.std.specs.Prelude.{◌≡◌, [], ◌∷◌, ◌++◌, ◌≤◌, length, map, take};
 ghost use Rattle.syn_grammar.specs.Take.{sees};
-ghost use Rattle.syn_tokens.specs.Nexts.{StandsNext, HasFaultNext};
-ghost use Rattle.syn_tokens.specs.Looked.{MissedBy, fault_count};
+ghost use Rattle.syn_tokens.specs.Expectations.{text_of};
+ghost use Rattle.syn_tokens.specs.Looked.{HasFaultsNext, MissedBy, told, unexpected};
 
 use crate::buffer::ParseBuffer;
 use crate::error::Error;
@@ -22,14 +22,15 @@ pub struct Lookahead1<'a> {
 }
 
 impl<'a> Model for Lookahead1<'a> {
-    ghost use Rattle.std.specs.Prelude.{◌≡◌, ◌≤◌, length, take};
+    ghost use Rattle.std.specs.Prelude.{◌≡◌, ◌≤◌, length, map, take};
+    ghost use Rattle.syn_tokens.specs.Expectations.{text_of};
     ghost use Rattle.syn_tokens.specs.Looked.{LookaheadValue, coded_lookahead};
 
     ghost Value = { LookaheadValue };
 
     ghost coded = { coded_lookahead };
 
-    ghost view = { λ l. record { stream = l.buffer; missed = take l.count l.missed } };
+    ghost view = { λ l. record { stream = l.buffer; missed = map text_of (take l.count l.missed) } };
 
     ghost invariant = { λ l. (l.count ≤ 4) × (length l.missed ≡ 4) };
 }
@@ -55,7 +56,7 @@ impl<'a> Lookahead1<'a> {
     pub fn peek<T: Peek>(&mut self) -> bool
         ensures seen { result ≡ sees T.look self.old.stream }
         ensures place { self.new.stream ≡ self.old.stream }
-        ensures missed { MissedBy result self.old.missed self.new.missed }
+        ensures missed { MissedBy result T.fault self.old.missed self.new.missed }
     {
         if self.buffer.peek::<T>() {
             return true;
@@ -66,7 +67,7 @@ impl<'a> Lookahead1<'a> {
 
     /// One name more, where there are fewer than four.
     fn miss(&mut self, name: Expectation)
-        ensures { self.new ≡ record self.old { missed = take 4 (self.old.missed ++ name ∷ []) } }
+        ensures { self.new ≡ record self.old { missed = take 4 (self.old.missed ++ text_of name ∷ []) } }
     {
         if self.count < MOST {
             self.missed[self.count] = name;
@@ -78,42 +79,35 @@ impl<'a> Lookahead1<'a> {
     /// fault such as ``expected `struct` ``; where none was looked for, the fault `unexpected token`, or at the end of a
     /// group or stream `unexpected end of input`. It takes no memory.
     pub fn error(self) -> Error
-        ensures faults { length result ≡ fault_count self.entry.missed }
-        ensures place { All (λ f. StandsNext self.entry.stream f.0) result }
+        ensures { HasFaultsNext self.entry.stream (told self.entry.stream self.entry.missed) result }
     {
+        let here = self.buffer.span();
         let Some((first, others)) = self.missed().split_first() else {
-            return self.unexpected();
+            return Error::new(here, self.unexpected().as_str());
         };
-        let mut error = self.missing(*first);
+        let mut error = Error::new(here, first.as_str());
         for name in others {
-            error.combine(self.missing(*name));
+            error.combine(Error::new(here, name.as_str()));
         }
         error
     }
 
     /// The names that were missed.
     fn missed(&self) -> &[Expectation]
-        ensures names { result.now ≡ self.now.missed }
+        ensures names { map text_of result.now ≡ self.now.missed }
         ensures few { length result.now ≤ 4 }
     {
         &self.missed[..self.count]
     }
 
-    /// The error that this doesn't stand next.
-    fn missing(&self, name: Expectation) -> Error
-        ensures { (text : _) × HasFaultNext self.now.stream text result }
-    {
-        self.buffer.error(name.as_str())
-    }
-
-    /// The error that anything stands next, or nothing.
-    fn unexpected(&self) -> Error
-        ensures { (text : _) × HasFaultNext self.now.stream text result }
+    /// That anything stands next, or nothing.
+    fn unexpected(&self) -> Expectation
+        ensures { text_of result ≡ unexpected self.now.stream }
     {
         if self.buffer.is_empty() {
-            self.buffer.error("unexpected end of input")
+            Expectation::UnexpectedEnd
         } else {
-            self.buffer.error("unexpected token")
+            Expectation::UnexpectedToken
         }
     }
 }

@@ -1,11 +1,13 @@
 //! What can be looked for, and what rules read.
-ghost use Rattle.std.specs.Prelude.{◌≡◌, ℕ};
+ghost use Rattle.std.specs.Prelude.{◌≡◌, ℕ, codes};
+ghost use Rattle.syn_grammar.specs.Words.{Text};
 ghost use Rattle.syn_grammar.specs.Tokens.{Look, ended};
 ghost use Rattle.syn_grammar.specs.Grammar.{Grammar, empty, when◌then◌else◌};
 ghost use Rattle.syn_grammar.specs.Take.{sees};
 ghost use Rattle.syn_grammar.specs.Run.{parse};
 ghost use Rattle.syn_grammar.specs.Says.{Says, Takes, Meaning};
 ghost use Rattle.syn_grammar.proofs.Outcomes.{meaning_of_optional};
+ghost use Rattle.syn_tokens.specs.Expectations.{text_of};
 ghost use Rattle.syn_tokens.specs.Refusals.{IsSyntax};
 
 use crate::buffer::ParseBuffer;
@@ -18,12 +20,16 @@ pub trait Peek {
     /// The condition of the grammar that asks for it.
     ghost look: { Look };
 
+    /// What a fault says where it was expected.
+    ghost fault: { Text };
+
     /// Whether it stands next.
     fn peek(input: &ParseBuffer<'_>) -> bool
         ensures { result ≡ sees look input.now };
 
     /// How a fault names it.
-    fn expectation() -> Expectation;
+    fn expectation() -> Expectation
+        ensures { text_of result ≡ fault };
 }
 
 /// What the parsers of rules read.
@@ -78,6 +84,8 @@ pub struct End;
 
 impl Peek for End {
     ghost look = { ended };
+
+    ghost fault = { codes "unexpected end of input" };
 
     fn peek(input: &ParseBuffer<'_>) -> bool {
         input.is_empty()

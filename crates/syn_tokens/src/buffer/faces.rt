@@ -1,5 +1,5 @@
 //! What callers ask of a buffer: each call that is refused says why by an `Error`, and leaves the buffer as it was.
-ghost use Rattle.std.specs.Prelude.{◌≡◌, ◌<◌, IfOk, IfErr, OnErr};
+ghost use Rattle.std.specs.Prelude.{◌≡◌, ◌<◌, IfOk, IfErr, OnErr, codes};
 ghost use Rattle.syn_grammar.specs.Tokens as grammar;
 ghost use Rattle.syn_grammar.specs.Take.{left, take_group};
 ghost use Rattle.syn_grammar.specs.Run as run;
@@ -27,48 +27,52 @@ impl<'a> ParseBuffer<'a> {
 
     /// Reads a group in parentheses: its signs, and a buffer over its content. It is refused where no such group stands
     /// next, with the fault `expected parentheses` at the next token; nothing is read then. It takes no memory.
-    #[tactic(auto, using(crate::proofs::Errors::syntax_becomes_error, crate::proofs::Refused::refused_by_syntax))]
+    #[tactic(auto, using(crate::proofs::Errors::syntax_becomes_error, crate::proofs::Refused::refused_by_syntax, crate::proofs::Refused::refused_next))]
     pub fn parenthesized(&mut self) -> Result<(Paren, ParseBuffer<'a>)>
         ensures reads { SaysOpened IsSyntaxError (take_group grammar.Paren self.old) result self.new }
         ensures moved { Takes 1 self.old result self.new }
         ensures inside { IfOk result (λ p. left p.1 < left self.old) }
         ensures unchanged { OnErr result (self.new ≡ self.old) }
         ensures syntax { IfErr result IsSyntaxError }
+        ensures fault { IfErr result (HasFaultNext self.old (codes "expected parentheses")) }
     {
         Ok(self.read_group::<kind::Paren>()?)
     }
 
     /// Reads a group in braces: its signs, and a buffer over its content. It is refused where no such group stands
     /// next, with the fault `expected curly braces` at the next token; nothing is read then. It takes no memory.
-    #[tactic(auto, using(crate::proofs::Errors::syntax_becomes_error, crate::proofs::Refused::refused_by_syntax))]
+    #[tactic(auto, using(crate::proofs::Errors::syntax_becomes_error, crate::proofs::Refused::refused_by_syntax, crate::proofs::Refused::refused_next))]
     pub fn braced(&mut self) -> Result<(Brace, ParseBuffer<'a>)>
         ensures reads { SaysOpened IsSyntaxError (take_group grammar.Brace self.old) result self.new }
         ensures moved { Takes 1 self.old result self.new }
         ensures inside { IfOk result (λ p. left p.1 < left self.old) }
         ensures unchanged { OnErr result (self.new ≡ self.old) }
         ensures syntax { IfErr result IsSyntaxError }
+        ensures fault { IfErr result (HasFaultNext self.old (codes "expected curly braces")) }
     {
         Ok(self.read_group::<kind::Brace>()?)
     }
 
     /// Reads a group in brackets: its signs, and a buffer over its content. It is refused where no such group stands
     /// next, with the fault `expected square brackets` at the next token; nothing is read then. It takes no memory.
-    #[tactic(auto, using(crate::proofs::Errors::syntax_becomes_error, crate::proofs::Refused::refused_by_syntax))]
+    #[tactic(auto, using(crate::proofs::Errors::syntax_becomes_error, crate::proofs::Refused::refused_by_syntax, crate::proofs::Refused::refused_next))]
     pub fn bracketed(&mut self) -> Result<(Bracket, ParseBuffer<'a>)>
         ensures reads { SaysOpened IsSyntaxError (take_group grammar.Bracket self.old) result self.new }
         ensures moved { Takes 1 self.old result self.new }
         ensures inside { IfOk result (λ p. left p.1 < left self.old) }
         ensures unchanged { OnErr result (self.new ≡ self.old) }
         ensures syntax { IfErr result IsSyntaxError }
+        ensures fault { IfErr result (HasFaultNext self.old (codes "expected square brackets")) }
     {
         Ok(self.read_group::<kind::Bracket>()?)
     }
 
     /// Asks that nothing is left. It is refused where something is, with the fault `unexpected token` at the next
     /// token. It takes no memory.
-    #[tactic(auto, using(crate::proofs::Errors::syntax_becomes_error))]
+    #[tactic(auto, using(crate::proofs::Errors::syntax_becomes_error, crate::proofs::Refused::refused_next))]
     pub fn finish(&self) -> Result<()>
-        ensures { Finished IsSyntaxError self.now result }
+        ensures end { Finished IsSyntaxError self.now result }
+        ensures fault { IfErr result (HasFaultNext self.now (codes "unexpected token")) }
     {
         Ok(self.read_end()?)
     }

@@ -3,6 +3,7 @@ ghost use Rattle.std.specs.Prelude.{◌≡◌, ℕ, ◌∷◌, [], true, OnOk};
 ghost use Rattle.syn_grammar.specs.Tokens.{end, ◌⧺◌};
 ghost use Rattle.syn_grammar.specs.Grammar.{spell};
 ghost use Rattle.syn_grammar.proofs.Looks.{known_mark};
+ghost use Rattle.syn_tokens.specs.Expectations.{expected, text_of};
 ghost use Rattle.syn_tokens.specs.Leaves.{placed};
 ghost use Rattle.syn_tokens.specs.Punct.{is_punct_character};
 
@@ -24,7 +25,8 @@ pub trait OneCharacter: Copy {
         ensures { result ≡ character };
 
     /// How a fault names it.
-    fn expectation() -> Expectation;
+    fn expectation() -> Expectation
+        ensures { text_of result ≡ expected (character ∷ []) };
 
     /// Marks are made of it.
     ghost printable: { is_punct_character character ≡ true };
@@ -40,7 +42,8 @@ pub trait TwoCharacters: Copy {
         ensures { result ≡ (first, second) };
 
     /// How a fault names it.
-    fn expectation() -> Expectation;
+    fn expectation() -> Expectation
+        ensures { text_of result ≡ expected (first ∷ second ∷ []) };
 
     /// It is a mark of the grammar.
     ghost known: { known_mark (first ∷ second ∷ []) ≡ true };
@@ -61,7 +64,8 @@ pub trait ThreeCharacters: Copy {
         ensures { result ≡ (first, second, third) };
 
     /// How a fault names it.
-    fn expectation() -> Expectation;
+    fn expectation() -> Expectation
+        ensures { text_of result ≡ expected (first ∷ second ∷ third ∷ []) };
 
     /// It is a mark of the grammar.
     ghost known: { known_mark (first ∷ second ∷ third ∷ []) ≡ true };

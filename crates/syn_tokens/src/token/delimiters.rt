@@ -1,6 +1,8 @@
 //! The signs of groups.
 ghost use Rattle.std.specs.Prelude.{◌≡◌};
+ghost use Rattle.syn_grammar.specs.Words.{Text};
 ghost use Rattle.syn_grammar.specs.Tokens.{Delimiter, at_group};
+ghost use Rattle.syn_tokens.specs.Expectations.{text_of};
 
 use crate::buffer::ParseBuffer;
 use crate::delimiter::Delimiter;
@@ -17,8 +19,12 @@ pub trait DelimiterKind: Copy {
     fn delimiter() -> Delimiter
         ensures { delimiter_of result ≡ delimiter };
 
+    /// What a fault says where they were expected.
+    ghost fault: { Text };
+
     /// How a fault names them.
-    fn expectation() -> Expectation;
+    fn expectation() -> Expectation
+        ensures { text_of result ≡ fault };
 
     ghost use Rattle.syn_tokens.specs.Delimiters.{delimiter_of};
 }
@@ -59,6 +65,8 @@ impl<K> Default for Delimiters<K> {
 
 impl<K: DelimiterKind> Peek for Delimiters<K> {
     ghost look = { at_group K.delimiter };
+
+    ghost fault = { K.fault };
 
     fn peek(input: &ParseBuffer<'_>) -> bool {
         input.is_at_group(K::delimiter())

@@ -6,6 +6,7 @@ ghost use Rattle.syn_grammar.specs.Grammar.{mark, spell};
 ghost use Rattle.syn_grammar.specs.Take.{take_mark, sees};
 ghost use Rattle.syn_grammar.specs.Says.{Says, Takes};
 ghost use Rattle.syn_grammar.proofs.Outcomes.{meaning_of};
+ghost use Rattle.syn_tokens.specs.Expectations.{expected, text_of};
 ghost use Rattle.syn_tokens.specs.Leaves.{placed, syntax_of_mark};
 ghost use Rattle.syn_tokens.specs.Refusals.{IsSyntax};
 
@@ -37,7 +38,8 @@ pub trait MarkKind<const N: usize>: Copy {
         ensures { OnOk result (out.new ≡ out.old ⧺ spell (placed text spans.now) end) };
 
     /// How a fault names it.
-    fn expectation() -> Expectation;
+    fn expectation() -> Expectation
+        ensures { text_of result ≡ expected text };
 }
 
 /// A mark of `N` characters, such as `::`. Marks of one kind are equal, wherever they stand.
@@ -76,6 +78,8 @@ impl<K: MarkKind<N>, const N: usize> Syntactic for Mark<K, N> {
 
 impl<K: MarkKind<N>, const N: usize> Peek for Mark<K, N> {
     ghost look = { at_mark K.text };
+
+    ghost fault = { expected K.text };
 
     fn peek(input: &ParseBuffer<'_>) -> bool {
         K::stands(input)

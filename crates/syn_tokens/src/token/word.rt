@@ -6,6 +6,7 @@ ghost use Rattle.syn_grammar.specs.Grammar.{word, token};
 ghost use Rattle.syn_grammar.proofs.Outcomes.{meaning_of};
 ghost use Rattle.syn_tokens.specs.Spans.{at};
 ghost use Rattle.syn_tokens.specs.Spelled.{is_plain_word};
+ghost use Rattle.syn_tokens.specs.Expectations.{expected, text_of};
 ghost use Rattle.syn_tokens.specs.Leaves.{syntax_of_word, is_known_word};
 
 use crate::buffer::ParseBuffer;
@@ -29,7 +30,8 @@ pub trait WordKind: Copy {
         ensures { result.now ≡ text };
 
     /// How a fault names it.
-    fn expectation() -> Expectation;
+    fn expectation() -> Expectation
+        ensures { text_of result ≡ expected text };
 
     /// Some rule of the grammar may ask for it.
     ghost known: { is_known_word text ≡ true };
@@ -91,6 +93,8 @@ impl<K: WordKind> Syntactic for Word<K> {
 
 impl<K: WordKind> Peek for Word<K> {
     ghost look = { at_word K.text };
+
+    ghost fault = { expected K.text };
 
     fn peek(input: &ParseBuffer<'_>) -> bool {
         input.is_at_word(K::text())

@@ -1,4 +1,5 @@
 //! The signs of groups.
+ghost use Rattle.std.specs.Prelude.{codes};
 ghost use Rattle.syn_grammar.specs.Tokens as grammar;
 
 use crate::delimiter::Delimiter;
@@ -10,6 +11,8 @@ pub struct Paren;
 
 impl DelimiterKind for Paren {
     ghost delimiter = { grammar.Paren };
+
+    ghost fault = { codes "expected parentheses" };
 
     fn delimiter() -> Delimiter {
         Delimiter::Paren
@@ -26,6 +29,8 @@ pub struct Brace;
 impl DelimiterKind for Brace {
     ghost delimiter = { grammar.Brace };
 
+    ghost fault = { codes "expected curly braces" };
+
     fn delimiter() -> Delimiter {
         Delimiter::Brace
     }
@@ -40,6 +45,8 @@ pub struct Bracket;
 
 impl DelimiterKind for Bracket {
     ghost delimiter = { grammar.Bracket };
+
+    ghost fault = { codes "expected square brackets" };
 
     fn delimiter() -> Delimiter {
         Delimiter::Bracket

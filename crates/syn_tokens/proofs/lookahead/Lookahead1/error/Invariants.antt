@@ -1,6 +1,6 @@
-use Rattle.std.proofs.Common.{◌+◌}
-use Rattle.syn_tokens.proofs.Lookaheads.{AllAt}
+use Rattle.std.proofs.Common.{◌≡◌, ◌++◌, map, take}
+use Rattle.syn_tokens.proofs.Lookaheads.{fault_at}
 use Rattle.syn_tokens.proofs.lookahead.Lookahead1.error.Given as goal
 
 abbrev pub invariant-loop-name : goal.invariant-loop-name
-invariant-loop-name l = AllAt l.fn.self.stream (l.name-index + 1) l.error
+invariant-loop-name l = l.error ≡ l.initial.error ++ map (fault_at l.here) (take l.name-index l.others)
