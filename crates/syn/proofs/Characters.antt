@@ -1,5 +1,5 @@
 -- The first character of a text.
-use Rattle.std.proofs.Common.{◌≡◌, ℕ, Bool, true, false, ◌&&◌, List, [], ◌∷◌, ◌++◌, Option, Some, None, refl, sym, ap, subst, ◌∙◌, arith, append_assoc, append-nil}
+use Rattle.std.proofs.Common.{◌≡◌, ℕ, Bool, true, false, true≢false, ◌&&◌, List, [], ◌∷◌, ◌++◌, Option, Some, None, refl, sym, ap, subst, ◌∙◌, arith, append_assoc, append-nil}
 use Rattle.std.specs.Option.{IfSome}
 use Rattle.std.specs.Char.{IsScalar, encode_utf8}
 use Rattle.std.specs.Str.{IsUtf8, chars}
@@ -8,11 +8,16 @@ use Rattle.std.specs.Str.Pattern.{FindsPrefixBy, CutsPrefixes}
 use Rattle.std.proofs.lemmas.List.Folds.{list_all-append}
 use Rattle.std.proofs.lemmas.Str.{encodes-chars, scalars-chars, len_utf8_bounds, cons_from_encodes, chars-nil, chars-append, chars_past_char, IsUtf8-nil, IsUtf8-append, IsUtf8-encode, IsUtf8-past_char}
 use lib.Utf8.{scalar, scalars, encodes}
-use Rattle.syn.specs.Spelling.{first_passes, begins_by}
+use Rattle.syn.specs.Scanning.{first_passes, drop_while}
+use Rattle.syn.specs.Spelling.{begins_by}
 
 and_left : (a b : Bool) → (a && b) ≡ true → a ≡ true
 and_left true b e = refl
 and_left false b e = e
+
+and_right : (a b : Bool) → (a && b) ≡ true → b ≡ true
+and_right true b e = e
+and_right false b e = absurd (true≢false (sym e))
 
 -- no character that passes stands at the front
 first_fails : (test : ℕ → Bool) (cs bytes : List ℕ) → encodes cs ≡ bytes → scalars cs ≡ true
@@ -61,3 +66,14 @@ cut_passes test R finds bytes [] rest u h = record { front = []; split = sym h; 
 cut_passes test R finds bytes (n ∷ ns) rest u h =
     let found = finds h.0 (Some n) h.2 in
     one_more test bytes h.0 rest found.0 (cut_passes test R finds bytes ns h.0 u h.1) found.1 (found.2.split ∙ ap (λ r. encode_utf8 found.0 ++ r) (sym h.3))
+
+-- without characters that pass, up to one that doesn't
+dropped : (test : ℕ → Bool) (xs ys : List ℕ) → list_all test xs ≡ true → first_passes test ys ≡ false → drop_while test (xs ++ ys) ≡ ys
+dropped test [] [] h e = refl
+dropped test [] (y ∷ ys) h e = rw e refl
+dropped test (x ∷ xs) ys h e =
+    rw (and_left (test x) (list_all test xs) h) (dropped test xs ys (and_right (test x) (list_all test xs) h) e)
+
+pub cut_dropped : (test : ℕ → Bool) (bytes rest : List ℕ) → Cut test bytes rest → begins_by test rest ≡ false → chars rest ≡ drop_while test (chars bytes)
+cut_dropped test bytes rest h e =
+    sym (ap (λ b. drop_while test (chars b)) h.split ∙ (ap (drop_while test) (chars-append h.front rest h.front_utf8) ∙ dropped test (chars h.front) (chars rest) h.all e))

@@ -1,14 +1,18 @@
 -- Texts of characters that identifiers are made of.
-use Rattle.std.proofs.Common.{◌≡◌, ℕ, Bool, true, false, ◌&&◌, List, [], ◌∷◌, ◌++◌, drop, codes, nat_eq, refl, sym, ap, ◌∙◌, subst, true≢false, lit<}
+use Rattle.std.proofs.Common.{◌≡◌, ℕ, Bool, true, false, ◌&&◌, ◌==◌, List, [], ◌∷◌, ◌++◌, drop, codes, nat_eq, refl, sym, ap, ◌∙◌, subst, true≢false, lit<, append_assoc, inl, inr}
 use Rattle.std.proofs.lemmas.Bool.{eqb-true}
 use Rattle.std.specs.List.{list_all}
 use Rattle.std.specs.Char.{encode_utf8}
 use Rattle.std.specs.Str.{IsUtf8, chars}
-use Rattle.std.proofs.lemmas.Str.{chars_past_char}
+use Rattle.std.proofs.lemmas.List.{append_cancel_right}
+use Rattle.std.proofs.lemmas.Str.{chars_past_char, encodes-chars, scalars-chars, chars-encodes}
+use lib.Utf8.{scalars, encodes}
 use Rattle.unicode_ident.specs.Ident.{is_xid_continue}
 use Rattle.unicode_ident.proofs.IdentLemmas.{is_xid_continue-ascii}
 use Rattle.syn_grammar.specs.Tokens.{and, begins_text}
 use Rattle.syn_tokens.specs.Idents.{may_start, is_name, without_raw, is_identifier}
+use Rattle.syn.specs.Scanning.{drop_while, begins_raw_name, after_word}
+use Rattle.syn.specs.Places.{BeginsName}
 
 -- no identifier goes on by `#`
 pound_stops : is_xid_continue 35 ≡ true → ⊥
@@ -63,3 +67,61 @@ unfolding is_identifier without_raw
 name_is_identifier x h =
     let plain : begins_text (codes "r#") x ≡ false = no_raw x (goes_on (chars x) h) in
     rw (plain, h) refl
+
+-- `r#` and a name
+raw_is_identifier : (x zs : List ℕ) → IsUtf8 x → chars x ≡ 114 ∷ 35 ∷ zs → is_name zs ≡ true → is_identifier x ≡ true
+unfolding is_identifier without_raw encode_utf8
+raw_is_identifier x zs u e h =
+    let bytes : x ≡ 114 ∷ 35 ∷ encodes zs = sym (encodes-chars x u) ∙ ap encodes e in
+    let all : scalars (114 ∷ 35 ∷ zs) ≡ true = ap scalars (sym e) ∙ scalars-chars x u in
+    let name : is_name (chars (encodes zs)) ≡ true = ap is_name (chars-encodes zs all) ∙ h in
+    ap is_identifier bytes ∙ name
+
+-- the characters at the front that pass
+pub record Passing (test : ℕ → Bool) (cs : List ℕ) : Type 0 where
+  pub front : List ℕ
+  pub all : list_all test front ≡ true
+  pub split : cs ≡ front ++ drop_while test cs
+
+passing_first : (test : ℕ → Bool) (c : ℕ) (cs : List ℕ) (b : Bool) → test c ≡ b → Passing test cs → Passing test (c ∷ cs)
+passing_first test c cs true e p = record { front = c ∷ p.front; all = rw (e, p.all) refl; split = rw e (ap (λ l. c ∷ l) p.split) }
+passing_first test c cs false e p = record { front = []; all = refl; split = rw e refl }
+
+pub passing : (test : ℕ → Bool) (cs : List ℕ) → Passing test cs
+passing test [] = record { front = []; all = refl; split = refl }
+passing test (c ∷ cs) = passing_first test c cs (test c) refl (passing test cs)
+
+starts : (c : ℕ) (cs : List ℕ) → may_start c ≡ true → list_all is_xid_continue cs ≡ true → is_name (c ∷ cs) ≡ true
+unfolding is_name
+starts c cs h g = rw (h, g) refl
+
+-- what begins as an identifier does and goes on as one is one
+pub word_is : (x front more : List ℕ) → IsUtf8 x → chars x ++ drop_while is_xid_continue more ≡ front ++ more → BeginsName front → is_identifier x ≡ true
+word_is x front more u e begins =
+    let p = passing is_xid_continue more in
+    let whole : chars x ≡ front ++ p.front =
+    append_cancel_right (chars x) (front ++ p.front) (drop_while is_xid_continue more)
+    (e ∙ (ap (λ l. front ++ l) p.split ∙ sym (append_assoc front p.front (drop_while is_xid_continue more)))) in
+    elim begins.2 as (λ _. is_identifier x ≡ true) [
+      | inl plain ↦ name_is_identifier x (ap is_name (whole ∙ ap (λ l. l ++ p.front) plain) ∙ starts begins.0 p.front begins.1 p.all)
+      | inr raw ↦ raw_is_identifier x (begins.0 ∷ p.front) u (whole ∙ ap (λ l. l ++ p.front) raw) (starts begins.0 p.front begins.1 p.all)
+    ]
+
+and_first : (a b : Bool) → (a && b) ≡ true → a ≡ true
+and_first true b h = refl
+and_first false b h = h
+
+and_second : (a b : Bool) → (a && b) ≡ true → b ≡ true
+and_second true b h = h
+and_second false b h = absurd (true≢false (sym h))
+
+-- what a raw identifier goes on by behind its `r`
+pub raw_front : (cs : List ℕ) → begins_raw_name cs ≡ true → (c : ℕ) × (may_start c ≡ true) × (cs ≡ 35 ∷ c ∷ drop 1 (drop 1 cs))
+unfolding begins_raw_name
+raw_front [] h = absurd (true≢false (sym h))
+raw_front (a ∷ []) h = absurd (true≢false (sym (and_second (a == 35) false h)))
+raw_front (a ∷ b ∷ l) h = (b, and_second (a == 35) (may_start b) h, ap (λ x. x ∷ b ∷ l) (eqb-true a 35 (and_first (a == 35) (may_start b) h)))
+
+pub raw_word : (cs es : List ℕ) → begins_raw_name cs ≡ true → es ≡ drop 1 (drop 1 cs) → drop_while is_xid_continue es ≡ after_word 114 cs
+unfolding after_word
+raw_word cs es h e = let f = raw_front cs h in rw (h, e) (ap (λ l. drop_while is_xid_continue (drop 1 (drop 1 l))) f.2 ∙ sym (ap (λ l. drop_while is_xid_continue (drop 2 l)) f.2))

@@ -2,6 +2,11 @@ pub mod Places
 pub mod Characters
 pub mod Identifiers
 pub mod Spelling
-pub mod Building
+pub mod Flattened
+pub mod Groups
+pub mod DocComments
 pub mod Bulks
+pub mod Beginnings
+pub mod Comments
 pub mod Canons
+pub mod Scans

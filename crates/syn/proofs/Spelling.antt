@@ -1,11 +1,11 @@
 -- What texts spell, put together and taken apart.
-use Rattle.std.proofs.Common.{◌≡◌, ℕ, ◌+◌, ◌-◌, ◌<◌, ◌≤◌, true, List, [], ◌++◌, take, drop, length, refl, ap, sym, ◌∙◌, arith, append_assoc}
+use Rattle.std.proofs.Common.{◌≡◌, ℕ, ◌+◌, ◌-◌, ◌<◌, ◌≤◌, List, [], ◌∷◌, ◌++◌, take, drop, length, refl, ap, sym, ◌∙◌, arith, append_assoc, append-nil}
 use Rattle.std.specs.Char.{is_not_whitespace}
 use Rattle.std.proofs.lemmas.List.{length-append, length-drop, drop-drop}
 use Rattle.std.proofs.lemmas.Str.{NoCharPasses-nil, NoCharPasses-append}
 use Rattle.std.proofs.Math.Seq.{drop-append_seam, take-append_seam}
-use Rattle.syn_grammar.specs.Tokens.{ident, literal, Stream, end, leaf, punct, group, ◌⧺◌, visible}
-use Rattle.syn.specs.Spelling.{Stands, IsBlank, Spells}
+use Rattle.syn_grammar.specs.Tokens.{Span}
+use Rattle.syn.specs.Spelling.{Stands, IsBlank, Piece, IsPieceAt, IsCut, tokens_of, all_tokens}
 
 -- STANDING IN A TEXT
 
@@ -43,36 +43,25 @@ blank_here text i = ([], NoCharPasses-nil is_not_whitespace, record { split = re
 pub blank_append : (text : List ℕ) (i j k : ℕ) → IsBlank text i j → IsBlank text j k → IsBlank text i k
 blank_append text i j k a b = (a.0 ++ b.0, NoCharPasses-append is_not_whitespace a.0 b.0 a.1 b.1, stands_append a.2 b.2)
 
--- STREAMS
+-- PIECES
 
--- white space before what is spelled
-pub blank_first : (text : List ℕ) (i j : ℕ) (s : Stream) (k : ℕ) → IsBlank text i j → Spells text j s k → Spells text i s k
-blank_first text i j end k b h = blank_append text i j k b h
-blank_first text i j (leaf (ident x) s m) k b h = ((blank_append text i j s.start b h.0.0, h.0.1), h.1, h.2)
-blank_first text i j (leaf (literal l x) s m) k b h = h
-blank_first text i j (punct c t s m) k b h = ((blank_append text i j s.start b h.0.0, h.0.1), h.1, h.2)
-blank_first text i j (group d o c n m) k b h = (h.0, (blank_append text i j o.start b h.1.0, h.1.1), h.2, h.3, h.4)
+-- white space before what is cut
+pub cut_first : (text : List ℕ) (i j : ℕ) (ps : List (Piece × Span)) (k : ℕ) → IsBlank text i j → IsCut text j ps k → IsCut text i ps k
+cut_first text i j [] k b h = blank_append text i j k b h
+cut_first text i j ((p, s) ∷ ps) k b h = (blank_append text i j s.start b h.0, h.1, h.2)
 
--- one stream after another
-pub spells_append : (text : List ℕ) (i : ℕ) (a : Stream) (j : ℕ) (b : Stream) (k : ℕ) → Spells text i a j → Spells text j b k → Spells text i (a ⧺ b) k
-spells_append text i end j b k h g = blank_first text i j b k h g
-spells_append text i (leaf (ident x) s m) j b k h g = (h.0, h.1, spells_append text s.stop m j b k h.2 g)
-spells_append text i (leaf (literal l x) s m) j b k h g = h
-spells_append text i (punct c t s m) j b k h g = (h.0, h.1, spells_append text s.stop m j b k h.2 g)
-spells_append text i (group d o c n m) j b k h g = (h.0, h.1, h.2, h.3, spells_append text c.stop m j b k h.4 g)
+-- and one more piece behind it
+pub cut_more : (text : List ℕ) (i : ℕ) (ps : List (Piece × Span)) (j : ℕ) (p : Piece) (s : Span) → IsCut text i ps j → IsBlank text j s.start
+    → IsPieceAt text p s.start s.stop → IsCut text i (ps ++ ((p, s) ∷ [])) s.stop
+cut_more text i [] j p s h b g = (blank_append text i j s.start h b, g, blank_here text s.stop)
+cut_more text i ((q, t) ∷ ps) j p s h b g = (h.0, h.1, cut_more text t.stop ps j p s h.2 b g)
 
--- white space behind what is spelled
-pub spells_more : (text : List ℕ) (i : ℕ) (s : Stream) (j k : ℕ) → Spells text i s j → IsBlank text j k → Spells text i s k
-spells_more text i end j k h b = blank_append text i j k h b
-spells_more text i (leaf (ident x) s m) j k h b = (h.0, h.1, spells_more text s.stop m j k h.2 b)
-spells_more text i (leaf (literal l x) s m) j k h b = h
-spells_more text i (punct c t s m) j k h b = (h.0, h.1, spells_more text s.stop m j k h.2 b)
-spells_more text i (group d o c n m) j k h b = (h.0, h.1, h.2, h.3, spells_more text c.stop m j k h.4 b)
+-- white space behind it
+pub cut_blank : (text : List ℕ) (i : ℕ) (ps : List (Piece × Span)) (j k : ℕ) → IsCut text i ps j → IsBlank text j k → IsCut text i ps k
+cut_blank text i [] j k h b = blank_append text i j k h b
+cut_blank text i ((q, t) ∷ ps) j k h b = (h.0, h.1, cut_blank text t.stop ps j k h.2 b)
 
--- no group of it is invisible
-pub spells_visible : (text : List ℕ) (i : ℕ) (s : Stream) (j : ℕ) → Spells text i s j → visible s ≡ true
-spells_visible text i end j h = refl
-spells_visible text i (leaf (ident x) s m) j h = spells_visible text s.stop m j h.2
-spells_visible text i (leaf (literal l x) s m) j h = absurd h
-spells_visible text i (punct c t s m) j h = spells_visible text s.stop m j h.2
-spells_visible text i (group d o c n m) j h = rw (h.0, spells_visible text o.stop n c.start h.2, spells_visible text c.stop m j h.4) refl
+-- the tokens of one more piece
+pub tokens_more : (ps : List (Piece × Span)) (p : Piece) (s : Span) → all_tokens (ps ++ ((p, s) ∷ [])) ≡ all_tokens ps ++ tokens_of p s
+tokens_more [] p s = append-nil (tokens_of p s)
+tokens_more ((q, t) ∷ ps) p s = ap (λ l. tokens_of q t ++ l) (tokens_more ps p s) ∙ sym (append_assoc (tokens_of q t) (all_tokens ps) (tokens_of p s))

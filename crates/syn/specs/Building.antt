@@ -1,21 +1,27 @@
 -- Token trees that are being built.
-use Rattle.std.specs.Prelude.{◌≡◌, ◌<◌, ℕ, List, [], ◌∷◌, true}
-use Rattle.syn_grammar.specs.Tokens.{is_visible}
+use Rattle.std.specs.Prelude.{◌≡◌, ◌<◌, ◌≤◌, ℕ, List, [], ◌∷◌, ◌++◌, length}
+use Rattle.syn_tokens.specs.Spans.{at}
 use Rattle.syn_tokens.specs.Delimiters.{delimiter_of}
+use Rattle.syn_grammar.specs.Tokens.{Span}
 use Rattle.syn.specs.declared.reader.trees.OpenGroup.{OpenGroup}
 use Rattle.syn.specs.declared.reader.trees.TreeBuilder.{TreeBuilder}
-use Rattle.syn.specs.Spelling.{Spells, Stands, opening_sign}
+use Rattle.syn.specs.Flat.{Token, opened, flat}
+use Rattle.syn.specs.Spelling.{Piece, IsCut, all_tokens}
 
--- from byte i on the text spells what stands before the group, and then its opening sign
-abbrev pub Opens : List ℕ → ℕ → OpenGroup → Type 0
-Opens text i o = (is_visible (delimiter_of o.delimiter) ≡ true) × Spells text i o.outer o.opening.start
-    × Stands text (opening_sign (delimiter_of o.delimiter)) o.opening.start o.opening.end × (o.opening.start < o.opening.end)
+-- the tokens before the groups that are open, from the outermost to the innermost, each with the opening sign behind them
+abbrev pub tokens_around : List OpenGroup → List Token
+tokens_around [] = []
+tokens_around (o ∷ os) = flat o.outer ++ (opened (delimiter_of o.delimiter) (at o.opening) ∷ tokens_around os)
 
--- the same of groups one in another, from the outermost to the innermost, up to byte j
-abbrev pub OpensAll : List ℕ → ℕ → List OpenGroup → ℕ → Type 0
-OpensAll text i [] j = i ≡ j
-OpensAll text i (o ∷ os) j = Opens text i o × OpensAll text o.opening.end os j
+-- all tokens that were added
+abbrev pub tokens_so_far : TreeBuilder → List Token
+tokens_so_far b = tokens_around b.groups.items ++ flat b.stream
 
--- up to byte j the text spells all that was added so far
+-- the opening signs stand in a text of so many bytes
+abbrev pub AllWithin : ℕ → List OpenGroup → Type 0
+AllWithin n [] = Unit {0}
+AllWithin n (o ∷ os) = (o.opening.start < o.opening.end) × (o.opening.end ≤ n) × AllWithin n os
+
+-- up to byte j the text is cut into pieces whose tokens were added
 abbrev pub Builds : List ℕ → TreeBuilder → ℕ → Type 0
-Builds text b j = (k : ℕ) × OpensAll text 0 b.open.items k × Spells text k b.stream j
+Builds text b j = (pieces : List (Piece × Span)) × IsCut text 0 pieces j × (tokens_so_far b ≡ all_tokens pieces) × AllWithin (length text) b.groups.items

@@ -1,46 +1,48 @@
--- The pieces that a text is cut into.
-use Rattle.std.specs.Prelude.{◌≡◌, ◌<◌, ℕ, List, length, true, Option, Result, IsTrue, MatchOption, MatchResult}
-use Rattle.std.specs.Char.{encode_utf8}
+-- The pieces that a text is cut into, as the lexer answers them.
+use Rattle.std.specs.Prelude.{◌≡◌, ◌<◌, ℕ, List, [], ◌∷◌, true, length, Option, Result, IsTrue, MatchOption, MatchResult}
 use Rattle.syn_grammar.specs.Tokens.{Span, is_visible}
+use Rattle.syn_tokens.specs.declared.span.Span.{Span as LexemeSpan}
 use Rattle.syn_tokens.specs.Spans.{at}
 use Rattle.syn_tokens.specs.Delimiters.{delimiter_of}
 use Rattle.syn_tokens.specs.Punct.{is_joint}
 use Rattle.syn_tokens.specs.Idents.{is_identifier}
 use Rattle.syn_tokens.specs.Faults.{FaultValue}
 use Rattle.syn.specs.declared.reader.lexer.Lexeme.{Lexeme}
-use Rattle.syn.specs.declared.reader.lexer.Lexeme.TheVariants.{Open, Close, Ident, Punct}
+use Rattle.syn.specs.declared.reader.lexer.Lexeme.TheVariants.{Open, Close, Ident, Literal, Punct, Comment}
 use Rattle.syn.specs.declared.reader.lexer.Lexer.{Lexer}
-use Rattle.syn.specs.Spelling.{Stands, IsBlank, IsWholeIdentifier, IsMarkCharacter, IsFaultWithin, opening_sign, closing_sign}
+use Rattle.syn.specs.Spelling.{Stands, IsBlank, word, constant, mark, opening, closing, opening_sign, closing_sign, IsPieceAt, IsComment, IsFaultWithin}
 
 abbrev pub span_of : Lexeme → Span
 span_of (Open d s) = at s
 span_of (Close d s) = at s
 span_of (Ident x s) = at s
+span_of (Literal k x s) = at s
 span_of (Punct p) = at p.span
+span_of (Comment x s) = at s
 
--- its bytes
-abbrev pub spelling_of : Lexeme → List ℕ
-spelling_of (Open d s) = opening_sign (delimiter_of d)
-spelling_of (Close d s) = closing_sign (delimiter_of d)
-spelling_of (Ident x s) = x.now
-spelling_of (Punct p) = encode_utf8 p.character
+-- it is the piece of the text from byte i to byte j
+abbrev pub IsCutOut : List ℕ → Lexeme → ℕ → ℕ → Type 0
+IsCutOut text (Open d s) i j = IsPieceAt text (opening (delimiter_of d)) i j
+IsCutOut text (Close d s) i j = IsPieceAt text (closing (delimiter_of d)) i j
+IsCutOut text (Ident x s) i j = IsPieceAt text (word x.now) i j
+IsCutOut text (Literal k x s) i j = IsPieceAt text (constant k x.now) i j
+IsCutOut text (Punct p) i j = IsPieceAt text (mark p.character (is_joint p.spacing)) i j
+IsCutOut text (Comment x s) i j = Stands text x.now i j × (i < j) × IsComment text i j
 
--- no sign of an invisible group, a whole identifier, a character of a mark
-abbrev pub IsWhole : List ℕ → Lexeme → Type 0
-IsWhole text (Open d s) = is_visible (delimiter_of d) ≡ true
-IsWhole text (Close d s) = is_visible (delimiter_of d) ≡ true
-IsWhole text (Ident x s) = IsWholeIdentifier text x.now s.end
-IsWhole text (Punct p) = IsMarkCharacter text p.character (is_joint p.spacing) p.span.start p.span.end
+-- and its span says so
+abbrev pub IsLexemeFrom : List ℕ → ℕ → Lexeme → ℕ → Type 0
+IsLexemeFrom text i l j = IsCutOut text l i j × ((span_of l).start ≡ i) × ((span_of l).stop ≡ j)
+
+-- it is the sign of a group that this character is, and it stands there
+abbrev pub IsSign : ℕ → LexemeSpan → Lexeme → Type 0
+IsSign c s (Open d t) = (opening_sign (delimiter_of d) ≡ c ∷ []) × (is_visible (delimiter_of d) ≡ true) × (t ≡ s)
+IsSign c s (Close d t) = (closing_sign (delimiter_of d) ≡ c ∷ []) × (is_visible (delimiter_of d) ≡ true) × (t ≡ s)
+IsSign c s _ = ⊥
 
 -- what is taken for an identifier is one
 abbrev pub IsNamed : Lexeme → Type 0
 IsNamed (Ident x s) = IsTrue (is_identifier x.now)
 IsNamed _ = Unit {0}
-
--- it stands in the text from byte i to byte j, as its span says
-abbrev pub IsLexemeFrom : List ℕ → ℕ → Lexeme → ℕ → Type 0
-IsLexemeFrom text i l j = Stands text (spelling_of l) (span_of l).start (span_of l).stop × IsWhole text l × ((span_of l).start < (span_of l).stop)
-    × ((span_of l).start ≡ i) × ((span_of l).stop ≡ j)
 
 -- there may be white space before it
 abbrev pub FollowsAsLexeme : List ℕ → ℕ → Lexeme → ℕ → Type 0

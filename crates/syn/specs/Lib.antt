@@ -1,5 +1,9 @@
+pub mod Scanning
+pub mod Docs
+pub mod Flat
 pub mod Places
 pub mod Spelling
+pub mod Texts
 pub mod Lexemes
 pub mod Building
 pub mod Canonical

@@ -1,20 +1,19 @@
 -- Which token stream a text spells.
-use Rattle.std.specs.Prelude.{◌≡◌, ℕ, ◌+◌, ◌<◌, ◌≤◌, Bool, true, false, not, ◌&&◌, ◌||◌, ◌==◌, nat_eq, List, [], ◌∷◌, ◌++◌, drop, length, codes}
-use Rattle.std.specs.List.{starts_with}
+use Rattle.std.specs.Prelude.{◌≡◌, ◌<◌, ◌≤◌, ℕ, ◌+◌, Bool, true, false, not, ◌&&◌, ◌==◌, List, [], ◌∷◌, ◌++◌, drop, length, codes, if◌then◌else◌, Some}
 use Rattle.std.specs.Str.{NoCharPasses, chars}
 use Rattle.std.specs.Char.{encode_utf8, is_not_whitespace}
-use Rattle.unicode_ident.specs.Ident.{is_xid_continue}
-use Rattle.syn_grammar.specs.Tokens.{Span, Delimiter, Paren, Brace, Bracket, None, ident, literal, Stream, end, leaf, punct, group, is_visible}
+use Rattle.syn_grammar.specs.Tokens.{Span, Delimiter, Paren, Brace, Bracket, None, ident, literal, Str, Stream, is_visible}
 use Rattle.syn_tokens.specs.Spans.{at}
-use Rattle.syn_tokens.specs.Idents.{is_name}
+use Rattle.syn_tokens.specs.Idents.{may_start, is_identifier}
 use Rattle.syn_tokens.specs.Punct.{is_punct_character}
+use Rattle.syn_tokens.specs.Literals.{kind_of}
 use Rattle.syn_tokens.specs.Faults.{FaultValue}
+use Rattle.syn_tokens.specs.declared.literal.LitKind.{LitKind}
+use Rattle.syn.specs.Scanning.{behind, first_passes, Absent, Scanned, literal_at, after_word, begins_comment, after_comment}
+use Rattle.syn.specs.Docs.{IsDoc, IsNoDoc, quoted}
+use Rattle.syn.specs.Flat.{Token, one, sign, opened, closed, flat}
 
 -- the first character of the bytes passes the test; false where there is none
-abbrev pub first_passes : (ℕ → Bool) → List ℕ → Bool
-first_passes test [] = false
-first_passes test (c ∷ l) = test c
-
 abbrev pub begins_by : (ℕ → Bool) → List ℕ → Bool
 begins_by test bytes = first_passes test (chars bytes)
 
@@ -26,18 +25,6 @@ pub record Stands (text bytes : List ℕ) (i j : ℕ) : Type 0 where
 -- from byte i to byte j the text is white space, or there is nothing
 abbrev pub IsBlank : List ℕ → ℕ → ℕ → Type 0
 IsBlank text i j = (space : List ℕ) × NoCharPasses is_not_whitespace space × Stands text space i j
-
--- an identifier, without `r#`, that ends at byte j: it does not go on there
-abbrev pub IsWholeIdentifier : List ℕ → List ℕ → ℕ → Type 0
-IsWholeIdentifier text x j = (is_name (chars x) ≡ true) × (begins_by is_xid_continue (drop j text) ≡ false)
-
-abbrev pub begins_comment : List ℕ → Bool
-begins_comment bytes = starts_with nat_eq bytes (codes "//") || starts_with nat_eq bytes (codes "/*")
-
--- a character of a mark from byte i to byte j, but no `'`; it is Joint where another follows directly, unless that begins a comment
-abbrev pub IsMarkCharacter : List ℕ → ℕ → Bool → ℕ → ℕ → Type 0
-IsMarkCharacter text c joint i j = (is_punct_character c ≡ true) × ((c == 39) ≡ false) × (begins_comment (drop i text) ≡ false)
-    × (joint ≡ (begins_by is_punct_character (drop j text) && not (begins_comment (drop j text))))
 
 abbrev pub opening_sign : Delimiter → List ℕ
 opening_sign Paren = codes "("
@@ -51,19 +38,79 @@ closing_sign Brace = codes "}"
 closing_sign Bracket = codes "]"
 closing_sign None = []
 
--- these bytes stand in the text where the span says, and white space before them from byte i on
-abbrev pub Follows : List ℕ → ℕ → List ℕ → Span → Type 0
-Follows text i bytes s = IsBlank text i s.start × Stands text bytes s.start s.stop
+-- A piece of a text.
+pub data Piece : Type 0 where
+  word : List ℕ → Piece  -- an identifier
+  constant : LitKind → List ℕ → Piece  -- a literal
+  mark : ℕ → Bool → Piece  -- a character of a mark, Joint (true) or Alone (false)
+  opening : Delimiter → Piece
+  closing : Delimiter → Piece
+  comment : List ℕ → Piece  -- a comment that is no doc comment
+  doc : List ℕ → Bool → List ℕ → Piece  -- a doc comment, whether it stands in what it speaks of, and what it says
 
--- From byte i to byte j the text spells the stream: its tokens and the signs of its groups stand there in order, each
--- where its span says, and between them there is nothing but white space. No group is invisible, and none is a literal.
-abbrev pub Spells : List ℕ → ℕ → Stream → ℕ → Type 0
-Spells text i end j = IsBlank text i j
-Spells text i (leaf (ident x) s m) j = Follows text i x s × IsWholeIdentifier text x s.stop × Spells text s.stop m j
-Spells text i (leaf (literal k x) s m) j = ⊥
-Spells text i (punct c joint s m) j = Follows text i (encode_utf8 c) s × IsMarkCharacter text c joint s.start s.stop × Spells text s.stop m j
-Spells text i (group d o c inner m) j = (is_visible d ≡ true) × Follows text i (opening_sign d) o × Spells text o.stop inner c.start
-    × Stands text (closing_sign d) c.start c.stop × Spells text c.stop m j
+-- its bytes
+abbrev pub bytes_of : Piece → List ℕ
+bytes_of (word x) = x
+bytes_of (constant k x) = x
+bytes_of (mark c joint) = encode_utf8 c
+bytes_of (opening d) = opening_sign d
+bytes_of (closing d) = closing_sign d
+bytes_of (comment x) = x
+bytes_of (doc x inner said) = x
+
+-- a mark's character is Joint where another follows directly, unless that begins a comment; the `'` of a lifetime always is
+abbrev pub joint_before : ℕ → List ℕ → Bool
+joint_before c rest = if c == 39 then first_passes may_start rest else first_passes is_punct_character rest && not (begins_comment rest)
+
+-- a comment from byte i to byte j
+abbrev pub IsComment : List ℕ → ℕ → ℕ → Type 0
+IsComment text i j = (begins_comment (behind text i) ≡ true) × (after_comment (drop 1 (behind text i)) ≡ Some (behind text j))
+
+-- what must hold of a piece from byte i to byte j besides that its bytes stand there: it is cut neither too short nor too long
+abbrev pub IsWhole : List ℕ → Piece → ℕ → ℕ → Type 0
+IsWhole text (word x) i j = (is_identifier x ≡ true) × (literal_at (behind text i) ≡ Absent)
+    × ((c : ℕ) × (rest : List ℕ) × (behind text i ≡ c ∷ rest) × (behind text j ≡ after_word c rest))
+IsWhole text (constant k x) i j = literal_at (behind text i) ≡ Scanned k (behind text j)
+IsWhole text (mark c joint) i j = (is_punct_character c ≡ true) × (begins_comment (behind text i) ≡ false) × (literal_at (behind text i) ≡ Absent)
+    × (joint ≡ joint_before c (behind text j))
+IsWhole text (opening d) i j = is_visible d ≡ true
+IsWhole text (closing d) i j = is_visible d ≡ true
+IsWhole text (comment x) i j = IsComment text i j × IsNoDoc x
+IsWhole text (doc x inner said) i j = IsComment text i j × IsDoc x inner said
+
+-- it stands there, and is not empty
+abbrev pub IsPieceAt : List ℕ → Piece → ℕ → ℕ → Type 0
+IsPieceAt text p i j = Stands text (bytes_of p) i j × (i < j) × IsWhole text p i j
+
+-- the tokens of `#[doc = ".."]`, or of `#![doc = ".."]`, all with the span of the comment
+abbrev pub doc_tokens : Bool → List ℕ → Span → List Token
+doc_tokens inner said s =
+    (sign 35 false s ∷ (if inner then sign 33 false s ∷ [] else []))
+    ++ (opened Bracket s ∷ one (ident (codes "doc")) s ∷ sign 61 false s ∷ one (literal Str (quoted (chars said))) s ∷ closed Bracket s ∷ [])
+
+-- the tokens that it stands for
+abbrev pub tokens_of : Piece → Span → List Token
+tokens_of (word x) s = one (ident x) s ∷ []
+tokens_of (constant k x) s = one (literal (kind_of k) x) s ∷ []
+tokens_of (mark c joint) s = sign c joint s ∷ []
+tokens_of (opening d) s = opened d s ∷ []
+tokens_of (closing d) s = closed d s ∷ []
+tokens_of (comment x) s = []
+tokens_of (doc x inner said) s = doc_tokens inner said s
+
+-- From byte i to byte j the text is cut into pieces with white space between them, and these are their tokens, each with the
+-- span of its piece.
+abbrev pub IsCut : List ℕ → ℕ → List (Piece × Span) → ℕ → Type 0
+IsCut text i [] j = IsBlank text i j
+IsCut text i ((p, s) ∷ ps) j = IsBlank text i s.start × IsPieceAt text p s.start s.stop × IsCut text s.stop ps j
+
+abbrev pub all_tokens : List (Piece × Span) → List Token
+all_tokens [] = []
+all_tokens ((p, s) ∷ ps) = tokens_of p s ++ all_tokens ps
+
+-- the text is cut into pieces from its first byte to its last, whose tokens the stream has
+abbrev pub Spells : List ℕ → Stream → Type 0
+Spells text stream = (pieces : List (Piece × Span)) × IsCut text 0 pieces (length text) × (flat stream ≡ all_tokens pieces)
 
 -- memory was refused, or one thing is wrong, where something stands in a text of so many bytes
 abbrev pub IsFaultWithin : ℕ → List FaultValue → Type 0

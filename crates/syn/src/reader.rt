@@ -4,6 +4,7 @@ ghost use Rattle.syn_grammar.specs.Tokens.{visible};
 ghost use Rattle.syn.specs.Spelling.{Spells, IsFaultWithin};
 
 mod cursor;
+mod docs;
 mod lexer;
 mod text;
 mod trees;
@@ -18,7 +19,7 @@ use syn_tokens::stream::TokenStream;
 /// The token stream that a text spells. Spans are byte offsets in the text.
 pub fn read_tokens(alloc: Global, text: &str) -> Result<TokenStream>
     ensures visible { IfOk result (λ stream. visible stream ≡ true) }
-    ensures spelled { MatchResult result (λ stream. Spells text.now 0 stream (length text.now)) (IsFaultWithin (length text.now)) }
+    ensures spelled { MatchResult result (λ stream. Spells text.now stream) (IsFaultWithin (length text.now)) }
 {
     let mut trees = TreeBuilder::new(alloc);
     for lexeme in Lexer::new(text) {

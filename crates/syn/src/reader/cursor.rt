@@ -1,10 +1,10 @@
 //! A place in a text.
-ghost use Rattle.std.specs.Prelude.{◌≡◌, ◌++◌, ◌<◌, ◌≤◌, ℕ, Bool, false, List, drop, length, MatchOption, OnSome};
+ghost use Rattle.std.specs.Prelude.{◌≡◌, ◌++◌, ◌∷◌, [], ◌<◌, ◌≤◌, ℕ, Bool, List, drop, length, ◌^◌, MatchOption, OnSome};
 ghost use Rattle.std.specs.Char.{encode_utf8};
 ghost use Rattle.std.specs.Str.{IsCharBoundary};
 ghost use Rattle.std.specs.Fn.{AlwaysReturns};
-ghost use Rattle.syn.specs.Spelling.{Stands, IsBlank, begins_by};
-ghost use Rattle.syn.specs.Places.{EndsWith, Skips};
+ghost use Rattle.syn.specs.Scanning.{first_of, begins_with, drop_while};
+ghost use Rattle.syn.specs.Spelling.{Stands, IsBlank};
 
 use syn_tokens::span::Span;
 
@@ -17,6 +17,8 @@ pub(super) struct Cursor<'a> {
 }
 
 impl<'a> Cursor<'a> {
+    ghost use Rattle.syn.specs.Places.{EndsWith, Skips, left};
+
     /// The beginning of the text.
     pub(super) fn new(text: &'a str) -> Cursor<'a>
         ensures text { result.text.now ≡ text.now }
@@ -44,6 +46,7 @@ impl<'a> Cursor<'a> {
         requires { EndsWith (drop self.old.offset self.old.text.now) rest.now }
         ensures text { self.new.text ≡ self.old.text }
         ensures onward { self.old.offset ≤ self.new.offset }
+        ensures fits { self.new.offset < 2 ^ 64 }
         ensures rest { drop self.new.offset self.old.text.now ≡ rest.now }
         ensures stands { (front : List ℕ) → drop self.old.offset self.old.text.now ≡ front ++ rest.now → Stands self.old.text.now front self.old.offset self.new.offset }
     {
@@ -53,13 +56,34 @@ impl<'a> Cursor<'a> {
     /// Steps over the next character and answers it; none at the end of the text.
     pub(super) fn bump(&mut self) -> Option<char>
         ensures text { self.new.text ≡ self.old.text }
-        ensures onward { OnSome result (self.old.offset < self.new.offset) }
+        ensures onward { self.old.offset ≤ self.new.offset }
+        ensures moved { OnSome result (self.old.offset < self.new.offset) }
+        ensures fits { OnSome result (self.new.offset < 2 ^ 64) }
+        ensures drops { left self.new ≡ drop 1 (left self.old) }
+        ensures left { MatchOption result (left self.old ≡ []) (λ c. left self.old ≡ c ∷ left self.new) }
         ensures stands { MatchOption result (IsBlank self.old.text.now self.old.offset (length self.old.text.now)) (λ c. Stands self.old.text.now (encode_utf8 c) self.old.offset self.new.offset) }
     {
         let mut characters = self.rest().chars();
         let first = characters.next()?;
         self.step_to(characters.as_str());
         Some(first)
+    }
+
+    /// The next character; none at the end of the text.
+    pub(super) fn peek(&self) -> Option<char>
+        ensures { result ≡ first_of (left self.now) }
+    {
+        self.rest().chars().next()
+    }
+
+    /// Whether this character stands next.
+    pub(super) fn is_at(&self, character: char) -> bool
+        ensures { result ≡ begins_with character (left self.now) }
+    {
+        match self.peek() {
+            Some(next) => next == character,
+            None => false,
+        }
     }
 
     /// Steps over white space.
@@ -77,7 +101,7 @@ impl<'a> Cursor<'a> {
         ensures text { self.new.text ≡ self.old.text }
         ensures onward { self.old.offset ≤ self.new.offset }
         ensures skips { (passes : ℕ → Bool) → AlwaysReturns F.FnMut (λ a r. r ≡ passes a.0) test → Skips passes self.old.text.now self.old.offset self.new.offset }
-        ensures stops { (passes : ℕ → Bool) → AlwaysReturns F.FnMut (λ a r. r ≡ passes a.0) test → begins_by passes (drop self.new.offset self.old.text.now) ≡ false }
+        ensures left { (passes : ℕ → Bool) → AlwaysReturns F.FnMut (λ a r. r ≡ passes a.0) test → left self.new ≡ drop_while passes (left self.old) }
     {
         self.step_to(self.rest().trim_start_matches(test));
     }

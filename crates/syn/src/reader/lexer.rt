@@ -1,25 +1,38 @@
 //! Lexemes: the pieces that a text is cut into.
-ghost use Rattle.std.specs.Prelude.{◌≡◌, ◌<◌, ◌≤◌, ◌-◌, ◌&&◌, ℕ, true, not, [], ◌∷◌, drop, length, codes, MatchResult};
+ghost use Rattle.std.specs.Prelude.{◌≡◌, ◌<◌, ◌≤◌, ◌-◌, ◌&&◌, ◌==◌, ℕ, List, true, false, not, [], ◌∷◌, ◌++◌, length, codes, IfOk, IfErr, MatchResult};
 ghost use Rattle.std.specs.Iterator.{at_most};
-ghost use Rattle.std.specs.Char.{encode_utf8};
+ghost use Rattle.std.specs.Char.{encode_utf8, is_ascii_digit};
+ghost use Rattle.unicode_ident.specs.Ident.{is_xid_continue};
 ghost use Rattle.syn_tokens.specs.Spans.{at};
 ghost use Rattle.syn_tokens.specs.Idents.{may_start};
 ghost use Rattle.syn_tokens.specs.Punct.{is_joint, is_punct_character};
-ghost use Rattle.syn.specs.Spelling.{Stands, IsFaultWithin, begins_by, begins_comment};
+ghost use Rattle.syn.specs.Scanning.{first_passes, drop_while, literal_at, Absent, after_word, begins_comment, begins_raw_name};
+ghost use Rattle.syn.specs.Places.{left};
+ghost use Rattle.syn.specs.Lexemes.{IsSign};
+ghost use Rattle.syn.specs.Spelling.{Stands, IsFaultWithin};
 
 use crate::reader::cursor::Cursor;
 use syn_tokens::delimiter::Delimiter;
 use syn_tokens::error::{Error, Result};
+use syn_tokens::literal::LitKind;
 use syn_tokens::punct::{Punct, Spacing};
 use syn_tokens::span::Span;
 use unicode_ident::{is_xid_continue, is_xid_start};
 
-/// A piece of text that is a token, or one of the two signs of a group.
+mod comments;
+mod literals;
+mod numbers;
+
+use crate::reader::lexer::literals::{begins_byte, begins_raw_string};
+
+/// A piece of text that is a token, one of the two signs of a group, or a comment.
 pub(super) enum Lexeme<'a> {
     Open(Delimiter, Span),
     Close(Delimiter, Span),
     Ident(&'a str, Span),
+    Literal(LitKind, &'a str, Span),
     Punct(Punct),
+    Comment(&'a str, Span),
 }
 
 /// Cuts a text into lexemes, from left to right.
@@ -29,6 +42,7 @@ pub(super) struct Lexer<'a> {
 }
 
 impl<'a> Lexer<'a> {
+    ghost use Rattle.syn.specs.Places.{Onward, IsPast, BeginsName};
     ghost use Rattle.syn.specs.Lexemes.{IsLexemeFrom};
 
     /// What cuts that text.
@@ -42,40 +56,116 @@ impl<'a> Lexer<'a> {
     }
 
     /// The lexeme that begins at `start` with its first character, which was stepped over.
-    fn lexeme(&mut self, start: Cursor<'a>, first: char) -> Result<Lexeme<'a>>
-        requires text { self.old.cursor.text ≡ start.text }
-        requires earlier { start.offset < self.old.cursor.offset }
-        requires first { Stands start.text.now (encode_utf8 first) start.offset self.old.cursor.offset }
-        ensures text { self.new.cursor.text ≡ self.old.cursor.text }
-        ensures onward { self.old.cursor.offset ≤ self.new.cursor.offset }
-        ensures stands { MatchResult result (λ l. IsLexemeFrom start.entry.text.now start.entry.offset l self.new.cursor.offset) (IsFaultWithin (length start.entry.text.now)) }
+    fn lexeme(&mut self, start: &Cursor<'a>, first: char) -> Result<Lexeme<'a>>
+        requires past { IsPast first start.now self.old.cursor }
+        requires first { Stands start.now.text.now (encode_utf8 first) start.now.offset self.old.cursor.offset }
+        ensures onward { Onward self.old.cursor self.new.cursor }
+        ensures stands { MatchResult result (λ l. IsLexemeFrom start.now.text.now start.now.offset l self.new.cursor.offset) (IsFaultWithin (length start.now.text.now)) }
     {
-        if starts_identifier(first) {
-            return Ok(self.identifier(&start));
+        if first.is_ascii_digit() {
+            return Ok(self.number(start, first));
         }
-        let span = self.cursor.span_since(&start);
-        match first {
-            '(' => Ok(Lexeme::Open(Delimiter::Paren, span)),
-            '{' => Ok(Lexeme::Open(Delimiter::Brace, span)),
-            '[' => Ok(Lexeme::Open(Delimiter::Bracket, span)),
-            ')' => Ok(Lexeme::Close(Delimiter::Paren, span)),
-            '}' => Ok(Lexeme::Close(Delimiter::Brace, span)),
-            ']' => Ok(Lexeme::Close(Delimiter::Bracket, span)),
-            '\'' => Err(unexpected(span)),
-            _ if Punct::is_punct_character(first) && !begins_comment(start.rest()) => {
-                Ok(Lexeme::Punct(Punct::new(first, self.spacing(), span)))
-            }
-            _ => Err(unexpected(span)),
+        if starts_identifier(first) {
+            return self.word(start, first);
+        }
+        if begins_comment(*start) {
+            return self.comment(start);
+        }
+        if first == '"' {
+            return self.quoted(LitKind::Str, start);
+        }
+        if first == '\'' {
+            return self.apostrophe(start);
+        }
+        if Punct::is_punct_character(first) {
+            return Ok(self.mark(start, first));
+        }
+        sign(first, self.cursor.span_since(start))
+    }
+
+    /// The character of a mark that begins at `start` and was stepped over.
+    fn mark(&self, start: &Cursor<'a>, character: char) -> Lexeme<'a>
+        requires past { IsPast character start.now self.now.cursor }
+        requires first { Stands start.now.text.now (encode_utf8 character) start.now.offset self.now.cursor.offset }
+        requires mark { is_punct_character character ≡ true }
+        requires apart { (character == 39) ≡ false }
+        requires no_digit { is_ascii_digit character ≡ false }
+        requires no_comment { begins_comment (left start.now) ≡ false }
+        ensures stands { IsLexemeFrom start.now.text.now start.now.offset result self.now.cursor.offset }
+    {
+        let span = self.cursor.span_since(start);
+        Lexeme::Punct(Punct::new(character, self.spacing(), span))
+    }
+
+    /// What begins with that letter or `_`: a literal whose quote has letters before it, or an identifier.
+    fn word(&mut self, start: &Cursor<'a>, first: char) -> Result<Lexeme<'a>>
+        requires past { IsPast first start.now self.old.cursor }
+        requires may_start { may_start first ≡ true }
+        requires no_digit { is_ascii_digit first ≡ false }
+        ensures onward { Onward self.old.cursor self.new.cursor }
+        ensures stands { MatchResult result (λ l. IsLexemeFrom start.now.text.now start.now.offset l self.new.cursor.offset) (IsFaultWithin (length start.now.text.now)) }
+    {
+        if first == 'r' {
+            return self.behind_r(start);
+        }
+        if first == 'b' {
+            return self.behind_b(start);
+        }
+        if first == 'c' {
+            return self.prefixed(LitKind::CStr, start, first);
+        }
+        Ok(self.identifier(start))
+    }
+
+    /// What begins with `r`, which was stepped over: a raw string, a raw identifier, or another identifier.
+    fn behind_r(&mut self, start: &Cursor<'a>) -> Result<Lexeme<'a>>
+        requires past { IsPast 114 start.now self.old.cursor }
+        ensures onward { Onward self.old.cursor self.new.cursor }
+        ensures stands { MatchResult result (λ l. IsLexemeFrom start.now.text.now start.now.offset l self.new.cursor.offset) (IsFaultWithin (length start.now.text.now)) }
+    {
+        if begins_raw_string(self.cursor) {
+            self.raw_string(LitKind::Str, start)
+        } else if begins_raw_name(self.cursor) {
+            Ok(self.raw_identifier(start))
+        } else {
+            Ok(self.identifier(start))
         }
     }
 
-    /// The identifier that begins at `start` and whose first character was stepped over.
+    /// What begins with `b`, which was stepped over: a byte, a byte string, or an identifier.
+    fn behind_b(&mut self, start: &Cursor<'a>) -> Result<Lexeme<'a>>
+        requires past { IsPast 98 start.now self.old.cursor }
+        ensures onward { Onward self.old.cursor self.new.cursor }
+        ensures stands { MatchResult result (λ l. IsLexemeFrom start.now.text.now start.now.offset l self.new.cursor.offset) (IsFaultWithin (length start.now.text.now)) }
+    {
+        if begins_byte(self.cursor) {
+            self.byte(start)
+        } else {
+            self.prefixed(LitKind::ByteStr, start, 'b')
+        }
+    }
+
+    /// The identifier that begins at `start` with `r`, which was stepped over, and `#`.
+    fn raw_identifier(&mut self, start: &Cursor<'a>) -> Lexeme<'a>
+        requires past { IsPast 114 start.now self.old.cursor }
+        requires absent { literal_at (left start.now) ≡ Absent }
+        requires raw { begins_raw_name (left self.old.cursor) ≡ true }
+        ensures onward { Onward self.old.cursor self.new.cursor }
+        ensures stands { IsLexemeFrom start.now.text.now start.now.offset result self.new.cursor.offset }
+    {
+        self.cursor.bump();
+        self.cursor.bump();
+        self.identifier(start)
+    }
+
+    /// The identifier that begins at `start` and whose beginning was stepped over.
     fn identifier(&mut self, start: &Cursor<'a>) -> Lexeme<'a>
         requires text { self.old.cursor.text ≡ start.now.text }
         requires earlier { start.now.offset < self.old.cursor.offset }
-        requires first { (c : ℕ) × (may_start c ≡ true) × Stands start.now.text.now (encode_utf8 c) start.now.offset self.old.cursor.offset }
-        ensures text { self.new.cursor.text ≡ self.old.cursor.text }
-        ensures onward { self.old.cursor.offset ≤ self.new.cursor.offset }
+        requires front { (front : List ℕ) × BeginsName front × (left start.now ≡ front ++ left self.old.cursor) }
+        requires absent { literal_at (left start.now) ≡ Absent }
+        requires word { (c : ℕ) × (rest : List ℕ) × (left start.now ≡ c ∷ rest) × (drop_while is_xid_continue (left self.old.cursor) ≡ after_word c rest) }
+        ensures onward { Onward self.old.cursor self.new.cursor }
         ensures stands { IsLexemeFrom start.now.text.now start.now.offset result self.new.cursor.offset }
     {
         self.cursor.skip_while(is_xid_continue);
@@ -84,11 +174,10 @@ impl<'a> Lexer<'a> {
 
     /// Whether the character of a mark that was stepped over belongs to one mark with the next character.
     fn spacing(&self) -> Spacing
-        ensures { let rest = drop self.now.cursor.offset self.now.cursor.text.now in is_joint result ≡ (begins_by is_punct_character rest && not (begins_comment rest)) }
+        ensures { is_joint result ≡ (first_passes is_punct_character (left self.now.cursor) && not (begins_comment (left self.now.cursor))) }
     {
-        let rest = self.cursor.rest();
-        match rest.chars().next() {
-            Some(next) if Punct::is_punct_character(next) && !begins_comment(rest) => {
+        match self.cursor.peek() {
+            Some(next) if Punct::is_punct_character(next) && !begins_comment(self.cursor) => {
                 Spacing::Joint
             }
             _ => Spacing::Alone,
@@ -109,7 +198,7 @@ impl<'a> Iterator for Lexer<'a> {
         self.cursor.skip_white_space();
         let start = self.cursor;
         let first = self.cursor.bump()?;
-        Some(self.lexeme(start, first))
+        Some(self.lexeme(&start, first))
     }
 }
 
@@ -119,14 +208,64 @@ fn starts_identifier(character: char) -> bool
     character == '_' || is_xid_start(character)
 }
 
-fn begins_comment(text: &str) -> bool
-    ensures { result ≡ begins_comment text.now }
+/// Whether an identifier's first character stands next.
+fn is_at_name(cursor: Cursor<'_>) -> bool
+    ensures { result ≡ first_passes may_start (left cursor.entry) }
 {
-    text.starts_with("//") || text.starts_with("/*")
+    match cursor.peek() {
+        Some(next) => starts_identifier(next),
+        None => false,
+    }
+}
+
+/// Whether the text goes on as a raw identifier does behind its `r`.
+#[tactic(auto, unfolding(crate::specs::Scanning::begins_raw_name))]
+fn begins_raw_name(cursor: Cursor<'_>) -> bool
+    ensures { result ≡ begins_raw_name (left cursor.entry) }
+{
+    let mut ahead = cursor;
+    match ahead.bump() {
+        Some('#') => is_at_name(ahead),
+        _ => false,
+    }
+}
+
+/// Whether a comment stands next.
+#[tactic(auto, unfolding(crate::specs::Scanning::begins_comment))]
+fn begins_comment(cursor: Cursor<'_>) -> bool
+    ensures { result ≡ begins_comment (left cursor.entry) }
+{
+    let mut ahead = cursor;
+    match ahead.bump() {
+        Some('/') => ahead.is_at('/') || ahead.is_at('*'),
+        _ => false,
+    }
+}
+
+/// The sign of a group that this character is, if it is one.
+fn sign<'a>(character: char, span: Span) -> Result<Lexeme<'a>>
+    ensures ok { IfOk result (IsSign character span) }
+    ensures err { IfErr result (λ e. e ≡ (span, codes "unexpected character") ∷ []) }
+{
+    match character {
+        '(' => Ok(Lexeme::Open(Delimiter::Paren, span)),
+        '{' => Ok(Lexeme::Open(Delimiter::Brace, span)),
+        '[' => Ok(Lexeme::Open(Delimiter::Bracket, span)),
+        ')' => Ok(Lexeme::Close(Delimiter::Paren, span)),
+        '}' => Ok(Lexeme::Close(Delimiter::Brace, span)),
+        ']' => Ok(Lexeme::Close(Delimiter::Bracket, span)),
+        _ => Err(unexpected(span)),
+    }
 }
 
 fn unexpected(span: Span) -> Error
     ensures { result ≡ (span, codes "unexpected character") ∷ [] }
 {
     Error::new(span, "unexpected character")
+}
+
+fn unterminated_literal(span: Span) -> Error
+    ensures { result ≡ (span, codes "unterminated literal") ∷ [] }
+{
+    Error::new(span, "unterminated literal")
 }

@@ -1,15 +1,21 @@
 //! Token trees from lexemes.
-ghost use Rattle.std.specs.Prelude.{◌≡◌, ◌<◌, ℕ, List, true, [], ◌∷◌, length, codes, IfOk, MatchResult};
-ghost use Rattle.syn_grammar.specs.Tokens.{end, is_visible};
+ghost use Rattle.std.specs.Prelude.{◌≡◌, ◌++◌, ◌∷◌, ◌<◌, ◌≤◌, ℕ, List, [], IsTrue, false, length, codes, if◌then◌else◌, IfOk, MatchResult};
+ghost use Rattle.syn_grammar.specs.Tokens.{end};
+ghost use Rattle.syn_tokens.specs.Spans.{at};
+ghost use Rattle.syn_tokens.specs.Punct.{is_punct_character};
 ghost use Rattle.syn_tokens.specs.Trees.{before};
 ghost use Rattle.syn_tokens.specs.Delimiters.{delimiter_of};
-ghost use Rattle.syn.specs.Spelling.{Stands, IsBlank, Follows, Spells, IsFaultWithin, opening_sign, closing_sign};
+ghost use Rattle.syn.specs.Flat.{opened, closed, sign, flat};
+ghost use Rattle.syn.specs.Spelling.{IsFaultWithin, doc_tokens};
 
+use crate::reader::docs::{Doc, doc_of, quoted};
 use crate::reader::lexer::Lexeme;
 use std::alloc::{AllocError, Global};
 use syn_tokens::delimiter::Delimiter;
 use syn_tokens::error::{Error, Result};
 use syn_tokens::ident::Ident;
+use syn_tokens::literal::{LitKind, Literal};
+use syn_tokens::punct::{Punct, Spacing};
 use syn_tokens::span::Span;
 use syn_tokens::stream::TokenStream;
 use syn_tokens::tree::{Group, TokenTree};
@@ -28,14 +34,14 @@ struct OpenGroup {
 pub(super) struct TreeBuilder {
     alloc: Global,
     /// From the outermost to the innermost.
-    open: Vec<OpenGroup>,
+    groups: Vec<OpenGroup>,
     /// What stands so far in the innermost open group, or in the whole text.
     stream: TokenStream,
 }
 
 impl TreeBuilder {
     ghost use Rattle.syn.specs.Lexemes.{FollowsAsLexeme, IsNamed};
-    ghost use Rattle.syn.specs.Building.{Builds};
+    ghost use Rattle.syn.specs.Building.{Builds, AllWithin, tokens_so_far};
 
     /// Begins with no tree and no open group. What grows takes its memory from `alloc`.
     pub(super) fn new(alloc: Global) -> TreeBuilder
@@ -43,7 +49,7 @@ impl TreeBuilder {
     {
         TreeBuilder {
             alloc,
-            open: Vec::new(alloc),
+            groups: Vec::new(alloc),
             stream: TokenStream::new(alloc),
         }
     }
@@ -60,27 +66,36 @@ impl TreeBuilder {
                 let ident = Ident::of_identifier(self.alloc, text, span)?;
                 Ok(self.push(TokenTree::Ident(ident))?)
             }
+            Lexeme::Literal(kind, text, span) => {
+                let literal = Literal::new(self.alloc, kind, text, span)?;
+                Ok(self.push(TokenTree::Literal(literal))?)
+            }
             Lexeme::Punct(punct) => Ok(self.push(TokenTree::Punct(punct))?),
+            Lexeme::Comment(text, span) => match doc_of(text) {
+                Some(doc) => self.doc(&doc, span),
+                None => Ok(()),
+            },
         }
     }
 
     /// The trees, where no group is open any more. Else refused at the outermost open sign.
     pub(super) fn finish(self) -> Result<TokenStream>
-        ensures { (text : List ℕ) (j : ℕ) → Builds text self j → MatchResult result (λ stream. Spells text 0 stream j) (IsFaultWithin (length text)) }
+        ensures { (n : ℕ) → AllWithin n self.groups.items → MatchResult result (λ stream. flat stream ≡ tokens_so_far self) (IsFaultWithin n) }
     {
-        match self.open.first() {
+        match self.groups.first() {
             Some(outermost) => Err(unbalanced(outermost.opening)),
             None => Ok(self.stream),
         }
     }
 
     /// Goes into a group.
+    #[tactic(auto, using(crate::proofs::Groups::opened_more, crate::proofs::Groups::within_more))]
     fn open(&mut self, delimiter: Delimiter, opening: Span) -> std::result::Result<(), AllocError>
-        ensures { (text : List ℕ) (i : ℕ) → Builds text self.old i → is_visible (delimiter_of delimiter) ≡ true → IsBlank text i opening.start → opening.start < opening.end
-            → Stands text (opening_sign (delimiter_of delimiter)) opening.start opening.end → IfOk result (λ _. Builds text self.new opening.end) }
+        ensures tokens { IfOk result (λ _. tokens_so_far self.new ≡ tokens_so_far self.old ++ (opened (delimiter_of delimiter) (at opening) ∷ [])) }
+        ensures within { (n : ℕ) → AllWithin n self.old.groups.items → opening.start < opening.end → opening.end ≤ n → IfOk result (λ _. AllWithin n self.new.groups.items) }
     {
         let outer = std::mem::replace(&mut self.stream, TokenStream::new(self.alloc));
-        self.open.push(OpenGroup {
+        self.groups.push(OpenGroup {
             delimiter,
             opening,
             outer,
@@ -90,10 +105,10 @@ impl TreeBuilder {
 
     /// Goes out of the innermost open group, which becomes a tree of the group around it.
     fn close(&mut self, delimiter: Delimiter, closing: Span) -> Result<()>
-        ensures { (text : List ℕ) (i : ℕ) → Builds text self.old i → IsBlank text i closing.start → closing.start < closing.end
-            → Stands text (closing_sign (delimiter_of delimiter)) closing.start closing.end → MatchResult result (λ _. Builds text self.new closing.end) (IsFaultWithin (length text)) }
+        ensures tokens { IfOk result (λ _. tokens_so_far self.new ≡ tokens_so_far self.old ++ (closed (delimiter_of delimiter) (at closing) ∷ [])) }
+        ensures within { (n : ℕ) → AllWithin n self.old.groups.items → closing.start < closing.end → closing.end ≤ n → MatchResult result (λ _. AllWithin n self.new.groups.items) (IsFaultWithin n) }
     {
-        match self.open.pop() {
+        match self.groups.pop() {
             Some(innermost) if innermost.delimiter == delimiter => {
                 let stream = std::mem::replace(&mut self.stream, innermost.outer);
                 Ok(self.push(TokenTree::Group(Group {
@@ -107,10 +122,48 @@ impl TreeBuilder {
         }
     }
 
+    /// Adds the tokens of the attribute that a doc comment is; they all stand where the comment does.
+    #[tactic(auto, unfolding(syn_tokens::specs::Punct::is_punct_character))]
+    fn doc(&mut self, doc: &Doc<'_>, span: Span) -> Result<()>
+        ensures tokens { IfOk result (λ _. tokens_so_far self.new ≡ tokens_so_far self.old ++ doc_tokens doc.now.inner doc.now.text.now (at span)) }
+        ensures within { (n : ℕ) → AllWithin n self.old.groups.items → span.start < span.end → span.end ≤ n → MatchResult result (λ _. AllWithin n self.new.groups.items) (IsFaultWithin n) }
+    {
+        self.attribute_sign(doc.inner, span)?;
+        self.open(Delimiter::Bracket, span)?;
+        let name = Ident::new(self.alloc, "doc", span)?;
+        self.push(TokenTree::Ident(name))?;
+        self.mark('=', span)?;
+        let text = quoted(self.alloc, doc.text)?;
+        let literal = Literal::new(self.alloc, LitKind::Str, text.as_str(), span)?;
+        self.push(TokenTree::Literal(literal))?;
+        self.close(Delimiter::Bracket, span)
+    }
+
+    /// Adds `#` before an attribute, or `#!` where it stands in what it speaks of.
+    #[tactic(auto, using(crate::proofs::Groups::joined), unfolding(syn_tokens::specs::Punct::is_punct_character))]
+    fn attribute_sign(&mut self, inner: bool, span: Span) -> std::result::Result<(), AllocError>
+        ensures tokens { IfOk result (λ _. tokens_so_far self.new ≡ tokens_so_far self.old ++ (sign 35 false (at span) ∷ (if inner then sign 33 false (at span) ∷ [] else []))) }
+        ensures groups { self.new.groups ≡ self.old.groups }
+    {
+        self.mark('#', span)?;
+        if inner { self.mark('!', span) } else { Ok(()) }
+    }
+
+    /// Adds a mark's character that stands alone.
+    fn mark(&mut self, character: char, span: Span) -> std::result::Result<(), AllocError>
+        requires { IsTrue (is_punct_character character) }
+        ensures tokens { IfOk result (λ _. tokens_so_far self.new ≡ tokens_so_far self.old ++ (sign character false (at span) ∷ [])) }
+        ensures groups { self.new.groups ≡ self.old.groups }
+    {
+        let punct = Punct::new(character, Spacing::Alone, span);
+        self.push(TokenTree::Punct(punct))
+    }
+
     /// Adds a tree.
-    #[tactic(auto, using(crate::proofs::Spelling::spells_append))]
+    #[tactic(auto, using(crate::proofs::Flattened::flat_more))]
     fn push(&mut self, tree: TokenTree) -> std::result::Result<(), AllocError>
-        ensures { (text : List ℕ) (i j : ℕ) → Builds text self.old i → Spells text i (before tree end) j → IfOk result (λ _. Builds text self.new j) }
+        ensures tokens { IfOk result (λ _. tokens_so_far self.new ≡ tokens_so_far self.old ++ flat (before tree end)) }
+        ensures groups { self.new.groups ≡ self.old.groups }
     {
         self.stream.add(tree)?;
         Ok(())

@@ -21,6 +21,11 @@ const STRUCT: &str = "pub struct S(pub(in a::b) c, ::d::e,);";
 
 const PRINTED: &str = "pub struct S ( pub ( in a :: b ) c , :: d :: e , ) ;";
 
+const SOURCE: &str = "/// a \"b\"\n#[c] r#d 'e b\"f\" 1.5e-3 { [ ( ) ] } /* g */ //! h";
+
+const TEXT: &str =
+    "# [ doc = \" a \\\"b\\\"\" ] # [ c ] r#d 'e b\"f\" 1.5e-3 { [ ( ) ] } # ! [ doc = \" h\" ]";
+
 /// Whether one answer is right, and the other one is right too or a want of memory.
 fn are_right(first: Result<bool>, second: Result<bool>) -> bool {
     match (first, second) {
@@ -36,6 +41,10 @@ fn is_read(alloc: Global) -> Result<bool> {
     Ok(tokens.len() == 5 && token_text(&tokens)?.as_str() == PRINTED)
 }
 
+fn is_source_read(alloc: Global) -> Result<bool> {
+    Ok(token_text(&read_tokens(alloc, SOURCE)?)?.as_str() == TEXT)
+}
+
 fn is_refused_by_reader(alloc: Global) -> Result<bool> {
     let fault = fault(read_tokens(alloc, "pub struct S(a::b, (c {"))?;
     Ok(fault.span.start == 12 && fault.text == "unbalanced group")
@@ -44,6 +53,7 @@ fn is_refused_by_reader(alloc: Global) -> Result<bool> {
 #[test]
 fn reader(rt: HostRuntime) {
     assert!(rt; are_right(is_read(rt.alloc()), is_read(rt.alloc())));
+    assert!(rt; are_right(is_source_read(rt.alloc()), is_source_read(rt.alloc())));
     assert!(rt;
         are_right(
             is_refused_by_reader(rt.alloc()),

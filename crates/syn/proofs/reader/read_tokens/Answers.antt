@@ -1,10 +1,10 @@
 use Rattle.std.proofs.Common.{ℕ, List, ap, ◌∙◌}
 use Rattle.std.proofs.lemmas.Result.{err_from_is_err_and, MatchResult-weaker}
 use Rattle.syn.specs.declared.reader.lexer.Lexeme.{Lexeme}
-use Rattle.syn.specs.declared.reader.lexer.Lexeme.TheVariants.{Open, Close, Ident, Punct}
-use Rattle.syn.specs.Lexemes.{IsWhole, IsNamed}
-use Rattle.syn.proofs.Identifiers.{name_is_identifier}
-use Rattle.syn.proofs.Spelling.{spells_more, spells_visible}
+use Rattle.syn.specs.declared.reader.lexer.Lexeme.TheVariants.{Open, Close, Ident, Literal, Punct, Comment}
+use Rattle.syn.specs.Lexemes.{IsCutOut, IsNamed}
+use Rattle.syn.proofs.Flattened.{spells_visible}
+use Rattle.syn.proofs.Groups.{builds_spelled}
 use Rattle.syn.proofs.reader.read_tokens.Goals as goal
 
 pub loop-lexeme-init : goal.loop-lexeme-init
@@ -19,16 +19,18 @@ loop-lexeme-preserved c =
     let follows = rw c.in_ok-lexeme.was at found in
     (tt, tt, ap (λ t. t.now) c.in-Some.ensures.steps.0 ∙ same, c.in_ok-add.ensures _ _ _ c.loop-lexeme.invariant.3 follows)
 
-named : (text : List ℕ) (l : Lexeme) → IsWhole text l → IsNamed l
-named text (Open d s) h = tt
-named text (Close d s) h = tt
-named text (Ident x s) h = name_is_identifier x.now h.0
-named text (Punct p) h = tt
+named : (text : List ℕ) (l : Lexeme) (i j : ℕ) → IsCutOut text l i j → IsNamed l
+named text (Open d s) i j h = tt
+named text (Close d s) i j h = tt
+named text (Ident x s) i j h = h.2.0
+named text (Literal k x s) i j h = tt
+named text (Punct p) i j h = tt
+named text (Comment x s) i j h = tt
 
 pub add-requires : goal.add-requires
 add-requires c =
     let follows = rw c.in_ok-lexeme.was at c.in-Some.ensures.steps.1 in
-    named _ _ follows.1.1
+    named _ _ _ _ follows.1.0
 
 pub returns-in_err-add-clause-spelled : goal.returns-in_err-add-clause-spelled
 returns-in_err-add-clause-spelled c =
@@ -40,10 +42,11 @@ returns-in_err-add-clause-spelled c =
 pub returns-clause-spelled : goal.returns-clause-spelled
 returns-clause-spelled c =
     let left = rw c.loop-lexeme.invariant.2 at c.in-None.ensures.steps.1 in
-    MatchResult-weaker c.finish.result (c.finish.ensures _ _ c.loop-lexeme.invariant.3)
-    (λ stream spells. spells_more _ 0 stream _ _ spells left) (λ error within. within)
+    MatchResult-weaker c.finish.result (c.finish.ensures _ c.loop-lexeme.invariant.3.3)
+    (λ stream same. builds_spelled _ c.loop-lexeme.trees _ c.loop-lexeme.invariant.3 left stream same) (λ error within. within)
 
 pub returns-clause-visible : goal.returns-clause-visible
 returns-clause-visible c =
-    MatchResult-weaker c.finish.result (c.finish.ensures _ _ c.loop-lexeme.invariant.3)
-    (λ stream spells. spells_visible _ 0 stream _ spells) (λ error within. tt)
+    let left = rw c.loop-lexeme.invariant.2 at c.in-None.ensures.steps.1 in
+    MatchResult-weaker c.finish.result (c.finish.ensures _ c.loop-lexeme.invariant.3.3)
+    (λ stream same. spells_visible _ _ (builds_spelled _ c.loop-lexeme.trees _ c.loop-lexeme.invariant.3 left stream same)) (λ error within. tt)

@@ -1,0 +1,90 @@
+//! Raw strings.
+use crate::reader::read_tokens;
+use crate::reader::tests::support::{Read, Refused, are_read, are_refused, described};
+use std::alloc::Global;
+use std::test::Fail;
+
+const READ: &[Read] = &[
+    ("r\"\"", "Strr\"\"@0..3"),
+    ("r\"a\"", "Strr\"a\"@0..4"),
+    ("r\"\u{e9}\n\"", "Strr\"\u{e9}\n\"@0..6"),
+    // a backslash is a character like others
+    ("r\"\\\"", "Strr\"\\\"@0..4"),
+    ("r#\"\\\"#", "Strr#\"\\\"#@0..6"),
+    // a quote with fewer `#` behind it is one, too
+    ("r#\"\"#", "Strr#\"\"#@0..5"),
+    ("r#\"a\"#", "Strr#\"a\"#@0..6"),
+    ("r#\"\"\"#", "Strr#\"\"\"#@0..6"),
+    ("r##\"a\"#b\"##", "Strr##\"a\"#b\"##@0..11"),
+    ("r##\"\"#\"##", "Strr##\"\"#\"##@0..9"),
+    ("r####\"a\"###\"####", "Strr####\"a\"###\"####@0..16"),
+    ("r\"a\"#", "Strr\"a\"@0..4 #@4..5"),
+    ("r#\"a\"##", "Strr#\"a\"#@0..6 #@6..7"),
+    ("r#\"a\"#\"#\"", "Strr#\"a\"#@0..6 Str\"#\"@6..9"),
+    // nothing else begins within
+    ("r\"//\"", "Strr\"//\"@0..5"),
+    ("r\"'(/*\"", "Strr\"'(/*\"@0..7"),
+    // suffixes
+    ("r\"a\"b", "Strr\"a\"b@0..5"),
+    ("r#\"a\"#b1", "Strr#\"a\"#b1@0..8"),
+    ("r\"a\"r\"b\"", "Strr\"a\"r@0..5 Str\"b\"@5..8"),
+    ("r#\"a\"#r#b", "Strr#\"a\"#r@0..7 #@7..8 b@8..9"),
+    ("r\"a\" b", "Strr\"a\"@0..4 b@5..6"),
+    // none of them
+    ("R\"a\"", "R@0..1 Str\"a\"@1..4"),
+    ("ar\"a\"", "ar@0..2 Str\"a\"@2..5"),
+    ("rr\"a\"", "rr@0..2 Str\"a\"@2..5"),
+    ("r # \"a\"", "r@0..1 #@2..3 Str\"a\"@4..7"),
+    ("r# \"a\"", "r@0..1 #@1..2 Str\"a\"@3..6"),
+    ("r#a\"b\"", "r#a@0..3 Str\"b\"@3..6"),
+    ("r##a\"b\"", "r@0..1 #+@1..2 #@2..3 a@3..4 Str\"b\"@4..7"),
+];
+
+const REFUSED: &[Refused] = &[
+    ("r\"", 0, "unterminated literal"),
+    ("r\"a", 0, "unterminated literal"),
+    ("a r\"", 2, "unterminated literal"),
+    ("r#\"", 0, "unterminated literal"),
+    ("r#\"a\"", 0, "unterminated literal"),
+    ("r##\"a\"#", 0, "unterminated literal"),
+    ("r##\"a\" ##", 0, "unterminated literal"),
+    ("\u{e9}(r#\"\\\"", 3, "unterminated literal"),
+    ("r\"\\\"\"", 4, "unterminated literal"),
+    ("r#\"a\"#\"", 6, "unterminated literal"),
+];
+
+/// A raw string with this many `#` on both sides.
+fn raw_string(alloc: Global, count: usize) -> Result<String, Fail> {
+    let mut text = String::from_str(alloc, "r")?;
+    for _ in 0..count {
+        text.push('#')?;
+    }
+    text.push_str("\"a\"")?;
+    for _ in 0..count {
+        text.push('#')?;
+    }
+    Ok(text)
+}
+
+#[test]
+fn any_number_of_hashes(rt: HostRuntime) -> Result<(), Fail> {
+    let alloc = rt.alloc();
+    for count in [0, 1, 255, 256, 1000] {
+        let text = raw_string(alloc, count)?;
+        let (text, end) = (text.as_str(), text.len());
+        let found = described(alloc, read_tokens(alloc, text)?)?;
+        let expected = format!(in alloc; "Str{text}@0..{end}")?;
+        assert_eq!(rt; found.as_str(), expected.as_str(), "{count}");
+    }
+    Ok(())
+}
+
+#[test]
+fn reads(rt: HostRuntime) -> Result<(), Fail> {
+    are_read(&rt, rt.alloc(), READ)
+}
+
+#[test]
+fn refuses(rt: HostRuntime) -> Result<(), Fail> {
+    are_refused(&rt, rt.alloc(), REFUSED)
+}
