@@ -1,5 +1,7 @@
 -- HOW THE PROGRAM ENDS WITHOUT AN ANSWER.
-use Rattle.std.specs.Prelude.{◌≡◌, ℕ}
+use Rattle.std.specs.Prelude.{ℕ, List, [], ◌∷◌, ◌++◌, codes}
+use Rattle.std.specs.Fmt.{decimal}
+use Rattle.syn_tokens.specs.Faults.{FaultValue, first_span, first_text}
 use Rattle.syn_canon.specs.declared.failure.Failure.{Failure}
 use Rattle.syn_canon.specs.declared.failure.Failure.TheVariants.{Usage, ReadFailed, NotUtf8, Refused, WriteFailed, OutOfMemory}
 
@@ -12,6 +14,16 @@ status_of (Refused e) = 1
 status_of WriteFailed = 1
 status_of OutOfMemory = 3
 
--- it is not for the words
-abbrev pub IsOfText : Failure → Type 0
-IsOfText failure = failure ≡ Usage → ⊥
+-- the line that is written, without its newline
+abbrev pub line_of : Failure → List ℕ
+line_of Usage = codes "usage: syn_canon print|check KIND, or syn_canon list"
+line_of ReadFailed = codes "read failed"
+line_of NotUtf8 = codes "refused at 0: input is not UTF-8"
+line_of (Refused faults) = codes "refused at " ++ (decimal (first_span faults).start ++ (codes ": " ++ first_text faults))
+line_of WriteFailed = codes "write failed"
+line_of OutOfMemory = codes "out of memory"
+
+-- what an error of the library means: without a fault memory was refused
+abbrev pub failure_of : List FaultValue → Failure
+failure_of [] = OutOfMemory
+failure_of (fault ∷ faults) = Refused (fault ∷ faults)

@@ -1,7 +1,10 @@
 //! What the program answers.
-ghost use Rattle.std.specs.Prelude.{◌≡◌, ◌↔◌, Err, IfErr};
-ghost use Rattle.syn_canon.specs.Words.{NoCommand};
-ghost use Rattle.syn_canon.specs.Statuses.{IsOfText};
+ghost use Rattle.std.specs.Prelude.{◌≡◌, ◌↔◌, true, Err, IfOk, IfErr, OnOk, MatchResult, string_bytes};
+ghost use Rattle.std.specs.Str.{IsUtf8};
+ghost use Rattle.std.specs.Io.KnownBytes.{IsAtEnd};
+ghost use Rattle.syn_grammar.specs.Tokens.{visible};
+ghost use Rattle.syn_canon.specs.Words.{IsCommand, NoCommand};
+ghost use Rattle.syn_canon.specs.Answers.{rule_of, IsRead, IsPrinted, IsDerived, IsAnswer, IsUnderived, IsUnread, IsNoAnswer};
 ghost use Rattle.syn_canon.specs.declared.failure.Failure.TheVariants.{Usage};
 
 use crate::command::{Command, Kind};
@@ -18,12 +21,16 @@ use syn::token::TokenStream;
 
 /// What the words ask of the text in `input`: the whole text that is to be written. The words are looked at before
 /// anything is read.
-pub(crate) fn answer<R: Read + Drop>(
+pub(crate) fn answer<R: Read>(
     alloc: Global,
     words: &[String],
-    input: R,
+    input: &mut R,
 ) -> Result<String, Failure>
     ensures usage { (result ≡ Err Usage) ↔ NoCommand words.now }
+    ensures unread { NoCommand words.now → input.new ≡ input.old }
+    ensures answer { IfOk result (λ text. IsAnswer words.now (R.remaining input.old) (string_bytes text)) }
+    ensures end { OnOk result (IsAtEnd (R.remaining input.new)) }
+    ensures failure { IfErr result (IsNoAnswer words.now (R.remaining input.old)) }
 {
     let command = Command::from_words(words).ok_or(Failure::Usage)?;
     let text = read_text(alloc, input)?;
@@ -37,9 +44,11 @@ pub(crate) fn answer<R: Read + Drop>(
     }
 }
 
-/// All that is to be read.
-fn read_text<R: Read + Drop>(alloc: Global, mut input: R) -> Result<String, Failure>
-    ensures { IfErr result IsOfText }
+/// All that is to be read, as text.
+fn read_text<R: Read>(alloc: Global, input: &mut R) -> Result<String, Failure>
+    ensures read { IfOk result (λ text. IsRead (R.remaining input.old) (string_bytes text)) }
+    ensures end { OnOk result (IsAtEnd (R.remaining input.new)) }
+    ensures failure { IfErr result (IsUnread (R.remaining input.old)) }
 {
     let mut bytes = Vec::new(alloc);
     if let Err(e) = input.read_to_end(&mut bytes) {
@@ -48,8 +57,11 @@ fn read_text<R: Read + Drop>(alloc: Global, mut input: R) -> Result<String, Fail
     String::from_utf8(bytes).map_err(|_| Failure::NotUtf8)
 }
 
+/// What `print` writes of the tokens.
 fn print_as(kind: Kind, tokens: TokenStream) -> Result<String, Failure>
-    ensures { IfErr result IsOfText }
+    requires { visible tokens ≡ true }
+    ensures ok { IfOk result (λ text. IsPrinted (rule_of kind) tokens (string_bytes text)) }
+    ensures err { IfErr result (IsUnderived (rule_of kind) tokens) }
 {
     match kind {
         Kind::Derive => print::<DeriveInput>(tokens),
@@ -60,15 +72,20 @@ fn print_as(kind: Kind, tokens: TokenStream) -> Result<String, Failure>
 
 /// The canonical text, and a newline.
 fn print<T: Canonical + Drop>(tokens: TokenStream) -> Result<String, Failure>
-    ensures { IfErr result IsOfText }
+    requires { visible tokens ≡ true }
+    ensures ok { IfOk result (λ text. IsPrinted T.rule tokens (string_bytes text)) }
+    ensures err { IfErr result (IsUnderived T.rule tokens) }
 {
     let mut text = token_text(&canonical::<T>(tokens)?)?;
     text.push('\n')?;
     Ok(text)
 }
 
+/// Whether the tokens are of the kind; no more is kept of them.
 fn check_as(kind: Kind, tokens: TokenStream) -> Result<(), Failure>
-    ensures { IfErr result IsOfText }
+    requires { visible tokens ≡ true }
+    ensures ok { OnOk result (IsDerived (rule_of kind) tokens) }
+    ensures err { IfErr result (IsUnderived (rule_of kind) tokens) }
 {
     match kind {
         Kind::Derive => check::<DeriveInput>(tokens),
@@ -78,7 +95,9 @@ fn check_as(kind: Kind, tokens: TokenStream) -> Result<(), Failure>
 }
 
 fn check<T: Canonical + Drop>(tokens: TokenStream) -> Result<(), Failure>
-    ensures { IfErr result IsOfText }
+    requires { visible tokens ≡ true }
+    ensures ok { OnOk result (IsDerived T.rule tokens) }
+    ensures err { IfErr result (IsUnderived T.rule tokens) }
 {
     let _value = parse2::<T>(tokens)?;
     Ok(())

@@ -1,9 +1,11 @@
 //! Why the program ends without an answer.
-ghost use Rattle.std.specs.Prelude.{◌≡◌, ◌⊎◌};
-ghost use Rattle.syn_canon.specs.Statuses.{status_of, IsOfText};
+ghost use Rattle.std.specs.Prelude.{◌≡◌, ◌≢◌};
+ghost use Rattle.std.specs.IoError.{error_kind};
+ghost use Rattle.syn_canon.specs.Statuses.{status_of, failure_of};
 ghost use Rattle.syn_canon.specs.declared.failure.Failure.TheVariants.{OutOfMemory};
 
 use std::alloc::{AllocError, AllocFailed};
+use std::io::ErrorKind;
 use std::{fmt, io};
 use syn::error::Error;
 
@@ -23,10 +25,11 @@ pub(crate) enum Failure {
 impl Failure {
     /// What the system's error means: that memory was refused, or else this.
     pub(crate) fn from_io(error: &io::Error, otherwise: Failure) -> Failure
-        ensures { (result ≡ OutOfMemory) ⊎ (result ≡ otherwise) }
+        ensures memory { error_kind error.now ≡ ErrorKind.OutOfMemory → result ≡ Failure.OutOfMemory }
+        ensures other { error_kind error.now ≢ ErrorKind.OutOfMemory → result ≡ otherwise }
     {
         match error.kind() {
-            io::ErrorKind::OutOfMemory => Failure::OutOfMemory,
+            ErrorKind::OutOfMemory => Failure::OutOfMemory,
             _ => otherwise,
         }
     }
@@ -45,6 +48,11 @@ impl Failure {
 }
 
 impl fmt::Display for Failure {
+    ghost use Rattle.std.specs.Prelude.{Some};
+    ghost use Rattle.syn_canon.specs.Statuses.{line_of};
+
+    ghost output = { λ failure. Some (line_of failure) };
+
     fn fmt<W: fmt::Write>(&self, f: &mut fmt::Formatter<W>) -> fmt::Result {
         match self {
             Failure::Usage => {
@@ -63,7 +71,7 @@ impl fmt::Display for Failure {
 }
 
 impl From<Error> for Failure {
-    ghost from_gives = { λ _ f. IsOfText f };
+    ghost from_gives = { λ error f. f ≡ failure_of error };
 
     fn from(error: Error) -> Failure {
         if error.is_memory() {

@@ -2,9 +2,12 @@
 //! input.
 #![tactic(auto)]
 
-ghost use Rattle.std.specs.Prelude.{◌≡◌, ◌≤◌, ◌↔◌, IfErr};
+ghost use Rattle.std.specs.Prelude.{◌≡◌, ◌≢◌, ◌≤◌, ◌↔◌, ◌⊎◌, ◌++◌, codes, Err, OnOk, IfErr};
+ghost use Rattle.std.specs.Io.KnownBytes.{Appends};
 ghost use Rattle.syn_canon.specs.Words.{NoCommand};
-ghost use Rattle.syn_canon.specs.Statuses.{status_of, IsOfText};
+ghost use Rattle.syn_canon.specs.Answers.{IsDone, IsUndone};
+ghost use Rattle.syn_canon.specs.Statuses.{status_of, line_of};
+ghost use Rattle.syn_canon.specs.declared.failure.Failure.TheVariants.{Usage, WriteFailed, OutOfMemory};
 
 mod answer;
 mod command;
@@ -15,52 +18,82 @@ mod tests;
 use crate::answer::answer;
 use crate::failure::Failure;
 use std::alloc::Global;
-use std::env;
 use std::io::{Read, Write};
 use std::process::ExitCode;
+use std::{env, io};
 
-/// Does what the words after the program's name say with the text in `input`, and answers the exit status. What it has
-/// to say goes to `output` only once all is done; where it fails, one line goes to `faults`.
-pub fn run<R: Read + Drop, W: Write + Drop, V: Write + Drop>(
+/// Does what the words after the program's name say with the text in `input`, and answers the exit status: 0 where the
+/// whole answer was written, 1 where the input was refused, or a read or a write failed, 2 where the words are no command,
+/// and 3 where memory was refused. The answer goes to `output` only once all of it is found; where there is none, one line
+/// goes to `faults`, if that can be written.
+pub fn run<R: Read, W: Write, V: Write>(
     alloc: Global,
     words: &[String],
-    input: R,
-    output: W,
-    faults: V,
+    input: &mut R,
+    output: &mut W,
+    faults: &mut V,
 ) -> u8
     ensures known { result ≤ 3 }
     ensures usage { (result ≡ 2) ↔ NoCommand words.now }
+    ensures done { result ≡ 0 → IsDone words.now (R.remaining input.old) (W.contents output.old) (W.contents output.new) }
+    ensures quiet { result ≡ 0 → faults.new ≡ faults.old }
+    ensures unread { result ≡ 2 → input.new ≡ input.old }
+    ensures unwritten { 2 ≤ result → output.new ≡ output.old }
 {
-    let done = match answer(alloc, words, input) {
-        Ok(text) => write_answer(output, text.as_str()),
-        Err(failure) => Err(failure),
-    };
-    match done {
+    match carry_out(alloc, words, input, output) {
         Ok(()) => 0,
         Err(failure) => report(faults, &failure),
     }
 }
 
-fn write_answer<W: Write + Drop>(mut output: W, text: &str) -> Result<(), Failure>
-    ensures { IfErr result IsOfText }
+/// Reads the text, and writes the whole answer to it; where there is no answer, nothing is written.
+fn carry_out<R: Read, W: Write>(
+    alloc: Global,
+    words: &[String],
+    input: &mut R,
+    output: &mut W,
+) -> Result<(), Failure>
+    ensures usage { (result ≡ Err Usage) ↔ NoCommand words.now }
+    ensures unread { NoCommand words.now → input.new ≡ input.old }
+    ensures done { OnOk result (IsDone words.now (R.remaining input.old) (W.contents output.old) (W.contents output.new)) }
+    ensures failure { IfErr result (IsUndone words.now (R.remaining input.old)) }
+    ensures unwritten { IfErr result (λ failure. failure ≢ WriteFailed → output.new ≡ output.old) }
 {
-    let written = output
-        .write_all(text.as_bytes())
-        .and_then(|_| output.flush());
-    written.map_err(|_| Failure::WriteFailed)
+    let text = answer(alloc, words, input)?;
+    match write_whole(output, text.as_str()) {
+        Ok(()) => Ok(()),
+        Err(_) => Err(Failure::WriteFailed),
+    }
+}
+
+/// Writes the text, and sees that it is passed on.
+fn write_whole<W: Write>(output: &mut W, text: &str) -> io::Result<()>
+    ensures { OnOk result (Appends (W.contents output.old) (W.contents output.new) text.now) }
+{
+    output.write_all(text.as_bytes())?;
+    output.flush()
 }
 
 /// Writes the failure's line, and answers its status, also where the line can't be written.
-fn report<V: Write + Drop>(mut faults: V, failure: &Failure) -> u8
+fn report<V: Write>(faults: &mut V, failure: &Failure) -> u8
     ensures { result ≡ status_of failure.now }
 {
-    let _ = writeln!(faults, "{failure}");
-    let _ = faults.flush();
+    let _ = write_line(faults, failure);
     failure.status()
 }
 
+/// Writes the line that says why there is no answer.
+fn write_line<V: Write>(faults: &mut V, failure: &Failure) -> io::Result<()>
+    ensures { OnOk result (Appends (V.contents faults.old) (V.contents faults.new) (line_of failure.now ++ codes "\n")) }
+{
+    writeln!(faults, "{failure}")?;
+    faults.flush()
+}
+
 /// The words after the program's name.
-fn words(rt: &HostRuntime) -> Result<Vec<String>, Failure> {
+fn words(rt: &HostRuntime) -> Result<Vec<String>, Failure>
+    ensures { IfErr result (λ failure. (failure ≡ Usage) ⊎ (failure ≡ OutOfMemory)) }
+{
     let mut words = Vec::new(rt.alloc());
     let all = env::args(rt).map_err(|e| Failure::from_io(&e, Failure::Usage))?;
     for word in all.skip(1) {
@@ -74,11 +107,11 @@ fn main(rt: HostRuntime) -> ExitCode {
         Ok(words) => run(
             rt.alloc(),
             words.as_slice(),
-            rt.stdin(),
-            rt.stdout(),
-            rt.stderr(),
+            &mut rt.stdin(),
+            &mut rt.stdout(),
+            &mut rt.stderr(),
         ),
-        Err(failure) => report(rt.stderr(), &failure),
+        Err(failure) => report(&mut rt.stderr(), &failure),
     };
     ExitCode::from(status)
 }

@@ -51,11 +51,11 @@ fn writes(rt: HostRuntime) -> Result<(), Fail> {
         let words = words(rt.alloc(), "print derive")?;
         let mut output = Full::new(rt.alloc(), room, flushes);
         let mut faults = Vec::new(rt.alloc());
-        let input = STRUCT.as_bytes();
+        let mut input = STRUCT.as_bytes();
         let status = run(
             rt.alloc(),
             words.as_slice(),
-            input,
+            &mut input,
             &mut output,
             &mut faults,
         );
@@ -71,11 +71,11 @@ fn short_writes(rt: HostRuntime) -> Result<(), Fail> {
     let words = words(rt.alloc(), "print derive")?;
     let mut output = Full::new(rt.alloc(), 15, true);
     let mut faults = Vec::new(rt.alloc());
-    let input = STRUCT.as_bytes();
+    let mut input = STRUCT.as_bytes();
     let status = run(
         rt.alloc(),
         words.as_slice(),
-        input,
+        &mut input,
         &mut output,
         &mut faults,
     );
@@ -97,13 +97,13 @@ fn faults(rt: HostRuntime) -> Result<(), Fail> {
         for room in [0, 7] {
             let words = words(rt.alloc(), line)?;
             let mut output = Vec::new(rt.alloc());
-            let faults = Full::new(rt.alloc(), room, false);
+            let mut faults = Full::new(rt.alloc(), room, false);
             let status = run(
                 rt.alloc(),
                 words.as_slice(),
-                input.as_bytes(),
+                &mut input.as_bytes(),
                 &mut output,
-                faults,
+                &mut faults,
             );
             assert_eq!(rt; status, want, "{line}: {input}");
         }
@@ -120,7 +120,7 @@ fn both_fail(rt: HostRuntime) -> Result<(), Fail> {
     let status = run(
         rt.alloc(),
         words.as_slice(),
-        STRUCT.as_bytes(),
+        &mut STRUCT.as_bytes(),
         &mut output,
         &mut faults,
     );

@@ -28,12 +28,22 @@ fn fault_lines(rt: HostRuntime) -> Result<(), Fail> {
         (
             "print derive",
             "struct S(1);",
+            "refused at 9: expected identifier\n",
+        ),
+        (
+            "print derive",
+            "struct S(`);",
             "refused at 9: unexpected character\n",
         ),
         (
             "check derive",
-            "struct S; // c",
-            "refused at 10: unexpected character\n",
+            "struct S(\"a);",
+            "refused at 9: unterminated literal\n",
+        ),
+        (
+            "check derive",
+            "struct S; /* c",
+            "refused at 10: unterminated comment\n",
         ),
         (
             "print derive",

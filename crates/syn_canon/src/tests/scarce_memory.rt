@@ -29,9 +29,9 @@ fn ends_so(
     let ended = run(
         alloc,
         words.as_slice(),
-        input.as_bytes(),
-        &mut output[..],
-        &mut faults[..],
+        &mut input.as_bytes(),
+        &mut &mut output[..],
+        &mut &mut faults[..],
     );
     if ended == 3 && holds(&output, "") && holds(&faults, "out of memory\n") {
         return Err(AllocError);

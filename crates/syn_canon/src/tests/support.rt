@@ -25,11 +25,17 @@ pub fn words(alloc: Global, line: &str) -> Result<Vec<String>, AllocError> {
 }
 
 /// The run of this command line, which reads from `input`.
-pub fn run_on<R: Read + Drop>(alloc: Global, line: &str, input: R) -> Result<Ended, Fail> {
+pub fn run_on<R: Read + Drop>(alloc: Global, line: &str, mut input: R) -> Result<Ended, Fail> {
     let words = words(alloc, line)?;
     let mut output = Vec::new(alloc);
     let mut faults = Vec::new(alloc);
-    let status = run(alloc, words.as_slice(), input, &mut output, &mut faults);
+    let status = run(
+        alloc,
+        words.as_slice(),
+        &mut input,
+        &mut output,
+        &mut faults,
+    );
     Ok(Ended {
         status,
         output: String::from_utf8(output).map_err(|_| "the output is not UTF-8")?,

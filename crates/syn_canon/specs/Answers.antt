@@ -1,0 +1,104 @@
+-- WHAT THE PROGRAM ANSWERS.
+use Rattle.std.specs.Prelude.{◌≡◌, ◌⊎◌, ℕ, List, ◌++◌, length, codes, Option, IfSome, String}
+use Rattle.std.specs.Str.{IsUtf8}
+use Rattle.std.specs.Io.KnownBytes.{Appends}
+use Rattle.std.specs.declared.alloc.Global.{Global}
+use Rattle.syn_grammar.specs.Tokens.{Stream}
+use Rattle.syn_grammar.specs.Rules as rules
+use Rattle.syn_grammar.specs.Rules.{Rule}
+use Rattle.syn_grammar.specs.Grammar.{Syntax}
+use Rattle.syn_grammar.specs.Laws.{Derives}
+use Rattle.syn_grammar.specs.Says as grammar
+use Rattle.syn_tokens.specs.Faults.{FaultValue, IsSyntaxError}
+use Rattle.syn.specs.Spelling.{Spells, IsFaultWithin}
+use Rattle.syn.specs.Texts.{text_of}
+use Rattle.syn.specs.Canonical.{IsCanonical}
+use Rattle.syn_canon.specs.declared.command.Command.{Command}
+use Rattle.syn_canon.specs.declared.command.Command.TheVariants.{Print, Check}
+use Rattle.syn_canon.specs.declared.command.Kind.{Kind}
+use Rattle.syn_canon.specs.declared.command.Kind.TheVariants.{Derive, Visibility, FieldsUnnamed}
+use Rattle.syn_canon.specs.declared.failure.Failure.{Failure}
+use Rattle.syn_canon.specs.declared.failure.Failure.TheVariants.{Usage, ReadFailed, NotUtf8, Refused, WriteFailed, OutOfMemory}
+use Rattle.syn_canon.specs.Words.{IsCommand, NoCommand}
+
+-- THE GRAMMAR
+
+-- the rule of the grammar by which a kind is read
+abbrev pub rule_of : Kind → Rule
+rule_of Derive = rules.derive_input
+rule_of Visibility = rules.visibility
+rule_of FieldsUnnamed = rules.fields_unnamed
+
+-- the rule by which a command reads
+abbrev pub rule_for : Command → Rule
+rule_for (Print kind) = rule_of kind
+rule_for (Check kind) = rule_of kind
+
+-- the rule derives a tree from the whole stream
+abbrev pub IsDerived : Rule → Stream → Type 0
+IsDerived rule stream = (tree : Syntax) × Derives rule stream tree
+
+-- AN ANSWER
+
+-- what `print` writes of a stream: the text of its canonical print, and a newline
+abbrev pub IsPrinted : Rule → Stream → List ℕ → Type 0
+IsPrinted rule stream answer = (printed : Stream) × IsCanonical rule stream printed × (answer ≡ text_of printed ++ codes "\n")
+
+-- what a command writes of a stream; `check` writes `ok` and a newline, where a tree is derived
+abbrev pub IsWritten : Command → Stream → List ℕ → Type 0
+IsWritten (Print kind) stream answer = IsPrinted (rule_of kind) stream answer
+IsWritten (Check kind) stream answer = IsDerived (rule_of kind) stream × (answer ≡ codes "ok\n")
+
+-- the text is all that the reader had to give, where it is known what that is
+abbrev pub IsRead : Option (List ℕ) → List ℕ → Type 0
+IsRead known text = IfSome known (λ bytes. text ≡ bytes)
+
+-- the words are a command, a text was read that spells a stream, and this is what the command writes of it
+pub record IsAnswer (words : List (String Global)) (known : Option (List ℕ)) (answer : List ℕ) : Type 0 where
+  pub command : Command
+  pub is_command : IsCommand words command
+  pub text : List ℕ
+  pub is_read : IsRead known text
+  pub stream : Stream
+  pub spelled : Spells text stream
+  pub is_written : IsWritten command stream answer
+
+-- NO ANSWER. Memory may be refused and a read may fail at any time, so of those two nothing is said.
+
+-- why nothing is derived from a stream: the rule derives no tree
+abbrev pub IsUnderived : Rule → Stream → Failure → Type 0
+IsUnderived rule stream (Refused faults) = IsSyntaxError faults × grammar.Refused rule stream
+IsUnderived rule stream OutOfMemory = Unit {0}
+IsUnderived rule stream _ = ⊥
+
+-- why no text is read: what the reader had to give is no UTF-8
+abbrev pub IsUnread : Option (List ℕ) → Failure → Type 0
+IsUnread known NotUtf8 = IfSome known (λ bytes. ¬ IsUtf8 bytes)
+IsUnread known ReadFailed = Unit {0}
+IsUnread known OutOfMemory = Unit {0}
+IsUnread known _ = ⊥
+
+-- The reader of text found one fault, which stands in the text (of when it does so no more is said here), or the text spells a
+-- stream from which the rule derives no tree.
+abbrev pub IsRefusal : Rule → List ℕ → List FaultValue → Type 0
+IsRefusal rule text faults = IsFaultWithin (length text) faults ⊎ ((stream : Stream) × Spells text stream × grammar.Refused rule stream)
+
+-- why there is no answer: the words are no command, or else no text is read, or it is refused
+abbrev pub IsNoAnswer : List (String Global) → Option (List ℕ) → Failure → Type 0
+IsNoAnswer words known Usage = NoCommand words
+IsNoAnswer words known (Refused faults) =
+    (command : Command) × IsCommand words command × (text : List ℕ) × IsRead known text × IsSyntaxError faults × IsRefusal (rule_for command) text faults
+IsNoAnswer words known failure = IsUnread known failure
+
+-- A WHOLE RUN
+
+-- the whole answer stands behind what the writer held, where it is known what that was
+pub record IsDone (words : List (String Global)) (known old new : Option (List ℕ)) : Type 0 where
+  pub answer : List ℕ
+  pub is_answer : IsAnswer words known answer
+  pub is_written : Appends old new answer
+
+-- why a run has not done it: there is no answer, or a write failed
+abbrev pub IsUndone : List (String Global) → Option (List ℕ) → Failure → Type 0
+IsUndone words known WriteFailed = Unit {0}
+IsUndone words known failure = IsNoAnswer words known failure
