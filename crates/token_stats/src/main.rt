@@ -1,0 +1,77 @@
+//! Counts the tokens of a text by kind: reads the text from standard input, and writes a line for each kind with its count
+//! and the longest text among those tokens.
+//!
+//! The kinds are: identifiers that are names, keywords, lifetimes, marks, literals by what they are, and groups by their
+//! signs. A mark is the longest one that the library knows at that place, such as `<<=`; `..=` counts as `..` and `=`. The
+//! text of a group is its two signs, whatever stands in it. A doc comment counts as the tokens of the attribute that it is.
+//! Lengths are in bytes, and of texts of one length the first is told, in quotes and with escapes, so that a line stays one.
+//!
+//! The status is 0; 1 where the text is refused or can't be read or written, with a line on standard error; 3 where memory
+//! is refused.
+#![tactic(auto)]
+
+ghost use Rattle.std.specs.Prelude.{◌≡◌, ◌⊎◌};
+
+mod failure;
+mod stats;
+#[cfg(test)]
+mod tests;
+mod walk;
+
+use crate::failure::Failure;
+use crate::walk::count;
+use std::alloc::Global;
+use std::io::{Read, Write};
+use std::process::ExitCode;
+
+/// Counts the tokens of the text in `input`, writes the lines to `output` once all is counted, and answers the exit status.
+/// Where it fails, one line goes to `faults`.
+pub fn run<R: Read + Drop, W: Write + Drop, V: Write + Drop>(
+    alloc: Global,
+    input: R,
+    output: W,
+    faults: V,
+) -> u8
+    ensures known { (result ≡ 0) ⊎ ((result ≡ 1) ⊎ (result ≡ 3)) }
+{
+    match answer(alloc, input, output) {
+        Ok(()) => 0,
+        Err(failure) => report(faults, &failure),
+    }
+}
+
+fn answer<R: Read + Drop, W: Write + Drop>(
+    alloc: Global,
+    input: R,
+    mut output: W,
+) -> Result<(), Failure> {
+    let text = read_text(alloc, input)?;
+    let lines = count(alloc, text.as_str())?.lines()?;
+    let written = output
+        .write_all(lines.as_bytes())
+        .and_then(|_| output.flush());
+    written.map_err(|_| Failure::WriteFailed)
+}
+
+/// All that is to be read.
+fn read_text<R: Read + Drop>(alloc: Global, mut input: R) -> Result<String, Failure> {
+    let mut bytes = Vec::new(alloc);
+    if let Err(e) = input.read_to_end(&mut bytes) {
+        return Err(Failure::from_read(&e));
+    }
+    String::from_utf8(bytes).map_err(|_| Failure::NotUtf8)
+}
+
+/// Writes the failure's line, and answers its status, also where the line can't be written.
+fn report<V: Write + Drop>(mut faults: V, failure: &Failure) -> u8
+    ensures { (result ≡ 1) ⊎ (result ≡ 3) }
+{
+    let _ = writeln!(faults, "{failure}");
+    let _ = faults.flush();
+    failure.status()
+}
+
+fn main(rt: HostRuntime) -> ExitCode {
+    let status = run(rt.alloc(), rt.stdin(), rt.stdout(), rt.stderr());
+    ExitCode::from(status)
+}
