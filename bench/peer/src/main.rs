@@ -2,8 +2,11 @@
 //!
 //!     peer print              reads a struct from standard input and writes its tokens as text
 //!     peer steps ROUNDS       writes the nanoseconds of each step, a line a round, to standard error
+//!     peer read ROUNDS        the same of reading any source, by proc-macro2 alone: read, drop
+//!     peer text ROUNDS        the same of writing the tokens of any source as text: text, drop
 //!
-//! The columns of a line are those of `syn_bench`: read, parse, print, text, drop.
+//! The columns of a line are those of `syn_bench`: read, parse, print, text, drop; and so is what stands on standard output
+//! at the end.
 
 use quote::ToTokens;
 use std::error::Error;
@@ -52,6 +55,36 @@ fn round(source: &str) -> Result<([u128; 5], usize), Box<dyn Error>> {
     Ok((times, length))
 }
 
+/// Reads the source as often, and once more to tell how many token trees it has.
+fn read_rounds(source: &str, rounds: usize) -> Result<usize, Box<dyn Error>> {
+    for _ in 0..rounds {
+        let start = Instant::now();
+        let tokens: proc_macro2::TokenStream = black_box(source).parse()?;
+        let read = start.elapsed();
+
+        let start = Instant::now();
+        drop(tokens);
+        eprintln!("{} {}", read.as_nanos(), start.elapsed().as_nanos());
+    }
+    let tokens: proc_macro2::TokenStream = source.parse()?;
+    Ok(tokens.into_iter().count())
+}
+
+/// Reads the source once and writes its tokens as text as often, and once more for the answer.
+fn text_rounds(source: &str, rounds: usize) -> Result<String, Box<dyn Error>> {
+    let tokens: proc_macro2::TokenStream = source.parse()?;
+    for _ in 0..rounds {
+        let start = Instant::now();
+        let written = black_box(&tokens).to_string();
+        let text = start.elapsed();
+
+        let start = Instant::now();
+        drop(written);
+        eprintln!("{} {}", text.as_nanos(), start.elapsed().as_nanos());
+    }
+    Ok(tokens.to_string())
+}
+
 fn main() -> Result<(), Box<dyn Error>> {
     let words: Vec<String> = std::env::args().skip(1).collect();
     let words: Vec<&str> = words.iter().map(String::as_str).collect();
@@ -70,7 +103,9 @@ fn main() -> Result<(), Box<dyn Error>> {
             }
             println!("{length}");
         }
-        _ => return Err("usage: peer print, or peer steps ROUNDS".into()),
+        ["read", rounds] => println!("{}", read_rounds(&source()?, rounds.parse()?)?),
+        ["text", rounds] => println!("{}", text_rounds(&source()?, rounds.parse()?)?),
+        _ => return Err("usage: peer print, or peer steps|read|text ROUNDS".into()),
     }
     Ok(())
 }

@@ -1,8 +1,12 @@
-//! Times the steps of `syn_canon print derive`, each by itself.
+//! Times the steps of `syn_canon print derive`, each by itself, and the reading of any source.
 //!
-//! `syn_bench ROUNDS` reads a struct from standard input. For each round it writes a line of nanoseconds to standard
-//! error: text to tokens, tokens to a tree, the tree to tokens, tokens to text, and letting all of it go. At the end it
-//! writes how many bytes the text has to standard output.
+//!     syn_bench ROUNDS         reads a struct from standard input; the nanoseconds of a round: text to tokens, tokens to
+//!                              a tree, the tree to tokens, tokens to text, and letting all of it go
+//!     syn_bench read ROUNDS    reads any source; of a round: text to tokens, and letting them go
+//!     syn_bench text ROUNDS    reads any source once; of a round: tokens to text, and letting that go
+//!
+//! The nanoseconds are a line on standard error for each round. At the end there stands on standard output: how many bytes
+//! the text has; how many token trees the source has, a group counted as one; or the text.
 #![tactic(auto)]
 
 use std::alloc::Global;
@@ -81,24 +85,95 @@ fn round<C: Clock>(clock: &C, alloc: Global, source: &str) -> Result<(Times, usi
     Ok((times, bytes))
 }
 
-/// The number of rounds that the only word behind the program's name gives.
-fn rounds(rt: &HostRuntime) -> Result<u32, Stop> {
+/// Reads the source once: how long it took, how long letting the tokens go, and how many trees there were.
+fn read_round<C: Clock>(
+    clock: &C,
+    alloc: Global,
+    source: &str,
+) -> Result<(Duration, Duration, usize), Stop> {
+    let start = Instant::now(clock)?;
+    let tokens = read_tokens(alloc, source)?;
+    let read = start.elapsed(clock)?;
+
+    let trees = tokens.len();
+    let start = Instant::now(clock)?;
+    drop(tokens);
+    Ok((read, start.elapsed(clock)?, trees))
+}
+
+/// Writes the tokens as text once: how long it took, and how long letting the text go.
+fn text_round<C: Clock>(clock: &C, tokens: &TokenStream) -> Result<(Duration, Duration), Stop> {
+    let start = Instant::now(clock)?;
+    let written = token_text(tokens)?;
+    let text = start.elapsed(clock)?;
+
+    let start = Instant::now(clock)?;
+    drop(written);
+    Ok((text, start.elapsed(clock)?))
+}
+
+/// What is to be timed.
+#[derive(Clone, Copy)]
+enum Task {
+    Derive,
+    Read,
+    Text,
+}
+
+/// What the words behind the program's name ask for, and how often.
+fn command(rt: &HostRuntime) -> Result<(Task, u32), Stop> {
     let mut words = env::args(rt)?.skip(1);
-    let Some(word) = words.next() else {
+    let Some(first) = words.next() else {
         return Err(Stop::Usage);
     };
-    match word.parse::<u32>() {
-        Ok(count) => Ok(count),
+    let (task, count) = match (first.as_str(), words.next()) {
+        (_, None) => (Task::Derive, first),
+        ("read", Some(count)) => (Task::Read, count),
+        ("text", Some(count)) => (Task::Text, count),
+        _ => return Err(Stop::Usage),
+    };
+    match count.parse::<u32>() {
+        Ok(rounds) => Ok((task, rounds)),
         Err(_) => Err(Stop::Usage),
     }
 }
 
 fn run(rt: &HostRuntime) -> Result<(), Stop> {
-    let rounds = rounds(rt)?;
+    let (task, rounds) = command(rt)?;
     let source = io::read_to_string(rt.alloc(), rt.stdin())?;
+    match task {
+        Task::Derive => derive_rounds(rt, rounds, source.as_str()),
+        Task::Read => read_rounds(rt, rounds, source.as_str()),
+        Task::Text => text_rounds(rt, rounds, source.as_str()),
+    }
+}
+
+fn read_rounds(rt: &HostRuntime, rounds: u32, source: &str) -> Result<(), Stop> {
+    let mut trees = 0;
+    for _ in 0..rounds {
+        let (read, dropped, count) = read_round(rt, rt.alloc(), source)?;
+        trees = count;
+        eprintln!(rt; "{} {}", read.as_nanos(), dropped.as_nanos())?;
+    }
+    println!(rt; "{trees}")?;
+    Ok(())
+}
+
+fn text_rounds(rt: &HostRuntime, rounds: u32, source: &str) -> Result<(), Stop> {
+    let tokens = read_tokens(rt.alloc(), source)?;
+    for _ in 0..rounds {
+        let (text, dropped) = text_round(rt, &tokens)?;
+        eprintln!(rt; "{} {}", text.as_nanos(), dropped.as_nanos())?;
+    }
+    let written = token_text(&tokens)?;
+    println!(rt; "{}", written.as_str())?;
+    Ok(())
+}
+
+fn derive_rounds(rt: &HostRuntime, rounds: u32, source: &str) -> Result<(), Stop> {
     let mut bytes = 0;
     for _ in 0..rounds {
-        let (times, length) = round(rt, rt.alloc(), source.as_str())?;
+        let (times, length) = round(rt, rt.alloc(), source)?;
         bytes = length;
         eprintln!(rt;
             "{} {} {} {} {}",
@@ -117,7 +192,7 @@ fn main(rt: HostRuntime) -> ExitCode {
     match run(&rt) {
         Ok(()) => ExitCode::from(0),
         Err(Stop::Usage) => {
-            let _ = eprintln!(rt; "usage: syn_bench ROUNDS");
+            let _ = eprintln!(rt; "usage: syn_bench [read|text] ROUNDS");
             ExitCode::from(2)
         }
         Err(Stop::Refused(error)) => {
