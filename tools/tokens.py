@@ -46,7 +46,11 @@ LONG_MARKS = [
     ("PathSep", "::"), ("PercentEq", "%="), ("PlusEq", "+="), ("RArrow", "->"), ("Shl", "<<"), ("ShlEq", "<<="),
     ("Shr", ">>"), ("ShrEq", ">>="), ("SlashEq", "/="), ("StarEq", "*="),
 ]
-GROUPS = [("Paren", "( )", "Parentheses"), ("Brace", "{ }", "CurlyBraces"), ("Bracket", "[ ]", "SquareBrackets")]
+GROUPS = [
+    ("Paren", "( )", "Parentheses", "parentheses"),
+    ("Brace", "{ }", "CurlyBraces", "curly braces"),
+    ("Bracket", "[ ]", "SquareBrackets", "square brackets"),
+]
 
 WORD_FILES = [
     ("declarations", "Words of declarations and paths.", DECLARATIONS),
@@ -150,6 +154,8 @@ pub struct {name};
 impl DelimiterKind for {name} {{
     ghost delimiter = {{ grammar.{name} }};
 
+    ghost fault = {{ codes "expected {called}" }};
+
     fn delimiter() -> Delimiter {{
         Delimiter::{name}
     }}
@@ -158,8 +164,9 @@ impl DelimiterKind for {name} {{
         Expectation::{expectation}
     }}
 }}
-""" for name, _, expectation in GROUPS)
+""" for name, _, expectation, called in GROUPS)
     return f"""//! The signs of groups.
+ghost use Rattle.std.specs.Prelude.{{codes}};
 ghost use Rattle.syn_grammar.specs.Tokens as grammar;
 
 use crate::delimiter::Delimiter;
@@ -183,7 +190,7 @@ def token_module():
     aliases = [(f"`{text}`", name, f"Word<kind::{name}>") for _, _, kinds in WORD_FILES for name, text, _ in kinds]
     aliases.sort(key=lambda alias: alias[1])
     aliases += [(f"`{text}`", name, f"Mark<kind::{name}, {len(text)}>") for name, text in MARKS + LONG_MARKS]
-    aliases += [(f"`{text}`", name, f"Delimiters<kind::{name}>") for name, text, _ in GROUPS]
+    aliases += [(f"`{text}`", name, f"Delimiters<kind::{name}>") for name, text, _, _ in GROUPS]
     body = "".join(f"\n/// {doc}\npub type {name} = {value};\n" for doc, name, value in aliases)
     return f"""//! Words, marks and the signs of groups, each with a type.
 
@@ -249,8 +256,8 @@ abbrev pub {snake(name)}_syntax : {name} → Syntax
 
 
 def group_specs():
-    uses = "".join(f"use Rattle.syn_tokens.specs.declared.token.kind.groups.{name}.{{{name} as K_{name}}}\n" for name, _, _ in GROUPS)
-    body = "".join(f"\nabbrev pub {name} : Type 0\n{name} = Delimiters K_{name}\n" for name, _, _ in GROUPS)
+    uses = "".join(f"use Rattle.syn_tokens.specs.declared.token.kind.groups.{name}.{{{name} as K_{name}}}\n" for name, _, _, _ in GROUPS)
+    body = "".join(f"\nabbrev pub {name} : Type 0\n{name} = Delimiters K_{name}\n" for name, _, _, _ in GROUPS)
     return f"""-- Words, marks and the signs of groups, as types and as syntax.
 use Rattle.syn_tokens.specs.declared.token.delimiters.Delimiters.{{Delimiters}}
 {uses}pub use Rattle.syn_tokens.specs.KindsOfWords.{{{passed_on([kind[0] for _, _, kinds in WORD_FILES for kind in kinds])}}}
