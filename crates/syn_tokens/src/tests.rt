@@ -4,7 +4,4 @@ mod errors;
 mod faces;
 mod leaves;
 mod lists;
-mod marks;
 mod streams;
-mod values;
-mod words;

@@ -10,12 +10,10 @@ use std::test::Fail;
 
 #[test]
 fn texts(rt: HostRuntime) -> Result<(), Fail> {
-    for want in ["größe", "a text of more than sixteen bytes"] {
-        let text = Text::from_str(rt.alloc(), want)?;
-        let copy = text.share()?;
-        assert_eq!(rt; text.as_str(), want);
-        assert_eq!(rt; copy.as_str(), want);
-    }
+    let text = Text::from_str(rt.alloc(), "größe")?;
+    let copy = text.share()?;
+    assert_eq!(rt; text.as_str(), "größe");
+    assert_eq!(rt; copy.as_str(), "größe");
     Ok(())
 }
 
