@@ -2,11 +2,18 @@
 """Runs the tests of a crate with one request for memory refused: the first, the second, and so on.
 
     tools/scarce_memory.py [CRATE [FIRST [LAST]]]      syn 1 60 where nothing else is said
+    tools/scarce_memory.py copies
 
 Each test that is judged has to pass, or to fail by the error of memory alone; those of a module scarce_memory have to
-pass. What does otherwise is printed with what it said. Nothing is proved here; each number takes some 20 seconds.
+pass. What does otherwise is printed with what it said.
+
+`copies` refuses each request of the copy of a stream of fifty groups, one in another: there has to be one, as the copy
+takes memory once, however deep the stream is.
+
+Nothing is proved here; each number takes some 20 seconds, and of copies a minute.
 """
 
+import itertools
 import re
 import subprocess
 import sys
@@ -42,7 +49,26 @@ def is_wrong(name, outcome, lines):
     return "scarce_memory" in name or not any(WANT_OF_MEMORY.match(line) for line in lines)
 
 
+def copies():
+    """Tries each request that builds and copies a stream of fifty groups, up to the first that neither makes."""
+    refused = 0
+    for number in itertools.count(1):
+        tests = {name: (outcome, lines) for name, outcome, lines in run("syn_tokens", number)}
+        (built, _), (copied, lines) = (tests["tests::deep::" + name] for name in ("built_once", "copied_once"))
+        if is_wrong("copied_once", copied, lines):
+            sys.exit(f"request {number}: " + "; ".join(lines))
+        if copied == "ok":
+            break
+        if built == "ok":
+            refused += 1
+            print(f"request {number} is the copy's request {refused}, and was refused", flush=True)
+    print(f"the copy took memory {'once' if refused == 1 else f'{refused} times'}")
+    sys.exit(refused != 1)
+
+
 def main():
+    if sys.argv[1:] == ["copies"]:
+        copies()
     crate = sys.argv[1] if len(sys.argv) > 1 else "syn"
     if crate not in JUDGED:
         sys.exit(f"{crate}: only {' and '.join(JUDGED)} have such tests")

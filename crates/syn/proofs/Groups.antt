@@ -1,15 +1,18 @@
 -- Groups that are open, and what was added so far.
 use Rattle.std.proofs.Common.{◌≡◌, ℕ, ◌<◌, ◌≤◌, List, [], ◌∷◌, ◌++◌, length, refl, ap, sym, ◌∙◌, subst, append_assoc, append-nil}
-use Rattle.std.specs.Prelude.{Result, Ok, Err, IfOk, MatchResult}
-use Rattle.syn_grammar.specs.Tokens.{Span, Stream}
+use Rattle.std.specs.Prelude.{Result, Ok, Err, IfOk, IfErr, OnOk, MatchResult}
+use Rattle.syn_grammar.specs.Tokens.{Span, Stream, end, group}
 use Rattle.syn_tokens.specs.Spans.{at}
 use Rattle.syn_tokens.specs.Delimiters.{delimiter_of}
 use Rattle.syn_tokens.specs.Faults.{FaultValue}
-use Rattle.syn.specs.declared.reader.trees.OpenGroup.{OpenGroup}
+use Rattle.syn_tokens.specs.declared.delimiter.Delimiter.{Delimiter}
+use Rattle.syn_tokens.specs.declared.span.Span.{Span as TokenSpan}
+use Rattle.syn_tokens.specs.Building.{OpenGroup, Building, Closes, IsUnbalanced, unbalanced}
 use Rattle.syn.specs.declared.reader.trees.TreeBuilder.{TreeBuilder}
-use Rattle.syn.specs.Flat.{Token, opened, flat}
+use Rattle.syn.specs.Flat.{Token, opened, closed, flat}
 use Rattle.syn.specs.Spelling.{Piece, IsBlank, IsPieceAt, IsCut, tokens_of, Spells, IsFaultWithin}
 use Rattle.syn.specs.Building.{tokens_around, tokens_so_far, AllWithin, Builds}
+use Rattle.syn.proofs.Flattened.{flat_append}
 use Rattle.syn.proofs.Spelling.{cut_more, cut_blank, tokens_more, stands_within}
 
 -- the tokens around one more group
@@ -39,13 +42,45 @@ closed_more os o content last =
     regroup (tokens_around os) (flat o.outer) (opened (delimiter_of o.delimiter) (at o.opening)) content last
     ∙ ap (λ l. (l ++ content) ++ last) (sym (around_more os o))
 
-pub within_more : (n : ℕ) (os : List OpenGroup) (o : OpenGroup) → AllWithin n os → o.opening.start < o.opening.end → o.opening.end ≤ n → AllWithin n (os ++ (o ∷ []))
-within_more n [] o h l m = (l, m, tt)
-within_more n (x ∷ os) o h l m = (h.0, h.1, within_more n os o h.2 l m)
+close_tokens : (d : Delimiter) (s : TokenSpan) (old new : Building) → Closes d s old new
+    → tokens_around new.open_groups ++ flat new.stream ≡ (tokens_around old.open_groups ++ flat old.stream) ++ (closed (delimiter_of d) (at s) ∷ [])
+close_tokens d s old new h =
+    let last : List Token = closed (delimiter_of d) (at s) ∷ [] in
+    let More : Delimiter → Type 0 = λ e. (tokens_around h.around ++ flat h.innermost.outer) ++ (opened (delimiter_of e) (at h.innermost.opening) ∷ (flat old.stream ++ last))
+        ≡ (tokens_around (h.around ++ (h.innermost ∷ [])) ++ flat old.stream) ++ last in
+    let more = subst More h.delimits (closed_more h.around h.innermost (flat old.stream) last) in
+    rw (h.is, h.was)
+    (ap (λ l. tokens_around h.around ++ l) (flat_append h.innermost.outer (group (delimiter_of d) (at h.innermost.opening) (at s) old.stream end))
+    ∙ (sym (append_assoc (tokens_around h.around) (flat h.innermost.outer) (opened (delimiter_of d) (at h.innermost.opening) ∷ (flat old.stream ++ last))) ∙ more))
+
+pub closes_tokens : {E : Type 0} (r : Result (Unit {0}) E) (d : Delimiter) (s : TokenSpan) (old new : Building) → OnOk r (Closes d s old new)
+    → IfOk r (λ x. tokens_around new.open_groups ++ flat new.stream ≡ (tokens_around old.open_groups ++ flat old.stream) ++ (closed (delimiter_of d) (at s) ∷ []))
+closes_tokens (Ok x) d s old new h = close_tokens d s old new h
+closes_tokens (Err e) d s old new h = tt
 
 pub within_fewer : (n : ℕ) (os : List OpenGroup) (o : OpenGroup) → AllWithin n (os ++ (o ∷ [])) → AllWithin n os
 within_fewer n [] o h = tt
 within_fewer n (x ∷ os) o h = (h.0, h.1, within_fewer n os o h.2)
+
+fault_within : (n : ℕ) (s : TokenSpan) (reason : Type 0) (e : List FaultValue) → s.start < s.end → s.end ≤ n → IsUnbalanced s reason e → IsFaultWithin n e
+fault_within n s reason [] l m h = tt
+fault_within n s reason (f ∷ fs) l m h = subst (IsFaultWithin n) (sym h.0) (l, m)
+
+pub closes_within : (r : Result (Unit {0}) (List FaultValue)) (n : ℕ) (d : Delimiter) (s : TokenSpan) (old new : Building) (reason : Type 0) → OnOk r (Closes d s old new)
+    → IfErr r (IsUnbalanced s reason) → AllWithin n old.open_groups → s.start < s.end → s.end ≤ n → MatchResult r (λ x. AllWithin n new.open_groups) (IsFaultWithin n)
+closes_within (Ok x) n d s old new reason h e w l m = rw h.is (within_fewer n h.around h.innermost (subst (AllWithin n) h.was w))
+closes_within (Err e) n d s old new reason h f w l m = fault_within n s reason e l m f
+
+-- no group is open any more
+pub finishes : (r : Result Stream (List FaultValue)) (n : ℕ) (b : Building) → AllWithin n b.open_groups
+    → MatchResult r (λ stream. b ≡ record { open_groups = []; stream = stream }) (λ e. (g : OpenGroup) × (gs : List OpenGroup) × (b.open_groups ≡ g ∷ gs) × (e ≡ unbalanced g.opening))
+    → MatchResult r (λ stream. flat stream ≡ tokens_around b.open_groups ++ flat b.stream) (IsFaultWithin n)
+finishes (Ok stream) n b w h = rw h refl
+finishes (Err e) n b w (g, gs, h, f) = let inside = subst (AllWithin n) h w in subst (IsFaultWithin n) (sym f) (inside.0, inside.1)
+
+pub within_more : (n : ℕ) (os : List OpenGroup) (o : OpenGroup) → AllWithin n os → o.opening.start < o.opening.end → o.opening.end ≤ n → AllWithin n (os ++ (o ∷ []))
+within_more n [] o h l m = (l, m, tt)
+within_more n (x ∷ os) o h l m = (h.0, h.1, within_more n os o h.2 l m)
 
 -- more tokens behind more tokens
 pub joined : (s t u x y : List Token) → t ≡ s ++ x → u ≡ t ++ y → u ≡ s ++ (x ++ y)
@@ -74,7 +109,7 @@ piece_ends text p i j k h e = rw e (stands_within h.0 h.1)
 
 -- one more piece was added
 pub builds_more : (text : List ℕ) (old new : TreeBuilder) (i j : ℕ) (p : Piece) (s : Span) → Builds text old i → IsBlank text i s.start → IsPieceAt text p s.start j → s.stop ≡ j
-    → tokens_so_far new ≡ tokens_so_far old ++ tokens_of p s → AllWithin (length text) new.groups.items → Builds text new j
+    → tokens_so_far new ≡ tokens_so_far old ++ tokens_of p s → AllWithin (length text) new.inner.open_groups → Builds text new j
 builds_more text old new i j p s (pieces, cut, same, within) blank piece e added after =
     let At : ℕ → Type 0 = λ n. IsPieceAt text p s.start n in
     let To : ℕ → Type 0 = λ n. IsCut text 0 (pieces ++ ((p, s) ∷ [])) n in (
@@ -87,7 +122,7 @@ builds_more text old new i j p s (pieces, cut, same, within) blank piece e added
 -- the same where it may be refused
 pub builds_or_fault : {T : Type 0} (r : Result T (List FaultValue)) (text : List ℕ) (old new : TreeBuilder) (i j : ℕ) (p : Piece) (s : Span) → Builds text old i → IsBlank text i s.start
     → IsPieceAt text p s.start j → s.stop ≡ j → IfOk r (λ x. tokens_so_far new ≡ tokens_so_far old ++ tokens_of p s)
-    → MatchResult r (λ x. AllWithin (length text) new.groups.items) (IsFaultWithin (length text)) → MatchResult r (λ x. Builds text new j) (IsFaultWithin (length text))
+    → MatchResult r (λ x. AllWithin (length text) new.inner.open_groups) (IsFaultWithin (length text)) → MatchResult r (λ x. Builds text new j) (IsFaultWithin (length text))
 builds_or_fault (Ok x) text old new i j p s builds blank piece e added after = builds_more text old new i j p s builds blank piece e added after
 builds_or_fault (Err f) text old new i j p s builds blank piece e added after = after
 

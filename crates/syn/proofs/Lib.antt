@@ -5,7 +5,7 @@ pub mod Spelling
 pub mod Flattened
 pub mod Groups
 pub mod DocComments
-pub mod Bulks
+pub mod WrittenEntries
 pub mod Beginnings
 pub mod Comments
 pub mod Canons

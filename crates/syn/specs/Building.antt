@@ -3,7 +3,7 @@ use Rattle.std.specs.Prelude.{◌≡◌, ◌<◌, ◌≤◌, ℕ, List, [], ◌�
 use Rattle.syn_tokens.specs.Spans.{at}
 use Rattle.syn_tokens.specs.Delimiters.{delimiter_of}
 use Rattle.syn_grammar.specs.Tokens.{Span}
-use Rattle.syn.specs.declared.reader.trees.OpenGroup.{OpenGroup}
+use Rattle.syn_tokens.specs.Building.{OpenGroup}
 use Rattle.syn.specs.declared.reader.trees.TreeBuilder.{TreeBuilder}
 use Rattle.syn.specs.Flat.{Token, opened, flat}
 use Rattle.syn.specs.Spelling.{Piece, IsCut, all_tokens}
@@ -15,7 +15,7 @@ tokens_around (o ∷ os) = flat o.outer ++ (opened (delimiter_of o.delimiter) (a
 
 -- all tokens that were added
 abbrev pub tokens_so_far : TreeBuilder → List Token
-tokens_so_far b = tokens_around b.groups.items ++ flat b.stream
+tokens_so_far b = tokens_around b.inner.open_groups ++ flat b.inner.stream
 
 -- the opening signs stand in a text of so many bytes
 abbrev pub AllWithin : ℕ → List OpenGroup → Type 0
@@ -24,4 +24,4 @@ AllWithin n (o ∷ os) = (o.opening.start < o.opening.end) × (o.opening.end ≤
 
 -- up to byte j the text is cut into pieces whose tokens were added
 abbrev pub Builds : List ℕ → TreeBuilder → ℕ → Type 0
-Builds text b j = (pieces : List (Piece × Span)) × IsCut text 0 pieces j × (tokens_so_far b ≡ all_tokens pieces) × AllWithin (length text) b.groups.items
+Builds text b j = (pieces : List (Piece × Span)) × IsCut text 0 pieces j × (tokens_so_far b ≡ all_tokens pieces) × AllWithin (length text) b.inner.open_groups

@@ -4,6 +4,7 @@ pub mod Flat
 pub mod Places
 pub mod Spelling
 pub mod Texts
+pub mod EntryTexts
 pub mod Lexemes
 pub mod Building
 pub mod Canonical

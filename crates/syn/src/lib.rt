@@ -29,7 +29,11 @@ pub mod parse {
 
 /// Tokens, token trees and token streams.
 pub mod token {
+    pub use syn_tokens::builder::StreamBuilder;
     pub use syn_tokens::delimiter::Delimiter;
+    pub use syn_tokens::entry::Close;
+    pub use syn_tokens::entry::Entry;
+    pub use syn_tokens::entry::Open;
     pub use syn_tokens::ident::Ident;
     pub use syn_tokens::leaf::Lifetime;
     pub use syn_tokens::literal::LitKind;

@@ -16,7 +16,14 @@ use std::alloc::Global;
 use syn_tokens::error::Result;
 use syn_tokens::stream::TokenStream;
 
-/// The token stream that a text spells. Spans are byte offsets in the text.
+/// The token stream that a text spells: identifiers, lifetimes, literals, marks and groups, with the byte offsets at which
+/// each begins and ends. White space and comments stand between tokens; a doc comment is the attribute that it stands for,
+/// all of whose tokens have the comment's span. Every text gives an answer, however deep its groups are.
+///
+/// Refused with one fault, at the bytes that it names: `unexpected character` at one that no token begins with,
+/// `unterminated literal` and `unterminated comment` at the beginning of what has no end, `unbalanced group` at a closing
+/// sign that doesn't belong to the innermost open group, or, at the end of the text, at the outermost group that is still
+/// open. Refused without a fault where memory is.
 pub fn read_tokens(alloc: Global, text: &str) -> Result<TokenStream>
     ensures visible { IfOk result (λ stream. visible stream ≡ true) }
     ensures spelled { MatchResult result (λ stream. Spells text.now stream) (IsFaultWithin (length text.now)) }

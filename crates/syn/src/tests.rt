@@ -1,6 +1,7 @@
 //! Tests of the library, by examples.
 mod canonical_prints;
 mod copies;
+mod deep;
 mod derive_inputs;
 mod fields;
 mod handmade;

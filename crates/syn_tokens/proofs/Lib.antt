@@ -1,5 +1,9 @@
+pub mod Builders
+pub mod Building
 pub mod Comparisons
 pub mod Copied
+pub mod Cursors
+pub mod Entries
 pub mod Errors
 pub mod Faults
 pub mod Fronts
@@ -11,6 +15,7 @@ pub mod Names
 pub mod Nexts
 pub mod Places
 pub mod Refused
+pub mod SameEntries
 pub mod Streams
 pub mod TerminatedLists
 pub mod Wholes

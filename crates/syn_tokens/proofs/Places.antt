@@ -1,65 +1,96 @@
 -- Trees by their places.
-use Rattle.std.proofs.Common.{◌≡◌, ℕ, zero, suc, ◌+◌, ◌<◌, ◌≤◌, List, [], ◌∷◌, length, get_or, take, refl, sym, ap, ◌∙◌, arith}
-use Rattle.std.proofs.lemmas.List.{take_more}
-use Rattle.syn_grammar.specs.Tokens.{Stream, end, ◌⧺◌}
+use Rattle.std.proofs.Common.{◌≡◌, ℕ, zero, suc, ◌-◌, ◌≤◌, List, ◌∷◌, ◌++◌, length, length-append, take, min, refl, sym, ap, ◌∙◌, append_assoc, arith}
+use Rattle.std.proofs.lemmas.List.{take_at}
+use Rattle.syn_grammar.specs.Tokens.{Stream, end, leaf, punct, group}
 use Rattle.syn_grammar.specs.Take as grammar
-use Rattle.syn_tokens.specs.Trees.{before, stream_of, bulk}
-use Rattle.syn_tokens.specs.Places.{place}
-use Rattle.syn_tokens.proofs.Streams.{stream_of_more}
-use Rattle.syn_tokens.specs.declared.tree.TokenTree.{TokenTree}
-use Rattle.syn_tokens.specs.declared.tree.TokenTree.TheVariants.{Group, Ident, Punct, Literal}
+use Rattle.syn_tokens.specs.Entries.{leaf_entry, punct_entry, open_entry, close_entry, encode}
+use Rattle.syn_tokens.specs.Cursors.{before_next}
+use Rattle.syn_tokens.specs.Places.{place, after}
+use Rattle.syn_tokens.specs.declared.entry.Entry.{Entry}
+use Rattle.syn_tokens.specs.declared.cursor.Next.{Next}
+use Rattle.syn_tokens.specs.declared.cursor.Next.TheVariants as N
 
-place_zero : (t : TokenTree) (r : Stream) → place 0 (before t r) ≡ before t end
-place_zero (Group g) r = refl
-place_zero (Ident i) r = refl
-place_zero (Punct p) r = refl
-place_zero (Literal l) r = refl
+after_next : (x : Next) (r : Stream) → after 1 (before_next x r) ≡ r
+after_next (N.Ident i) r = refl
+after_next (N.Literal l) r = refl
+after_next (N.Punct p) r = refl
+after_next (N.Group g) r = refl
 
-place_suc : (n : ℕ) (t : TokenTree) (r : Stream) → place (suc n) (before t r) ≡ place n r
-place_suc n (Group g) r = refl
-place_suc n (Ident i) r = refl
-place_suc n (Punct p) r = refl
-place_suc n (Literal l) r = refl
+after_more : (n : ℕ) (ts : Stream) → after (suc n) ts ≡ after 1 (after n ts)
+after_more zero ts = refl
+after_more (suc n) end = refl
+after_more (suc n) (leaf x sp m) = after_more n m
+after_more (suc n) (punct c j sp m) = after_more n m
+after_more (suc n) (group d o c i m) = after_more n m
 
-pub place_is : (ts : List TokenTree) (n : ℕ) (d : TokenTree) → n < length ts → place n (stream_of ts) ≡ before (get_or ts n d) end
-place_is [] n d h = absurd (omega arith)
-place_is (t ∷ ts) zero d h = place_zero t (stream_of ts)
-place_is (t ∷ ts) (suc n) d h = place_suc n t (stream_of ts) ∙ place_is ts n d (omega arith)
+-- one tree further
+pub after_one : (n : ℕ) (ts : Stream) (x : Next) (r : Stream) → after n ts ≡ before_next x r → after (suc n) ts ≡ r
+after_one n ts x r e = after_more n ts ∙ ap (after 1) e ∙ after_next x r
 
-pub no_place : (ts : List TokenTree) (n : ℕ) → length ts ≤ n → place n (stream_of ts) ≡ end
-no_place [] zero h = refl
-no_place [] (suc n) h = refl
-no_place (t ∷ ts) zero h = absurd (omega arith)
-no_place (t ∷ ts) (suc n) h = place_suc n t (stream_of ts) ∙ no_place ts n (omega arith)
+after_end : (n : ℕ) → after n end ≡ end
+after_end zero = refl
+after_end (suc n) = refl
 
-first_suc : (n : ℕ) (t : TokenTree) (r : Stream) → grammar.first (suc n) (before t r) ≡ before t (grammar.first n r)
-first_suc n (Group g) r = refl
-first_suc n (Ident i) r = refl
-first_suc n (Punct p) r = refl
-first_suc n (Literal l) r = refl
+-- nothing stands behind the end
+pub after_ended : (n k : ℕ) (ts : Stream) → after n ts ≡ end → n ≤ k → after k ts ≡ end
+after_ended zero k ts e h = ap (after k) e ∙ after_end k
+after_ended (suc n) zero ts e h = absurd (omega arith)
+after_ended (suc n) (suc k) end e h = refl
+after_ended (suc n) (suc k) (leaf x sp m) e h = after_ended n k m e (omega arith)
+after_ended (suc n) (suc k) (punct c j sp m) e h = after_ended n k m e (omega arith)
+after_ended (suc n) (suc k) (group d o c i m) e h = after_ended n k m e (omega arith)
 
--- the first few trees
-pub stream_of_take : (n : ℕ) (ts : List TokenTree) → stream_of (take n ts) ≡ grammar.first n (stream_of ts)
-stream_of_take zero ts = refl
-stream_of_take (suc n) [] = refl
-stream_of_take (suc n) (t ∷ ts) = ap (before t) (stream_of_take n ts) ∙ sym (first_suc n t (stream_of ts))
+-- the entries of the first few trees, and then those of the others
+pub encode_first : (n : ℕ) (ts : Stream) → encode ts ≡ encode (grammar.first n ts) ++ encode (after n ts)
+encode_first zero ts = refl
+encode_first (suc n) end = refl
+encode_first (suc n) (leaf x sp m) = ap (λ es. leaf_entry x sp ∷ es) (encode_first n m)
+encode_first (suc n) (punct c j sp m) = ap (λ es. punct_entry c j sp ∷ es) (encode_first n m)
+encode_first (suc n) (group d o c i m) =
+    ap (λ es. open_entry d o (length (encode i)) (grammar.length i) ∷ (encode i ++ close_entry d c ∷ es)) (encode_first n m)
+    ∙ ap (λ es. open_entry d o (length (encode i)) (grammar.length i) ∷ es) (sym (append_assoc (encode i) (close_entry d c ∷ encode (grammar.first n m)) (encode (after n m))))
 
-bulk_before : (t : TokenTree) (r : Stream) → bulk (before t r) ≡ bulk (before t end) + bulk r
-bulk_before (Group g) r = omega arith
-bulk_before (Ident i) r = omega arith
-bulk_before (Punct p) r = omega arith
-bulk_before (Literal l) r = omega arith
+pub length_first : (n : ℕ) (ts : Stream) → grammar.length (grammar.first n ts) ≡ min (grammar.length ts) n
+length_first zero ts = omega arith
+length_first (suc n) end = omega arith
+length_first (suc n) (leaf x sp m) = omega (arith, length_first n m)
+length_first (suc n) (punct c j sp m) = omega (arith, length_first n m)
+length_first (suc n) (group d o c i m) = omega (arith, length_first n m)
 
--- a tree weighs no more than all of them
-pub bulk_at : (ts : List TokenTree) (n : ℕ) (d : TokenTree) → n < length ts → bulk (before (get_or ts n d) end) ≤ bulk (stream_of ts)
-bulk_at [] n d h = absurd (omega arith)
-bulk_at (t ∷ ts) zero d h = omega (arith, bulk_before t (stream_of ts))
-bulk_at (t ∷ ts) (suc n) d h = omega (arith, bulk_before t (stream_of ts), bulk_at ts n d (omega arith))
+-- the tree at a place stands first behind those before it
+pub place_is : (n : ℕ) (ts : Stream) (x : Next) (r : Stream) → after n ts ≡ before_next x r → place n ts ≡ before_next x end
+place_is n ts x r e = go n ts ∙ ap (place 0) e ∙ one x r
+  where
+    go : (n : ℕ) (ts : Stream) → place n ts ≡ place 0 (after n ts)
+    go zero ts = refl
+    go (suc n) end = refl
+    go (suc n) (leaf y sp m) = go n m
+    go (suc n) (punct c j sp m) = go n m
+    go (suc n) (group d o c i m) = go n m
 
--- the same of the tree that is read there
-pub bulk_of_item : (ts : List TokenTree) (n : ℕ) (x : TokenTree) → n < length ts → x ≡ get_or ts n x → bulk (before x end) ≤ bulk (stream_of ts)
-bulk_of_item ts n x h e = omega (arith, bulk_at ts n x h, ap (λ z. bulk (before z end)) e)
+    one : (x : Next) (r : Stream) → place 0 (before_next x r) ≡ before_next x end
+    one (N.Ident i) r = refl
+    one (N.Literal l) r = refl
+    one (N.Punct p) r = refl
+    one (N.Group g) r = refl
 
-pub stream_of_item : (ts : List TokenTree) (n : ℕ) (x : TokenTree) → n < length ts → x ≡ get_or ts n x → stream_of (take (n + 1) ts) ≡ stream_of (take n ts) ⧺ before x end
-stream_of_item ts n x h e =
-    ap stream_of (take_more ts n x h) ∙ stream_of_more (take n ts) (get_or ts n x) ∙ ap (λ z. stream_of (take n ts) ⧺ before z end) (sym e)
+pub no_place : (n : ℕ) (ts : Stream) → after n ts ≡ end → place n ts ≡ end
+no_place zero ts e = ap (place 0) e
+no_place (suc n) end e = refl
+no_place (suc n) (leaf y sp m) e = no_place n m e
+no_place (suc n) (punct c j sp m) e = no_place n m e
+no_place (suc n) (group d o c i m) e = no_place n m e
+
+-- where the entries of the first few trees end
+pub front_fits : (n : ℕ) (ts : Stream) (es rest : List Entry) → es ≡ encode ts → rest ≡ encode (after n ts) → length rest ≤ length es
+front_fits n ts es rest e f = omega (arith, ap length e, ap length f, ap length (encode_first n ts), length-append (encode (grammar.first n ts)) (encode (after n ts)))
+
+pub front_is : (n : ℕ) (ts : Stream) (es rest : List Entry) → es ≡ encode ts → rest ≡ encode (after n ts) → take (length es - length rest) es ≡ encode (grammar.first n ts)
+front_is n ts es rest e f =
+    let long : length (encode (grammar.first n ts)) ≡ length es - length rest =
+    omega (arith, ap length e, ap length f, ap length (encode_first n ts), length-append (encode (grammar.first n ts)) (encode (after n ts))) in
+    ap (take (length es - length rest)) (e ∙ encode_first n ts) ∙ take_at (encode (grammar.first n ts)) (encode (after n ts)) (length es - length rest) long
+
+-- and where they are found from their number alone
+pub cut_first : (n : ℕ) (ts : Stream) (es : List Entry) (k : ℕ) → es ≡ encode ts → k ≡ length (encode (grammar.first n ts)) → take k es ≡ encode (grammar.first n ts)
+cut_first n ts es k e h = ap (take k) (e ∙ encode_first n ts) ∙ take_at (encode (grammar.first n ts)) (encode (after n ts)) k (sym h)

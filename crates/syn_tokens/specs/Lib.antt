@@ -1,9 +1,12 @@
+pub mod Builders
+pub mod Building
 pub mod Calls
 pub mod Comparison
+pub mod Cursors
 pub mod Delimiters
+pub mod Entries
 pub mod Equal
 pub mod Expectations
-pub mod Falls
 pub mod Faults
 pub mod formers
 pub mod Idents
@@ -23,9 +26,10 @@ pub mod Peeks
 pub mod Places
 pub mod Punct
 pub mod Refusals
+pub mod SameEntries
 pub mod SameStreams
 pub mod Spans
 pub mod Spelled
 pub mod Terminated
-pub mod Trees
 pub mod Texts
+pub mod Trees

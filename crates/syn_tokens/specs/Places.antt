@@ -11,3 +11,11 @@ place zero (group d o c i m) = group d o c i end
 place (suc n) (leaf x sp m) = place n m
 place (suc n) (punct c j sp m) = place n m
 place (suc n) (group d o c i m) = place n m
+
+-- what stands behind so many trees
+abbrev pub after : ℕ → Stream → Stream
+after zero ts = ts
+after (suc n) end = end
+after (suc n) (leaf x sp m) = after n m
+after (suc n) (punct c j sp m) = after n m
+after (suc n) (group d o c i m) = after n m

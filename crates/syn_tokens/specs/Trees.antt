@@ -1,5 +1,5 @@
 -- The stream that a list of token trees is.
-use Rattle.std.specs.Prelude.{ℕ, ◌+◌, List, [], ◌∷◌}
+use Rattle.std.specs.Prelude.{List, [], ◌∷◌}
 use Rattle.syn_grammar.specs.Tokens.{ident, literal, Stream, end, leaf, punct, group}
 use Rattle.syn_tokens.specs.Spans.{at}
 use Rattle.syn_tokens.specs.Delimiters.{delimiter_of}
@@ -26,10 +26,3 @@ span_of (T.Ident i) = i.span
 span_of (T.Literal l) = l.span
 span_of (T.Punct p) = p.span
 span_of (T.Group x) = x.opening
-
--- more than that of any stream in it
-abbrev pub bulk : Stream → ℕ
-bulk end = 0
-bulk (leaf x sp m) = 1 + bulk m
-bulk (punct c j sp m) = 1 + bulk m
-bulk (group d o c i m) = 2 + (bulk i + bulk m)

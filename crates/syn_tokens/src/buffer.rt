@@ -9,20 +9,20 @@ ghost use Rattle.syn_tokens.specs.Refusals.{IsSyntax};
 ghost use Rattle.syn_tokens.specs.Expectations.{text_of};
 ghost use Rattle.syn_tokens.specs.Nexts.{StandsNext, RefusedNext};
 ghost use Rattle.syn_tokens.specs.Punct.{is_joint};
-ghost use Rattle.syn_tokens.specs.Trees.{stream_of};
 ghost use Rattle.syn_tokens.specs.Peeks.{past};
 ghost use Rattle.syn_tokens.specs.Peeks as peeks;
 ghost use Rattle.syn_tokens.specs.Opened.{SaysOpened, content_of};
 
+use crate::cursor::{Cursor, Next};
+use crate::entry::Entry;
 use crate::expectation::Expectation;
-use crate::front::{split, split_group};
+use crate::front::split_group;
 use crate::punct::{Punct, Spacing};
 use crate::read::{Peek, Read};
 use crate::refusal::{Reading, Refusal};
 use crate::span::Span;
 use crate::stream::TokenStream;
 use crate::token::{DelimiterKind, Delimiters};
-use crate::tree::TokenTree;
 use std::alloc::Global;
 use std::marker::Model;
 
@@ -34,7 +34,7 @@ mod marks;
 /// The token trees that are left to read, and where they end.
 #[derive(Drop)]
 pub struct ParseBuffer<'a> {
-    trees: &'a [TokenTree],
+    tokens: Cursor<'a>,
     end: Span,
     alloc: Global,
 }
@@ -42,37 +42,35 @@ pub struct ParseBuffer<'a> {
 impl<'a> Model for ParseBuffer<'a> {
     ghost use Rattle.syn_grammar.specs.Tokens.{Stream};
     ghost use Rattle.syn_grammar.specs.Codes.{stream_code};
-    ghost use Rattle.syn_tokens.specs.Trees.{stream_of};
 
     ghost Value = { Stream };
 
     ghost coded = { stream_code };
 
-    ghost view = { λ b. stream_of b.trees.now };
+    ghost view = { λ b. b.tokens };
 }
 
-/// Where the last of these trees ends: an empty span behind it, 0 to 0 where there is none.
-fn end_of(trees: &[TokenTree]) -> Span {
-    let end = match trees.last() {
-        Some(TokenTree::Group(group)) => group.closing.end,
-        Some(tree) => tree.span().end,
+/// Where the last of these entries ends: an empty span behind it, 0 to 0 where there is none.
+fn end_of(entries: &[Entry]) -> Span {
+    let end = match entries.last() {
+        Some(entry) => entry.end(),
         None => 0,
     };
     Span { start: end, end }
 }
 
 /// What is left past a mark's character; where that makes a lifetime, past its identifier too.
-fn past_mark<'a>(punct: &Punct, rest: &'a [TokenTree]) -> &'a [TokenTree]
-    ensures { stream_of result.now ≡ peeks.past_mark punct.now.character (is_joint punct.now.spacing) (stream_of rest.now) }
+fn past_mark<'a>(punct: &Punct, rest: Cursor<'a>) -> Cursor<'a>
+    ensures { result ≡ peeks.past_mark punct.now.character (is_joint punct.now.spacing) rest.entry }
 {
     if punct.character() != '\'' || punct.spacing != Spacing::Joint {
         return rest;
     }
-    match split(rest) {
-        Some((TokenTree::Ident(_), rest)) => rest,
-        Some((TokenTree::Literal(_), _)) => rest,
-        Some((TokenTree::Punct(_), _)) => rest,
-        Some((TokenTree::Group(_), _)) => rest,
+    match rest.split() {
+        Some((Next::Ident(_), behind)) => behind,
+        Some((Next::Literal(_), _)) => rest,
+        Some((Next::Punct(_), _)) => rest,
+        Some((Next::Group(_), _)) => rest,
         None => rest,
     }
 }
@@ -83,8 +81,8 @@ impl<'a> ParseBuffer<'a> {
         ensures { result ≡ stream.now }
     {
         ParseBuffer {
-            trees: stream.trees(),
-            end: end_of(stream.trees()),
+            tokens: stream.cursor(),
+            end: end_of(stream.entries()),
             alloc: stream.alloc(),
         }
     }
@@ -94,7 +92,7 @@ impl<'a> ParseBuffer<'a> {
         ensures { result ≡ self.now }
     {
         ParseBuffer {
-            trees: self.trees,
+            tokens: self.tokens.fork(),
             end: self.end,
             alloc: self.alloc,
         }
@@ -104,7 +102,7 @@ impl<'a> ParseBuffer<'a> {
     pub fn advance_to(&mut self, fork: &ParseBuffer<'a>)
         ensures { self.new ≡ fork.now }
     {
-        self.trees = fork.trees;
+        self.tokens = fork.tokens.fork();
         self.end = fork.end;
     }
 
@@ -118,12 +116,12 @@ impl<'a> ParseBuffer<'a> {
     pub fn is_empty(&self) -> bool
         ensures { result ≡ sees ended self.now }
     {
-        match split(self.trees) {
+        match self.tokens.split() {
             None => true,
-            Some((TokenTree::Ident(_), _)) => false,
-            Some((TokenTree::Literal(_), _)) => false,
-            Some((TokenTree::Punct(_), _)) => false,
-            Some((TokenTree::Group(_), _)) => false,
+            Some((Next::Ident(_), _)) => false,
+            Some((Next::Literal(_), _)) => false,
+            Some((Next::Punct(_), _)) => false,
+            Some((Next::Group(_), _)) => false,
         }
     }
 
@@ -133,8 +131,8 @@ impl<'a> ParseBuffer<'a> {
     pub fn span(&self) -> Span
         ensures { StandsNext self.now result }
     {
-        match self.trees.first() {
-            Some(tree) => tree.span(),
+        match self.tokens.split() {
+            Some((next, _)) => next.span(),
             None => self.end,
         }
     }
@@ -175,15 +173,15 @@ impl<'a> ParseBuffer<'a> {
     fn past(&self) -> ParseBuffer<'a>
         ensures { result ≡ past self.now }
     {
-        let trees = match split(self.trees) {
-            None => self.trees,
-            Some((TokenTree::Ident(_), rest)) => rest,
-            Some((TokenTree::Literal(_), rest)) => rest,
-            Some((TokenTree::Group(_), rest)) => rest,
-            Some((TokenTree::Punct(punct), rest)) => past_mark(punct, rest),
+        let tokens = match self.tokens.split() {
+            None => Cursor::none(),
+            Some((Next::Ident(_), rest)) => rest,
+            Some((Next::Literal(_), rest)) => rest,
+            Some((Next::Group(_), rest)) => rest,
+            Some((Next::Punct(punct), rest)) => past_mark(punct, rest),
         };
         ParseBuffer {
-            trees,
+            tokens,
             end: self.end,
             alloc: self.alloc,
         }
@@ -214,12 +212,12 @@ impl<'a> ParseBuffer<'a> {
         ensures syntax { IfErr result IsSyntax }
         ensures fault { IfErr result (RefusedNext self.old K.fault) }
     {
-        let Some((group, rest)) = split_group(self.trees, K::delimiter()) else {
+        let Some((group, rest)) = split_group(&self.tokens, K::delimiter()) else {
             return Err(self.refusal(K::expectation()));
         };
-        self.trees = rest;
+        self.tokens = rest;
         let content = ParseBuffer {
-            trees: group.stream.trees(),
+            tokens: group.content,
             end: group.closing,
             alloc: self.alloc,
         };
@@ -230,9 +228,9 @@ impl<'a> ParseBuffer<'a> {
     pub fn peek_group<K: DelimiterKind>(&self) -> Option<ParseBuffer<'a>>
         ensures { MatchOption result (take_group K.delimiter self.now ≡ None) (λ b. content_of (take_group K.delimiter self.now) ≡ Some b) }
     {
-        let (group, _) = split_group(self.trees, K::delimiter())?;
+        let (group, _) = split_group(&self.tokens, K::delimiter())?;
         Some(ParseBuffer {
-            trees: group.stream.trees(),
+            tokens: group.content,
             end: group.closing,
             alloc: self.alloc,
         })
@@ -244,12 +242,12 @@ impl<'a> ParseBuffer<'a> {
         ensures end { Finished IsSyntax self.now result }
         ensures fault { IfErr result (RefusedNext self.now (codes "unexpected token")) }
     {
-        match split(self.trees) {
+        match self.tokens.split() {
             None => Ok(()),
-            Some((TokenTree::Ident(_), _)) => Err(self.refusal(Expectation::UnexpectedToken)),
-            Some((TokenTree::Literal(_), _)) => Err(self.refusal(Expectation::UnexpectedToken)),
-            Some((TokenTree::Punct(_), _)) => Err(self.refusal(Expectation::UnexpectedToken)),
-            Some((TokenTree::Group(_), _)) => Err(self.refusal(Expectation::UnexpectedToken)),
+            Some((Next::Ident(_), _)) => Err(self.refusal(Expectation::UnexpectedToken)),
+            Some((Next::Literal(_), _)) => Err(self.refusal(Expectation::UnexpectedToken)),
+            Some((Next::Punct(_), _)) => Err(self.refusal(Expectation::UnexpectedToken)),
+            Some((Next::Group(_), _)) => Err(self.refusal(Expectation::UnexpectedToken)),
         }
     }
 }

@@ -1,45 +1,68 @@
-//! Copies of token trees and streams.
-ghost use Rattle.std.specs.Prelude.{◌≡◌, ◌-◌, [], IfOk, IfErr, OnOk, OnErr};
+//! Copies of token trees and streams: each takes memory once, however deep its groups are.
+ghost use Rattle.std.specs.Prelude.{◌≡◌, ℕ, [], IfOk, IfErr, OnOk, OnErr};
 ghost use Rattle.syn_grammar.specs.Tokens.{end};
 ghost use Rattle.syn_grammar.specs.Take as grammar;
+ghost use Rattle.syn_tokens.specs.Entries.{decode, IsFlat};
 ghost use Rattle.syn_tokens.specs.Lists.{listed};
-ghost use Rattle.syn_tokens.specs.Trees.{stream_of};
+ghost use Rattle.syn_tokens.specs.Trees.{stream_of, before};
+ghost use Rattle.syn_tokens.specs.Cursors.{before_next};
 ghost use Rattle.syn_tokens.specs.Places.{place};
 
+use crate::cursor::{Cursor, Next};
+use crate::entry::Entry;
 use crate::error::Result;
 use crate::stream::TokenStream;
 use crate::tree::{Group, TokenTree};
 use std::alloc::{AllocError, Global};
 
-/// The stream of copies of these trees.
-#[cycle(copies)]
-pub(crate) fn copy_trees(
-    trees: &[TokenTree],
-    alloc: Global,
-) -> std::result::Result<TokenStream, AllocError>
-    ensures { IfOk result (λ copy. copy ≡ stream_of trees.now) }
+/// Copies of these entries.
+fn copy_entries(entries: &[Entry], alloc: Global) -> std::result::Result<Vec<Entry>, AllocError>
+    ensures { IfOk result (λ copy. copy.items ≡ entries.now) }
 {
-    let mut copy = TokenStream::new(alloc);
-    for tree in trees {
-        copy.add(copy_tree(tree, alloc)?)?;
+    let mut copy = Vec::with_capacity(alloc, entries.len())?;
+    for entry in entries {
+        copy.push(entry.copy()?)?;
     }
     Ok(copy)
 }
 
-#[cycle(copies)]
-fn copy_tree(tree: &TokenTree, alloc: Global) -> std::result::Result<TokenTree, AllocError>
-    ensures { IfOk result (λ copy. copy ≡ tree.now) }
+/// A copy of all the trees.
+pub(crate) fn copy_all(
+    tokens: &Cursor<'_>,
+    alloc: Global,
+) -> std::result::Result<TokenStream, AllocError>
+    ensures { IfOk result (λ copy. copy ≡ tokens.now) }
 {
-    match tree {
-        TokenTree::Group(group) => Ok(TokenTree::Group(Group {
-            delimiter: group.delimiter,
-            stream: copy_trees(group.stream.trees(), alloc)?,
-            opening: group.opening,
-            closing: group.closing,
+    let entries = copy_entries(tokens.entries(), alloc)?;
+    Ok(TokenStream::of_entries(entries, tokens.len(), alloc))
+}
+
+/// A copy of the first trees, of so many, or of all where there are fewer.
+pub(crate) fn copy_first(
+    tokens: &Cursor<'_>,
+    count: usize,
+    alloc: Global,
+) -> std::result::Result<TokenStream, AllocError>
+    ensures { IfOk result (λ copy. copy ≡ grammar.first count tokens.now) }
+{
+    let entries = copy_entries(tokens.front(count), alloc)?;
+    Ok(TokenStream::of_entries(entries, tokens.len().min(count), alloc))
+}
+
+/// A copy of a tree.
+fn copy_next(next: &Next<'_>, alloc: Global) -> std::result::Result<TokenTree, AllocError>
+    ensures { IfOk result (λ copy. before copy end ≡ before_next next.now end) }
+{
+    match next {
+        Next::Group(inner) => Ok(TokenTree::Group(Group {
+            delimiter: inner.delimiter,
+            stream: copy_all(&inner.content, alloc)?,
+            opening: inner.opening,
+            closing: inner.closing,
         })),
-        TokenTree::Ident(ident) => Ok(TokenTree::Ident(ident.copy()?)),
-        TokenTree::Punct(punct) => Ok(TokenTree::Punct(*punct)),
-        TokenTree::Literal(literal) => Ok(TokenTree::Literal(literal.copy()?)),
+        Next::Ident(ident) => Ok(TokenTree::Ident(ident.copy()?)),
+        Next::Punct(punct) => Ok(TokenTree::Punct(**punct)),
+        Next::Literal(literal) => Ok(TokenTree::Literal(literal.copy()?)),
     }
 }
 
@@ -48,7 +71,17 @@ impl TokenTree {
     pub fn copy(&self, alloc: Global) -> std::result::Result<TokenTree, AllocError>
         ensures { IfOk result (λ copy. copy ≡ self.now) }
     {
-        copy_tree(self, alloc)
+        match self {
+            TokenTree::Group(group) => Ok(TokenTree::Group(Group {
+                delimiter: group.delimiter,
+                stream: group.stream.copy(alloc)?,
+                opening: group.opening,
+                closing: group.closing,
+            })),
+            TokenTree::Ident(ident) => Ok(TokenTree::Ident(ident.copy()?)),
+            TokenTree::Punct(punct) => Ok(TokenTree::Punct(*punct)),
+            TokenTree::Literal(literal) => Ok(TokenTree::Literal(literal.copy()?)),
+        }
     }
 
     /// The same as `copy`.
@@ -65,7 +98,7 @@ impl TokenStream {
     pub fn copy(&self, alloc: Global) -> std::result::Result<TokenStream, AllocError>
         ensures { IfOk result (λ copy. copy ≡ self.now) }
     {
-        copy_trees(self.trees(), alloc)
+        copy_all(&self.cursor(), alloc)
     }
 
     /// The same as `copy`.
@@ -83,8 +116,10 @@ impl TokenStream {
         ensures ok { IfOk result (λ tree. stream_of (listed tree) ≡ place index self.now) }
         ensures err { IfErr result (λ e. e ≡ []) }
     {
-        match self.trees().get(index) {
-            Some(tree) => Ok(Some(tree.copy(self.alloc())?)),
+        let mut rest = self.cursor();
+        rest.skip(index);
+        match rest.split() {
+            Some((next, _)) => Ok(Some(copy_next(&next, self.alloc())?)),
             None => Ok(None),
         }
     }

@@ -2,10 +2,13 @@
 #![tactic(auto)]
 
 pub mod buffer;
+pub mod builder;
 pub mod call;
 pub mod compare;
 mod copies;
+mod cursor;
 pub mod delimiter;
+pub mod entry;
 pub mod error;
 pub mod expectation;
 mod front;

@@ -2,35 +2,34 @@
 ghost use Rattle.std.specs.Prelude.{◌≡◌, ◌↔◌, ◌∷◌, [], IsTrue};
 ghost use Rattle.syn_grammar.specs.Tokens.{end, plain};
 ghost use Rattle.syn_grammar.specs.Same.{same_stream};
-ghost use Rattle.syn_tokens.specs.Trees.{before, stream_of};
+ghost use Rattle.syn_tokens.specs.Trees.{before};
+ghost use Rattle.syn_tokens.specs.SameEntries.{same_entry, same_entries};
 
-use crate::front::split;
+use crate::entry::Entry;
 use crate::stream::TokenStream;
 use crate::tree::TokenTree;
-use std::slice;
 
-#[tactic(auto, using(syn_grammar::proofs::Same::and_assoc))]
-fn same_trees(a: &[TokenTree], b: &[TokenTree]) -> bool
-    ensures { result ≡ same_stream (stream_of a.now) (stream_of b.now) }
+/// Whether both are the same token, or the same sign. Closing signs are not told apart: groups are told apart by the
+/// signs that open them.
+fn same_entry(a: &Entry, b: &Entry) -> bool
+    ensures { result ≡ same_entry a.now b.now }
 {
-    match (split(a), split(b)) {
-        (None, None) => true,
-        (Some((TokenTree::Ident(x), a)), Some((TokenTree::Ident(y), b))) => {
-            x == y && same_trees(a, b)
-        }
-        (Some((TokenTree::Literal(x), a)), Some((TokenTree::Literal(y), b))) => {
-            x == y && same_trees(a, b)
-        }
-        (Some((TokenTree::Punct(x), a)), Some((TokenTree::Punct(y), b))) => {
-            x == y && same_trees(a, b)
-        }
-        (Some((TokenTree::Group(x), a)), Some((TokenTree::Group(y), b))) => {
-            x.delimiter == y.delimiter
-                && same_trees(x.stream.trees(), y.stream.trees())
-                && same_trees(a, b)
-        }
+    match (a, b) {
+        (Entry::Ident(x), Entry::Ident(y)) => x == y,
+        (Entry::Literal(x), Entry::Literal(y)) => x == y,
+        (Entry::Punct(x), Entry::Punct(y)) => x == y,
+        (Entry::Open(x), Entry::Open(y)) => x.delimiter == y.delimiter,
+        (Entry::Close(_), Entry::Close(_)) => true,
         _ => false,
     }
+}
+
+/// Whether both are the same entries in turn.
+#[tactic(auto, using(crate::proofs::SameEntries::unlike_lengths))]
+fn same_entries(a: &[Entry], b: &[Entry]) -> bool
+    ensures { result ≡ same_entries a.now b.now }
+{
+    a.len() == b.len() && a.iter().zip(b).all(|(x, y)| same_entry(x, y))
 }
 
 impl PartialEq for TokenStream {
@@ -40,8 +39,9 @@ impl PartialEq for TokenStream {
 
     ghost laws = { same_stream_per };
 
+    #[tactic(auto, using(crate::proofs::SameEntries::same_encoded))]
     fn eq(&self, other: &TokenStream) -> bool {
-        same_trees(self.trees(), other.trees())
+        same_entries(self.entries(), other.entries())
     }
 }
 
@@ -69,8 +69,17 @@ impl PartialEq for TokenTree {
 
     ghost laws = { on_per (λ t. before t end) same_stream_per };
 
+    #[tactic(auto, using(syn_grammar::proofs::Same::and_true))]
     fn eq(&self, other: &TokenTree) -> bool {
-        same_trees(slice::from_ref(self), slice::from_ref(other))
+        match (self, other) {
+            (TokenTree::Ident(x), TokenTree::Ident(y)) => x == y,
+            (TokenTree::Literal(x), TokenTree::Literal(y)) => x == y,
+            (TokenTree::Punct(x), TokenTree::Punct(y)) => x == y,
+            (TokenTree::Group(x), TokenTree::Group(y)) => {
+                x.delimiter == y.delimiter && x.stream == y.stream
+            }
+            _ => false,
+        }
     }
 }
 

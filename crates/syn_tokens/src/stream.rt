@@ -1,54 +1,84 @@
 //! Token streams.
-ghost use Rattle.std.specs.Prelude.{◌≡◌, [], IsTrue, IfErr, OnOk, OnErr};
-ghost use Rattle.syn_grammar.specs.Tokens.{end, punct, ◌⧺◌};
+ghost use Rattle.std.specs.Prelude.{◌≡◌, [], ◌∷◌, ◌++◌, IsTrue, IfErr, OnOk, OnErr};
+ghost use Rattle.syn_grammar.specs.Tokens.{end, punct, group, ◌⧺◌};
 ghost use Rattle.syn_tokens.specs.Spans.{at};
+ghost use Rattle.syn_tokens.specs.Delimiters.{delimiter_of};
 ghost use Rattle.syn_tokens.specs.Punct.{is_joint, is_punct_character};
+ghost use Rattle.syn_tokens.specs.Entries.{encode, decode, IsFlat, IsToken};
 ghost use Rattle.syn_grammar.specs.Take.{first, length, is_end};
 
+use crate::cursor::Cursor;
+use crate::entry::{Close, Entry, Open};
 use crate::error::Result;
 use crate::punct::{Punct, Spacing};
 use crate::span::Span;
-use crate::tree::TokenTree;
+use crate::tree::{Group, TokenTree};
 use std::alloc::{AllocError, Global};
 use std::marker::Model;
 
 /// A list of token trees.
-#[cycle(tokens)]
 #[derive(Drop)]
 pub struct TokenStream {
-    trees: Vec<TokenTree>,
+    /// Their tokens and the signs of their groups, at every depth.
+    entries: Vec<Entry>,
+    /// How many trees there are.
+    trees: usize,
     alloc: Global,
 }
 
 impl Model for TokenStream {
     ghost use Rattle.syn_grammar.specs.Tokens.{Stream};
     ghost use Rattle.syn_grammar.specs.Codes.{stream_code};
+    ghost use Rattle.syn_tokens.specs.Entries.{decode, IsFlat};
 
     ghost Value = { Stream };
 
     ghost coded = { stream_code };
 
-    ghost use Rattle.syn_tokens.specs.Trees.{stream_of, bulk};
+    ghost view = { λ s. decode s.entries.items };
 
-    ghost view = { λ s. stream_of s.trees.items };
+    ghost invariant = { λ s. IsFlat s.entries.items s.trees };
+}
 
-    ghost size = { bulk };
-
-    ghost use Rattle.std.proofs.Common.{arith};
-    ghost use Rattle.syn_tokens.specs.Falls.{trees_fall};
-
-    ghost size_decreases = { λ a h. omega (arith, trees_fall a.trees.items) };
+/// Adds a group's signs with these entries between them; refused, it leaves all as it was.
+fn enclose(
+    entries: &mut Vec<Entry>,
+    opening: Entry,
+    content: &mut Vec<Entry>,
+    closing: Entry,
+) -> std::result::Result<(), AllocError>
+    ensures ok { OnOk result (entries.new.items ≡ entries.old.items ++ opening ∷ (content.old.items ++ closing ∷ [])) }
+    ensures err { OnErr result (entries.new.items ≡ entries.old.items) }
+{
+    entries.reserve(content.len().saturating_add(2))?;
+    entries.push(opening)?;
+    entries.append(content)?;
+    entries.push(closing)?;
+    Ok(())
 }
 
 impl TokenStream {
-    ghost use Rattle.syn_tokens.specs.Trees.{stream_of, before};
+    ghost use Rattle.syn_tokens.specs.Trees.{before};
 
     /// The empty stream, which grows in memory from `alloc`.
     pub fn new(alloc: Global) -> TokenStream
         ensures { result ≡ end }
     {
         TokenStream {
-            trees: Vec::new(alloc),
+            entries: Vec::new(alloc),
+            trees: 0,
+            alloc,
+        }
+    }
+
+    /// The stream of these entries, which are so many trees.
+    pub(crate) fn of_entries(entries: Vec<Entry>, trees: usize, alloc: Global) -> TokenStream
+        requires { IsFlat entries.items trees }
+        ensures { result ≡ decode entries.items }
+    {
+        TokenStream {
+            entries,
+            trees,
             alloc,
         }
     }
@@ -58,19 +88,25 @@ impl TokenStream {
         self.alloc
     }
 
-    /// Its token trees.
-    pub fn trees(&self) -> &[TokenTree]
-        ensures { stream_of result.now ≡ self.now }
+    /// Its tokens and the signs of its groups, in order and at every depth.
+    pub fn entries(&self) -> &[Entry]
+        ensures { result.now ≡ encode self.now }
     {
-        self.trees.as_slice()
+        self.entries.as_slice()
+    }
+
+    /// Its trees, to be gone through.
+    pub(crate) fn cursor(&self) -> Cursor<'_>
+        ensures { result ≡ self.now }
+    {
+        Cursor::new(self.entries.as_slice(), self.trees)
     }
 
     /// How many token trees it has, each group counted as one.
-    #[tactic(auto, using(crate::proofs::Streams::length_of))]
     pub fn len(&self) -> usize
         ensures { result ≡ length self.now }
     {
-        self.trees.len()
+        self.cursor().len()
     }
 
     /// Whether it has none.
@@ -78,7 +114,7 @@ impl TokenStream {
     pub fn is_empty(&self) -> bool
         ensures { result ≡ is_end self.now }
     {
-        self.trees.is_empty()
+        self.trees == 0
     }
 
     /// Adds a tree at the end. Where memory is refused, the stream is as it was and the tree is dropped.
@@ -91,12 +127,54 @@ impl TokenStream {
     }
 
     /// The same for prints, by whose type memory alone can be wanting.
-    #[tactic(auto, using(crate::proofs::Streams::stream_of_more))]
     pub fn add(&mut self, tree: TokenTree) -> std::result::Result<(), AllocError>
         ensures ok { OnOk result (self.new ≡ self.old ⧺ before tree end) }
         ensures err { OnErr result (self.new ≡ self.old) }
     {
-        self.trees.push(tree)?;
+        match tree {
+            TokenTree::Group(group) => self.add_group(group),
+            TokenTree::Ident(ident) => self.add_token(Entry::Ident(ident)),
+            TokenTree::Punct(punct) => self.add_token(Entry::Punct(punct)),
+            TokenTree::Literal(literal) => self.add_token(Entry::Literal(literal)),
+        }
+    }
+
+    /// Adds a token at the end; refused, it leaves the stream as it was.
+    fn add_token(&mut self, token: Entry) -> std::result::Result<(), AllocError>
+        requires { IsToken token }
+        ensures ok { OnOk result (self.new ≡ self.old ⧺ decode (token ∷ [])) }
+        ensures err { OnErr result (self.new ≡ self.old) }
+    {
+        self.entries.push(token)?;
+        self.trees += 1;
+        Ok(())
+    }
+
+    /// Adds a group at the end; refused, it leaves the stream as it was.
+    fn add_group(&mut self, tree: Group) -> std::result::Result<(), AllocError>
+        ensures ok { OnOk result (self.new ≡ self.old ⧺ group (delimiter_of tree.delimiter) (at tree.opening) (at tree.closing) tree.stream end) }
+        ensures err { OnErr result (self.new ≡ self.old) }
+    {
+        let Group {
+            delimiter,
+            stream,
+            opening,
+            closing,
+        } = tree;
+        let TokenStream { entries, trees, .. } = stream;
+        let mut content = entries;
+        let opening = Entry::Open(Open {
+            delimiter,
+            span: opening,
+            skip: content.len(),
+            trees,
+        });
+        let closing = Entry::Close(Close {
+            delimiter,
+            span: closing,
+        });
+        enclose(&mut self.entries, opening, &mut content, closing)?;
+        self.trees += 1;
         Ok(())
     }
 
@@ -111,26 +189,27 @@ impl TokenStream {
         ensures ok { OnOk result (self.new ≡ self.old ⧺ punct character (is_joint spacing) (at span) end) }
         ensures err { OnErr result (self.new ≡ self.old) }
     {
-        self.add(TokenTree::Punct(Punct::new(character, spacing, span)))
+        self.add_token(Entry::Punct(Punct::new(character, spacing, span)))
     }
 
     /// Adds the trees of another stream at the end; refused, it leaves this one as it was.
-    #[tactic(auto, using(crate::proofs::Streams::stream_of_append))]
     pub fn append(&mut self, other: TokenStream) -> std::result::Result<(), AllocError>
         ensures ok { OnOk result (self.new ≡ self.old ⧺ other) }
         ensures err { OnErr result (self.new ≡ self.old) }
     {
-        let TokenStream { trees, alloc: _ } = other;
-        let mut trees = trees;
-        self.trees.append(&mut trees)?;
+        let TokenStream { entries, trees, .. } = other;
+        let mut entries = entries;
+        self.entries.append(&mut entries)?;
+        self.trees += trees;
         Ok(())
     }
 
     /// Keeps the first trees, `count` of them, where there are more; a group counts as one.
-    #[tactic(auto, using(crate::proofs::Places::stream_of_take))]
     pub fn truncate(&mut self, count: usize)
         ensures { self.new ≡ first count self.old }
     {
-        self.trees.truncate(count);
+        let kept = self.cursor().front(count).len();
+        self.entries.truncate(kept);
+        self.trees = self.trees.min(count);
     }
 }

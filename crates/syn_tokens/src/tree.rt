@@ -9,7 +9,6 @@ use crate::span::Span;
 use crate::stream::TokenStream;
 
 /// A delimited stream.
-#[cycle(tokens)]
 #[derive(Drop)]
 pub struct Group {
     pub delimiter: Delimiter,
@@ -21,7 +20,6 @@ pub struct Group {
 }
 
 /// A token, or a group of token trees.
-#[cycle(tokens)]
 #[derive(Drop)]
 pub enum TokenTree {
     Group(Group),

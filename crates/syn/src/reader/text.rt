@@ -1,22 +1,23 @@
 //! The text of token streams.
 ghost use Rattle.std.specs.Prelude.{◌≡◌, [], ◌++◌, true, false, OnOk, IfOk, IfErr, MatchOption, string_bytes};
 ghost use Rattle.std.specs.Char.{encode_utf8};
-ghost use Rattle.syn_grammar.specs.Tokens.{end, None, is_visible};
+ghost use Rattle.syn_grammar.specs.Tokens.{None, is_visible};
 ghost use Rattle.syn_tokens.specs.Delimiters.{delimiter_of};
 ghost use Rattle.syn_tokens.specs.Punct.{is_joint};
-ghost use Rattle.syn_tokens.specs.Trees.{before};
 ghost use Rattle.syn.specs.Spelling.{opening_sign, closing_sign};
-ghost use Rattle.syn.specs.Texts.{gap, follows_directly, text_behind, text_of};
+ghost use Rattle.syn.specs.Texts.{gap, text_of};
+ghost use Rattle.syn.specs.EntryTexts.{entry_text, direct_behind};
 
 use std::alloc::AllocError;
 use syn_tokens::delimiter::Delimiter;
+use syn_tokens::entry::Entry;
 use syn_tokens::error::Result;
 use syn_tokens::punct::{Punct, Spacing};
 use syn_tokens::stream::TokenStream;
-use syn_tokens::tree::TokenTree;
 
 /// The text of a token stream: its tokens and the signs of its groups with one space between them, and none behind a
 /// mark's character that is `Joint`. The signs of a `None` group are not written. Refused only where memory is.
+#[tactic(auto, using(crate::proofs::WrittenEntries::whole_text, crate::proofs::WrittenEntries::next_entry, crate::proofs::WrittenEntries::no_entry))]
 pub fn token_text(tokens: &TokenStream) -> Result<String>
     ensures text { IfOk result (λ text. string_bytes text ≡ text_of tokens.now) }
     ensures memory { IfErr result (λ e. e ≡ []) }
@@ -25,7 +26,9 @@ pub fn token_text(tokens: &TokenStream) -> Result<String>
         text: String::new(tokens.alloc()),
         glued: true,
     };
-    writer.stream(tokens)?;
+    for entry in tokens.entries() {
+        writer.entry(entry)?;
+    }
     Ok(writer.text)
 }
 
@@ -38,33 +41,22 @@ struct Writer {
 }
 
 impl Writer {
-    #[cycle(writer)]
-    fn stream(&mut self, stream: &TokenStream) -> std::result::Result<(), AllocError>
-        ensures text { OnOk result (string_bytes self.new.text ≡ string_bytes self.old.text ++ text_behind self.old.glued stream.now) }
-        ensures glued { OnOk result (self.new.glued ≡ follows_directly self.old.glued stream.now) }
+    /// An entry; the signs of an invisible group are not written.
+    fn entry(&mut self, entry: &Entry) -> std::result::Result<(), AllocError>
+        ensures text { OnOk result (string_bytes self.new.text ≡ string_bytes self.old.text ++ entry_text self.old.glued entry.now) }
+        ensures glued { OnOk result (self.new.glued ≡ direct_behind self.old.glued entry.now) }
     {
-        for tree in stream.trees() {
-            self.tree(tree)?;
-        }
-        Ok(())
-    }
-
-    #[cycle(writer)]
-    fn tree(&mut self, tree: &TokenTree) -> std::result::Result<(), AllocError>
-        ensures text { OnOk result (string_bytes self.new.text ≡ string_bytes self.old.text ++ text_behind self.old.glued (before tree.now end)) }
-        ensures glued { OnOk result (self.new.glued ≡ follows_directly self.old.glued (before tree.now end)) }
-    {
-        match tree {
-            TokenTree::Ident(ident) => self.word(ident.text()),
-            TokenTree::Literal(literal) => self.word(literal.text()),
-            TokenTree::Punct(punct) => self.punct(punct),
-            TokenTree::Group(group) => match signs(group.delimiter) {
-                Some((opening, closing)) => {
-                    self.word(opening)?;
-                    self.stream(&group.stream)?;
-                    self.word(closing)
-                }
-                None => self.stream(&group.stream),
+        match entry {
+            Entry::Ident(ident) => self.word(ident.text()),
+            Entry::Literal(literal) => self.word(literal.text()),
+            Entry::Punct(punct) => self.punct(punct),
+            Entry::Open(open) => match signs(open.delimiter) {
+                Some((opening, _)) => self.word(opening),
+                None => Ok(()),
+            },
+            Entry::Close(close) => match signs(close.delimiter) {
+                Some((_, closing)) => self.word(closing),
+                None => Ok(()),
             },
         }
     }

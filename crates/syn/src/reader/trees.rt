@@ -1,9 +1,8 @@
 //! Token trees from lexemes.
-ghost use Rattle.std.specs.Prelude.{◌≡◌, ◌++◌, ◌∷◌, ◌<◌, ◌≤◌, ℕ, List, [], IsTrue, false, length, codes, if◌then◌else◌, IfOk, MatchResult};
-ghost use Rattle.syn_grammar.specs.Tokens.{end};
+ghost use Rattle.std.specs.Prelude.{◌≡◌, ◌++◌, ◌∷◌, ◌<◌, ◌≤◌, ℕ, List, [], IsTrue, false, length, if◌then◌else◌, IfOk, MatchResult};
 ghost use Rattle.syn_tokens.specs.Spans.{at};
 ghost use Rattle.syn_tokens.specs.Punct.{is_punct_character};
-ghost use Rattle.syn_tokens.specs.Trees.{before};
+ghost use Rattle.syn_tokens.specs.Entries.{decode, IsToken};
 ghost use Rattle.syn_tokens.specs.Delimiters.{delimiter_of};
 ghost use Rattle.syn.specs.Flat.{opened, closed, sign, flat};
 ghost use Rattle.syn.specs.Spelling.{IsFaultWithin, doc_tokens};
@@ -11,32 +10,20 @@ ghost use Rattle.syn.specs.Spelling.{IsFaultWithin, doc_tokens};
 use crate::reader::docs::{Doc, doc_of, quoted};
 use crate::reader::lexer::Lexeme;
 use std::alloc::{AllocError, Global};
+use syn_tokens::builder::StreamBuilder;
 use syn_tokens::delimiter::Delimiter;
-use syn_tokens::error::{Error, Result};
+use syn_tokens::entry::Entry;
+use syn_tokens::error::Result;
 use syn_tokens::ident::Ident;
 use syn_tokens::literal::{LitKind, Literal};
 use syn_tokens::punct::{Punct, Spacing};
 use syn_tokens::span::Span;
 use syn_tokens::stream::TokenStream;
-use syn_tokens::tree::{Group, TokenTree};
-
-/// A group whose closing sign is still to come.
-#[derive(Drop)]
-struct OpenGroup {
-    delimiter: Delimiter,
-    opening: Span,
-    /// What stands before it in the group around it, or in the whole text.
-    outer: TokenStream,
-}
 
 /// Builds token trees from lexemes, one after another.
 #[derive(Drop)]
 pub(super) struct TreeBuilder {
-    alloc: Global,
-    /// From the outermost to the innermost.
-    groups: Vec<OpenGroup>,
-    /// What stands so far in the innermost open group, or in the whole text.
-    stream: TokenStream,
+    inner: StreamBuilder,
 }
 
 impl TreeBuilder {
@@ -48,9 +35,7 @@ impl TreeBuilder {
         ensures { (text : List ℕ) → Builds text result 0 }
     {
         TreeBuilder {
-            alloc,
-            groups: Vec::new(alloc),
-            stream: TokenStream::new(alloc),
+            inner: StreamBuilder::new(alloc),
         }
     }
 
@@ -63,14 +48,14 @@ impl TreeBuilder {
             Lexeme::Open(delimiter, span) => Ok(self.open(delimiter, span)?),
             Lexeme::Close(delimiter, span) => self.close(delimiter, span),
             Lexeme::Ident(text, span) => {
-                let ident = Ident::of_identifier(self.alloc, text, span)?;
-                Ok(self.push(TokenTree::Ident(ident))?)
+                let ident = Ident::of_identifier(self.inner.alloc(), text, span)?;
+                Ok(self.push(Entry::Ident(ident))?)
             }
             Lexeme::Literal(kind, text, span) => {
-                let literal = Literal::new(self.alloc, kind, text, span)?;
-                Ok(self.push(TokenTree::Literal(literal))?)
+                let literal = Literal::new(self.inner.alloc(), kind, text, span)?;
+                Ok(self.push(Entry::Literal(literal))?)
             }
-            Lexeme::Punct(punct) => Ok(self.push(TokenTree::Punct(punct))?),
+            Lexeme::Punct(punct) => Ok(self.push(Entry::Punct(punct))?),
             Lexeme::Comment(text, span) => match doc_of(text) {
                 Some(doc) => self.doc(&doc, span),
                 None => Ok(()),
@@ -80,62 +65,42 @@ impl TreeBuilder {
 
     /// The trees, where no group is open any more. Else refused at the outermost open sign.
     pub(super) fn finish(self) -> Result<TokenStream>
-        ensures { (n : ℕ) → AllWithin n self.groups.items → MatchResult result (λ stream. flat stream ≡ tokens_so_far self) (IsFaultWithin n) }
+        ensures { (n : ℕ) → AllWithin n self.inner.open_groups → MatchResult result (λ stream. flat stream ≡ tokens_so_far self) (IsFaultWithin n) }
     {
-        match self.groups.first() {
-            Some(outermost) => Err(unbalanced(outermost.opening)),
-            None => Ok(self.stream),
-        }
+        self.inner.finish()
     }
 
     /// Goes into a group.
     #[tactic(auto, using(crate::proofs::Groups::opened_more, crate::proofs::Groups::within_more))]
     fn open(&mut self, delimiter: Delimiter, opening: Span) -> std::result::Result<(), AllocError>
         ensures tokens { IfOk result (λ _. tokens_so_far self.new ≡ tokens_so_far self.old ++ (opened (delimiter_of delimiter) (at opening) ∷ [])) }
-        ensures within { (n : ℕ) → AllWithin n self.old.groups.items → opening.start < opening.end → opening.end ≤ n → IfOk result (λ _. AllWithin n self.new.groups.items) }
+        ensures within { (n : ℕ) → AllWithin n self.old.inner.open_groups → opening.start < opening.end → opening.end ≤ n → IfOk result (λ _. AllWithin n self.new.inner.open_groups) }
     {
-        let outer = std::mem::replace(&mut self.stream, TokenStream::new(self.alloc));
-        self.groups.push(OpenGroup {
-            delimiter,
-            opening,
-            outer,
-        })?;
-        Ok(())
+        self.inner.open(delimiter, opening)
     }
 
     /// Goes out of the innermost open group, which becomes a tree of the group around it.
     fn close(&mut self, delimiter: Delimiter, closing: Span) -> Result<()>
         ensures tokens { IfOk result (λ _. tokens_so_far self.new ≡ tokens_so_far self.old ++ (closed (delimiter_of delimiter) (at closing) ∷ [])) }
-        ensures within { (n : ℕ) → AllWithin n self.old.groups.items → closing.start < closing.end → closing.end ≤ n → MatchResult result (λ _. AllWithin n self.new.groups.items) (IsFaultWithin n) }
+        ensures within { (n : ℕ) → AllWithin n self.old.inner.open_groups → closing.start < closing.end → closing.end ≤ n → MatchResult result (λ _. AllWithin n self.new.inner.open_groups) (IsFaultWithin n) }
     {
-        match self.groups.pop() {
-            Some(innermost) if innermost.delimiter == delimiter => {
-                let stream = std::mem::replace(&mut self.stream, innermost.outer);
-                Ok(self.push(TokenTree::Group(Group {
-                    delimiter,
-                    stream,
-                    opening: innermost.opening,
-                    closing,
-                }))?)
-            }
-            _ => Err(unbalanced(closing)),
-        }
+        self.inner.close(delimiter, closing)
     }
 
     /// Adds the tokens of the attribute that a doc comment is; they all stand where the comment does.
     #[tactic(auto, unfolding(syn_tokens::specs::Punct::is_punct_character))]
     fn doc(&mut self, doc: &Doc<'_>, span: Span) -> Result<()>
         ensures tokens { IfOk result (λ _. tokens_so_far self.new ≡ tokens_so_far self.old ++ doc_tokens doc.now.inner doc.now.text.now (at span)) }
-        ensures within { (n : ℕ) → AllWithin n self.old.groups.items → span.start < span.end → span.end ≤ n → MatchResult result (λ _. AllWithin n self.new.groups.items) (IsFaultWithin n) }
+        ensures within { (n : ℕ) → AllWithin n self.old.inner.open_groups → span.start < span.end → span.end ≤ n → MatchResult result (λ _. AllWithin n self.new.inner.open_groups) (IsFaultWithin n) }
     {
         self.attribute_sign(doc.inner, span)?;
         self.open(Delimiter::Bracket, span)?;
-        let name = Ident::new(self.alloc, "doc", span)?;
-        self.push(TokenTree::Ident(name))?;
+        let name = Ident::new(self.inner.alloc(), "doc", span)?;
+        self.push(Entry::Ident(name))?;
         self.mark('=', span)?;
-        let text = quoted(self.alloc, doc.text)?;
-        let literal = Literal::new(self.alloc, LitKind::Str, text.as_str(), span)?;
-        self.push(TokenTree::Literal(literal))?;
+        let text = quoted(self.inner.alloc(), doc.text)?;
+        let literal = Literal::new(self.inner.alloc(), LitKind::Str, text.as_str(), span)?;
+        self.push(Entry::Literal(literal))?;
         self.close(Delimiter::Bracket, span)
     }
 
@@ -143,7 +108,7 @@ impl TreeBuilder {
     #[tactic(auto, using(crate::proofs::Groups::joined), unfolding(syn_tokens::specs::Punct::is_punct_character))]
     fn attribute_sign(&mut self, inner: bool, span: Span) -> std::result::Result<(), AllocError>
         ensures tokens { IfOk result (λ _. tokens_so_far self.new ≡ tokens_so_far self.old ++ (sign 35 false (at span) ∷ (if inner then sign 33 false (at span) ∷ [] else []))) }
-        ensures groups { self.new.groups ≡ self.old.groups }
+        ensures groups { self.new.inner.open_groups ≡ self.old.inner.open_groups }
     {
         self.mark('#', span)?;
         if inner { self.mark('!', span) } else { Ok(()) }
@@ -153,25 +118,19 @@ impl TreeBuilder {
     fn mark(&mut self, character: char, span: Span) -> std::result::Result<(), AllocError>
         requires { IsTrue (is_punct_character character) }
         ensures tokens { IfOk result (λ _. tokens_so_far self.new ≡ tokens_so_far self.old ++ (sign character false (at span) ∷ [])) }
-        ensures groups { self.new.groups ≡ self.old.groups }
+        ensures groups { self.new.inner.open_groups ≡ self.old.inner.open_groups }
     {
         let punct = Punct::new(character, Spacing::Alone, span);
-        self.push(TokenTree::Punct(punct))
+        self.push(Entry::Punct(punct))
     }
 
-    /// Adds a tree.
+    /// Adds a token.
     #[tactic(auto, using(crate::proofs::Flattened::flat_more))]
-    fn push(&mut self, tree: TokenTree) -> std::result::Result<(), AllocError>
-        ensures tokens { IfOk result (λ _. tokens_so_far self.new ≡ tokens_so_far self.old ++ flat (before tree end)) }
-        ensures groups { self.new.groups ≡ self.old.groups }
+    fn push(&mut self, token: Entry) -> std::result::Result<(), AllocError>
+        requires { IsToken token }
+        ensures tokens { IfOk result (λ _. tokens_so_far self.new ≡ tokens_so_far self.old ++ flat (decode (token ∷ []))) }
+        ensures groups { self.new.inner.open_groups ≡ self.old.inner.open_groups }
     {
-        self.stream.add(tree)?;
-        Ok(())
+        self.inner.push(token)
     }
-}
-
-fn unbalanced(span: Span) -> Error
-    ensures { result ≡ (span, codes "unbalanced group") ∷ [] }
-{
-    Error::new(span, "unbalanced group")
 }

@@ -3,8 +3,9 @@ use crate::data::{Field, Fields, FieldsUnnamed};
 use crate::derive::{Data, DeriveInput};
 use crate::lower::{Generics, Path, Type};
 use crate::restriction::{VisRestricted, Visibility};
-use crate::token::{Delimiter, Ident, Mark, Punct, Spacing, Span, TokenStream, TokenTree};
+use crate::token::{Delimiter, Ident, Mark, Punct, Spacing, Span, TokenStream};
 use std::alloc::{AllocError, Global};
+use syn_tokens::entry::Entry;
 
 /// A tree that can be shown.
 pub trait Outlined {
@@ -57,26 +58,13 @@ impl TreeText {
 }
 
 impl TreeText {
-    #[cycle(shown)]
-    fn stream(&mut self, stream: &TokenStream) -> Result<(), AllocError> {
-        for tree in stream.trees() {
-            self.tree(tree)?;
-        }
-        Ok(())
-    }
-
-    #[cycle(shown)]
-    fn tree(&mut self, tree: &TokenTree) -> Result<(), AllocError> {
-        match tree {
-            TokenTree::Ident(ident) => self.token(ident.text(), ident.span),
-            TokenTree::Literal(literal) => self.token(literal.text(), literal.span),
-            TokenTree::Punct(punct) => self.punct(punct),
-            TokenTree::Group(group) => {
-                let (opening, closing) = signs(group.delimiter);
-                self.token(opening, group.opening)?;
-                self.stream(&group.stream)?;
-                self.token(closing, group.closing)
-            }
+    fn entry(&mut self, entry: &Entry) -> Result<(), AllocError> {
+        match entry {
+            Entry::Ident(ident) => self.token(ident.text(), ident.span),
+            Entry::Literal(literal) => self.token(literal.text(), literal.span),
+            Entry::Punct(punct) => self.punct(punct),
+            Entry::Open(open) => self.token(signs(open.delimiter).0, open.span),
+            Entry::Close(close) => self.token(signs(close.delimiter).1, close.span),
         }
     }
 
@@ -101,7 +89,10 @@ fn signs(delimiter: Delimiter) -> (&'static str, &'static str) {
 
 impl Outlined for TokenStream {
     fn show(&self, out: &mut TreeText) -> Result<(), AllocError> {
-        out.stream(self)
+        for entry in self.entries() {
+            out.entry(entry)?;
+        }
+        Ok(())
     }
 }
 

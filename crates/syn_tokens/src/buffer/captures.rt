@@ -4,23 +4,23 @@ ghost use Rattle.syn_grammar.specs.Tokens.{end};
 ghost use Rattle.syn_grammar.specs.Take.{before};
 
 use crate::buffer::ParseBuffer;
-use crate::copies::copy_trees;
+use crate::copies::{copy_all, copy_first};
+use crate::cursor::Cursor;
 use crate::error::Result;
 use crate::stream::TokenStream;
 use std::alloc::AllocError;
 
 impl<'a> ParseBuffer<'a> {
     /// A copy of what was read from this buffer up to the other, which reads on from it.
-    #[tactic(auto, using(crate::proofs::Places::stream_of_take, crate::proofs::Streams::length_of), unfolding(syn_grammar::specs::Take::before))]
+    #[tactic(auto, unfolding(syn_grammar::specs::Take::before))]
     pub fn copy_between(
         &self,
         end: &ParseBuffer<'a>,
     ) -> std::result::Result<TokenStream, AllocError>
         ensures { IfOk result (λ copy. copy ≡ before self.now end.now) }
     {
-        let count = self.trees.len().saturating_sub(end.trees.len());
-        let (read, _) = self.trees.split_at(count);
-        copy_trees(read, self.alloc)
+        let count = self.tokens.len().saturating_sub(end.tokens.len());
+        copy_first(&self.tokens, count, self.alloc)
     }
 
     /// A copy of what was read from this buffer up to the other, where that reads on from this one. Refused only where
@@ -38,8 +38,8 @@ impl<'a> ParseBuffer<'a> {
         ensures ok { OnOk result (self.new ≡ end) }
         ensures err { OnErr result (self.new ≡ self.old) }
     {
-        let copy = copy_trees(self.trees, self.alloc)?;
-        self.trees = &[];
+        let copy = copy_all(&self.tokens, self.alloc)?;
+        self.tokens = Cursor::none();
         Ok(copy)
     }
 

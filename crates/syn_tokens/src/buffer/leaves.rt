@@ -32,13 +32,13 @@ impl<'a> ParseBuffer<'a> {
         ensures reads { Says IsSyntax syntax_of_ident (take_token name self.old) result self.new }
         ensures moved { Takes 1 self.old result self.new }
     {
-        let Some((ident, rest)) = split_ident(self.trees) else {
+        let Some((ident, rest)) = split_ident(&self.tokens) else {
             return Err(self.refusal(Expectation::Identifier));
         };
         if ident.is_keyword() {
             return Err(self.refusal(Expectation::Identifier));
         }
-        self.trees = rest;
+        self.tokens = rest;
         Ok(ident.copy()?)
     }
 
@@ -48,10 +48,10 @@ impl<'a> ParseBuffer<'a> {
         ensures reads { Says IsSyntax syntax_of_ident (take_token identifier self.old) result self.new }
         ensures moved { Takes 1 self.old result self.new }
     {
-        let Some((ident, rest)) = split_ident(self.trees) else {
+        let Some((ident, rest)) = split_ident(&self.tokens) else {
             return Err(self.refusal(Expectation::Identifier));
         };
-        self.trees = rest;
+        self.tokens = rest;
         Ok(ident.copy()?)
     }
 
@@ -61,13 +61,13 @@ impl<'a> ParseBuffer<'a> {
         ensures reads { Says IsSyntax syntax_of_ident (take_token (name_or path_words) self.old) result self.new }
         ensures moved { Takes 1 self.old result self.new }
     {
-        let Some((ident, rest)) = split_ident(self.trees) else {
+        let Some((ident, rest)) = split_ident(&self.tokens) else {
             return Err(self.refusal(Expectation::Identifier));
         };
         if ident.is_keyword() && !is_path_word(ident) {
             return Err(self.refusal(Expectation::Identifier));
         }
-        self.trees = rest;
+        self.tokens = rest;
         Ok(ident.copy()?)
     }
 
@@ -78,13 +78,13 @@ impl<'a> ParseBuffer<'a> {
         ensures reads { Says IsSyntax (syntax_of_word text.now) (take_token (word text.now) self.old) result self.new }
         ensures moved { Takes 1 self.old result self.new }
     {
-        let Some((ident, rest)) = split_ident(self.trees) else {
+        let Some((ident, rest)) = split_ident(&self.tokens) else {
             return Err(self.refusal(expectation));
         };
         if !ident.is(text) {
             return Err(self.refusal(expectation));
         }
-        self.trees = rest;
+        self.tokens = rest;
         Ok(ident.span)
     }
 
@@ -94,10 +94,10 @@ impl<'a> ParseBuffer<'a> {
         ensures reads { Says IsSyntax syntax_of_literal (take_token any_literal self.old) result self.new }
         ensures moved { Takes 1 self.old result self.new }
     {
-        let Some((literal, rest)) = split_literal(self.trees) else {
+        let Some((literal, rest)) = split_literal(&self.tokens) else {
             return Err(self.refusal(Expectation::Literal));
         };
-        self.trees = rest;
+        self.tokens = rest;
         Ok(literal.copy()?)
     }
 
@@ -107,10 +107,10 @@ impl<'a> ParseBuffer<'a> {
         ensures reads { Says IsSyntax syntax_of_apostrophe (take_lifetime self.old) result self.new }
         ensures moved { Takes 1 self.old result self.new }
     {
-        let Some((apostrophe, ident, rest)) = split_lifetime(self.trees) else {
+        let Some((apostrophe, ident, rest)) = split_lifetime(&self.tokens) else {
             return Err(self.refusal(Expectation::Lifetime));
         };
-        self.trees = rest;
+        self.tokens = rest;
         Ok((apostrophe.span, ident.copy()?))
     }
 
@@ -119,7 +119,7 @@ impl<'a> ParseBuffer<'a> {
     pub(crate) fn is_at_name(&self) -> bool
         ensures { result ≡ sees at_name self.now }
     {
-        match split_ident(self.trees) {
+        match split_ident(&self.tokens) {
             Some((ident, _)) => !ident.is_keyword(),
             None => false,
         }
@@ -131,7 +131,7 @@ impl<'a> ParseBuffer<'a> {
         requires { is_known_word text.now ≡ true }
         ensures { result ≡ sees (at_word text.now) self.now }
     {
-        match split_ident(self.trees) {
+        match split_ident(&self.tokens) {
             Some((ident, _)) => ident.is(text),
             None => false,
         }
@@ -142,7 +142,7 @@ impl<'a> ParseBuffer<'a> {
     pub(crate) fn is_at_literal(&self) -> bool
         ensures { result ≡ sees at_any_literal self.now }
     {
-        split_literal(self.trees).is_some()
+        split_literal(&self.tokens).is_some()
     }
 
     /// Whether a group with these signs stands next.
@@ -150,6 +150,6 @@ impl<'a> ParseBuffer<'a> {
     pub(crate) fn is_at_group(&self, delimiter: Delimiter) -> bool
         ensures { result ≡ sees (at_group (delimiter_of delimiter)) self.now }
     {
-        split_group(self.trees, delimiter).is_some()
+        split_group(&self.tokens, delimiter).is_some()
     }
 }

@@ -20,10 +20,10 @@ impl<'a> ParseBuffer<'a> {
         ensures reads { Says IsSyntax (syntax_of_mark (c ∷ [])) (take_mark (c ∷ []) self.old) result self.new }
         ensures moved { Takes 1 self.old result self.new }
     {
-        let Some((first, rest)) = split_last(self.trees, c) else {
+        let Some((first, rest)) = split_last(&self.tokens, c) else {
             return Err(self.refusal(expectation));
         };
-        self.trees = rest;
+        self.tokens = rest;
         Ok([first])
     }
 
@@ -38,13 +38,13 @@ impl<'a> ParseBuffer<'a> {
         ensures reads { Says IsSyntax (syntax_of_mark (c ∷ d ∷ [])) (take_mark (c ∷ d ∷ []) self.old) result self.new }
         ensures moved { Takes 1 self.old result self.new }
     {
-        let Some((first, rest)) = split_joint(self.trees, c) else {
+        let Some((first, rest)) = split_joint(&self.tokens, c) else {
             return Err(self.refusal(expectation));
         };
-        let Some((second, rest)) = split_last(rest, d) else {
+        let Some((second, rest)) = split_last(&rest, d) else {
             return Err(self.refusal(expectation));
         };
-        self.trees = rest;
+        self.tokens = rest;
         Ok([first, second])
     }
 
@@ -60,16 +60,16 @@ impl<'a> ParseBuffer<'a> {
         ensures reads { Says IsSyntax (syntax_of_mark (c ∷ d ∷ e ∷ [])) (take_mark (c ∷ d ∷ e ∷ []) self.old) result self.new }
         ensures moved { Takes 1 self.old result self.new }
     {
-        let Some((first, rest)) = split_joint(self.trees, c) else {
+        let Some((first, rest)) = split_joint(&self.tokens, c) else {
             return Err(self.refusal(expectation));
         };
-        let Some((second, rest)) = split_joint(rest, d) else {
+        let Some((second, rest)) = split_joint(&rest, d) else {
             return Err(self.refusal(expectation));
         };
-        let Some((third, rest)) = split_last(rest, e) else {
+        let Some((third, rest)) = split_last(&rest, e) else {
             return Err(self.refusal(expectation));
         };
-        self.trees = rest;
+        self.tokens = rest;
         Ok([first, second, third])
     }
 
@@ -78,7 +78,7 @@ impl<'a> ParseBuffer<'a> {
     pub(crate) fn is_at_mark1(&self, c: char) -> bool
         ensures { result ≡ sees (at_mark (c ∷ [])) self.now }
     {
-        split_last(self.trees, c).is_some()
+        split_last(&self.tokens, c).is_some()
     }
 
     /// Whether this mark of two characters stands next.
@@ -87,8 +87,8 @@ impl<'a> ParseBuffer<'a> {
         requires { known_mark (c ∷ d ∷ []) ≡ true }
         ensures { result ≡ sees (at_mark (c ∷ d ∷ [])) self.now }
     {
-        match split_joint(self.trees, c) {
-            Some((_, rest)) => split_last(rest, d).is_some(),
+        match split_joint(&self.tokens, c) {
+            Some((_, rest)) => split_last(&rest, d).is_some(),
             None => false,
         }
     }
@@ -99,11 +99,11 @@ impl<'a> ParseBuffer<'a> {
         requires { known_mark (c ∷ d ∷ e ∷ []) ≡ true }
         ensures { result ≡ sees (at_mark (c ∷ d ∷ e ∷ [])) self.now }
     {
-        let Some((_, rest)) = split_joint(self.trees, c) else {
+        let Some((_, rest)) = split_joint(&self.tokens, c) else {
             return false;
         };
-        match split_joint(rest, d) {
-            Some((_, rest)) => split_last(rest, e).is_some(),
+        match split_joint(&rest, d) {
+            Some((_, rest)) => split_last(&rest, e).is_some(),
             None => false,
         }
     }

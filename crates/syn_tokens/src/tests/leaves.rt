@@ -10,10 +10,12 @@ use std::test::Fail;
 
 #[test]
 fn texts(rt: HostRuntime) -> Result<(), Fail> {
-    let text = Text::from_str(rt.alloc(), "größe")?;
-    let copy = text.share()?;
-    assert_eq!(rt; text.as_str(), "größe");
-    assert_eq!(rt; copy.as_str(), "größe");
+    for want in ["größe", "a text of more than sixteen bytes"] {
+        let text = Text::from_str(rt.alloc(), want)?;
+        let copy = text.share()?;
+        assert_eq!(rt; text.as_str(), want);
+        assert_eq!(rt; copy.as_str(), want);
+    }
     Ok(())
 }
 

@@ -21,9 +21,9 @@ returns-clause-tokens c =
 
 pub returns-clause-within : goal.returns-clause-within
 returns-clause-within c = λ n within starts ends.
-    let signed : AllWithin n c.attribute_sign.new.self.groups.items = rw c.in_ok-attribute_sign.ensures.groups within in
+    let signed : AllWithin n c.attribute_sign.new.self.inner.open_groups = rw c.in_ok-attribute_sign.ensures.groups within in
     let opened = c.in_ok-open.ensures.within n signed starts ends in
-    let name : AllWithin n c.push.new.self.groups.items = rw c.in_ok-push.ensures.groups opened in
-    let equals : AllWithin n c.mark.new.self.groups.items = rw c.in_ok-mark.ensures.groups name in
-    let literal : AllWithin n c.push-2.new.self.groups.items = rw c.in_ok-push-2.ensures.groups equals in
+    let name : AllWithin n c.push.new.self.inner.open_groups = rw c.in_ok-push.ensures.groups opened in
+    let equals : AllWithin n c.mark.new.self.inner.open_groups = rw c.in_ok-mark.ensures.groups name in
+    let literal : AllWithin n c.push-2.new.self.inner.open_groups = rw c.in_ok-push-2.ensures.groups equals in
     c.close.ensures.within n literal starts ends

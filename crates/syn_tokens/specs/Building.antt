@@ -1,0 +1,78 @@
+-- Token streams that are being built.
+use Rattle.std.specs.Prelude.{◌≡◌, List, [], ◌∷◌, ◌++◌, codes, refl}
+use Rattle.std.specs.Coded.{Coded, code_by, coded×, coded_list}
+use Rattle.syn_grammar.specs.Tokens.{Stream, end, group, ◌⧺◌}
+use Rattle.syn_grammar.specs.Codes.{stream_code}
+use Rattle.syn_tokens.specs.Spans.{at}
+use Rattle.syn_tokens.specs.Delimiters.{delimiter_of}
+use Rattle.syn_tokens.specs.Faults.{FaultValue}
+use Rattle.syn_tokens.specs.Entries.{encode, states}
+use Rattle.syn_tokens.specs.declared.span.Span.{Span}
+use Rattle.syn_tokens.specs.contracts.span.Span as span
+use Rattle.syn_tokens.specs.declared.delimiter.Delimiter.{Delimiter}
+use Rattle.syn_tokens.specs.contracts.delimiter.Delimiter as delimiter
+use Rattle.syn_tokens.specs.declared.entry.Open.{Open}
+use Rattle.syn_tokens.specs.declared.entry.Entry.{Entry}
+use Rattle.syn_tokens.specs.declared.entry.Entry.TheVariants as E
+
+-- a group whose closing sign is still to come
+pub record OpenGroup : Type 0 where
+  pub delimiter : Delimiter
+  pub opening : Span
+  pub outer : Stream  -- what stands before it in the group around it, or in the whole stream
+
+-- what was added so far
+pub record Building : Type 0 where
+  pub open_groups : List OpenGroup  -- from the outermost to the innermost
+  pub stream : Stream  -- what stands so far in the innermost open group, or in the whole stream
+
+abbrev pub coded_group : Coded OpenGroup
+coded_group = code_by (Delimiter × (Span × Stream)) (coded× delimiter.the_row.coded (coded× span.the_row.coded stream_code)) (λ g. (g.delimiter, (g.opening, g.outer))) (λ p. record { delimiter = p.0; opening = p.1.0; outer = p.1.1 }) (λ _. refl)
+
+abbrev pub coded_building : Coded Building
+coded_building = code_by (List OpenGroup × Stream) (coded× (coded_list coded_group) stream_code) (λ b. (b.open_groups, b.stream)) (λ p. record { open_groups = p.0; stream = p.1 }) (λ _. refl)
+
+-- THE ENTRIES SO FAR
+
+-- the opening sign of a group that is still open: how far its closing sign stands isn't known yet
+abbrev pub open_sign : OpenGroup → Entry
+open_sign g = E.Open (record { delimiter = g.delimiter; span = g.opening; skip = 0; trees = 0 })
+
+abbrev pub laid : List OpenGroup → Stream → List Entry
+laid [] s = encode s
+laid (g ∷ gs) s = encode g.outer ++ open_sign g ∷ laid gs s
+
+-- the groups that are open, from what stands before the first of them and from the content of each
+abbrev pub groups : Stream → List (Open × Stream) → List OpenGroup
+groups s [] = []
+groups s (p ∷ ps) = record { delimiter = p.0.delimiter; opening = p.0.span; outer = s } ∷ groups p.1 ps
+
+-- the content of the innermost
+abbrev pub content : Stream → List (Open × Stream) → Stream
+content s [] = s
+content s (p ∷ ps) = content p.1 ps
+
+abbrev pub building : List Entry → Building
+building es = record { open_groups = groups (states es).trees (states es).opened; stream = content (states es).trees (states es).opened }
+
+-- WHAT CALLS DO
+
+-- the innermost open group is closed, and is a tree of the group around it
+pub record Closes (delimiter : Delimiter) (closing : Span) (old new : Building) : Type 0 where
+  pub around : List OpenGroup
+  pub innermost : OpenGroup
+  pub was : old.open_groups ≡ around ++ innermost ∷ []
+  pub delimits : innermost.delimiter ≡ delimiter
+  pub is : new ≡ record { open_groups = around; stream = innermost.outer ⧺ group (delimiter_of delimiter) (at innermost.opening) (at closing) old.stream end }
+
+-- the innermost open group has another delimiter, or no group is open
+abbrev pub NotOpen : Delimiter → Building → Type 0
+NotOpen d b = (around : List OpenGroup) (g : OpenGroup) → b.open_groups ≡ around ++ g ∷ [] → g.delimiter ≡ d → ⊥
+
+abbrev pub unbalanced : Span → List FaultValue
+unbalanced s = (s, codes "unbalanced group") ∷ []
+
+-- memory was refused, or a sign there closes no group, for which this is the reason
+abbrev pub IsUnbalanced : Span → Type 0 → List FaultValue → Type 0
+IsUnbalanced s reason [] = Unit {0}
+IsUnbalanced s reason (f ∷ fs) = (f ∷ fs ≡ unbalanced s) × reason

@@ -1,0 +1,119 @@
+//! Each mark: seen and read in its own characters alone, and printed as those.
+use crate::buffer::ParseBuffer;
+use crate::error::Result;
+use crate::parse::Parse;
+use crate::punct::{Punct, Spacing};
+use crate::read::Peek;
+use crate::span::Span;
+use crate::stream::TokenStream;
+use crate::token::{self, Mark, MarkKind};
+use crate::tree::TokenTree;
+use std::alloc::{AllocError, Global};
+use std::test::Fail;
+
+/// The byte at this place.
+fn span(start: usize) -> Span {
+    Span {
+        start,
+        end: start.saturating_add(1),
+    }
+}
+
+/// The stream of these characters, each of one byte: all but the last one in this spacing.
+fn stream_of(alloc: Global, characters: &str, spacing: Spacing) -> Result<TokenStream> {
+    let mut stream = TokenStream::new(alloc);
+    for (at, character) in characters.char_indices() {
+        let is_last = at.saturating_add(1) == characters.len();
+        let spacing = if is_last { Spacing::Alone } else { spacing };
+        if Punct::is_punct_character(character) {
+            stream.push(TokenTree::Punct(Punct::new(character, spacing, span(at))))?;
+        }
+    }
+    Ok(stream)
+}
+
+/// A mark of any number of characters.
+trait Printed: Peek + Parse + Drop {
+    /// Adds the mark at the end of a stream.
+    fn print_to(&self, out: &mut TokenStream) -> std::result::Result<(), AllocError>;
+}
+
+impl<K: MarkKind<N>, const N: usize> Printed for Mark<K, N> {
+    fn print_to(&self, out: &mut TokenStream) -> std::result::Result<(), AllocError> {
+        self.print(out)
+    }
+}
+
+/// Whether such a mark is seen and read in the stream, and printed as it.
+fn is_read<M: Printed>(stream: &TokenStream) -> Result<bool> {
+    let mut input = ParseBuffer::new(stream);
+    let seen = input.peek::<M>();
+    let mark = input.parse::<M>()?;
+    let mut printed = TokenStream::new(stream.alloc());
+    mark.print_to(&mut printed)?;
+    Ok(seen && input.is_empty() && printed == *stream)
+}
+
+/// Whether such a mark is neither seen nor read in the stream, with this fault at its first token, and nothing is read.
+fn is_refused<M: Printed>(stream: &TokenStream, text: &str) -> bool {
+    let mut input = ParseBuffer::new(stream);
+    let seen = input.peek::<M>();
+    let Err(error) = input.parse::<M>() else {
+        return false;
+    };
+    let told = match error.faults() {
+        [fault] => fault.span == span(0) && fault.text == text,
+        _ => false,
+    };
+    !seen && told && input.span() == span(0)
+}
+
+/// Whether such marks are the ones of these characters, and are refused with this fault where the last one is another, or
+/// where they aren't joined.
+fn is_mark<M: Printed>(alloc: Global, characters: &str, other: &str, fault: &str) -> Result<bool> {
+    let apart = stream_of(alloc, characters, Spacing::Alone)?;
+    let other = stream_of(alloc, other, Spacing::Joint)?;
+    let is_apart = characters.len() > 1 && !is_refused::<M>(&apart, fault);
+    if is_apart || !is_refused::<M>(&other, fault) {
+        return Ok(false);
+    }
+    is_read::<M>(&stream_of(alloc, characters, Spacing::Joint)?)
+}
+
+/// Fails where one of these types isn't the mark of its characters. Behind each stand other characters that are no such
+/// mark.
+macro_rules! assert_marks {
+    ($rt:ident; $($kind:ident $text:literal $other:literal)*) => {
+        $(
+            let fault = concat!("expected `", $text, "`");
+            assert!($rt; is_mark::<token::$kind>($rt.alloc(), $text, $other, fault)?, $text);
+        )*
+    };
+}
+
+#[test]
+fn of_one_character(rt: HostRuntime) -> std::result::Result<(), Fail> {
+    assert_marks!(rt;
+        And "&" "|" At "@" "#" Caret "^" "&" Colon ":" ";" Comma "," "." Dollar "$" "%"
+        Dot "." "," Eq "=" "-" Gt ">" "<" Lt "<" ">" Minus "-" "+" Not "!" "?" Or "|" "&"
+        Percent "%" "$" Plus "+" "-" Pound "#" "@" Question "?" "!" Semi ";" ":" Slash "/" "*"
+        Star "*" "/" Tilde "~" "'");
+    Ok(())
+}
+
+#[test]
+fn of_two_characters(rt: HostRuntime) -> std::result::Result<(), Fail> {
+    assert_marks!(rt;
+        AndAnd "&&" "&=" AndEq "&=" "&&" CaretEq "^=" "^" DotDot ".." ".=" EqEq "==" "=>"
+        FatArrow "=>" "==" Ge ">=" ">>" Le "<=" "<<" MinusEq "-=" "->" Ne "!=" "!"
+        OrEq "|=" "||" OrOr "||" "|=" PathSep "::" ":" PercentEq "%=" "%" PlusEq "+=" "++"
+        RArrow "->" "-=" Shl "<<" "<=" Shr ">>" ">=" SlashEq "/=" "=/" StarEq "*=" "=*");
+    Ok(())
+}
+
+#[test]
+fn of_three_characters(rt: HostRuntime) -> std::result::Result<(), Fail> {
+    assert_marks!(rt;
+        DotDotDot "..." "..=" ShlEq "<<=" "<<" ShrEq ">>=" ">=>");
+    Ok(())
+}
