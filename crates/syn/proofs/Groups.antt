@@ -47,7 +47,7 @@ close_tokens : (d : Delimiter) (s : TokenSpan) (old new : Building) → Closes d
 close_tokens d s old new h =
     let last : List Token = closed (delimiter_of d) (at s) ∷ [] in
     let More : Delimiter → Type 0 = λ e. (tokens_around h.around ++ flat h.innermost.outer) ++ (opened (delimiter_of e) (at h.innermost.opening) ∷ (flat old.stream ++ last))
-        ≡ (tokens_around (h.around ++ (h.innermost ∷ [])) ++ flat old.stream) ++ last in
+    ≡ (tokens_around (h.around ++ (h.innermost ∷ [])) ++ flat old.stream) ++ last in
     let more = subst More h.delimits (closed_more h.around h.innermost (flat old.stream) last) in
     rw (h.is, h.was)
     (ap (λ l. tokens_around h.around ++ l) (flat_append h.innermost.outer (group (delimiter_of d) (at h.innermost.opening) (at s) old.stream end))

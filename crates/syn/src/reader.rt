@@ -6,6 +6,7 @@ ghost use Rattle.syn.specs.Spelling.{Spells, IsFaultWithin};
 mod cursor;
 mod docs;
 mod lexer;
+mod names;
 mod text;
 mod trees;
 
@@ -28,7 +29,7 @@ pub fn read_tokens(alloc: Global, text: &str) -> Result<TokenStream>
     ensures visible { IfOk result (λ stream. visible stream ≡ true) }
     ensures spelled { MatchResult result (λ stream. Spells text.now stream) (IsFaultWithin (length text.now)) }
 {
-    let mut trees = TreeBuilder::new(alloc);
+    let mut trees = TreeBuilder::new(alloc, text.len())?;
     for lexeme in Lexer::new(text) {
         trees.add(lexeme?)?;
     }

@@ -13,16 +13,17 @@ ghost use Rattle.syn.specs.Spelling.{Stands, IsFaultWithin};
 
 use crate::reader::cursor::Cursor;
 use syn_tokens::delimiter::Delimiter;
-use syn_tokens::error::{Error, Result};
 use syn_tokens::literal::LitKind;
 use syn_tokens::punct::{Punct, Spacing};
 use syn_tokens::span::Span;
 use unicode_ident::{is_xid_continue, is_xid_start};
 
 mod comments;
+mod error;
 mod literals;
 mod numbers;
 
+use crate::reader::lexer::error::{Result, unexpected_character};
 use crate::reader::lexer::literals::{begins_byte, begins_raw_string};
 
 /// A piece of text that is a token, one of the two signs of a group, or a comment.
@@ -254,18 +255,6 @@ fn sign<'a>(character: char, span: Span) -> Result<Lexeme<'a>>
         ')' => Ok(Lexeme::Close(Delimiter::Paren, span)),
         '}' => Ok(Lexeme::Close(Delimiter::Brace, span)),
         ']' => Ok(Lexeme::Close(Delimiter::Bracket, span)),
-        _ => Err(unexpected(span)),
+        _ => Err(unexpected_character(span)),
     }
-}
-
-fn unexpected(span: Span) -> Error
-    ensures { result ≡ (span, codes "unexpected character") ∷ [] }
-{
-    Error::new(span, "unexpected character")
-}
-
-fn unterminated_literal(span: Span) -> Error
-    ensures { result ≡ (span, codes "unterminated literal") ∷ [] }
-{
-    Error::new(span, "unterminated literal")
 }

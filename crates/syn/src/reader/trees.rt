@@ -9,6 +9,7 @@ ghost use Rattle.syn.specs.Spelling.{IsFaultWithin, doc_tokens};
 
 use crate::reader::docs::{Doc, doc_of, quoted};
 use crate::reader::lexer::Lexeme;
+use crate::reader::names::Names;
 use std::alloc::{AllocError, Global};
 use syn_tokens::builder::StreamBuilder;
 use syn_tokens::delimiter::Delimiter;
@@ -24,19 +25,21 @@ use syn_tokens::stream::TokenStream;
 #[derive(Drop)]
 pub(super) struct TreeBuilder {
     inner: StreamBuilder,
+    names: Names,
 }
 
 impl TreeBuilder {
     ghost use Rattle.syn.specs.Lexemes.{FollowsAsLexeme, IsNamed};
     ghost use Rattle.syn.specs.Building.{Builds, AllWithin, tokens_so_far};
 
-    /// Begins with no tree and no open group. What grows takes its memory from `alloc`.
-    pub(super) fn new(alloc: Global) -> TreeBuilder
-        ensures { (text : List ℕ) → Builds text result 0 }
+    /// Begins with no tree and no open group, for a text of that length. What grows takes its memory from `alloc`.
+    pub(super) fn new(alloc: Global, length: usize) -> std::result::Result<TreeBuilder, AllocError>
+        ensures { (text : List ℕ) → IfOk result (λ b. Builds text b 0) }
     {
-        TreeBuilder {
+        Ok(TreeBuilder {
             inner: StreamBuilder::new(alloc),
-        }
+            names: Names::new(alloc, length)?,
+        })
     }
 
     /// Adds what comes next. Refused where it closes a group other than the innermost open one.
@@ -48,7 +51,7 @@ impl TreeBuilder {
             Lexeme::Open(delimiter, span) => Ok(self.open(delimiter, span)?),
             Lexeme::Close(delimiter, span) => self.close(delimiter, span),
             Lexeme::Ident(text, span) => {
-                let ident = Ident::of_identifier(self.inner.alloc(), text, span)?;
+                let ident = self.names.ident(text, span)?;
                 Ok(self.push(Entry::Ident(ident))?)
             }
             Lexeme::Literal(kind, text, span) => {

@@ -2,7 +2,7 @@
 use crate::reader::{read_tokens, token_text};
 use std::test::Fail;
 
-const DEEP: usize = 1_000_000;
+const DEEP: usize = 100_000;
 
 #[test]
 fn read_and_written(rt: HostRuntime) -> Result<(), Fail> {

@@ -10,7 +10,7 @@ use Rattle.syn.proofs.reader.read_tokens.Goals as goal
 pub loop-lexeme-init : goal.loop-lexeme-init
 loop-lexeme-init c =
     let same = c.into_iter-lexeme-iterator.ensures.into_iter_gives in
-    (tt, tt, rw same c.new-lexeme-items.ensures.text, rw (same, c.new-lexeme-items.ensures.beginning) (c.new-trees.ensures _))
+    (tt, tt, rw same c.new-lexeme-items.ensures.text, rw (same, c.new-lexeme-items.ensures.beginning) (c.in_ok-trees.ensures _))
 
 pub loop-lexeme-preserved : goal.loop-lexeme-preserved
 loop-lexeme-preserved c =

@@ -1,12 +1,11 @@
 //! Comments.
-ghost use Rattle.std.specs.Prelude.{◌≡◌, ◌<◌, ◌==◌, ◌&&◌, ◌∷◌, [], true, drop, length, codes, MatchResult};
+ghost use Rattle.std.specs.Prelude.{◌≡◌, ◌<◌, ◌==◌, ◌&&◌, true, drop, length, MatchResult};
 ghost use Rattle.syn.specs.Scanning.{begins_comment, begins_with, where_found, after_comment, after_blocks};
 ghost use Rattle.syn.specs.Spelling.{IsFaultWithin};
 
 use crate::reader::cursor::Cursor;
+use crate::reader::lexer::error::{Result, unterminated_comment};
 use crate::reader::lexer::{Lexeme, Lexer};
-use syn_tokens::error::{Error, Result};
-use syn_tokens::span::Span;
 
 impl<'a> Lexer<'a> {
     ghost use Rattle.syn.specs.Places.{left, Onward, IsPast};
@@ -68,10 +67,4 @@ impl<'a> Lexer<'a> {
     {
         character == first && self.cursor.is_at(second)
     }
-}
-
-fn unterminated_comment(span: Span) -> Error
-    ensures { result ≡ (span, codes "unterminated comment") ∷ [] }
-{
-    Error::new(span, "unterminated comment")
 }

@@ -8,8 +8,8 @@ ghost use Rattle.syn.specs.Places.{left, Onward};
 ghost use Rattle.syn.specs.Spelling.{Stands, IsFaultWithin};
 
 use crate::reader::cursor::Cursor;
-use crate::reader::lexer::{Lexeme, Lexer, is_at_name, unexpected, unterminated_literal};
-use syn_tokens::error::Result;
+use crate::reader::lexer::error::{Result, unexpected_character, unterminated_literal};
+use crate::reader::lexer::{Lexeme, Lexer, is_at_name};
 use syn_tokens::literal::LitKind;
 use syn_tokens::punct::{Punct, Spacing};
 use unicode_ident::is_xid_continue;
@@ -32,7 +32,7 @@ impl<'a> Lexer<'a> {
         if is_at_name(self.cursor) {
             Ok(Lexeme::Punct(Punct::new('\'', Spacing::Joint, span)))
         } else {
-            Err(unexpected(span))
+            Err(unexpected_character(span))
         }
     }
 

@@ -1,6 +1,9 @@
 //! Identifiers, raw ones, and lifetimes.
+use crate::reader::read_tokens;
 use crate::reader::tests::support::{Read, Refused, are_read, are_refused};
 use std::test::Fail;
+use syn_tokens::entry::Entry;
+use syn_tokens::span::Span;
 
 const READ: &[Read] = &[
     ("a", "a@0..1"),
@@ -92,4 +95,34 @@ fn reads(rt: HostRuntime) -> Result<(), Fail> {
 #[test]
 fn refuses(rt: HostRuntime) -> Result<(), Fail> {
     are_refused(&rt, rt.alloc(), REFUSED)
+}
+
+/// More names than the reader keeps.
+const MANY: usize = 3000;
+
+/// Names that come again have their text and a span of their own.
+#[test]
+fn again(rt: HostRuntime) -> Result<(), Fail> {
+    let mut text = String::new(rt.alloc());
+    for number in 0..MANY {
+        write!(text, "n{number} same n{number} ")?;
+    }
+    let tokens = read_tokens(rt.alloc(), text.as_str())?;
+    assert_eq!(rt; tokens.len(), 3 * MANY);
+    let mut start: usize = 0;
+    for (place, entry) in tokens.entries().iter().enumerate() {
+        let number = place / 3;
+        let expected = match place % 3 {
+            1 => format!(in rt.alloc(); "same")?,
+            _ => format!(in rt.alloc(); "n{number}")?,
+        };
+        let Entry::Ident(ident) = entry else {
+            panic!(rt; "no identifier");
+        };
+        let end = start.saturating_add(expected.len());
+        assert_eq!(rt; ident.text(), expected.as_str());
+        assert_eq!(rt; ident.span, Span { start, end });
+        start = end.saturating_add(1);
+    }
+    Ok(())
 }

@@ -1,0 +1,59 @@
+//! One text for an identifier that stands in many places.
+ghost use Rattle.std.specs.Prelude.{◌≡◌, IsTrue, IfOk};
+ghost use Rattle.syn_tokens.specs.Idents.{is_identifier};
+
+use std::alloc::{AllocError, Global};
+use syn_tokens::ident::Ident;
+use syn_tokens::span::Span;
+
+/// How many identifiers are kept at most.
+const MOST: usize = 1024;
+
+/// Identifiers that were read before, each at a place that its text gives. Where another one comes to that place, the earlier
+/// one is kept no longer, so each takes as little time, whatever the texts are.
+#[derive(Drop)]
+pub(super) struct Names {
+    places: Vec<Option<Ident>>,
+    alloc: Global,
+}
+
+/// A number that the text gives.
+fn hash(text: &str) -> usize {
+    let mut hash: usize = 0;
+    for byte in text.as_bytes() {
+        hash = hash.wrapping_mul(31).wrapping_add(*byte as usize);
+    }
+    hash
+}
+
+impl Names {
+    /// Keeps none yet; it has places enough for a text of that length.
+    pub(super) fn new(alloc: Global, length: usize) -> Result<Names, AllocError> {
+        let mut places = Vec::new(alloc);
+        places.resize_with((length / 32).clamp(1, MOST), || None)?;
+        Ok(Names { places, alloc })
+    }
+
+    /// The identifier of this text, which is known to be one. Where the same was read before, it shares that one's text.
+    pub(super) fn ident(&mut self, text: &str, span: Span) -> Result<Ident, AllocError>
+        requires { IsTrue (is_identifier text.now) }
+        ensures { IfOk result (λ i. i ≡ record { text = text.now; span = span }) }
+    {
+        let Some(place) = hash(text).checked_rem(self.places.len()) else {
+            return Ident::of_identifier(self.alloc, text, span);
+        };
+        let Some(kept) = self.places.get_mut(place) else {
+            return Ident::of_identifier(self.alloc, text, span);
+        };
+        if let Some(known) = kept {
+            if known.text() == text {
+                let mut again = known.copy()?;
+                again.span = span;
+                return Ok(again);
+            }
+        }
+        let ident = Ident::of_identifier(self.alloc, text, span)?;
+        *kept = Some(ident.copy()?);
+        Ok(ident)
+    }
+}
