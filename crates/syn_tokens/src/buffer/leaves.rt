@@ -1,5 +1,5 @@
 //! Identifiers, words, literals and lifetimes.
-ghost use Rattle.std.specs.Prelude.{◌≡◌, ◌∷◌, [], true};
+ghost use Rattle.std.specs.Prelude.{◌≡◌, ◌∷◌, [], true, IfErr, codes};
 ghost use Rattle.syn_grammar.specs.Words.{w_self, w_Self_type, w_super, w_crate};
 ghost use Rattle.syn_grammar.specs.Tokens.{at_name, at_word, at_mark, at_literal, at_group, one_of_texts};
 ghost use Rattle.syn_grammar.specs.Grammar.{name, identifier, word, name_or, any_literal, literal_of};
@@ -7,6 +7,8 @@ ghost use Rattle.syn_grammar.specs.Take.{sees, take_token, take_lifetime};
 ghost use Rattle.syn_grammar.specs.Says.{Says, Takes};
 ghost use Rattle.syn_tokens.specs.Refusals.{IsSyntax};
 ghost use Rattle.syn_tokens.specs.Delimiters.{delimiter_of};
+ghost use Rattle.syn_tokens.specs.Expectations.{text_of};
+ghost use Rattle.syn_tokens.specs.Nexts.{RefusedNext};
 ghost use Rattle.syn_tokens.specs.Leaves.{at_any_literal, is_known_word, path_words, syntax_of_ident, syntax_of_literal, syntax_of_word, syntax_of_apostrophe};
 
 use crate::buffer::ParseBuffer;
@@ -31,6 +33,7 @@ impl<'a> ParseBuffer<'a> {
     pub(crate) fn read_name(&mut self) -> Reading<Ident>
         ensures reads { Says IsSyntax syntax_of_ident (take_token name self.old) result self.new }
         ensures moved { Takes 1 self.old result self.new }
+        ensures fault { IfErr result (λ r. IsSyntax r → RefusedNext self.old (codes "expected identifier") r) }
     {
         let Some((ident, rest)) = split_ident(&self.tokens) else {
             return Err(self.refusal(Expectation::Identifier));
@@ -47,6 +50,7 @@ impl<'a> ParseBuffer<'a> {
     pub fn read_identifier(&mut self) -> Reading<Ident>
         ensures reads { Says IsSyntax syntax_of_ident (take_token identifier self.old) result self.new }
         ensures moved { Takes 1 self.old result self.new }
+        ensures fault { IfErr result (λ r. IsSyntax r → RefusedNext self.old (codes "expected identifier") r) }
     {
         let Some((ident, rest)) = split_ident(&self.tokens) else {
             return Err(self.refusal(Expectation::Identifier));
@@ -60,6 +64,7 @@ impl<'a> ParseBuffer<'a> {
     pub fn read_path_word(&mut self) -> Reading<Ident>
         ensures reads { Says IsSyntax syntax_of_ident (take_token (name_or path_words) self.old) result self.new }
         ensures moved { Takes 1 self.old result self.new }
+        ensures fault { IfErr result (λ r. IsSyntax r → RefusedNext self.old (codes "expected identifier") r) }
     {
         let Some((ident, rest)) = split_ident(&self.tokens) else {
             return Err(self.refusal(Expectation::Identifier));
@@ -77,6 +82,7 @@ impl<'a> ParseBuffer<'a> {
         requires { is_known_word text.now ≡ true }
         ensures reads { Says IsSyntax (syntax_of_word text.now) (take_token (word text.now) self.old) result self.new }
         ensures moved { Takes 1 self.old result self.new }
+        ensures fault { IfErr result (RefusedNext self.old (text_of expectation)) }
     {
         let Some((ident, rest)) = split_ident(&self.tokens) else {
             return Err(self.refusal(expectation));
@@ -93,6 +99,7 @@ impl<'a> ParseBuffer<'a> {
     pub(crate) fn read_literal(&mut self) -> Reading<Literal>
         ensures reads { Says IsSyntax syntax_of_literal (take_token any_literal self.old) result self.new }
         ensures moved { Takes 1 self.old result self.new }
+        ensures fault { IfErr result (λ r. IsSyntax r → RefusedNext self.old (codes "expected literal") r) }
     {
         let Some((literal, rest)) = split_literal(&self.tokens) else {
             return Err(self.refusal(Expectation::Literal));
@@ -106,6 +113,7 @@ impl<'a> ParseBuffer<'a> {
     pub(crate) fn read_lifetime(&mut self) -> Reading<(Span, Ident)>
         ensures reads { Says IsSyntax syntax_of_apostrophe (take_lifetime self.old) result self.new }
         ensures moved { Takes 1 self.old result self.new }
+        ensures fault { IfErr result (λ r. IsSyntax r → RefusedNext self.old (codes "expected lifetime") r) }
     {
         let Some((apostrophe, ident, rest)) = split_lifetime(&self.tokens) else {
             return Err(self.refusal(Expectation::Lifetime));

@@ -1,11 +1,13 @@
 //! Marks of one to three characters.
-ghost use Rattle.std.specs.Prelude.{◌≡◌, ◌∷◌, [], true};
+ghost use Rattle.std.specs.Prelude.{◌≡◌, ◌∷◌, [], true, IfErr};
 ghost use Rattle.syn_grammar.specs.Tokens.{at_mark};
 ghost use Rattle.syn_grammar.specs.Take.{sees, take_mark};
 ghost use Rattle.syn_grammar.specs.Says.{Says, Takes};
 ghost use Rattle.syn_grammar.proofs.Looks.{known_mark};
 ghost use Rattle.syn_tokens.specs.Refusals.{IsSyntax};
 ghost use Rattle.syn_tokens.specs.Leaves.{syntax_of_mark};
+ghost use Rattle.syn_tokens.specs.Expectations.{text_of};
+ghost use Rattle.syn_tokens.specs.Nexts.{RefusedNext};
 
 use crate::buffer::ParseBuffer;
 use crate::expectation::Expectation;
@@ -19,6 +21,7 @@ impl<'a> ParseBuffer<'a> {
     pub(crate) fn read_mark1(&mut self, c: char, expectation: Expectation) -> Reading<[Span; 1]>
         ensures reads { Says IsSyntax (syntax_of_mark (c ∷ [])) (take_mark (c ∷ []) self.old) result self.new }
         ensures moved { Takes 1 self.old result self.new }
+        ensures fault { IfErr result (RefusedNext self.old (text_of expectation)) }
     {
         let Some((first, rest)) = split_last(&self.tokens, c) else {
             return Err(self.refusal(expectation));
@@ -37,6 +40,7 @@ impl<'a> ParseBuffer<'a> {
     ) -> Reading<[Span; 2]>
         ensures reads { Says IsSyntax (syntax_of_mark (c ∷ d ∷ [])) (take_mark (c ∷ d ∷ []) self.old) result self.new }
         ensures moved { Takes 1 self.old result self.new }
+        ensures fault { IfErr result (RefusedNext self.old (text_of expectation)) }
     {
         let Some((first, rest)) = split_joint(&self.tokens, c) else {
             return Err(self.refusal(expectation));
@@ -59,6 +63,7 @@ impl<'a> ParseBuffer<'a> {
     ) -> Reading<[Span; 3]>
         ensures reads { Says IsSyntax (syntax_of_mark (c ∷ d ∷ e ∷ [])) (take_mark (c ∷ d ∷ e ∷ []) self.old) result self.new }
         ensures moved { Takes 1 self.old result self.new }
+        ensures fault { IfErr result (RefusedNext self.old (text_of expectation)) }
     {
         let Some((first, rest)) = split_joint(&self.tokens, c) else {
             return Err(self.refusal(expectation));
