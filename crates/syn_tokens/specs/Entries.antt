@@ -56,6 +56,14 @@ open_entry d o skip trees = E.Open (record { delimiter = delimiter_from d; span 
 abbrev pub close_entry : grammar.Delimiter → grammar.Span → Entry
 close_entry d c = E.Close (record { delimiter = delimiter_from d; span = from c })
 
+-- where an entry stands
+abbrev pub entry_span : Entry → Span
+entry_span (E.Ident i) = i.span
+entry_span (E.Literal l) = l.span
+entry_span (E.Punct p) = p.span
+entry_span (E.Open o) = o.span
+entry_span (E.Close c) = c.span
+
 -- THE ENTRIES OF A STREAM
 abbrev pub encode : Stream → List Entry
 encode end = []

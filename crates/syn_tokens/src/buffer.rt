@@ -53,7 +53,7 @@ impl<'a> Model for ParseBuffer<'a> {
 /// Where the last of these entries ends: an empty span behind it, 0 to 0 where there is none.
 fn end_of(entries: &[Entry]) -> Span {
     let end = match entries.last() {
-        Some(entry) => entry.end(),
+        Some(entry) => entry.span().end,
         None => 0,
     };
     Span { start: end, end }

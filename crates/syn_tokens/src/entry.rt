@@ -1,5 +1,6 @@
 //! What a token stream is kept as: one entry for each token, and two for each group, its signs.
 ghost use Rattle.std.specs.Prelude.{◌≡◌, IfOk};
+ghost use Rattle.syn_tokens.specs.Entries.{entry_span};
 
 use crate::delimiter::Delimiter;
 use crate::ident::Ident;
@@ -51,14 +52,16 @@ impl Entry {
         }
     }
 
-    /// Where it ends.
-    pub fn end(&self) -> usize {
+    /// Where it stands.
+    pub fn span(&self) -> Span
+        ensures { result ≡ entry_span self.now }
+    {
         match self {
-            Entry::Ident(ident) => ident.span.end,
-            Entry::Literal(literal) => literal.span.end,
-            Entry::Punct(punct) => punct.span.end,
-            Entry::Open(open) => open.span.end,
-            Entry::Close(close) => close.span.end,
+            Entry::Ident(ident) => ident.span,
+            Entry::Literal(literal) => literal.span,
+            Entry::Punct(punct) => punct.span,
+            Entry::Open(open) => open.span,
+            Entry::Close(close) => close.span,
         }
     }
 }

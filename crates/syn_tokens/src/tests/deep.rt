@@ -110,6 +110,9 @@ fn sample(alloc: Global) -> Result<TokenStream> {
 fn places(rt: HostRuntime) -> std::result::Result<(), Fail> {
     let stream = sample(rt.alloc())?;
     assert_eq!(rt; stream.len(), 3);
+    for (place, entry) in stream.entries().iter().enumerate() {
+        assert_eq!(rt; entry.span(), at(place));
+    }
     match stream.get(1)? {
         Some(TokenTree::Group(group)) => {
             assert_eq!(rt; group.delimiter, Delimiter::Brace);
