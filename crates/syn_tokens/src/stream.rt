@@ -192,11 +192,16 @@ impl TokenStream {
         self.add_token(Entry::Punct(Punct::new(character, spacing, span)))
     }
 
-    /// Adds the trees of another stream at the end; refused, it leaves this one as it was.
+    /// Adds the trees of another stream at the end; refused, it leaves this one as it was. Where this one is empty, it takes
+    /// the other's memory and no more.
     pub fn append(&mut self, other: TokenStream) -> std::result::Result<(), AllocError>
         ensures ok { OnOk result (self.new ≡ self.old ⧺ other) }
         ensures err { OnErr result (self.new ≡ self.old) }
     {
+        if self.entries.is_empty() {
+            *self = other;
+            return Ok(());
+        }
         let TokenStream { entries, trees, .. } = other;
         let mut entries = entries;
         self.entries.append(&mut entries)?;
