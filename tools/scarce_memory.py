@@ -53,7 +53,7 @@ def copies():
     """Tries each request that builds and copies a stream of fifty groups, up to the first that neither makes."""
     refused = 0
     for number in itertools.count(1):
-        tests = {name: (outcome, lines) for name, outcome, lines in run("syn_tokens", number)}
+        tests = {name: (outcome, lines) for name, outcome, lines in run("syn_tokens_tests", number)}
         (built, _), (copied, lines) = (tests["tests::deep::" + name] for name in ("built_once", "copied_once"))
         if is_wrong("copied_once", copied, lines):
             sys.exit(f"request {number}: " + "; ".join(lines))

@@ -30,8 +30,6 @@ pub mod span;
 pub mod stream;
 pub mod syntactic;
 pub mod terminated;
-#[cfg(test)]
-mod tests;
 pub mod text;
 pub mod token;
 pub mod tree;

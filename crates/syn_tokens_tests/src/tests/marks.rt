@@ -1,15 +1,15 @@
 //! Each mark: seen and read in its own characters alone, and printed as those.
-use crate::buffer::ParseBuffer;
-use crate::error::Result;
-use crate::parse::Parse;
-use crate::punct::{Punct, Spacing};
-use crate::read::Peek;
-use crate::span::Span;
-use crate::stream::TokenStream;
-use crate::token::{self, Mark, MarkKind};
-use crate::tree::TokenTree;
 use std::alloc::{AllocError, Global};
 use std::test::Fail;
+use syn_tokens::buffer::ParseBuffer;
+use syn_tokens::error::Result;
+use syn_tokens::parse::Parse;
+use syn_tokens::punct::{Punct, Spacing};
+use syn_tokens::read::Peek;
+use syn_tokens::span::Span;
+use syn_tokens::stream::TokenStream;
+use syn_tokens::token::{self, Mark, MarkKind};
+use syn_tokens::tree::TokenTree;
 
 /// The byte at this place.
 fn span(start: usize) -> Span {

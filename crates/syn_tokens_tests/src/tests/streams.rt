@@ -1,15 +1,15 @@
 //! Streams: what they hold, copies and equality.
 ghost use Rattle.std.specs.Prelude.{◌<◌};
 
-use crate::delimiter::Delimiter;
-use crate::ident::Ident;
-use crate::literal::{LitKind, Literal};
-use crate::punct::{Punct, Spacing};
-use crate::span::Span;
-use crate::stream::TokenStream;
-use crate::tree::{Group, TokenTree};
 use std::alloc::Global;
 use std::test::Fail;
+use syn_tokens::delimiter::Delimiter;
+use syn_tokens::ident::Ident;
+use syn_tokens::literal::{LitKind, Literal};
+use syn_tokens::punct::{Punct, Spacing};
+use syn_tokens::span::Span;
+use syn_tokens::stream::TokenStream;
+use syn_tokens::tree::{Group, TokenTree};
 
 fn at(start: usize, end: usize) -> Span {
     Span { start, end }

@@ -1,12 +1,12 @@
 //! Identifiers, literals, marks' characters and spans.
-use crate::ident::Ident;
-use crate::identifier::is_identifier;
-use crate::keyword::is_keyword;
-use crate::literal::{LitKind, Literal};
-use crate::punct::{Punct, Spacing};
-use crate::span::Span;
-use crate::text::Text;
 use std::test::Fail;
+use syn_tokens::ident::Ident;
+use syn_tokens::identifier::is_identifier;
+use syn_tokens::keyword::is_keyword;
+use syn_tokens::literal::{LitKind, Literal};
+use syn_tokens::punct::{Punct, Spacing};
+use syn_tokens::span::Span;
+use syn_tokens::text::Text;
 
 #[test]
 fn texts(rt: HostRuntime) -> Result<(), Fail> {

@@ -1,13 +1,13 @@
 //! Each word: seen and read in its own text alone, and printed as that.
-use crate::buffer::ParseBuffer;
-use crate::error::Result;
-use crate::ident::Ident;
-use crate::span::Span;
-use crate::stream::TokenStream;
-use crate::token::{self, Word, WordKind};
-use crate::tree::TokenTree;
 use std::alloc::Global;
 use std::test::Fail;
+use syn_tokens::buffer::ParseBuffer;
+use syn_tokens::error::Result;
+use syn_tokens::ident::Ident;
+use syn_tokens::span::Span;
+use syn_tokens::stream::TokenStream;
+use syn_tokens::token::{self, Word, WordKind};
+use syn_tokens::tree::TokenTree;
 
 const HERE: Span = Span { start: 3, end: 9 };
 

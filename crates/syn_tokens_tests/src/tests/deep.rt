@@ -1,15 +1,15 @@
 //! Streams whose groups are nested deep, and streams that are built sign by sign.
-use crate::buffer::ParseBuffer;
-use crate::builder::StreamBuilder;
-use crate::delimiter::Delimiter;
-use crate::entry::Entry;
-use crate::error::Result;
-use crate::ident::Ident;
-use crate::span::Span;
-use crate::stream::TokenStream;
-use crate::tree::{Group, TokenTree};
 use std::alloc::Global;
 use std::test::Fail;
+use syn_tokens::buffer::ParseBuffer;
+use syn_tokens::builder::StreamBuilder;
+use syn_tokens::delimiter::Delimiter;
+use syn_tokens::entry::Entry;
+use syn_tokens::error::Result;
+use syn_tokens::ident::Ident;
+use syn_tokens::span::Span;
+use syn_tokens::stream::TokenStream;
+use syn_tokens::tree::{Group, TokenTree};
 
 const DEEP: usize = 1_000_000;
 

@@ -1,20 +1,20 @@
 //! Values that were read: copies, comparisons, signs of groups and refusals.
-use crate::buffer::ParseBuffer;
-use crate::compare::Compared;
-use crate::error::Result;
-use crate::expectation::Expectation;
-use crate::ident::Ident;
-use crate::literal::{LitKind, Literal};
-use crate::punctuated::Punctuated;
-use crate::read::End;
-use crate::refusal::Refusal;
-use crate::span::Span;
-use crate::stream::TokenStream;
-use crate::token::{Comma, Delimiters, Mark, Paren, Pub, Word};
-use crate::tree::TokenTree;
-use crate::try_clone::TryClone;
 use std::alloc::Global;
 use std::test::Fail;
+use syn_tokens::buffer::ParseBuffer;
+use syn_tokens::compare::Compared;
+use syn_tokens::error::Result;
+use syn_tokens::expectation::Expectation;
+use syn_tokens::ident::Ident;
+use syn_tokens::literal::{LitKind, Literal};
+use syn_tokens::punctuated::Punctuated;
+use syn_tokens::read::End;
+use syn_tokens::refusal::Refusal;
+use syn_tokens::span::Span;
+use syn_tokens::stream::TokenStream;
+use syn_tokens::token::{Comma, Delimiters, Mark, Paren, Pub, Word};
+use syn_tokens::tree::TokenTree;
+use syn_tokens::try_clone::TryClone;
 
 const HERE: Span = Span { start: 3, end: 9 };
 

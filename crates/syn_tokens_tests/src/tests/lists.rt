@@ -1,9 +1,9 @@
 //! Lists with separators.
 ghost use Rattle.std.specs.Prelude.{◌≡◌, IfOk, None, Some};
 
-use crate::punctuated::Punctuated;
 use std::alloc::{AllocError, Global};
 use std::test::Fail;
+use syn_tokens::punctuated::Punctuated;
 
 /// `1 , 2 , 3`, or `1 , 2 , 3 ,`
 fn numbers(alloc: Global, trailing: bool) -> Result<Punctuated<u32, char>, AllocError> {

@@ -1,10 +1,10 @@
 //! Errors and refusals.
-use crate::error::Error;
-use crate::expectation::Expectation;
-use crate::refusal::{Reading, Refusal};
-use crate::span::Span;
 use std::alloc::AllocError;
 use std::test::Fail;
+use syn_tokens::error::Error;
+use syn_tokens::expectation::Expectation;
+use syn_tokens::refusal::{Reading, Refusal};
+use syn_tokens::span::Span;
 
 fn span_at(start: usize) -> Span {
     Span { start, end: start }
@@ -73,7 +73,7 @@ fn exhaust() -> Reading<()> {
     Ok(())
 }
 
-fn face(span: Span) -> crate::error::Result<()> {
+fn face(span: Span) -> syn_tokens::error::Result<()> {
     refuse(span)?;
     Ok(())
 }

@@ -1,17 +1,17 @@
 //! What callers ask of buffers, and of whole streams.
-use crate::buffer::ParseBuffer;
-use crate::delimiter::Delimiter;
-use crate::error::{Error, Result};
-use crate::ident::Ident;
-use crate::parse2::parse2;
-use crate::punct::{Punct, Spacing};
-use crate::punctuated::Punctuated;
-use crate::span::Span;
-use crate::stream::TokenStream;
-use crate::token::{Comma, Enum, PathSep, Pub, Struct, Type};
-use crate::tree::{Group, TokenTree};
 use std::alloc::Global;
 use std::test::Fail;
+use syn_tokens::buffer::ParseBuffer;
+use syn_tokens::delimiter::Delimiter;
+use syn_tokens::error::{Error, Result};
+use syn_tokens::ident::Ident;
+use syn_tokens::parse2::parse2;
+use syn_tokens::punct::{Punct, Spacing};
+use syn_tokens::punctuated::Punctuated;
+use syn_tokens::span::Span;
+use syn_tokens::stream::TokenStream;
+use syn_tokens::token::{Comma, Enum, PathSep, Pub, Struct, Type};
+use syn_tokens::tree::{Group, TokenTree};
 
 /// One byte.
 fn span(start: usize) -> Span {

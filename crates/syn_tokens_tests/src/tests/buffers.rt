@@ -1,19 +1,19 @@
 //! Buffers: looking ahead, reading and parsing.
-use crate::buffer::ParseBuffer;
-use crate::delimiter::Delimiter;
-use crate::ident::Ident;
-use crate::leaf::Lifetime;
-use crate::literal::{LitKind, Literal};
-use crate::parse::Parse;
-use crate::punct::{Punct, Spacing};
-use crate::read::End;
-use crate::refusal::{Reading, Refusal};
-use crate::span::Span;
-use crate::stream::TokenStream;
-use crate::token;
-use crate::tree::{Group, TokenTree};
 use std::alloc::Global;
 use std::test::Fail;
+use syn_tokens::buffer::ParseBuffer;
+use syn_tokens::delimiter::Delimiter;
+use syn_tokens::ident::Ident;
+use syn_tokens::leaf::Lifetime;
+use syn_tokens::literal::{LitKind, Literal};
+use syn_tokens::parse::Parse;
+use syn_tokens::punct::{Punct, Spacing};
+use syn_tokens::read::End;
+use syn_tokens::refusal::{Reading, Refusal};
+use syn_tokens::span::Span;
+use syn_tokens::stream::TokenStream;
+use syn_tokens::token;
+use syn_tokens::tree::{Group, TokenTree};
 
 /// A refusal, for tests that meet none.
 fn read<T>(reading: Reading<T>) -> Result<T, &'static str> {
