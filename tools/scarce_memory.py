@@ -13,7 +13,7 @@ takes memory once, however deep the stream is.
 Nothing is proved here; each number takes some 20 seconds, and of copies a minute.
 """
 
-import itertools
+import functools
 import re
 import subprocess
 import sys
@@ -49,21 +49,30 @@ def is_wrong(name, outcome, lines):
     return "scarce_memory" in name or not any(WANT_OF_MEMORY.match(line) for line in lines)
 
 
+@functools.lru_cache(maxsize=None)
+def of_copies(number):
+    """How building a stream of fifty groups ends where this request is refused, and how building and copying it does."""
+    tests = {name: (outcome, lines) for name, outcome, lines in run("syn_tokens_tests", number)}
+    built, copied = (tests["tests::deep::" + name] for name in ("built_once", "copied_once"))
+    if is_wrong("built_once", *built) or is_wrong("copied_once", *copied):
+        sys.exit(f"request {number}: " + "; ".join(built[1] + copied[1]))
+    print(f"request {number}: built {built[0]}, copied {copied[0]}", flush=True)
+    return built[0] == "ok", copied[0] == "ok"
+
+
 def copies():
-    """Tries each request that builds and copies a stream of fifty groups, up to the first that neither makes."""
-    refused = 0
-    for number in itertools.count(1):
-        tests = {name: (outcome, lines) for name, outcome, lines in run("syn_tokens_tests", number)}
-        (built, _), (copied, lines) = (tests["tests::deep::" + name] for name in ("built_once", "copied_once"))
-        if is_wrong("copied_once", copied, lines):
-            sys.exit(f"request {number}: " + "; ".join(lines))
-        if copied == "ok":
-            break
-        if built == "ok":
-            refused += 1
-            print(f"request {number} is the copy's request {refused}, and was refused", flush=True)
-    print(f"the copy took memory {'once' if refused == 1 else f'{refused} times'}")
-    sys.exit(refused != 1)
+    """Refuses each request that the copy of the stream makes. The first is the one behind those that build it."""
+    made, first = 0, 1
+    while not of_copies(first)[0]:
+        made, first = first, 2 * first
+    while first - made > 1:
+        middle = (made + first) // 2
+        made, first = (made, middle) if of_copies(middle)[0] else (middle, first)
+    number = first
+    while not of_copies(number)[1]:
+        number += 1
+    print(f"{made} requests build the stream, and {number - first} copy it")
+    sys.exit(number - first != 1)
 
 
 def main():
