@@ -1,5 +1,5 @@
 -- Errors that were refusals.
-use Rattle.std.proofs.Common.{ℕ, List, ◌≡◌, [], ◌∷◌, subst, ap, ◌∙◌}
+use Rattle.std.proofs.Common.{ℕ, List, [], ◌∷◌, subst, ap, ◌∙◌}
 use Rattle.syn_grammar.specs.Tokens.{Stream}
 use Rattle.syn_tokens.specs.Refusals.{IsSyntax}
 use Rattle.syn_tokens.specs.Faults.{FaultValue, IsSyntaxError, IsRefusedAs}

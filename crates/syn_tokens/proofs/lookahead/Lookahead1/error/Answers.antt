@@ -1,4 +1,4 @@
-use Rattle.std.proofs.Common.{◌≡◌, ◌∷◌, ◌+◌, ◌<◌, length, ap, append-nil, arith, rules, sym}
+use Rattle.std.proofs.Common.{◌≡◌, ◌∷◌, ◌<◌, length, ap, append-nil, arith, rules, sym}
 use Rattle.syn_tokens.specs.Nexts.{StandsNext}
 use Rattle.syn_tokens.proofs.Lookaheads.{one_told, all_told}
 use Rattle.syn_tokens.proofs.lookahead.Lookahead1.error.Goals as goal
