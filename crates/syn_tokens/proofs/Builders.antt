@@ -12,8 +12,8 @@ use Rattle.syn_tokens.proofs.Entries.{is_flat, decoded, token_flat, length_encod
 use Rattle.syn_tokens.proofs.Building.{built_is, is_built, laid_more, laid_open, places_open, Last, last_place, none_open, closed, laid_closed, length_laid}
 use Rattle.syn_tokens.specs.declared.span.Span.{Span}
 use Rattle.syn_tokens.specs.declared.delimiter.Delimiter.{Delimiter}
-use Rattle.syn_tokens.specs.declared.entry.Entry.{Entry}
-use Rattle.syn_tokens.specs.declared.entry.Entry.TheVariants as E
+use Rattle.syn_tokens.specs.declared.entry.Token.{Token as Entry}
+use Rattle.syn_tokens.specs.declared.entry.Token.TheVariants as E
 use Rattle.syn_tokens.specs.declared.builder.Pending.{Pending}
 
 longer : (gs : List OpenGroup) (s : Stream) → length (encode s) ≤ length (laid gs s)
@@ -93,8 +93,8 @@ module _ (es : List Entry) (ps : List Pending) (n : ℕ) (b : IsBuilt es ps n) (
   module _ (c : Span) (skip : ℕ) (h : skip ≡ length es - p.at - 1) where
     abbrev pub closed_entries : List Entry
     closed_entries =
-        set (es ++ E.Close (record { delimiter = p.delimiter; span = c }) ∷ []) p.at
-        (E.Open (record { delimiter = p.delimiter; span = p.opening; skip = skip; trees = n }))
+        set (es ++ E.Close (record { delimiter = p.delimiter; span = c; trees = n }) ∷ []) p.at
+        (E.Open (record { delimiter = p.delimiter; span = p.opening; skip = skip }))
 
     closed_laid : closed_entries ≡ laid (kept_last es ps n b around p e).around ((kept_last es ps n b around p e).innermost.outer ⧺ closed (kept_last es ps n b around p e).innermost c (building es).stream)
     closed_laid =
@@ -102,8 +102,8 @@ module _ (es : List Entry) (ps : List Pending) (n : ℕ) (b : IsBuilt es ps n) (
         let k = here in
         let w = whole in
         let s : skip ≡ length (encode (building es).stream) = omega (arith, h, k, ap length w, length_laid l.around l.innermost (building es).stream) in
-        (λ i. set (w i ++ E.Close (record { delimiter = (l.here i).delimiter; span = c }) ∷ []) (k i)
-        (E.Open (record { delimiter = (l.here i).delimiter; span = (l.here i).opening; skip = s i; trees = b.counted i })))
+        (λ i. set (w i ++ E.Close (record { delimiter = (l.here i).delimiter; span = c; trees = b.counted i }) ∷ []) (k i)
+        (E.Open (record { delimiter = (l.here i).delimiter; span = (l.here i).opening; skip = s i })))
         ∙ laid_closed l.around l.innermost c (building es).stream
 
     pub closed_built : IsBuilt closed_entries around (p.trees + 1)

@@ -13,8 +13,8 @@ use Rattle.syn_tokens.proofs.Entries.{ahead, states_back, delimiter_there, encod
 use Rattle.syn_tokens.specs.declared.span.Span.{Span}
 use Rattle.syn_tokens.specs.declared.entry.Open.{Open}
 use Rattle.syn_tokens.specs.declared.entry.Close.{Close}
-use Rattle.syn_tokens.specs.declared.entry.Entry.{Entry}
-use Rattle.syn_tokens.specs.declared.entry.Entry.TheVariants as E
+use Rattle.syn_tokens.specs.declared.entry.Token.{Token as Entry}
+use Rattle.syn_tokens.specs.declared.entry.Token.TheVariants as E
 use Rattle.syn_tokens.specs.declared.builder.Pending.{Pending}
 
 -- THERE AND BACK
@@ -24,7 +24,7 @@ front [] s = s
 front (g ∷ gs) s = g.outer
 
 abbrev sign : OpenGroup → Open
-sign g = record { delimiter = g.delimiter; span = g.opening; skip = 0; trees = 0 }
+sign g = record { delimiter = g.delimiter; span = g.opening; skip = 0 }
 
 abbrev opened : List OpenGroup → Stream → List (Open × Stream)
 opened [] s = []
@@ -119,25 +119,25 @@ none_open n (g ∷ gs) e = absurd (cc)
 -- A GROUP IS CLOSED
 
 abbrev pub opening : OpenGroup → Stream → Open
-opening g s = record { delimiter = g.delimiter; span = g.opening; skip = length (encode s); trees = grammar.length s }
+opening g s = record { delimiter = g.delimiter; span = g.opening; skip = length (encode s) }
 
-abbrev pub closing : OpenGroup → Span → Close
-closing g c = record { delimiter = g.delimiter; span = c }
+abbrev pub closing : OpenGroup → Span → Stream → Close
+closing g c s = record { delimiter = g.delimiter; span = c; trees = grammar.length s }
 
 abbrev pub closed : OpenGroup → Span → Stream → Stream
 closed g c s = group (delimiter_of g.delimiter) (at g.opening) (at c) s end
 
-signs : (g : OpenGroup) (c : Span) (s : Stream) → E.Open (opening g s) ∷ (encode s ++ E.Close (closing g c) ∷ []) ≡ encode (closed g c s)
+signs : (g : OpenGroup) (c : Span) (s : Stream) → E.Open (opening g s) ∷ (encode s ++ E.Close (closing g c s) ∷ []) ≡ encode (closed g c s)
 signs g c s =
-    ap (λ d. E.Open (record { delimiter = d; span = g.opening; skip = length (encode s); trees = grammar.length s }) ∷ (encode s ++ E.Close (record { delimiter = d; span = c }) ∷ []))
+    ap (λ d. E.Open (record { delimiter = d; span = g.opening; skip = length (encode s) }) ∷ (encode s ++ E.Close (record { delimiter = d; span = c; trees = grammar.length s }) ∷ []))
     (sym (delimiter_there g.delimiter))
 
 pub laid_closed : (gs : List OpenGroup) (g : OpenGroup) (c : Span) (s : Stream) →
-    set (laid (gs ++ g ∷ []) s ++ E.Close (closing g c) ∷ []) (length (laid gs g.outer)) (E.Open (opening g s)) ≡ laid gs (g.outer ⧺ closed g c s)
+    set (laid (gs ++ g ∷ []) s ++ E.Close (closing g c s) ∷ []) (length (laid gs g.outer)) (E.Open (opening g s)) ≡ laid gs (g.outer ⧺ closed g c s)
 laid_closed gs g c s =
-    ap (λ es. set (es ++ E.Close (closing g c) ∷ []) (length (laid gs g.outer)) (E.Open (opening g s))) (laid_open gs g s)
-    ∙ ap (λ es. set es (length (laid gs g.outer)) (E.Open (opening g s))) (append_assoc (laid gs g.outer) (open_sign g ∷ encode s) (E.Close (closing g c) ∷ []))
-    ∙ set_at (laid gs g.outer) (open_sign g) (encode s ++ E.Close (closing g c) ∷ []) (E.Open (opening g s)) (length (laid gs g.outer)) refl
+    ap (λ es. set (es ++ E.Close (closing g c s) ∷ []) (length (laid gs g.outer)) (E.Open (opening g s))) (laid_open gs g s)
+    ∙ ap (λ es. set es (length (laid gs g.outer)) (E.Open (opening g s))) (append_assoc (laid gs g.outer) (open_sign g ∷ encode s) (E.Close (closing g c s) ∷ []))
+    ∙ set_at (laid gs g.outer) (open_sign g) (encode s ++ E.Close (closing g c s) ∷ []) (E.Open (opening g s)) (length (laid gs g.outer)) refl
     ∙ ap (λ es. laid gs g.outer ++ es) (signs g c s)
     ∙ laid_more gs g.outer (closed g c s)
 

@@ -10,11 +10,11 @@ use Rattle.syn_tokens.specs.Cursors.{Closes}
 use Rattle.syn_tokens.proofs.Entries.{delimiter_back, decoded, is_flat}
 use Rattle.syn_tokens.specs.declared.entry.Open.{Open}
 use Rattle.syn_tokens.specs.declared.entry.Close.{Close}
-use Rattle.syn_tokens.specs.declared.entry.Entry.{Entry}
-use Rattle.syn_tokens.specs.declared.entry.Entry.TheVariants as E
+use Rattle.syn_tokens.specs.declared.entry.Token.{Token as Entry}
+use Rattle.syn_tokens.specs.declared.entry.Token.TheVariants as E
 
-abbrev closing_of : grammar.Delimiter → grammar.Span → Close
-closing_of d c = record { delimiter = delimiter_from d; span = from c }
+abbrev closing_of : grammar.Delimiter → grammar.Span → ℕ → Close
+closing_of d c n = record { delimiter = delimiter_from d; span = from c; trees = n }
 
 -- what stands behind an opening sign
 record Begins (o : Open) (rest : List Entry) (ts : Stream) : Type 0 where
@@ -23,7 +23,7 @@ record Begins (o : Open) (rest : List Entry) (ts : Stream) : Type 0 where
   pub closing : Close
   pub whole : rest ≡ encode inner ++ E.Close closing ∷ encode after
   pub skip : length (encode inner) ≡ o.skip
-  pub trees : count.length inner ≡ o.trees
+  pub trees : count.length inner ≡ closing.trees
   pub is : ts ≡ group (delimiter_of o.delimiter) (at o.span) (at closing.span) inner after
 
 begins : (o : Open) (rest : List Entry) (ts : Stream) → E.Open o ∷ rest ≡ encode ts → Begins o rest ts
@@ -34,12 +34,12 @@ begins o rest (punct c j sp m) h = absurd (cc)
 begins o rest (group d p c i m) h = record {
   inner = i;
   after = m;
-  closing = closing_of d c;
+  closing = closing_of d c (count.length i);
   whole = cc;
-  skip = let e : o ≡ record { delimiter = delimiter_from d; span = from p; skip = length (encode i); trees = count.length i } = cc in sym (ap (λ o. o.skip) e);
-  trees = let e : o ≡ record { delimiter = delimiter_from d; span = from p; skip = length (encode i); trees = count.length i } = cc in sym (ap (λ o. o.trees) e);
+  skip = let e : o ≡ record { delimiter = delimiter_from d; span = from p; skip = length (encode i) } = cc in sym (ap (λ o. o.skip) e);
+  trees = refl;
   is =
-      let e : o ≡ record { delimiter = delimiter_from d; span = from p; skip = length (encode i); trees = count.length i } = cc in
+      let e : o ≡ record { delimiter = delimiter_from d; span = from p; skip = length (encode i) } = cc in
       ap (λ f. group f p c i m) (sym (delimiter_back d)) ∙ ap (λ (q : Open). group (delimiter_of q.delimiter) (at q.span) c i m) (sym e);
 }
 
@@ -69,7 +69,7 @@ cut_right (a ∷ ws) xs (c ∷ ys) zs e h =
 
 -- the group, from where it is cut
 pub record Found (o : Open) (rest : List Entry) (n : ℕ) (content : List Entry) (c : Close) (after : List Entry) : Type 0 where
-  pub inside : IsFlat content o.trees
+  pub inside : IsFlat content c.trees
   pub behind : IsFlat after (n - 1)
   pub is : decode (E.Open o ∷ rest) ≡ group (delimiter_of o.delimiter) (at o.span) (at c.span) (decode content) (decode after)
 
@@ -85,7 +85,7 @@ found o rest n content c after flat cut long =
     let others : after ≡ encode b.after = cc in
     let counted : n ≡ suc (count.length b.after) = flat.counted ∙ ap count.length b.is in
     record {
-      inside = is_flat content b.inner o.trees left (sym b.trees);
+      inside = is_flat content b.inner c.trees left (ap (λ (q : Close). q.trees) sign ∙ sym b.trees);
       behind = is_flat after b.after (n - 1) others (omega arith);
       is = b.is ∙ (λ i. group (delimiter_of o.delimiter) (at o.span) (at (sym sign i).span) (sym (decoded content b.inner left) i) (sym (decoded after b.after others) i));
     }

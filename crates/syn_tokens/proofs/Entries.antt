@@ -16,8 +16,8 @@ use Rattle.syn_tokens.specs.declared.literal.LitKind.{LitKind}
 use Rattle.syn_tokens.specs.declared.literal.LitKind.TheVariants.{Str, ByteStr, CStr, Byte, Char, Int, Float}
 use Rattle.syn_tokens.specs.declared.punct.Spacing.{Spacing}
 use Rattle.syn_tokens.specs.declared.punct.Spacing.TheVariants.{Joint, Alone}
-use Rattle.syn_tokens.specs.declared.entry.Entry.{Entry}
-use Rattle.syn_tokens.specs.declared.entry.Entry.TheVariants as E
+use Rattle.syn_tokens.specs.declared.entry.Token.{Token as Entry}
+use Rattle.syn_tokens.specs.declared.entry.Token.TheVariants as E
 
 -- THERE AND BACK
 
@@ -54,9 +54,9 @@ states_back (punct c j sp m) es =
     ap (step (punct_entry c j sp)) (states_back m es)
     ∙ ap (λ k. record { trees = punct c k sp (m ⧺ (states es).trees); outer = (states es).outer; opened = (states es).opened }) (joint_back j)
 states_back (group d o c i m) es =
-    ap (λ fs. step (open_entry d o (length (encode i)) (count.length i)) (states fs)) (append_assoc (encode i) (close_entry d c ∷ encode m) es)
-    ∙ ap (step (open_entry d o (length (encode i)) (count.length i))) (states_back i (close_entry d c ∷ (encode m ++ es)))
-    ∙ ap (λ s. step (open_entry d o (length (encode i)) (count.length i)) (ahead i (step (close_entry d c) s))) (states_back m es)
+    ap (λ fs. step (open_entry d o (length (encode i))) (states fs)) (append_assoc (encode i) (close_entry d c (count.length i) ∷ encode m) es)
+    ∙ ap (step (open_entry d o (length (encode i)))) (states_back i (close_entry d c (count.length i) ∷ (encode m ++ es)))
+    ∙ ap (λ s. step (open_entry d o (length (encode i))) (ahead i (step (close_entry d c (count.length i)) s))) (states_back m es)
     ∙ ap (λ e. record { trees = group e o c (i ⧺ end) (m ⧺ (states es).trees); outer = (states es).outer; opened = (states es).opened }) (delimiter_back d)
     ∙ ap (λ j. record { trees = group d o c j (m ⧺ (states es).trees); outer = (states es).outer; opened = (states es).opened }) (append_end i)
 
@@ -77,8 +77,8 @@ encode-append end us = refl
 encode-append (leaf x sp m) us = ap (λ es. leaf_entry x sp ∷ es) (encode-append m us)
 encode-append (punct c j sp m) us = ap (λ es. punct_entry c j sp ∷ es) (encode-append m us)
 encode-append (group d o c i m) us =
-    ap (λ es. open_entry d o (length (encode i)) (count.length i) ∷ (encode i ++ close_entry d c ∷ es)) (encode-append m us)
-    ∙ ap (λ es. open_entry d o (length (encode i)) (count.length i) ∷ es) (sym (append_assoc (encode i) (close_entry d c ∷ encode m) (encode us)))
+    ap (λ es. open_entry d o (length (encode i)) ∷ (encode i ++ close_entry d c (count.length i) ∷ es)) (encode-append m us)
+    ∙ ap (λ es. open_entry d o (length (encode i)) ∷ es) (sym (append_assoc (encode i) (close_entry d c (count.length i) ∷ encode m) (encode us)))
 
 pub length-append_streams : (ts us : Stream) → count.length (ts ⧺ us) ≡ count.length ts + count.length us
 length-append_streams end us = omega arith
@@ -91,7 +91,7 @@ pub length_encode : (ts : Stream) → count.length ts ≤ length (encode ts)
 length_encode end = omega arith
 length_encode (leaf x sp m) = omega (arith, length_encode m)
 length_encode (punct c j sp m) = omega (arith, length_encode m)
-length_encode (group d o c i m) = omega (arith, length_encode m, length-append (encode i) (close_entry d c ∷ encode m))
+length_encode (group d o c i m) = omega (arith, length_encode m, length-append (encode i) (close_entry d c (count.length i) ∷ encode m))
 
 -- MORE ENTRIES
 
@@ -140,7 +140,7 @@ token_flat (E.Close c) h = absurd h
 
 -- and so is a group
 abbrev pub enclosed : Delimiter → Span → Span → ℕ → ℕ → List Entry → List Entry
-enclosed d o c skip n es = E.Open (record { delimiter = d; span = o; skip = skip; trees = n }) ∷ (es ++ E.Close (record { delimiter = d; span = c }) ∷ [])
+enclosed d o c skip n es = E.Open (record { delimiter = d; span = o; skip = skip }) ∷ (es ++ E.Close (record { delimiter = d; span = c; trees = n }) ∷ [])
 
 abbrev group_of : Delimiter → Span → Span → List Entry → Stream
 group_of d o c es = group (delimiter_of d) (at o) (at c) (decode es) end

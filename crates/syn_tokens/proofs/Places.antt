@@ -6,7 +6,7 @@ use Rattle.syn_grammar.specs.Take as grammar
 use Rattle.syn_tokens.specs.Entries.{leaf_entry, punct_entry, open_entry, close_entry, encode}
 use Rattle.syn_tokens.specs.Cursors.{before_next}
 use Rattle.syn_tokens.specs.Places.{place, after}
-use Rattle.syn_tokens.specs.declared.entry.Entry.{Entry}
+use Rattle.syn_tokens.specs.declared.entry.Token.{Token as Entry}
 use Rattle.syn_tokens.specs.declared.cursor.Next.{Next}
 use Rattle.syn_tokens.specs.declared.cursor.Next.TheVariants as N
 
@@ -47,8 +47,8 @@ encode_first (suc n) end = refl
 encode_first (suc n) (leaf x sp m) = ap (λ es. leaf_entry x sp ∷ es) (encode_first n m)
 encode_first (suc n) (punct c j sp m) = ap (λ es. punct_entry c j sp ∷ es) (encode_first n m)
 encode_first (suc n) (group d o c i m) =
-    ap (λ es. open_entry d o (length (encode i)) (grammar.length i) ∷ (encode i ++ close_entry d c ∷ es)) (encode_first n m)
-    ∙ ap (λ es. open_entry d o (length (encode i)) (grammar.length i) ∷ es) (sym (append_assoc (encode i) (close_entry d c ∷ encode (grammar.first n m)) (encode (after n m))))
+    ap (λ es. open_entry d o (length (encode i)) ∷ (encode i ++ close_entry d c (grammar.length i) ∷ es)) (encode_first n m)
+    ∙ ap (λ es. open_entry d o (length (encode i)) ∷ es) (sym (append_assoc (encode i) (close_entry d c (grammar.length i) ∷ encode (grammar.first n m)) (encode (after n m))))
 
 pub length_first : (n : ℕ) (ts : Stream) → grammar.length (grammar.first n ts) ≡ min (grammar.length ts) n
 length_first zero ts = omega arith

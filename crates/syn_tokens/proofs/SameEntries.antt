@@ -1,18 +1,19 @@
 -- Streams are the same where their entries are.
-use Rattle.std.proofs.Common.{◌≡◌, suc, Bool, true, false, ◌&&◌, List, [], ◌∷◌, ◌++◌, length, nat_eq, refl, sym, ap, ◌∙◌, append_assoc, append-nil, arith}
+use Rattle.std.proofs.Common.{◌≡◌, ℕ, suc, Bool, true, false, ◌&&◌, List, [], ◌∷◌, ◌++◌, length, nat_eq, refl, sym, ap, ◌∙◌, append_assoc, append-nil, arith}
 use Rattle.std.specs.Prelude.{◌==◌}
 use Rattle.std.specs.List.{list_all, zip}
 use Rattle.std.proofs.lemmas.Bool.{ne_eqb}
 use Rattle.syn_grammar.specs.Tokens as grammar
 use Rattle.syn_grammar.specs.Tokens.{ident, literal, Stream, end, leaf, punct, group, and}
+use Rattle.syn_grammar.specs.Take as count
 use Rattle.syn_grammar.specs.Same.{same_bool, same_delimiter, same_stream}
 use Rattle.syn_grammar.proofs.Same.{and_assoc, and_true, and_false}
 use Rattle.syn_tokens.specs.Entries.{delimiter_from, close_entry, encode}
 use Rattle.syn_tokens.specs.SameEntries.{same_entry, same_entries}
 use Rattle.syn_tokens.proofs.Entries.{joint_back, delimiter_back, kind_back}
 use Rattle.syn_tokens.specs.declared.entry.Close.{Close}
-use Rattle.syn_tokens.specs.declared.entry.Entry.{Entry}
-use Rattle.syn_tokens.specs.declared.entry.Entry.TheVariants as E
+use Rattle.syn_tokens.specs.declared.entry.Token.{Token as Entry}
+use Rattle.syn_tokens.specs.declared.entry.Token.TheVariants as E
 
 -- what may stand behind the entries of a group's content or of a whole stream
 data Behind : Type 0 where
@@ -23,8 +24,8 @@ abbrev behind : Behind → List Entry
 behind nothing = []
 behind (sign c es) = E.Close c ∷ es
 
-abbrev closing : grammar.Delimiter → grammar.Span → Close
-closing d c = record { delimiter = delimiter_from d; span = record { start = c.start; end = c.stop } }
+abbrev closing : grammar.Delimiter → grammar.Span → ℕ → Close
+closing d c n = record { delimiter = delimiter_from d; span = record { start = c.start; end = c.stop }; trees = n }
 
 regroup : (a b c d : Bool) → and a (and b (and c d)) ≡ and (and a (and b c)) d
 regroup true true c d = refl
@@ -73,9 +74,9 @@ same_ahead (group d o c i m) (leaf (ident u) sq n) x y = refl
 same_ahead (group d o c i m) (leaf (literal k u) sq n) x y = refl
 same_ahead (group d o c i m) (punct e j sq n) x y = refl
 same_ahead (group d o c i m) (group e p q j n) x y =
-    ap (λ b. and b (same_entries ((encode i ++ close_entry d c ∷ encode m) ++ behind x) ((encode j ++ close_entry e q ∷ encode n) ++ behind y))) (λ k. same_delimiter (delimiter_back d k) (delimiter_back e k))
-    ∙ ap (and (same_delimiter d e)) (λ k. same_entries (append_assoc (encode i) (close_entry d c ∷ encode m) (behind x) k) (append_assoc (encode j) (close_entry e q ∷ encode n) (behind y) k))
-    ∙ ap (and (same_delimiter d e)) (same_ahead i j (sign (closing d c) (encode m ++ behind x)) (sign (closing e q) (encode n ++ behind y)))
+    ap (λ b. and b (same_entries ((encode i ++ close_entry d c (count.length i) ∷ encode m) ++ behind x) ((encode j ++ close_entry e q (count.length j) ∷ encode n) ++ behind y))) (λ k. same_delimiter (delimiter_back d k) (delimiter_back e k))
+    ∙ ap (and (same_delimiter d e)) (λ k. same_entries (append_assoc (encode i) (close_entry d c (count.length i) ∷ encode m) (behind x) k) (append_assoc (encode j) (close_entry e q (count.length j) ∷ encode n) (behind y) k))
+    ∙ ap (and (same_delimiter d e)) (same_ahead i j (sign (closing d c (count.length i)) (encode m ++ behind x)) (sign (closing e q (count.length j)) (encode n ++ behind y)))
     ∙ ap (λ b. and (same_delimiter d e) (and (same_stream i j) b)) (same_ahead m n x y)
     ∙ regroup (same_delimiter d e) (same_stream i j) (same_stream m n) _
 

@@ -3,7 +3,7 @@ use Rattle.std.specs.Prelude.{◌≡◌, ℕ, ◌+◌, List, [], ◌∷◌, leng
 use Rattle.syn_grammar.specs.Take as grammar
 use Rattle.syn_tokens.specs.Entries.{encode}
 use Rattle.syn_tokens.specs.Building.{OpenGroup, laid, building}
-use Rattle.syn_tokens.specs.declared.entry.Entry.{Entry}
+use Rattle.syn_tokens.specs.declared.entry.Token.{Token as Entry}
 use Rattle.syn_tokens.specs.declared.builder.Pending.{Pending}
 
 -- an open group that stands behind so many entries

@@ -12,8 +12,8 @@ use Rattle.syn_tokens.specs.contracts.span.Span as span
 use Rattle.syn_tokens.specs.declared.delimiter.Delimiter.{Delimiter}
 use Rattle.syn_tokens.specs.contracts.delimiter.Delimiter as delimiter
 use Rattle.syn_tokens.specs.declared.entry.Open.{Open}
-use Rattle.syn_tokens.specs.declared.entry.Entry.{Entry}
-use Rattle.syn_tokens.specs.declared.entry.Entry.TheVariants as E
+use Rattle.syn_tokens.specs.declared.entry.Token.{Token as Entry}
+use Rattle.syn_tokens.specs.declared.entry.Token.TheVariants as E
 
 -- a group whose closing sign is still to come
 pub record OpenGroup : Type 0 where
@@ -36,7 +36,7 @@ coded_building = code_by (List OpenGroup × Stream) (coded× (coded_list coded_g
 
 -- the opening sign of a group that is still open: how far its closing sign stands isn't known yet
 abbrev pub open_sign : OpenGroup → Entry
-open_sign g = E.Open (record { delimiter = g.delimiter; span = g.opening; skip = 0; trees = 0 })
+open_sign g = E.Open (record { delimiter = g.delimiter; span = g.opening; skip = 0 })
 
 abbrev pub laid : List OpenGroup → Stream → List Entry
 laid [] s = encode s

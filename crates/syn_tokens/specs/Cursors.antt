@@ -7,23 +7,23 @@ use Rattle.syn_tokens.specs.Punct.{is_joint}
 use Rattle.syn_tokens.specs.Literals.{kind_of}
 use Rattle.syn_tokens.specs.declared.span.Span.{Span}
 use Rattle.syn_tokens.specs.declared.entry.Close.{Close as Closing}
-use Rattle.syn_tokens.specs.declared.entry.Entry.{Entry}
-use Rattle.syn_tokens.specs.declared.entry.Entry.TheVariants as E
+use Rattle.syn_tokens.specs.declared.entry.Token.{Token as Entry}
+use Rattle.syn_tokens.specs.declared.entry.Token.TheVariants as E
 use Rattle.syn_tokens.specs.declared.cursor.Next.{Next}
 use Rattle.syn_tokens.specs.declared.cursor.Next.TheVariants as N
 
 -- a tree, and what follows it
 abbrev pub before_next : Next → Stream → Stream
-before_next (N.Ident i) r = leaf (ident i.now.text) (at i.now.span) r
-before_next (N.Literal l) r = leaf (literal (kind_of l.now.kind) l.now.text) (at l.now.span) r
-before_next (N.Punct p) r = punct p.now.character (is_joint p.now.spacing) (at p.now.span) r
+before_next (N.Ident i) r = leaf (ident i.text) (at i.span) r
+before_next (N.Literal l) r = leaf (literal (kind_of l.kind) l.text) (at l.span) r
+before_next (N.Punct p) r = punct p.character (is_joint p.spacing) (at p.span) r
 before_next (N.Group g) r = group (delimiter_of g.delimiter) (at g.opening) (at g.closing) g.content r
 
 -- where a tree stands
 abbrev pub next_span : Next → Span
-next_span (N.Ident i) = i.now.span
-next_span (N.Literal l) = l.now.span
-next_span (N.Punct p) = p.now.span
+next_span (N.Ident i) = i.span
+next_span (N.Literal l) = l.span
+next_span (N.Punct p) = p.span
 next_span (N.Group g) = g.opening
 
 -- behind so many entries there is a closing sign

@@ -15,8 +15,8 @@ use Rattle.syn_tokens.specs.declared.literal.LitKind.TheVariants.{Str, ByteStr, 
 use Rattle.syn_tokens.specs.declared.punct.Spacing.{Spacing}
 use Rattle.syn_tokens.specs.declared.punct.Spacing.TheVariants.{Joint, Alone}
 use Rattle.syn_tokens.specs.declared.entry.Open.{Open}
-use Rattle.syn_tokens.specs.declared.entry.Entry.{Entry}
-use Rattle.syn_tokens.specs.declared.entry.Entry.TheVariants as E
+use Rattle.syn_tokens.specs.declared.entry.Token.{Token as Entry}
+use Rattle.syn_tokens.specs.declared.entry.Token.TheVariants as E
 
 -- WORDS OF THE GRAMMAR, as the types of this crate have them
 
@@ -49,12 +49,13 @@ leaf_entry (literal k x) sp = E.Literal (record { kind = kind_from k; text = x; 
 abbrev pub punct_entry : ℕ → Bool → grammar.Span → Entry
 punct_entry c j sp = E.Punct (record { character = c; spacing = spacing_from j; span = from sp })
 
--- an opening sign, with so many entries and so many trees before its closing sign
-abbrev pub open_entry : grammar.Delimiter → grammar.Span → ℕ → ℕ → Entry
-open_entry d o skip trees = E.Open (record { delimiter = delimiter_from d; span = from o; skip = skip; trees = trees })
+-- an opening sign, with so many entries before its closing sign
+abbrev pub open_entry : grammar.Delimiter → grammar.Span → ℕ → Entry
+open_entry d o skip = E.Open (record { delimiter = delimiter_from d; span = from o; skip = skip })
 
-abbrev pub close_entry : grammar.Delimiter → grammar.Span → Entry
-close_entry d c = E.Close (record { delimiter = delimiter_from d; span = from c })
+-- a closing sign, with so many trees behind its opening sign
+abbrev pub close_entry : grammar.Delimiter → grammar.Span → ℕ → Entry
+close_entry d c trees = E.Close (record { delimiter = delimiter_from d; span = from c; trees = trees })
 
 -- where an entry stands
 abbrev pub entry_span : Entry → Span
@@ -69,7 +70,7 @@ abbrev pub encode : Stream → List Entry
 encode end = []
 encode (leaf x sp m) = leaf_entry x sp ∷ encode m
 encode (punct c j sp m) = punct_entry c j sp ∷ encode m
-encode (group d o c i m) = open_entry d o (length (encode i)) (take.length i) ∷ (encode i ++ close_entry d c ∷ encode m)
+encode (group d o c i m) = open_entry d o (length (encode i)) ∷ (encode i ++ close_entry d c (take.length i) ∷ encode m)
 
 -- THE STREAM OF ENTRIES, from the last to the first
 

@@ -20,8 +20,10 @@ pub mod Listing
 pub mod Lists
 pub mod Literals
 pub mod Looked
+pub mod Nears
 pub mod Nexts
 pub mod Opened
+pub mod Packed
 pub mod Peeks
 pub mod Places
 pub mod Punct

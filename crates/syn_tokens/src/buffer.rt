@@ -11,6 +11,7 @@ ghost use Rattle.syn_tokens.specs.Nexts.{StandsNext, RefusedNext};
 ghost use Rattle.syn_tokens.specs.Punct.{is_joint};
 ghost use Rattle.syn_tokens.specs.Peeks.{past};
 ghost use Rattle.syn_tokens.specs.Peeks as peeks;
+ghost use Rattle.syn_tokens.specs.Cursors.{before_next};
 ghost use Rattle.syn_tokens.specs.Opened.{SaysOpened, content_of};
 
 use crate::cursor::{Cursor, Next};
@@ -57,6 +58,18 @@ fn end_of(entries: &[Entry]) -> Span {
         None => 0,
     };
     Span { start: end, end }
+}
+
+/// What is left past a tree; where that is the `'` of a lifetime, past its identifier too.
+fn past_next<'a>(next: &Next<'_>, rest: Cursor<'a>) -> Cursor<'a>
+    ensures { result ≡ past (before_next next.now rest.entry) }
+{
+    match next {
+        Next::Ident(_) => rest,
+        Next::Literal(_) => rest,
+        Next::Group(_) => rest,
+        Next::Punct(punct) => past_mark(punct, rest),
+    }
 }
 
 /// What is left past a mark's character; where that makes a lifetime, past its identifier too.
@@ -174,11 +187,8 @@ impl<'a> ParseBuffer<'a> {
         ensures { result ≡ past self.now }
     {
         let tokens = match self.tokens.split() {
+            Some((next, rest)) => past_next(&next, rest),
             None => Cursor::none(),
-            Some((Next::Ident(_), rest)) => rest,
-            Some((Next::Literal(_), rest)) => rest,
-            Some((Next::Group(_), rest)) => rest,
-            Some((Next::Punct(punct), rest)) => past_mark(punct, rest),
         };
         ParseBuffer {
             tokens,

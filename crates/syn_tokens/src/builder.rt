@@ -2,7 +2,6 @@
 ghost use Rattle.std.specs.Prelude.{◌≡◌, ◌<◌, List, [], ◌∷◌, ◌++◌, length, slice_set, IfErr, OnOk, OnErr, MatchResult, IfOk};
 ghost use Rattle.syn_grammar.specs.Tokens.{end, ◌⧺◌};
 ghost use Rattle.syn_tokens.specs.Entries.{decode, IsToken};
-ghost use Rattle.syn_tokens.specs.declared.entry.Entry.TheVariants as E;
 ghost use Rattle.syn_tokens.specs.Building.{OpenGroup, Closes, NotOpen, IsUnbalanced, unbalanced};
 
 use crate::delimiter::Delimiter;
@@ -54,15 +53,15 @@ impl Model for StreamBuilder {
 fn enclose(
     entries: &mut Vec<Entry>,
     place: usize,
-    opening: Open,
-    closing: Close,
+    opening: Entry,
+    closing: Entry,
 ) -> std::result::Result<(), AllocError>
     requires { place < length entries.old.items }
-    ensures ok { OnOk result (entries.new.items ≡ slice_set (entries.old.items ++ E.Close closing ∷ []) place (E.Open opening)) }
+    ensures ok { OnOk result (entries.new.items ≡ slice_set (entries.old.items ++ closing ∷ []) place opening) }
     ensures err { OnErr result (entries.new.items ≡ entries.old.items) }
 {
-    entries.push(Entry::Close(closing))?;
-    entries[place] = Entry::Open(opening);
+    entries.push(closing)?;
+    entries[place] = opening;
     Ok(())
 }
 
@@ -110,14 +109,15 @@ impl StreamBuilder {
         ensures ok { OnOk result (self.new ≡ record { open_groups = self.old.open_groups ++ record { delimiter = delimiter; opening = opening; outer = self.old.stream } ∷ []; stream = end }) }
         ensures err { OnErr result (self.new ≡ self.old) }
     {
-        self.pending.reserve(1)?;
-        let at = self.entries.len();
-        self.entries.push(Entry::Open(Open {
+        let open = Open {
             delimiter,
             span: opening,
             skip: 0,
-            trees: 0,
-        }))?;
+        };
+        let sign = Entry::open(self.alloc, open)?;
+        self.pending.reserve(1)?;
+        let at = self.entries.len();
+        self.entries.push(sign)?;
         self.pending.push(Pending {
             delimiter,
             opening,
@@ -143,17 +143,19 @@ impl StreamBuilder {
         if innermost.delimiter != delimiter {
             return Err(not_balanced(closing));
         }
-        let opening = Open {
+        let open = Open {
             delimiter: innermost.delimiter,
             span: innermost.opening,
             skip: self.entries.len() - innermost.at - 1,
-            trees: self.trees,
         };
-        let sign = Close {
+        let close = Close {
             delimiter: innermost.delimiter,
             span: closing,
+            trees: self.trees,
         };
-        enclose(&mut self.entries, innermost.at, opening, sign)?;
+        let opening = Entry::open(self.alloc, open)?;
+        let closing = Entry::close(self.alloc, close)?;
+        enclose(&mut self.entries, innermost.at, opening, closing)?;
         self.pending.truncate(around);
         self.trees = innermost.trees + 1;
         Ok(())

@@ -60,9 +60,9 @@ fn copy_next(next: &Next<'_>, alloc: Global) -> std::result::Result<TokenTree, A
             opening: inner.opening,
             closing: inner.closing,
         })),
-        Next::Ident(ident) => Ok(TokenTree::Ident(ident.copy()?)),
-        Next::Punct(punct) => Ok(TokenTree::Punct(**punct)),
-        Next::Literal(literal) => Ok(TokenTree::Literal(literal.copy()?)),
+        Next::Ident(ident) => Ok(TokenTree::Ident(ident.to_ident()?)),
+        Next::Punct(punct) => Ok(TokenTree::Punct(*punct)),
+        Next::Literal(literal) => Ok(TokenTree::Literal(literal.to_literal()?)),
     }
 }
 

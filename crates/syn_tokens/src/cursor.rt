@@ -5,12 +5,11 @@ ghost use Rattle.syn_grammar.specs.Take as grammar;
 ghost use Rattle.syn_tokens.specs.Entries.{encode, decode, IsFlat};
 ghost use Rattle.syn_tokens.specs.Places.{after};
 ghost use Rattle.syn_tokens.specs.Cursors.{before_next, next_span, Closes};
-ghost use Rattle.syn_tokens.specs.declared.entry.Entry.TheVariants as E;
+ghost use Rattle.syn_tokens.specs.declared.entry.Token.TheVariants as E;
 
 use crate::delimiter::Delimiter;
-use crate::entry::{Close, Entry};
-use crate::ident::Ident;
-use crate::literal::Literal;
+use crate::entry::{Close, Entry, Token};
+use crate::lent::{IdentRef, LiteralRef};
 use crate::punct::Punct;
 use crate::span::Span;
 use std::marker::Model;
@@ -49,9 +48,9 @@ pub(crate) struct Inner<'a> {
 /// A token tree in a stream.
 #[derive(Drop)]
 pub(crate) enum Next<'a> {
-    Ident(&'a Ident),
-    Literal(&'a Literal),
-    Punct(&'a Punct),
+    Ident(IdentRef<'a>),
+    Literal(LiteralRef<'a>),
+    Punct(Punct),
     Group(Inner<'a>),
 }
 
@@ -63,17 +62,18 @@ fn split_first(entries: &[Entry]) -> Option<(&Entry, &[Entry])>
 }
 
 /// So many entries, the closing sign behind them, and the others.
-fn split_close(entries: &[Entry], count: usize) -> Option<(&[Entry], &Close, &[Entry])>
+fn split_close(entries: &[Entry], count: usize) -> Option<(&[Entry], Close, &[Entry])>
     ensures { MatchOption result (Closes entries.now count → ⊥)
-        (λ p. (entries.now ≡ p.0.now ++ E.Close p.1.now ∷ p.2.now) × (length p.0.now ≡ count)) }
+        (λ p. (entries.now ≡ p.0.now ++ E.Close p.1 ∷ p.2.now) × (length p.0.now ≡ count)) }
 {
     let (content, rest) = entries.split_at_checked(count)?;
-    match split_first(rest)? {
-        (Entry::Close(close), rest) => Some((content, close, rest)),
-        (Entry::Ident(_), _) => None,
-        (Entry::Literal(_), _) => None,
-        (Entry::Punct(_), _) => None,
-        (Entry::Open(_), _) => None,
+    let (sign, rest) = split_first(rest)?;
+    match sign.token() {
+        Token::Close(close) => Some((content, close, rest)),
+        Token::Ident(_) => None,
+        Token::Literal(_) => None,
+        Token::Punct(_) => None,
+        Token::Open(_) => None,
     }
 }
 
@@ -140,21 +140,21 @@ impl<'a> Cursor<'a> {
     {
         let (first, rest) = split_first(self.entries)?;
         let behind = self.trees.saturating_sub(1);
-        match first {
-            Entry::Ident(ident) => Some((Next::Ident(ident), Cursor::new(rest, behind))),
-            Entry::Literal(literal) => Some((Next::Literal(literal), Cursor::new(rest, behind))),
-            Entry::Punct(punct) => Some((Next::Punct(punct), Cursor::new(rest, behind))),
-            Entry::Open(open) => {
+        match first.token() {
+            Token::Ident(ident) => Some((Next::Ident(ident), Cursor::new(rest, behind))),
+            Token::Literal(literal) => Some((Next::Literal(literal), Cursor::new(rest, behind))),
+            Token::Punct(punct) => Some((Next::Punct(punct), Cursor::new(rest, behind))),
+            Token::Open(open) => {
                 let (content, close, rest) = split_close(rest, open.skip)?;
                 let inner = Inner {
                     delimiter: open.delimiter,
                     opening: open.span,
                     closing: close.span,
-                    content: Cursor::new(content, open.trees),
+                    content: Cursor::new(content, close.trees),
                 };
                 Some((Next::Group(inner), Cursor::new(rest, behind)))
             }
-            Entry::Close(_) => None,
+            Token::Close(_) => None,
         }
     }
 

@@ -10,53 +10,52 @@ ghost use Rattle.syn_tokens.specs.Leaves.{spelled, ident_leaf, literal_leaf, NoI
 
 use crate::cursor::{Cursor, Inner, Next};
 use crate::delimiter::Delimiter;
-use crate::ident::Ident;
-use crate::literal::Literal;
+use crate::lent::{IdentRef, LiteralRef};
 use crate::punct::{Punct, Spacing};
 use crate::span::Span;
 
 /// The identifier at the front, and what follows it.
 #[tactic(auto, using(crate::proofs::Fronts::no_ident_at_literal), unfolding(syn_grammar::specs::Take::take_token))]
-pub(crate) fn split_ident<'a>(cursor: &Cursor<'a>) -> Option<(&'a Ident, Cursor<'a>)>
+pub(crate) fn split_ident<'a>(cursor: &Cursor<'a>) -> Option<(IdentRef<'a>, Cursor<'a>)>
     ensures { MatchOption result (NoIdent cursor.now)
-        (λ p. cursor.now ≡ leaf (ident_leaf p.0.now) (at p.0.now.span) p.1) }
+        (λ p. cursor.now ≡ leaf (ident_leaf p.0) (at p.0.span) p.1) }
 {
-    match cursor.split() {
-        Some((Next::Ident(ident), rest)) => Some((ident, rest)),
-        Some((Next::Literal(_), _)) => None,
-        Some((Next::Punct(_), _)) => None,
-        Some((Next::Group(_), _)) => None,
-        None => None,
+    let (next, rest) = cursor.split()?;
+    match next {
+        Next::Ident(ident) => Some((ident, rest)),
+        Next::Literal(_) => None,
+        Next::Punct(_) => None,
+        Next::Group(_) => None,
     }
 }
 
 /// The literal at the front, and what follows it.
 #[tactic(auto, using(crate::proofs::Fronts::no_literal_at_ident), unfolding(syn_grammar::specs::Take::take_token))]
-pub(crate) fn split_literal<'a>(cursor: &Cursor<'a>) -> Option<(&'a Literal, Cursor<'a>)>
+pub(crate) fn split_literal<'a>(cursor: &Cursor<'a>) -> Option<(LiteralRef<'a>, Cursor<'a>)>
     ensures { MatchOption result (NoLiteral cursor.now)
-        (λ p. cursor.now ≡ leaf (literal_leaf p.0.now) (at p.0.now.span) p.1) }
+        (λ p. cursor.now ≡ leaf (literal_leaf p.0) (at p.0.span) p.1) }
 {
-    match cursor.split() {
-        Some((Next::Ident(_), _)) => None,
-        Some((Next::Literal(literal), rest)) => Some((literal, rest)),
-        Some((Next::Punct(_), _)) => None,
-        Some((Next::Group(_), _)) => None,
-        None => None,
+    let (next, rest) = cursor.split()?;
+    match next {
+        Next::Ident(_) => None,
+        Next::Literal(literal) => Some((literal, rest)),
+        Next::Punct(_) => None,
+        Next::Group(_) => None,
     }
 }
 
 /// The character of a mark at the front, and what follows it.
 #[tactic(auto, using(crate::proofs::Fronts::none_spelled_at_leaf, crate::proofs::Fronts::none_spelled_at_group, crate::proofs::Fronts::none_spelled_at_end), unfolding(syn_grammar::specs::Take::take_lifetime))]
-pub(crate) fn split_punct<'a>(cursor: &Cursor<'a>) -> Option<(&'a Punct, Cursor<'a>)>
+pub(crate) fn split_punct<'a>(cursor: &Cursor<'a>) -> Option<(Punct, Cursor<'a>)>
     ensures { MatchOption result (NoPunct cursor.now)
-        (λ p. cursor.now ≡ punct p.0.now.character (is_joint p.0.now.spacing) (at p.0.now.span) p.1) }
+        (λ p. cursor.now ≡ punct p.0.character (is_joint p.0.spacing) (at p.0.span) p.1) }
 {
-    match cursor.split() {
-        Some((Next::Ident(_), _)) => None,
-        Some((Next::Literal(_), _)) => None,
-        Some((Next::Punct(punct), rest)) => Some((punct, rest)),
-        Some((Next::Group(_), _)) => None,
-        None => None,
+    let (next, rest) = cursor.split()?;
+    match next {
+        Next::Ident(_) => None,
+        Next::Literal(_) => None,
+        Next::Punct(punct) => Some((punct, rest)),
+        Next::Group(_) => None,
     }
 }
 
@@ -119,19 +118,19 @@ pub(crate) fn split_group<'a>(
 
 /// The `'` and the identifier of a lifetime at the front, and what follows them.
 #[tactic(auto, unfolding(syn_grammar::specs::Take::take_lifetime))]
-pub(crate) fn split_lifetime<'a>(cursor: &Cursor<'a>) -> Option<(&'a Punct, &'a Ident, Cursor<'a>)>
+pub(crate) fn split_lifetime<'a>(cursor: &Cursor<'a>) -> Option<(Punct, IdentRef<'a>, Cursor<'a>)>
     ensures { MatchOption result (take_lifetime cursor.now ≡ None)
-        (λ p. cursor.now ≡ punct 39 true (at p.0.now.span) (leaf (ident_leaf p.1.now) (at p.1.now.span) p.2)) }
+        (λ p. cursor.now ≡ punct 39 true (at p.0.span) (leaf (ident_leaf p.1) (at p.1.span) p.2)) }
 {
     let (apostrophe, rest) = split_punct(cursor)?;
     if apostrophe.character() != '\'' || apostrophe.spacing != Spacing::Joint {
         return None;
     }
-    match rest.split() {
-        Some((Next::Ident(ident), rest)) => Some((apostrophe, ident, rest)),
-        Some((Next::Literal(_), _)) => None,
-        Some((Next::Punct(_), _)) => None,
-        Some((Next::Group(_), _)) => None,
-        None => None,
+    let (next, rest) = rest.split()?;
+    match next {
+        Next::Ident(ident) => Some((apostrophe, ident, rest)),
+        Next::Literal(_) => None,
+        Next::Punct(_) => None,
+        Next::Group(_) => None,
     }
 }

@@ -8,6 +8,7 @@ ghost use Rattle.syn_tokens.specs.Idents.{is_keyword, is_identifier};
 use crate::error::{Error, Result};
 use crate::identifier::is_identifier;
 use crate::keyword::is_keyword;
+use crate::lent::IdentRef;
 use crate::span::Span;
 use crate::text::Text;
 use std::alloc::{AllocError, Global};
@@ -89,6 +90,32 @@ impl Ident {
             keyword: self.keyword,
             span: self.span,
         })
+    }
+
+    /// The identifier, as one that stands in a stream.
+    pub fn as_ref(&self) -> IdentRef<'_>
+        ensures { result ≡ self.now }
+    {
+        IdentRef::new(&self.text, self.keyword, self.span)
+    }
+
+    /// The identifier of this text, which is known to be a keyword or none.
+    pub(crate) fn of_text(text: Text, keyword: bool, span: Span) -> Ident
+        requires { keyword ≡ is_keyword text }
+        ensures { result ≡ record { text = text; span = span } }
+    {
+        Ident {
+            text,
+            keyword,
+            span,
+        }
+    }
+
+    /// Whether it is a keyword, and its text.
+    pub(crate) fn into_parts(self) -> (bool, Text)
+        ensures { result ≡ (is_keyword self.text, self.text) }
+    {
+        (self.keyword, self.text)
     }
 
     /// The same as `copy`.

@@ -5,6 +5,7 @@ ghost use Rattle.syn_grammar.specs.Tokens.{same_text};
 ghost use Rattle.syn_tokens.specs.Equal.{same_text_equiv, same_text_per};
 
 use crate::error::Result;
+use crate::lent::LiteralRef;
 use crate::span::Span;
 use crate::text::Text;
 use std::alloc::{AllocError, Global};
@@ -87,6 +88,27 @@ impl Literal {
             text: self.text.share()?,
             span: self.span,
         })
+    }
+
+    /// The literal, as one that stands in a stream.
+    pub fn as_ref(&self) -> LiteralRef<'_>
+        ensures { result ≡ self.now }
+    {
+        LiteralRef::new(self.kind, &self.text, self.span)
+    }
+
+    /// The literal of that kind with that text.
+    pub(crate) fn of_text(kind: LitKind, text: Text, span: Span) -> Literal
+        ensures { result ≡ record { kind = kind; text = text; span = span } }
+    {
+        Literal { kind, text, span }
+    }
+
+    /// What it is, and its text.
+    pub(crate) fn into_parts(self) -> (LitKind, Text)
+        ensures { result ≡ (self.kind, self.text) }
+    {
+        (self.kind, self.text)
     }
 
     /// The same as `copy`.

@@ -5,7 +5,7 @@ ghost use Rattle.syn_grammar.specs.Same.{same_stream};
 ghost use Rattle.syn_tokens.specs.Trees.{before};
 ghost use Rattle.syn_tokens.specs.SameEntries.{same_entry, same_entries};
 
-use crate::entry::Entry;
+use crate::entry::{Entry, Token};
 use crate::stream::TokenStream;
 use crate::tree::TokenTree;
 
@@ -14,12 +14,13 @@ use crate::tree::TokenTree;
 fn same_entry(a: &Entry, b: &Entry) -> bool
     ensures { result ≡ same_entry a.now b.now }
 {
-    match (a, b) {
-        (Entry::Ident(x), Entry::Ident(y)) => x == y,
-        (Entry::Literal(x), Entry::Literal(y)) => x == y,
-        (Entry::Punct(x), Entry::Punct(y)) => x == y,
-        (Entry::Open(x), Entry::Open(y)) => x.delimiter == y.delimiter,
-        (Entry::Close(_), Entry::Close(_)) => true,
+    let (a, b) = (a.token(), b.token());
+    match (&a, &b) {
+        (Token::Ident(x), Token::Ident(y)) => x.is(y.text()),
+        (Token::Literal(x), Token::Literal(y)) => x.is_same(y),
+        (Token::Punct(x), Token::Punct(y)) => x == y,
+        (Token::Open(x), Token::Open(y)) => x.delimiter == y.delimiter,
+        (Token::Close(_), Token::Close(_)) => true,
         _ => false,
     }
 }

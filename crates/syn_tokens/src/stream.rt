@@ -133,9 +133,11 @@ impl TokenStream {
     {
         match tree {
             TokenTree::Group(group) => self.add_group(group),
-            TokenTree::Ident(ident) => self.add_token(Entry::Ident(ident)),
-            TokenTree::Punct(punct) => self.add_token(Entry::Punct(punct)),
-            TokenTree::Literal(literal) => self.add_token(Entry::Literal(literal)),
+            TokenTree::Ident(ident) => self.add_token(Entry::ident(self.alloc, ident)?),
+            TokenTree::Punct(punct) => self.add_token(Entry::punct(self.alloc, punct)?),
+            TokenTree::Literal(literal) => {
+                self.add_token(Entry::literal(self.alloc, literal)?)
+            }
         }
     }
 
@@ -163,16 +165,18 @@ impl TokenStream {
         } = tree;
         let TokenStream { entries, trees, .. } = stream;
         let mut content = entries;
-        let opening = Entry::Open(Open {
+        let open = Open {
             delimiter,
             span: opening,
             skip: content.len(),
-            trees,
-        });
-        let closing = Entry::Close(Close {
+        };
+        let close = Close {
             delimiter,
             span: closing,
-        });
+            trees,
+        };
+        let opening = Entry::open(self.alloc, open)?;
+        let closing = Entry::close(self.alloc, close)?;
         enclose(&mut self.entries, opening, &mut content, closing)?;
         self.trees += 1;
         Ok(())
@@ -189,7 +193,8 @@ impl TokenStream {
         ensures ok { OnOk result (self.new ≡ self.old ⧺ punct character (is_joint spacing) (at span) end) }
         ensures err { OnErr result (self.new ≡ self.old) }
     {
-        self.add_token(Entry::Punct(Punct::new(character, spacing, span)))
+        let punct = Punct::new(character, spacing, span);
+        self.add_token(Entry::punct(self.alloc, punct)?)
     }
 
     /// Adds the trees of another stream at the end; refused, it leaves this one as it was. Where this one is empty, it takes

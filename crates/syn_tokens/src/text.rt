@@ -4,22 +4,22 @@ ghost use Rattle.std.specs.Prelude.{◌≡◌, IfOk};
 use arrayvec::ArrayString;
 use std::alloc::{AllocError, Global};
 use std::marker::Model;
-use std::rc::{Rc, RcStr};
+use std::rc::Rc;
 
 /// How many bytes a text may have that lies beside the count of its copies.
-const SHORT: usize = 16;
+const SHORT: usize = 24;
 
 /// A text that its copies share, seen as its bytes.
 #[derive(Debug, Drop)]
 pub struct Text {
-    inner: Shared,
+    inner: Rc<Shared>,
 }
 
 /// Where a text lies: a short one beside the count of its copies, so that it takes memory once and not twice.
 #[derive(Debug, Drop)]
 enum Shared {
-    Short(Rc<ArrayString<SHORT>>),
-    Long(RcStr),
+    Short(ArrayString<SHORT>),
+    Long(String),
 }
 
 impl Model for Text {
@@ -28,7 +28,7 @@ impl Model for Text {
 
     ghost Value = { List ℕ };
 
-    ghost view = { λ t. bytes_of t.inner };
+    ghost view = { λ t. bytes_of t.inner.value };
 }
 
 impl Text {
@@ -36,29 +36,29 @@ impl Text {
     pub fn from_str(alloc: Global, text: &str) -> Result<Text, AllocError>
         ensures { IfOk result (λ t. t ≡ text.now) }
     {
-        let inner = match ArrayString::from(text) {
-            Ok(short) => Shared::Short(Rc::new(alloc, short)?),
-            Err(_) => Shared::Long(RcStr::from_str(alloc, text)?),
+        let shared = match ArrayString::from(text) {
+            Ok(short) => Shared::Short(short),
+            Err(_) => Shared::Long(String::from_str(alloc, text)?),
         };
-        Ok(Text { inner })
+        Ok(Text {
+            inner: Rc::new(alloc, shared)?,
+        })
     }
 
     /// The same text once more. It takes no memory, and is refused only where 2^64 - 1 copies are there.
     pub fn share(&self) -> Result<Text, AllocError>
         ensures { IfOk result (λ t. t ≡ self.now) }
     {
-        let inner = match &self.inner {
-            Shared::Short(short) => Shared::Short(short.clone()?),
-            Shared::Long(long) => Shared::Long(long.clone()?),
-        };
-        Ok(Text { inner })
+        Ok(Text {
+            inner: self.inner.clone()?,
+        })
     }
 
     /// The text itself.
     pub fn as_str(&self) -> &str
         ensures { result.now ≡ self.now }
     {
-        match &self.inner {
+        match &*self.inner {
             Shared::Short(short) => short.as_str(),
             Shared::Long(long) => long.as_str(),
         }

@@ -16,12 +16,13 @@ use crate::delimiter::Delimiter;
 use crate::expectation::Expectation;
 use crate::front::{split_group, split_ident, split_lifetime, split_literal};
 use crate::ident::Ident;
+use crate::lent::IdentRef;
 use crate::literal::Literal;
 use crate::refusal::Reading;
 use crate::span::Span;
 
 /// Whether it is one of the keywords that may stand in a path.
-fn is_path_word(ident: &Ident) -> bool
+fn is_path_word(ident: &IdentRef<'_>) -> bool
     ensures { result ≡ one_of_texts ident.now.text path_words }
 {
     ident.is("self") || ident.is("Self") || ident.is("super") || ident.is("crate")
@@ -42,7 +43,7 @@ impl<'a> ParseBuffer<'a> {
             return Err(self.refusal(Expectation::Identifier));
         }
         self.tokens = rest;
-        Ok(ident.copy()?)
+        Ok(ident.to_ident()?)
     }
 
     /// Any identifier.
@@ -56,7 +57,7 @@ impl<'a> ParseBuffer<'a> {
             return Err(self.refusal(Expectation::Identifier));
         };
         self.tokens = rest;
-        Ok(ident.copy()?)
+        Ok(ident.to_ident()?)
     }
 
     /// An identifier that is no keyword, or one of the keywords of paths: `self`, `Self`, `super`, `crate`.
@@ -69,11 +70,11 @@ impl<'a> ParseBuffer<'a> {
         let Some((ident, rest)) = split_ident(&self.tokens) else {
             return Err(self.refusal(Expectation::Identifier));
         };
-        if ident.is_keyword() && !is_path_word(ident) {
+        if ident.is_keyword() && !is_path_word(&ident) {
             return Err(self.refusal(Expectation::Identifier));
         }
         self.tokens = rest;
-        Ok(ident.copy()?)
+        Ok(ident.to_ident()?)
     }
 
     /// The identifier of this text.
@@ -105,7 +106,7 @@ impl<'a> ParseBuffer<'a> {
             return Err(self.refusal(Expectation::Literal));
         };
         self.tokens = rest;
-        Ok(literal.copy()?)
+        Ok(literal.to_literal()?)
     }
 
     /// A `'` directly before an identifier: its span, and the identifier.
@@ -119,7 +120,7 @@ impl<'a> ParseBuffer<'a> {
             return Err(self.refusal(Expectation::Lifetime));
         };
         self.tokens = rest;
-        Ok((apostrophe.span, ident.copy()?))
+        Ok((apostrophe.span, ident.to_ident()?))
     }
 
     /// Whether an identifier stands next that is no keyword.

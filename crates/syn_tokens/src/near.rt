@@ -1,0 +1,34 @@
+//! Spans in half their room.
+ghost use Rattle.std.specs.Prelude.{◌≡◌, IfSome};
+ghost use Rattle.syn_tokens.specs.Nears.{wide};
+
+use crate::span::Span;
+
+/// A span within the first 2^32 bytes of a text.
+#[derive(Clone, Copy, Debug)]
+pub(crate) struct Near {
+    start: u32,
+    end: u32,
+}
+
+impl Near {
+    /// The span, where it is such a one.
+    pub(crate) fn of(span: Span) -> Option<Near>
+        ensures { IfSome result (λ near. wide near ≡ span) }
+    {
+        Some(Near {
+            start: u32::try_from(span.start).ok()?,
+            end: u32::try_from(span.end).ok()?,
+        })
+    }
+
+    /// The span itself.
+    pub(crate) fn span(&self) -> Span
+        ensures { result ≡ wide self.now }
+    {
+        Span {
+            start: self.start as usize,
+            end: self.end as usize,
+        }
+    }
+}
