@@ -3,8 +3,9 @@ use Rattle.std.proofs.Common.{◌≡◌, ℕ, ◌+◌, ◌<◌, ◌≤◌, Bool,
 use Rattle.std.proofs.lemmas.List.{at_drop_more, drop_all}
 use Rattle.std.specs.Char.{encode_utf8}
 use Rattle.syn_grammar.specs.Tokens.{ident, literal, Paren, Brace, Bracket, None, Stream, end, leaf, punct, group}
+use Rattle.syn_grammar.specs.Take as count
 use Rattle.syn_tokens.specs.Entries.{close_entry, encode}
-use Rattle.syn_tokens.specs.declared.entry.Entry.{Entry}
+use Rattle.syn_tokens.specs.declared.entry.Token.{Token as Entry}
 use Rattle.syn_tokens.proofs.Entries.{joint_back}
 use Rattle.syn.specs.Spelling.{opening_sign, closing_sign}
 use Rattle.syn.specs.Texts.{gap, follows_directly, text_behind, text_of}
@@ -50,16 +51,16 @@ behind_stream direct (punct c j sp m) rest =
     ∙ ap (λ t. (gap direct ++ encode_utf8 c) ++ t) (behind_stream j m rest)
     ∙ word_first (gap direct) (encode_utf8 c) (text_behind j m) (entries_text (follows_directly j m) rest)
 behind_stream direct (group None o c i m) rest =
-    ap (entries_text direct) (append_assoc (encode i) (close_entry None c ∷ encode m) rest)
-    ∙ behind_stream direct i (close_entry None c ∷ (encode m ++ rest))
+    ap (entries_text direct) (append_assoc (encode i) (close_entry None c (count.length i) ∷ encode m) rest)
+    ∙ behind_stream direct i (close_entry None c (count.length i) ∷ (encode m ++ rest))
     ∙ ap (λ t. text_behind direct i ++ t) (behind_stream (follows_directly direct i) m rest)
     ∙ sym (append_assoc (text_behind direct i) (text_behind (follows_directly direct i) m) (entries_text (follows_directly (follows_directly direct i) m) rest))
 behind_stream direct (group Paren o c i m) rest =
-    in_signs (gap direct) (opening_sign Paren) (closing_sign Paren) (close_entry Paren c) (λ b. refl) (λ b. refl) i m (behind_stream false i) (behind_stream false m) rest
+    in_signs (gap direct) (opening_sign Paren) (closing_sign Paren) (close_entry Paren c (count.length i)) (λ b. refl) (λ b. refl) i m (behind_stream false i) (behind_stream false m) rest
 behind_stream direct (group Brace o c i m) rest =
-    in_signs (gap direct) (opening_sign Brace) (closing_sign Brace) (close_entry Brace c) (λ b. refl) (λ b. refl) i m (behind_stream false i) (behind_stream false m) rest
+    in_signs (gap direct) (opening_sign Brace) (closing_sign Brace) (close_entry Brace c (count.length i)) (λ b. refl) (λ b. refl) i m (behind_stream false i) (behind_stream false m) rest
 behind_stream direct (group Bracket o c i m) rest =
-    in_signs (gap direct) (opening_sign Bracket) (closing_sign Bracket) (close_entry Bracket c) (λ b. refl) (λ b. refl) i m (behind_stream false i) (behind_stream false m) rest
+    in_signs (gap direct) (opening_sign Bracket) (closing_sign Bracket) (close_entry Bracket c (count.length i)) (λ b. refl) (λ b. refl) i m (behind_stream false i) (behind_stream false m) rest
 
 -- the entries of a stream alone
 pub whole_text : (s : Stream) → entries_text true (encode s) ≡ text_of s

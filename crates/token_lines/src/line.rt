@@ -4,7 +4,7 @@ use crate::failure::Failure;
 use std::alloc::{AllocError, Global};
 use syn::error::Error;
 use syn::reader::{read_tokens, token_text};
-use syn::token::{Delimiter, Entry, Ident, Literal, Punct, Span, TokenStream};
+use syn::token::{Delimiter, IdentRef, LiteralRef, Punct, Span, Token, TokenStream};
 
 /// Adds the line of the text with these hex digits.
 pub(crate) fn add_line(alloc: Global, digits: &str, out: &mut String) -> Result<(), Failure> {
@@ -37,12 +37,12 @@ fn add_tokens(alloc: Global, tokens: &TokenStream, out: &mut String) -> Result<(
 
 fn add_entries(alloc: Global, tokens: &TokenStream, out: &mut String) -> Result<(), AllocError> {
     for entry in tokens.entries() {
-        match entry {
-            Entry::Ident(ident) => add_ident(alloc, ident, out)?,
-            Entry::Literal(literal) => add_literal(alloc, literal, out)?,
-            Entry::Punct(punct) => add_punct(punct, out)?,
-            Entry::Open(open) => add(out, signs_of(open.delimiter).0, open.span)?,
-            Entry::Close(close) => add(out, signs_of(close.delimiter).1, close.span)?,
+        match entry.token() {
+            Token::Ident(ident) => add_ident(alloc, &ident, out)?,
+            Token::Literal(literal) => add_literal(alloc, &literal, out)?,
+            Token::Punct(punct) => add_punct(&punct, out)?,
+            Token::Open(open) => add(out, signs_of(open.delimiter).0, open.span)?,
+            Token::Close(close) => add(out, signs_of(close.delimiter).1, close.span)?,
         }
     }
     Ok(())
@@ -57,12 +57,12 @@ fn signs_of(delimiter: Delimiter) -> (&'static str, &'static str) {
     }
 }
 
-fn add_ident(alloc: Global, ident: &Ident, out: &mut String) -> Result<(), AllocError> {
+fn add_ident(alloc: Global, ident: &IdentRef<'_>, out: &mut String) -> Result<(), AllocError> {
     add(out, "Ident", ident.span)?;
     add_hex(alloc, ident.text(), out)
 }
 
-fn add_literal(alloc: Global, literal: &Literal, out: &mut String) -> Result<(), AllocError> {
+fn add_literal(alloc: Global, literal: &LiteralRef<'_>, out: &mut String) -> Result<(), AllocError> {
     let kind = literal.kind();
     let word = format!(in alloc; "{kind:?}")?;
     add(out, word.as_str(), literal.span)?;

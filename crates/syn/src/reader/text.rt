@@ -10,7 +10,7 @@ ghost use Rattle.syn.specs.EntryTexts.{entry_text, direct_behind};
 
 use std::alloc::AllocError;
 use syn_tokens::delimiter::Delimiter;
-use syn_tokens::entry::Entry;
+use syn_tokens::entry::{Entry, Token};
 use syn_tokens::error::Result;
 use syn_tokens::punct::{Punct, Spacing};
 use syn_tokens::stream::TokenStream;
@@ -46,15 +46,15 @@ impl Writer {
         ensures text { OnOk result (string_bytes self.new.text ≡ string_bytes self.old.text ++ entry_text self.old.glued entry.now) }
         ensures glued { OnOk result (self.new.glued ≡ direct_behind self.old.glued entry.now) }
     {
-        match entry {
-            Entry::Ident(ident) => self.word(ident.text()),
-            Entry::Literal(literal) => self.word(literal.text()),
-            Entry::Punct(punct) => self.punct(punct),
-            Entry::Open(open) => match signs(open.delimiter) {
+        match entry.token() {
+            Token::Ident(ident) => self.word(ident.text()),
+            Token::Literal(literal) => self.word(literal.text()),
+            Token::Punct(punct) => self.punct(&punct),
+            Token::Open(open) => match signs(open.delimiter) {
                 Some((opening, _)) => self.word(opening),
                 None => Ok(()),
             },
-            Entry::Close(close) => match signs(close.delimiter) {
+            Token::Close(close) => match signs(close.delimiter) {
                 Some((_, closing)) => self.word(closing),
                 None => Ok(()),
             },

@@ -47,18 +47,24 @@ impl TreeBuilder {
         requires { IsNamed lexeme }
         ensures { (text : List ℕ) (i j : ℕ) → Builds text self.old i → FollowsAsLexeme text i lexeme.entry j → MatchResult result (λ _. Builds text self.new j) (IsFaultWithin (length text)) }
     {
+        let alloc = self.inner.alloc();
         match lexeme {
             Lexeme::Open(delimiter, span) => Ok(self.open(delimiter, span)?),
             Lexeme::Close(delimiter, span) => self.close(delimiter, span),
             Lexeme::Ident(text, span) => {
                 let ident = self.names.ident(text, span)?;
-                Ok(self.push(Entry::Ident(ident))?)
+                let entry = Entry::ident(alloc, ident)?;
+                Ok(self.push(entry)?)
             }
             Lexeme::Literal(kind, text, span) => {
-                let literal = Literal::new(self.inner.alloc(), kind, text, span)?;
-                Ok(self.push(Entry::Literal(literal))?)
+                let literal = Literal::new(alloc, kind, text, span)?;
+                let entry = Entry::literal(alloc, literal)?;
+                Ok(self.push(entry)?)
             }
-            Lexeme::Punct(punct) => Ok(self.push(Entry::Punct(punct))?),
+            Lexeme::Punct(punct) => {
+                let entry = Entry::punct(alloc, punct)?;
+                Ok(self.push(entry)?)
+            }
             Lexeme::Comment(text, span) => match doc_of(text) {
                 Some(doc) => self.doc(&doc, span),
                 None => Ok(()),
@@ -96,14 +102,17 @@ impl TreeBuilder {
         ensures tokens { IfOk result (λ _. tokens_so_far self.new ≡ tokens_so_far self.old ++ doc_tokens doc.now.inner doc.now.text.now (at span)) }
         ensures within { (n : ℕ) → AllWithin n self.old.inner.open_groups → span.start < span.end → span.end ≤ n → MatchResult result (λ _. AllWithin n self.new.inner.open_groups) (IsFaultWithin n) }
     {
+        let alloc = self.inner.alloc();
         self.attribute_sign(doc.inner, span)?;
         self.open(Delimiter::Bracket, span)?;
-        let name = Ident::new(self.inner.alloc(), "doc", span)?;
-        self.push(Entry::Ident(name))?;
+        let name = Ident::new(alloc, "doc", span)?;
+        let entry = Entry::ident(alloc, name)?;
+        self.push(entry)?;
         self.mark('=', span)?;
-        let text = quoted(self.inner.alloc(), doc.text)?;
-        let literal = Literal::new(self.inner.alloc(), LitKind::Str, text.as_str(), span)?;
-        self.push(Entry::Literal(literal))?;
+        let text = quoted(alloc, doc.text)?;
+        let literal = Literal::new(alloc, LitKind::Str, text.as_str(), span)?;
+        let entry = Entry::literal(alloc, literal)?;
+        self.push(entry)?;
         self.close(Delimiter::Bracket, span)
     }
 
@@ -124,7 +133,8 @@ impl TreeBuilder {
         ensures groups { self.new.inner.open_groups ≡ self.old.inner.open_groups }
     {
         let punct = Punct::new(character, Spacing::Alone, span);
-        self.push(Entry::Punct(punct))
+        let entry = Entry::punct(self.inner.alloc(), punct)?;
+        self.push(entry)
     }
 
     /// Adds a token.

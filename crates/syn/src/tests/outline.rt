@@ -5,7 +5,7 @@ use crate::lower::{Generics, Path, Type};
 use crate::restriction::{VisRestricted, Visibility};
 use crate::token::{Delimiter, Ident, Mark, Punct, Spacing, Span, TokenStream};
 use std::alloc::{AllocError, Global};
-use syn_tokens::entry::Entry;
+use syn_tokens::entry::{Entry, Token};
 
 /// A tree that can be shown.
 pub trait Outlined {
@@ -59,12 +59,12 @@ impl TreeText {
 
 impl TreeText {
     fn entry(&mut self, entry: &Entry) -> Result<(), AllocError> {
-        match entry {
-            Entry::Ident(ident) => self.token(ident.text(), ident.span),
-            Entry::Literal(literal) => self.token(literal.text(), literal.span),
-            Entry::Punct(punct) => self.punct(punct),
-            Entry::Open(open) => self.token(signs(open.delimiter).0, open.span),
-            Entry::Close(close) => self.token(signs(close.delimiter).1, close.span),
+        match entry.token() {
+            Token::Ident(ident) => self.token(ident.text(), ident.span),
+            Token::Literal(literal) => self.token(literal.text(), literal.span),
+            Token::Punct(punct) => self.punct(&punct),
+            Token::Open(open) => self.token(signs(open.delimiter).0, open.span),
+            Token::Close(close) => self.token(signs(close.delimiter).1, close.span),
         }
     }
 

@@ -95,14 +95,14 @@ fn ident(alloc: Global, text: &str, place: usize) -> Result<Ident> {
 /// `a { b [ ] c } d`, at 0 to 7.
 fn sample(alloc: Global) -> Result<TokenStream> {
     let mut builder = StreamBuilder::new(alloc);
-    builder.push(Entry::Ident(ident(alloc, "a", 0)?))?;
+    builder.push(Entry::ident(alloc, ident(alloc, "a", 0)?)?)?;
     builder.open(Delimiter::Brace, at(1))?;
-    builder.push(Entry::Ident(ident(alloc, "b", 2)?))?;
+    builder.push(Entry::ident(alloc, ident(alloc, "b", 2)?)?)?;
     builder.open(Delimiter::Bracket, at(3))?;
     builder.close(Delimiter::Bracket, at(4))?;
-    builder.push(Entry::Ident(ident(alloc, "c", 5)?))?;
+    builder.push(Entry::ident(alloc, ident(alloc, "c", 5)?)?)?;
     builder.close(Delimiter::Brace, at(6))?;
-    builder.push(Entry::Ident(ident(alloc, "d", 7)?))?;
+    builder.push(Entry::ident(alloc, ident(alloc, "d", 7)?)?)?;
     builder.finish()
 }
 

@@ -2,7 +2,7 @@
 use crate::reader::read_tokens;
 use crate::reader::tests::support::{Read, Refused, are_read, are_refused};
 use std::test::Fail;
-use syn_tokens::entry::Entry;
+use syn_tokens::entry::Token;
 use syn_tokens::span::Span;
 
 const READ: &[Read] = &[
@@ -116,7 +116,7 @@ fn again(rt: HostRuntime) -> Result<(), Fail> {
             1 => format!(in rt.alloc(); "same")?,
             _ => format!(in rt.alloc(); "n{number}")?,
         };
-        let Entry::Ident(ident) = entry else {
+        let Token::Ident(ident) = entry.token() else {
             panic!(rt; "no identifier");
         };
         let end = start.saturating_add(expected.len());

@@ -1,11 +1,13 @@
-use Rattle.std.proofs.Common.{[], ◌∷◌, sym, ap, append-nil}
+use Rattle.std.proofs.Common.{rules, ◌≡◌, [], ◌∷◌, sym, ap, ◌∙◌, append-nil}
 use Rattle.syn_grammar.specs.Tokens.{ident, literal}
 use Rattle.syn_tokens.specs.Spans.{at}
 use Rattle.syn_tokens.specs.Delimiters.{delimiter_of}
 use Rattle.syn_tokens.specs.Punct.{is_joint}
 use Rattle.syn_tokens.specs.Idents.{IdentValue}
 use Rattle.syn_tokens.specs.Literals.{LiteralValue, kind_of}
-use Rattle.syn.specs.Flat.{one}
+use Rattle.syn_tokens.specs.Entries.{decode}
+use Rattle.syn_tokens.specs.declared.entry.Token.TheVariants as E
+use Rattle.syn.specs.Flat.{one, flat}
 use Rattle.syn.specs.Spelling.{Piece, word, constant, mark, opening, closing, comment, doc, IsPieceAt}
 use Rattle.syn.proofs.Groups.{piece_starts, piece_ends, same_added, builds_more, builds_or_fault}
 use Rattle.syn.proofs.reader.trees.TreeBuilder.add.Goals as goal
@@ -27,23 +29,26 @@ returns-in-Close c = λ text i j builds follows.
 pub returns-in_ok-push-in-Ident : goal.returns-in_ok-push-in-Ident
 returns-in_ok-push-in-Ident c = λ text i j builds follows.
     let f = rw c.in-Ident.is at follows in
+    let kept : c.in_ok-entry-in-Ident.entry ≡ E.Ident c.in_ok-ident-in-Ident.ident = search rules in
     builds_more text c.args.self.now c.push.new.self i j (word c.in-Ident.text.now) (at c.in-Ident.span) builds f.0 f.1.0 f.1.2
-    (same_added _ _ _ _ c.in_ok-push-in-Ident.ensures.tokens (ap (λ (x : IdentValue). one (ident x.text) (at x.span) ∷ []) c.in_ok-ident-in-Ident.ensures))
+    (same_added _ _ _ _ c.in_ok-push-in-Ident.ensures.tokens (ap (λ e. flat (decode (e ∷ []))) kept ∙ ap (λ (x : IdentValue). one (ident x.text) (at x.span) ∷ []) c.in_ok-ident-in-Ident.ensures))
     (rw c.in_ok-push-in-Ident.ensures.groups builds.3)
 
 pub returns-in_ok-push-in-Literal : goal.returns-in_ok-push-in-Literal
 returns-in_ok-push-in-Literal c = λ text i j builds follows.
     let f = rw c.in-Literal.is at follows in
+    let kept : c.in_ok-entry-in-Literal.entry ≡ E.Literal c.in_ok-literal-in-Literal.literal = search rules in
     builds_more text c.args.self.now c.push-in-Literal.new.self i j (constant c.in-Literal.kind c.in-Literal.text.now) (at c.in-Literal.span) builds f.0 f.1.0 f.1.2
     (same_added _ _ _ _ c.in_ok-push-in-Literal.ensures.tokens
-    (ap (λ (x : LiteralValue). one (literal (kind_of x.kind) x.text) (at x.span) ∷ []) c.in_ok-literal-in-Literal.ensures.ok))
+    (ap (λ e. flat (decode (e ∷ []))) kept ∙ ap (λ (x : LiteralValue). one (literal (kind_of x.kind) x.text) (at x.span) ∷ []) c.in_ok-literal-in-Literal.ensures.ok))
     (rw c.in_ok-push-in-Literal.ensures.groups builds.3)
 
 pub returns-in_ok-push-in-Punct : goal.returns-in_ok-push-in-Punct
 returns-in_ok-push-in-Punct c = λ text i j builds follows.
     let f = rw c.in-Punct.is at follows in
+    let kept : c.in_ok-entry-in-Punct.entry ≡ E.Punct c.in-Punct.punct = search rules in
     builds_more text c.args.self.now c.push-in-Punct.new.self i j (mark c.in-Punct.punct.character (is_joint c.in-Punct.punct.spacing)) (at c.in-Punct.punct.span) builds f.0 f.1.0 f.1.2
-    c.in_ok-push-in-Punct.ensures.tokens
+    (same_added _ _ _ _ c.in_ok-push-in-Punct.ensures.tokens (ap (λ e. flat (decode (e ∷ []))) kept))
     (rw c.in_ok-push-in-Punct.ensures.groups builds.3)
 
 pub returns-in-Some : goal.returns-in-Some
