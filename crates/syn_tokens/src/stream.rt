@@ -50,10 +50,33 @@ fn enclose(
     ensures ok { OnOk result (entries.new.items ≡ entries.old.items ++ opening ∷ (content.old.items ++ closing ∷ [])) }
     ensures err { OnErr result (entries.new.items ≡ entries.old.items) }
 {
+    if entries.len() < content.len() {
+        return enclose_longer(entries, opening, content, closing);
+    }
     entries.reserve(content.len().saturating_add(2))?;
     entries.push(opening)?;
     entries.append(content)?;
     entries.push(closing)?;
+    Ok(())
+}
+
+/// The same in the memory of the content, where that is longer than what stands before it.
+fn enclose_longer(
+    entries: &mut Vec<Entry>,
+    opening: Entry,
+    content: &mut Vec<Entry>,
+    closing: Entry,
+) -> std::result::Result<(), AllocError>
+    ensures ok { OnOk result (entries.new.items ≡ entries.old.items ++ opening ∷ (content.old.items ++ closing ∷ [])) }
+    ensures err { OnErr result (entries.new.items ≡ entries.old.items) }
+{
+    let before = entries.len();
+    content.reserve(before.saturating_add(2))?;
+    content.append(entries)?;
+    content.push(opening)?;
+    content.rotate_right(before + 1);
+    content.push(closing)?;
+    std::mem::swap(entries, content);
     Ok(())
 }
 

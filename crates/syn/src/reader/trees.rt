@@ -15,7 +15,6 @@ use syn_tokens::builder::StreamBuilder;
 use syn_tokens::delimiter::Delimiter;
 use syn_tokens::entry::Entry;
 use syn_tokens::error::Result;
-use syn_tokens::ident::Ident;
 use syn_tokens::literal::{LitKind, Literal};
 use syn_tokens::punct::{Punct, Spacing};
 use syn_tokens::span::Span;
@@ -105,7 +104,7 @@ impl TreeBuilder {
         let alloc = self.inner.alloc();
         self.attribute_sign(doc.inner, span)?;
         self.open(Delimiter::Bracket, span)?;
-        let name = Ident::new(alloc, "doc", span)?;
+        let name = self.names.ident("doc", span)?;
         let entry = Entry::ident(alloc, name)?;
         self.push(entry)?;
         self.mark('=', span)?;

@@ -1,6 +1,7 @@
-use Rattle.std.proofs.Common.{rules, ◌≡◌, ℕ, List, [], ◌∷◌, ap, ◌∙◌, chars}
+use Rattle.std.proofs.Common.{rules, refl, ◌≡◌, ℕ, List, [], ◌∷◌, ap, ◌∙◌, chars}
 use Rattle.syn_grammar.specs.Tokens.{ident, literal, Str}
 use Rattle.syn_tokens.specs.Spans.{at}
+use Rattle.syn_tokens.specs.Spelled.{word_is_identifier}
 use Rattle.syn_tokens.specs.Idents.{IdentValue}
 use Rattle.syn_tokens.specs.Literals.{LiteralValue, kind_of}
 use Rattle.syn.specs.Docs.{quoted}
@@ -11,12 +12,16 @@ use Rattle.syn.specs.Building.{AllWithin}
 use Rattle.syn.proofs.Groups.{six_joined, same_added, then_ok}
 use Rattle.syn.proofs.reader.trees.TreeBuilder.doc.Goals as goal
 
+-- `doc` is an identifier
+pub ident-requires : goal.ident-requires
+ident-requires c = word_is_identifier _ refl
+
 pub returns-clause-tokens : goal.returns-clause-tokens
 returns-clause-tokens c =
     let text : c.as_str.result.now ≡ quoted (chars c.args.doc.now.text.now) = c.as_str.ensures.value ∙ c.in_ok-text.ensures in
     let first : c.in_ok-entry.entry ≡ E.Ident c.in_ok-name.name = search rules in
     let second : c.in_ok-entry-2.entry ≡ E.Literal c.in_ok-literal.literal = search rules in
-    let name = same_added _ _ _ _ c.in_ok-push.ensures.tokens (ap (λ e. flat (decode (e ∷ []))) first ∙ ap (λ (i : IdentValue). one (ident i.text) (at i.span) ∷ []) c.in_ok-name.ensures.value) in
+    let name = same_added _ _ _ _ c.in_ok-push.ensures.tokens (ap (λ e. flat (decode (e ∷ []))) first ∙ ap (λ (i : IdentValue). one (ident i.text) (at i.span) ∷ []) c.in_ok-name.ensures) in
     let said = same_added _ _ _ _ c.in_ok-push-2.ensures.tokens
     (ap (λ e. flat (decode (e ∷ []))) second ∙ ap (λ (l : LiteralValue). one (literal (kind_of l.kind) l.text) (at l.span) ∷ []) c.in_ok-literal.ensures.ok
     ∙ ap (λ (x : List ℕ). one (literal Str x) (at c.args.span) ∷ []) text) in
