@@ -90,6 +90,7 @@ impl StreamBuilder {
     }
 
     /// Adds a token; refused, it leaves all as it was.
+    #[inline(always)]
     pub fn push(&mut self, token: Entry) -> std::result::Result<(), AllocError>
         requires { IsToken token }
         ensures ok { OnOk result (self.new ≡ record self.old { stream = self.old.stream ⧺ decode (token ∷ []) }) }

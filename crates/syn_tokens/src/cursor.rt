@@ -55,6 +55,7 @@ pub(crate) enum Next<'a> {
 }
 
 /// The first entry, and the others.
+#[inline(always)]
 fn split_first(entries: &[Entry]) -> Option<(&Entry, &[Entry])>
     ensures { MatchOption result (entries.now ≡ []) (λ p. entries.now ≡ p.0.now ∷ p.1.now) }
 {
@@ -62,6 +63,7 @@ fn split_first(entries: &[Entry]) -> Option<(&Entry, &[Entry])>
 }
 
 /// So many entries, the closing sign behind them, and the others.
+#[inline(always)]
 fn split_close(entries: &[Entry], count: usize) -> Option<(&[Entry], Close, &[Entry])>
     ensures { MatchOption result (Closes entries.now count → ⊥)
         (λ p. (entries.now ≡ p.0.now ++ E.Close p.1 ∷ p.2.now) × (length p.0.now ≡ count)) }
@@ -135,6 +137,7 @@ impl<'a> Cursor<'a> {
     }
 
     /// The first tree, and the others.
+    #[inline(always)]
     pub(crate) fn split(&self) -> Option<(Next<'a>, Cursor<'a>)>
         ensures { MatchOption result (self.now ≡ end) (λ p. self.now ≡ before_next p.0 p.1) }
     {

@@ -129,6 +129,7 @@ impl Entry {
     }
 
     /// The entry of an identifier. It takes memory only where the identifier stands beyond the first 2^32 bytes of a text.
+    #[inline(always)]
     pub fn ident(alloc: Global, ident: Ident) -> Result<Entry, AllocError>
         ensures { IfOk result (λ entry. entry ≡ E.Ident ident) }
     {
@@ -146,6 +147,7 @@ impl Entry {
     }
 
     /// The entry of a literal. It takes memory only where the literal stands beyond the first 2^32 bytes of a text.
+    #[inline(always)]
     pub fn literal(alloc: Global, literal: Literal) -> Result<Entry, AllocError>
         ensures { IfOk result (λ entry. entry ≡ E.Literal literal) }
     {
@@ -159,6 +161,7 @@ impl Entry {
     }
 
     /// The entry of a mark's character. It takes memory only where that stands beyond the first 2^32 bytes of a text.
+    #[inline(always)]
     pub fn punct(alloc: Global, punct: Punct) -> Result<Entry, AllocError>
         ensures { IfOk result (λ entry. entry ≡ E.Punct punct) }
     {
@@ -175,6 +178,7 @@ impl Entry {
     }
 
     /// The entry of an opening sign. It takes memory only where the sign stands beyond the first 2^32 bytes of a text.
+    #[inline(always)]
     pub(crate) fn open(alloc: Global, sign: Open) -> Result<Entry, AllocError>
         ensures { IfOk result (λ entry. entry ≡ E.Open sign) }
     {
@@ -191,6 +195,7 @@ impl Entry {
     }
 
     /// The entry of a closing sign. It takes memory only where the sign stands beyond the first 2^32 bytes of a text.
+    #[inline(always)]
     pub(crate) fn close(alloc: Global, sign: Close) -> Result<Entry, AllocError>
         ensures { IfOk result (λ entry. entry ≡ E.Close sign) }
     {
@@ -207,6 +212,7 @@ impl Entry {
     }
 
     /// The token or sign that it is.
+    #[inline(always)]
     pub fn token(&self) -> Token<'_>
         ensures { result ≡ self.now }
     {

@@ -16,6 +16,7 @@ use crate::span::Span;
 
 /// The identifier at the front, and what follows it.
 #[tactic(auto, using(crate::proofs::Fronts::no_ident_at_literal), unfolding(syn_grammar::specs::Take::take_token))]
+#[inline(always)]
 pub(crate) fn split_ident<'a>(cursor: &Cursor<'a>) -> Option<(IdentRef<'a>, Cursor<'a>)>
     ensures { MatchOption result (NoIdent cursor.now)
         (λ p. cursor.now ≡ leaf (ident_leaf p.0) (at p.0.span) p.1) }
@@ -31,6 +32,7 @@ pub(crate) fn split_ident<'a>(cursor: &Cursor<'a>) -> Option<(IdentRef<'a>, Curs
 
 /// The literal at the front, and what follows it.
 #[tactic(auto, using(crate::proofs::Fronts::no_literal_at_ident), unfolding(syn_grammar::specs::Take::take_token))]
+#[inline(always)]
 pub(crate) fn split_literal<'a>(cursor: &Cursor<'a>) -> Option<(LiteralRef<'a>, Cursor<'a>)>
     ensures { MatchOption result (NoLiteral cursor.now)
         (λ p. cursor.now ≡ leaf (literal_leaf p.0) (at p.0.span) p.1) }
@@ -46,6 +48,7 @@ pub(crate) fn split_literal<'a>(cursor: &Cursor<'a>) -> Option<(LiteralRef<'a>, 
 
 /// The character of a mark at the front, and what follows it.
 #[tactic(auto, using(crate::proofs::Fronts::none_spelled_at_leaf, crate::proofs::Fronts::none_spelled_at_group, crate::proofs::Fronts::none_spelled_at_end), unfolding(syn_grammar::specs::Take::take_lifetime))]
+#[inline(always)]
 pub(crate) fn split_punct<'a>(cursor: &Cursor<'a>) -> Option<(Punct, Cursor<'a>)>
     ensures { MatchOption result (NoPunct cursor.now)
         (λ p. cursor.now ≡ punct p.0.character (is_joint p.0.spacing) (at p.0.span) p.1) }
@@ -61,6 +64,7 @@ pub(crate) fn split_punct<'a>(cursor: &Cursor<'a>) -> Option<(Punct, Cursor<'a>)
 
 /// The last character of a mark at the front, however it is joined, and what follows it.
 #[tactic(auto, using(crate::proofs::Fronts::last_is), unfolding(syn_grammar::specs::Take::left))]
+#[inline(always)]
 pub(crate) fn split_last<'a>(cursor: &Cursor<'a>, c: char) -> Option<(Span, Cursor<'a>)>
     ensures found { MatchOption result (spelled (c ∷ []) cursor.now ≡ None)
         (λ p. spelled (c ∷ []) cursor.now ≡ Some ((c, at p.0) ∷ [], p.1)) }
@@ -76,6 +80,7 @@ pub(crate) fn split_last<'a>(cursor: &Cursor<'a>, c: char) -> Option<(Span, Curs
 
 /// A character at the front that is joined to the next one of its mark, and what follows it.
 #[tactic(auto, using(crate::proofs::Fronts::joint_is, crate::proofs::Fronts::alone_is), unfolding(syn_grammar::specs::Take::left))]
+#[inline(always)]
 pub(crate) fn split_joint<'a>(cursor: &Cursor<'a>, c: char) -> Option<(Span, Cursor<'a>)>
     ensures found { MatchOption result ((e : ℕ) (l : Text) → spelled (c ∷ e ∷ l) cursor.now ≡ None)
         (λ p. (e : ℕ) (l : Text) → spelled (c ∷ e ∷ l) cursor.now ≡ add_char c (at p.0) (spelled (e ∷ l) p.1)) }

@@ -32,6 +32,7 @@ impl<'a> Model for IdentRef<'a> {
 
 impl<'a> IdentRef<'a> {
     /// The identifier of this text, which is known to be a keyword or none.
+    #[inline(always)]
     pub(crate) fn new(text: &'a Text, keyword: bool, span: Span) -> IdentRef<'a>
         requires { keyword ≡ is_keyword text.now }
         ensures { result ≡ record { text = text.now; span = span } }
@@ -92,6 +93,7 @@ impl<'a> Model for LiteralRef<'a> {
 
 impl<'a> LiteralRef<'a> {
     /// The literal of that kind with that text.
+    #[inline(always)]
     pub(crate) fn new(kind: LitKind, text: &'a Text, span: Span) -> LiteralRef<'a>
         ensures { result ≡ record { kind = kind; text = text.now; span = span } }
     {

@@ -13,6 +13,7 @@ pub(crate) struct Near {
 
 impl Near {
     /// The span, where it is such a one.
+    #[inline(always)]
     pub(crate) fn of(span: Span) -> Option<Near>
         ensures { IfSome result (λ near. wide near ≡ span) }
     {
@@ -23,6 +24,7 @@ impl Near {
     }
 
     /// The span itself.
+    #[inline(always)]
     pub(crate) fn span(&self) -> Span
         ensures { result ≡ wide self.now }
     {

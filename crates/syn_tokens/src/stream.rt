@@ -165,6 +165,7 @@ impl TokenStream {
     }
 
     /// Adds a token at the end; refused, it leaves the stream as it was.
+    #[inline(always)]
     fn add_token(&mut self, token: Entry) -> std::result::Result<(), AllocError>
         requires { IsToken token }
         ensures ok { OnOk result (self.new ≡ self.old ⧺ decode (token ∷ [])) }

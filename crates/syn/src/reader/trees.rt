@@ -138,6 +138,7 @@ impl TreeBuilder {
 
     /// Adds a token.
     #[tactic(auto, using(crate::proofs::Flattened::flat_more))]
+    #[inline(always)]
     fn push(&mut self, token: Entry) -> std::result::Result<(), AllocError>
         requires { IsToken token }
         ensures tokens { IfOk result (λ _. tokens_so_far self.new ≡ tokens_so_far self.old ++ flat (decode (token ∷ []))) }
