@@ -36,11 +36,11 @@ pub mod token {
     pub use syn_tokens::entry::Open;
     pub use syn_tokens::entry::Token;
     pub use syn_tokens::ident::Ident;
+    pub use syn_tokens::ident_ref::IdentRef;
     pub use syn_tokens::leaf::Lifetime;
-    pub use syn_tokens::lent::IdentRef;
-    pub use syn_tokens::lent::LiteralRef;
     pub use syn_tokens::literal::LitKind;
     pub use syn_tokens::literal::Literal;
+    pub use syn_tokens::literal_ref::LiteralRef;
     pub use syn_tokens::punct::Punct;
     pub use syn_tokens::punct::Spacing;
     pub use syn_tokens::span::Span;

@@ -9,7 +9,8 @@ ghost use Rattle.syn_tokens.specs.declared.entry.Token.TheVariants as E;
 
 use crate::delimiter::Delimiter;
 use crate::entry::{Close, Entry, Token};
-use crate::lent::{IdentRef, LiteralRef};
+use crate::ident_ref::IdentRef;
+use crate::literal_ref::LiteralRef;
 use crate::punct::Punct;
 use crate::span::Span;
 use std::marker::Model;

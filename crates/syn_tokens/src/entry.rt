@@ -5,8 +5,9 @@ ghost use Rattle.syn_tokens.specs.declared.entry.Token.TheVariants as E;
 
 use crate::delimiter::Delimiter;
 use crate::ident::Ident;
-use crate::lent::{IdentRef, LiteralRef};
+use crate::ident_ref::IdentRef;
 use crate::literal::{LitKind, Literal};
+use crate::literal_ref::LiteralRef;
 use crate::near::Near;
 use crate::punct::{Punct, Spacing};
 use crate::span::Span;
@@ -51,31 +52,14 @@ pub struct Entry {
 
 #[derive(Drop)]
 enum Packed {
-    Ident {
-        keyword: bool,
-        place: Near,
-        text: Text,
-    },
-    Literal {
-        kind: LitKind,
-        place: Near,
-        text: Text,
-    },
-    Punct {
-        spacing: Spacing,
-        character: char,
-        place: Near,
-    },
-    Open {
-        delimiter: Delimiter,
-        place: Near,
-        skip: usize,
-    },
-    Close {
-        delimiter: Delimiter,
-        place: Near,
-        trees: usize,
-    },
+    /// Whether it is a keyword, where it stands, and its text.
+    Ident(bool, Near, Text),
+    Literal(LitKind, Near, Text),
+    Punct(Spacing, char, Near),
+    /// With how many entries there are before its closing sign.
+    Open(Delimiter, Near, usize),
+    /// With how many token trees the group has.
+    Close(Delimiter, Near, usize),
     Far(Rc<Far>),
 }
 
@@ -138,11 +122,7 @@ impl Entry {
         };
         let (keyword, text) = ident.into_parts();
         Ok(Entry {
-            inner: Packed::Ident {
-                keyword,
-                place,
-                text,
-            },
+            inner: Packed::Ident(keyword, place, text),
         })
     }
 
@@ -156,7 +136,7 @@ impl Entry {
         };
         let (kind, text) = literal.into_parts();
         Ok(Entry {
-            inner: Packed::Literal { kind, place, text },
+            inner: Packed::Literal(kind, place, text),
         })
     }
 
@@ -169,11 +149,7 @@ impl Entry {
             return Entry::far(alloc, Far::Punct(punct));
         };
         Ok(Entry {
-            inner: Packed::Punct {
-                spacing: punct.spacing,
-                character: punct.character(),
-                place,
-            },
+            inner: Packed::Punct(punct.spacing, punct.character(), place),
         })
     }
 
@@ -186,11 +162,7 @@ impl Entry {
             return Entry::far(alloc, Far::Open(sign));
         };
         Ok(Entry {
-            inner: Packed::Open {
-                delimiter: sign.delimiter,
-                place,
-                skip: sign.skip,
-            },
+            inner: Packed::Open(sign.delimiter, place, sign.skip),
         })
     }
 
@@ -203,11 +175,7 @@ impl Entry {
             return Entry::far(alloc, Far::Close(sign));
         };
         Ok(Entry {
-            inner: Packed::Close {
-                delimiter: sign.delimiter,
-                place,
-                trees: sign.trees,
-            },
+            inner: Packed::Close(sign.delimiter, place, sign.trees),
         })
     }
 
@@ -217,33 +185,21 @@ impl Entry {
         ensures { result ≡ self.now }
     {
         match &self.inner {
-            Packed::Ident {
-                keyword,
-                place,
-                text,
-            } => Token::Ident(IdentRef::new(text, *keyword, place.span())),
-            Packed::Literal { kind, place, text } => {
+            Packed::Ident(keyword, place, text) => {
+                Token::Ident(IdentRef::new(text, *keyword, place.span()))
+            }
+            Packed::Literal(kind, place, text) => {
                 Token::Literal(LiteralRef::new(*kind, text, place.span()))
             }
-            Packed::Punct {
-                spacing,
-                character,
-                place,
-            } => Token::Punct(Punct::new(*character, *spacing, place.span())),
-            Packed::Open {
-                delimiter,
-                place,
-                skip,
-            } => Token::Open(Open {
+            Packed::Punct(spacing, character, place) => {
+                Token::Punct(Punct::new(*character, *spacing, place.span()))
+            }
+            Packed::Open(delimiter, place, skip) => Token::Open(Open {
                 delimiter: *delimiter,
                 span: place.span(),
                 skip: *skip,
             }),
-            Packed::Close {
-                delimiter,
-                place,
-                trees,
-            } => Token::Close(Close {
+            Packed::Close(delimiter, place, trees) => Token::Close(Close {
                 delimiter: *delimiter,
                 span: place.span(),
                 trees: *trees,
@@ -258,47 +214,11 @@ impl Entry {
         ensures { IfOk result (λ entry. entry ≡ self.now) }
     {
         let inner = match &self.inner {
-            Packed::Ident {
-                keyword,
-                place,
-                text,
-            } => Packed::Ident {
-                keyword: *keyword,
-                place: *place,
-                text: text.share()?,
-            },
-            Packed::Literal { kind, place, text } => Packed::Literal {
-                kind: *kind,
-                place: *place,
-                text: text.share()?,
-            },
-            Packed::Punct {
-                spacing,
-                character,
-                place,
-            } => Packed::Punct {
-                spacing: *spacing,
-                character: *character,
-                place: *place,
-            },
-            Packed::Open {
-                delimiter,
-                place,
-                skip,
-            } => Packed::Open {
-                delimiter: *delimiter,
-                place: *place,
-                skip: *skip,
-            },
-            Packed::Close {
-                delimiter,
-                place,
-                trees,
-            } => Packed::Close {
-                delimiter: *delimiter,
-                place: *place,
-                trees: *trees,
-            },
+            Packed::Ident(keyword, place, text) => Packed::Ident(*keyword, *place, text.share()?),
+            Packed::Literal(kind, place, text) => Packed::Literal(*kind, *place, text.share()?),
+            Packed::Punct(spacing, character, place) => Packed::Punct(*spacing, *character, *place),
+            Packed::Open(delimiter, place, skip) => Packed::Open(*delimiter, *place, *skip),
+            Packed::Close(delimiter, place, trees) => Packed::Close(*delimiter, *place, *trees),
             Packed::Far(far) => Packed::Far(far.clone()?),
         };
         Ok(Entry { inner })

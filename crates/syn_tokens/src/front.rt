@@ -10,7 +10,8 @@ ghost use Rattle.syn_tokens.specs.Leaves.{spelled, ident_leaf, literal_leaf, NoI
 
 use crate::cursor::{Cursor, Inner, Next};
 use crate::delimiter::Delimiter;
-use crate::lent::{IdentRef, LiteralRef};
+use crate::ident_ref::IdentRef;
+use crate::literal_ref::LiteralRef;
 use crate::punct::{Punct, Spacing};
 use crate::span::Span;
 

@@ -6,9 +6,9 @@ ghost use Rattle.syn_tokens.specs.Equal.{same_text_equiv, same_text_per};
 ghost use Rattle.syn_tokens.specs.Idents.{is_keyword, is_identifier};
 
 use crate::error::{Error, Result};
+use crate::ident_ref::IdentRef;
 use crate::identifier::is_identifier;
 use crate::keyword::is_keyword;
-use crate::lent::IdentRef;
 use crate::span::Span;
 use crate::text::Text;
 use std::alloc::{AllocError, Global};

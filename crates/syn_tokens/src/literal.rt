@@ -5,7 +5,7 @@ ghost use Rattle.syn_grammar.specs.Tokens.{same_text};
 ghost use Rattle.syn_tokens.specs.Equal.{same_text_equiv, same_text_per};
 
 use crate::error::Result;
-use crate::lent::LiteralRef;
+use crate::literal_ref::LiteralRef;
 use crate::span::Span;
 use crate::text::Text;
 use std::alloc::{AllocError, Global};

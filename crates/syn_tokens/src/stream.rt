@@ -158,9 +158,7 @@ impl TokenStream {
             TokenTree::Group(group) => self.add_group(group),
             TokenTree::Ident(ident) => self.add_token(Entry::ident(self.alloc, ident)?),
             TokenTree::Punct(punct) => self.add_token(Entry::punct(self.alloc, punct)?),
-            TokenTree::Literal(literal) => {
-                self.add_token(Entry::literal(self.alloc, literal)?)
-            }
+            TokenTree::Literal(literal) => { self.add_token(Entry::literal(self.alloc, literal)?) }
         }
     }
 

@@ -1,6 +1,7 @@
 //! Tests with ample memory.
 mod buffers;
 mod deep;
+mod entries;
 mod errors;
 mod faces;
 mod leaves;

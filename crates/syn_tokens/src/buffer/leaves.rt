@@ -16,7 +16,7 @@ use crate::delimiter::Delimiter;
 use crate::expectation::Expectation;
 use crate::front::{split_group, split_ident, split_lifetime, split_literal};
 use crate::ident::Ident;
-use crate::lent::IdentRef;
+use crate::ident_ref::IdentRef;
 use crate::literal::Literal;
 use crate::refusal::Reading;
 use crate::span::Span;
