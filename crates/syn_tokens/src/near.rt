@@ -1,6 +1,6 @@
 //! Spans in half their room.
-ghost use Rattle.std.specs.Prelude.{◌≡◌, IfSome};
-ghost use Rattle.syn_tokens.specs.Nears.{wide};
+ghost use Rattle.std.specs.Prelude.{◌≡◌, IfSome, IsSome};
+ghost use Rattle.syn_tokens.specs.Nears.{wide, IsNear};
 
 use crate::span::Span;
 
@@ -15,7 +15,8 @@ impl Near {
     /// The span, where it is such a one.
     #[inline(always)]
     pub(crate) fn of(span: Span) -> Option<Near>
-        ensures { IfSome result (λ near. wide near ≡ span) }
+        ensures value { IfSome result (λ near. wide near ≡ span) }
+        ensures near { IsNear span → IsSome result }
     {
         Some(Near {
             start: u32::try_from(span.start).ok()?,
