@@ -1,5 +1,8 @@
 //! Why the program stops.
-ghost use Rattle.std.specs.Prelude.{◌≡◌, ◌⊎◌, ◌↔◌};
+ghost use Rattle.std.specs.Prelude.{◌≡◌, ◌⊎◌, ◌↔◌, []};
+ghost use Rattle.std.specs.IoError.{error_kind};
+ghost use Rattle.std.specs.declared.io.ErrorKind.TheVariants as E;
+ghost use Rattle.hex.specs.declared.error.FromHexError.TheVariants as H;
 ghost use Rattle.token_lines.specs.declared.failure.Failure.TheVariants.{OutOfMemory};
 
 use hex::FromHexError;
@@ -29,6 +32,8 @@ impl Failure {
 }
 
 impl From<io::Error> for Failure {
+    ghost from_gives = { λ error f. (f ≡ OutOfMemory) ↔ (error_kind error ≡ E.OutOfMemory) };
+
     fn from(error: io::Error) -> Failure {
         match error.kind() {
             io::ErrorKind::OutOfMemory => Failure::OutOfMemory,
@@ -38,6 +43,8 @@ impl From<io::Error> for Failure {
 }
 
 impl From<FromHexError> for Failure {
+    ghost from_gives = { λ error f. (f ≡ OutOfMemory) ↔ (error ≡ H.OutOfMemory) };
+
     fn from(error: FromHexError) -> Failure {
         match error {
             FromHexError::OutOfMemory => Failure::OutOfMemory,
@@ -47,6 +54,8 @@ impl From<FromHexError> for Failure {
 }
 
 impl From<Error> for Failure {
+    ghost from_gives = { λ error f. (f ≡ OutOfMemory) ↔ (error ≡ []) };
+
     fn from(error: Error) -> Failure {
         if error.is_memory() {
             Failure::OutOfMemory
@@ -57,12 +66,16 @@ impl From<Error> for Failure {
 }
 
 impl From<AllocError> for Failure {
+    ghost from_gives = { λ _ f. f ≡ OutOfMemory };
+
     fn from(_e: AllocError) -> Failure {
         Failure::OutOfMemory
     }
 }
 
 impl<T: Drop> From<AllocFailed<T>> for Failure {
+    ghost from_gives = { λ _ f. f ≡ OutOfMemory };
+
     fn from(_e: AllocFailed<T>) -> Failure {
         Failure::OutOfMemory
     }

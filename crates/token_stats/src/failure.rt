@@ -1,8 +1,10 @@
 //! Why the program ends without its lines.
-ghost use Rattle.std.specs.Prelude.{◌≡◌, ◌⊎◌, ◌↔◌};
-ghost use Rattle.token_stats.specs.declared.failure.Failure.TheVariants.{OutOfMemory};
+ghost use Rattle.std.specs.Prelude.{◌≡◌, ◌≢◌, ◌⊎◌, ◌↔◌, []};
+ghost use Rattle.std.specs.IoError.{error_kind};
+ghost use Rattle.token_stats.specs.declared.failure.Failure.TheVariants.{OutOfMemory, Refused};
 
 use std::alloc::{AllocError, AllocFailed};
+use std::io::ErrorKind;
 use std::{fmt, io};
 use syn::error::Error;
 
@@ -19,9 +21,12 @@ pub(crate) enum Failure {
 
 impl Failure {
     /// What a failed read means.
-    pub(crate) fn from_read(error: &io::Error) -> Failure {
+    pub(crate) fn from_read(error: &io::Error) -> Failure
+        ensures memory { error_kind error.now ≡ ErrorKind.OutOfMemory → result ≡ Failure.OutOfMemory }
+        ensures other { error_kind error.now ≢ ErrorKind.OutOfMemory → result ≡ Failure.ReadFailed }
+    {
         match error.kind() {
-            io::ErrorKind::OutOfMemory => Failure::OutOfMemory,
+            ErrorKind::OutOfMemory => Failure::OutOfMemory,
             _ => Failure::ReadFailed,
         }
     }
@@ -55,6 +60,8 @@ impl fmt::Display for Failure {
 }
 
 impl From<Error> for Failure {
+    ghost from_gives = { λ error f. (error ≡ [] → f ≡ OutOfMemory) × (error ≢ [] → f ≡ Refused error) };
+
     fn from(error: Error) -> Failure {
         if error.is_memory() {
             Failure::OutOfMemory
@@ -65,12 +72,16 @@ impl From<Error> for Failure {
 }
 
 impl From<AllocError> for Failure {
+    ghost from_gives = { λ _ f. f ≡ OutOfMemory };
+
     fn from(_e: AllocError) -> Failure {
         Failure::OutOfMemory
     }
 }
 
 impl<T: Drop> From<AllocFailed<T>> for Failure {
+    ghost from_gives = { λ _ f. f ≡ OutOfMemory };
+
     fn from(_e: AllocFailed<T>) -> Failure {
         Failure::OutOfMemory
     }

@@ -10,7 +10,8 @@
 //! is refused.
 #![tactic(auto)]
 
-ghost use Rattle.std.specs.Prelude.{◌≡◌, ◌⊎◌};
+ghost use Rattle.std.specs.Prelude.{◌≡◌, ◌⊎◌, ◌↔◌};
+ghost use Rattle.token_stats.specs.declared.failure.Failure.TheVariants.{OutOfMemory};
 
 mod failure;
 mod stats;
@@ -64,7 +65,8 @@ fn read_text<R: Read + Drop>(alloc: Global, mut input: R) -> Result<String, Fail
 
 /// Writes the failure's line, and answers its status, also where the line can't be written.
 fn report<V: Write + Drop>(mut faults: V, failure: &Failure) -> u8
-    ensures { (result ≡ 1) ⊎ (result ≡ 3) }
+    ensures known { (result ≡ 1) ⊎ (result ≡ 3) }
+    ensures memory { (result ≡ 3) ↔ (failure.now ≡ OutOfMemory) }
 {
     let _ = writeln!(faults, "{failure}");
     let _ = faults.flush();

@@ -1,5 +1,5 @@
 //! How many tokens of each kind there are.
-ghost use Rattle.std.specs.Prelude.{◌≡◌, ◌+◌, ◌-◌, ◌^◌, min, OnErr, OnOk};
+ghost use Rattle.std.specs.Prelude.{◌≡◌, ◌+◌, ◌-◌, ◌^◌, ◌==◌, ◌||◌, nat_lt, min, length, string_bytes, if◌then◌else◌, OnErr, OnOk};
 
 use std::alloc::{AllocError, Global};
 use syn::token::{Delimiter, LitKind};
@@ -48,8 +48,10 @@ impl Row {
     /// One token more, with its text. Where memory is refused the row is as it was.
     fn add(&mut self, alloc: Global, text: &str) -> Result<(), AllocError>
         ensures counted { OnOk result (self.new.count ≡ min (self.old.count + 1) (2 ^ 64 - 1)) }
+        ensures longest { OnOk result (string_bytes self.new.longest ≡ (if (self.old.count == 0) || nat_lt (length (string_bytes self.old.longest)) (length text.now) then text.now else string_bytes self.old.longest)) }
         ensures refused { OnErr result (self.new ≡ self.old) }
         ensures kind { self.new.kind ≡ self.old.kind }
+        ensures name { self.new.name ≡ self.old.name }
     {
         if self.count == 0 || text.len() > self.longest.len() {
             self.longest = String::from_str(alloc, text)?;
