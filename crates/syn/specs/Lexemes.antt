@@ -1,6 +1,6 @@
 -- The pieces that a text is cut into, as the lexer answers them.
-use Rattle.std.specs.Prelude.{◌≡◌, ◌<◌, ℕ, List, [], ◌∷◌, true, length, Option, Result, IsTrue, MatchOption, MatchResult}
-use Rattle.syn_grammar.specs.Tokens.{Span, is_visible}
+use Rattle.std.specs.Prelude.{◌≡◌, ◌≢◌, ◌<◌, ℕ, List, [], ◌∷◌, true, length, Option, Result, IsTrue, MatchOption, MatchResult}
+use Rattle.syn_grammar.specs.Tokens.{Span, Delimiter, is_visible}
 use Rattle.syn_tokens.specs.declared.span.Span.{Span as LexemeSpan}
 use Rattle.syn_tokens.specs.Spans.{at}
 use Rattle.syn_tokens.specs.Delimiters.{delimiter_of}
@@ -38,6 +38,10 @@ abbrev pub IsSign : ℕ → LexemeSpan → Lexeme → Type 0
 IsSign c s (Open d t) = (opening_sign (delimiter_of d) ≡ c ∷ []) × (is_visible (delimiter_of d) ≡ true) × (t ≡ s)
 IsSign c s (Close d t) = (closing_sign (delimiter_of d) ≡ c ∷ []) × (is_visible (delimiter_of d) ≡ true) × (t ≡ s)
 IsSign c s _ = ⊥
+
+-- no group has this character for a sign
+abbrev pub NoSign : ℕ → Type 0
+NoSign c = (d : Delimiter) → (opening_sign d ≢ c ∷ []) × (closing_sign d ≢ c ∷ [])
 
 -- what is taken for an identifier is one
 abbrev pub IsNamed : Lexeme → Type 0

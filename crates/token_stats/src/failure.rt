@@ -45,6 +45,11 @@ impl Failure {
 }
 
 impl fmt::Display for Failure {
+    ghost use Rattle.std.specs.Prelude.{Some};
+    ghost use Rattle.token_stats.specs.Failures.{line_of};
+
+    ghost output = { λ failure. Some (line_of failure) };
+
     fn fmt<W: fmt::Write>(&self, f: &mut fmt::Formatter<W>) -> fmt::Result {
         match self {
             Failure::ReadFailed => f.write_str("read failed"),

@@ -10,7 +10,8 @@
 //! is refused.
 #![tactic(auto)]
 
-ghost use Rattle.std.specs.Prelude.{◌≡◌, ◌⊎◌, ◌↔◌};
+ghost use Rattle.std.specs.Prelude.{◌≡◌, ◌⊎◌, ◌↔◌, IfOk, OnOk, string_bytes};
+ghost use Rattle.token_stats.specs.Answers.{IsRead, IsCounted};
 ghost use Rattle.token_stats.specs.declared.failure.Failure.TheVariants.{OutOfMemory};
 
 mod failure;
@@ -34,6 +35,7 @@ pub fn run<R: Read + Drop, W: Write + Drop, V: Write + Drop>(
     faults: V,
 ) -> u8
     ensures known { (result ≡ 0) ⊎ ((result ≡ 1) ⊎ (result ≡ 3)) }
+    ensures done { result ≡ 0 → IsCounted (R.remaining input) }
 {
     match answer(alloc, input, output) {
         Ok(()) => 0,
@@ -45,7 +47,9 @@ fn answer<R: Read + Drop, W: Write + Drop>(
     alloc: Global,
     input: R,
     mut output: W,
-) -> Result<(), Failure> {
+) -> Result<(), Failure>
+    ensures { OnOk result (IsCounted (R.remaining input)) }
+{
     let text = read_text(alloc, input)?;
     let lines = count(alloc, text.as_str())?.lines()?;
     let written = output
@@ -55,7 +59,9 @@ fn answer<R: Read + Drop, W: Write + Drop>(
 }
 
 /// All that is to be read.
-fn read_text<R: Read + Drop>(alloc: Global, mut input: R) -> Result<String, Failure> {
+fn read_text<R: Read + Drop>(alloc: Global, mut input: R) -> Result<String, Failure>
+    ensures { IfOk result (λ text. IsRead (R.remaining input) (string_bytes text)) }
+{
     let mut bytes = Vec::new(alloc);
     if let Err(e) = input.read_to_end(&mut bytes) {
         return Err(Failure::from_read(&e));

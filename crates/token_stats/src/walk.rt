@@ -1,4 +1,6 @@
 //! The way through all tokens of a text.
+ghost use Rattle.std.specs.Prelude.{OnOk};
+ghost use Rattle.token_stats.specs.Answers.{HasTokens};
 
 use crate::failure::Failure;
 use crate::stats::{Kind, Stats};
@@ -14,7 +16,9 @@ use syn::token::{
 };
 
 /// The tokens of a text, by kind, at every depth.
-pub(crate) fn count(alloc: Global, text: &str) -> Result<Stats, Failure> {
+pub(crate) fn count(alloc: Global, text: &str) -> Result<Stats, Failure>
+    ensures { OnOk result (HasTokens text.now) }
+{
     let tokens = read_tokens(alloc, text)?;
     let mut stats = Stats::new(alloc)?;
     let mut input = ParseBuffer::new(&tokens);

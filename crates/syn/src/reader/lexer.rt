@@ -8,7 +8,7 @@ ghost use Rattle.syn_tokens.specs.Idents.{may_start};
 ghost use Rattle.syn_tokens.specs.Punct.{is_joint, is_punct_character};
 ghost use Rattle.syn.specs.Scanning.{first_passes, drop_while, literal_at, Absent, after_word, begins_comment, begins_raw_name};
 ghost use Rattle.syn.specs.Places.{left};
-ghost use Rattle.syn.specs.Lexemes.{IsSign};
+ghost use Rattle.syn.specs.Lexemes.{IsSign, NoSign};
 ghost use Rattle.syn.specs.Spelling.{Stands, IsFaultWithin};
 
 use crate::reader::cursor::Cursor;
@@ -246,6 +246,7 @@ fn begins_comment(cursor: Cursor<'_>) -> bool
 /// The sign of a group that this character is, if it is one.
 fn sign<'a>(character: char, span: Span) -> Result<Lexeme<'a>>
     ensures ok { IfOk result (IsSign character span) }
+    ensures none { IfErr result (λ _. NoSign character) }
     ensures err { IfErr result (λ e. e ≡ (span, codes "unexpected character") ∷ []) }
 {
     match character {
