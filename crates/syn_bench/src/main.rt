@@ -8,6 +8,8 @@
 //! The nanoseconds are a line on standard error for each round. At the end there stands on standard output: how many bytes
 //! the text has; how many token trees the source has, a group counted as one; or the text.
 #![tactic(auto)]
+ghost use Rattle.std.specs.Prelude.{◌≡◌};
+ghost use Rattle.syn_bench.specs.declared.Stop.TheVariants.{Refused, System};
 
 use std::alloc::Global;
 use std::process::ExitCode;
@@ -29,12 +31,16 @@ enum Stop {
 }
 
 impl From<Error> for Stop {
+    ghost from_gives = { λ error stop. stop ≡ Refused error };
+
     fn from(error: Error) -> Stop {
         Stop::Refused(error)
     }
 }
 
 impl From<io::Error> for Stop {
+    ghost from_gives = { λ error stop. stop ≡ System error };
+
     fn from(error: io::Error) -> Stop {
         Stop::System(error)
     }
