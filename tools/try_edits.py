@@ -50,7 +50,7 @@ def block_of(header):
     if " for " not in inside:
         return plain(inside)
     trait, kind = inside.split(" for ", 1)
-    arguments = "".join(re.findall(r"\w+", trait.partition("<")[2].partition("<")[0]))
+    arguments = "".join(word[0].upper() + word[1:] for word in re.findall(r"\w+", trait.partition("<")[2].partition("<")[0]))
     name = "Any" if re.fullmatch(r"[A-Z]", kind.split()[0]) else "Tuple2" if kind.startswith("(") else plain(kind)
     return name + plain(trait) + arguments
 

@@ -8,6 +8,7 @@
 //! The nanoseconds are a line on standard error for each round. At the end there stands on standard output: how many bytes
 //! the text has; how many token trees the source has, a group counted as one; or the text.
 #![tactic(auto)]
+
 ghost use Rattle.std.specs.Prelude.{◌≡◌};
 ghost use Rattle.syn_bench.specs.declared.Stop.TheVariants.{Refused, System};
 

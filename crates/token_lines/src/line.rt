@@ -62,7 +62,11 @@ fn add_ident(alloc: Global, ident: &IdentRef<'_>, out: &mut String) -> Result<()
     add_hex(alloc, ident.text(), out)
 }
 
-fn add_literal(alloc: Global, literal: &LiteralRef<'_>, out: &mut String) -> Result<(), AllocError> {
+fn add_literal(
+    alloc: Global,
+    literal: &LiteralRef<'_>,
+    out: &mut String,
+) -> Result<(), AllocError> {
     let kind = literal.kind();
     let word = format!(in alloc; "{kind:?}")?;
     add(out, word.as_str(), literal.span)?;

@@ -25,6 +25,7 @@ fn at(start: usize) -> Span {
 }
 
 /// `a { 'x' ; } struct`, one byte each, from this place on.
+#[tactic(auto, unfolding(syn_tokens::specs::Punct::is_punct_character))]
 fn sample(alloc: Global, start: usize) -> Result<TokenStream> {
     let place = |offset: usize| at(start.saturating_add(offset));
     let mut builder = StreamBuilder::new(alloc);
@@ -126,6 +127,7 @@ fn far_ones_copied(rt: HostRuntime) -> std::result::Result<(), Fail> {
 }
 
 /// So many `;`.
+#[tactic(auto, unfolding(syn_tokens::specs::Punct::is_punct_character))]
 fn marks(alloc: Global, count: usize) -> Result<TokenStream> {
     let mut stream = TokenStream::new(alloc);
     for start in 0..count {
