@@ -50,6 +50,7 @@ pub struct Entry {
     inner: Packed,
 }
 
+/// What it is, and where it stands.
 #[derive(Drop)]
 enum Packed {
     /// Whether it is a keyword, where it stands, and its text.
@@ -208,8 +209,8 @@ impl Entry {
         }
     }
 
-    /// The same entry once more, with the same span. It takes no memory, and is refused only where 2^64 - 1 copies of its
-    /// text are there.
+    /// The same entry once more, with the same span. It takes no memory, and is refused only where 2^64 - 1 copies of it or
+    /// of its text are there.
     pub fn copy(&self) -> Result<Entry, AllocError>
         ensures { IfOk result (λ entry. entry ≡ self.now) }
     {
