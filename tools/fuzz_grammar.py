@@ -3,12 +3,13 @@
 
     tools/fuzz_grammar.py --oracle FOLDER [--stage N] [--count N] [--seed N]
 
-The repository holds no oracle. Give the folder of one by --oracle, or in the environment variable ORACLE; without it nothing is compared.
-It must have oracle.py (with KINDS, parse2, parse_prefix, flat, SynErr and the token classes) and gen.py (random sentences of its own).
+The repository holds no oracle. Give the folder of one by --oracle, or in the environment variable ORACLE; without it nothing is compared,
+and the status is 2. It must have oracle.py (with KINDS, parse2, parse_prefix, flat, SynErr and the token classes) and gen.py (random sentences of its own).
 
 Random token trees, from sentences of the table and of the oracle's own, unchanged and changed, are read by the table in force
 (by a reader in Python of specs/Table.antt) and by the oracle. They must agree whether the whole is read, on its print, token by token
-with spacing; and whether a beginning is read, on its print and on how many trees are left. Prints each difference, and a summary."""
+with spacing; and whether a beginning is read, on its print and on how many trees are left. The worked examples (tools/examples.txt)
+of rules that the oracle knows are compared as well. Prints each difference, and a summary; ends with 1 where something differs."""
 import argparse
 import os
 import random
@@ -16,11 +17,12 @@ import sys
 import time
 from pathlib import Path
 
+from grammarlib.examples import parse
 from grammarlib.fronts import Fronts
 from grammarlib.reader import Reader, Refused
 from grammarlib.sentences import LONGEST, Sentences, TooDeep
 from grammarlib.source import Source
-from grammarlib.tokens import SIGNS, Group, Ident, Literal, Punct, stream
+from grammarlib.tokens import SIGNS, Group, Ident, Literal, Punct, read_text, shown, stream
 
 HERE = Path(__file__).resolve().parent
 # the oracle's name of a kind, and the rule that reads it
@@ -86,16 +88,6 @@ class Table:
             return None
 
 
-def text(trees):
-    words = []
-    for tree in trees:
-        if isinstance(tree, Group):
-            words += [SIGNS[tree.delimiter][0], text(tree.content), SIGNS[tree.delimiter][1]]
-        else:
-            words.append(tree.character + ('' if tree.joint else ' ') if isinstance(tree, Punct) else tree.text)
-    return ' '.join(w for w in words if w)
-
-
 def random_trees(sentences, oracle, generator, rule, kind):
     r = sentences.random
     if r.random() < 0.25:
@@ -107,38 +99,57 @@ def random_trees(sentences, oracle, generator, rule, kind):
     return trees
 
 
+class Comparison:
+    """What table and oracle answered so far."""
+
+    def __init__(self, table, oracle):
+        self.table, self.oracle = table, oracle
+        self.inputs, self.accepted, self.begun, self.differ = 0, 0, 0, 0
+
+    def of(self, kind, rule, trees):
+        self.inputs += 1
+        mine, theirs = self.table.whole(rule, trees), self.oracle.whole(kind, trees)
+        first, second = self.table.beginning(rule, trees), self.oracle.beginning(kind, trees)
+        self.accepted += theirs is not None
+        self.begun += second is not None
+        if mine == theirs and first == second:
+            return
+        self.differ += 1
+        if self.differ <= SHOWN:
+            print(f'DIFFERENT {kind}: {shown(trees)}')
+            print(f'  whole: table {mine}, oracle {theirs}')
+            print(f'  beginning: table {first}, oracle {second}', flush=True)
+
+
 def compare(options):
     source = Source(options.crate)
     fronts = Fronts(source)
-    table = Table(Reader(fronts, source.table))
     oracle = Oracle(options.oracle, options.stage)
     kinds = [(k, r) for k, r in KINDS.items() if r in source.table]
+    found = Comparison(Table(Reader(fronts, source.table)), oracle)
+    for example in parse(HERE / 'examples.txt', source.rules):
+        for kind in [k for k, rule in kinds if rule == example.rule]:
+            found.of(kind, example.rule, read_text(example.text))
+    worked = found.inputs
     dice = random.Random(options.seed)
     sentences, generator = Sentences(fronts, source.table, dice), oracle.own.G(options.seed, options.stage)
-    started, inputs, accepted, begun, differ = time.time(), 0, 0, 0, 0
-    while inputs < options.count:
+    started = time.time()
+    while found.inputs < worked + options.count:
         kind, rule = dice.choice(kinds)
         try:
             trees = random_trees(sentences, oracle, generator, rule, kind)
         except TooDeep:
             continue
-        if len(trees) > LONGEST:
-            continue
-        inputs += 1
-        mine, theirs = table.whole(rule, trees), oracle.whole(kind, trees)
-        first, second = table.beginning(rule, trees), oracle.beginning(kind, trees)
-        accepted += theirs is not None
-        begun += second is not None
-        if mine != theirs or first != second:
-            differ += 1
-            if differ <= SHOWN:
-                print(f'DIFFERENT {kind}: {text(trees)}')
-                print(f'  whole: table {mine}, oracle {theirs}')
-                print(f'  beginning: table {first}, oracle {second}', flush=True)
-    seconds = time.time() - started
-    print(f'{inputs} inputs, {accepted} read whole, {begun} read in part, {differ} differ '
-          f'({seconds:.0f} s, seed {options.seed}, stage {options.stage})')
-    return 1 if differ else 0
+        if len(trees) <= LONGEST:
+            found.of(kind, rule, trees)
+    print(f'{worked} worked examples and {options.count} inputs, {found.accepted} read whole, {found.begun} read in part, '
+          f'{found.differ} differ ({time.time() - started:.0f} s, seed {options.seed}, stage {options.stage})')
+    return 1 if found.differ else 0
+
+
+def without_oracle(message):
+    print(f'fuzz_grammar: {message}', file=sys.stderr)
+    sys.exit(2)
 
 
 def main():
@@ -150,9 +161,9 @@ def main():
     parser.add_argument('--crate', type=Path, default=HERE.parent / 'crates' / 'syn_grammar')
     options = parser.parse_args()
     if not options.oracle:
-        sys.exit('fuzz_grammar: no oracle: the repository holds none; give the folder of one by --oracle FOLDER or in ORACLE')
+        without_oracle('nothing was compared: the repository holds no oracle; give the folder of one by --oracle FOLDER or in ORACLE')
     if not (options.oracle / 'oracle.py').exists():
-        sys.exit(f'fuzz_grammar: no oracle.py stands in {options.oracle}')
+        without_oracle(f'nothing was compared: no oracle.py stands in {options.oracle}')
     sys.setrecursionlimit(10000)
     sys.exit(compare(options))
 

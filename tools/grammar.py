@@ -13,6 +13,7 @@ from pathlib import Path
 from grammarlib.antt import Fault
 from grammarlib.antt_text import Writer
 from grammarlib.apart import Apart
+from grammarlib.borders import Borders, read_equivalent
 from grammarlib.complaints import EXPLAINED, Tests
 from grammarlib.examples import Theorems, parse
 from grammarlib.fronts import Fronts
@@ -35,11 +36,19 @@ def checked(source):
 
 
 def worked_examples(source):
-    """The file of the worked examples; tells of rules that lack one that is read or one that is refused."""
-    text, lacking = Theorems(source, Fronts(source)).file(parse(HERE / 'examples.txt', source.rules))
-    for rule in lacking:
-        print(f'grammar: tools/examples.txt wants an example of `{rule}` that is read, and one that is refused', file=sys.stderr)
-    return {'proofs/Examples.antt': text}
+    """The file of the worked examples, and what they lack: of each rule one that is read, one that is refused, and its borders."""
+    fronts, examples = Fronts(source), parse(HERE / 'examples.txt', source.rules)
+    text, bare = Theorems(source, fronts).file(examples)
+    lacking = [f'`{rule}`: an example that is read, and one that is refused' for rule in bare]
+    equivalent = read_equivalent(HERE / 'equivalent_mutants.txt')
+    return {'proofs/Examples.antt': text}, lacking + Borders(fronts, source.table, examples, equivalent).lacking()
+
+
+def tell_lacking(lacking):
+    for line in lacking[:SHOWN]:
+        print(f'grammar: tools/examples.txt lacks: {line}', file=sys.stderr)
+    if len(lacking) > SHOWN:
+        print(f'.. and {len(lacking) - SHOWN} more', file=sys.stderr)
 
 
 def complain(complaints):
@@ -56,11 +65,13 @@ def main():
     parser.add_argument('--check', action='store_true', help='write nothing, and fail where a file differs')
     parser.add_argument('--crate', type=Path, default=HERE.parent / 'crates' / 'syn_grammar')
     options = parser.parse_args()
+    lacking = []
     try:
         source = Source(options.crate)
         files, complaints = checked(source)
         if not complaints:
-            files |= worked_examples(source)
+            more, lacking = worked_examples(source)
+            files |= more
     except Fault as fault:
         sys.exit(f'grammar: {fault}')
     if complaints:
@@ -73,10 +84,13 @@ def main():
     for rule in source.rules:
         if f'`{rule}`' not in told:
             print(f'grammar: docs/GRAMMAR.md doesn\'t tell of the rule `{rule}`', file=sys.stderr)
+    tell_lacking(lacking)
     stale = [p for p, text in files.items() if not (options.crate / p).exists() or (options.crate / p).read_text() != text]
     if options.check:
         if stale:
             sys.exit('grammar: run tools/grammar.py; these files are not what it writes: ' + ', '.join(stale))
+        if lacking:
+            sys.exit(f'grammar: {len(lacking)} things are lacking in the examples')
         print(f'grammar: {len(source.rules)} rules, all files as written')
         return
     for path in stale:

@@ -69,6 +69,18 @@ def mark(text, spans=None):
     return [Punct(c, n + 1 < len(text), spans[n] if spans else NO_SPAN) for n, c in enumerate(text)]
 
 
+def shown(trees):
+    """The text of token trees: a space behind each but a Joint character."""
+    text = ''
+    for tree in trees:
+        if isinstance(tree, Group):
+            opening, closing = SIGNS[tree.delimiter]
+            text += f'{opening}{shown(tree.content)}{closing} '
+        else:
+            text += tree.character + ' ' * (not tree.joint) if isinstance(tree, Punct) else tree.text + ' '
+    return text.rstrip()
+
+
 LEAVES = [(WORD, Ident), (NUMBER, lambda text, span: Literal('Int', text, span)), (STRING, lambda text, span: Literal('Str', text, span))]
 
 

@@ -1,7 +1,7 @@
 -- Written by tools/grammar.py from specs/Table.antt; edits are lost.
 -- Worked examples, from tools/examples.txt: what each rule reads, prints and refuses. The checker computes each.
 use Rattle.std.proofs.Common.{true, false, [], ◌∷◌, refl}
-use Rattle.syn_grammar.specs.Words.{w_underscore, w_crate, w_enum, w_fn, w_in, w_pub, w_Self_type, w_self, w_struct, w_super, w_union, w_auto}
+use Rattle.syn_grammar.specs.Words.{w_underscore, w_crate, w_enum, w_fn, w_in, w_pub, w_Self_type, w_self, w_struct, w_super, w_union, w_auto, w_default, w_safe}
 use Rattle.syn_grammar.specs.Tokens.{call_site, Paren, Brace, Bracket, Int, ident, literal, end, leaf, punct, group}
 use Rattle.syn_grammar.specs.Rules.{module_path, module_words, visibility, restriction, type_path, type, unnamed_field, unnamed_fields, fields_unnamed, structure_body, structure, derive_input}
 use Rattle.syn_grammar.specs.Grammar.{rule}
@@ -83,6 +83,54 @@ path_empty : Unread (rule module_path)
 unfolding left is_end at_front sees take_token take_lifetime take_mark take_group before rows_for rows run reads
 path_empty = not_read module_path _ refl refl
 
+-- `::::a`: nothing is read
+path_rooted_twice : Unread (rule module_path)
+    (punct 58 true (at 0 1) (punct 58 true (at 1 2) (punct 58 true (at 2 3) (punct 58 false (at 3 4) (leaf (ident (97 ∷ [])) (at 4 5) end)))))
+unfolding left is_end at_front sees take_token take_lifetime take_mark take_group before rows_for rows run reads
+path_rooted_twice = not_read module_path _ refl refl
+
+-- `:a`: nothing is read
+path_one_colon : Unread (rule module_path)
+    (punct 58 false (at 0 1) (leaf (ident (97 ∷ [])) (at 1 2) end))
+unfolding left is_end at_front sees take_token take_lifetime take_mark take_group before rows_for rows run reads
+path_one_colon = not_read module_path _ refl refl
+
+-- `.a`: nothing is read
+path_dot : Unread (rule module_path)
+    (punct 46 false (at 0 1) (leaf (ident (97 ∷ [])) (at 1 2) end))
+unfolding left is_end at_front sees take_token take_lifetime take_mark take_group before rows_for rows run reads
+path_dot = not_read module_path _ refl refl
+
+-- `a b` prints `a` and leaves `b`
+path_leaves_word : ReadsAs module_path
+    (leaf (ident (97 ∷ [])) (at 0 1) (leaf (ident (98 ∷ [])) (at 2 3) end))
+    (leaf (ident (97 ∷ [])) call_site end)
+    (leaf (ident (98 ∷ [])) (at 2 3) end)
+unfolding left is_end at_front sees take_token take_lifetime take_mark take_group before rows_for rows run reads
+path_leaves_word = computed module_path _ _ _ refl refl
+
+-- `a.b` prints `a` and leaves `.b`
+path_leaves_dot : ReadsAs module_path
+    (leaf (ident (97 ∷ [])) (at 0 1) (punct 46 false (at 1 2) (leaf (ident (98 ∷ [])) (at 2 3) end)))
+    (leaf (ident (97 ∷ [])) call_site end)
+    (punct 46 false (at 1 2) (leaf (ident (98 ∷ [])) (at 2 3) end))
+unfolding left is_end at_front sees take_token take_lifetime take_mark take_group before rows_for rows run reads
+path_leaves_dot = computed module_path _ _ _ refl refl
+
+-- `a!` prints `a` and leaves `!`
+path_leaves_bang : ReadsAs module_path
+    (leaf (ident (97 ∷ [])) (at 0 1) (punct 33 false (at 1 2) end))
+    (leaf (ident (97 ∷ [])) call_site end)
+    (punct 33 false (at 1 2) end)
+unfolding left is_end at_front sees take_token take_lifetime take_mark take_group before rows_for rows run reads
+path_leaves_bang = computed module_path _ _ _ refl refl
+
+-- `a::(b)`: nothing is read
+path_group_behind : Unread (rule module_path)
+    (leaf (ident (97 ∷ [])) (at 0 1) (punct 58 true (at 1 2) (punct 58 false (at 2 3) (group Paren (at 3 4) (at 5 6) (leaf (ident (98 ∷ [])) (at 4 5) end) end))))
+unfolding left is_end at_front sees take_token take_lifetime take_mark take_group before rows_for rows run reads
+path_group_behind = not_read module_path _ refl refl
+
 -- `a::b::c` prints `a :: b :: c`
 words_three : ReadsAs module_words
     (leaf (ident (97 ∷ [])) (at 0 1) (punct 58 true (at 1 2) (punct 58 false (at 2 3) (leaf (ident (98 ∷ [])) (at 3 4) (punct 58 true (at 4 5) (punct 58 false (at 5 6) (leaf (ident (99 ∷ [])) (at 6 7) end)))))))
@@ -102,6 +150,102 @@ words_three_colons : Unread (rule module_words)
     (leaf (ident (97 ∷ [])) (at 0 1) (punct 58 true (at 1 2) (punct 58 true (at 2 3) (punct 58 false (at 3 4) (leaf (ident (98 ∷ [])) (at 4 5) end)))))
 unfolding left is_end at_front sees take_token take_lifetime take_mark take_group before rows_for rows run reads
 words_three_colons = not_read module_words _ refl refl
+
+-- `self::Self::super::crate` prints `self :: Self :: super :: crate`
+words_every : ReadsAs module_words
+    (leaf (ident w_self) (at 0 4) (punct 58 true (at 4 5) (punct 58 false (at 5 6) (leaf (ident w_Self_type) (at 6 10) (punct 58 true (at 10 11) (punct 58 false (at 11 12) (leaf (ident w_super) (at 12 17) (punct 58 true (at 17 18) (punct 58 false (at 18 19) (leaf (ident w_crate) (at 19 24) end))))))))))
+    (leaf (ident w_self) call_site (punct 58 true call_site (punct 58 false call_site (leaf (ident w_Self_type) call_site (punct 58 true call_site (punct 58 false call_site (leaf (ident w_super) call_site (punct 58 true call_site (punct 58 false call_site (leaf (ident w_crate) call_site end))))))))))
+    (end)
+unfolding left is_end at_front sees take_token take_lifetime take_mark take_group before rows_for rows run reads
+words_every = computed module_words _ _ _ refl refl
+
+-- `union::auto::default::safe` prints `union :: auto :: default :: safe`
+words_contextual : ReadsAs module_words
+    (leaf (ident w_union) (at 0 5) (punct 58 true (at 5 6) (punct 58 false (at 6 7) (leaf (ident w_auto) (at 7 11) (punct 58 true (at 11 12) (punct 58 false (at 12 13) (leaf (ident w_default) (at 13 20) (punct 58 true (at 20 21) (punct 58 false (at 21 22) (leaf (ident w_safe) (at 22 26) end))))))))))
+    (leaf (ident w_union) call_site (punct 58 true call_site (punct 58 false call_site (leaf (ident w_auto) call_site (punct 58 true call_site (punct 58 false call_site (leaf (ident w_default) call_site (punct 58 true call_site (punct 58 false call_site (leaf (ident w_safe) call_site end))))))))))
+    (end)
+unfolding left is_end at_front sees take_token take_lifetime take_mark take_group before rows_for rows run reads
+words_contextual = computed module_words _ _ _ refl refl
+
+-- `a::::b`: nothing is read
+words_two_colons : Unread (rule module_words)
+    (leaf (ident (97 ∷ [])) (at 0 1) (punct 58 true (at 1 2) (punct 58 true (at 2 3) (punct 58 true (at 3 4) (punct 58 false (at 4 5) (leaf (ident (98 ∷ [])) (at 5 6) end))))))
+unfolding left is_end at_front sees take_token take_lifetime take_mark take_group before rows_for rows run reads
+words_two_colons = not_read module_words _ refl refl
+
+-- `a b` prints `a` and leaves `b`
+words_leave_word : ReadsAs module_words
+    (leaf (ident (97 ∷ [])) (at 0 1) (leaf (ident (98 ∷ [])) (at 2 3) end))
+    (leaf (ident (97 ∷ [])) call_site end)
+    (leaf (ident (98 ∷ [])) (at 2 3) end)
+unfolding left is_end at_front sees take_token take_lifetime take_mark take_group before rows_for rows run reads
+words_leave_word = computed module_words _ _ _ refl refl
+
+-- `a::b c::d` prints `a :: b` and leaves `c::d`
+words_leave_rooted : ReadsAs module_words
+    (leaf (ident (97 ∷ [])) (at 0 1) (punct 58 true (at 1 2) (punct 58 false (at 2 3) (leaf (ident (98 ∷ [])) (at 3 4) (leaf (ident (99 ∷ [])) (at 5 6) (punct 58 true (at 6 7) (punct 58 false (at 7 8) (leaf (ident (100 ∷ [])) (at 8 9) end))))))))
+    (leaf (ident (97 ∷ [])) call_site (punct 58 true call_site (punct 58 false call_site (leaf (ident (98 ∷ [])) call_site end))))
+    (leaf (ident (99 ∷ [])) (at 5 6) (punct 58 true (at 6 7) (punct 58 false (at 7 8) (leaf (ident (100 ∷ [])) (at 8 9) end))))
+unfolding left is_end at_front sees take_token take_lifetime take_mark take_group before rows_for rows run reads
+words_leave_rooted = computed module_words _ _ _ refl refl
+
+-- `::a b`: nothing is read
+words_rooted_more : Unread (rule module_words)
+    (punct 58 true (at 0 1) (punct 58 false (at 1 2) (leaf (ident (97 ∷ [])) (at 2 3) (leaf (ident (98 ∷ [])) (at 4 5) end))))
+unfolding left is_end at_front sees take_token take_lifetime take_mark take_group before rows_for rows run reads
+words_rooted_more = not_read module_words _ refl refl
+
+-- `a:b` prints `a` and leaves `:b`
+words_one_colon : ReadsAs module_words
+    (leaf (ident (97 ∷ [])) (at 0 1) (punct 58 false (at 1 2) (leaf (ident (98 ∷ [])) (at 2 3) end)))
+    (leaf (ident (97 ∷ [])) call_site end)
+    (punct 58 false (at 1 2) (leaf (ident (98 ∷ [])) (at 2 3) end))
+unfolding left is_end at_front sees take_token take_lifetime take_mark take_group before rows_for rows run reads
+words_one_colon = computed module_words _ _ _ refl refl
+
+-- `a.b` prints `a` and leaves `.b`
+words_dot : ReadsAs module_words
+    (leaf (ident (97 ∷ [])) (at 0 1) (punct 46 false (at 1 2) (leaf (ident (98 ∷ [])) (at 2 3) end)))
+    (leaf (ident (97 ∷ [])) call_site end)
+    (punct 46 false (at 1 2) (leaf (ident (98 ∷ [])) (at 2 3) end))
+unfolding left is_end at_front sees take_token take_lifetime take_mark take_group before rows_for rows run reads
+words_dot = computed module_words _ _ _ refl refl
+
+-- `fn`: nothing is read
+words_keyword : Unread (rule module_words)
+    (leaf (ident w_fn) (at 0 2) end)
+unfolding left is_end at_front sees take_token take_lifetime take_mark take_group before rows_for rows run reads
+words_keyword = not_read module_words _ refl refl
+
+-- `a::_`: nothing is read
+words_underscore : Unread (rule module_words)
+    (leaf (ident (97 ∷ [])) (at 0 1) (punct 58 true (at 1 2) (punct 58 false (at 2 3) (leaf (ident w_underscore) (at 3 4) end))))
+unfolding left is_end at_front sees take_token take_lifetime take_mark take_group before rows_for rows run reads
+words_underscore = not_read module_words _ refl refl
+
+-- `in`: nothing is read
+words_in : Unread (rule module_words)
+    (leaf (ident w_in) (at 0 2) end)
+unfolding left is_end at_front sees take_token take_lifetime take_mark take_group before rows_for rows run reads
+words_in = not_read module_words _ refl refl
+
+-- `1`: nothing is read
+words_literal : Unread (rule module_words)
+    (leaf (literal Int (49 ∷ [])) (at 0 1) end)
+unfolding left is_end at_front sees take_token take_lifetime take_mark take_group before rows_for rows run reads
+words_literal = not_read module_words _ refl refl
+
+-- `a::1`: nothing is read
+words_literal_behind : Unread (rule module_words)
+    (leaf (ident (97 ∷ [])) (at 0 1) (punct 58 true (at 1 2) (punct 58 false (at 2 3) (leaf (literal Int (49 ∷ [])) (at 3 4) end))))
+unfolding left is_end at_front sees take_token take_lifetime take_mark take_group before rows_for rows run reads
+words_literal_behind = not_read module_words _ refl refl
+
+-- `(a)`: nothing is read
+words_group : Unread (rule module_words)
+    (group Paren (at 0 1) (at 2 3) (leaf (ident (97 ∷ [])) (at 1 2) end) end)
+unfolding left is_end at_front sees take_token take_lifetime take_mark take_group before rows_for rows run reads
+words_group = not_read module_words _ refl refl
 
 -- `pub` prints `pub`
 vis_public : ReadsAs visibility
@@ -237,6 +381,142 @@ vis_word_first : Refused visibility
 unfolding left is_end at_front sees take_token take_lifetime take_mark take_group before rows_for rows run reads
 vis_word_first = not_derived visibility _ refl refl
 
+-- `pub pub` prints `pub` and leaves `pub`
+vis_twice : ReadsAs visibility
+    (leaf (ident w_pub) (at 0 3) (leaf (ident w_pub) (at 4 7) end))
+    (leaf (ident w_pub) call_site end)
+    (leaf (ident w_pub) (at 4 7) end)
+unfolding left is_end at_front sees take_token take_lifetime take_mark take_group before rows_for rows run reads
+vis_twice = computed visibility _ _ _ refl refl
+
+-- `a` prints `` and leaves `a`
+vis_leaves_name : ReadsAs visibility
+    (leaf (ident (97 ∷ [])) (at 0 1) end)
+    (end)
+    (leaf (ident (97 ∷ [])) (at 0 1) end)
+unfolding left is_end at_front sees take_token take_lifetime take_mark take_group before rows_for rows run reads
+vis_leaves_name = computed visibility _ _ _ refl refl
+
+-- `pub crate` prints `pub` and leaves `crate`
+vis_leaves_word : ReadsAs visibility
+    (leaf (ident w_pub) (at 0 3) (leaf (ident w_crate) (at 4 9) end))
+    (leaf (ident w_pub) call_site end)
+    (leaf (ident w_crate) (at 4 9) end)
+unfolding left is_end at_front sees take_token take_lifetime take_mark take_group before rows_for rows run reads
+vis_leaves_word = computed visibility _ _ _ refl refl
+
+-- `pub in a` prints `pub` and leaves `in a`
+vis_leaves_in : ReadsAs visibility
+    (leaf (ident w_pub) (at 0 3) (leaf (ident w_in) (at 4 6) (leaf (ident (97 ∷ [])) (at 7 8) end)))
+    (leaf (ident w_pub) call_site end)
+    (leaf (ident w_in) (at 4 6) (leaf (ident (97 ∷ [])) (at 7 8) end))
+unfolding left is_end at_front sees take_token take_lifetime take_mark take_group before rows_for rows run reads
+vis_leaves_in = computed visibility _ _ _ refl refl
+
+-- `pub(crate)(crate)` prints `pub ( crate )` and leaves `(crate)`
+vis_two_groups : ReadsAs visibility
+    (leaf (ident w_pub) (at 0 3) (group Paren (at 3 4) (at 9 10) (leaf (ident w_crate) (at 4 9) end) (group Paren (at 10 11) (at 16 17) (leaf (ident w_crate) (at 11 16) end) end)))
+    (leaf (ident w_pub) call_site (group Paren call_site call_site (leaf (ident w_crate) call_site end) end))
+    (group Paren (at 10 11) (at 16 17) (leaf (ident w_crate) (at 11 16) end) end)
+unfolding left is_end at_front sees take_token take_lifetime take_mark take_group before rows_for rows run reads
+vis_two_groups = computed visibility _ _ _ refl refl
+
+-- `pub(crate) pub` prints `pub ( crate )` and leaves `pub`
+vis_public_behind : ReadsAs visibility
+    (leaf (ident w_pub) (at 0 3) (group Paren (at 3 4) (at 9 10) (leaf (ident w_crate) (at 4 9) end) (leaf (ident w_pub) (at 11 14) end)))
+    (leaf (ident w_pub) call_site (group Paren call_site call_site (leaf (ident w_crate) call_site end) end))
+    (leaf (ident w_pub) (at 11 14) end)
+unfolding left is_end at_front sees take_token take_lifetime take_mark take_group before rows_for rows run reads
+vis_public_behind = computed visibility _ _ _ refl refl
+
+-- `pub{crate}` prints `pub` and leaves `{crate}`
+vis_leaves_braces : ReadsAs visibility
+    (leaf (ident w_pub) (at 0 3) (group Brace (at 3 4) (at 9 10) (leaf (ident w_crate) (at 4 9) end) end))
+    (leaf (ident w_pub) call_site end)
+    (group Brace (at 3 4) (at 9 10) (leaf (ident w_crate) (at 4 9) end) end)
+unfolding left is_end at_front sees take_token take_lifetime take_mark take_group before rows_for rows run reads
+vis_leaves_braces = computed visibility _ _ _ refl refl
+
+-- `pub(crate crate)` prints `pub` and leaves `(crate crate)`
+vis_leaves_two_words : ReadsAs visibility
+    (leaf (ident w_pub) (at 0 3) (group Paren (at 3 4) (at 15 16) (leaf (ident w_crate) (at 4 9) (leaf (ident w_crate) (at 10 15) end)) end))
+    (leaf (ident w_pub) call_site end)
+    (group Paren (at 3 4) (at 15 16) (leaf (ident w_crate) (at 4 9) (leaf (ident w_crate) (at 10 15) end)) end)
+unfolding left is_end at_front sees take_token take_lifetime take_mark take_group before rows_for rows run reads
+vis_leaves_two_words = computed visibility _ _ _ refl refl
+
+-- `pub(self,)` prints `pub` and leaves `(self,)`
+vis_leaves_comma : ReadsAs visibility
+    (leaf (ident w_pub) (at 0 3) (group Paren (at 3 4) (at 9 10) (leaf (ident w_self) (at 4 8) (punct 44 false (at 8 9) end)) end))
+    (leaf (ident w_pub) call_site end)
+    (group Paren (at 3 4) (at 9 10) (leaf (ident w_self) (at 4 8) (punct 44 false (at 8 9) end)) end)
+unfolding left is_end at_front sees take_token take_lifetime take_mark take_group before rows_for rows run reads
+vis_leaves_comma = computed visibility _ _ _ refl refl
+
+-- `pub(super::a)` prints `pub` and leaves `(super::a)`
+vis_leaves_super_path : ReadsAs visibility
+    (leaf (ident w_pub) (at 0 3) (group Paren (at 3 4) (at 12 13) (leaf (ident w_super) (at 4 9) (punct 58 true (at 9 10) (punct 58 false (at 10 11) (leaf (ident (97 ∷ [])) (at 11 12) end)))) end))
+    (leaf (ident w_pub) call_site end)
+    (group Paren (at 3 4) (at 12 13) (leaf (ident w_super) (at 4 9) (punct 58 true (at 9 10) (punct 58 false (at 10 11) (leaf (ident (97 ∷ [])) (at 11 12) end)))) end)
+unfolding left is_end at_front sees take_token take_lifetime take_mark take_group before rows_for rows run reads
+vis_leaves_super_path = computed visibility _ _ _ refl refl
+
+-- `pub(Self)` prints `pub` and leaves `(Self)`
+vis_leaves_self_type : ReadsAs visibility
+    (leaf (ident w_pub) (at 0 3) (group Paren (at 3 4) (at 8 9) (leaf (ident w_Self_type) (at 4 8) end) end))
+    (leaf (ident w_pub) call_site end)
+    (group Paren (at 3 4) (at 8 9) (leaf (ident w_Self_type) (at 4 8) end) end)
+unfolding left is_end at_front sees take_token take_lifetime take_mark take_group before rows_for rows run reads
+vis_leaves_self_type = computed visibility _ _ _ refl refl
+
+-- `pub((crate))` prints `pub` and leaves `((crate))`
+vis_leaves_inner_group : ReadsAs visibility
+    (leaf (ident w_pub) (at 0 3) (group Paren (at 3 4) (at 11 12) (group Paren (at 4 5) (at 10 11) (leaf (ident w_crate) (at 5 10) end) end) end))
+    (leaf (ident w_pub) call_site end)
+    (group Paren (at 3 4) (at 11 12) (group Paren (at 4 5) (at 10 11) (leaf (ident w_crate) (at 5 10) end) end) end)
+unfolding left is_end at_front sees take_token take_lifetime take_mark take_group before rows_for rows run reads
+vis_leaves_inner_group = computed visibility _ _ _ refl refl
+
+-- `pub(pub)` prints `pub` and leaves `(pub)`
+vis_leaves_own_word : ReadsAs visibility
+    (leaf (ident w_pub) (at 0 3) (group Paren (at 3 4) (at 7 8) (leaf (ident w_pub) (at 4 7) end) end))
+    (leaf (ident w_pub) call_site end)
+    (group Paren (at 3 4) (at 7 8) (leaf (ident w_pub) (at 4 7) end) end)
+unfolding left is_end at_front sees take_token take_lifetime take_mark take_group before rows_for rows run reads
+vis_leaves_own_word = computed visibility _ _ _ refl refl
+
+-- `(crate) pub` prints `` and leaves `(crate) pub`
+vis_group_first : ReadsAs visibility
+    (group Paren (at 0 1) (at 6 7) (leaf (ident w_crate) (at 1 6) end) (leaf (ident w_pub) (at 8 11) end))
+    (end)
+    (group Paren (at 0 1) (at 6 7) (leaf (ident w_crate) (at 1 6) end) (leaf (ident w_pub) (at 8 11) end))
+unfolding left is_end at_front sees take_token take_lifetime take_mark take_group before rows_for rows run reads
+vis_group_first = computed visibility _ _ _ refl refl
+
+-- `pub(in a in b)`: nothing is read
+vis_in_two_paths : Unread (rule visibility)
+    (leaf (ident w_pub) (at 0 3) (group Paren (at 3 4) (at 13 14) (leaf (ident w_in) (at 4 6) (leaf (ident (97 ∷ [])) (at 7 8) (leaf (ident w_in) (at 9 11) (leaf (ident (98 ∷ [])) (at 12 13) end)))) end))
+unfolding left is_end at_front sees take_token take_lifetime take_mark take_group before rows_for rows run reads
+vis_in_two_paths = not_read visibility _ refl refl
+
+-- `pub(in a b)`: nothing is read
+vis_in_path_and_word : Unread (rule visibility)
+    (leaf (ident w_pub) (at 0 3) (group Paren (at 3 4) (at 10 11) (leaf (ident w_in) (at 4 6) (leaf (ident (97 ∷ [])) (at 7 8) (leaf (ident (98 ∷ [])) (at 9 10) end))) end))
+unfolding left is_end at_front sees take_token take_lifetime take_mark take_group before rows_for rows run reads
+vis_in_path_and_word = not_read visibility _ refl refl
+
+-- `pub(in a,)`: nothing is read
+vis_in_comma : Unread (rule visibility)
+    (leaf (ident w_pub) (at 0 3) (group Paren (at 3 4) (at 9 10) (leaf (ident w_in) (at 4 6) (leaf (ident (97 ∷ [])) (at 7 8) (punct 44 false (at 8 9) end))) end))
+unfolding left is_end at_front sees take_token take_lifetime take_mark take_group before rows_for rows run reads
+vis_in_comma = not_read visibility _ refl refl
+
+-- `pub(in fn)`: nothing is read
+vis_in_keyword : Unread (rule visibility)
+    (leaf (ident w_pub) (at 0 3) (group Paren (at 3 4) (at 9 10) (leaf (ident w_in) (at 4 6) (leaf (ident w_fn) (at 7 9) end)) end))
+unfolding left is_end at_front sees take_token take_lifetime take_mark take_group before rows_for rows run reads
+vis_in_keyword = not_read visibility _ refl refl
+
 -- `super` prints `super`
 restriction_super : ReadsAs restriction
     (leaf (ident w_super) (at 0 5) end)
@@ -259,6 +539,64 @@ restriction_in_alone : Unread (rule restriction)
 unfolding left is_end at_front sees take_token take_lifetime take_mark take_group before rows_for rows run reads
 restriction_in_alone = not_read restriction _ refl refl
 
+-- `a` prints `a`
+restriction_path : ReadsAs restriction
+    (leaf (ident (97 ∷ [])) (at 0 1) end)
+    (leaf (ident (97 ∷ [])) call_site end)
+    (end)
+unfolding left is_end at_front sees take_token take_lifetime take_mark take_group before rows_for rows run reads
+restriction_path = computed restriction _ _ _ refl refl
+
+-- `in ::a` prints `in :: a`
+restriction_in_rooted : ReadsAs restriction
+    (leaf (ident w_in) (at 0 2) (punct 58 true (at 3 4) (punct 58 false (at 4 5) (leaf (ident (97 ∷ [])) (at 5 6) end))))
+    (leaf (ident w_in) call_site (punct 58 true call_site (punct 58 false call_site (leaf (ident (97 ∷ [])) call_site end))))
+    (end)
+unfolding left is_end at_front sees take_token take_lifetime take_mark take_group before rows_for rows run reads
+restriction_in_rooted = computed restriction _ _ _ refl refl
+
+-- `in in a`: nothing is read
+restriction_in_twice : Unread (rule restriction)
+    (leaf (ident w_in) (at 0 2) (leaf (ident w_in) (at 3 5) (leaf (ident (97 ∷ [])) (at 6 7) end)))
+unfolding left is_end at_front sees take_token take_lifetime take_mark take_group before rows_for rows run reads
+restriction_in_twice = not_read restriction _ refl refl
+
+-- `in a in b` prints `in a` and leaves `in b`
+restriction_leaves_in : ReadsAs restriction
+    (leaf (ident w_in) (at 0 2) (leaf (ident (97 ∷ [])) (at 3 4) (leaf (ident w_in) (at 5 7) (leaf (ident (98 ∷ [])) (at 8 9) end))))
+    (leaf (ident w_in) call_site (leaf (ident (97 ∷ [])) call_site end))
+    (leaf (ident w_in) (at 5 7) (leaf (ident (98 ∷ [])) (at 8 9) end))
+unfolding left is_end at_front sees take_token take_lifetime take_mark take_group before rows_for rows run reads
+restriction_leaves_in = computed restriction _ _ _ refl refl
+
+-- `crate crate` prints `crate` and leaves `crate`
+restriction_leaves_word : ReadsAs restriction
+    (leaf (ident w_crate) (at 0 5) (leaf (ident w_crate) (at 6 11) end))
+    (leaf (ident w_crate) call_site end)
+    (leaf (ident w_crate) (at 6 11) end)
+unfolding left is_end at_front sees take_token take_lifetime take_mark take_group before rows_for rows run reads
+restriction_leaves_word = computed restriction _ _ _ refl refl
+
+-- `crate in` prints `crate` and leaves `in`
+restriction_in_behind : ReadsAs restriction
+    (leaf (ident w_crate) (at 0 5) (leaf (ident w_in) (at 6 8) end))
+    (leaf (ident w_crate) call_site end)
+    (leaf (ident w_in) (at 6 8) end)
+unfolding left is_end at_front sees take_token take_lifetime take_mark take_group before rows_for rows run reads
+restriction_in_behind = computed restriction _ _ _ refl refl
+
+-- no tokens: nothing is read
+restriction_nothing : Unread (rule restriction)
+    (end)
+unfolding left is_end at_front sees take_token take_lifetime take_mark take_group before rows_for rows run reads
+restriction_nothing = not_read restriction _ refl refl
+
+-- `pub`: nothing is read
+restriction_keyword : Unread (rule restriction)
+    (leaf (ident w_pub) (at 0 3) end)
+unfolding left is_end at_front sees take_token take_lifetime take_mark take_group before rows_for rows run reads
+restriction_keyword = not_read restriction _ refl refl
+
 -- `Self::A` prints `Self :: A`
 type_path_self : ReadsAs type_path
     (leaf (ident w_Self_type) (at 0 4) (punct 58 true (at 4 5) (punct 58 false (at 5 6) (leaf (ident (65 ∷ [])) (at 6 7) end))))
@@ -272,6 +610,34 @@ type_path_arguments : Refused type_path
     (leaf (ident (65 ∷ [])) (at 0 1) (punct 60 false (at 1 2) (leaf (ident (66 ∷ [])) (at 2 3) (punct 62 false (at 3 4) end))))
 unfolding left is_end at_front sees take_token take_lifetime take_mark take_group before rows_for rows run reads
 type_path_arguments = not_derived type_path _ refl refl
+
+-- `::a` prints `:: a`
+type_path_rooted : ReadsAs type_path
+    (punct 58 true (at 0 1) (punct 58 false (at 1 2) (leaf (ident (97 ∷ [])) (at 2 3) end)))
+    (punct 58 true call_site (punct 58 false call_site (leaf (ident (97 ∷ [])) call_site end)))
+    (end)
+unfolding left is_end at_front sees take_token take_lifetime take_mark take_group before rows_for rows run reads
+type_path_rooted = computed type_path _ _ _ refl refl
+
+-- `a b` prints `a` and leaves `b`
+type_path_leaves_word : ReadsAs type_path
+    (leaf (ident (97 ∷ [])) (at 0 1) (leaf (ident (98 ∷ [])) (at 2 3) end))
+    (leaf (ident (97 ∷ [])) call_site end)
+    (leaf (ident (98 ∷ [])) (at 2 3) end)
+unfolding left is_end at_front sees take_token take_lifetime take_mark take_group before rows_for rows run reads
+type_path_leaves_word = computed type_path _ _ _ refl refl
+
+-- no tokens: nothing is read
+type_path_nothing : Unread (rule type_path)
+    (end)
+unfolding left is_end at_front sees take_token take_lifetime take_mark take_group before rows_for rows run reads
+type_path_nothing = not_read type_path _ refl refl
+
+-- `<a>::b`: nothing is read
+type_path_qualified : Unread (rule type_path)
+    (punct 60 false (at 0 1) (leaf (ident (97 ∷ [])) (at 1 2) (punct 62 true (at 2 3) (punct 58 true (at 3 4) (punct 58 false (at 4 5) (leaf (ident (98 ∷ [])) (at 5 6) end))))))
+unfolding left is_end at_front sees take_token take_lifetime take_mark take_group before rows_for rows run reads
+type_path_qualified = not_read type_path _ refl refl
 
 -- `::a::B` prints `:: a :: B`
 type_rooted : ReadsAs type
@@ -298,6 +664,34 @@ type_literal : Unread (rule type)
     (leaf (literal Int (49 ∷ [])) (at 0 1) end)
 unfolding left is_end at_front sees take_token take_lifetime take_mark take_group before rows_for rows run reads
 type_literal = not_read type _ refl refl
+
+-- `a b` prints `a` and leaves `b`
+type_leaves_word : ReadsAs type
+    (leaf (ident (97 ∷ [])) (at 0 1) (leaf (ident (98 ∷ [])) (at 2 3) end))
+    (leaf (ident (97 ∷ [])) call_site end)
+    (leaf (ident (98 ∷ [])) (at 2 3) end)
+unfolding left is_end at_front sees take_token take_lifetime take_mark take_group before rows_for rows run reads
+type_leaves_word = computed type _ _ _ refl refl
+
+-- `a + b` prints `a` and leaves `+ b`
+type_leaves_plus : ReadsAs type
+    (leaf (ident (97 ∷ [])) (at 0 1) (punct 43 false (at 2 3) (leaf (ident (98 ∷ [])) (at 4 5) end)))
+    (leaf (ident (97 ∷ [])) call_site end)
+    (punct 43 false (at 2 3) (leaf (ident (98 ∷ [])) (at 4 5) end))
+unfolding left is_end at_front sees take_token take_lifetime take_mark take_group before rows_for rows run reads
+type_leaves_plus = computed type _ _ _ refl refl
+
+-- no tokens: nothing is read
+type_nothing : Unread (rule type)
+    (end)
+unfolding left is_end at_front sees take_token take_lifetime take_mark take_group before rows_for rows run reads
+type_nothing = not_read type _ refl refl
+
+-- `_`: nothing is read
+type_underscore : Unread (rule type)
+    (leaf (ident w_underscore) (at 0 1) end)
+unfolding left is_end at_front sees take_token take_lifetime take_mark take_group before rows_for rows run reads
+type_underscore = not_read type _ refl refl
 
 -- `u8` prints `u8`
 field_plain : ReadsAs unnamed_field
@@ -363,6 +757,60 @@ field_public_tuple : Unread (rule unnamed_field)
 unfolding left is_end at_front sees take_token take_lifetime take_mark take_group before rows_for rows run reads
 field_public_tuple = not_read unnamed_field _ refl refl
 
+-- no tokens: nothing is read
+field_nothing : Unread (rule unnamed_field)
+    (end)
+unfolding left is_end at_front sees take_token take_lifetime take_mark take_group before rows_for rows run reads
+field_nothing = not_read unnamed_field _ refl refl
+
+-- `pub`: nothing is read
+field_public_alone : Unread (rule unnamed_field)
+    (leaf (ident w_pub) (at 0 3) end)
+unfolding left is_end at_front sees take_token take_lifetime take_mark take_group before rows_for rows run reads
+field_public_alone = not_read unnamed_field _ refl refl
+
+-- `pub pub a`: nothing is read
+field_public_twice : Unread (rule unnamed_field)
+    (leaf (ident w_pub) (at 0 3) (leaf (ident w_pub) (at 4 7) (leaf (ident (97 ∷ [])) (at 8 9) end)))
+unfolding left is_end at_front sees take_token take_lifetime take_mark take_group before rows_for rows run reads
+field_public_twice = not_read unnamed_field _ refl refl
+
+-- `pub(crate) pub a`: nothing is read
+field_restricted_twice : Unread (rule unnamed_field)
+    (leaf (ident w_pub) (at 0 3) (group Paren (at 3 4) (at 9 10) (leaf (ident w_crate) (at 4 9) end) (leaf (ident w_pub) (at 11 14) (leaf (ident (97 ∷ [])) (at 15 16) end))))
+unfolding left is_end at_front sees take_token take_lifetime take_mark take_group before rows_for rows run reads
+field_restricted_twice = not_read unnamed_field _ refl refl
+
+-- `a pub` prints `a` and leaves `pub`
+field_public_behind : ReadsAs unnamed_field
+    (leaf (ident (97 ∷ [])) (at 0 1) (leaf (ident w_pub) (at 2 5) end))
+    (leaf (ident (97 ∷ [])) call_site end)
+    (leaf (ident w_pub) (at 2 5) end)
+unfolding left is_end at_front sees take_token take_lifetime take_mark take_group before rows_for rows run reads
+field_public_behind = computed unnamed_field _ _ _ refl refl
+
+-- `a b` prints `a` and leaves `b`
+field_leaves_type : ReadsAs unnamed_field
+    (leaf (ident (97 ∷ [])) (at 0 1) (leaf (ident (98 ∷ [])) (at 2 3) end))
+    (leaf (ident (97 ∷ [])) call_site end)
+    (leaf (ident (98 ∷ [])) (at 2 3) end)
+unfolding left is_end at_front sees take_token take_lifetime take_mark take_group before rows_for rows run reads
+field_leaves_type = computed unnamed_field _ _ _ refl refl
+
+-- `a + = b` prints `a` and leaves `+ = b`
+field_leaves_default : ReadsAs unnamed_field
+    (leaf (ident (97 ∷ [])) (at 0 1) (punct 43 false (at 2 3) (punct 61 false (at 4 5) (leaf (ident (98 ∷ [])) (at 6 7) end))))
+    (leaf (ident (97 ∷ [])) call_site end)
+    (punct 43 false (at 2 3) (punct 61 false (at 4 5) (leaf (ident (98 ∷ [])) (at 6 7) end)))
+unfolding left is_end at_front sees take_token take_lifetime take_mark take_group before rows_for rows run reads
+field_leaves_default = computed unnamed_field _ _ _ refl refl
+
+-- `= a`: nothing is read
+field_equals_first : Unread (rule unnamed_field)
+    (punct 61 false (at 0 1) (leaf (ident (97 ∷ [])) (at 2 3) end))
+unfolding left is_end at_front sees take_token take_lifetime take_mark take_group before rows_for rows run reads
+field_equals_first = not_read unnamed_field _ refl refl
+
 -- no tokens prints ``
 list_none : ReadsAs unnamed_fields
     (end)
@@ -404,6 +852,60 @@ list_no_comma : Refused unnamed_fields
     (leaf (ident (97 ∷ [])) (at 0 1) (leaf (ident (98 ∷ [])) (at 2 3) end))
 unfolding left is_end at_front sees take_token take_lifetime take_mark take_group before rows_for rows run reads
 list_no_comma = not_derived unnamed_fields _ refl refl
+
+-- `a` prints `a`
+list_one : ReadsAs unnamed_fields
+    (leaf (ident (97 ∷ [])) (at 0 1) end)
+    (leaf (ident (97 ∷ [])) call_site end)
+    (end)
+unfolding left is_end at_front sees take_token take_lifetime take_mark take_group before rows_for rows run reads
+list_one = computed unnamed_fields _ _ _ refl refl
+
+-- `a, b c` prints `a , b` and leaves `c`
+list_leaves_type : ReadsAs unnamed_fields
+    (leaf (ident (97 ∷ [])) (at 0 1) (punct 44 false (at 1 2) (leaf (ident (98 ∷ [])) (at 3 4) (leaf (ident (99 ∷ [])) (at 5 6) end))))
+    (leaf (ident (97 ∷ [])) call_site (punct 44 false call_site (leaf (ident (98 ∷ [])) call_site end)))
+    (leaf (ident (99 ∷ [])) (at 5 6) end)
+unfolding left is_end at_front sees take_token take_lifetime take_mark take_group before rows_for rows run reads
+list_leaves_type = computed unnamed_fields _ _ _ refl refl
+
+-- `a; b` prints `a` and leaves `; b`
+list_semicolon : ReadsAs unnamed_fields
+    (leaf (ident (97 ∷ [])) (at 0 1) (punct 59 false (at 1 2) (leaf (ident (98 ∷ [])) (at 3 4) end)))
+    (leaf (ident (97 ∷ [])) call_site end)
+    (punct 59 false (at 1 2) (leaf (ident (98 ∷ [])) (at 3 4) end))
+unfolding left is_end at_front sees take_token take_lifetime take_mark take_group before rows_for rows run reads
+list_semicolon = computed unnamed_fields _ _ _ refl refl
+
+-- `a,;`: nothing is read
+list_semicolon_last : Unread (rule unnamed_fields)
+    (leaf (ident (97 ∷ [])) (at 0 1) (punct 44 true (at 1 2) (punct 59 false (at 2 3) end)))
+unfolding left is_end at_front sees take_token take_lifetime take_mark take_group before rows_for rows run reads
+list_semicolon_last = not_read unnamed_fields _ refl refl
+
+-- `, a`: nothing is read
+list_comma_first : Unread (rule unnamed_fields)
+    (punct 44 false (at 0 1) (leaf (ident (97 ∷ [])) (at 2 3) end))
+unfolding left is_end at_front sees take_token take_lifetime take_mark take_group before rows_for rows run reads
+list_comma_first = not_read unnamed_fields _ refl refl
+
+-- `, a b`: nothing is read
+list_comma_and_two : Unread (rule unnamed_fields)
+    (punct 44 false (at 0 1) (leaf (ident (97 ∷ [])) (at 2 3) (leaf (ident (98 ∷ [])) (at 4 5) end)))
+unfolding left is_end at_front sees take_token take_lifetime take_mark take_group before rows_for rows run reads
+list_comma_and_two = not_read unnamed_fields _ refl refl
+
+-- `a,, b`: nothing is read
+list_commas_between : Unread (rule unnamed_fields)
+    (leaf (ident (97 ∷ [])) (at 0 1) (punct 44 true (at 1 2) (punct 44 false (at 2 3) (leaf (ident (98 ∷ [])) (at 4 5) end))))
+unfolding left is_end at_front sees take_token take_lifetime take_mark take_group before rows_for rows run reads
+list_commas_between = not_read unnamed_fields _ refl refl
+
+-- `a, b = c`: nothing is read
+list_default_last : Unread (rule unnamed_fields)
+    (leaf (ident (97 ∷ [])) (at 0 1) (punct 44 false (at 1 2) (leaf (ident (98 ∷ [])) (at 3 4) (punct 61 false (at 5 6) (leaf (ident (99 ∷ [])) (at 7 8) end)))))
+unfolding left is_end at_front sees take_token take_lifetime take_mark take_group before rows_for rows run reads
+list_default_last = not_read unnamed_fields _ refl refl
 
 -- `()` prints `( )`
 fields_none : ReadsAs fields_unnamed
@@ -447,6 +949,50 @@ fields_inner_rest : Unread (rule fields_unnamed)
 unfolding left is_end at_front sees take_token take_lifetime take_mark take_group before rows_for rows run reads
 fields_inner_rest = not_read fields_unnamed _ refl refl
 
+-- `[a]`: nothing is read
+fields_brackets : Unread (rule fields_unnamed)
+    (group Bracket (at 0 1) (at 2 3) (leaf (ident (97 ∷ [])) (at 1 2) end) end)
+unfolding left is_end at_front sees take_token take_lifetime take_mark take_group before rows_for rows run reads
+fields_brackets = not_read fields_unnamed _ refl refl
+
+-- `(a b)`: nothing is read
+fields_two_types : Unread (rule fields_unnamed)
+    (group Paren (at 0 1) (at 4 5) (leaf (ident (97 ∷ [])) (at 1 2) (leaf (ident (98 ∷ [])) (at 3 4) end)) end)
+unfolding left is_end at_front sees take_token take_lifetime take_mark take_group before rows_for rows run reads
+fields_two_types = not_read fields_unnamed _ refl refl
+
+-- `(,)`: nothing is read
+fields_comma_alone : Unread (rule fields_unnamed)
+    (group Paren (at 0 1) (at 2 3) (punct 44 false (at 1 2) end) end)
+unfolding left is_end at_front sees take_token take_lifetime take_mark take_group before rows_for rows run reads
+fields_comma_alone = not_read fields_unnamed _ refl refl
+
+-- `(a,)` prints `( a , )`
+fields_last_comma : ReadsAs fields_unnamed
+    (group Paren (at 0 1) (at 3 4) (leaf (ident (97 ∷ [])) (at 1 2) (punct 44 false (at 2 3) end)) end)
+    (group Paren call_site call_site (leaf (ident (97 ∷ [])) call_site (punct 44 false call_site end)) end)
+    (end)
+unfolding left is_end at_front sees take_token take_lifetime take_mark take_group before rows_for rows run reads
+fields_last_comma = computed fields_unnamed _ _ _ refl refl
+
+-- `((a))`: nothing is read
+fields_inner_group : Unread (rule fields_unnamed)
+    (group Paren (at 0 1) (at 4 5) (group Paren (at 1 2) (at 3 4) (leaf (ident (97 ∷ [])) (at 2 3) end) end) end)
+unfolding left is_end at_front sees take_token take_lifetime take_mark take_group before rows_for rows run reads
+fields_inner_group = not_read fields_unnamed _ refl refl
+
+-- `a`: nothing is read
+fields_no_group : Unread (rule fields_unnamed)
+    (leaf (ident (97 ∷ [])) (at 0 1) end)
+unfolding left is_end at_front sees take_token take_lifetime take_mark take_group before rows_for rows run reads
+fields_no_group = not_read fields_unnamed _ refl refl
+
+-- no tokens: nothing is read
+fields_nothing : Unread (rule fields_unnamed)
+    (end)
+unfolding left is_end at_front sees take_token take_lifetime take_mark take_group before rows_for rows run reads
+fields_nothing = not_read fields_unnamed _ refl refl
+
 -- `;` prints `;`
 body_unit : ReadsAs structure_body
     (punct 59 false (at 0 1) end)
@@ -475,6 +1021,74 @@ body_braces : Unread (rule structure_body)
 unfolding left is_end at_front sees take_token take_lifetime take_mark take_group before rows_for rows run reads
 body_braces = not_read structure_body _ refl refl
 
+-- no tokens: nothing is read
+body_nothing : Unread (rule structure_body)
+    (end)
+unfolding left is_end at_front sees take_token take_lifetime take_mark take_group before rows_for rows run reads
+body_nothing = not_read structure_body _ refl refl
+
+-- `(a)(b);`: nothing is read
+body_two_groups : Unread (rule structure_body)
+    (group Paren (at 0 1) (at 2 3) (leaf (ident (97 ∷ [])) (at 1 2) end) (group Paren (at 3 4) (at 5 6) (leaf (ident (98 ∷ [])) (at 4 5) end) (punct 59 false (at 6 7) end)))
+unfolding left is_end at_front sees take_token take_lifetime take_mark take_group before rows_for rows run reads
+body_two_groups = not_read structure_body _ refl refl
+
+-- `(a);(b)` prints `( a ) ;` and leaves `(b)`
+body_leaves_group : ReadsAs structure_body
+    (group Paren (at 0 1) (at 2 3) (leaf (ident (97 ∷ [])) (at 1 2) end) (punct 59 false (at 3 4) (group Paren (at 4 5) (at 6 7) (leaf (ident (98 ∷ [])) (at 5 6) end) end)))
+    (group Paren call_site call_site (leaf (ident (97 ∷ [])) call_site end) (punct 59 false call_site end))
+    (group Paren (at 4 5) (at 6 7) (leaf (ident (98 ∷ [])) (at 5 6) end) end)
+unfolding left is_end at_front sees take_token take_lifetime take_mark take_group before rows_for rows run reads
+body_leaves_group = computed structure_body _ _ _ refl refl
+
+-- `;(a)` prints `;` and leaves `(a)`
+body_unit_leaves_group : ReadsAs structure_body
+    (punct 59 false (at 0 1) (group Paren (at 1 2) (at 3 4) (leaf (ident (97 ∷ [])) (at 2 3) end) end))
+    (punct 59 false call_site end)
+    (group Paren (at 1 2) (at 3 4) (leaf (ident (97 ∷ [])) (at 2 3) end) end)
+unfolding left is_end at_front sees take_token take_lifetime take_mark take_group before rows_for rows run reads
+body_unit_leaves_group = computed structure_body _ _ _ refl refl
+
+-- `;;` prints `;` and leaves `;`
+body_two_semicolons : ReadsAs structure_body
+    (punct 59 true (at 0 1) (punct 59 false (at 1 2) end))
+    (punct 59 false call_site end)
+    (punct 59 false (at 1 2) end)
+unfolding left is_end at_front sees take_token take_lifetime take_mark take_group before rows_for rows run reads
+body_two_semicolons = computed structure_body _ _ _ refl refl
+
+-- `(a);;` prints `( a ) ;` and leaves `;`
+body_more_semicolons : ReadsAs structure_body
+    (group Paren (at 0 1) (at 2 3) (leaf (ident (97 ∷ [])) (at 1 2) end) (punct 59 true (at 3 4) (punct 59 false (at 4 5) end)))
+    (group Paren call_site call_site (leaf (ident (97 ∷ [])) call_site end) (punct 59 false call_site end))
+    (punct 59 false (at 4 5) end)
+unfolding left is_end at_front sees take_token take_lifetime take_mark take_group before rows_for rows run reads
+body_more_semicolons = computed structure_body _ _ _ refl refl
+
+-- `,`: nothing is read
+body_comma : Unread (rule structure_body)
+    (punct 44 false (at 0 1) end)
+unfolding left is_end at_front sees take_token take_lifetime take_mark take_group before rows_for rows run reads
+body_comma = not_read structure_body _ refl refl
+
+-- `(a),`: nothing is read
+body_tuple_comma : Unread (rule structure_body)
+    (group Paren (at 0 1) (at 2 3) (leaf (ident (97 ∷ [])) (at 1 2) end) (punct 44 false (at 3 4) end))
+unfolding left is_end at_front sees take_token take_lifetime take_mark take_group before rows_for rows run reads
+body_tuple_comma = not_read structure_body _ refl refl
+
+-- `[a];`: nothing is read
+body_brackets : Unread (rule structure_body)
+    (group Bracket (at 0 1) (at 2 3) (leaf (ident (97 ∷ [])) (at 1 2) end) (punct 59 false (at 3 4) end))
+unfolding left is_end at_front sees take_token take_lifetime take_mark take_group before rows_for rows run reads
+body_brackets = not_read structure_body _ refl refl
+
+-- `(a;)`: nothing is read
+body_semicolon_inside : Unread (rule structure_body)
+    (group Paren (at 0 1) (at 3 4) (leaf (ident (97 ∷ [])) (at 1 2) (punct 59 false (at 2 3) end)) end)
+unfolding left is_end at_front sees take_token take_lifetime take_mark take_group before rows_for rows run reads
+body_semicolon_inside = not_read structure_body _ refl refl
+
 -- `pub struct A(u8);` prints `pub struct A ( u8 ) ;`
 struct_tuple : ReadsAs structure
     (leaf (ident w_pub) (at 0 3) (leaf (ident w_struct) (at 4 10) (leaf (ident (65 ∷ [])) (at 11 12) (group Paren (at 12 13) (at 15 16) (leaf (ident (117 ∷ 56 ∷ [])) (at 13 15) end) (punct 59 false (at 16 17) end)))))
@@ -502,6 +1116,232 @@ struct_named_in : Unread (rule structure)
     (leaf (ident w_struct) (at 0 6) (leaf (ident w_in) (at 7 9) (punct 59 false (at 9 10) end)))
 unfolding left is_end at_front sees take_token take_lifetime take_mark take_group before rows_for rows run reads
 struct_named_in = not_read structure _ refl refl
+
+-- `struct`: nothing is read
+struct_alone : Unread (rule structure)
+    (leaf (ident w_struct) (at 0 6) end)
+unfolding left is_end at_front sees take_token take_lifetime take_mark take_group before rows_for rows run reads
+struct_alone = not_read structure _ refl refl
+
+-- `struct;`: nothing is read
+struct_nameless : Unread (rule structure)
+    (leaf (ident w_struct) (at 0 6) (punct 59 false (at 6 7) end))
+unfolding left is_end at_front sees take_token take_lifetime take_mark take_group before rows_for rows run reads
+struct_nameless = not_read structure _ refl refl
+
+-- `struct A`: nothing is read
+struct_bodiless : Unread (rule structure)
+    (leaf (ident w_struct) (at 0 6) (leaf (ident (65 ∷ [])) (at 7 8) end))
+unfolding left is_end at_front sees take_token take_lifetime take_mark take_group before rows_for rows run reads
+struct_bodiless = not_read structure _ refl refl
+
+-- `A;`: nothing is read
+struct_wordless : Unread (rule structure)
+    (leaf (ident (65 ∷ [])) (at 0 1) (punct 59 false (at 1 2) end))
+unfolding left is_end at_front sees take_token take_lifetime take_mark take_group before rows_for rows run reads
+struct_wordless = not_read structure _ refl refl
+
+-- `pub A;`: nothing is read
+struct_wordless_public : Unread (rule structure)
+    (leaf (ident w_pub) (at 0 3) (leaf (ident (65 ∷ [])) (at 4 5) (punct 59 false (at 5 6) end)))
+unfolding left is_end at_front sees take_token take_lifetime take_mark take_group before rows_for rows run reads
+struct_wordless_public = not_read structure _ refl refl
+
+-- `enum A;`: nothing is read
+struct_other_word : Unread (rule structure)
+    (leaf (ident w_enum) (at 0 4) (leaf (ident (65 ∷ [])) (at 5 6) (punct 59 false (at 6 7) end)))
+unfolding left is_end at_front sees take_token take_lifetime take_mark take_group before rows_for rows run reads
+struct_other_word = not_read structure _ refl refl
+
+-- `union A;`: nothing is read
+struct_union_word : Unread (rule structure)
+    (leaf (ident w_union) (at 0 5) (leaf (ident (65 ∷ [])) (at 6 7) (punct 59 false (at 7 8) end)))
+unfolding left is_end at_front sees take_token take_lifetime take_mark take_group before rows_for rows run reads
+struct_union_word = not_read structure _ refl refl
+
+-- `struct struct A;`: nothing is read
+struct_twice : Unread (rule structure)
+    (leaf (ident w_struct) (at 0 6) (leaf (ident w_struct) (at 7 13) (leaf (ident (65 ∷ [])) (at 14 15) (punct 59 false (at 15 16) end))))
+unfolding left is_end at_front sees take_token take_lifetime take_mark take_group before rows_for rows run reads
+struct_twice = not_read structure _ refl refl
+
+-- `struct A struct;`: nothing is read
+struct_behind_name : Unread (rule structure)
+    (leaf (ident w_struct) (at 0 6) (leaf (ident (65 ∷ [])) (at 7 8) (leaf (ident w_struct) (at 9 15) (punct 59 false (at 15 16) end))))
+unfolding left is_end at_front sees take_token take_lifetime take_mark take_group before rows_for rows run reads
+struct_behind_name = not_read structure _ refl refl
+
+-- `struct A B;`: nothing is read
+struct_two_names : Unread (rule structure)
+    (leaf (ident w_struct) (at 0 6) (leaf (ident (65 ∷ [])) (at 7 8) (leaf (ident (66 ∷ [])) (at 9 10) (punct 59 false (at 10 11) end))))
+unfolding left is_end at_front sees take_token take_lifetime take_mark take_group before rows_for rows run reads
+struct_two_names = not_read structure _ refl refl
+
+-- `A struct B;`: nothing is read
+struct_name_first : Unread (rule structure)
+    (leaf (ident (65 ∷ [])) (at 0 1) (leaf (ident w_struct) (at 2 8) (leaf (ident (66 ∷ [])) (at 9 10) (punct 59 false (at 10 11) end))))
+unfolding left is_end at_front sees take_token take_lifetime take_mark take_group before rows_for rows run reads
+struct_name_first = not_read structure _ refl refl
+
+-- `pub A struct B;`: nothing is read
+struct_name_behind_pub : Unread (rule structure)
+    (leaf (ident w_pub) (at 0 3) (leaf (ident (65 ∷ [])) (at 4 5) (leaf (ident w_struct) (at 6 12) (leaf (ident (66 ∷ [])) (at 13 14) (punct 59 false (at 14 15) end)))))
+unfolding left is_end at_front sees take_token take_lifetime take_mark take_group before rows_for rows run reads
+struct_name_behind_pub = not_read structure _ refl refl
+
+-- `pub pub struct A;`: nothing is read
+struct_two_public : Unread (rule structure)
+    (leaf (ident w_pub) (at 0 3) (leaf (ident w_pub) (at 4 7) (leaf (ident w_struct) (at 8 14) (leaf (ident (65 ∷ [])) (at 15 16) (punct 59 false (at 16 17) end)))))
+unfolding left is_end at_front sees take_token take_lifetime take_mark take_group before rows_for rows run reads
+struct_two_public = not_read structure _ refl refl
+
+-- `pub(crate) pub(crate) struct A;`: nothing is read
+struct_two_restricted : Unread (rule structure)
+    (leaf (ident w_pub) (at 0 3) (group Paren (at 3 4) (at 9 10) (leaf (ident w_crate) (at 4 9) end) (leaf (ident w_pub) (at 11 14) (group Paren (at 14 15) (at 20 21) (leaf (ident w_crate) (at 15 20) end) (leaf (ident w_struct) (at 22 28) (leaf (ident (65 ∷ [])) (at 29 30) (punct 59 false (at 30 31) end)))))))
+unfolding left is_end at_front sees take_token take_lifetime take_mark take_group before rows_for rows run reads
+struct_two_restricted = not_read structure _ refl refl
+
+-- `struct pub A;`: nothing is read
+struct_public_name : Unread (rule structure)
+    (leaf (ident w_struct) (at 0 6) (leaf (ident w_pub) (at 7 10) (leaf (ident (65 ∷ [])) (at 11 12) (punct 59 false (at 12 13) end))))
+unfolding left is_end at_front sees take_token take_lifetime take_mark take_group before rows_for rows run reads
+struct_public_name = not_read structure _ refl refl
+
+-- `struct A pub;`: nothing is read
+struct_public_body : Unread (rule structure)
+    (leaf (ident w_struct) (at 0 6) (leaf (ident (65 ∷ [])) (at 7 8) (leaf (ident w_pub) (at 9 12) (punct 59 false (at 12 13) end))))
+unfolding left is_end at_front sees take_token take_lifetime take_mark take_group before rows_for rows run reads
+struct_public_body = not_read structure _ refl refl
+
+-- `;struct A;`: nothing is read
+struct_body_first : Unread (rule structure)
+    (punct 59 false (at 0 1) (leaf (ident w_struct) (at 1 7) (leaf (ident (65 ∷ [])) (at 8 9) (punct 59 false (at 9 10) end))))
+unfolding left is_end at_front sees take_token take_lifetime take_mark take_group before rows_for rows run reads
+struct_body_first = not_read structure _ refl refl
+
+-- `pub;struct A;`: nothing is read
+struct_body_behind_pub : Unread (rule structure)
+    (leaf (ident w_pub) (at 0 3) (punct 59 false (at 3 4) (leaf (ident w_struct) (at 4 10) (leaf (ident (65 ∷ [])) (at 11 12) (punct 59 false (at 12 13) end)))))
+unfolding left is_end at_front sees take_token take_lifetime take_mark take_group before rows_for rows run reads
+struct_body_behind_pub = not_read structure _ refl refl
+
+-- `struct (a); A;`: nothing is read
+struct_body_first_tuple : Unread (rule structure)
+    (leaf (ident w_struct) (at 0 6) (group Paren (at 7 8) (at 9 10) (leaf (ident (97 ∷ [])) (at 8 9) end) (punct 59 false (at 10 11) (leaf (ident (65 ∷ [])) (at 12 13) (punct 59 false (at 13 14) end)))))
+unfolding left is_end at_front sees take_token take_lifetime take_mark take_group before rows_for rows run reads
+struct_body_first_tuple = not_read structure _ refl refl
+
+-- `struct a::b;`: nothing is read
+struct_path : Unread (rule structure)
+    (leaf (ident w_struct) (at 0 6) (leaf (ident (97 ∷ [])) (at 7 8) (punct 58 true (at 8 9) (punct 58 false (at 9 10) (leaf (ident (98 ∷ [])) (at 10 11) (punct 59 false (at 11 12) end))))))
+unfolding left is_end at_front sees take_token take_lifetime take_mark take_group before rows_for rows run reads
+struct_path = not_read structure _ refl refl
+
+-- `struct A; pub struct B;` prints `struct A ;` and leaves `pub struct B;`
+struct_leaves_public : ReadsAs structure
+    (leaf (ident w_struct) (at 0 6) (leaf (ident (65 ∷ [])) (at 7 8) (punct 59 false (at 8 9) (leaf (ident w_pub) (at 10 13) (leaf (ident w_struct) (at 14 20) (leaf (ident (66 ∷ [])) (at 21 22) (punct 59 false (at 22 23) end)))))))
+    (leaf (ident w_struct) call_site (leaf (ident (65 ∷ [])) call_site (punct 59 false call_site end)))
+    (leaf (ident w_pub) (at 10 13) (leaf (ident w_struct) (at 14 20) (leaf (ident (66 ∷ [])) (at 21 22) (punct 59 false (at 22 23) end))))
+unfolding left is_end at_front sees take_token take_lifetime take_mark take_group before rows_for rows run reads
+struct_leaves_public = computed structure _ _ _ refl refl
+
+-- `struct A(b); struct C;` prints `struct A ( b ) ;` and leaves `struct C;`
+struct_leaves_struct : ReadsAs structure
+    (leaf (ident w_struct) (at 0 6) (leaf (ident (65 ∷ [])) (at 7 8) (group Paren (at 8 9) (at 10 11) (leaf (ident (98 ∷ [])) (at 9 10) end) (punct 59 false (at 11 12) (leaf (ident w_struct) (at 13 19) (leaf (ident (67 ∷ [])) (at 20 21) (punct 59 false (at 21 22) end)))))))
+    (leaf (ident w_struct) call_site (leaf (ident (65 ∷ [])) call_site (group Paren call_site call_site (leaf (ident (98 ∷ [])) call_site end) (punct 59 false call_site end))))
+    (leaf (ident w_struct) (at 13 19) (leaf (ident (67 ∷ [])) (at 20 21) (punct 59 false (at 21 22) end)))
+unfolding left is_end at_front sees take_token take_lifetime take_mark take_group before rows_for rows run reads
+struct_leaves_struct = computed structure _ _ _ refl refl
+
+-- `struct A; B` prints `struct A ;` and leaves `B`
+struct_leaves_name : ReadsAs structure
+    (leaf (ident w_struct) (at 0 6) (leaf (ident (65 ∷ [])) (at 7 8) (punct 59 false (at 8 9) (leaf (ident (66 ∷ [])) (at 10 11) end))))
+    (leaf (ident w_struct) call_site (leaf (ident (65 ∷ [])) call_site (punct 59 false call_site end)))
+    (leaf (ident (66 ∷ [])) (at 10 11) end)
+unfolding left is_end at_front sees take_token take_lifetime take_mark take_group before rows_for rows run reads
+struct_leaves_name = computed structure _ _ _ refl refl
+
+-- `struct A;;` prints `struct A ;` and leaves `;`
+struct_leaves_body : ReadsAs structure
+    (leaf (ident w_struct) (at 0 6) (leaf (ident (65 ∷ [])) (at 7 8) (punct 59 true (at 8 9) (punct 59 false (at 9 10) end))))
+    (leaf (ident w_struct) call_site (leaf (ident (65 ∷ [])) call_site (punct 59 false call_site end)))
+    (punct 59 false (at 9 10) end)
+unfolding left is_end at_front sees take_token take_lifetime take_mark take_group before rows_for rows run reads
+struct_leaves_body = computed structure _ _ _ refl refl
+
+-- `struct self;`: nothing is read
+struct_self : Unread (rule structure)
+    (leaf (ident w_struct) (at 0 6) (leaf (ident w_self) (at 7 11) (punct 59 false (at 11 12) end)))
+unfolding left is_end at_front sees take_token take_lifetime take_mark take_group before rows_for rows run reads
+struct_self = not_read structure _ refl refl
+
+-- `struct Self;`: nothing is read
+struct_self_type : Unread (rule structure)
+    (leaf (ident w_struct) (at 0 6) (leaf (ident w_Self_type) (at 7 11) (punct 59 false (at 11 12) end)))
+unfolding left is_end at_front sees take_token take_lifetime take_mark take_group before rows_for rows run reads
+struct_self_type = not_read structure _ refl refl
+
+-- `struct super;`: nothing is read
+struct_super : Unread (rule structure)
+    (leaf (ident w_struct) (at 0 6) (leaf (ident w_super) (at 7 12) (punct 59 false (at 12 13) end)))
+unfolding left is_end at_front sees take_token take_lifetime take_mark take_group before rows_for rows run reads
+struct_super = not_read structure _ refl refl
+
+-- `struct crate;`: nothing is read
+struct_crate : Unread (rule structure)
+    (leaf (ident w_struct) (at 0 6) (leaf (ident w_crate) (at 7 12) (punct 59 false (at 12 13) end)))
+unfolding left is_end at_front sees take_token take_lifetime take_mark take_group before rows_for rows run reads
+struct_crate = not_read structure _ refl refl
+
+-- `struct _;`: nothing is read
+struct_underscore : Unread (rule structure)
+    (leaf (ident w_struct) (at 0 6) (leaf (ident w_underscore) (at 7 8) (punct 59 false (at 8 9) end)))
+unfolding left is_end at_front sees take_token take_lifetime take_mark take_group before rows_for rows run reads
+struct_underscore = not_read structure _ refl refl
+
+-- `struct struct;`: nothing is read
+struct_struct : Unread (rule structure)
+    (leaf (ident w_struct) (at 0 6) (leaf (ident w_struct) (at 7 13) (punct 59 false (at 13 14) end)))
+unfolding left is_end at_front sees take_token take_lifetime take_mark take_group before rows_for rows run reads
+struct_struct = not_read structure _ refl refl
+
+-- `struct 1;`: nothing is read
+struct_literal : Unread (rule structure)
+    (leaf (ident w_struct) (at 0 6) (leaf (literal Int (49 ∷ [])) (at 7 8) (punct 59 false (at 8 9) end)))
+unfolding left is_end at_front sees take_token take_lifetime take_mark take_group before rows_for rows run reads
+struct_literal = not_read structure _ refl refl
+
+-- `struct union;` prints `struct union ;`
+struct_union : ReadsAs structure
+    (leaf (ident w_struct) (at 0 6) (leaf (ident w_union) (at 7 12) (punct 59 false (at 12 13) end)))
+    (leaf (ident w_struct) call_site (leaf (ident w_union) call_site (punct 59 false call_site end)))
+    (end)
+unfolding left is_end at_front sees take_token take_lifetime take_mark take_group before rows_for rows run reads
+struct_union = computed structure _ _ _ refl refl
+
+-- `struct auto;` prints `struct auto ;`
+struct_auto : ReadsAs structure
+    (leaf (ident w_struct) (at 0 6) (leaf (ident w_auto) (at 7 11) (punct 59 false (at 11 12) end)))
+    (leaf (ident w_struct) call_site (leaf (ident w_auto) call_site (punct 59 false call_site end)))
+    (end)
+unfolding left is_end at_front sees take_token take_lifetime take_mark take_group before rows_for rows run reads
+struct_auto = computed structure _ _ _ refl refl
+
+-- `struct default;` prints `struct default ;`
+struct_default : ReadsAs structure
+    (leaf (ident w_struct) (at 0 6) (leaf (ident w_default) (at 7 14) (punct 59 false (at 14 15) end)))
+    (leaf (ident w_struct) call_site (leaf (ident w_default) call_site (punct 59 false call_site end)))
+    (end)
+unfolding left is_end at_front sees take_token take_lifetime take_mark take_group before rows_for rows run reads
+struct_default = computed structure _ _ _ refl refl
+
+-- `struct safe;` prints `struct safe ;`
+struct_safe : ReadsAs structure
+    (leaf (ident w_struct) (at 0 6) (leaf (ident w_safe) (at 7 11) (punct 59 false (at 11 12) end)))
+    (leaf (ident w_struct) call_site (leaf (ident w_safe) call_site (punct 59 false call_site end)))
+    (end)
+unfolding left is_end at_front sees take_token take_lifetime take_mark take_group before rows_for rows run reads
+struct_safe = computed structure _ _ _ refl refl
 
 -- `pub struct A(u8);` prints `pub struct A ( u8 ) ;`
 derive_public : ReadsAs derive_input
@@ -588,3 +1428,23 @@ derive_nothing : Unread (rule derive_input)
     (end)
 unfolding left is_end at_front sees take_token take_lifetime take_mark take_group before rows_for rows run reads
 derive_nothing = not_read derive_input _ refl refl
+
+-- `struct A; struct B;` prints `struct A ;` and leaves `struct B;`
+derive_leaves_struct : ReadsAs derive_input
+    (leaf (ident w_struct) (at 0 6) (leaf (ident (65 ∷ [])) (at 7 8) (punct 59 false (at 8 9) (leaf (ident w_struct) (at 10 16) (leaf (ident (66 ∷ [])) (at 17 18) (punct 59 false (at 18 19) end))))))
+    (leaf (ident w_struct) call_site (leaf (ident (65 ∷ [])) call_site (punct 59 false call_site end)))
+    (leaf (ident w_struct) (at 10 16) (leaf (ident (66 ∷ [])) (at 17 18) (punct 59 false (at 18 19) end)))
+unfolding left is_end at_front sees take_token take_lifetime take_mark take_group before rows_for rows run reads
+derive_leaves_struct = computed derive_input _ _ _ refl refl
+
+-- `pub`: nothing is read
+derive_public_alone : Unread (rule derive_input)
+    (leaf (ident w_pub) (at 0 3) end)
+unfolding left is_end at_front sees take_token take_lifetime take_mark take_group before rows_for rows run reads
+derive_public_alone = not_read derive_input _ refl refl
+
+-- `;`: nothing is read
+derive_semicolon : Unread (rule derive_input)
+    (punct 59 false (at 0 1) end)
+unfolding left is_end at_front sees take_token take_lifetime take_mark take_group before rows_for rows run reads
+derive_semicolon = not_read derive_input _ refl refl

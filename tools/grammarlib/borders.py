@@ -1,0 +1,96 @@
+"""The borders of a rule: each change of its form (mutants.py) must be told by a worked example of that rule.
+
+An example tells a change where the changed table reads it otherwise than the example says. Changes that alter nothing of what is
+read and printed are named, with the reason, in tools/equivalent_mutants.txt.
+"""
+from .antt import Fault
+from .antt_text import Writer
+from .apart import Apart
+from .complaints import Tests
+from .mutants import ANY_REST, Mutants, places
+from .ranks import ranks
+from .reader import Reader, Refused
+from .starts import Starts
+from .tokens import Stream, read_text, stream
+
+
+def read_equivalent(path):
+    """The reason of each change that is named as one that alters nothing, by its rule and its words."""
+    found = {}
+    for number, line in enumerate(path.read_text().split('\n') if path.exists() else [], 1):
+        if not line.strip() or line.startswith('#'):
+            continue
+        parts = [p.strip() for p in line.split(' | ')]
+        if len(parts) != 3 or not all(parts):
+            raise Fault(f'{path.name}, line {number}: a line is `rule | change | reason`')
+        if tuple(parts[:2]) in found:
+            raise Fault(f'{path.name}, line {number}: it stands twice')
+        found[tuple(parts[:2])] = parts[2]
+    return found
+
+
+class WrongReader(Reader):
+    """A reader of a changed table, which may have one form more."""
+
+    def read_any_rest(self, form, here):
+        return ('tokens', tuple(here.trees())), Stream()
+
+
+class Prepared:
+    """An example with its trees."""
+
+    def __init__(self, example):
+        self.name, self.rule, self.unread = example.name, example.rule, example.unread
+        self.stream = stream(read_text(example.text))
+        self.printed = None if example.printed is None else list(read_text(example.printed))
+        self.rest = list(read_text(example.rest))
+
+    def agrees(self, reader):
+        """The reader reads it as the example says."""
+        try:
+            tree, rest = reader.read(('rule', (self.rule,)), self.stream)
+        except Refused:
+            return self.printed is None
+        except RecursionError:
+            return False
+        left = rest.trees()
+        if self.printed is None:
+            return bool(left) and not self.unread
+        return left == self.rest and reader.print(tree) == self.printed
+
+
+class Borders:
+    def __init__(self, fronts, table, examples, equivalent):
+        self.fronts, self.table, self.equivalent = fronts, table, equivalent
+        self.mutants = Mutants(fronts, table)
+        self.examples = {rule: [Prepared(e) for e in examples if e.rule == rule] for rule in table}
+
+    def reader(self, mutant):
+        return WrongReader(self.fronts, {**self.table, mutant.rule: mutant.form})
+
+    def told(self, mutant):
+        """The name of an example of the rule that tells this change, or None."""
+        reader = self.reader(mutant)
+        return next((p.name for p in self.examples[mutant.rule] if not p.agrees(reader)), None)
+
+    def law(self, mutant):
+        """The complaint by which a law refuses the changed table, or None."""
+        if any(part == ANY_REST for _, part in places(mutant.form)):
+            return None
+        starts = Starts(self.fronts, {**self.table, mutant.rule: mutant.form})
+        found = Tests(starts, Writer(self.fronts.source).look).complaints() + Apart(starts).complaints() + ranks(starts)[1]
+        return found[0].code if found else None
+
+    def lacking(self):
+        """What tools/examples.txt and the list of equivalent changes lack, one line each."""
+        lines, known = [], set()
+        for rule in self.table:
+            for mutant in self.mutants.of(rule):
+                known.add((rule, mutant.change))
+                listed, told = (rule, mutant.change) in self.equivalent, self.told(mutant)
+                if listed and told:
+                    lines.append(f'`{rule}`: the change "{mutant.change}" is listed as one that alters nothing, but the example `{told}` tells it')
+                elif not listed and not told:
+                    lines.append(f'`{rule}`: no example tells the table from one in which {mutant.change}')
+        return lines + [f'`{rule}`: "{change}" is listed as a change that alters nothing, but is no change of this rule'
+                        for rule, change in self.equivalent if (rule, change) not in known]
