@@ -2,7 +2,7 @@
 """Checks the table of the written grammar and writes what the proofs need to know of each rule.
 
     tools/grammar.py            reads crates/syn_grammar/specs/Table.antt, checks it, and writes the other files
-    tools/grammar.py --check    writes nothing; fails where a written file isn't what it would write
+    tools/grammar.py --check    writes nothing; fails where a written file isn't what it would write, or where the examples lack something
     tools/grammar.py --crate F  the same of the crate in the folder F
 
 Fails, with a complaint for each fault, where the table breaks a test that the laws need (docs/GRAMMAR.md says what each means)."""
@@ -60,23 +60,21 @@ def complain(complaints):
         print(f'{code}: {EXPLAINED[code]}', file=sys.stderr)
 
 
-def main():
-    parser = argparse.ArgumentParser(description=__doc__, formatter_class=argparse.RawDescriptionHelpFormatter)
-    parser.add_argument('--check', action='store_true', help='write nothing, and fail where a file differs')
-    parser.add_argument('--crate', type=Path, default=HERE.parent / 'crates' / 'syn_grammar')
-    options = parser.parse_args()
-    lacking = []
+def read_table(crate):
+    """The table, the files that it gives, and what its examples lack. Ends the script where the table is refused."""
     try:
-        source = Source(options.crate)
+        source = Source(crate)
         files, complaints = checked(source)
-        if not complaints:
-            more, lacking = worked_examples(source)
-            files |= more
+        if complaints:
+            complain(complaints)
+            sys.exit(f'grammar: {len(complaints)} complaints; nothing was written')
+        examples, lacking = worked_examples(source)
+        return source, files | examples, lacking
     except Fault as fault:
         sys.exit(f'grammar: {fault}')
-    if complaints:
-        complain(complaints)
-        sys.exit(f'grammar: {len(complaints)} complaints; nothing was written')
+
+
+def tell_unexplained(source):
     for name in source.without_sentence():
         print(f'grammar: no sentence explains `{name}`', file=sys.stderr)
     page = HERE.parent / 'docs' / 'GRAMMAR.md'
@@ -84,6 +82,15 @@ def main():
     for rule in source.rules:
         if f'`{rule}`' not in told:
             print(f'grammar: docs/GRAMMAR.md doesn\'t tell of the rule `{rule}`', file=sys.stderr)
+
+
+def main():
+    parser = argparse.ArgumentParser(description=__doc__, formatter_class=argparse.RawDescriptionHelpFormatter)
+    parser.add_argument('--check', action='store_true', help='write nothing, and fail where a file differs or the examples lack something')
+    parser.add_argument('--crate', type=Path, default=HERE.parent / 'crates' / 'syn_grammar')
+    options = parser.parse_args()
+    source, files, lacking = read_table(options.crate)
+    tell_unexplained(source)
     tell_lacking(lacking)
     stale = [p for p, text in files.items() if not (options.crate / p).exists() or (options.crate / p).read_text() != text]
     if options.check:

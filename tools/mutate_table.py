@@ -45,7 +45,7 @@ def fate(borders, mutant):
 
 
 def chosen(borders, options):
-    """The changes that are tried, and those of what tokens promise to tell, which no example can tell."""
+    """The changes that are tried."""
     rules = [options.rule] if options.rule else list(borders.table)
     found = [m for rule in rules for m in borders.mutants.of(rule)]
     if options.count and options.count < len(found):
