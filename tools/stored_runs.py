@@ -1,0 +1,200 @@
+#!/usr/bin/env python3
+"""Runs the built programs as their files crates/NAME/runs.txt say, and fails where a status or a byte that one wrote differs.
+
+Each program is run as it stands in crates/NAME/out: what `./run --prove` or `rt run` has built, and both builds that `rt ci`
+leaves there. A program that isn't built, or is older than a file that it is built of, is a failure too. Names of crates may be given: then
+those alone are run.
+
+A file runs.txt holds runs apart by empty lines. Each line of one is a word, a colon and a value; a line with `#` is a comment.
+
+    run        what is shown, which names the run
+    args       the words after the program's name, with the shell's quotes
+    input      what stands on standard input: text in which \\n, \\t, \\\\ and \\xNN are a line break, a tab, a backslash and a byte
+    times      how often that text stands there (a number; once if left out)
+    status     the exit status
+    output     what it must write to standard output, as `input` is written (nothing if left out)
+    faults     what it must write to standard error, in the same way
+    stdin, stdout, stderr     `closed`, `full` (the device that takes no byte) or `folder` (one that no byte can be read from),
+                              in place of a pipe; nothing is compared then
+    memory     how many MiB of address space the run has
+"""
+
+import argparse
+import os
+import re
+import resource
+import shlex
+import subprocess
+import sys
+from dataclasses import dataclass, field
+from pathlib import Path
+
+TOP = Path(__file__).resolve().parent.parent
+WORDS = {"run", "args", "input", "times", "status", "output", "faults", "stdin", "stdout", "stderr", "memory"}
+# How the name of what each compiler built ends.
+BUILDS = ("", ".by-rattle")
+ESCAPES = {b"n": b"\n", b"t": b"\t", b"\\": b"\\"}
+SECONDS = 60
+
+
+@dataclass
+class Run:
+    """One run of a program: the words, what it is given, and what it must answer."""
+
+    name: str
+    args: list
+    input: bytes
+    status: int
+    output: bytes
+    faults: bytes
+    places: dict = field(default_factory=dict)
+    memory: int = 0
+
+
+def bytes_of(text):
+    """The bytes that a value of runs.txt stands for."""
+
+    def replaced(found):
+        name = found[1]
+        if name in ESCAPES:
+            return ESCAPES[name]
+        if name.startswith(b"x"):
+            return bytes([int(name[1:], 16)])
+        raise ValueError(f"\\{name.decode()} is no escape")
+
+    return re.sub(rb"\\(x[0-9a-f]{2}|.|$)", replaced, text.encode())
+
+
+def run_of(lines):
+    """The run that the lines, `word: value` each, tell of."""
+    words = {}
+    for line in lines:
+        word, colon, value = line.partition(":")
+        if not colon or word not in WORDS or word in words:
+            raise ValueError(f"no line of a run: {line}")
+        words[word] = value.removeprefix(" ")
+    for word in ("run", "args", "status"):
+        if word not in words:
+            raise ValueError(f"a run has no `{word}`: {lines[0]}")
+    return Run(
+        name=words["run"],
+        args=shlex.split(words["args"]),
+        input=bytes_of(words.get("input", "")) * int(words.get("times", 1)),
+        status=int(words["status"]),
+        output=bytes_of(words.get("output", "")),
+        faults=bytes_of(words.get("faults", "")),
+        places={it: words[it] for it in ("stdin", "stdout", "stderr") if it in words},
+        memory=int(words.get("memory", 0)),
+    )
+
+
+def runs_of(text):
+    """The runs of a file runs.txt."""
+    runs, lines = [], []
+    for line in [*text.splitlines(), ""]:
+        if line.startswith("#"):
+            continue
+        if line:
+            lines.append(line)
+        elif lines:
+            runs.append(run_of(lines))
+            lines = []
+    return runs
+
+
+def place_of(number, place):
+    """Puts what `place` names in the place of the open file of that number."""
+    os.close(number)
+    if place == "closed":
+        return
+    path, how = {"full": ("/dev/full", os.O_WRONLY), "folder": ("/", os.O_RDONLY)}[place]
+    opened = os.open(path, how)
+    if opened == number:
+        os.set_inheritable(number, True)
+    else:
+        os.dup2(opened, number)
+        os.close(opened)
+
+
+def differences(program, run):
+    """What the program does otherwise than the run says, in words."""
+
+    def prepare():
+        resource.setrlimit(resource.RLIMIT_CORE, (0, 0))
+        if run.memory:
+            resource.setrlimit(resource.RLIMIT_AS, (run.memory << 20, run.memory << 20))
+        for number, stream in enumerate(("stdin", "stdout", "stderr")):
+            if stream in run.places:
+                place_of(number, run.places[stream])
+
+    how = {"stdout": subprocess.PIPE, "stderr": subprocess.PIPE, "input": run.input, "cwd": "/", "env": {}}
+    try:
+        ended = subprocess.run([program, *run.args], preexec_fn=prepare, timeout=SECONDS, **how)
+    except subprocess.TimeoutExpired:
+        return [f"it had not ended after {SECONDS} seconds"]
+    found = []
+    if ended.returncode != run.status:
+        found.append(f"status {ended.returncode} in place of {run.status}")
+    for stream, wrote, wanted in (("stdout", ended.stdout, run.output), ("stderr", ended.stderr, run.faults)):
+        if stream not in run.places and wrote != wanted:
+            found.append(f"{stream} {wrote[:200]!r} in place of {wanted[:200]!r}")
+    return found
+
+
+def sources_of(crate):
+    """The crate and the crates of the repository that it stands on."""
+    below = dict(re.findall(r"(?m)^(\w+)[^:\n]*:(.*)$", (TOP / "crates.txt").read_text()))
+    found, left = set(), [crate]
+    while left:
+        name = left.pop()
+        if name not in found and (TOP / "crates" / name).is_dir():
+            found.add(name)
+            left += below.get(name, "").split()
+    return found
+
+
+def builds_of(crate):
+    """The builds of a program. It fails where there is none, or a source is newer."""
+    builds = [path for path in (TOP / "crates" / crate / "out" / (crate + end) for end in BUILDS) if path.is_file()]
+    if not builds:
+        raise ValueError(f"{crate} isn't built: ./run --prove, rt run in its folder or rt ci builds it")
+    files = [it for name in sources_of(crate) for it in (TOP / "crates" / name / "src").rglob("*.rt")]
+    newest = max(files, key=lambda it: it.stat().st_mtime)
+    for path in builds:
+        if path.stat().st_mtime < newest.stat().st_mtime:
+            raise ValueError(f"{path.relative_to(TOP)} is older than {newest.relative_to(TOP)}: build it again")
+    return builds
+
+
+def tried(crate):
+    """Runs what the file of the crate says, and returns how many runs there were and how many differ."""
+    runs = runs_of((TOP / "crates" / crate / "runs.txt").read_text())
+    count = failures = 0
+    for path in builds_of(crate):
+        for run in runs:
+            count += 1
+            found = differences(str(path), run)
+            failures += bool(found)
+            for it in found:
+                print(f"stored_runs: {path.name}: {run.name}: {it}")
+    return count, failures
+
+
+def main():
+    parser = argparse.ArgumentParser(description=__doc__, formatter_class=argparse.RawDescriptionHelpFormatter)
+    parser.add_argument("crates", nargs="*", help="the crates whose runs are tried (all that have a runs.txt)")
+    crates = parser.parse_args().crates or sorted(path.parent.name for path in TOP.glob("crates/*/runs.txt"))
+    total = wrong = 0
+    for crate in crates:
+        try:
+            count, failures = tried(crate)
+        except (ValueError, OSError) as why:
+            print(f"stored_runs: {crate}: {why}")
+            count, failures = 0, 1
+        total, wrong = total + count, wrong + failures
+    print(f"stored_runs: {total} runs, {wrong} failed")
+    sys.exit(1 if wrong or not total else 0)
+
+
+if __name__ == "__main__":
+    main()
