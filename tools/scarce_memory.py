@@ -13,6 +13,7 @@ takes memory once, however deep the stream is.
 Nothing is proved here; each number takes some 20 seconds, and of copies a minute.
 """
 
+import argparse
 import functools
 import re
 import subprocess
@@ -76,15 +77,16 @@ def copies():
 
 
 def main():
-    if sys.argv[1:] == ["copies"]:
+    parser = argparse.ArgumentParser(description=__doc__, formatter_class=argparse.RawDescriptionHelpFormatter)
+    parser.add_argument("crate", nargs="?", default="syn", choices=[*JUDGED, "copies"])
+    parser.add_argument("first", nargs="?", type=int, default=1)
+    parser.add_argument("last", nargs="?", type=int, default=60)
+    options = parser.parse_args()
+    crate = options.crate
+    if crate == "copies":
         copies()
-    crate = sys.argv[1] if len(sys.argv) > 1 else "syn"
-    if crate not in JUDGED:
-        sys.exit(f"{crate}: only {' and '.join(JUDGED)} have such tests")
-    first = int(sys.argv[2]) if len(sys.argv) > 2 else 1
-    last = int(sys.argv[3]) if len(sys.argv) > 3 else 60
     wrong = 0
-    for number in range(first, last + 1):
+    for number in range(options.first, options.last + 1):
         tests = run(crate, number)
         if not tests:
             sys.exit(f"{crate}, request {number}: no test ran")

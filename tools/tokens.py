@@ -5,6 +5,7 @@ src/token/kind/*.rt, specs/Kinds*.antt.
 Run it at the top of the repository; what it writes is committed. With --check it writes nothing, and fails where a file
 isn't as it would write it."""
 
+import argparse
 import sys
 from pathlib import Path
 
@@ -289,8 +290,11 @@ def outputs():
 
 
 def main():
+    parser = argparse.ArgumentParser(description=__doc__, formatter_class=argparse.RawDescriptionHelpFormatter)
+    parser.add_argument("--check", action="store_true", help="write nothing, and fail where a file isn't as it would be written")
+    options = parser.parse_args()
     files = outputs()
-    if "--check" in sys.argv[1:]:
+    if options.check:
         stale = [str(path) for path, text in files.items() if not path.is_file() or path.read_text() != text]
         if stale:
             sys.exit("tokens: not as this script writes them: " + ", ".join(stale))

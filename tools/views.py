@@ -6,6 +6,7 @@ would still hold.
 Run it at the top of the repository: tools/views.py --check. A field may be absent only where its type has no values or
 nothing in it (`pub enum Attribute {}`, `pub struct FieldModifiers {}`)."""
 
+import argparse
 import re
 import sys
 from pathlib import Path
@@ -31,6 +32,9 @@ def shown_fields(views):
 
 
 def main():
+    parser = argparse.ArgumentParser(description=__doc__, formatter_class=argparse.RawDescriptionHelpFormatter)
+    parser.add_argument("--check", action="store_true", help="what it does without a word too: it never writes")
+    parser.parse_args()
     code = sources()
     shown = shown_fields((CRATE / "specs/Views.antt").read_text())
     empty = set(EMPTY.findall(code))
