@@ -1,13 +1,31 @@
 #!/usr/bin/env python3
-"""Tests of try_edits.py."""
+"""Tests of try_edits.py and of its parts. None of them runs the prover: what it says is recorded."""
 
+import contextlib
+import io
+import os
 import tempfile
 import unittest
 from pathlib import Path
+from types import SimpleNamespace
 
-from try_edits import applied, batches, block_of, function_at, is_refused, pairs_of
+import try_edits
+from editlib import rooms
+from editlib.cores import Cores
+from editlib.edits import Source, Unfit, edits_of, packs, read, with_clauses
+from editlib.functions import block_of, functions_of, types_of
+from editlib.refusals import answer_of, clause_of
 
-SOURCE = """fn free() -> u8 {
+SOURCE = """use std::fmt;
+
+const LIMIT: usize = 4;
+
+pub trait Compared {
+    fn is_same(&self) -> bool
+        ensures same { result ≡ true };
+}
+
+fn free() -> u8 {
     1
 }
 
@@ -17,23 +35,50 @@ impl<T: Compared> Compared for Box<T> {
     }
 }
 
+pub struct Name {
+    first: u8,
+}
+
 impl Name {
-    pub fn first(&self) -> u8 {
+    pub fn first(&self) -> u8
+        ensures value { result ≡ 2 }
+        ensures small { result ≤ 4 }
+    {
         2
     }
-    pub fn second(&self) -> u8 {
+
+    pub(super) fn second(
+        &self,
+        other: u8,
+    ) -> u8
+        ensures { result ≡ 3 }
+    {
         3
     }
+
+    pub(crate) fn law(&self)
+        ensures { 1 ≡ 1 }
+    {}
 }
 """
 
-EDIT = """file: src/lib.rt
-old:         2
-new:         4
+SAID = """checked low::Name::first, 1 of 4
+./proofs/Name/second/Answers.antt:12:5: error: `returns-in_err-field-clause-outcome`: as printed, the two types differ
+./proofs/other/Answers.antt:3:9: error: `returns`: `c.gone` has no field `new`
+struct low::Name: proved
+note: src/lib.rt:26:5: it is not proved that what the function ensures holds when it returns (`returns-clause-value`); may be false
+note: ./src/lib.rt:38:9: it is not proved that what the function ensures holds when it returns (`returns-clause-unchanged`)
+fn low::Name::first: no proof: expected answers in ./proofs/Name/first/Answers.antt; `search` did not prove `returns-clause-value`, `loop-c-preserved`
+fn low::fn::Name::law::all+FnMut::call_mut: no proof: expected answers in ./proofs; `search` did not prove `step-requires`
+fn low::Name::law: proved
+fn low::Name::second: not proved; it calls `low::Name::first`, which is not proved
+fn low::free: no proof: it calls `low::Name::first`, which is not proved
+fn low::other: not proved
+logic=not-proved
 """
 
 
-class Names(unittest.TestCase):
+class Functions(unittest.TestCase):
     def test_blocks_have_the_names_of_the_prover(self):
         for header, name in [
             ("impl<'a> ParseBuffer<'a> {", "ParseBuffer"),
@@ -43,48 +88,284 @@ class Names(unittest.TestCase):
             ("impl<K: OneCharacter> MarkKind<1> for K {", "AnyMarkKind1"),
             ("impl<T: Compared, P: Compared> Compared for (T, P) {", "Tuple2Compared"),
             ("impl<'a, T, P> IntoIterator for &'a Punctuated<T, P> {", "RefPunctuatedIntoIterator"),
+            ("impl<'a, T, P> IntoIterator for &'a mut Punctuated<T, P> {", "RefMutPunctuatedIntoIterator"),
         ]:
             self.assertEqual(block_of(header), name)
 
-    def test_functions_are_found_by_their_place(self):
-        for inside, name in [("    1", "free"), ("        true", "BoxCompared::is_same"), ("        3", "Name::second"), ("fn free", "")]:
-            self.assertEqual(function_at(SOURCE, SOURCE.index(inside)), name)
+    def test_a_method_has_the_name_of_its_types_module(self):
+        texts = {"src/name.rt": "pub struct Name {\n    first: u8,\n}\n", "src/name/more.rt": "impl Name {\n    fn f() {}\n}\n"}
+        (found,) = functions_of("src/name/more.rt", texts["src/name/more.rt"], types_of(texts))
+        self.assertEqual(found.name, "name::Name::f")
+
+    def test_bodies_contracts_and_traits_are_found(self):
+        found = {it.name: it for it in functions_of("src/lib.rt", SOURCE, {})}
+        self.assertEqual(
+            {name: it.clauses for name, it in found.items()},
+            {
+                "Compared::is_same": ("same",),
+                "free": (),
+                "BoxCompared::is_same": (),
+                "Name::first": ("value", "small"),
+                "Name::second": ("returns",),
+                "Name::law": ("returns",),
+            },
+        )
+        self.assertIsNone(found["Compared::is_same"].body)
+        lines = SOURCE.split("\n")
+        for name, inside, above in [("Name::first", "        2", "        ensures value"), ("Name::second", "        3", "    ) -> u8")]:
+            self.assertTrue(found[name].has_in_body(lines.index(inside), 8))
+            at = next(i for i, line in enumerate(lines) if line.startswith(above) and i >= found[name].first)
+            self.assertFalse(found[name].has_in_body(at, 8))
 
 
-class Edits(unittest.TestCase):
+class InCrate(unittest.TestCase):
+    """Tests with a crate of the file above."""
+
     def setUp(self):
-        self.folder = tempfile.TemporaryDirectory()
-        self.addCleanup(self.folder.cleanup)
-        self.crate = Path(self.folder.name)
-        (self.crate / "src").mkdir()
+        folder = tempfile.TemporaryDirectory()
+        self.addCleanup(folder.cleanup)
+        self.top = Path(folder.name)
+        self.crate = self.top / "crates" / "low"
+        (self.crate / "src").mkdir(parents=True)
+        (self.crate / "edits").mkdir()
         (self.crate / "src/lib.rt").write_text(SOURCE)
 
-    def edit(self, name, text):
-        path = self.crate / name
-        path.write_text(text)
+    def edit(self, name, *lines):
+        path = self.crate / "edits" / f"{name}.edit"
+        path.write_text("\n".join(["file: src/lib.rt", *lines, ""]))
         return path
 
+
+class Edits(InCrate):
     def test_an_edit_changes_its_function(self):
-        pairs = pairs_of(self.edit("a.edit", EDIT))
-        self.assertEqual(pairs, [("src/lib.rt", "        2", "        4")])
-        texts, functions = applied({}, self.crate, pairs)
-        self.assertEqual(functions, {"Name::first"})
-        self.assertIn("        4\n", texts["src/lib.rt"])
-        self.assertIsNone(applied(texts, self.crate, pairs), "what it changes stands there no more")
+        self.edit("a", "old:         2", "new:         4")
+        source, (edit,), unfit = edits_of(self.crate)
+        self.assertEqual((edit.functions, edit.is_outside, unfit), ({"low::Name::first"}, False, []))
+        texts = source.applied({}, edit)[0]
+        self.assertIn("\n        4\n", texts["src/lib.rt"])
+        with self.assertRaises(Unfit):
+            source.applied(texts, edit)
 
-    def test_edits_of_one_function_stand_apart(self):
-        edits = [self.edit("a.edit", EDIT), self.edit("b.edit", EDIT.replace("4", "5")), self.edit("c.edit", EDIT.replace("2", "3"))]
-        found = batches(self.crate, edits, False)
-        self.assertEqual([[edit.name for edit, _ in batch["edits"]] for batch in found], [["a.edit", "c.edit"], ["b.edit"]])
-        self.assertEqual(len(batches(self.crate, edits, True)), 3)
+    def test_a_text_that_stands_twice_needs_its_function(self):
+        (self.crate / "src/lib.rt").write_text(SOURCE.replace("        3\n", "        2\n"))
+        self.edit("a", "old:         2", "new:         4")
+        self.edit("b", "in: Name::second", "old:         2", "new:         4")
+        _, found, unfit = edits_of(self.crate)
+        self.assertEqual([(it.name, it.functions) for it in found], [("b", {"low::Name::second"})])
+        self.assertIn("2 times", unfit[0][1])
 
-    def test_a_function_is_refused_for_itself(self):
-        said = [
-            ("low::Name::first", "no proof: expected answers in ./proofs/Name/first/Answers.antt; `search` did not prove `returns`"),
-            ("low::Name::second", "no proof: it calls `low::Name::first`, which is not proved"),
-            ("low::free", "proved"),
-        ]
-        self.assertEqual([is_refused(name, said) for name in ("Name::first", "Name::second", "free")], [True, False, False])
+    def test_what_no_longer_applies_is_told(self):
+        self.edit("gone", "old: 77", "new: 78")
+        self.edit("nowhere", "in: Name::third", "old:         2", "new:         4")
+        self.edit("half", "old: 1")
+        self.edit("no_file", "old: fn free() -> u8 {", "new: fn free() -> u8 { 2; ", "file: src/b.rt", "old: x", "new: y")
+        self.assertEqual([path.stem for path, _ in edits_of(self.crate)[2]], ["gone", "half", "no_file", "nowhere"])
+
+    def test_what_is_no_body_is_told(self):
+        for name, old, new in [
+            ("table", "LIMIT: usize = 4", "LIMIT: usize = 5"),
+            ("contract", "ensures small { result ≤ 4 }", "ensures small { result ≤ 5 }"),
+            ("head", "fn free() -> u8 {", "fn free() -> u16 {"),
+        ]:
+            self.edit(name, f"old: {old}", f"new: {new}")
+        self.edit("body_behind_head", "old: fn free() -> u8 {", "new: fn free() -> u8 { return 2;")
+        self.assertEqual([it.name for it in edits_of(self.crate)[1] if not it.is_outside], ["body_behind_head"])
+
+    def test_packs_hold_edits_of_different_functions(self):
+        self.edit("a", "old:         2", "new:         4")
+        self.edit("b", "old:         2", "new:         5")
+        self.edit("c", "old:         3", "new:         6")
+        self.edit("d", "old: LIMIT: usize = 4", "new: LIMIT: usize = 5")
+        self.edit("e", "old:     1", "new:     7")
+        source, found, _ = edits_of(self.crate)
+        names = lambda size: [[edit.name for edit in pack.edits] for pack in packs(source, found, size)]
+        self.assertEqual(names(9), [["a", "c", "e"], ["b"], ["d"]])
+        self.assertEqual(names(2), [["a", "c"], ["b", "e"], ["d"]])
+        self.assertEqual(names(1), [["a"], ["b"], ["c"], ["d"], ["e"]])
+        self.assertIn("\n        4\n", packs(source, found, 9)[0].texts["src/lib.rt"])
+
+    def test_clauses_are_read_and_written(self):
+        path = self.edit("a", "old:         2", "new:         4")
+        path.write_text(with_clauses(path.read_text(), ["value"]))
+        self.assertTrue(path.read_text().startswith("clause: value\nfile: src/lib.rt\n"))
+        self.assertEqual(read(path).clauses, ["value"])
+        self.assertEqual(with_clauses(path.read_text(), ["small"]).count("clause:"), 1)
+
+    def test_a_trait_says_what_its_methods_promise(self):
+        source = Source(self.crate)
+        self.assertEqual(source.clauses_of("low::BoxCompared::is_same"), ("same",))
+        self.assertEqual(source.only_clause("low::BoxCompared::is_same"), "same")
+        self.assertEqual(source.only_clause("low::Name::first"), "returns")
+
+
+class Refusals(InCrate):
+    def answer(self, said=SAID, changed=("src/lib.rt",)):
+        return answer_of(said, "low", Source(self.crate).function_around, set(changed))
+
+    def test_goals_are_told_of_their_functions(self):
+        answer = self.answer()
+        self.assertEqual(answer.of("low::Name::first").goals, ["returns-clause-value", "loop-c-preserved"])
+        self.assertEqual(answer.of("low::Name::law").goals, ["step-requires"], "those of the closures in it")
+        self.assertEqual(answer.of("low::Name::second").goals, ["returns-in_err-field-clause-outcome", "returns-clause-unchanged"])
+        self.assertEqual(answer.of("low::free").goals, [], "only what it calls is refused")
+        self.assertIsNone(answer.of("low::nobody"))
+
+    def test_a_proof_that_names_what_is_gone_is_no_refusal(self):
+        told = self.answer().of("low::other")
+        self.assertEqual((told.goals, told.is_gone), ([], True))
+
+    def test_what_cannot_be_read_is_told(self):
+        for line in ["src/lib.rt:3:1: error[E0308]: mismatched types", "./specs/Views.antt:3:1: error: `view`: `x` is not in scope"]:
+            self.assertEqual(self.answer(line + "\n", ["src/lib.rt", "specs/Views.antt"]).unread, [line])
+        false = "specs/Views.antt:3:1: error: `law`: the two sides differ"
+        self.assertEqual(self.answer(false + "\n", ["specs/Views.antt"]).unread, [])
+
+    def test_a_goal_names_its_clause(self):
+        for goal, clause in [
+            ("returns-in_err-read-2-clause-reads", "reads"),
+            ("returns-then-is_same", "same"),
+            ("invariant_of-self-2", "invariant"),
+            ("loop-character-preserved", None),
+            ("step_to-requires-clause-within", None),
+            ("overflow_add-self", None),
+        ]:
+            self.assertEqual(clause_of(goal, "same"), clause)
+
+
+class Trials(InCrate):
+    """What becomes of edits by recorded answers of the prover."""
+
+    def setUp(self):
+        super().setUp()
+        self.says = {}
+
+    def trial(self, is_recording=False):
+        """Tries the edits. The prover refuses those goals of a function that `says` has for the text that stands in it."""
+        trial = try_edits.Trial(self.crate, [], [], SimpleNamespace(number=1))
+        trial.wrong += [] if is_recording else try_edits.unnamed(trial)
+        sizes = []
+
+        def try_pack(pack):
+            sizes.append(len(pack.edits))
+            text = "".join(pack.texts.values())
+            said = [line for there, line in self.says.items() if there in text]
+            answer = answer_of("\n".join([*said, "logic=not-proved"]), "low", trial.source.function_around, set())
+            return [edit for edit in pack.edits if not trial.is_refused(edit, answer, len(pack.edits) == 1)]
+
+        trial.try_pack = try_pack
+        trial.rounds(SimpleNamespace(map=lambda call, packs: [call(pack) for pack in packs]))
+        trial.compare(is_recording)
+        return trial.wrong, sizes
+
+    def refused(self, there, function, *goals):
+        listed = ", ".join(f"`{goal}`" for goal in goals)
+        self.says[there] = f"fn low::{function}: no proof: expected answers in ./proofs; `search` did not prove {listed}"
+
+    def test_what_names_the_clause_that_is_refused_passes(self):
+        self.edit("a", "clause: value", "old:         2", "new:         4")
+        self.edit("b", "clause: returns by loop-c-preserved", "old:         3", "new:         6")
+        self.refused("        4\n", "Name::first", "returns-clause-value")
+        self.refused("        6\n", "Name::second", "loop-c-preserved")
+        self.assertEqual(self.trial(), ([], [2]))
+
+    def test_another_clause_than_the_named_one_fails(self):
+        self.edit("a", "clause: small", "old:         2", "new:         4")
+        self.refused("        4\n", "Name::first", "returns-clause-value")
+        self.assertEqual(self.trial()[0], ["a: names small, but refused were: value"])
+
+    def test_what_names_no_clause_of_the_contract_fails(self):
+        self.edit("a", "old:         2", "new:         4")
+        self.edit("b", "clause: ok", "old:         3", "new:         6")
+        self.refused("        4\n", "Name::first", "returns-clause-value")
+        self.refused("        6\n", "Name::second", "returns")
+        wrong = self.trial()[0]
+        self.assertEqual([it.partition(":")[0] for it in wrong], ["b", "b"])
+        self.assertIn("ok is no clause of low::Name::second (returns)", wrong[0])
+
+    def test_what_is_proved_is_tried_again_until_it_is_alone(self):
+        self.edit("a", "clause: value", "old:         2", "new:         4")
+        self.edit("b", "clause: returns", "old:         3", "new:         6")
+        self.edit("c", "clause: returns", "old:     1", "new:     7")
+        self.refused("        6\n", "Name::second", "returns")
+        self.says["        4\n"] = "fn low::Name::first: proved"
+        self.says["    7\n"] = "fn low::free: no proof: it calls `low::Name::second`, which is not proved"
+        wrong, sizes = self.trial()
+        self.assertEqual(sizes, [3, 1, 1])
+        self.assertEqual(wrong, ["a: NOT REFUSED", "c: NOT REFUSED"])
+
+    def test_what_the_prover_does_not_name_or_read_fails(self):
+        self.edit("a", "clause: value", "old:         2", "new:         4")
+        self.assertIn("names no function low::Name::first", self.trial()[0][0])
+        self.says["        4\n"] = "src/lib.rt:29:9: error[E0308]: mismatched types"
+        self.assertIn("can't read it", self.trial()[0][0])
+
+    def test_an_edit_outside_of_bodies_is_told_by_any_function(self):
+        self.edit("a", "clause: value", "old: LIMIT: usize = 4", "new: LIMIT: usize = 5")
+        self.refused("= 5;", "Name::first", "returns-clause-value")
+        self.assertEqual(self.trial(), ([], [1]))
+
+    def test_recording_writes_what_is_refused(self):
+        a = self.edit("a", "old:         2", "new:         4")
+        b = self.edit("b", "old:         3", "new:         6")
+        self.refused("        4\n", "Name::first", "overflow_add", "returns-clause-small", "returns-clause-value")
+        self.refused("        6\n", "Name::second", "loop-c-preserved")
+        self.assertEqual(self.trial(is_recording=True)[0], [])
+        self.assertEqual((read(a).clauses, read(b).clauses), (["small"], ["returns by loop-c-preserved"]))
+
+
+class Rooms(InCrate):
+    def test_a_room_has_what_the_check_needs_and_changes_nothing(self):
+        (self.top / "crates.txt").write_text("# crates\nlow: arrayvec\nother:\nhigh: low\n")
+        high = self.top / "crates" / "high"
+        for path, text in [("src/lib.rt", "a"), ("out/incremental/x", "kept"), ("out/rlib/high.rlib", "own"), ("edits/a.edit", "e")]:
+            (high / path).parent.mkdir(parents=True, exist_ok=True)
+            (high / path).write_text(text)
+        for path, text in [("out/rlib/low.rlib", "built"), ("out/incremental/y", "not needed")]:
+            (self.crate / path).parent.mkdir(parents=True, exist_ok=True)
+            (self.crate / path).write_text(text)
+        with rooms.room(self.top, "high", {"src/lib.rt": "b"}) as folder:
+            room = Path(folder).parent.parent
+            there = sorted(str(it.relative_to(room)) for it in room.rglob("*") if it.is_file() and ".git" not in str(it.relative_to(room)))
+            self.assertEqual(
+                there,
+                ["crates.txt", "crates/high/out/incremental/x", "crates/high/src/lib.rt", "crates/low/out/rlib/low.rlib", "crates/low/src/lib.rt"],
+            )
+            self.assertEqual((room / "crates.txt").read_text(), "low: arrayvec\nhigh: low\n")
+            self.assertEqual((Path(folder) / "src/lib.rt").read_text(), "b")
+            self.assertTrue(os.path.samefile(f"{folder}/out/incremental/x", high / "out/incremental/x"))
+        self.assertFalse(room.exists())
+        self.assertEqual((high / "src/lib.rt").read_text(), "a")
+        self.assertEqual((high / "out/incremental/x").read_text(), "kept")
+
+
+class Processors(unittest.TestCase):
+    def test_as_many_are_taken_as_are_free(self):
+        cores = Cores()
+        cores.number = cores.free = 3
+        with cores.taken(1) as one, cores.taken(3) as others:
+            self.assertEqual((one, others, cores.free), (1, 2, 0))
+        self.assertEqual(cores.free, 3)
+
+
+class Program(InCrate):
+    def test_check_ends_with_1_where_an_edit_names_another_clause(self):
+        (self.top / "crates.txt").write_text("low:\n")
+        self.edit("a", "old:         2", "new:         4")
+        for clause, status in [("clause: value", 0), ("clause: ok", 1)]:
+            self.edit("a", clause, "old:         2", "new:         4")
+            with self.subTest(clause), self.program("--check") as (said, ended):
+                self.assertEqual(ended, status, said)
+
+    @contextlib.contextmanager
+    def program(self, *words):
+        top, argv, said = try_edits.TOP, try_edits.sys.argv, io.StringIO()
+        try_edits.TOP, try_edits.sys.argv = self.top, ["try_edits.py", *words]
+        try:
+            with contextlib.redirect_stdout(said), self.assertRaises(SystemExit) as ended:
+                try_edits.main()
+            yield said.getvalue(), ended.exception.code
+        finally:
+            try_edits.TOP, try_edits.sys.argv = top, argv
 
 
 if __name__ == "__main__":

@@ -1,151 +1,193 @@
 #!/usr/bin/env python3
-"""Tries edits of a crate that the prover has to refuse, many at once.
+"""Tries edits that the prover has to refuse: wrong bodies, each of which breaks a clause of a contract.
 
-    tools/try_edits.py CRATE [NAME..]
+    tools/try_edits.py [CRATE [NAME..]]     the edits of crates/CRATE/edits and must-fail (or those of these names); of every crate
+    tools/try_edits.py --check              only whether each edit can be applied and names what it breaks; proves nothing
+    tools/try_edits.py --record [CRATE ..]  also writes the clause into the edits that name none
+    --said FOLDER                           keeps what the prover said of each pack in a file there
 
-`rt ci` tries each edit of crates/CRATE/must-fail alone, which takes 35 to 55 seconds each in syn_tokens. So one edit for
-each of many like functions stands there, and the others stand in crates/CRATE/edits, in the same form. This script takes
-both folders (or the edits of these names). It changes a copy of the crate by all edits that touch different functions,
-and checks it once: contracts are as they were, so each function that was changed has to be refused for itself, and not
-only because it calls another one that is refused. What can't be told apart so is tried again, apart from the others.
+An edit is a file of lines:
 
-Ends with 1 where an edit is not refused, or can't be tried.
+    clause: reads                            the clause that it breaks, by its name in the contract; `returns` for a clause
+                                             without a name, `invariant` for that of a type
+    clause: skips by loop-character-preserved      the same, where the prover stops at another goal than the clause's own: a
+                                             loop's invariant, or what a callee requires
+    file: src/token/word.rt                  what it changes,
+    in: token::word::Word::new               in which function (left out where the text stands once in the file),
+    old: span,                               the text, which stands there once,
+    new: span: Span::call_site(),            and what takes its place, in one line
+
+`rt ci` tries the edits of must-fail/ one after another, so a few stand there, and all others in edits/, which are tried
+here, many at once. A copy of the crate is changed by all edits that touch bodies of different functions, and checked over
+what the repository's own check kept: contracts are as they were, so each function that was changed has to be refused for
+itself, and not only because it calls another one that is refused. What changes something else than bodies, as a table, is
+tried alone. What isn't refused is tried again in smaller packs, until it is alone.
+
+Not counted as refused is an edit that a proof file no longer fits only because it names what is gone: that says nothing
+of the contract. Ends with 1 where an edit is not refused, is refused for another clause than it names, or can't
+be applied.
 """
 
-import re
-import shutil
+import argparse
 import subprocess
 import sys
-import tempfile
+import time
+from concurrent.futures import ThreadPoolExecutor
 from pathlib import Path
 
+from editlib import rooms
+from editlib.cores import Cores
+from editlib.edits import edits_of, packs, with_clauses
+from editlib.refusals import answer_of, clause_of
+
 TOP = Path(__file__).resolve().parent.parent
-VERDICT = re.compile(r"fn (\S+?): (.*)")
-HEADER = re.compile(r"^impl(?:<.*?>)? (.*?) ?\{?$")
+# the most edits of one check: the prover takes some seconds for each refusal
+SIZE = 40
 
 
-def pairs_of(edit):
-    """What the edit changes: file, old text, new text."""
-    pairs, path, old = [], None, None
-    for line in edit.read_text().split("\n"):
-        word, _, rest = line.partition(": ")
-        if word == "file":
-            path = rest.strip()
-        elif word == "old":
-            old = rest
-        elif word in ("new", "new:"):
-            pairs.append((path, old, rest))
-    return pairs
+class Trial:
+    """The edits of one crate, and what became of them."""
+
+    def __init__(self, crate, lower, names, cores, folder=None):
+        self.crate, self.cores, self.folder = crate, cores, folder
+        self.source, self.edits, self.unfit = edits_of(crate, lower, names)
+        self.refused, self.wrong = {}, [f"{path.stem}: can't be applied: {why}" for path, why in self.unfit]
+
+    def check(self, folder, wanted):
+        with self.cores.taken(wanted) as jobs:
+            command = ["rt", "check", "--jobs", str(jobs)]
+            return subprocess.run(command, cwd=folder, stdout=subprocess.PIPE, stderr=subprocess.STDOUT, text=True, errors="replace")
+
+    def has_base(self):
+        """Proves the crate as it is, so that its own work and the libraries below it are kept."""
+        start = time.monotonic()
+        done = self.check(self.crate, self.cores.number)
+        print(f"{self.crate.name}: {'proved' if not done.returncode else 'NOT PROVED'} as it is, {time.monotonic() - start:.0f} s", flush=True)
+        if done.returncode:
+            print(done.stdout[-2000:])
+            self.wrong.append("the crate is not proved without edits")
+        return not done.returncode
+
+    def rounds(self, pool):
+        """Tries the edits in packs, and what isn't refused in smaller ones, until it is alone."""
+        left, size = self.edits, SIZE
+        while left:
+            tried = packs(self.source, left, size)
+            missed = [edit for missed in pool.map(self.try_pack, tried) for edit in missed]
+            alone = {pack.edits[0].name for pack in tried if len(pack.edits) == 1}
+            left, size = [edit for edit in missed if edit.name not in alone], max(1, len(missed) // 2)
+
+    def try_pack(self, pack):
+        """The edits of the pack that are not refused."""
+        start = time.monotonic()
+        with rooms.room(TOP, self.crate.name, pack.texts) as folder:
+            said = self.check(folder, 1).stdout
+        if self.folder:
+            (self.folder / f"{self.crate.name}-{pack.edits[0].name}-{len(pack.edits)}.txt").write_text(said)
+        answer = answer_of(said, self.crate.name, self.source.function_around, set(pack.texts))
+        missed = [edit for edit in pack.edits if not self.is_refused(edit, answer, len(pack.edits) == 1)]
+        seconds = time.monotonic() - start
+        print(f"{self.crate.name}: {len(pack.edits) - len(missed)} of {len(pack.edits)} refused, {seconds:.0f} s", flush=True)
+        return missed
+
+    def is_refused(self, edit, answer, is_alone):
+        """Whether one of the functions that the edit changes was refused for itself; of an edit outside of bodies, any function."""
+        names = list(answer.functions) if edit.is_outside else sorted(edit.functions)
+        told = {name: answer.of(name) for name in names}
+        goals = [(name, goal) for name, it in told.items() if it for goal in it.goals]
+        if goals and not answer.unread:
+            self.refused[edit.name] = goals
+            return True
+        if is_alone:
+            self.wrong.append(f"{edit.name}: {why_not(told, answer)}")
+        return False
+
+    def clauses(self, edit):
+        """The clauses whose goals were refused of an edit, and the other goals that were, each in the prover's order."""
+        clauses, others = {}, {}
+        for function, goal in self.refused[edit.name]:
+            clause = clause_of(goal, self.source.only_clause(function))
+            (clauses if clause else others)[clause or goal] = function
+        return list(clauses), list(others)
+
+    def compare(self, is_recording):
+        """Compares what was refused with what the edits name."""
+        for edit in self.edits:
+            if edit.name not in self.refused:
+                continue
+            clauses, others = self.clauses(edit)
+            if not edit.clauses and is_recording:
+                edit.clauses = clauses[:1] or [f"{'|'.join(self.source.clauses(edit)) or 'returns'} by {others[0]}"]
+                edit.path.write_text(with_clauses(edit.path.read_text(), edit.clauses))
+            for clause in edit.clauses:
+                name, _, goal = clause.partition(" by ")
+                if (goal or name) not in (others if goal else clauses):
+                    self.wrong.append(f"{edit.name}: names {clause}, but refused were: {', '.join([*clauses, *others])}")
 
 
-def plain(name):
-    """A type's or trait's name without lifetimes and arguments: `Ref` stands for a borrow, as in the prover's names."""
-    borrow = "Ref" if re.match(r"&'?\w* ?(?!mut )", name) and "mut " not in name else "RefMut" if name.startswith("&") else ""
-    return borrow + re.match(r"(?:&('\w+ )?(mut )?)?(?:\w+::)*(\w*)", name)[3]
+def why_not(told, answer):
+    """Why an edit that was tried alone is not refused, in words."""
+    if answer.unread:
+        return f"the prover can't read it: {answer.unread[0][:300]}"
+    unknown = [name for name, it in told.items() if it is None]
+    if unknown:
+        return f"the prover names no function {unknown[0]}" + ("" if answer.ended else ": there was no verdict")
+    if any(it.is_gone for it in told.values()):
+        return "refused only by a proof file that names what is gone, which says nothing of the contract"
+    return "NOT REFUSED" if answer.ended else "no verdict"
 
 
-def block_of(header):
-    """The prover's name of an impl block, such as ErrorFromRefusal, and AnyParse where the type is a parameter."""
-    inside = HEADER.match(header)[1]
-    if " for " not in inside:
-        return plain(inside)
-    trait, kind = inside.split(" for ", 1)
-    arguments = "".join(word[0].upper() + word[1:] for word in re.findall(r"\w+", trait.partition("<")[2].partition("<")[0]))
-    name = "Any" if re.fullmatch(r"[A-Z]", kind.split()[0]) else "Tuple2" if kind.startswith("(") else plain(kind)
-    return name + plain(trait) + arguments
+def unnamed(trial):
+    """What is wrong with edits before any proof: each names a clause, and one that the contract has."""
+    for edit in trial.edits:
+        known = trial.source.clauses(edit)
+        for clause in edit.clauses:
+            name = clause.partition(" by ")[0]
+            if known and name not in known and name != "invariant":
+                yield f"{edit.name}: {name} is no clause of {', '.join(sorted(edit.functions))} ({', '.join(known)})"
 
 
-def function_at(text, place):
-    """The function that stands at this place of a file: the block around it, if there is one, and its name; empty before
-    any function."""
-    name, block = "", ""
-    for line in text[:place].split("\n"):
-        if line.startswith("impl"):
-            block = block_of(line)
-        elif line.startswith(("fn ", "pub fn ", "pub(crate) fn ")):
-            block = ""
-        found = re.match(r"\s*(?:pub(?:\(crate\))? )?fn (\w+)", line)
-        name = found[1] if found else name
-    return f"{block}::{name}" if block and name else name
-
-
-def applied(texts, crate, pairs):
-    """The texts of the files with this edit too, and the functions that it changes; None where it doesn't fit."""
-    texts, functions = dict(texts), set()
-    for path, old, new in pairs:
-        text = texts.get(path) or (crate / path).read_text()
-        if text.count(old) != 1:
-            return None
-        functions.add(function_at(text, text.index(old) + len(old)))
-        texts[path] = text.replace(old, new)
-    return texts, functions
-
-
-def batches(crate, edits, apart):
-    """Edits that can be tried together: each batch with its texts, and each edit with its functions."""
-    found = []
-    for edit in edits:
-        pairs = pairs_of(edit)
-        for batch in [] if apart else found:
-            fits = applied(batch["texts"], crate, pairs)
-            if fits and not fits[1] & batch["functions"]:
-                break
-        else:
-            batch = {"texts": {}, "functions": set(), "edits": []}
-            found.append(batch)
-            fits = applied({}, crate, pairs)
-        if not fits:
-            sys.exit(f"{edit.name} can't be applied")
-        batch["texts"] = fits[0]
-        batch["functions"] |= fits[1]
-        batch["edits"].append((edit, fits[1]))
-    return found
-
-
-def verdicts(crate, texts):
-    """What the prover says of each function of a copy of the crate with these texts."""
-    with tempfile.TemporaryDirectory() as room:
-        copy = Path(room) / "crates" / crate.name
-        for other in (TOP / "crates").iterdir():
-            shutil.copytree(other, copy.parent / other.name, ignore=shutil.ignore_patterns("must-fail", "edits"))
-        for name in ("crates.txt", "HANDLES"):
-            shutil.copy(TOP / name, room)
-        for path, text in texts.items():
-            (copy / path).write_text(text)
-        subprocess.run(["git", "init", "-q", room], check=True)
-        done = subprocess.run(["rt", "check"], cwd=copy, capture_output=True, text=True, errors="replace")
-        own = [match.groups() for match in map(VERDICT.match, done.stdout.split("\n")) if match]
-        return [(name, said) for name, said in own if name.startswith(crate.name + "::")]
-
-
-def is_refused(function, said):
-    """Whether the function of this name was refused for itself."""
-    told = [verdict for name, verdict in said if name.endswith("::" + function)]
-    if not told:
-        print(f"  the prover names no function {function}")
-    return any(verdict == "not proved" or "did not prove" in verdict or "Answers.antt" in verdict for verdict in told)
+def trials_of(options):
+    """The crates that have edits, lowest first."""
+    uses, cores, folder = rooms.listed(TOP)[1], Cores(), TOP / "crates"
+    lower = {name: [folder / it for it in rooms.below(name, uses)] for name in uses}
+    names = [options.crate] if options.crate else sorted(uses, key=lambda name: len(lower[name]))
+    has_edits = [name for name in names if [*(folder / name).glob("edits/*"), *(folder / name).glob("must-fail/*")]]
+    return [Trial(folder / name, lower[name], options.names, cores, options.said) for name in has_edits]
 
 
 def main():
-    crate = TOP / "crates" / sys.argv[1]
-    edits = sorted([*crate.glob("must-fail/*.edit"), *crate.glob("edits/*.edit")], key=lambda edit: edit.name)
-    edits = [edit for edit in edits if edit.stem in sys.argv[2:]] if sys.argv[2:] else edits
-    tried = len(edits)
-    for apart in (False, True):
-        left = []
-        for batch in batches(crate, edits, apart):
-            print(f"{len(batch['edits'])} edits together", flush=True)
-            said = verdicts(crate, batch["texts"])
-            for edit, functions in batch["edits"]:
-                # what is changed outside of functions, as a table, can be told alone
-                named = {name for name, _ in said} if apart and "" in functions else functions - {""}
-                if not any(is_refused(it.rpartition(crate.name + "::")[2], said) for it in named):
-                    left.append(edit)
-        edits = left
-    for edit in edits:
-        print(f"{edit.name}: NOT REFUSED")
-    print(f"{tried - len(edits)} of {tried} refused")
-    sys.exit(1 if edits else 0)
+    parser = argparse.ArgumentParser(description=__doc__, formatter_class=argparse.RawDescriptionHelpFormatter)
+    parser.add_argument("crate", nargs="?")
+    parser.add_argument("names", nargs="*")
+    parser.add_argument("--check", action="store_true")
+    parser.add_argument("--record", action="store_true")
+    parser.add_argument("--said", type=Path)
+    options = parser.parse_args()
+    start, trials = time.monotonic(), trials_of(options)
+    for trial in trials:
+        trial.wrong += [] if options.record else unnamed(trial)
+    if not options.check:
+        tried(trials)
+        for trial in trials:
+            trial.compare(options.record)
+    wrong = [f"{trial.crate.name}/{it}" for trial in trials for it in trial.wrong]
+    number = sum(len(trial.edits) + len(trial.unfit) for trial in trials)
+    refused = sum(len(trial.refused) for trial in trials)
+    print(*wrong, sep="\n", end="\n" if wrong else "")
+    print(f"{number} edits, {len(wrong)} wrong" if options.check else f"{refused} of {number} refused, {len(wrong)} wrong, {time.monotonic() - start:.0f} s")
+    sys.exit(1 if wrong else 0)
+
+
+def tried(trials):
+    """Proves the crates one after another, and tries the edits of each as soon as it is proved, beside the others."""
+    with ThreadPoolExecutor(len(trials) or 1) as of_crates, ThreadPoolExecutor(64) as pool:
+        running = []
+        for trial in trials:
+            if trial.has_base():
+                running.append(of_crates.submit(trial.rounds, pool))
+        for it in running:
+            it.result()
 
 
 if __name__ == "__main__":

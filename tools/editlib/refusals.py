@@ -1,0 +1,99 @@
+"""What the prover says of a check: which goals of which function it refused.
+
+The prover names a goal by what it is for: `returns-in_err-read-clause-reads` is the clause `reads` of the contract, where
+the error of `read` is handed on, and `returns` the only clause of a contract. Others are the invariant of a type
+(`invariant_of-self`), of a loop (`elements-preserved`), what a callee requires (`step_to-requires`), or safety
+(`overflow_add-self`).
+"""
+
+import re
+from dataclasses import dataclass, field
+
+FUNCTION = re.compile(r"fn (\S+?): (.*)")
+GOAL = re.compile(r"note: (?:\./)?(src/\S+?):(\d+):\d+: .*?\(`([^`]+)`\)")
+ERROR = re.compile(r"(?:\./)?(\S+?):(\d+):\d+: error(?:\[[\w-]+\])?: (.*)")
+PROOF = re.compile(r"proofs/(.*)/(?:Answers|Invariants|Proof)\.antt")
+# a text of src/ or of an edited file that can't be read, as in the kit
+UNREAD = re.compile(r"is not in scope|has no field|is no name|operand is missing|expected the end|cannot continue")
+# a proof file that names what is gone
+GONE = re.compile(r"is not in scope|has no field|has no `|was not admitted")
+
+
+@dataclass
+class Told:
+    """Of one function: the goals that were refused, and whether a proof file names what is gone."""
+
+    goals: list = field(default_factory=list)
+    is_gone: bool = False
+    line: str = ""
+
+
+@dataclass
+class Answer:
+    """What a check said: of each function, by its name below the crate; what couldn't be read; and its last line."""
+
+    functions: dict
+    unread: list
+    ended: str
+
+    @property
+    def is_proved(self):
+        return self.ended.startswith("logic=proved")
+
+    def of(self, function):
+        """What is said of a function and of the closures in it; nothing where the prover names no such function."""
+        block, _, name = function.rpartition("::")
+        module, _, kind = block.rpartition("::")
+        inner = {f"{module}::fn::{kind}::{name}::", f"{block}::fn::{name}::"}
+        found = [told for it, told in self.functions.items() if it == function or it.startswith(tuple(inner))]
+        if function not in self.functions:
+            return None
+        return Told(
+            [goal for told in found for goal in told.goals], any(told.is_gone for told in found), self.functions[function].line
+        )
+
+
+def answer_of(said, crate, function_at, changed):
+    """Reads the lines of a check of this crate. `function_at` tells the function of a place (a file, a line from 0), and
+    `changed` are the files that edits change."""
+    functions, unread, ended = {}, [], ""
+    lines = said.rstrip("\n").split("\n")
+    for line in lines:
+        match = FUNCTION.match(line)
+        if match and match[1].startswith(crate + "::"):
+            functions[match[1]] = told = Told(line=match[2])
+            goals = re.search(r"`search` did not prove ((?:`[^`]+`(?:, )?)+)", match[2])
+            told.goals += re.findall(r"`([^`]+)`", goals[1]) if goals else []
+        ended = line if line.startswith(("logic=", "rattle: no verdict")) else ended
+    for line in lines:
+        goal, error = GOAL.match(line), ERROR.match(line)
+        if goal:
+            told = functions.get(f"{crate}::{function_at(goal[1], int(goal[2]) - 1)}", Told())
+            told.goals += [goal[3]] * (goal[3] not in told.goals)
+        elif error:
+            told_of_error(functions, unread, crate, changed, line, error)
+    return Answer(functions, unread, ended)
+
+
+def told_of_error(functions, unread, crate, changed, line, error):
+    path, _, said = error.groups()
+    goal = re.match(r"`([^`]+)`: (.*)", said)
+    plain = re.sub(r"`[^`]*`", "", goal[2] if goal else said)
+    if (path in changed or path.startswith(("src/", "specs/"))) and (not goal or UNREAD.search(plain)):
+        unread.append(line)
+        return
+    proof = PROOF.match(path)
+    told = functions.get(f"{crate}::{proof[1].replace('/', '::')}") if proof else None
+    if told and (GONE.search(plain) or not goal):
+        told.is_gone = True
+    elif told:
+        told.goals += [goal[1]] * (goal[1] not in told.goals)
+
+
+def clause_of(goal, only):
+    """The clause of a contract that a goal is for, `invariant` for that of a type; None where it is for something else.
+    `only` is the name of the only clause of the function's contract, which the prover leaves out."""
+    named = re.search(r"(?:^|-)clause-(\w+)", goal)
+    if goal.startswith("returns"):
+        return named[1] if named else only
+    return "invariant" if goal.startswith("invariant_of") else None
