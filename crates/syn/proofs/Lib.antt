@@ -4,6 +4,8 @@ pub mod Identifiers
 pub mod Spelling
 pub mod Flattened
 pub mod Groups
+pub mod Refusals
+pub mod Unexpected
 pub mod DocComments
 pub mod WrittenEntries
 pub mod Beginnings

@@ -12,7 +12,7 @@ use Rattle.syn_tokens.specs.declared.literal.LitKind.{LitKind}
 use Rattle.syn_tokens.specs.declared.literal.LitKind.TheVariants.{Byte, Char, Int, Float}
 use Rattle.syn_tokens.specs.declared.span.Span.{Span}
 use Rattle.syn_tokens.specs.declared.punct.Spacing.TheVariants.{Joint}
-use Rattle.syn_tokens.specs.Punct.{PunctValue, is_punct_character}
+use Rattle.syn_tokens.specs.Punct.{PunctValue}
 use Rattle.syn.specs.declared.reader.cursor.Cursor.{Cursor}
 use Rattle.syn.specs.declared.reader.lexer.Lexeme.TheVariants.{Punct}
 use Rattle.syn.specs.Places.{left, IsPast}
@@ -266,13 +266,14 @@ plain_word c cs e = ap (drop_while is_xid_continue) (sym (cond-false (c == 114 &
 pub lifetime_sign : (start next : Cursor) (p : PunctValue) (s : Span) → IsPast 39 start next → Stands start.text.now (encode_utf8 39) start.offset next.offset
     → begins_character (left next) ≡ false → first_passes may_start (left next) ≡ true → p ≡ record { character = 39; spacing = Joint; span = s }
     → s ≡ record { start = start.offset; end = next.offset } → IsLexemeFrom start.text.now start.offset (Punct p) next.offset
-unfolding is_punct_character begins_comment
+unfolding begins_comment
 lifetime_sign start next p s past stands b n e f =
     let same : left next ≡ behind start.text.now next.offset = ap (λ (t : Bor (List ℕ)). behind t.now next.offset) past.0 in
+    let named : first_passes may_start (behind start.text.now next.offset) ≡ true = ap (first_passes may_start) (sym same) ∙ n in
     let mark : ℕ → Span → Type 0 = λ c x. IsLexemeFrom start.text.now start.offset (Punct (record { character = c; spacing = Joint; span = x })) next.offset in
     subst (λ (q : PunctValue). IsLexemeFrom start.text.now start.offset (Punct q) next.offset) (sym e)
     (subst (mark 39) (sym f) (
-      (stands, past.1, (refl, ap begins_comment past.2, quote_literal _ _ past.2 ∙ no_character Char _ b, sym (ap (first_passes may_start) (sym same) ∙ n))),
+      (stands, past.1, (named, ap begins_comment past.2, quote_literal _ _ past.2 ∙ no_character Char _ b, sym named)),
       refl,
       refl,
     ))

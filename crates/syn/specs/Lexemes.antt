@@ -1,6 +1,6 @@
 -- The pieces that a text is cut into, as the lexer answers them.
-use Rattle.std.specs.Prelude.{◌≡◌, ◌≢◌, ◌<◌, ℕ, List, [], ◌∷◌, true, length, Option, Result, IsTrue, MatchOption, MatchResult}
-use Rattle.syn_grammar.specs.Tokens.{Span, Delimiter, is_visible}
+use Rattle.std.specs.Prelude.{◌≡◌, ◌<◌, ℕ, List, [], ◌∷◌, true, length, Option, Result, IsTrue, MatchOption, MatchResult}
+use Rattle.syn_grammar.specs.Tokens.{Span, is_visible}
 use Rattle.syn_tokens.specs.declared.span.Span.{Span as LexemeSpan}
 use Rattle.syn_tokens.specs.Spans.{at}
 use Rattle.syn_tokens.specs.Delimiters.{delimiter_of}
@@ -10,7 +10,8 @@ use Rattle.syn_tokens.specs.Faults.{FaultValue}
 use Rattle.syn.specs.declared.reader.lexer.Lexeme.{Lexeme}
 use Rattle.syn.specs.declared.reader.lexer.Lexeme.TheVariants.{Open, Close, Ident, Literal, Punct, Comment}
 use Rattle.syn.specs.declared.reader.lexer.Lexer.{Lexer}
-use Rattle.syn.specs.Spelling.{Stands, IsBlank, word, constant, mark, opening, closing, opening_sign, closing_sign, IsPieceAt, IsComment, IsFaultWithin}
+use Rattle.syn.specs.Spelling.{Stands, IsBlank, word, constant, mark, opening, closing, opening_sign, closing_sign, IsPieceAt, IsComment}
+use Rattle.syn.specs.Refusals.{FollowsAsFault}
 
 abbrev pub span_of : Lexeme → Span
 span_of (Open d s) = at s
@@ -39,10 +40,6 @@ IsSign c s (Open d t) = (opening_sign (delimiter_of d) ≡ c ∷ []) × (is_visi
 IsSign c s (Close d t) = (closing_sign (delimiter_of d) ≡ c ∷ []) × (is_visible (delimiter_of d) ≡ true) × (t ≡ s)
 IsSign c s _ = ⊥
 
--- no group has this character for a sign
-abbrev pub NoSign : ℕ → Type 0
-NoSign c = (d : Delimiter) → (opening_sign d ≢ c ∷ []) × (closing_sign d ≢ c ∷ [])
-
 -- what is taken for an identifier is one
 abbrev pub IsNamed : Lexeme → Type 0
 IsNamed (Ident x s) = IsTrue (is_identifier x.now)
@@ -56,4 +53,4 @@ FollowsAsLexeme text i l j = IsBlank text i (span_of l).start × IsLexemeFrom te
 abbrev pub StepsOver : Lexer → Option (Result Lexeme (List FaultValue)) → Lexer → Type 0
 StepsOver old step new = (new.cursor.text ≡ old.cursor.text) × MatchOption step
     (IsBlank old.cursor.text.now old.cursor.offset (length old.cursor.text.now))
-    (λ found. MatchResult found (λ l. FollowsAsLexeme old.cursor.text.now old.cursor.offset l new.cursor.offset) (IsFaultWithin (length old.cursor.text.now)))
+    (λ found. MatchResult found (λ l. FollowsAsLexeme old.cursor.text.now old.cursor.offset l new.cursor.offset) (FollowsAsFault old.cursor.text.now old.cursor.offset))

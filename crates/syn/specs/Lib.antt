@@ -3,6 +3,7 @@ pub mod Docs
 pub mod Flat
 pub mod Places
 pub mod Spelling
+pub mod Refusals
 pub mod Texts
 pub mod EntryTexts
 pub mod Lexemes

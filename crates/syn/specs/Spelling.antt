@@ -62,6 +62,10 @@ bytes_of (doc x inner said) = x
 abbrev pub joint_before : ℕ → List ℕ → Bool
 joint_before c rest = if c == 39 then first_passes may_start rest else first_passes is_punct_character rest && not (begins_comment rest)
 
+-- a mark begins with this character, before these: with any of those of marks, but with `'` only before an identifier (a lifetime)
+abbrev pub begins_mark : ℕ → List ℕ → Bool
+begins_mark c rest = if c == 39 then first_passes may_start rest else is_punct_character c
+
 -- a comment from byte i to byte j
 abbrev pub IsComment : List ℕ → ℕ → ℕ → Type 0
 IsComment text i j = (begins_comment (behind text i) ≡ true) × (after_comment (drop 1 (behind text i)) ≡ Some (behind text j))
@@ -71,7 +75,7 @@ abbrev pub IsWhole : List ℕ → Piece → ℕ → ℕ → Type 0
 IsWhole text (word x) i j = (is_identifier x ≡ true) × (literal_at (behind text i) ≡ Absent)
     × ((c : ℕ) × (rest : List ℕ) × (behind text i ≡ c ∷ rest) × (behind text j ≡ after_word c rest))
 IsWhole text (constant k x) i j = literal_at (behind text i) ≡ Scanned k (behind text j)
-IsWhole text (mark c joint) i j = (is_punct_character c ≡ true) × (begins_comment (behind text i) ≡ false) × (literal_at (behind text i) ≡ Absent)
+IsWhole text (mark c joint) i j = (begins_mark c (behind text j) ≡ true) × (begins_comment (behind text i) ≡ false) × (literal_at (behind text i) ≡ Absent)
     × (joint ≡ joint_before c (behind text j))
 IsWhole text (opening d) i j = is_visible d ≡ true
 IsWhole text (closing d) i j = is_visible d ≡ true

@@ -1,7 +1,8 @@
 //! Token streams from text, and text from token streams.
-ghost use Rattle.std.specs.Prelude.{◌≡◌, true, length, IfOk, MatchResult};
+ghost use Rattle.std.specs.Prelude.{◌≡◌, true, length, IfOk, IfErr, MatchResult};
 ghost use Rattle.syn_grammar.specs.Tokens.{visible};
 ghost use Rattle.syn.specs.Spelling.{Spells, IsFaultWithin};
+ghost use Rattle.syn.specs.Refusals.{IsRefusal};
 
 mod cursor;
 mod docs;
@@ -28,6 +29,7 @@ use syn_tokens::stream::TokenStream;
 pub fn read_tokens(alloc: Global, text: &str) -> Result<TokenStream>
     ensures visible { IfOk result (λ stream. visible stream ≡ true) }
     ensures spelled { MatchResult result (λ stream. Spells text.now stream) (IsFaultWithin (length text.now)) }
+    ensures fault { IfErr result (IsRefusal text.now) }
 {
     let mut trees = TreeBuilder::new(alloc, text.len())?;
     for lexeme in Lexer::new(text) {

@@ -8,8 +8,9 @@ ghost use Rattle.syn_tokens.specs.Idents.{may_start};
 ghost use Rattle.syn_tokens.specs.Punct.{is_joint, is_punct_character};
 ghost use Rattle.syn.specs.Scanning.{first_passes, drop_while, literal_at, Absent, after_word, begins_comment, begins_raw_name};
 ghost use Rattle.syn.specs.Places.{left};
-ghost use Rattle.syn.specs.Lexemes.{IsSign, NoSign};
-ghost use Rattle.syn.specs.Spelling.{Stands, IsFaultWithin};
+ghost use Rattle.syn.specs.Lexemes.{IsSign};
+ghost use Rattle.syn.specs.Spelling.{Stands};
+ghost use Rattle.syn.specs.Refusals.{NoSign, IsLexicalFault};
 
 use crate::reader::cursor::Cursor;
 use syn_tokens::delimiter::Delimiter;
@@ -61,7 +62,7 @@ impl<'a> Lexer<'a> {
         requires past { IsPast first start.now self.old.cursor }
         requires first { Stands start.now.text.now (encode_utf8 first) start.now.offset self.old.cursor.offset }
         ensures onward { Onward self.old.cursor self.new.cursor }
-        ensures stands { MatchResult result (λ l. IsLexemeFrom start.now.text.now start.now.offset l self.new.cursor.offset) (IsFaultWithin (length start.now.text.now)) }
+        ensures stands { MatchResult result (λ l. IsLexemeFrom start.now.text.now start.now.offset l self.new.cursor.offset) (IsLexicalFault start.now.text.now start.now.offset) }
     {
         if first.is_ascii_digit() {
             return Ok(self.number(start, first));
@@ -104,7 +105,7 @@ impl<'a> Lexer<'a> {
         requires may_start { may_start first ≡ true }
         requires no_digit { is_ascii_digit first ≡ false }
         ensures onward { Onward self.old.cursor self.new.cursor }
-        ensures stands { MatchResult result (λ l. IsLexemeFrom start.now.text.now start.now.offset l self.new.cursor.offset) (IsFaultWithin (length start.now.text.now)) }
+        ensures stands { MatchResult result (λ l. IsLexemeFrom start.now.text.now start.now.offset l self.new.cursor.offset) (IsLexicalFault start.now.text.now start.now.offset) }
     {
         if first == 'r' {
             return self.behind_r(start);
@@ -122,7 +123,7 @@ impl<'a> Lexer<'a> {
     fn behind_r(&mut self, start: &Cursor<'a>) -> Result<Lexeme<'a>>
         requires past { IsPast 114 start.now self.old.cursor }
         ensures onward { Onward self.old.cursor self.new.cursor }
-        ensures stands { MatchResult result (λ l. IsLexemeFrom start.now.text.now start.now.offset l self.new.cursor.offset) (IsFaultWithin (length start.now.text.now)) }
+        ensures stands { MatchResult result (λ l. IsLexemeFrom start.now.text.now start.now.offset l self.new.cursor.offset) (IsLexicalFault start.now.text.now start.now.offset) }
     {
         if begins_raw_string(self.cursor) {
             self.raw_string(LitKind::Str, start)
@@ -137,7 +138,7 @@ impl<'a> Lexer<'a> {
     fn behind_b(&mut self, start: &Cursor<'a>) -> Result<Lexeme<'a>>
         requires past { IsPast 98 start.now self.old.cursor }
         ensures onward { Onward self.old.cursor self.new.cursor }
-        ensures stands { MatchResult result (λ l. IsLexemeFrom start.now.text.now start.now.offset l self.new.cursor.offset) (IsFaultWithin (length start.now.text.now)) }
+        ensures stands { MatchResult result (λ l. IsLexemeFrom start.now.text.now start.now.offset l self.new.cursor.offset) (IsLexicalFault start.now.text.now start.now.offset) }
     {
         if begins_byte(self.cursor) {
             self.byte(start)

@@ -1,11 +1,14 @@
 //! Token trees from lexemes.
-ghost use Rattle.std.specs.Prelude.{◌≡◌, ◌++◌, ◌∷◌, ◌<◌, ◌≤◌, ℕ, List, [], IsTrue, false, length, if◌then◌else◌, IfOk, MatchResult};
+ghost use Rattle.std.specs.Prelude.{◌≡◌, ◌++◌, ◌∷◌, ◌<◌, ◌≤◌, ℕ, List, [], IsTrue, false, length, if◌then◌else◌, IfOk, IfErr, MatchResult};
 ghost use Rattle.syn_tokens.specs.Spans.{at};
 ghost use Rattle.syn_tokens.specs.Punct.{is_punct_character};
+ghost use Rattle.syn_grammar.specs.Tokens.{Stream};
 ghost use Rattle.syn_tokens.specs.Entries.{decode, IsToken};
+ghost use Rattle.syn_tokens.specs.Building.{NotOpen, IsUnbalanced};
 ghost use Rattle.syn_tokens.specs.Delimiters.{delimiter_of};
 ghost use Rattle.syn.specs.Flat.{opened, closed, sign, flat};
 ghost use Rattle.syn.specs.Spelling.{IsFaultWithin, doc_tokens};
+ghost use Rattle.syn.specs.Refusals.{IsRefusal};
 
 use crate::reader::docs::{Doc, doc_of, quoted};
 use crate::reader::lexer::Lexeme;
@@ -29,7 +32,7 @@ pub(super) struct TreeBuilder {
 
 impl TreeBuilder {
     ghost use Rattle.syn.specs.Lexemes.{FollowsAsLexeme, IsNamed};
-    ghost use Rattle.syn.specs.Building.{Builds, AllWithin, tokens_so_far};
+    ghost use Rattle.syn.specs.Building.{Builds, AllWithin, IsOutermost, tokens_so_far};
 
     /// Begins with no tree and no open group, for a text of that length. What grows takes its memory from `alloc`.
     pub(super) fn new(alloc: Global, length: usize) -> std::result::Result<TreeBuilder, AllocError>
@@ -41,10 +44,12 @@ impl TreeBuilder {
         })
     }
 
-    /// Adds what comes next. Refused where it closes a group other than the innermost open one.
+    /// Adds what comes next. Refused with the fault `unbalanced group` where it closes a group other than the innermost open
+    /// one.
     pub(super) fn add(&mut self, lexeme: Lexeme<'_>) -> Result<()>
         requires { IsNamed lexeme }
-        ensures { (text : List ℕ) (i j : ℕ) → Builds text self.old i → FollowsAsLexeme text i lexeme.entry j → MatchResult result (λ _. Builds text self.new j) (IsFaultWithin (length text)) }
+        ensures builds { (text : List ℕ) (i j : ℕ) → Builds text self.old i → FollowsAsLexeme text i lexeme.entry j → MatchResult result (λ _. Builds text self.new j) (IsFaultWithin (length text)) }
+        ensures fault { (text : List ℕ) (i j : ℕ) → Builds text self.old i → FollowsAsLexeme text i lexeme.entry j → IfErr result (IsRefusal text) }
     {
         let alloc = self.inner.alloc();
         match lexeme {
@@ -73,7 +78,8 @@ impl TreeBuilder {
 
     /// The trees, where no group is open any more. Else refused at the outermost open sign.
     pub(super) fn finish(self) -> Result<TokenStream>
-        ensures { (n : ℕ) → AllWithin n self.inner.open_groups → MatchResult result (λ stream. flat stream ≡ tokens_so_far self) (IsFaultWithin n) }
+        ensures tokens { (n : ℕ) → AllWithin n self.inner.open_groups → MatchResult result (λ stream. flat stream ≡ tokens_so_far self) (IsFaultWithin n) }
+        ensures fault { IfErr result (IsOutermost self) }
     {
         self.inner.finish()
     }
@@ -83,6 +89,7 @@ impl TreeBuilder {
     fn open(&mut self, delimiter: Delimiter, opening: Span) -> std::result::Result<(), AllocError>
         ensures tokens { IfOk result (λ _. tokens_so_far self.new ≡ tokens_so_far self.old ++ (opened (delimiter_of delimiter) (at opening) ∷ [])) }
         ensures within { (n : ℕ) → AllWithin n self.old.inner.open_groups → opening.start < opening.end → opening.end ≤ n → IfOk result (λ _. AllWithin n self.new.inner.open_groups) }
+        ensures innermost { IfOk result (λ _. (outer : Stream) × (self.new.inner.open_groups ≡ self.old.inner.open_groups ++ record { delimiter = delimiter; opening = opening; outer = outer } ∷ [])) }
     {
         self.inner.open(delimiter, opening)
     }
@@ -91,6 +98,7 @@ impl TreeBuilder {
     fn close(&mut self, delimiter: Delimiter, closing: Span) -> Result<()>
         ensures tokens { IfOk result (λ _. tokens_so_far self.new ≡ tokens_so_far self.old ++ (closed (delimiter_of delimiter) (at closing) ∷ [])) }
         ensures within { (n : ℕ) → AllWithin n self.old.inner.open_groups → closing.start < closing.end → closing.end ≤ n → MatchResult result (λ _. AllWithin n self.new.inner.open_groups) (IsFaultWithin n) }
+        ensures fault { IfErr result (IsUnbalanced closing (NotOpen delimiter self.old.inner)) }
     {
         self.inner.close(delimiter, closing)
     }
@@ -100,6 +108,7 @@ impl TreeBuilder {
     fn doc(&mut self, doc: &Doc<'_>, span: Span) -> Result<()>
         ensures tokens { IfOk result (λ _. tokens_so_far self.new ≡ tokens_so_far self.old ++ doc_tokens doc.now.inner doc.now.text.now (at span)) }
         ensures within { (n : ℕ) → AllWithin n self.old.inner.open_groups → span.start < span.end → span.end ≤ n → MatchResult result (λ _. AllWithin n self.new.inner.open_groups) (IsFaultWithin n) }
+        ensures memory { IfErr result (λ e. e ≡ []) }
     {
         let alloc = self.inner.alloc();
         self.attribute_sign(doc.inner, span)?;

@@ -1,7 +1,7 @@
 //! Comments.
 ghost use Rattle.std.specs.Prelude.{◌≡◌, ◌<◌, ◌==◌, ◌&&◌, true, drop, length, MatchResult};
 ghost use Rattle.syn.specs.Scanning.{begins_comment, begins_with, where_found, after_comment, after_blocks};
-ghost use Rattle.syn.specs.Spelling.{IsFaultWithin};
+ghost use Rattle.syn.specs.Refusals.{IsLexicalFault};
 
 use crate::reader::cursor::Cursor;
 use crate::reader::lexer::error::{Result, unterminated_comment};
@@ -16,7 +16,7 @@ impl<'a> Lexer<'a> {
         requires past { IsPast 47 start.now self.old.cursor }
         requires begins { begins_comment (left start.now) ≡ true }
         ensures onward { Onward self.old.cursor self.new.cursor }
-        ensures stands { MatchResult result (λ l. IsLexemeFrom start.now.text.now start.now.offset l self.new.cursor.offset) (IsFaultWithin (length start.now.text.now)) }
+        ensures stands { MatchResult result (λ l. IsLexemeFrom start.now.text.now start.now.offset l self.new.cursor.offset) (IsLexicalFault start.now.text.now start.now.offset) }
     {
         if !self.comment_ends() {
             return Err(unterminated_comment(self.cursor.span_since(start)));

@@ -5,7 +5,8 @@ ghost use Rattle.syn_tokens.specs.Idents.{may_start};
 ghost use Rattle.syn.specs.Scanning.{where_found, begins_with, literal_at, Scanned, behind_suffix, closed, after_quote, after_raw_string, after_raw, has_hashes, raw_string_at, character_at, prefixed_at, begins_raw_string, begins_byte, begins_character};
 ghost use Rattle.syn_tokens.specs.declared.literal.LitKind.{LitKind};
 ghost use Rattle.syn.specs.Places.{left, Onward};
-ghost use Rattle.syn.specs.Spelling.{Stands, IsFaultWithin};
+ghost use Rattle.syn.specs.Spelling.{Stands};
+ghost use Rattle.syn.specs.Refusals.{IsLexicalFault};
 
 use crate::reader::cursor::Cursor;
 use crate::reader::lexer::error::{Result, unexpected_character, unterminated_literal};
@@ -23,7 +24,7 @@ impl<'a> Lexer<'a> {
         requires past { IsPast 39 start.now self.old.cursor }
         requires first { Stands start.now.text.now (encode_utf8 39) start.now.offset self.old.cursor.offset }
         ensures onward { Onward self.old.cursor self.new.cursor }
-        ensures stands { MatchResult result (λ l. IsLexemeFrom start.now.text.now start.now.offset l self.new.cursor.offset) (IsFaultWithin (length start.now.text.now)) }
+        ensures stands { MatchResult result (λ l. IsLexemeFrom start.now.text.now start.now.offset l self.new.cursor.offset) (IsLexicalFault start.now.text.now start.now.offset) }
     {
         if begins_character(self.cursor) {
             return self.character(LitKind::Char, start);
@@ -41,7 +42,7 @@ impl<'a> Lexer<'a> {
         requires past { IsPast 98 start.now self.old.cursor }
         requires begins { begins_byte (left self.old.cursor) ≡ true }
         ensures onward { Onward self.old.cursor self.new.cursor }
-        ensures stands { MatchResult result (λ l. IsLexemeFrom start.now.text.now start.now.offset l self.new.cursor.offset) (IsFaultWithin (length start.now.text.now)) }
+        ensures stands { MatchResult result (λ l. IsLexemeFrom start.now.text.now start.now.offset l self.new.cursor.offset) (IsLexicalFault start.now.text.now start.now.offset) }
     {
         self.step();
         self.character(LitKind::Byte, start)
@@ -59,7 +60,7 @@ impl<'a> Lexer<'a> {
         requires letter { (first == 114) ≡ false }
         requires literal { literal_at (left start.now) ≡ prefixed_at kind (left self.old.cursor) }
         ensures onward { Onward self.old.cursor self.new.cursor }
-        ensures stands { MatchResult result (λ l. IsLexemeFrom start.now.text.now start.now.offset l self.new.cursor.offset) (IsFaultWithin (length start.now.text.now)) }
+        ensures stands { MatchResult result (λ l. IsLexemeFrom start.now.text.now start.now.offset l self.new.cursor.offset) (IsLexicalFault start.now.text.now start.now.offset) }
     {
         if self.cursor.is_at('"') {
             self.step();
@@ -78,7 +79,7 @@ impl<'a> Lexer<'a> {
         requires earlier { start.now.offset < self.old.cursor.offset }
         requires literal { literal_at (left start.now) ≡ closed kind (after_quote 34 (left self.old.cursor)) }
         ensures onward { Onward self.old.cursor self.new.cursor }
-        ensures stands { MatchResult result (λ l. IsLexemeFrom start.now.text.now start.now.offset l self.new.cursor.offset) (IsFaultWithin (length start.now.text.now)) }
+        ensures stands { MatchResult result (λ l. IsLexemeFrom start.now.text.now start.now.offset l self.new.cursor.offset) (IsLexicalFault start.now.text.now start.now.offset) }
     {
         let is_closed = self.closes_by('"');
         self.literal(is_closed, kind, start)
@@ -90,7 +91,7 @@ impl<'a> Lexer<'a> {
         requires earlier { start.now.offset < self.old.cursor.offset }
         requires literal { literal_at (left start.now) ≡ closed kind (after_raw_string 0 (left self.old.cursor)) }
         ensures onward { Onward self.old.cursor self.new.cursor }
-        ensures stands { MatchResult result (λ l. IsLexemeFrom start.now.text.now start.now.offset l self.new.cursor.offset) (IsFaultWithin (length start.now.text.now)) }
+        ensures stands { MatchResult result (λ l. IsLexemeFrom start.now.text.now start.now.offset l self.new.cursor.offset) (IsLexicalFault start.now.text.now start.now.offset) }
     {
         let is_closed = self.raw_closes();
         self.literal(is_closed, kind, start)
@@ -103,7 +104,7 @@ impl<'a> Lexer<'a> {
         requires begins { begins_character (left self.old.cursor) ≡ true }
         requires literal { literal_at (left start.now) ≡ character_at kind (left self.old.cursor) }
         ensures onward { Onward self.old.cursor self.new.cursor }
-        ensures stands { MatchResult result (λ l. IsLexemeFrom start.now.text.now start.now.offset l self.new.cursor.offset) (IsFaultWithin (length start.now.text.now)) }
+        ensures stands { MatchResult result (λ l. IsLexemeFrom start.now.text.now start.now.offset l self.new.cursor.offset) (IsLexicalFault start.now.text.now start.now.offset) }
     {
         let is_closed = self.character_closes();
         self.literal(is_closed, kind, start)
@@ -209,7 +210,7 @@ impl<'a> Lexer<'a> {
         requires earlier { start.now.offset < self.old.cursor.offset }
         requires literal { literal_at (left start.now) ≡ closed kind (where_found is_closed (left self.old.cursor)) }
         ensures onward { Onward self.old.cursor self.new.cursor }
-        ensures stands { MatchResult result (λ l. IsLexemeFrom start.now.text.now start.now.offset l self.new.cursor.offset) (IsFaultWithin (length start.now.text.now)) }
+        ensures stands { MatchResult result (λ l. IsLexemeFrom start.now.text.now start.now.offset l self.new.cursor.offset) (IsLexicalFault start.now.text.now start.now.offset) }
     {
         if !is_closed {
             return Err(unterminated_literal(self.cursor.span_since(start)));

@@ -2,6 +2,7 @@ use Rattle.std.proofs.Common.{◌∷◌, ap, sym, ◌∙◌}
 use Rattle.syn.specs.Places.{left}
 use Rattle.syn.specs.Scanning.{literal_at, literal_from, begins_comment}
 use Rattle.syn.proofs.Beginnings.{digit_from, quote_from, comment_slash}
+use Rattle.syn.proofs.Unexpected.{sign_or_fault}
 use Rattle.syn.proofs.reader.lexer.Lexer.lexeme.Goals as goal
 
 pub number-requires-clause-literal : goal.number-requires-clause-literal
@@ -16,3 +17,9 @@ comment-requires-clause-past c =
 pub quoted-requires-clause-literal : goal.quoted-requires-clause-literal
 quoted-requires-clause-literal c =
     ap literal_at c.requires.past.2 ∙ (ap (λ n. literal_from n (left c.args.self.now.cursor)) c.if-first-eq34.true ∙ quote_from _)
+
+pub returns-clause-stands : goal.returns-clause-stands
+returns-clause-stands c =
+    sign_or_fault c.sign.result c.args.start.now c.args.self.now.cursor c.args.first c.span_since.result c.requires.past c.requires.first c.span_since.ensures
+    (sym c.if-starts_identifier.ensures) c.if-first-eq34.false c.if-first-eq39.false (sym c.if-is_ascii_digit.ensures.value) (sym c.if-is_punct_character.ensures)
+    c.sign.ensures.ok c.sign.ensures.none c.sign.ensures.err

@@ -10,6 +10,8 @@ use Rattle.syn_tokens.specs.declared.entry.Token.TheVariants as E
 use Rattle.syn.specs.Flat.{one, flat}
 use Rattle.syn.specs.Building.{AllWithin}
 use Rattle.syn.proofs.Groups.{six_joined, same_added, then_ok}
+use Rattle.std.proofs.lemmas.Result.{IfErr-weaker}
+use Rattle.syn.proofs.Refusals.{closes_opened}
 use Rattle.syn.proofs.reader.trees.TreeBuilder.doc.Goals as goal
 
 -- `doc` is an identifier
@@ -36,3 +38,9 @@ returns-clause-within c = λ n within starts ends.
     let equals : AllWithin n c.mark.new.self.inner.open_groups = rw c.in_ok-mark.ensures.groups name in
     let literal : AllWithin n c.push-2.new.self.inner.open_groups = rw c.in_ok-push-2.ensures.groups equals in
     c.close.ensures.within n literal starts ends
+
+pub returns-clause-memory : goal.returns-clause-memory
+returns-clause-memory c =
+    let opened = c.in_ok-open.ensures.innermost in
+    let groups = c.in_ok-push-2.ensures.groups ∙ (c.in_ok-mark.ensures.groups ∙ (c.in_ok-push.ensures.groups ∙ opened.1)) in
+    IfErr-weaker c.close.result _ _ (λ e. closes_opened _ c.args.span c.args.span c.push-2.new.self.inner _ e (opened.0, groups)) c.close.ensures.fault
