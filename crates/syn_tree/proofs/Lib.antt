@@ -1,4 +1,5 @@
 pub mod Compared
 pub mod Copied
+mod Defaults
 mod Lists
 mod Restricted

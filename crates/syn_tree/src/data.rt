@@ -9,7 +9,9 @@ ghost use Rattle.syn_tokens.specs.Refusals.{IsSyntax};
 ghost use Rattle.syn_tokens.specs.Faults.{IsSyntaxError};
 ghost use Rattle.syn_tokens.specs.Listing.{list_of};
 ghost use Rattle.syn_tokens.specs.Kinds.{comma_syntax};
+ghost use Rattle.syn_tokens.specs.Nexts.{RefusedNext, HasFaultNext};
 ghost use Rattle.syn_tree.specs.Views.{syntax_of_Fields};
+ghost use Rattle.syn_tree.specs.Defaults.{RefusesDefault};
 
 use crate::lower::{Attribute, Expr, Type};
 use crate::restriction::Visibility;
@@ -104,6 +106,7 @@ impl Field {
     pub fn parse_unnamed(input: &mut ParseBuffer<'_>) -> Result<Field>
         ensures outcome { Outcome IsSyntaxError itself (rule rules.unnamed_field) input.old result input.new }
         ensures reads { Says IsSyntaxError itself (reads rules.unnamed_field input.old) result input.new }
+        ensures default { RefusesDefault input.old IsSyntaxError HasFaultNext result }
         ensures unchanged { OnErr result (input.new ≡ input.old) }
         ensures moved { Moved input.old result input.new }
     {
@@ -116,7 +119,8 @@ impl Field {
     /// A visibility and a type, which no `=` may follow.
     #[tactic(auto, using(syn_grammar::proofs::Each::unnamed_field_is))]
     pub(crate) fn read_unnamed(input: &mut ParseBuffer<'_>) -> Reading<Field>
-        ensures { Parses IsSyntax itself rules.unnamed_field input.old result input.new }
+        ensures parses { Parses IsSyntax itself rules.unnamed_field input.old result input.new }
+        ensures default { RefusesDefault input.old IsSyntax RefusedNext result }
     {
         let field = Field {
             attrs: Vec::new(input.alloc()),

@@ -1,0 +1,28 @@
+-- Defaults of fields without names, which are refused.
+use Rattle.std.specs.Prelude.{◌≡◌, ℕ, true, List, Some, codes, Result, Ok, Err}
+use Rattle.syn_grammar.specs.Tokens.{Stream}
+use Rattle.syn_grammar.specs.Rules.{visibility, type}
+use Rattle.syn_grammar.specs.Grammar.{Syntax}
+use Rattle.syn_grammar.specs.Take.{sees}
+use Rattle.syn_grammar.specs.Run.{reads}
+use Rattle.syn_grammar.specs.Table.{at_equals}
+use Rattle.syn_tokens.specs.Peeks.{past}
+
+-- a visibility and a type stand there, and behind them `=` and a default
+pub record HasDefault (ts default : Stream) : Type 0 where
+  pub vis : Syntax
+  pub behind_vis : Stream
+  pub ty : Syntax
+  pub behind_type : Stream
+  pub reads_vis : reads visibility ts ≡ Some (vis, behind_vis)
+  pub reads_type : reads type behind_vis ≡ Some (ty, behind_type)
+  pub equals : sees at_equals behind_type ≡ true
+  pub is : default ≡ past behind_type
+
+abbrev pub no_default : List ℕ
+no_default = codes "field default value is only supported in structs with named fields"
+
+-- where a default stands, nothing is read, and if memory was found, then for this reason
+abbrev pub RefusesDefault : {X E : Type 0} → Stream → (E → Type 0) → (Stream → List ℕ → E → Type 0) → Result X E → Type 0
+RefusesDefault ts refusal reason (Ok x) = (default : Stream) → HasDefault ts default → ⊥
+RefusesDefault ts refusal reason (Err e) = (default : Stream) → HasDefault ts default → refusal e → reason default no_default e
