@@ -1,5 +1,5 @@
 -- Trees compared field by field.
-use Rattle.std.proofs.Common.{◌≡◌, true, List, [], ◌∷◌, refl, sym}
+use Rattle.std.proofs.Common.{◌≡◌, Bool, true, List, [], ◌∷◌, refl, sym, ap, ap₂, ◌∙◌}
 use Rattle.std.specs.Prelude.{Option, Some, None}
 use Rattle.syn_grammar.specs.Tokens.{and}
 use Rattle.syn_grammar.specs.Grammar.{Syntax}
@@ -7,11 +7,14 @@ use Rattle.syn_grammar.specs.Same.{same_syntax}
 use Rattle.syn_grammar.proofs.Same.{and_true}
 use Rattle.syn_tokens.specs.Leaves.{maybe, syntax_of_ident}
 use Rattle.syn_tokens.specs.Idents.{IdentValue}
-use Rattle.syn_tokens.specs.Kinds.{Colon, Eq, Lt, Gt, colon_syntax, lt_syntax, gt_syntax}
+use Rattle.syn_tokens.specs.InOrder.{in_order, pair_of}
+use Rattle.syn_tokens.specs.Kinds.{Colon, Eq, Lt, Gt, colon_syntax, eq_syntax, lt_syntax, gt_syntax, comma_syntax}
+use Rattle.syn_tokens.specs.Listing.{list_of}
 use Rattle.syn_tree.specs.Views.{attributed, with_arguments, qualified, generics_signs, field_name, field_default, syntax_of_PathArguments}
 use Rattle.syn_tree.specs.declared.lower.attr.Attribute.{Attribute}
 use Rattle.syn_tree.specs.declared.lower.expr.Expr.{Expr}
 use Rattle.syn_tree.specs.declared.lower.ty.QSelf.{QSelf}
+use Rattle.syn_tree.specs.declared.lower.generics.Generics.TheInside as Generics-in
 use Rattle.syn_tree.specs.declared.lower.path.PathArguments.TheVariants as PathArguments-m
 
 pub same_arguments : (a b : PathArguments-m.the_data) (s t : Syntax) →

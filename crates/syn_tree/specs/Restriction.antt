@@ -1,5 +1,5 @@
 -- WHAT MAKES A VISIBILITY A RESTRICTED ONE: parentheses that hold one word alone, or begin with `in`.
-use Rattle.std.specs.Prelude.{Bool, false, Option, Some, None}
+use Rattle.std.specs.Prelude.{Bool, true, false, Option, Some, None}
 use Rattle.syn_grammar.specs.Words.{w_in, w_crate, w_self, w_super}
 use Rattle.syn_grammar.specs.Tokens.{Stream, or, and, ended, at_word}
 use Rattle.syn_grammar.specs.Take.{sees}
