@@ -93,7 +93,7 @@ class Words(Case):
         ran = self.run_with("--help")
         self.assertEqual((ran.returncode, ran.stderr, self.calls()), (0, b"", []))
         told = ran.stdout.decode()
-        source = (TOP / CRATE / "src/command.rt").read_text()
+        source = "".join((TOP / CRATE / "src" / file).read_text() for file in ("command.rt", "kind.rt"))
         found = re.findall(r'"(\S+)" => Some\((?:Kind|Command)::', source)
         self.assertGreater(len(found), 3)
         for word in found:

@@ -1,10 +1,10 @@
 #!/usr/bin/env python3
 """Checks that every field of every public struct of crates/syn_tree stands in what the struct is said to stand for
-(specs/Views.antt). A field that were left out there could be lost by a print, a copy or a comparison, and every proof
-would still hold.
+(`view_X` or `syntax_of_X` in specs/). A field that were left out there could be lost by a print, a copy or a comparison, and
+every proof would still hold.
 
 Run it at the top of the repository: tools/views.py --check. A field may be absent only where its type has no values or
-nothing in it (`pub enum Attribute {}`, `pub struct FieldModifiers {}`)."""
+one value (`pub enum Attribute {}`; `pub struct FieldModifiers {}`, an enum of one variant without fields)."""
 
 import argparse
 import re
@@ -15,12 +15,17 @@ CRATE = Path("crates/syn_tree")
 
 STRUCT = re.compile(r"^pub struct (\w+) \{(.*?)\}", re.S | re.M)
 FIELD = re.compile(r"^\s*pub (\w+): (.+),$", re.M)
-EMPTY = re.compile(r"^pub (?:enum|struct) (\w+) \{\}", re.M)
+NO_VALUES = re.compile(r"^pub enum (\w+) \{\}", re.M)
+ONE_VALUE = re.compile(r"^pub (?:struct (\w+) \{\}|enum (\w+) \{\n    \w+,\n\})", re.M)
 DEFINITION = re.compile(r"^(?:view|syntax_of)_(\w+) (\w+) =(.*?)(?=^\S|\Z)", re.S | re.M)
 
 
 def sources():
     return "\n".join(path.read_text() for path in sorted((CRATE / "src").rglob("*.rt")))
+
+
+def specifications():
+    return "\n".join(path.read_text() for path in sorted((CRATE / "specs").rglob("*.antt")))
 
 
 def shown_fields(views):
@@ -36,22 +41,23 @@ def main():
     parser.add_argument("--check", action="store_true", help="what it does without a word too: it never writes")
     parser.parse_args()
     code = sources()
-    shown = shown_fields((CRATE / "specs/Views.antt").read_text())
-    empty = set(EMPTY.findall(code))
+    shown = shown_fields(specifications())
+    empty, lone = set(NO_VALUES.findall(code)), {a or b for a, b in ONE_VALUE.findall(code)}
     complaints = []
     fields = 0
     for struct, body in STRUCT.findall(code):
         for field, kind in FIELD.findall(body):
             fields += 1
-            if field not in shown.get(struct, set()) and not empty & set(re.findall(r"\w+", kind)):
-                complaints.append(f"{struct}.{field} doesn't stand in specs/Views.antt")
+            absent = kind in lone or empty & set(re.findall(r"\w+", kind))
+            if field not in shown.get(struct, set()) and not absent:
+                complaints.append(f"{struct}.{field} doesn't stand in its view in specs/")
     if not fields:
         complaints.append("no field was found")
     for complaint in complaints:
         print("views:", complaint)
     if complaints:
         sys.exit(1)
-    print(f"views: {fields} fields, each stands in its struct's view or has no values")
+    print(f"views: {fields} fields, each stands in its struct's view, or has no values or one")
 
 
 main()

@@ -1,3 +1,5 @@
+//! Written by tools/kinds.py; edits are lost.
+//!
 //! The kinds that have canonical prints, each by its rule.
 ghost use Rattle.std.specs.Prelude.{refl};
 ghost use Rattle.syn_grammar.specs.Rules as rules;
@@ -7,6 +9,12 @@ use syn_tree::data::FieldsUnnamed;
 use syn_tree::derive::DeriveInput;
 use syn_tree::restriction::Visibility;
 
+impl Canonical for DeriveInput {
+    ghost rule = { rules.derive_input };
+
+    ghost reads_rule = { refl };
+}
+
 impl Canonical for Visibility {
     ghost rule = { rules.visibility };
 
@@ -15,12 +23,6 @@ impl Canonical for Visibility {
 
 impl Canonical for FieldsUnnamed {
     ghost rule = { rules.fields_unnamed };
-
-    ghost reads_rule = { refl };
-}
-
-impl Canonical for DeriveInput {
-    ghost rule = { rules.derive_input };
 
     ghost reads_rule = { refl };
 }

@@ -4,7 +4,6 @@ use Rattle.std.specs.Str.{IsUtf8}
 use Rattle.std.specs.Io.KnownBytes.{Appends}
 use Rattle.std.specs.declared.alloc.Global.{Global}
 use Rattle.syn_grammar.specs.Tokens.{Stream}
-use Rattle.syn_grammar.specs.Rules as rules
 use Rattle.syn_grammar.specs.Rules.{Rule}
 use Rattle.syn_grammar.specs.Grammar.{Syntax}
 use Rattle.syn_grammar.specs.Laws.{Derives}
@@ -15,19 +14,12 @@ use Rattle.syn.specs.Texts.{text_of}
 use Rattle.syn.specs.Canonical.{IsCanonical}
 use Rattle.syn_canon.specs.declared.command.Command.{Command}
 use Rattle.syn_canon.specs.declared.command.Command.TheVariants.{Print, Check}
-use Rattle.syn_canon.specs.declared.command.Kind.{Kind}
-use Rattle.syn_canon.specs.declared.command.Kind.TheVariants.{Derive, Visibility, FieldsUnnamed}
 use Rattle.syn_canon.specs.declared.failure.Failure.{Failure}
 use Rattle.syn_canon.specs.declared.failure.Failure.TheVariants.{Usage, ReadFailed, NotUtf8, Refused, WriteFailed, OutOfMemory}
+use Rattle.syn_canon.specs.Kinds.{rule_of}
 use Rattle.syn_canon.specs.Words.{IsCommand, NoCommand}
 
 -- THE GRAMMAR
-
--- the rule of the grammar by which a kind is read
-abbrev pub rule_of : Kind → Rule
-rule_of Derive = rules.derive_input
-rule_of Visibility = rules.visibility
-rule_of FieldsUnnamed = rules.fields_unnamed
 
 -- the rule by which a command reads
 abbrev pub rule_for : Command → Rule

@@ -4,19 +4,17 @@ ghost use Rattle.std.specs.Str.{IsUtf8};
 ghost use Rattle.std.specs.Io.KnownBytes.{IsAtEnd};
 ghost use Rattle.syn_grammar.specs.Tokens.{visible};
 ghost use Rattle.syn_canon.specs.Words.{IsCommand, NoCommand};
-ghost use Rattle.syn_canon.specs.Answers.{rule_of, IsRead, IsPrinted, IsDerived, IsAnswer, IsUnderived, IsUnread, IsNoAnswer};
+ghost use Rattle.syn_canon.specs.Answers.{IsRead, IsPrinted, IsDerived, IsAnswer, IsUnderived, IsUnread, IsNoAnswer};
 ghost use Rattle.syn_canon.specs.declared.failure.Failure.TheVariants.{Usage};
 
-use crate::command::{Command, Kind};
+use crate::by_kind::{check_as, print_as};
+use crate::command::Command;
 use crate::failure::Failure;
 use std::alloc::Global;
 use std::io::Read;
 use syn::canon::{Canonical, canonical};
-use syn::data::FieldsUnnamed;
-use syn::derive::DeriveInput;
 use syn::parse::parse2;
 use syn::reader::{read_tokens, token_text};
-use syn::restriction::Visibility;
 use syn::token::TokenStream;
 
 /// What the words ask of the text in `input`: the whole text that is to be written. The words are looked at before
@@ -57,21 +55,8 @@ fn read_text<R: Read>(alloc: Global, input: &mut R) -> Result<String, Failure>
     String::from_utf8(bytes).map_err(|_| Failure::NotUtf8)
 }
 
-/// What `print` writes of the tokens.
-fn print_as(kind: Kind, tokens: TokenStream) -> Result<String, Failure>
-    requires { visible tokens ≡ true }
-    ensures ok { IfOk result (λ text. IsPrinted (rule_of kind) tokens (string_bytes text)) }
-    ensures err { IfErr result (IsUnderived (rule_of kind) tokens) }
-{
-    match kind {
-        Kind::Derive => print::<DeriveInput>(tokens),
-        Kind::Visibility => print::<Visibility>(tokens),
-        Kind::FieldsUnnamed => print::<FieldsUnnamed>(tokens),
-    }
-}
-
 /// The canonical text, and a newline.
-fn print<T: Canonical + Drop>(tokens: TokenStream) -> Result<String, Failure>
+pub(crate) fn print<T: Canonical + Drop>(tokens: TokenStream) -> Result<String, Failure>
     requires { visible tokens ≡ true }
     ensures ok { IfOk result (λ text. IsPrinted T.rule tokens (string_bytes text)) }
     ensures err { IfErr result (IsUnderived T.rule tokens) }
@@ -81,20 +66,8 @@ fn print<T: Canonical + Drop>(tokens: TokenStream) -> Result<String, Failure>
     Ok(text)
 }
 
-/// Whether the tokens are of the kind; no more is kept of them.
-fn check_as(kind: Kind, tokens: TokenStream) -> Result<(), Failure>
-    requires { visible tokens ≡ true }
-    ensures ok { OnOk result (IsDerived (rule_of kind) tokens) }
-    ensures err { IfErr result (IsUnderived (rule_of kind) tokens) }
-{
-    match kind {
-        Kind::Derive => check::<DeriveInput>(tokens),
-        Kind::Visibility => check::<Visibility>(tokens),
-        Kind::FieldsUnnamed => check::<FieldsUnnamed>(tokens),
-    }
-}
-
-fn check<T: Canonical + Drop>(tokens: TokenStream) -> Result<(), Failure>
+/// Whether the tokens are of the type; no more is kept of them.
+pub(crate) fn check<T: Canonical + Drop>(tokens: TokenStream) -> Result<(), Failure>
     requires { visible tokens ≡ true }
     ensures ok { OnOk result (IsDerived T.rule tokens) }
     ensures err { IfErr result (IsUnderived T.rule tokens) }

@@ -1,6 +1,8 @@
 //! What the program is asked to do.
 ghost use Rattle.std.specs.Prelude.{◌≡◌, MatchOption};
-ghost use Rattle.syn_canon.specs.Words.{word_of, IsCommand, NoKind, NoCommand};
+ghost use Rattle.syn_canon.specs.Words.{IsCommand, NoCommand};
+
+use crate::kind::Kind;
 
 /// What is to be done with a text of some kind.
 #[derive(Clone, Copy, Debug, PartialEq, Eq)]
@@ -9,14 +11,6 @@ pub(crate) enum Command {
     Print(Kind),
     /// To say whether it is of the kind.
     Check(Kind),
-}
-
-/// What a text may spell.
-#[derive(Clone, Copy, Debug, PartialEq, Eq)]
-pub(crate) enum Kind {
-    Derive,
-    Visibility,
-    FieldsUnnamed,
 }
 
 impl Command {
@@ -33,20 +27,6 @@ impl Command {
                     _ => None,
                 }
             }
-            _ => None,
-        }
-    }
-}
-
-impl Kind {
-    /// The kind that the word is, if it is one.
-    fn from_word(word: &str) -> Option<Kind>
-        ensures { MatchOption result (NoKind word.now) (λ kind. word.now ≡ word_of kind) }
-    {
-        match word {
-            "derive" => Some(Kind::Derive),
-            "visibility" => Some(Kind::Visibility),
-            "fields-unnamed" => Some(Kind::FieldsUnnamed),
             _ => None,
         }
     }

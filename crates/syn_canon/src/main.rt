@@ -10,8 +10,10 @@ ghost use Rattle.syn_canon.specs.Statuses.{status_of, line_of};
 ghost use Rattle.syn_canon.specs.declared.failure.Failure.TheVariants.{Usage, WriteFailed, OutOfMemory};
 
 mod answer;
+mod by_kind;
 mod command;
 mod failure;
+mod kind;
 #[cfg(test)]
 mod tests;
 

@@ -1,5 +1,4 @@
 pub mod Compared
-pub mod Copied
 mod Defaults
 mod Lists
 mod Restricted

@@ -1,7 +1,7 @@
 -- The rules that are lists.
-use Rattle.std.specs.Prelude.{[], ◌∷◌}
+use Rattle.std.specs.Prelude.{[]}
 use Rattle.syn_grammar.specs.Tokens.{ended, at_mark}
-use Rattle.syn_grammar.specs.Words.{comma, colons, w_self, w_Self_type, w_super, w_crate}
+use Rattle.syn_grammar.specs.Words.{comma, colons}
 use Rattle.syn_grammar.specs.Rules.{unnamed_fields, unnamed_field, module_words}
 use Rattle.syn_grammar.specs.Grammar.{rule, token, mark, name_or}
 use Rattle.std.proofs.Common.{false}

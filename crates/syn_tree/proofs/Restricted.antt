@@ -1,14 +1,14 @@
 -- The condition of the grammar on what follows `pub`, by looking into the parentheses.
-use Rattle.std.proofs.Common.{◌≡◌, ℕ, Bool, true, false, List, [], ◌∷◌, ◌++◌, Option, Some, None, refl, sym, ap, ap₂, ◌∙◌, subst, true≢false}
+use Rattle.std.proofs.Common.{◌≡◌, ℕ, Bool, true, false, [], ◌∷◌, ◌++◌, refl, sym, ap, ap₂, ◌∙◌, subst, true≢false}
 use Rattle.syn_grammar.specs.Words.{Text, keywords, contextual, w_in, w_crate, w_self, w_super}
-use Rattle.syn_grammar.specs.Tokens.{Stream, end, leaf, punct, group, Leaf, ident, literal, Paren, Brace, Bracket, None as Invisible, or, and, pick, same_text, tells, Next, same_next, Asked, asked_by_path_word, Lone_word, Begins_in, Before_end, Front, note, asked, asked_inside, leaf_face, class, answers, is_word, is_ended, one_of_texts, Face, Word, Name, Span, Look, ended, at_word, ◌or_else◌, ◌and_also◌, noted}
-use Rattle.syn_grammar.specs.Take.{sees, at_front, take_token, take_group, taken}
-use Rattle.syn_grammar.specs.Table.{at_restriction, at_paren}
+use Rattle.syn_grammar.specs.Tokens.{Stream, end, leaf, punct, group, ident, literal, Paren, Brace, Bracket, None as Invisible, or, and, pick, tells, Next, same_next, Asked, asked_by_path_word, Lone_word, Begins_in, Before_end, Front, note, asked, leaf_face, class, answers, is_word, is_ended, one_of_texts, Face, Word, Name, Span, Look, ended, at_word, ◌or_else◌, ◌and_also◌, noted}
+use Rattle.syn_grammar.specs.Take.{sees, at_front, take_token, take_group}
+use Rattle.syn_grammar.specs.Table.{at_restriction}
 use Rattle.syn_grammar.proofs.Sets.{same_text_eq}
-use Rattle.syn_grammar.proofs.Looks.{sees_group, sees_and, sees_word}
+use Rattle.syn_grammar.proofs.Looks.{sees_group, sees_word}
 use Rattle.syn_tokens.specs.Peeks.{past}
 use Rattle.syn_tokens.specs.Opened.{content_of}
-use Rattle.syn_tree.specs.Restriction.{lone_word, restricts}
+use Rattle.syn_tree.specs.Looks.{lone_word, restricts}
 
 -- a word that begins a restriction by itself
 abbrev lone : Look

@@ -1,3 +1,10 @@
-pub mod Views
+pub mod Data
+pub mod Derive
+pub mod Equality
+pub mod Looks
+pub mod Lower
+pub mod Parsing
+pub mod Parts
+pub mod Plain
 pub mod Restriction
 pub mod Defaults

@@ -1,15 +1,21 @@
--- WHAT MAKES A VISIBILITY A RESTRICTED ONE: parentheses that hold one word alone, or begin with `in`.
-use Rattle.std.specs.Prelude.{Bool, true, false, Option, Some, None}
-use Rattle.syn_grammar.specs.Words.{w_in, w_crate, w_self, w_super}
-use Rattle.syn_grammar.specs.Tokens.{Stream, or, and, ended, at_word}
-use Rattle.syn_grammar.specs.Take.{sees}
-use Rattle.syn_tokens.specs.Peeks.{past}
+-- WHAT SYNTAX VISIBILITIES STAND FOR, one level at a time, every field.
+use Rattle.std.specs.Prelude.{Option}
+use Rattle.syn_grammar.specs.Tokens.{Paren}
+use Rattle.syn_grammar.specs.Grammar.{Syntax, Nothing, Both, Left, Right, Node}
+use Rattle.syn_tokens.specs.Leaves.{maybe}
+use Rattle.syn_tokens.specs.Kinds.{In, pub_syntax, in_syntax}
+use Rattle.syn_tree.specs.Parts.{group_syntax}
+use Rattle.syn_tree.specs.declared.restriction.VisRestricted.TheInside as VisRestricted-in
+use Rattle.syn_tree.specs.declared.restriction.Visibility.TheVariants as Visibility-m
 
--- `crate`, `self` or `super` stands alone
-abbrev pub lone_word : Stream → Bool
-lone_word i = and (or (sees (at_word w_crate) i) (or (sees (at_word w_self) i) (sees (at_word w_super) i))) (sees ended (past i))
+-- `in` or not, and a path
+abbrev pub restriction_syntax : Option In × Syntax → Syntax
+restriction_syntax p = Node (Both (maybe in_syntax p.0) p.1)
 
--- of what a group in parentheses holds, where one stands next
-abbrev pub restricts : Option Stream → Bool
-restricts (Some i) = or (sees (at_word w_in) i) (lone_word i)
-restricts None = false
+abbrev pub view_VisRestricted : VisRestricted-in.Inside → Syntax
+view_VisRestricted a = Both (pub_syntax a.pub_token) (Left (group_syntax Paren a.paren_token (restriction_syntax (a.in_token, a.path.value))))
+
+abbrev pub syntax_of_Visibility : Visibility-m.the_data → Syntax
+syntax_of_Visibility (Visibility-m.Public p) = Node (Left (Both (pub_syntax p) (Right Nothing)))
+syntax_of_Visibility (Visibility-m.Restricted r) = Node (Left r)
+syntax_of_Visibility Visibility-m.Inherited = Node (Right Nothing)

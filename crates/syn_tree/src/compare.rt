@@ -1,4 +1,6 @@
-//! Comparisons of trees, where spans don't count.
+//! Written by tools/kinds.py; edits are lost.
+//!
+//! Comparisons of trees.
 
 mod data;
 mod derive;

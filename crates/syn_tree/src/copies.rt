@@ -1,4 +1,6 @@
-//! Copies of trees, spans included.
+//! Written by tools/kinds.py; edits are lost.
+//!
+//! Copies of trees.
 
 mod data;
 mod derive;

@@ -1,22 +1,14 @@
 //! Fields.
-ghost use Rattle.std.specs.Prelude.{◌≡◌, OnErr};
 ghost use Rattle.syn_grammar.specs.Rules as rules;
-ghost use Rattle.syn_grammar.specs.Grammar.{rule};
-ghost use Rattle.syn_grammar.proofs.Outcomes.{meaning_of_rule};
-ghost use Rattle.syn_grammar.specs.Run.{reads};
-ghost use Rattle.syn_grammar.specs.Says.{Says, Parses, Moved, Kept, Outcome, itself};
-ghost use Rattle.syn_tokens.specs.Refusals.{IsSyntax};
-ghost use Rattle.syn_tokens.specs.Faults.{IsSyntaxError};
-ghost use Rattle.syn_tokens.specs.Listing.{list_of};
+ghost use Rattle.syn_tree.specs.Parsing.{◌≡◌, OnErr, rule, meaning_of_rule, reads, Says, Parses, Moved, Kept, Outcome, itself, IsSyntax, IsSyntaxError, list_of};
 ghost use Rattle.syn_tokens.specs.Kinds.{comma_syntax};
 ghost use Rattle.syn_tokens.specs.Nexts.{RefusedNext, HasFaultNext};
-ghost use Rattle.syn_tree.specs.Views.{syntax_of_Fields};
 ghost use Rattle.syn_tree.specs.Defaults.{RefusesDefault};
 
 use crate::lower::{Attribute, Expr, Type};
 use crate::restriction::Visibility;
-use std::marker::Model;
 use syn_tokens::buffer::ParseBuffer;
+use syn_tokens::compare::Compared;
 use syn_tokens::error::Result;
 use syn_tokens::expectation::Expectation;
 use syn_tokens::ident::Ident;
@@ -24,7 +16,6 @@ use syn_tokens::lists::punctuated_list;
 use syn_tokens::punctuated::Punctuated;
 use syn_tokens::read::{End, Read};
 use syn_tokens::refusal::Reading;
-use syn_tokens::syntactic::Syntactic;
 use syn_tokens::token::{Colon, Comma, Eq, Paren, kind};
 
 /// The fields of a struct or variant.
@@ -43,19 +34,6 @@ pub struct FieldsUnnamed {
     pub unnamed: Punctuated<Field, Comma>,
 }
 
-impl Model for FieldsUnnamed {
-    ghost use Rattle.syn_grammar.specs.Grammar.{Syntax};
-    ghost use Rattle.syn_grammar.specs.TreeCodes.{syntax_code};
-
-    ghost Value = { Syntax };
-
-    ghost coded = { syntax_code };
-
-    ghost use Rattle.syn_tree.specs.Views.{view_FieldsUnnamed};
-
-    ghost view = { view_FieldsUnnamed };
-}
-
 /// A field of a struct or variant.
 #[derive(Drop)]
 pub struct Field {
@@ -68,34 +46,9 @@ pub struct Field {
     pub default: Option<(Eq, Expr)>,
 }
 
-impl Model for Field {
-    ghost use Rattle.syn_grammar.specs.Grammar.{Syntax};
-    ghost use Rattle.syn_grammar.specs.TreeCodes.{syntax_code};
-
-    ghost Value = { Syntax };
-
-    ghost coded = { syntax_code };
-
-    ghost use Rattle.syn_tree.specs.Views.{view_Field};
-
-    ghost view = { view_Field };
-}
-
 /// The modifiers of a field. There are none.
 #[derive(Clone, Copy, Debug, Default, PartialEq, Eq)]
 pub struct FieldModifiers {}
-
-impl Syntactic for Field {
-    ghost syntax = { itself };
-}
-
-impl Syntactic for FieldsUnnamed {
-    ghost syntax = { itself };
-}
-
-impl Syntactic for Fields {
-    ghost syntax = { syntax_of_Fields };
-}
 
 impl Field {
     /// Parses a field without a name: a visibility and a type, which no `=` may follow.
@@ -161,4 +114,61 @@ impl Read for FieldsUnnamed {
             unnamed,
         })
     }
+}
+
+/// A name and its colon are compared by what they are together.
+impl Compared for Field {
+    #[tactic(auto, using(crate::proofs::Compared::same_name, syn_grammar::proofs::Same::and_true))]
+    fn is_same(&self, other: &Field) -> bool {
+        self.vis.is_same(&other.vis)
+            && self.ident.is_same(&other.ident)
+            && self.colon_token.is_same(&other.colon_token)
+            && self.ty.is_same(&other.ty)
+    }
+}
+
+// Written by tools/kinds.py from here to the end; edits are lost.
+
+impl std::marker::Model for FieldsUnnamed {
+    ghost use Rattle.syn_grammar.specs.Grammar.{Syntax};
+    ghost use Rattle.syn_grammar.specs.TreeCodes.{syntax_code};
+
+    ghost Value = { Syntax };
+
+    ghost coded = { syntax_code };
+
+    ghost use Rattle.syn_tree.specs.Plain.{view_FieldsUnnamed};
+
+    ghost view = { view_FieldsUnnamed };
+}
+
+impl std::marker::Model for Field {
+    ghost use Rattle.syn_grammar.specs.Grammar.{Syntax};
+    ghost use Rattle.syn_grammar.specs.TreeCodes.{syntax_code};
+
+    ghost Value = { Syntax };
+
+    ghost coded = { syntax_code };
+
+    ghost use Rattle.syn_tree.specs.Data.{view_Field};
+
+    ghost view = { view_Field };
+}
+
+impl syn_tokens::syntactic::Syntactic for Fields {
+    ghost use Rattle.syn_tree.specs.Data.{syntax_of_Fields};
+
+    ghost syntax = { syntax_of_Fields };
+}
+
+impl syn_tokens::syntactic::Syntactic for FieldsUnnamed {
+    ghost use Rattle.syn_grammar.specs.Says.{itself};
+
+    ghost syntax = { itself };
+}
+
+impl syn_tokens::syntactic::Syntactic for Field {
+    ghost use Rattle.syn_grammar.specs.Says.{itself};
+
+    ghost syntax = { itself };
 }

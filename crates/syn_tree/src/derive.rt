@@ -1,24 +1,15 @@
 //! What a derive macro is given.
-ghost use Rattle.std.specs.Prelude.{◌≡◌};
 ghost use Rattle.syn_grammar.specs.Rules as rules;
-ghost use Rattle.syn_grammar.specs.Grammar.{rule};
-ghost use Rattle.syn_grammar.proofs.Outcomes.{meaning_of_rule};
-ghost use Rattle.std.specs.Prelude.{None};
-ghost use Rattle.syn_grammar.specs.Grammar.{Node};
-ghost use Rattle.syn_grammar.specs.Run.{reads, wrap, named};
-ghost use Rattle.syn_tokens.specs.Refusals.{IsSyntax};
-ghost use Rattle.syn_tree.specs.Views.{syntax_of_DataStruct, syntax_of_Data, body_syntax};
-ghost use Rattle.syn_grammar.specs.Says.{Says, Moved, itself};
+ghost use Rattle.syn_tree.specs.Parsing.{rule, meaning_of_rule, reads, Says, Moved, IsSyntax};
+ghost use Rattle.syn_tree.specs.Derive.{structure_syntax, body_syntax};
 
 use crate::data::Fields;
 use crate::lower::{Attribute, Generics};
 use crate::restriction::Visibility;
-use std::marker::Model;
 use syn_tokens::buffer::ParseBuffer;
 use syn_tokens::ident::Ident;
 use syn_tokens::read::Read;
 use syn_tokens::refusal::Reading;
-use syn_tokens::syntactic::Syntactic;
 use syn_tokens::token::{Paren, Semi, Struct};
 
 /// A struct, as a derive macro is given it.
@@ -29,19 +20,6 @@ pub struct DeriveInput {
     pub ident: Ident,
     pub generics: Generics,
     pub shape: Data,
-}
-
-impl Model for DeriveInput {
-    ghost use Rattle.syn_grammar.specs.Grammar.{Syntax};
-    ghost use Rattle.syn_grammar.specs.TreeCodes.{syntax_code};
-
-    ghost Value = { Syntax };
-
-    ghost coded = { syntax_code };
-
-    ghost use Rattle.syn_tree.specs.Views.{view_DeriveInput};
-
-    ghost view = { view_DeriveInput };
 }
 
 /// What kind of item it is, with what that kind has of its own.
@@ -58,18 +36,6 @@ pub struct DataStruct {
     pub semi_token: Option<Semi>,
 }
 
-impl Syntactic for DeriveInput {
-    ghost syntax = { itself };
-}
-
-impl Syntactic for DataStruct {
-    ghost syntax = { syntax_of_DataStruct };
-}
-
-impl Syntactic for Data {
-    ghost syntax = { syntax_of_Data };
-}
-
 /// A struct.
 impl Read for DeriveInput {
     ghost form = { rule rules.derive_input };
@@ -78,31 +44,36 @@ impl Read for DeriveInput {
 
     #[tactic(auto, using(syn_grammar::proofs::Each::derive_input_is))]
     fn read(input: &mut ParseBuffer<'_>) -> Reading<DeriveInput> {
-        structure(input)
+        let (vis, ident, data) = structure(input)?;
+        Ok(DeriveInput {
+            attrs: Vec::new(input.alloc()),
+            vis,
+            ident,
+            generics: Generics::empty(input.alloc()),
+            shape: Data::Struct(data),
+        })
     }
 }
 
 /// A visibility, `struct`, a name and what stands behind it.
 #[tactic(auto, using(syn_grammar::proofs::Each::structure_is))]
-fn structure(input: &mut ParseBuffer<'_>) -> Reading<DeriveInput>
-    ensures reads { Says IsSyntax itself (wrap Node (named rules.structure (reads rules.structure input.old) None)) result input.new }
+fn structure(input: &mut ParseBuffer<'_>) -> Reading<(Visibility, Ident, DataStruct)>
+    ensures reads { Says IsSyntax structure_syntax (reads rules.structure input.old) result input.new }
     ensures moved { Moved input.old result input.new }
 {
     let vis = input.read()?;
     let struct_token = input.read()?;
     let ident = input.read()?;
     let (fields, semi) = structure_body(input)?;
-    Ok(DeriveInput {
-        attrs: Vec::new(input.alloc()),
+    Ok((
         vis,
         ident,
-        generics: Generics::empty(input.alloc()),
-        shape: Data::Struct(DataStruct {
+        DataStruct {
             struct_token,
             fields,
             semi_token: Some(semi),
-        }),
-    })
+        },
+    ))
 }
 
 /// Fields in parentheses or none, and `;`.
@@ -116,4 +87,37 @@ fn structure_body(input: &mut ParseBuffer<'_>) -> Reading<(Fields, Semi)>
     } else {
         Ok((Fields::Unit, input.read()?))
     }
+}
+
+// Written by tools/kinds.py from here to the end; edits are lost.
+
+impl std::marker::Model for DeriveInput {
+    ghost use Rattle.syn_grammar.specs.Grammar.{Syntax};
+    ghost use Rattle.syn_grammar.specs.TreeCodes.{syntax_code};
+
+    ghost Value = { Syntax };
+
+    ghost coded = { syntax_code };
+
+    ghost use Rattle.syn_tree.specs.Derive.{view_DeriveInput};
+
+    ghost view = { view_DeriveInput };
+}
+
+impl syn_tokens::syntactic::Syntactic for DeriveInput {
+    ghost use Rattle.syn_grammar.specs.Says.{itself};
+
+    ghost syntax = { itself };
+}
+
+impl syn_tokens::syntactic::Syntactic for Data {
+    ghost use Rattle.syn_tree.specs.Derive.{syntax_of_Data};
+
+    ghost syntax = { syntax_of_Data };
+}
+
+impl syn_tokens::syntactic::Syntactic for DataStruct {
+    ghost use Rattle.syn_tree.specs.Derive.{syntax_of_DataStruct};
+
+    ghost syntax = { syntax_of_DataStruct };
 }

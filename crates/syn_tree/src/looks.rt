@@ -2,7 +2,7 @@
 ghost use Rattle.std.specs.Prelude.{◌≡◌};
 ghost use Rattle.syn_grammar.specs.Take.{sees};
 ghost use Rattle.syn_grammar.specs.Table as table;
-ghost use Rattle.syn_tree.specs.Restriction.{lone_word};
+ghost use Rattle.syn_tree.specs.Looks.{lone_word};
 
 use syn_tokens::buffer::ParseBuffer;
 use syn_tokens::read::End;

@@ -1,21 +1,16 @@
 //! Visibilities.
-ghost use Rattle.std.specs.Prelude.{◌≡◌};
 ghost use Rattle.syn_grammar.specs.Rules as rules;
-ghost use Rattle.syn_grammar.specs.Grammar.{rule, inside};
-ghost use Rattle.syn_grammar.proofs.Outcomes.{meaning_of_rule};
-ghost use Rattle.syn_grammar.specs.Says.{Says, Moved, itself};
-ghost use Rattle.syn_grammar.specs.Run.{reads, parse};
 ghost use Rattle.syn_grammar.specs.Tokens as grammar;
-ghost use Rattle.syn_tokens.specs.Refusals.{IsSyntax};
-ghost use Rattle.syn_tree.specs.Views.{syntax_of_Visibility, restriction_syntax, group_syntax};
+ghost use Rattle.syn_tree.specs.Parsing.{rule, inside, meaning_of_rule, reads, parse, Says, Moved, IsSyntax};
+ghost use Rattle.syn_tree.specs.Parts.{group_syntax};
+ghost use Rattle.syn_tree.specs.Restriction.{restriction_syntax};
 
 use crate::looks::at_restriction;
 use crate::lower::Path;
-use std::marker::Model;
 use syn_tokens::buffer::ParseBuffer;
+use syn_tokens::compare::Compared;
 use syn_tokens::read::Read;
 use syn_tokens::refusal::Reading;
-use syn_tokens::syntactic::Syntactic;
 use syn_tokens::token::{In, Paren, Pub, kind};
 
 /// How far an item can be seen.
@@ -36,27 +31,6 @@ pub struct VisRestricted {
     pub paren_token: Paren,
     pub in_token: Option<In>,
     pub path: Box<Path>,
-}
-
-impl Model for VisRestricted {
-    ghost use Rattle.syn_grammar.specs.Grammar.{Syntax};
-    ghost use Rattle.syn_grammar.specs.TreeCodes.{syntax_code};
-
-    ghost Value = { Syntax };
-
-    ghost coded = { syntax_code };
-
-    ghost use Rattle.syn_tree.specs.Views.{view_VisRestricted};
-
-    ghost view = { view_VisRestricted };
-}
-
-impl Syntactic for VisRestricted {
-    ghost syntax = { itself };
-}
-
-impl Syntactic for Visibility {
-    ghost syntax = { syntax_of_Visibility };
 }
 
 /// `pub`, `pub` and a restriction, or nothing.
@@ -105,4 +79,47 @@ fn restricting_path(input: &mut ParseBuffer<'_>) -> Reading<(Option<In>, Path)>
     ensures moved { Moved input.old result input.new }
 {
     Ok((input.read()?, input.read()?))
+}
+
+/// Which variant it is, is told by what stands behind `pub`.
+impl Compared for Visibility {
+    #[tactic(auto, using(syn_grammar::proofs::Same::and_true))]
+    fn is_same(&self, other: &Visibility) -> bool {
+        match (self, other) {
+            (Visibility::Public(a), Visibility::Public(b)) => a.is_same(b),
+            (Visibility::Restricted(a), Visibility::Restricted(b)) => a.is_same(b),
+            (Visibility::Inherited, Visibility::Inherited) => true,
+            (Visibility::Public(_), Visibility::Restricted(VisRestricted { path: _path, .. }))
+            | (Visibility::Restricted(VisRestricted { path: _path, .. }), Visibility::Public(_)) =>
+                false,
+            (Visibility::Inherited, _) | (_, Visibility::Inherited) => false,
+        }
+    }
+}
+
+// Written by tools/kinds.py from here to the end; edits are lost.
+
+impl std::marker::Model for VisRestricted {
+    ghost use Rattle.syn_grammar.specs.Grammar.{Syntax};
+    ghost use Rattle.syn_grammar.specs.TreeCodes.{syntax_code};
+
+    ghost Value = { Syntax };
+
+    ghost coded = { syntax_code };
+
+    ghost use Rattle.syn_tree.specs.Restriction.{view_VisRestricted};
+
+    ghost view = { view_VisRestricted };
+}
+
+impl syn_tokens::syntactic::Syntactic for Visibility {
+    ghost use Rattle.syn_tree.specs.Restriction.{syntax_of_Visibility};
+
+    ghost syntax = { syntax_of_Visibility };
+}
+
+impl syn_tokens::syntactic::Syntactic for VisRestricted {
+    ghost use Rattle.syn_grammar.specs.Says.{itself};
+
+    ghost syntax = { itself };
 }

@@ -1,17 +1,15 @@
-//! Comparisons of what derive macros are given.
-ghost use Rattle.std.specs.Prelude.{◌≡◌, ◌↔◌, IsTrue};
-ghost use Rattle.syn_grammar.specs.Grammar.{plain_syntax};
-ghost use Rattle.syn_grammar.specs.Same.{same_syntax};
+//! Written by tools/kinds.py; edits are lost.
+//!
+//! Comparisons of `derive`.
 ghost use Rattle.syn_grammar.specs.Says.{itself};
-ghost use Rattle.syn_tree.specs.Views.{syntax_of_Data, syntax_of_DataStruct};
+ghost use Rattle.syn_tree.specs.Equality.{Equals};
 ghost use Rattle.syn_tokens.specs.Comparison.{same_by, same_equiv, same_per};
+ghost use Rattle.syn_tree.specs.Derive.{syntax_of_Data, syntax_of_DataStruct};
 
 use crate::derive::{Data, DataStruct, DeriveInput};
 use syn_tokens::compare::Compared;
 
-/// Attributes have no values yet.
 impl Compared for DeriveInput {
-    #[tactic(auto, using(crate::proofs::Compared::same_attributed))]
     fn is_same(&self, other: &DeriveInput) -> bool {
         self.vis.is_same(&other.vis)
             && self.ident.is_same(&other.ident)
@@ -28,8 +26,7 @@ impl PartialEq for DeriveInput {
 
     #[tactic(auto, using(syn_grammar::proofs::Same::same_syntax_plain))]
     fn eq(&self, other: &DeriveInput) -> bool
-        ensures same { result ≡ same_syntax self.now other.now }
-        ensures plain { IsTrue result ↔ (plain_syntax self.now ≡ plain_syntax other.now) }
+        ensures { Equals itself self.now other.now result }
     {
         self.is_same(other)
     }
@@ -55,8 +52,7 @@ impl PartialEq for Data {
 
     #[tactic(auto, using(syn_grammar::proofs::Same::same_syntax_plain))]
     fn eq(&self, other: &Data) -> bool
-        ensures same { result ≡ same_syntax (syntax_of_Data self.now) (syntax_of_Data other.now) }
-        ensures plain { IsTrue result ↔ (plain_syntax (syntax_of_Data self.now) ≡ plain_syntax (syntax_of_Data other.now)) }
+        ensures { Equals syntax_of_Data self.now other.now result }
     {
         self.is_same(other)
     }
@@ -82,8 +78,7 @@ impl PartialEq for DataStruct {
 
     #[tactic(auto, using(syn_grammar::proofs::Same::same_syntax_plain))]
     fn eq(&self, other: &DataStruct) -> bool
-        ensures same { result ≡ same_syntax (syntax_of_DataStruct self.now) (syntax_of_DataStruct other.now) }
-        ensures plain { IsTrue result ↔ (plain_syntax (syntax_of_DataStruct self.now) ≡ plain_syntax (syntax_of_DataStruct other.now)) }
+        ensures { Equals syntax_of_DataStruct self.now other.now result }
     {
         self.is_same(other)
     }

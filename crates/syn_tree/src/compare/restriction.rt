@@ -1,28 +1,13 @@
-//! Comparisons of visibilities.
-ghost use Rattle.std.specs.Prelude.{◌≡◌, ◌↔◌, IsTrue};
-ghost use Rattle.syn_grammar.specs.Grammar.{plain_syntax};
-ghost use Rattle.syn_grammar.specs.Same.{same_syntax};
-ghost use Rattle.syn_grammar.specs.Says.{itself};
-ghost use Rattle.syn_tree.specs.Views.{syntax_of_Visibility};
+//! Written by tools/kinds.py; edits are lost.
+//!
+//! Comparisons of `restriction`.
+ghost use Rattle.syn_tree.specs.Restriction.{syntax_of_Visibility};
+ghost use Rattle.syn_tree.specs.Equality.{Equals};
 ghost use Rattle.syn_tokens.specs.Comparison.{same_by, same_equiv, same_per};
+ghost use Rattle.syn_grammar.specs.Says.{itself};
 
 use crate::restriction::{VisRestricted, Visibility};
 use syn_tokens::compare::Compared;
-
-impl Compared for Visibility {
-    #[tactic(auto, using(syn_grammar::proofs::Same::and_true))]
-    fn is_same(&self, other: &Visibility) -> bool {
-        match (self, other) {
-            (Visibility::Public(a), Visibility::Public(b)) => a.is_same(b),
-            (Visibility::Restricted(a), Visibility::Restricted(b)) => a.is_same(b),
-            (Visibility::Inherited, Visibility::Inherited) => true,
-            (Visibility::Public(_), Visibility::Restricted(VisRestricted { path: _path, .. }))
-            | (Visibility::Restricted(VisRestricted { path: _path, .. }), Visibility::Public(_)) =>
-                false,
-            (Visibility::Inherited, _) | (_, Visibility::Inherited) => false,
-        }
-    }
-}
 
 /// Two are equal exactly where they are once every span is 0 to 0.
 impl PartialEq for Visibility {
@@ -32,8 +17,7 @@ impl PartialEq for Visibility {
 
     #[tactic(auto, using(syn_grammar::proofs::Same::same_syntax_plain))]
     fn eq(&self, other: &Visibility) -> bool
-        ensures same { result ≡ same_syntax (syntax_of_Visibility self.now) (syntax_of_Visibility other.now) }
-        ensures plain { IsTrue result ↔ (plain_syntax (syntax_of_Visibility self.now) ≡ plain_syntax (syntax_of_Visibility other.now)) }
+        ensures { Equals syntax_of_Visibility self.now other.now result }
     {
         self.is_same(other)
     }
@@ -59,8 +43,7 @@ impl PartialEq for VisRestricted {
 
     #[tactic(auto, using(syn_grammar::proofs::Same::same_syntax_plain))]
     fn eq(&self, other: &VisRestricted) -> bool
-        ensures same { result ≡ same_syntax self.now other.now }
-        ensures plain { IsTrue result ↔ (plain_syntax self.now ≡ plain_syntax other.now) }
+        ensures { Equals itself self.now other.now result }
     {
         self.is_same(other)
     }

@@ -1,22 +1,18 @@
-//! Copies of fields.
+//! Written by tools/kinds.py; edits are lost.
+//!
+//! Copies of `data`.
+
 use crate::data::{Field, Fields, FieldsUnnamed};
 use std::alloc::Global;
 use syn_tokens::error::Result;
 use syn_tokens::try_clone::TryClone;
 
-/// Attributes and defaults have no values yet.
-impl TryClone for Field {
-    #[tactic(auto, using(crate::proofs::Copied::attributed_is, crate::proofs::Copied::default_is, crate::proofs::Copied::copied_name))]
-    fn try_clone(&self, alloc: Global) -> Result<Field> {
-        Ok(Field {
-            attrs: Vec::new(alloc),
-            vis: self.vis.try_clone(alloc)?,
-            modifiers: self.modifiers,
-            ident: self.ident.try_clone(alloc)?,
-            colon_token: self.colon_token,
-            ty: self.ty.try_clone(alloc)?,
-            default: None,
-        })
+impl TryClone for Fields {
+    fn try_clone(&self, alloc: Global) -> Result<Fields> {
+        match self {
+            Fields::Unnamed(value) => Ok(Fields::Unnamed(value.try_clone(alloc)?)),
+            Fields::Unit => Ok(Fields::Unit),
+        }
     }
 }
 
@@ -29,11 +25,16 @@ impl TryClone for FieldsUnnamed {
     }
 }
 
-impl TryClone for Fields {
-    fn try_clone(&self, alloc: Global) -> Result<Fields> {
-        match self {
-            Fields::Unnamed(fields) => Ok(Fields::Unnamed(fields.try_clone(alloc)?)),
-            Fields::Unit => Ok(Fields::Unit),
-        }
+impl TryClone for Field {
+    fn try_clone(&self, alloc: Global) -> Result<Field> {
+        Ok(Field {
+            attrs: Vec::new(alloc),
+            vis: self.vis.try_clone(alloc)?,
+            modifiers: self.modifiers,
+            ident: self.ident.try_clone(alloc)?,
+            colon_token: self.colon_token,
+            ty: self.ty.try_clone(alloc)?,
+            default: None,
+        })
     }
 }

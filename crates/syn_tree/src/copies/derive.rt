@@ -1,12 +1,13 @@
-//! Copies of what derive macros are given.
+//! Written by tools/kinds.py; edits are lost.
+//!
+//! Copies of `derive`.
+
 use crate::derive::{Data, DataStruct, DeriveInput};
 use std::alloc::Global;
 use syn_tokens::error::Result;
 use syn_tokens::try_clone::TryClone;
 
-/// Attributes have no values yet.
 impl TryClone for DeriveInput {
-    #[tactic(auto, using(crate::proofs::Copied::attributed_is, crate::proofs::Copied::copied_shape))]
     fn try_clone(&self, alloc: Global) -> Result<DeriveInput> {
         Ok(DeriveInput {
             attrs: Vec::new(alloc),
@@ -21,7 +22,7 @@ impl TryClone for DeriveInput {
 impl TryClone for Data {
     fn try_clone(&self, alloc: Global) -> Result<Data> {
         match self {
-            Data::Struct(shape) => Ok(Data::Struct(shape.try_clone(alloc)?)),
+            Data::Struct(value) => Ok(Data::Struct(value.try_clone(alloc)?)),
         }
     }
 }

@@ -1,4 +1,7 @@
-//! Copies of visibilities.
+//! Written by tools/kinds.py; edits are lost.
+//!
+//! Copies of `restriction`.
+
 use crate::restriction::{VisRestricted, Visibility};
 use std::alloc::Global;
 use syn_tokens::error::Result;
@@ -7,10 +10,8 @@ use syn_tokens::try_clone::TryClone;
 impl TryClone for Visibility {
     fn try_clone(&self, alloc: Global) -> Result<Visibility> {
         match self {
-            Visibility::Public(pub_token) => Ok(Visibility::Public(*pub_token)),
-            Visibility::Restricted(restricted) => {
-                Ok(Visibility::Restricted(restricted.try_clone(alloc)?))
-            }
+            Visibility::Public(value) => Ok(Visibility::Public(*value)),
+            Visibility::Restricted(value) => Ok(Visibility::Restricted(value.try_clone(alloc)?)),
             Visibility::Inherited => Ok(Visibility::Inherited),
         }
     }

@@ -1,12 +1,10 @@
 //! Generic parameters and where clauses.
 ghost use Rattle.std.specs.Prelude.{◌≡◌};
 ghost use Rattle.syn_grammar.specs.Grammar.{Nothing};
-ghost use Rattle.syn_grammar.specs.Says.{itself};
 
 use std::alloc::Global;
-use std::marker::Model;
+use syn_tokens::compare::Compared;
 use syn_tokens::punctuated::Punctuated;
-use syn_tokens::syntactic::Syntactic;
 use syn_tokens::token::{Comma, Gt, Lt};
 
 /// The generic parameters of an item, with its where clause. Signs without parameters are not printed.
@@ -18,19 +16,6 @@ pub struct Generics {
     pub where_clause: Option<WhereClause>,
 }
 
-impl Model for Generics {
-    ghost use Rattle.syn_grammar.specs.Grammar.{Syntax};
-    ghost use Rattle.syn_grammar.specs.TreeCodes.{syntax_code};
-
-    ghost Value = { Syntax };
-
-    ghost coded = { syntax_code };
-
-    ghost use Rattle.syn_tree.specs.Views.{view_Generics};
-
-    ghost view = { view_Generics };
-}
-
 /// A generic parameter. None is read yet, so the type has no values.
 #[derive(Drop)]
 pub enum GenericParam {}
@@ -38,10 +23,6 @@ pub enum GenericParam {}
 /// A where clause. None is read yet, so the type has no values.
 #[derive(Drop)]
 pub enum WhereClause {}
-
-impl Syntactic for Generics {
-    ghost syntax = { itself };
-}
 
 impl Generics {
     /// No generics: no signs, no parameters, no where clause. It takes no memory until something is pushed.
@@ -55,4 +36,33 @@ impl Generics {
             where_clause: None,
         }
     }
+}
+
+/// Parameters and where clauses have no values yet.
+impl Compared for Generics {
+    #[tactic(auto, using(crate::proofs::Compared::same_signs))]
+    fn is_same(&self, other: &Generics) -> bool {
+        self.lt_token.is_same(&other.lt_token) && self.gt_token.is_same(&other.gt_token)
+    }
+}
+
+// Written by tools/kinds.py from here to the end; edits are lost.
+
+impl std::marker::Model for Generics {
+    ghost use Rattle.syn_grammar.specs.Grammar.{Syntax};
+    ghost use Rattle.syn_grammar.specs.TreeCodes.{syntax_code};
+
+    ghost Value = { Syntax };
+
+    ghost coded = { syntax_code };
+
+    ghost use Rattle.syn_tree.specs.Lower.{view_Generics};
+
+    ghost view = { view_Generics };
+}
+
+impl syn_tokens::syntactic::Syntactic for Generics {
+    ghost use Rattle.syn_grammar.specs.Says.{itself};
+
+    ghost syntax = { itself };
 }

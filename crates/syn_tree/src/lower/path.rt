@@ -1,26 +1,14 @@
 //! Paths.
-ghost use Rattle.std.specs.Prelude.{◌≡◌};
 ghost use Rattle.syn_grammar.specs.Rules as rules;
-ghost use Rattle.syn_grammar.specs.Grammar.{rule};
-ghost use Rattle.syn_grammar.specs.Run.{reads};
-ghost use Rattle.syn_grammar.specs.Says.{Says, Moved, itself};
-ghost use Rattle.syn_tokens.specs.Refusals.{IsSyntax};
-ghost use Rattle.syn_grammar.specs.Grammar.{name_or};
-ghost use Rattle.syn_grammar.specs.Take.{take_token};
-ghost use Rattle.syn_tokens.specs.Leaves.{path_words};
-ghost use Rattle.syn_tokens.specs.Listing.{joined_of};
-ghost use Rattle.syn_grammar.proofs.Outcomes.{meaning_of_rule};
+ghost use Rattle.syn_tree.specs.Parsing.{rule, name_or, meaning_of_rule, reads, take_token, path_words, Says, Moved, itself, IsSyntax, joined_of};
 ghost use Rattle.syn_tokens.specs.Kinds.{path_sep_syntax};
-ghost use Rattle.syn_tree.specs.Views.{syntax_of_PathArguments};
 
-use std::marker::Model;
 use syn_tokens::buffer::ParseBuffer;
 use syn_tokens::ident::Ident;
 use syn_tokens::lists::joined_list;
 use syn_tokens::punctuated::Punctuated;
 use syn_tokens::read::Read;
 use syn_tokens::refusal::Reading;
-use syn_tokens::syntactic::Syntactic;
 use syn_tokens::token::PathSep;
 
 /// A path: segments with `::` between them, and perhaps one before the first.
@@ -30,19 +18,6 @@ pub struct Path {
     pub segments: Punctuated<PathSegment, PathSep>,
 }
 
-impl Model for Path {
-    ghost use Rattle.syn_grammar.specs.Grammar.{Syntax};
-    ghost use Rattle.syn_grammar.specs.TreeCodes.{syntax_code};
-
-    ghost Value = { Syntax };
-
-    ghost coded = { syntax_code };
-
-    ghost use Rattle.syn_tree.specs.Views.{view_Path};
-
-    ghost view = { view_Path };
-}
-
 /// A word of a path, with its arguments.
 #[derive(Drop)]
 pub struct PathSegment {
@@ -50,35 +25,10 @@ pub struct PathSegment {
     pub arguments: PathArguments,
 }
 
-impl Model for PathSegment {
-    ghost use Rattle.syn_grammar.specs.Grammar.{Syntax};
-    ghost use Rattle.syn_grammar.specs.TreeCodes.{syntax_code};
-
-    ghost Value = { Syntax };
-
-    ghost coded = { syntax_code };
-
-    ghost use Rattle.syn_tree.specs.Views.{view_PathSegment};
-
-    ghost view = { view_PathSegment };
-}
-
 /// What stands behind a path's word. Arguments are not read yet.
 #[derive(Clone, Copy, Debug)]
 pub enum PathArguments {
     None,
-}
-
-impl Syntactic for PathArguments {
-    ghost syntax = { syntax_of_PathArguments };
-}
-
-impl Syntactic for PathSegment {
-    ghost syntax = { itself };
-}
-
-impl Syntactic for Path {
-    ghost syntax = { itself };
 }
 
 /// `[::]` and words joined by `::`, each an identifier, `self`, `Self`, `super` or `crate`.
@@ -113,4 +63,50 @@ fn segment(input: &mut ParseBuffer<'_>) -> Reading<PathSegment>
         ident: input.read_path_word()?,
         arguments: PathArguments::None,
     })
+}
+
+// Written by tools/kinds.py from here to the end; edits are lost.
+
+impl std::marker::Model for Path {
+    ghost use Rattle.syn_grammar.specs.Grammar.{Syntax};
+    ghost use Rattle.syn_grammar.specs.TreeCodes.{syntax_code};
+
+    ghost Value = { Syntax };
+
+    ghost coded = { syntax_code };
+
+    ghost use Rattle.syn_tree.specs.Plain.{view_Path};
+
+    ghost view = { view_Path };
+}
+
+impl std::marker::Model for PathSegment {
+    ghost use Rattle.syn_grammar.specs.Grammar.{Syntax};
+    ghost use Rattle.syn_grammar.specs.TreeCodes.{syntax_code};
+
+    ghost Value = { Syntax };
+
+    ghost coded = { syntax_code };
+
+    ghost use Rattle.syn_tree.specs.Lower.{view_PathSegment};
+
+    ghost view = { view_PathSegment };
+}
+
+impl syn_tokens::syntactic::Syntactic for Path {
+    ghost use Rattle.syn_grammar.specs.Says.{itself};
+
+    ghost syntax = { itself };
+}
+
+impl syn_tokens::syntactic::Syntactic for PathSegment {
+    ghost use Rattle.syn_grammar.specs.Says.{itself};
+
+    ghost syntax = { itself };
+}
+
+impl syn_tokens::syntactic::Syntactic for PathArguments {
+    ghost use Rattle.syn_tree.specs.Lower.{syntax_of_PathArguments};
+
+    ghost syntax = { syntax_of_PathArguments };
 }

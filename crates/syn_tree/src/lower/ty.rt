@@ -1,17 +1,11 @@
 //! Types.
-ghost use Rattle.std.specs.Prelude.{◌≡◌};
 ghost use Rattle.syn_grammar.specs.Rules as rules;
-ghost use Rattle.syn_grammar.specs.Grammar.{rule};
-ghost use Rattle.syn_grammar.proofs.Outcomes.{meaning_of_rule};
-ghost use Rattle.syn_grammar.specs.Says.{itself};
-ghost use Rattle.syn_tree.specs.Views.{syntax_of_Type};
+ghost use Rattle.syn_tree.specs.Parsing.{rule, meaning_of_rule};
 
 use crate::lower::Path;
-use std::marker::Model;
 use syn_tokens::buffer::ParseBuffer;
 use syn_tokens::read::Read;
 use syn_tokens::refusal::Reading;
-use syn_tokens::syntactic::Syntactic;
 
 /// A type.
 #[derive(Drop)]
@@ -26,30 +20,9 @@ pub struct TypePath {
     pub path: Path,
 }
 
-impl Model for TypePath {
-    ghost use Rattle.syn_grammar.specs.Grammar.{Syntax};
-    ghost use Rattle.syn_grammar.specs.TreeCodes.{syntax_code};
-
-    ghost Value = { Syntax };
-
-    ghost coded = { syntax_code };
-
-    ghost use Rattle.syn_tree.specs.Views.{view_TypePath};
-
-    ghost view = { view_TypePath };
-}
-
 /// The type before a qualified path. None is read yet, so the type has no values.
 #[derive(Drop)]
 pub enum QSelf {}
-
-impl Syntactic for TypePath {
-    ghost syntax = { itself };
-}
-
-impl Syntactic for Type {
-    ghost syntax = { syntax_of_Type };
-}
 
 impl Read for TypePath {
     ghost form = { rule rules.type_path };
@@ -74,4 +47,31 @@ impl Read for Type {
     fn read(input: &mut ParseBuffer<'_>) -> Reading<Type> {
         Ok(Type::Path(input.read()?))
     }
+}
+
+// Written by tools/kinds.py from here to the end; edits are lost.
+
+impl std::marker::Model for TypePath {
+    ghost use Rattle.syn_grammar.specs.Grammar.{Syntax};
+    ghost use Rattle.syn_grammar.specs.TreeCodes.{syntax_code};
+
+    ghost Value = { Syntax };
+
+    ghost coded = { syntax_code };
+
+    ghost use Rattle.syn_tree.specs.Plain.{view_TypePath};
+
+    ghost view = { view_TypePath };
+}
+
+impl syn_tokens::syntactic::Syntactic for Type {
+    ghost use Rattle.syn_tree.specs.Lower.{syntax_of_Type};
+
+    ghost syntax = { syntax_of_Type };
+}
+
+impl syn_tokens::syntactic::Syntactic for TypePath {
+    ghost use Rattle.syn_grammar.specs.Says.{itself};
+
+    ghost syntax = { itself };
 }

@@ -1,0 +1,29 @@
+-- WHAT SYNTAX PATHS, TYPES AND GENERICS STAND FOR, one level at a time, every field.
+-- A tree that a parser gives stands for the derivation of its rule. Of other trees too everything is shown: what is never
+-- printed stands under `Unshown`, and a mark that is printed though the tree lacks it is `Added`.
+use Rattle.syn_grammar.specs.Grammar.{Syntax, Nothing, Both, Right, Node}
+use Rattle.syn_tokens.specs.Leaves.{maybe, syntax_of_ident}
+use Rattle.syn_tokens.specs.Kinds.{lt_syntax, gt_syntax}
+use Rattle.syn_tree.specs.declared.lower.path.PathSegment.TheInside as PathSegment-in
+use Rattle.syn_tree.specs.declared.lower.path.PathArguments.TheVariants as PathArguments-m
+use Rattle.syn_tree.specs.declared.lower.ty.Type.TheVariants as Type-m
+use Rattle.syn_tree.specs.declared.lower.generics.Generics.TheInside as Generics-in
+
+abbrev pub syntax_of_PathArguments : PathArguments-m.the_data → Syntax
+syntax_of_PathArguments PathArguments-m.None = Nothing
+
+-- a path's word; of its arguments there is one value yet
+abbrev pub view_PathSegment : PathSegment-in.Inside → Syntax
+view_PathSegment a = syntax_of_ident a.ident
+
+abbrev pub syntax_of_Type : Type-m.the_data → Syntax
+syntax_of_Type (Type-m.Path t) = Node t
+
+-- the signs of generics without parameters, which are never printed
+abbrev pub generics_signs : Syntax → Syntax → Syntax
+generics_signs (Right s) (Right t) = Nothing
+generics_signs lt_token gt_token = Both lt_token gt_token
+
+-- generics: no parameter and no clause can stand in them yet
+abbrev pub view_Generics : Generics-in.Inside → Syntax
+view_Generics a = generics_signs (maybe lt_syntax a.lt_token) (maybe gt_syntax a.gt_token)

@@ -1,0 +1,11 @@
+-- WHAT THE CONTRACTS OF PARSERS ARE MADE OF, in one place to import from.
+pub use Rattle.std.specs.Prelude.{◌≡◌, OnErr}
+pub use Rattle.syn_grammar.specs.Grammar.{rule, inside, name_or}
+pub use Rattle.syn_grammar.specs.Run.{reads, parse}
+pub use Rattle.syn_grammar.specs.Says.{Says, Parses, MayParse, Moved, Kept, Outcome, itself}
+pub use Rattle.syn_grammar.specs.Take.{take_token, sees}
+pub use Rattle.syn_grammar.proofs.Outcomes.{meaning_of_rule}
+pub use Rattle.syn_tokens.specs.Leaves.{path_words}
+pub use Rattle.syn_tokens.specs.Listing.{list_of, joined_of}
+pub use Rattle.syn_tokens.specs.Refusals.{IsSyntax}
+pub use Rattle.syn_tokens.specs.Faults.{IsSyntaxError}

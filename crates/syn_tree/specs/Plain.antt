@@ -1,0 +1,21 @@
+-- Written by tools/kinds.py; edits are lost.
+-- THE VIEWS OF STRUCTS THAT ARE THEIR RULE'S PARTS IN ORDER.
+use Rattle.syn_grammar.specs.Grammar.{Both, Node, Syntax}
+use Rattle.syn_grammar.specs.Says.{itself}
+use Rattle.syn_grammar.specs.Tokens.{Paren}
+use Rattle.syn_tokens.specs.Kinds.{comma_syntax, path_sep_syntax}
+use Rattle.syn_tokens.specs.Leaves.{maybe}
+use Rattle.syn_tokens.specs.Listing.{joined_of, list_of}
+use Rattle.syn_tree.specs.Parts.{group_syntax}
+use Rattle.syn_tree.specs.declared.data.FieldsUnnamed.TheInside as FieldsUnnamed-in
+use Rattle.syn_tree.specs.declared.lower.path.Path.TheInside as Path-in
+use Rattle.syn_tree.specs.declared.lower.ty.TypePath.TheInside as TypePath-in
+
+abbrev pub view_FieldsUnnamed : FieldsUnnamed-in.Inside → Syntax
+view_FieldsUnnamed a = Node (group_syntax Paren a.paren_token (list_of itself comma_syntax a.unnamed.pairs a.unnamed.last))
+
+abbrev pub view_Path : Path-in.Inside → Syntax
+view_Path a = Node (Both (maybe path_sep_syntax a.leading_colon) (joined_of itself path_sep_syntax a.segments.pairs a.segments.last))
+
+abbrev pub view_TypePath : TypePath-in.Inside → Syntax
+view_TypePath a = Node a.path

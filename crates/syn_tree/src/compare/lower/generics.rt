@@ -1,0 +1,27 @@
+//! Written by tools/kinds.py; edits are lost.
+//!
+//! Comparisons of `lower/generics`.
+ghost use Rattle.syn_grammar.specs.Says.{itself};
+ghost use Rattle.syn_tree.specs.Equality.{Equals};
+ghost use Rattle.syn_tokens.specs.Comparison.{same_by, same_equiv, same_per};
+
+use crate::lower::Generics;
+use syn_tokens::compare::Compared;
+
+/// Two are equal exactly where they are once every span is 0 to 0.
+impl PartialEq for Generics {
+    ghost eq = { same_by itself };
+
+    ghost laws = { same_per itself };
+
+    #[tactic(auto, using(syn_grammar::proofs::Same::same_syntax_plain))]
+    fn eq(&self, other: &Generics) -> bool
+        ensures { Equals itself self.now other.now result }
+    {
+        self.is_same(other)
+    }
+}
+
+impl Eq for Generics {
+    ghost laws = { same_equiv itself };
+}

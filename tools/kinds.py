@@ -1,0 +1,88 @@
+#!/usr/bin/env python3
+"""Writes what is the same for every type of syntax, from the structs and enums of crates/syn_tree and the table of kinds below.
+
+    tools/kinds.py            writes the files; run it at the top of the repository, and commit what it writes
+    tools/kinds.py --check    writes nothing; fails where a file isn't as it would write it
+
+It writes, laid out as `rt fmt` wants it:
+
+    crates/syn_tree/src/**.rt           at the end of each file, under a line that says so: `Model` and `Syntactic` (the language
+                                        wants the first in the module of its type)
+    crates/syn_tree/specs/Plain.antt    the views of structs that are their rule's parts in order
+    crates/syn_tree/src/copies**        `TryClone`
+    crates/syn_tree/src/compare**       `Compared`, `PartialEq`, `Eq`
+    crates/syn/src/kinds.rt             `Canonical`, of the kinds below
+    crates/syn_canon                    src/kind.rt, src/by_kind.rt, specs/Kinds.antt: the program's list of kinds
+
+What is odd is written by hand, and then left out here: a `view_X` in a file of specs/, or an `impl TryClone for X`, `impl Compared
+for X` .. in a file of src/. A struct with a `syntax_of_X` of its own has no `Model`. A list is one that may be empty (`list_of`),
+unless JOINED names it.
+"""
+import argparse
+import sys
+from pathlib import Path
+
+from kindslib.impls import comparisons, copies
+from kindslib.program import canonical, dispatch, kind_enum, kind_specs
+from kindslib.source import Fault, Source
+from kindslib.views import endings, plain_views
+
+# the program's word, the type, the rule that reads it
+KINDS = [
+    ("derive", "DeriveInput", "derive_input"),
+    ("visibility", "Visibility", "visibility"),
+    ("fields-unnamed", "FieldsUnnamed", "fields_unnamed"),
+]
+
+# lists with one value at least, which end with one
+JOINED = {("Path", "segments")}
+
+CRATES = Path("crates")
+
+
+def outputs():
+    """What stands in each file that this script writes, or has a part of."""
+    source = Source(CRATES / "syn_tree")
+    files = {}
+    files.update(endings(source))
+    files.update(plain_views(source, JOINED))
+    files.update(copies(source))
+    files.update(comparisons(source))
+    files[CRATES / "syn/src/kinds.rt"] = canonical(source, KINDS)
+    files[CRATES / "syn_canon/src/kind.rt"] = kind_enum(KINDS)
+    files[CRATES / "syn_canon/src/by_kind.rt"] = dispatch(source, KINDS)
+    files[CRATES / "syn_canon/specs/Kinds.antt"] = kind_specs(KINDS)
+    return files
+
+
+def leftovers(files):
+    """Files in the folders that are this script's alone which it wouldn't write."""
+    folders = [CRATES / "syn_tree/src/copies", CRATES / "syn_tree/src/compare"]
+    return [path for folder in folders for path in sorted(folder.rglob("*.rt")) if path not in files]
+
+
+def main():
+    parser = argparse.ArgumentParser(description=__doc__, formatter_class=argparse.RawDescriptionHelpFormatter)
+    parser.add_argument("--check", action="store_true", help="write nothing, and fail where a file differs")
+    options = parser.parse_args()
+    try:
+        files = outputs()
+    except Fault as fault:
+        sys.exit(f"kinds: {fault}")
+    if options.check:
+        stale = [str(path) for path, text in files.items() if not path.is_file() or path.read_text() != text]
+        stale += [f"{path} (nothing is to stand there)" for path in leftovers(files)]
+        if stale:
+            sys.exit("kinds: not as this script writes them: " + ", ".join(stale))
+        print(f"kinds: {len(files)} files as written")
+        return
+    for path in leftovers(files):
+        path.unlink()
+    for path, text in files.items():
+        path.parent.mkdir(parents=True, exist_ok=True)
+        if not path.is_file() or path.read_text() != text:
+            path.write_text(text)
+
+
+if __name__ == "__main__":
+    main()

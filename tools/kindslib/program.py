@@ -1,0 +1,115 @@
+"""The kinds that have canonical prints, and the program's list of them."""
+from .impls import WRITTEN, import_line
+from .source import camel
+
+
+def imports(source, crate, kinds, others):
+    uses = {}
+    for _, name, _ in kinds:
+        uses.setdefault(f"{crate}::{source.path_of(name)}", []).append(name)
+    for path, name in others:
+        uses.setdefault(path, []).append(name)
+    return "".join(import_line(path, names) for path, names in sorted(uses.items()))
+
+
+def canonical(source, kinds):
+    blocks = "".join(f"""
+impl Canonical for {name} {{
+    ghost rule = {{ rules.{rule} }};
+
+    ghost reads_rule = {{ refl }};
+}}
+""" for _, name, rule in kinds)
+    return f"""//! {WRITTEN}
+//!
+//! The kinds that have canonical prints, each by its rule.
+ghost use Rattle.std.specs.Prelude.{{refl}};
+ghost use Rattle.syn_grammar.specs.Rules as rules;
+
+{imports(source, "syn_tree", kinds, [("crate::lawful", "Canonical")])}{blocks}"""
+
+
+def kind_enum(kinds):
+    variants = "".join(f"    {camel(word)},\n" for word, _, _ in kinds)
+    arms = "".join(f'            "{word}" => Some(Kind::{camel(word)}),\n' for word, _, _ in kinds)
+    return f"""//! {WRITTEN}
+//!
+//! What a text may spell.
+ghost use Rattle.std.specs.Prelude.{{◌≡◌, MatchOption}};
+ghost use Rattle.syn_canon.specs.Kinds.{{word_of, NoKind}};
+
+/// What a text may spell.
+#[derive(Clone, Copy, Debug, PartialEq, Eq)]
+pub(crate) enum Kind {{
+{variants}}}
+
+impl Kind {{
+    /// The kind that the word is, if it is one.
+    pub(crate) fn from_word(word: &str) -> Option<Kind>
+        ensures {{ MatchOption result (NoKind word.now) (λ kind. word.now ≡ word_of kind) }}
+    {{
+        match word {{
+{arms}            _ => None,
+        }}
+    }}
+}}
+"""
+
+
+def dispatch(source, kinds):
+    def arms(function):
+        return "".join(f"        Kind::{camel(word)} => {function}::<{name}>(tokens),\n" for word, name, _ in kinds)
+
+    return f"""//! {WRITTEN}
+//!
+//! What the program answers of each kind.
+ghost use Rattle.std.specs.Prelude.{{◌≡◌, true, IfOk, IfErr, OnOk, string_bytes}};
+ghost use Rattle.syn_grammar.specs.Tokens.{{visible}};
+ghost use Rattle.syn_canon.specs.Kinds.{{rule_of}};
+ghost use Rattle.syn_canon.specs.Answers.{{IsPrinted, IsDerived, IsUnderived}};
+
+{imports(source, "syn", kinds, [("crate::answer", "check"), ("crate::answer", "print"), ("crate::failure", "Failure"), ("crate::kind", "Kind"), ("syn::token", "TokenStream")])}
+/// What `print` writes of the tokens.
+pub(crate) fn print_as(kind: Kind, tokens: TokenStream) -> Result<String, Failure>
+    requires {{ visible tokens ≡ true }}
+    ensures ok {{ IfOk result (λ text. IsPrinted (rule_of kind) tokens (string_bytes text)) }}
+    ensures err {{ IfErr result (IsUnderived (rule_of kind) tokens) }}
+{{
+    match kind {{
+{arms("print")}    }}
+}}
+
+/// Whether the tokens are of the kind; no more is kept of them.
+pub(crate) fn check_as(kind: Kind, tokens: TokenStream) -> Result<(), Failure>
+    requires {{ visible tokens ≡ true }}
+    ensures ok {{ OnOk result (IsDerived (rule_of kind) tokens) }}
+    ensures err {{ IfErr result (IsUnderived (rule_of kind) tokens) }}
+{{
+    match kind {{
+{arms("check")}    }}
+}}
+"""
+
+
+def kind_specs(kinds):
+    names = ", ".join(camel(word) for word, _, _ in kinds)
+    words = "".join(f'word_of {camel(word)} = codes "{word}"\n' for word, _, _ in kinds)
+    rules = "".join(f"rule_of {camel(word)} = rules.{rule}\n" for word, _, rule in kinds)
+    return f"""-- {WRITTEN}
+-- THE KINDS OF THE PROGRAM: how each is written, each as bytes, and by which rule of the grammar it is read.
+use Rattle.std.specs.Prelude.{{◌≡◌, ℕ, List, codes}}
+use Rattle.syn_grammar.specs.Rules as rules
+use Rattle.syn_grammar.specs.Rules.{{Rule}}
+use Rattle.syn_canon.specs.declared.kind.Kind.{{Kind}}
+use Rattle.syn_canon.specs.declared.kind.Kind.TheVariants.{{{names}}}
+
+-- how a kind is written
+abbrev pub word_of : Kind → List ℕ
+{words}
+-- no kind is written so
+abbrev pub NoKind : List ℕ → Type 0
+NoKind word = (kind : Kind) → word ≡ word_of kind → ⊥
+
+-- the rule of the grammar by which a kind is read
+abbrev pub rule_of : Kind → Rule
+{rules}"""

@@ -1,0 +1,126 @@
+"""Reads the structs and enums of crates/syn_tree, as far as they are laid out there: one field or variant a line."""
+import re
+
+FIRST_LINE = "Written by tools/kinds.py from here to the end; edits are lost."
+MARK = f"// {FIRST_LINE}\n"
+
+TYPE = re.compile(r"^((?:///[^\n]*\n|#\[[^\n]*\n)*)pub (struct|enum) (\w+) \{(.*?)\n?\}$", re.S | re.M)
+FIELD = re.compile(r"^    pub (\w+): (.+),$", re.M)
+VARIANT = re.compile(r"^    (\w+)(?:\((.*)\))?,$", re.M)
+USE = re.compile(r"^use (\w+)::([\w:]+)::(?:\{([^}]*)\}|(\w+));$", re.M)
+DELIMITERS = {"Paren", "Brace", "Bracket"}
+
+
+class Fault(Exception):
+    """What this script can't read."""
+
+
+class Type:
+    """A struct or an enum, with its fields or variants in order."""
+
+    def __init__(self, kind, name, body, attributes, file):
+        self.is_enum = kind == "enum"
+        self.name = name
+        self.file = file
+        self.is_copy = "Copy" in attributes
+        self.fields = [] if self.is_enum else FIELD.findall(body)
+        self.variants = VARIANT.findall(body) if self.is_enum else []
+        lines = [line for line in body.split("\n") if line.strip() and not line.strip().startswith(("///", "//"))]
+        if len(lines) != len(self.fields) + len(self.variants):
+            raise Fault(f"{file}: {name} isn't laid out with one public field or variant a line")
+
+    def has_no_values(self):
+        return self.is_enum and not self.variants
+
+    def has_one_value(self):
+        """Nothing in it tells two of its values apart: no fields, or one variant without any."""
+        return not self.fields and not self.is_enum or [payload for _, payload in self.variants] == [""]
+
+
+class Source:
+    """The types of the crate, what is written by hand for them, and where."""
+
+    def __init__(self, crate):
+        self.crate = crate
+        self.hand = {}
+        self.types = {}
+        self.tokens = {}
+        for path in sorted((crate / "src").rglob("*.rt")):
+            relative = path.relative_to(crate / "src")
+            text = path.read_text().split(MARK)[0]
+            if text.startswith("//! Written by tools/kinds.py"):
+                continue
+            self.hand[relative] = text
+            for attributes, kind, name, body in TYPE.findall(text):
+                self.types[name] = Type(kind, name, body, attributes, relative)
+            self.tokens[relative] = imported(text)
+        self.specs = {path.stem: path.read_text() for path in sorted((crate / "specs").rglob("*.antt"))}
+        self.specs = {name: text for name, text in self.specs.items() if not text.startswith("-- Written by tools/kinds.py")}
+
+    def by_hand(self, block):
+        """Whether a block of code stands in a file that is written by hand."""
+        return any(re.search(rf"^{block} \{{", text, re.M) for text in self.hand.values())
+
+    def spec_of(self, name):
+        """The file of specs/ that defines this name by hand, if one does."""
+        for file, text in self.specs.items():
+            if re.search(rf"^(?:abbrev |unfoldable )?pub {name} :", text, re.M):
+                return file
+        return None
+
+    def printed(self):
+        """The types that stand for syntax: all that have values, but for structs without fields, which only hold a place."""
+        return [t for t in self.types.values() if not t.has_no_values() and (t.is_enum or t.fields)]
+
+    def path_of(self, name):
+        """The module through which the crate names a type: the top one of its file, which passes it on."""
+        return self.types[name].file.parts[0].removesuffix(".rt")
+
+    def is_token(self, owner, kind):
+        """Whether a type of a field of `owner` is a word, a mark or the signs of a group."""
+        return kind in self.tokens[owner.file]
+
+    def is_empty(self, kind):
+        """Whether a field of this type holds nothing, since some type in it has no values."""
+        return any(name in self.types and self.types[name].has_no_values() for name in re.findall(r"\w+", kind))
+
+    def holds_place(self, kind):
+        """Whether the field's type is a struct without fields."""
+        return kind in self.types and not self.types[kind].is_enum and not self.types[kind].fields
+
+    def is_plain_copy(self, owner, kind):
+        """Whether a field is copied by itself."""
+        inner = re.fullmatch(r"Option<(\w+)>", kind)
+        return self.is_token(owner, kind) or self.holds_place(kind) or bool(inner and self.is_token(owner, inner[1]))
+
+    def files(self):
+        """The types that stand for syntax, by the file in which they stand."""
+        found = {}
+        for t in self.printed():
+            found.setdefault(t.file, []).append(t)
+        return found
+
+
+def imported(text):
+    """The names that a file takes from a module `token`."""
+    names = set()
+    for _, path, several, one in USE.findall(text):
+        if path.split("::")[-1] == "token":
+            names |= {name.strip() for name in (several or one).split(",") if name.strip()}
+    return names
+
+
+def snake(name):
+    return re.sub(r"(?<!^)(?=[A-Z])", "_", name).lower()
+
+
+def camel(word):
+    return "".join(part.capitalize() for part in re.split(r"[-_]", word))
+
+
+def wrapped(line, indent, pieces, joiner):
+    """The line, or its pieces one a line where it would be wider than 100 characters."""
+    if indent + len(line) <= 100:
+        return " " * indent + line
+    first, *others = pieces
+    return "\n".join([" " * indent + first] + [" " * (indent + 4) + joiner + piece for piece in others])

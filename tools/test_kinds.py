@@ -1,0 +1,114 @@
+#!/usr/bin/env python3
+"""Tests of kinds.py."""
+
+import tempfile
+import unittest
+from pathlib import Path
+
+from kindslib.impls import comparisons, copies, prints
+from kindslib.program import kind_enum, kind_specs
+from kindslib.source import MARK, Fault, Source
+from kindslib.views import endings, plain_views
+
+TYPES = """//! Things.
+use crate::other::Inner;
+use syn_tokens::ident::Ident;
+use syn_tokens::punctuated::Punctuated;
+use syn_tokens::token::{Colon, Comma, Paren, kind};
+
+/// One.
+#[derive(Drop)]
+pub struct Thing {
+    pub attrs: Vec<Never>,
+    pub ident: Option<Ident>,
+    pub colon_token: Option<Colon>,
+    pub place: Place,
+    /// Behind it all is in the group.
+    pub paren_token: Paren,
+    pub parts: Punctuated<Choice, Comma>,
+}
+
+#[derive(Drop)]
+pub enum Never {}
+
+#[derive(Clone, Copy)]
+pub struct Place {}
+
+#[derive(Drop)]
+pub enum Choice {
+    /// A mark.
+    Mark(Colon),
+    Whole(Box<Thing>),
+    Nothing,
+}
+"""
+SPECS = """abbrev pub syntax_of_Choice : Choice-m.the_data → Syntax
+"""
+
+
+class Kinds(unittest.TestCase):
+    def crate(self, types=TYPES, specs=SPECS):
+        folder = tempfile.TemporaryDirectory()
+        self.addCleanup(folder.cleanup)
+        self.top = Path(folder.name)
+        for name, text in (("src/things.rt", types), ("specs/Things.antt", specs)):
+            path = self.top / name
+            path.parent.mkdir(exist_ok=True)
+            path.write_text(text)
+        return Source(self.top)
+
+    def test_a_field_without_values_is_copied_as_empty_and_not_compared(self):
+        source = self.crate()
+        copy = copies(source)[self.top / "src/copies/things.rt"]
+        self.assertIn("            attrs: Vec::new(alloc),\n", copy)
+        self.assertIn("            place: self.place,\n            paren_token: self.paren_token,\n", copy)
+        same = comparisons(source)[self.top / "src/compare/things.rt"]
+        self.assertIn("self.ident.is_same(&other.ident)\n            && self.colon_token.is_same(&other.colon_token)\n", same)
+        self.assertNotIn("attrs", same)
+        self.assertNotIn("paren_token", same)
+
+    def test_an_enum_goes_by_its_variants(self):
+        source = self.crate()
+        same = comparisons(source)[self.top / "src/compare/things.rt"]
+        self.assertIn("(Choice::Whole(a), Choice::Whole(b)) => a.is_same(b),\n            (Choice::Nothing, Choice::Nothing) => true,\n            _ => false,\n", same)
+        copy = copies(source)[self.top / "src/copies/things.rt"]
+        self.assertIn("Choice::Mark(value) => Ok(Choice::Mark(*value)),\n            Choice::Whole(value) => Ok(Choice::Whole(value.try_clone(alloc)?)),\n", copy)
+
+    def test_what_stands_behind_a_sign_is_in_its_group(self):
+        source = self.crate()
+        view = plain_views(source, set())[self.top / "specs/Plain.antt"]
+        self.assertIn("view_Thing a = Node (Both (maybe syntax_of_ident a.ident) (Both (maybe colon_syntax a.colon_token) (group_syntax Paren a.paren_token (list_of syntax_of_Choice comma_syntax a.parts.pairs a.parts.last))))\n", view)
+        self.assertIn("joined_of", plain_views(source, {("Thing", "parts")})[self.top / "specs/Plain.antt"])
+        printed = prints(source, {"Choice"})[self.top / "src/prints/things.rt"]
+        self.assertIn("self.paren_token.open(out)?;\n        print_list(&self.parts, out)?;\n        self.paren_token.close(out)\n", printed)
+        self.assertNotIn("Choice", printed)
+
+    def test_what_is_written_by_hand_is_left_out(self):
+        source = self.crate(TYPES + "\nimpl Compared for Thing {\n}\n", SPECS + "abbrev pub view_Thing : Thing-in.Inside → Syntax\n")
+        self.assertNotIn("view_Thing", plain_views(source, set())[self.top / "specs/Plain.antt"])
+        same = comparisons(source)[self.top / "src/compare/things.rt"]
+        self.assertNotIn("impl Compared for Thing", same)
+        self.assertIn("impl PartialEq for Thing", same)
+        self.assertIn("specs.Things.{view_Thing}", endings(source)[self.top / "src/things.rt"])
+
+    def test_the_ending_is_written_anew(self):
+        first = endings(self.crate())[self.top / "src/things.rt"]
+        again = endings(self.crate(first))[self.top / "src/things.rt"]
+        self.assertEqual(first, again)
+        self.assertEqual(first.count(MARK), 1)
+        self.assertNotIn("Model for Choice", first)
+
+    def test_what_it_cant_read_is_a_fault(self):
+        with self.assertRaises(Fault):
+            self.crate("pub struct Wide {\n    pub a: A, pub b: B\n}\n")
+        with self.assertRaises(Fault):
+            endings(self.crate(specs=""))
+
+    def test_the_kinds_of_the_program(self):
+        kinds = [("fields-unnamed", "FieldsUnnamed", "fields_unnamed")]
+        self.assertIn('            "fields-unnamed" => Some(Kind::FieldsUnnamed),\n', kind_enum(kinds))
+        self.assertIn("rule_of FieldsUnnamed = rules.fields_unnamed\n", kind_specs(kinds))
+
+
+if __name__ == "__main__":
+    unittest.main()
