@@ -139,7 +139,7 @@ class Mutants:
         for path, part in places(form):
             for change, new in self.of_part(part):
                 yield change, put(form, path, new)
-        yield from self.of_terminals(form)
+        yield from self.of_fixed_tokens(form)
 
     # PARTS OF SEQUENCES
 
@@ -236,7 +236,7 @@ class Mutants:
         yield f'always {self.name(yes)} in place of {self.name(other)}', yes
         yield f'always {self.name(other)} in place of {self.name(yes)}', other
         yield f'{self.name(yes)} and {self.name(other)} exchanged', (kind, look, other, yes)
-        own = [t for kind, t in unique(self.terminals(part)) if kind == 'mark']
+        own = [t for kind, t in unique(self.fixed_tokens(part)) if kind == 'mark']
         for change, new in self.of_look(look, own):
             if not self.is_idle(look, new, yes, other):
                 yield f'{self.name(yes)}, {change}', (kind, new, yes, other)
@@ -286,10 +286,10 @@ class Mutants:
 
     # WORDS, MARKS AND DELIMITERS, in tokens and conditions alike
 
-    def of_terminals(self, form):
-        terminals = unique(t for t in self.terminals(form))
-        words = [w for kind, w in terminals if kind == 'word']
-        for kind, text in terminals:
+    def of_fixed_tokens(self, form):
+        tokens = unique(self.fixed_tokens(form))
+        words = [w for kind, w in tokens if kind == 'word']
+        for kind, text in tokens:
             if kind == 'word':
                 yield f'`{text}` may be any identifier', exchanged(form, self.any_identifier(text))
                 for other in words:
@@ -304,7 +304,7 @@ class Mutants:
                         yield f'{DELIMITERS[text]} may also be {DELIMITERS[other]}', exchanged(form, self.also_group(text, other))
         yield from self.of_names(form, words)
 
-    def terminals(self, form):
+    def fixed_tokens(self, form):
         for _, part in places(form):
             if part[0] == 'token' and part[2][0] == 'word':
                 yield 'word', part[2][1]
