@@ -304,6 +304,22 @@ class Trials(InCrate):
         self.refused("= 5;", "Name::first", "returns-clause-value")
         self.assertEqual(self.trial(), ([], [1]))
 
+    def test_a_table_is_told_by_a_lemma_on_which_a_function_rests(self):
+        self.edit("a", "clause: first by sound", "old: LIMIT: usize = 4", "new: LIMIT: usize = 5")
+        self.edit("b", "clause: first by sound", "old: LIMIT: usize = 4", "new: LIMIT: usize = 6")
+        depends = "1 declaration that depends on `sound`, which was not admitted, was not checked: rest"
+        self.says["= 5;"] = "\n".join(
+            [
+                "./proofs/Said.antt:146:28: error: `sound`: as printed, the two types differ",
+                f"./proofs/laws/first/Answers.antt:4:5: error: {depends}",
+                "fn low::Name::first: not proved",
+            ]
+        )
+        self.edit("c", "clause: Examples by shown", "old: LIMIT: usize = 4", "new: LIMIT: usize = 7")
+        self.says["= 7;"] = "./proofs/Examples.antt:118:45: error: `shown`: `reads structure` differs"
+        self.says["= 6;"] = "./proofs/Said.antt:146:28: error: `sound`: `gone` is not in scope\nfn low::Name::first: not proved"
+        self.assertEqual(self.trial()[0], ["b: NOT REFUSED"])
+
     def test_recording_writes_what_is_refused(self):
         a = self.edit("a", "old:         2", "new:         4")
         b = self.edit("b", "old:         3", "new:         6")
@@ -348,7 +364,7 @@ class Processors(unittest.TestCase):
 
 
 class Program(InCrate):
-    def test_check_ends_with_1_where_an_edit_names_another_clause(self):
+    def test_check_ends_with_1_where_an_edit_names_no_clause_of_the_contract(self):
         (self.top / "crates.txt").write_text("low:\n")
         self.edit("a", "old:         2", "new:         4")
         for clause, status in [("clause: value", 0), ("clause: ok", 1)]:

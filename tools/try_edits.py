@@ -11,7 +11,9 @@ An edit is a file of lines:
     clause: reads                            the clause that it breaks, by its name in the contract; `returns` for a clause
                                              without a name, `invariant` for that of a type
     clause: skips by loop-character-preserved      the same, where the prover stops at another goal than the clause's own: a
-                                             loop's invariant, or what a callee requires
+                                             loop's invariant, or what a callee requires; of a table, a function that is
+                                             not proved, or a file of proofs, and the lemma there that is refused:
+                                             one_tree by unions_hold, Examples by struct_named_in
     file: src/token/word.rt                  what it changes,
     in: token::word::Word::new               in which function (left out where the text stands once in the file),
     old: span,                               the text, which stands there once,
@@ -91,10 +93,13 @@ class Trial:
         return missed
 
     def is_refused(self, edit, answer, is_alone):
-        """Whether one of the functions that the edit changes was refused for itself; of an edit outside of bodies, any function."""
+        """Whether one of the functions that the edit changes was refused for itself; of an edit outside of bodies, any function,
+        or a lemma on which one rests."""
         names = list(answer.functions) if edit.is_outside else sorted(edit.functions)
         told = {name: answer.of(name) for name in names}
         goals = [(name, goal) for name, it in told.items() if it for goal in it.goals]
+        if edit.is_outside:
+            goals += [(name, lemma) for _, lemma in answer.lemmas for name in answer.unproved()] + answer.lemmas
         if goals and not answer.unread:
             self.refused[edit.name] = goals
             return True
@@ -110,6 +115,13 @@ class Trial:
             (clauses if clause else others)[clause or goal] = function
         return list(clauses), list(others)
 
+    def whole(self, edit):
+        """What may be named before ` by `: the clauses of what the edit changes; outside of bodies, a function that isn't
+        proved, or the file of a lemma."""
+        if edit.is_outside:
+            return list(dict.fromkeys(function.rpartition("::")[2] for function, _ in self.refused[edit.name]))
+        return self.source.clauses(edit)
+
     def compare(self, is_recording):
         """Compares what was refused with what the edits name."""
         for edit in self.edits:
@@ -117,11 +129,12 @@ class Trial:
                 continue
             clauses, others = self.clauses(edit)
             if not edit.clauses and is_recording:
-                edit.clauses = clauses[:1] or [f"{'|'.join(self.source.clauses(edit)) or 'returns'} by {others[0]}"]
+                edit.clauses = clauses[:1] or [f"{(self.whole(edit) or ['returns'])[0]} by {others[0]}"]
                 edit.path.write_text(with_clauses(edit.path.read_text(), edit.clauses))
             for clause in edit.clauses:
                 name, _, goal = clause.partition(" by ")
-                if (goal or name) not in (others if goal else clauses):
+                fits = goal in others and (name in self.whole(edit) or not self.whole(edit)) if goal else name in clauses
+                if not fits:
                     self.wrong.append(f"{edit.name}: names {clause}, but refused were: {', '.join([*clauses, *others])}")
 
 

@@ -30,15 +30,16 @@ class Told:
 
 @dataclass
 class Answer:
-    """What a check said: of each function, by its name below the crate; what couldn't be read; and its last line."""
+    """What a check said: of each function, by its name; the lemmas that were refused, each with the name of its file; what
+    couldn't be read; and its last line."""
 
-    functions: dict
-    unread: list
-    ended: str
+    functions: dict = field(default_factory=dict)
+    lemmas: list = field(default_factory=list)
+    unread: list = field(default_factory=list)
+    ended: str = ""
 
-    @property
-    def is_proved(self):
-        return self.ended.startswith("logic=proved")
+    def unproved(self):
+        return [name for name, told in self.functions.items() if told.line != "proved"]
 
     def of(self, function):
         """What is said of a function and of the closures in it; nothing where the prover names no such function."""
@@ -56,38 +57,38 @@ class Answer:
 def answer_of(said, crate, function_at, changed):
     """Reads the lines of a check of this crate. `function_at` tells the function of a place (a file, a line from 0), and
     `changed` are the files that edits change."""
-    functions, unread, ended = {}, [], ""
-    lines = said.rstrip("\n").split("\n")
+    answer, lines = Answer(), said.rstrip("\n").split("\n")
     for line in lines:
         match = FUNCTION.match(line)
         if match and match[1].startswith(crate + "::"):
-            functions[match[1]] = told = Told(line=match[2])
+            answer.functions[match[1]] = told = Told(line=match[2])
             goals = re.search(r"`search` did not prove ((?:`[^`]+`(?:, )?)+)", match[2])
             told.goals += re.findall(r"`([^`]+)`", goals[1]) if goals else []
-        ended = line if line.startswith(("logic=", "rattle: no verdict")) else ended
+        answer.ended = line if line.startswith(("logic=", "rattle: no verdict")) else answer.ended
     for line in lines:
         goal, error = GOAL.match(line), ERROR.match(line)
         if goal:
-            told = functions.get(f"{crate}::{function_at(goal[1], int(goal[2]) - 1)}", Told())
+            told = answer.functions.get(f"{crate}::{function_at(goal[1], int(goal[2]) - 1)}", Told())
             told.goals += [goal[3]] * (goal[3] not in told.goals)
         elif error:
-            told_of_error(functions, unread, crate, changed, line, error)
-    return Answer(functions, unread, ended)
+            told_of_error(answer, crate, changed, error)
+    return answer
 
 
-def told_of_error(functions, unread, crate, changed, line, error):
+def told_of_error(answer, crate, changed, error):
     path, _, said = error.groups()
     goal = re.match(r"`([^`]+)`: (.*)", said)
     plain = re.sub(r"`[^`]*`", "", goal[2] if goal else said)
     if (path in changed or path.startswith(("src/", "specs/"))) and (not goal or UNREAD.search(plain)):
-        unread.append(line)
+        answer.unread.append(error[0])
         return
-    proof = PROOF.match(path)
-    told = functions.get(f"{crate}::{proof[1].replace('/', '::')}") if proof else None
-    if told and (GONE.search(plain) or not goal):
+    proof, is_gone = PROOF.match(path), GONE.search(plain) or not goal
+    told = answer.functions.get(f"{crate}::{proof[1].replace('/', '::')}") if proof else None
+    if told and is_gone:
         told.is_gone = True
-    elif told:
-        told.goals += [goal[1]] * (goal[1] not in told.goals)
+    elif not is_gone:
+        refused, it = (told.goals, goal[1]) if told else (answer.lemmas, (path.rpartition("/")[2].removesuffix(".antt"), goal[1]))
+        refused += [it] * (it not in refused)
 
 
 def clause_of(goal, only):
