@@ -108,7 +108,13 @@ class File:
         self.module = Path(path).stem
         self.is_home = self.crate == HOME or self.is_grammar_tool()
         self.imported, self.aliases, self.own = {}, {}, {}  # names of syn_grammar, its modules by other names, names of other crates
-        self.read_imports(self.text)
+        self.read_imports(self.edited(root) if self.kind == '.edit' else self.text)
+
+    def edited(self, root):
+        """The text that an edit changes."""
+        named = re.search(r'^file:\s*(\S+)', self.text, re.M)
+        target = root / 'crates' / self.crate / named[1] if named else None
+        return target.read_text() if target and target.exists() else ''
 
     def is_grammar_tool(self):
         own = self.path.startswith('tools/grammarlib/') or self.path == 'tools/equivalent_mutants.txt'
@@ -134,8 +140,8 @@ class File:
             return
         for line in self.text.splitlines(keepends=True):
             place = line.find(mark) if mark else -1
-            if self.kind == '.edit' and re.match(r'\w+:', line):
-                place = -1
+            if self.kind == '.edit':
+                place = 0 if line.startswith('clause:') else -1
             if place < 0:
                 yield True, line
             else:
@@ -235,7 +241,8 @@ class Renamer:
         """A module of Rust sources: in its `mod` line, or within a path."""
         in_path = re.search(r'\b(crate|super|self|\w+)::$', before) and behind.startswith('::')
         in_proofs = re.search(r'\b(proofs|declared)\.([\w.]+\.)?$', before) and not behind.startswith('.Goals')
-        return re.search(r'\bmod\s+$', before) or in_path or in_proofs
+        in_edit = before == 'in: ' and behind.startswith('::')
+        return re.search(r'\bmod\s+$', before) or in_path or in_proofs or in_edit
 
     def is_other(self, file, before):
         """A method, a field, a path's last name, a function or a clause that is spelled alike."""
@@ -260,6 +267,8 @@ class Renamer:
     # PAGES AND COMMENTS
 
     def comment(self, file, text):
+        if file.kind == '.edit':
+            return text
         is_about = file.is_home or file.crate == 'syn_tree' or file.path == 'docs/GRAMMAR.md'
         pieces = re.split(r'(`[^`\n]+`)', text)
         for n, piece in enumerate(pieces):
