@@ -1,7 +1,7 @@
 #!/usr/bin/env python3
 """Gives names of the repository the field's terms, by the table tools/rename.txt. Safe to run twice, wherever the files stand.
 
-    tools/rename.py              renames in all tracked text files, moves the files that are named so, and runs tools/grammar.py
+    tools/rename.py              renames in all tracked text files, moves the files that are named so, runs tools/grammar.py and rt fmt
     tools/rename.py --tell       writes nothing; tells what it would change, and ends with 1 where that is anything
     tools/rename.py --again      also where a new name is there already: for what was merged after the first run
     tools/rename.py --root F     the same of the repository in the folder F
@@ -15,6 +15,7 @@ difference of the two to the renamed main (git commit-tree with the renamed base
 import argparse
 import keyword
 import re
+import shutil
 import subprocess
 import sys
 from collections import defaultdict
@@ -376,8 +377,17 @@ def main():
         (options.root / path).rename(target)
         target.write_text(texts[path])
     print(f'rename: {len(changed)} files changed, {sum(moves[p] != p for p in changed)} of them moved')
-    if changed and (options.root / 'tools' / 'grammar.py').exists():
-        sys.exit(subprocess.run([sys.executable, options.root / 'tools' / 'grammar.py']).returncode)
+    finish(options.root, changed)
+
+
+def finish(root, changed):
+    """What follows from new names: the files that the table gives, and the order of `use` and `mod` lines."""
+    if changed and (root / 'tools' / 'grammar.py').exists():
+        subprocess.run([sys.executable, root / 'tools' / 'grammar.py'], check=True)
+    if shutil.which('rt') and (root / 'crates.txt').exists():
+        for crate in sorted({Path(p).parts[1] for p in changed if p.startswith('crates/') and p.endswith('.rt')}):
+            if subprocess.run(['rt', 'fmt'], cwd=root / 'crates' / crate, stdout=subprocess.DEVNULL, stderr=subprocess.DEVNULL).returncode:
+                print(f'rename: run rt fmt in crates/{crate}', file=sys.stderr)
 
 
 if __name__ == '__main__':
