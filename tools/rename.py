@@ -247,7 +247,7 @@ class Renamer:
 
     def is_other(self, file, before):
         """A method, a field, a path's last name, a function or a clause that is spelled alike."""
-        return re.search(r'(\.|::|\bfn\s|\bmod\s|\bensures\s|\brequires\s|\blet\s|-)\s*$', before) and not re.search(r'\.\.\s*$', before)
+        return re.search(r'(\.|::|-|\b(fn|mod|ensures|requires|let)\s+)$', before)
 
     def home(self, file, name, before, behind):
         if file.kind == '.py' and name in self.table.modules:

@@ -30,7 +30,7 @@ ghost use Rattle.syn_grammar.specs.Says.{Says};
 /// Reads a path; the opening sign of a group, `reads`.
 #[tactic(auto, using(syn_grammar::proofs::Looks::sees_one, syn_grammar::proofs::Run::reads_is))]
 fn parse(input: &mut ParseBuffer<'_>, front: usize) -> Reading<Path>
-    ensures reads { Says IsSyntax itself (.. reads rules.path input.old ..) (parse form input.old) result input.new }
+    ensures reads { Says IsSyntax itself (λ z. reads rules.path input.old) (parse form input.old) result input.new }
 {
     let held = input.front(front).parse()?;
     T::parse(held)
@@ -106,7 +106,7 @@ class Renaming(unittest.TestCase):
         self.assertEqual(lines[3], '/// Reads a path; the opening delimiter of a group, `reads`.')
         self.assertIn('syn_grammar::proofs::Run::parse_rule_is', lines[4])
         self.assertEqual(lines[5], "fn parse(input: &mut ParseBuffer<'_>, front: usize) -> Parsed<Path>")
-        self.assertEqual(lines[6], '    ensures reads { Computes IsSyntax itself (.. parse_rule rules.path input.old ..) '
+        self.assertEqual(lines[6], '    ensures reads { Computes IsSyntax itself (λ z. parse_rule rules.path input.old) '
                                    '(parse_form form input.old) result input.new }')
         self.assertEqual(lines[7:], PARSER.split('\n')[7:])
 
