@@ -99,11 +99,32 @@ def word_of(old, new, options, number):
     return word
 
 
+def imported_names(names):
+    return re.findall(r'([^\s,]+)(?:\s+as\s+[^\s,]+)?', names)
+
+
+def names_handed_on(root, paths):
+    """Of each module that exports names of others with its own: the names of syn_grammar among them, each with its module."""
+    found, grows = defaultdict(dict), True
+    texts = {'.'.join(['Rattle', *Path(p).with_suffix('').parts[1:]]): (root / p).read_text()
+             for p in paths if p.startswith('crates/') and p.endswith('.antt')}
+    while grows:
+        before = {m: len(names) for m, names in found.items()}
+        for module, text in texts.items():
+            for path, names in re.findall(r'^pub use ([\w.]+)\.\{([^}]*)\}', text, re.M):
+                for name in imported_names(names):
+                    source = path if f'{HOME}.' in path else found.get(path, {}).get(name)
+                    if source:
+                        found[module][name] = source
+        grows = before != {m: len(names) for m, names in found.items()}
+    return found
+
+
 class File:
     """A tracked file: its text, and what it imports of syn_grammar."""
 
-    def __init__(self, root, path):
-        self.path, self.kind = path, Path(path).suffix
+    def __init__(self, root, path, handed_on):
+        self.path, self.kind, self.handed_on = path, Path(path).suffix, handed_on
         self.text = (root / path).read_text()
         self.crate = path.split('/')[1] if path.startswith('crates/') else ''
         self.module = Path(path).stem
@@ -123,9 +144,10 @@ class File:
 
     def read_imports(self, text):
         for path, names in re.findall(r'\buse\s+([\w.]+)\.\{([^}]*)\}', text):
-            known = self.imported if f'{HOME}.' in path else self.own
-            for name in re.findall(r"([^\s,]+)(?:\s+as\s+[^\s,]+)?", names):
-                known.setdefault(name, path.split('.')[-1])
+            for name in imported_names(names):
+                source = path if f'{HOME}.' in path else self.handed_on.get(path, {}).get(name)
+                known = self.imported if source else self.own
+                known.setdefault(name, (source or path).split('.')[-1])
         for path, alias in re.findall(r'\buse\s+([\w.]+)\s+as\s+(\w+)', text):
             if f'{HOME}.' in path:
                 self.aliases[alias] = path.split('.')[-1]
@@ -358,7 +380,9 @@ def main():
     parser.add_argument('--tell', action='store_true', help='write nothing; end with 1 where something would change')
     parser.add_argument('--again', action='store_true', help='new names may be there already')
     options = parser.parse_args()
-    files = [File(options.root, p) for p in tracked(options.root)]
+    paths = tracked(options.root)
+    handed_on = names_handed_on(options.root, paths)
+    files = [File(options.root, p, handed_on) for p in paths]
     renamer = Renamer(read_table(HERE / 'rename.txt'), files)
     texts = {f.path: renamer.new_text(f) for f in files}
     moves = {f.path: renamer.new_path(f) for f in files}

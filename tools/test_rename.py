@@ -36,6 +36,7 @@ fn parse(input: &mut ParseBuffer<'_>, front: usize) -> Reading<Path>
     T::parse(held)
 }
 '''
+PARSING = 'pub use Rattle.syn_grammar.specs.Run.{reads, parse}\npub use Rattle.syn_grammar.specs.Says.{Says}\n'
 PAGE = 'A front. `leaf_face` in `front.rt`; `Parse::parse`; two public faces, walked and let go; the signs of groups.\n'
 FILES = {
     'crates/syn_grammar/specs/Tokens.antt': TOKENS,
@@ -46,6 +47,8 @@ FILES = {
     'crates/syn_tokens/src/deep.rt': 'mod near;\nuse crate::deep::near::Near;\n',
     'crates/syn_tokens/edits/near_is_far.edit': 'file: src/deep/near.rt\nold: Near {\nnew: Far {\n',
     'crates/syn_tree/src/path.rt': PARSER,
+    'crates/syn_tree/specs/Parsing.antt': PARSING,
+    'crates/syn_tree/specs/Views.antt': 'use Rattle.syn_tree.specs.Parsing.{reads}\nx = reads left\ny = parse left\n',
     'crates/syn_tokens/proofs/near/Near/front/Answers.antt': 'use Rattle.syn_tokens.proofs.near.Near.front.Goals as goal\n',
     'docs/PAGE.md': PAGE,
 }
@@ -109,6 +112,13 @@ class Renaming(unittest.TestCase):
         self.assertEqual(lines[6], '    ensures reads { Computes IsSyntax itself (λ z. parse_rule rules.path input.old) '
                                    '(parse_form form input.old) result input.new }')
         self.assertEqual(lines[7:], PARSER.split('\n')[7:])
+
+    def test_names_that_a_module_hands_on(self):
+        self.renamed()
+        self.assertEqual(self.read('crates/syn_tree/specs/Parsing.antt'),
+                         'pub use Rattle.syn_grammar.specs.Run.{parse_rule, parse_form}\npub use Rattle.syn_grammar.specs.Promises.{Computes}\n')
+        self.assertEqual(self.read('crates/syn_tree/specs/Views.antt'),
+                         'use Rattle.syn_tree.specs.Parsing.{parse_rule}\nx = parse_rule left\ny = parse left\n')
 
     def test_files_wherever_they_stand(self):
         self.renamed()
