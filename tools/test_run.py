@@ -58,10 +58,10 @@ class Case(unittest.TestCase):
             (self.tools / tool).symlink_to(shutil.which(tool))
         self.env = {"PATH": f"{self.kit / 'bin'}:{self.tools}"}
         shutil.copy(TOP / "run", self.root)
-        for name in CRATES:
+        for name in [*CRATES, "low_lines"]:
             (self.root / "crates" / name / "src").mkdir(parents=True)
         shutil.copytree(TOP / CRATE / "specs", self.root / CRATE / "specs")
-        (self.root / "crates.txt").write_text("# What stands on what.\nsyn_canon: high std\nlow:\nmiddle: low\nhigh: middle low hex\n")
+        (self.root / "crates.txt").write_text("# What stands on what.\nsyn_canon: high std\nlow:\nmiddle: low\nlow_lines: syn_canon\nhigh: middle low hex\n")
         (self.kit / "KIT-ID").write_text("some kit\n")
         self.rt = self.kit / "bin/rt"
         self.rt.write_text(RT)
