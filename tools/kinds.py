@@ -11,7 +11,9 @@ It writes, laid out as `rt fmt` wants it:
     crates/syn_tree/specs/Plain.antt    the views of structs that are their rule's parts in order
     crates/syn_tree/src/copies**        `TryClone`
     crates/syn_tree/src/compare**       `Compared`, `PartialEq`, `Eq`
+    crates/syn_tree/src/comma_lists.rt  the function of each rule that is a comma list, with its proof (proofs/CommaLists)
     crates/syn/src/kinds.rt             `Canonical`, of the kinds below
+    docs/GRAMMAR.md                     the table of rules, each in the words above it, with what reads it
     crates/syn_canon                    src/kind.rt, src/by_kind.rt, specs/Kinds.antt: the program's list of kinds
 
 What is odd is written by hand, and then left out here: a `view_X` in a file of specs/, or an `impl TryClone for X`, `impl Compared
@@ -22,7 +24,9 @@ import argparse
 import sys
 from pathlib import Path
 
+from kindslib.grammar import rows
 from kindslib.impls import comparisons, copies
+from kindslib.lists import comma_lists
 from kindslib.program import canonical, dispatch, kind_enum, kind_specs
 from kindslib.source import Fault, Source
 from kindslib.views import endings, plain_views
@@ -48,6 +52,9 @@ def outputs():
     files.update(plain_views(source, JOINED))
     files.update(copies(source))
     files.update(comparisons(source))
+    table, page = CRATES / "syn_grammar/specs/Table.antt", Path("docs/GRAMMAR.md")
+    files.update(comma_lists(source, table))
+    files[page] = rows(source, table, page)
     files[CRATES / "syn/src/kinds.rt"] = canonical(source, KINDS)
     files[CRATES / "syn_canon/src/kind.rt"] = kind_enum(KINDS)
     files[CRATES / "syn_canon/src/by_kind.rt"] = dispatch(source, KINDS)
@@ -57,8 +64,8 @@ def outputs():
 
 def leftovers(files):
     """Files in the folders that are this script's alone which it wouldn't write."""
-    folders = [CRATES / "syn_tree/src/copies", CRATES / "syn_tree/src/compare"]
-    return [path for folder in folders for path in sorted(folder.rglob("*.rt")) if path not in files]
+    folders = [CRATES / "syn_tree" / name for name in ("src/copies", "src/compare", "proofs/comma_lists")]
+    return [path for folder in folders for path in sorted(folder.rglob("*.*t*")) if path.is_file() and path not in files]
 
 
 def main():

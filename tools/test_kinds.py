@@ -6,6 +6,7 @@ import unittest
 from pathlib import Path
 
 from kindslib.impls import comparisons, copies, prints
+from kindslib.lists import comma_lists, list_rules
 from kindslib.program import kind_enum, kind_specs
 from kindslib.source import MARK, Fault, Source
 from kindslib.views import endings, plain_views
@@ -103,6 +104,32 @@ class Kinds(unittest.TestCase):
             self.crate("pub struct Wide {\n    pub a: A, pub b: B\n}\n")
         with self.assertRaises(Fault):
             endings(self.crate(specs=""))
+
+    def test_comma_lists_are_found_in_the_table(self):
+        source = self.crate(TYPES + """
+impl Read for Thing {
+    ghost form = { rule rules.thing };
+}
+""")
+        table = self.top / "Table.antt"
+        table.write_text("""--
+-- Things.
+table things =
+    when ended
+    then empty
+    else rule thing & (when at_comma then sign comma & rule things else empty)
+--
+-- Things that end otherwise.
+table others =
+    when at_brace
+    then empty
+    else rule thing & (when at_comma then sign comma & rule others else empty)
+""")
+        self.assertEqual(list_rules(table), [("things", "thing", "Things.")])
+        files = comma_lists(source, table)
+        self.assertIn("punctuated_list::<End, Comma, _, _>(input, |next| next.read())\n", files[self.top / "src/comma_lists.rt"])
+        self.assertIn("things_list = record { is = things_is }\n", files[self.top / "proofs/CommaLists.antt"])
+        self.assertIn(self.top / "proofs/comma_lists/things/Answers.antt", files)
 
     def test_the_kinds_of_the_program(self):
         kinds = [("fields-unnamed", "FieldsUnnamed", "fields_unnamed")]

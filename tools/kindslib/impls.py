@@ -20,8 +20,9 @@ def import_line(path, names):
     return f"use {path}::{{\n" + "\n".join(lines + [line]) + "\n};\n"
 
 
-def folder(source, name, title, one):
-    """The files of one trait's impls: beside each file of types one of the same name, and the modules above them."""
+def folder(source, name, title, one, attribute=""):
+    """The files of one trait's impls: beside each file of types one of the same name, and the modules above them; the topmost
+    has this attribute."""
     files, modules = {}, {}
     for file, types in source.files().items():
         blocks = [block for block in (one(source, t) for t in types) if block]
@@ -38,7 +39,8 @@ def folder(source, name, title, one):
     for parts, names in modules.items():
         path = source.crate / "src" / "/".join((name, *parts))
         path = path.with_name(path.name + ".rt")
-        texts[path] = f"//! {WRITTEN}\n//!\n//! {title} of trees.\n\n" + "".join(f"mod {child};\n" for child in sorted(names))
+        top = "" if parts else attribute
+        texts[path] = f"//! {WRITTEN}\n//!\n//! {title} of trees.\n{top}\n" + "".join(f"mod {child};\n" for child in sorted(names))
     return texts
 
 
@@ -238,4 +240,4 @@ def prints(source, unprinted):
     def block(source, t):
         return None if t.name in unprinted else print_block(source, t)
 
-    return folder(source, "prints", "Prints", block)
+    return folder(source, "prints", "Prints", block, "#![tactic(auto, using(syn_tokens::proofs::Prints::prints))]\n")

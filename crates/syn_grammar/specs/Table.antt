@@ -48,18 +48,19 @@ table module_words =
     & (when at_colons then asking_sign colons & rule module_words else empty)
 --
 -- A visibility: `pub` with its restriction in parentheses, `pub` alone, or nothing. Parentheses belong to it
--- where they hold `crate`, `self` or `super` alone, or begin with `in`; any others are left.
+-- where they hold `crate`, `self` or `super` alone, or begin with `in`; then they must hold a restriction. Any others are left.
 table visibility =
     when at_word w_pub
     then plainly (word w_pub) & (when at_restriction then inside Paren (rule restriction) else empty)
     else empty
 --
--- A restriction: `crate`, `self` or `super`; or `in` and a path in module style.
+-- What the parentheses of a visibility hold: `in` where it stands next, and a path in module style.
+-- (A visibility asks for it only before `in`, or where `crate`, `self` or `super` stands alone.)
 table restriction =
     (when at_word w_in then plainly (word w_in) else empty)
     & rule module_path
 --
--- A path in a type: one in module style, since no arguments are read yet.
+-- A path in a type: one in module style, since no generic arguments are read yet.
 table type_path =
     rule module_path
 --

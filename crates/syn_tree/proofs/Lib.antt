@@ -1,3 +1,4 @@
+mod CommaLists
 pub mod Compared
 mod Defaults
 mod Lists

@@ -1,10 +1,10 @@
 //! Fields.
 ghost use Rattle.syn_grammar.specs.Rules as rules;
-ghost use Rattle.syn_tree.specs.Parsing.{◌≡◌, OnErr, rule, meaning_of_rule, reads, Says, Parses, Moved, Kept, Outcome, itself, IsSyntax, IsSyntaxError, list_of};
-ghost use Rattle.syn_tokens.specs.Kinds.{comma_syntax};
+ghost use Rattle.syn_tree.specs.Parsing.{◌≡◌, OnErr, rule, meaning_of_rule, reads, Says, Parses, Moved, Outcome, itself, IsSyntax, IsSyntaxError};
 ghost use Rattle.syn_tokens.specs.Nexts.{RefusedNext, HasFaultNext};
 ghost use Rattle.syn_tree.specs.Defaults.{RefusesDefault};
 
+use crate::comma_lists::unnamed_fields;
 use crate::lower::{Attribute, Expr, Type};
 use crate::restriction::Visibility;
 use syn_tokens::buffer::ParseBuffer;
@@ -12,9 +12,8 @@ use syn_tokens::compare::Compared;
 use syn_tokens::error::Result;
 use syn_tokens::expectation::Expectation;
 use syn_tokens::ident::Ident;
-use syn_tokens::lists::punctuated_list;
 use syn_tokens::punctuated::Punctuated;
-use syn_tokens::read::{End, Read};
+use syn_tokens::read::Read;
 use syn_tokens::refusal::Reading;
 use syn_tokens::token::{Colon, Comma, Eq, Paren, kind};
 
@@ -89,13 +88,6 @@ impl Field {
         }
         Ok(field)
     }
-}
-
-fn unnamed_fields(input: &mut ParseBuffer<'_>) -> Reading<Punctuated<Field, Comma>>
-    ensures reads { Says IsSyntax (λ l. list_of itself comma_syntax l.pairs l.last) (reads rules.unnamed_fields input.old) result input.new }
-    ensures moved { Kept input.old result input.new }
-{
-    punctuated_list::<End, Comma, _, _>(input, |next| Field::read_unnamed(next))
 }
 
 /// Fields in parentheses.

@@ -1,6 +1,7 @@
 //! The syntax trees of items, with their parsers, copies and comparisons.
 #![tactic(auto)]
 
+mod comma_lists;
 mod compare;
 mod copies;
 pub mod data;

@@ -1,0 +1,12 @@
+-- Written by tools/kinds.py; edits are lost.
+-- The rules that are comma lists.
+use Rattle.std.specs.Prelude.{false}
+use Rattle.syn_grammar.specs.Tokens.{ended, at_mark}
+use Rattle.syn_grammar.specs.Words.{comma}
+use Rattle.syn_grammar.specs.Rules.{unnamed_fields, unnamed_field}
+use Rattle.syn_grammar.specs.Grammar.{rule, mark}
+use Rattle.syn_grammar.proofs.Each.{unnamed_fields_is}
+use Rattle.syn_tokens.specs.Listing.{IsList}
+
+pub unnamed_fields_list : IsList unnamed_fields (rule unnamed_field) ended (at_mark comma) (mark false comma)
+unnamed_fields_list = record { is = unnamed_fields_is }

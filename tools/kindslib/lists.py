@@ -1,0 +1,115 @@
+"""Rules that are comma lists to the end of a group: the function that reads each, and its proof."""
+import re
+import textwrap
+
+from .impls import WRITTEN, import_line
+from .views import syntax_of
+
+RULE = re.compile(r"^--\n((?:-- [^\n]*\n)+)table (\w+) =\n((?:    [^\n]*\n)+)", re.M)
+LIST = "when ended then empty else rule ELEMENT & (when at_comma then sign comma & rule NAME else empty)"
+READ = re.compile(r"^impl Read for (\w+) \{\n    ghost form = \{ rule rules\.(\w+) \};", re.M)
+FUNCTION = re.compile(r"^    pub\(crate\) fn (\w+)\(input: &mut ParseBuffer<'_>\) -> Reading<(\w+)>\n        ensures (?:\w+ )?\{ Parses IsSyntax \S+ rules\.(\w+) ", re.M)
+
+
+def list_rules(table):
+    """Each such rule, with the rule of its elements and the sentence above it."""
+    found = []
+    for words, name, form in RULE.findall(table.read_text()):
+        pattern = re.escape(LIST.replace("NAME", name)).replace("ELEMENT", r"(\w+)")
+        is_list = re.fullmatch(pattern, " ".join(form.split()))
+        if is_list:
+            found.append((name, is_list[1], " ".join(line[3:] for line in words.splitlines())))
+    return found
+
+
+def readers(source):
+    """By its rule, the type of what is read, and the call that reads it."""
+    found = {}
+    for text in source.hand.values():
+        for name, rule in READ.findall(text):
+            found[rule] = (name, "next.read()")
+        for match in FUNCTION.finditer(text):
+            owner = re.findall(r"^impl (\w+) \{", text[: match.start()], re.M)[-1]
+            found[match[3]] = (match[2], f"{owner}::{match[1]}(next)")
+    return found
+
+
+def function(source, name, words, kind, call):
+    syntax, _ = syntax_of(source, source.types[kind])
+    said = "\n".join(textwrap.wrap(words, 116, initial_indent="/// ", subsequent_indent="/// "))
+    return f"""
+{said}
+pub(crate) fn {name}(input: &mut ParseBuffer<'_>) -> Reading<Punctuated<{kind}, Comma>>
+    ensures reads {{ Says IsSyntax (λ l. list_of {syntax} comma_syntax l.pairs l.last) (reads rules.{name} input.old) result input.new }}
+    ensures moved {{ Kept input.old result input.new }}
+{{
+    punctuated_list::<End, Comma, _, _>(input, |next| {call})
+}}
+"""
+
+
+def answers(source, name, element, kind):
+    syntax, module = syntax_of(source, source.types[kind])
+    return f"""-- {WRITTEN}
+use Rattle.std.proofs.Common.{{rules}}
+use Rattle.syn_grammar.specs.Rules.{{{name}, {element}}}
+use Rattle.syn_grammar.specs.Grammar.{{rule}}
+use Rattle.{module}.{{{syntax}}}
+use Rattle.syn_tree.proofs.CommaLists.{{{name}_list}}
+use Rattle.syn_tree.proofs.comma_lists.{name}.Goals as goal
+
+pub returns-clause-reads : goal.returns-clause-reads
+returns-clause-reads c = c.punctuated_list.ensures.reads {name} (rule {element}) {syntax} {name}_list (record {{ says = λ old new x h. search (rules, h) }})
+"""
+
+
+def lemmas(lists):
+    rules = ", ".join(dict.fromkeys(rule for name, element, _ in lists for rule in (name, element)))
+    steps = ", ".join(f"{name}_is" for name, _, _ in lists)
+    body = "".join(f"""
+pub {name}_list : IsList {name} (rule {element}) ended (at_mark comma) (mark false comma)
+{name}_list = record {{ is = {name}_is }}
+""" for name, element, _ in lists)
+    return f"""-- {WRITTEN}
+-- The rules that are comma lists.
+use Rattle.std.specs.Prelude.{{false}}
+use Rattle.syn_grammar.specs.Tokens.{{ended, at_mark}}
+use Rattle.syn_grammar.specs.Words.{{comma}}
+use Rattle.syn_grammar.specs.Rules.{{{rules}}}
+use Rattle.syn_grammar.specs.Grammar.{{rule, mark}}
+use Rattle.syn_grammar.proofs.Each.{{{steps}}}
+use Rattle.syn_tokens.specs.Listing.{{IsList}}
+{body}"""
+
+
+def comma_lists(source, table):
+    """src/comma_lists.rt, proofs/CommaLists.antt and an answer for each function; a rule whose elements nothing reads is left out."""
+    known = readers(source)
+    lists = [(name, element, words) for name, element, words in list_rules(table) if element in known]
+    views = {}
+    uses = {"syn_tokens::token": ["Comma"]}
+    needs = [("syn_tokens::buffer", "ParseBuffer"), ("syn_tokens::lists", "punctuated_list"), ("syn_tokens::punctuated", "Punctuated"), ("syn_tokens::read", "End"), ("syn_tokens::refusal", "Reading")]
+    for _, element, _ in lists:
+        kind, call = known[element]
+        syntax, module = syntax_of(source, source.types[kind])
+        views.setdefault(module, []).append(syntax)
+        needs.append((f"crate::{source.path_of(kind)}", kind))
+        if call == "next.read()":
+            needs.append(("syn_tokens::read", "Read"))
+    for path, name in needs:
+        uses.setdefault(path, []).append(name)
+    heads = "".join(f"ghost use Rattle.{module}.{{{', '.join(dict.fromkeys(names))}}};\n" for module, names in views.items())
+    imports = "".join(import_line(path, names) for path, names in sorted(uses.items()))
+    functions = "".join(function(source, name, words, *known[element]) for name, element, words in lists)
+    files = {source.crate / "src/comma_lists.rt": f"""//! {WRITTEN}
+//!
+//! The rules of the grammar that are comma lists to the end of a group.
+ghost use Rattle.syn_grammar.specs.Rules as rules;
+ghost use Rattle.syn_tree.specs.Parsing.{{reads, Says, Kept, IsSyntax, list_of}};
+ghost use Rattle.syn_tokens.specs.Kinds.{{comma_syntax}};
+{heads}
+{imports}{functions}"""}
+    files[source.crate / "proofs/CommaLists.antt"] = lemmas(lists)
+    for name, element, _ in lists:
+        files[source.crate / f"proofs/comma_lists/{name}/Answers.antt"] = answers(source, name, element, known[element][0])
+    return files
