@@ -240,6 +240,8 @@ class Renamer:
         if behind.startswith('.rt') or behind.startswith('.py'):
             stem = self.table.files.get(name + behind[:3])
             return Path(stem).stem if stem else name
+        if file.kind == '.edit' and re.match(r'(file|in):', before):
+            return self.in_path_of_edit(file, name, behind)
         if name + '.rt' in self.table.files and file.crate != HOME and self.is_module(before, behind):
             return Path(self.table.files[name + '.rt']).stem
         path = re.search(r'([\w.:]+?)(?:\.|::)$', before)
@@ -260,12 +262,16 @@ class Renamer:
             return self.rename(file, name, file.imported[name])
         return self.record_field(file, name, before)
 
+    def in_path_of_edit(self, file, name, behind):
+        """A part of the path of the file or function that an edit changes: only files, modules and the crate's own names are renamed there."""
+        stem = self.table.files.get(name + '.rt', '').removesuffix('.rt')
+        return self.local(file, name) or (stem if stem and behind.startswith(('::', '/')) else name)
+
     def is_module(self, before, behind):
         """A module of Rust sources: in its `mod` line, or within a path."""
         in_path = re.search(r'\b(crate|super|self|\w+)::$', before) and behind.startswith('::')
         in_proofs = re.search(r'\b(proofs|declared)\.([\w.]+\.)?$', before) and not behind.startswith('.Goals')
-        in_edit = before == 'in: ' and behind.startswith('::')
-        return re.search(r'\bmod\s+$', before) or in_path or in_proofs or in_edit
+        return re.search(r'\bmod\s+$', before) or in_path or in_proofs
 
     def is_other(self, file, before):
         """A method, a field, a path's last name, a function or a clause that is spelled alike."""

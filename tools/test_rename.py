@@ -50,6 +50,7 @@ FILES = {
     'crates/syn_tree/specs/Parsing.antt': PARSING,
     'crates/syn_tree/specs/Views.antt': 'use Rattle.syn_tree.specs.Parsing.{reads}\nx = reads left\ny = parse left\n',
     'crates/syn_tokens/proofs/near/Near/front/Answers.antt': 'use Rattle.syn_tokens.proofs.near.Near.front.Goals as goal\n',
+    'crates/syn_tree/edits/path_of_nothing.edit': 'clause: reads\nfile: src/path.rt\nin: parse::front::parse\nold: reads rules.path\nnew: reads rules.none\n',
     'docs/PAGE.md': PAGE,
 }
 
@@ -112,6 +113,11 @@ class Renaming(unittest.TestCase):
         self.assertEqual(lines[6], '    ensures reads { Computes IsSyntax itself (λ z. parse_rule rules.path input.old) '
                                    '(parse_form form input.old) result input.new }')
         self.assertEqual(lines[7:], PARSER.split('\n')[7:])
+
+    def test_an_edit(self):
+        self.renamed()
+        self.assertEqual(self.read('crates/syn_tree/edits/path_of_nothing.edit'),
+                         'clause: reads\nfile: src/path.rt\nin: parse::first_token::parse\nold: parse_rule rules.path\nnew: parse_rule rules.none\n')
 
     def test_names_that_a_module_hands_on(self):
         self.renamed()
