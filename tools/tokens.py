@@ -48,9 +48,9 @@ LONG_MARKS = [
     ("Shr", ">>"), ("ShrEq", ">>="), ("SlashEq", "/="), ("StarEq", "*="),
 ]
 GROUPS = [
-    ("Paren", "( )", "Parentheses", "parentheses"),
-    ("Brace", "{ }", "CurlyBraces", "curly braces"),
-    ("Bracket", "[ ]", "SquareBrackets", "square brackets"),
+    ("Paren", "( )", "parentheses"),
+    ("Brace", "{ }", "curly braces"),
+    ("Bracket", "[ ]", "square brackets"),
 ]
 
 WORD_FILES = [
@@ -77,7 +77,7 @@ def char(c):
 
 def word_kind(name, text, spec):
     return f"""
-#[derive(Clone, Copy, Debug)]
+/// `{text}`
 pub struct {name};
 
 impl WordKind for {name} {{
@@ -87,8 +87,8 @@ impl WordKind for {name} {{
         "{text}"
     }}
 
-    fn expectation() -> Expectation {{
-        Expectation::{name}
+    fn expected() -> &'static str {{
+        "expected `{text}`"
     }}
 
     ghost known = {{ unfold is_known_word in refl }};
@@ -105,7 +105,6 @@ ghost use Rattle.std.specs.Prelude.{{refl}};
 ghost use Rattle.syn_grammar.specs.Words.{{{specs}}};
 ghost use Rattle.syn_tokens.specs.Leaves.{{is_known_word}};
 
-use crate::expectation::Expectation;
 use crate::token::WordKind;
 """ + "".join(word_kind(*kind) for kind in kinds)
 
@@ -120,7 +119,7 @@ def mark_kind(name, text):
     known = "" if len(text) == 1 else "\n    ghost known = { refl };\n"
     printable = "refl" if len(text) == 1 else "(" + ", ".join(["refl"] * len(text)) + ")"
     return f"""
-#[derive(Clone, Copy, Debug)]
+/// `{text}`
 pub struct {name};
 
 impl {trait} for {name} {{
@@ -128,8 +127,8 @@ impl {trait} for {name} {{
         {value}
     }}
 
-    fn expectation() -> Expectation {{
-        Expectation::{name}
+    fn expected() -> &'static str {{
+        "expected `{text}`"
     }}
 {known}
     ghost printable = {{ unfold is_punct_character in {printable} }};
@@ -142,14 +141,13 @@ def marks(title, kinds, traits):
 ghost use Rattle.std.specs.Prelude.{{refl}};
 ghost use Rattle.syn_tokens.specs.Punct.{{is_punct_character}};
 
-use crate::expectation::Expectation;
 use crate::token::{traits};
 """ + "".join(mark_kind(*kind) for kind in kinds)
 
 
 def groups():
     kinds = "".join(f"""
-#[derive(Clone, Copy, Debug)]
+/// `{signs}`
 pub struct {name};
 
 impl DelimiterKind for {name} {{
@@ -161,17 +159,16 @@ impl DelimiterKind for {name} {{
         Delimiter::{name}
     }}
 
-    fn expectation() -> Expectation {{
-        Expectation::{expectation}
+    fn expected() -> &'static str {{
+        "expected {called}"
     }}
 }}
-""" for name, _, expectation, called in GROUPS)
+""" for name, signs, called in GROUPS)
     return f"""//! The signs of groups.
 ghost use Rattle.std.specs.Prelude.{{codes}};
 ghost use Rattle.syn_grammar.specs.Tokens as grammar;
 
 use crate::delimiter::Delimiter;
-use crate::expectation::Expectation;
 use crate::token::DelimiterKind;
 {kinds}"""
 
@@ -191,7 +188,7 @@ def token_module():
     aliases = [(f"`{text}`", name, f"Word<kind::{name}>") for _, _, kinds in WORD_FILES for name, text, _ in kinds]
     aliases.sort(key=lambda alias: alias[1])
     aliases += [(f"`{text}`", name, f"Mark<kind::{name}, {len(text)}>") for name, text in MARKS + LONG_MARKS]
-    aliases += [(f"`{text}`", name, f"Delimiters<kind::{name}>") for name, text, _, _ in GROUPS]
+    aliases += [(f"`{text}`", name, f"Delimiters<kind::{name}>") for name, text, _ in GROUPS]
     body = "".join(f"\n/// {doc}\npub type {name} = {value};\n" for doc, name, value in aliases)
     return f"""//! Words, marks and the signs of groups, each with a type.
 
@@ -257,8 +254,8 @@ abbrev pub {snake(name)}_syntax : {name} → Syntax
 
 
 def group_specs():
-    uses = "".join(f"use Rattle.syn_tokens.specs.declared.token.kind.groups.{name}.{{{name} as K_{name}}}\n" for name, _, _, _ in GROUPS)
-    body = "".join(f"\nabbrev pub {name} : Type 0\n{name} = Delimiters K_{name}\n" for name, _, _, _ in GROUPS)
+    uses = "".join(f"use Rattle.syn_tokens.specs.declared.token.kind.groups.{name}.{{{name} as K_{name}}}\n" for name, _, _ in GROUPS)
+    body = "".join(f"\nabbrev pub {name} : Type 0\n{name} = Delimiters K_{name}\n" for name, _, _ in GROUPS)
     return f"""-- Words, marks and the signs of groups, as types and as syntax.
 use Rattle.syn_tokens.specs.declared.token.delimiters.Delimiters.{{Delimiters}}
 {uses}pub use Rattle.syn_tokens.specs.KindsOfWords.{{{passed_on([kind[0] for _, _, kinds in WORD_FILES for kind in kinds])}}}

@@ -100,7 +100,7 @@ def copy_block(source, t):
     if source.by_hand(f"impl TryClone for {t.name}"):
         return None
     module = f"crate::{source.path_of(t.name)}"
-    uses = [(module, t.name), ("std::alloc", "Global"), ("syn_tokens::error", "Result"), ("syn_tokens::try_clone", "TryClone")]
+    uses = [(module, t.name), ("std::alloc", "Global"), ("syn_tokens::error", "Result"), ("syn_tokens::syntactic::try_clone", "TryClone")]
     body = copy_enum(source, t) if t.is_enum else copy_struct(source, t, uses)
     alloc = "alloc" if "alloc" in body else "_alloc"
     text = f"""impl TryClone for {t.name} {{
@@ -179,7 +179,7 @@ def compare_block(source, t):
     odd = source.by_hand(f"impl Compared for {t.name}")
     ghosts = [(module, syntax), ("syn_tree.specs.Equality", "Equals")]
     ghosts += [("syn_tokens.specs.Comparison", name) for name in ("same_by", "same_equiv", "same_per")]
-    uses = [(f"crate::{source.path_of(t.name)}", t.name), ("syn_tokens::compare", "Compared")]
+    uses = [(f"crate::{source.path_of(t.name)}", t.name), ("syn_tokens::syntactic::compare", "Compared")]
     return {"text": ("" if odd else compared_text(source, t)) + equality_text(t.name, syntax), "uses": uses, "ghosts": ghosts}
 
 
@@ -224,7 +224,7 @@ def print_block(source, t):
     uses = [(f"crate::{source.path_of(t.name)}", t.name), ("syn_tokens::print", "ToTokens")]
     text = ""
     if not odd:
-        uses += [("std::alloc", "AllocError"), ("syn_tokens::builder", "StreamBuilder"), ("syn_tokens::print", "Print")]
+        uses += [("std::alloc", "AllocError"), ("syn_tokens::stream::builder", "StreamBuilder"), ("syn_tokens::print", "Print")]
         body = print_enum(source, t) if t.is_enum else print_struct(source, t, uses)
         out = "out" if "out" in body else "_out"
         text = f"""impl Print for {t.name} {{

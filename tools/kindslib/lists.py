@@ -78,7 +78,7 @@ use Rattle.syn_grammar.specs.Words.{{comma}}
 use Rattle.syn_grammar.specs.Rules.{{{rules}}}
 use Rattle.syn_grammar.specs.Grammar.{{rule, mark}}
 use Rattle.syn_grammar.proofs.Each.{{{steps}}}
-use Rattle.syn_tokens.specs.Listing.{{IsList}}
+use Rattle.syn_parse.specs.Listing.{{IsList}}
 {body}"""
 
 
@@ -88,14 +88,14 @@ def comma_lists(source, table):
     lists = [(name, element, words) for name, element, words in list_rules(table) if element in known]
     views = {}
     uses = {"syn_tokens::token": ["Comma"]}
-    needs = [("syn_tokens::buffer", "ParseBuffer"), ("syn_tokens::lists", "punctuated_list"), ("syn_tokens::punctuated", "Punctuated"), ("syn_tokens::read", "End"), ("syn_tokens::refusal", "Reading")]
+    needs = [("syn_parse::buffer", "ParseBuffer"), ("syn_parse::read::lists", "punctuated_list"), ("syn_tokens::punctuated", "Punctuated"), ("syn_parse::read", "End"), ("syn_parse::read::refusal", "Reading")]
     for _, element, _ in lists:
         kind, call = known[element]
         syntax, module = syntax_of(source, source.types[kind])
         views.setdefault(module, []).append(syntax)
         needs.append((f"crate::{source.path_of(kind)}", kind))
         if call == "next.read()":
-            needs.append(("syn_tokens::read", "Read"))
+            needs.append(("syn_parse::read", "Read"))
     for path, name in needs:
         uses.setdefault(path, []).append(name)
     heads = "".join(f"ghost use Rattle.{module}.{{{', '.join(dict.fromkeys(names))}}};\n" for module, names in views.items())

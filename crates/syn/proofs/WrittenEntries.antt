@@ -5,7 +5,7 @@ use Rattle.std.specs.Char.{encode_utf8}
 use Rattle.syn_grammar.specs.Tokens.{ident, literal, Paren, Brace, Bracket, None, Stream, end, leaf, punct, group}
 use Rattle.syn_grammar.specs.Take as count
 use Rattle.syn_tokens.specs.Entries.{close_entry, encode}
-use Rattle.syn_tokens.specs.declared.entry.Token.{Token as Entry}
+use Rattle.syn_tokens.specs.declared.stream.entry.Token.{Token as Entry}
 use Rattle.syn_tokens.proofs.Entries.{joint_back}
 use Rattle.syn.specs.Spelling.{opening_sign, closing_sign}
 use Rattle.syn.specs.Texts.{gap, follows_directly, text_behind, text_of}

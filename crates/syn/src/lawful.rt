@@ -4,8 +4,8 @@ ghost use Rattle.std.specs.Prelude.{◌≡◌};
 ghost use Rattle.syn_grammar.specs.Grammar as grammar;
 ghost use Rattle.syn_grammar.specs.Rules.{Rule};
 
+use syn_parse::parse::Parse;
 use syn_print::ToTokens;
-use syn_tokens::parse::Parse;
 
 /// A type that is read and printed by one rule of the grammar, so that the laws of that rule hold for it: from one stream
 /// at most one tree is read, its print is read again with the same normal form, and equal normal forms print alike.

@@ -8,43 +8,44 @@ pub mod reader;
 #[cfg(test)]
 mod tests;
 
+pub use syn_parse::parse::parse2;
 pub use syn_print::{ToTokens, print};
 pub use syn_tokens::error::{Error, Fault, Result};
-pub use syn_tokens::parse2::parse2;
-pub use syn_tokens::try_clone::TryClone;
+pub use syn_tokens::syntactic::try_clone::TryClone;
 pub use syn_tokens::{error, punctuated};
 pub use syn_tree::{data, derive, lower, restriction};
 
 /// Buffers of tokens, and what is parsed from them.
 pub mod parse {
-    pub use syn_tokens::buffer::ParseBuffer;
-    pub use syn_tokens::call::Answer;
+    pub use syn_parse::buffer::ParseBuffer;
+    pub use syn_parse::buffer::call::Answer;
+    pub use syn_parse::lookahead::Lookahead1;
+    pub use syn_parse::parse::{Parse, parse2};
+    pub use syn_parse::read::refusal::{Reading, Refusal};
+    pub use syn_parse::read::{End, Peek, Read};
     pub use syn_tokens::error::{Error, Fault, Result};
-    pub use syn_tokens::lookahead::Lookahead1;
-    pub use syn_tokens::parse::Parse;
-    pub use syn_tokens::parse2::parse2;
-    pub use syn_tokens::read::{End, Peek, Read};
-    pub use syn_tokens::refusal::{Reading, Refusal};
 }
 
 /// Tokens, token trees and token streams.
 pub mod token {
-    pub use syn_tokens::builder::StreamBuilder;
     pub use syn_tokens::delimiter::Delimiter;
-    pub use syn_tokens::entry::Close;
-    pub use syn_tokens::entry::Entry;
-    pub use syn_tokens::entry::Open;
-    pub use syn_tokens::entry::Token;
     pub use syn_tokens::ident::Ident;
-    pub use syn_tokens::ident_ref::IdentRef;
-    pub use syn_tokens::leaf::Lifetime;
+    pub use syn_tokens::ident::ident_ref::IdentRef;
+    pub use syn_tokens::lifetime::Lifetime;
     pub use syn_tokens::literal::LitKind;
     pub use syn_tokens::literal::Literal;
-    pub use syn_tokens::literal_ref::LiteralRef;
+    pub use syn_tokens::literal::literal_ref::LiteralRef;
     pub use syn_tokens::punct::Punct;
     pub use syn_tokens::punct::Spacing;
     pub use syn_tokens::span::Span;
     pub use syn_tokens::stream::TokenStream;
+    pub use syn_tokens::stream::builder::StreamBuilder;
+    pub use syn_tokens::stream::entry::Close;
+    pub use syn_tokens::stream::entry::Entry;
+    pub use syn_tokens::stream::entry::Open;
+    pub use syn_tokens::stream::entry::Token;
+    pub use syn_tokens::stream::tree::Group;
+    pub use syn_tokens::stream::tree::TokenTree;
     pub use syn_tokens::token::Abstract;
     pub use syn_tokens::token::And;
     pub use syn_tokens::token::AndAnd;
@@ -152,6 +153,4 @@ pub mod token {
     pub use syn_tokens::token::Word;
     pub use syn_tokens::token::Yield;
     pub use syn_tokens::token::kind;
-    pub use syn_tokens::tree::Group;
-    pub use syn_tokens::tree::TokenTree;
 }

@@ -6,12 +6,12 @@ ghost use Rattle.syn_tokens.specs.Spans.{at};
 use crate::print::{Print, ToTokens};
 use std::alloc::AllocError;
 use syn_tokens::ident::Ident;
-use syn_tokens::leaf::Lifetime;
+use syn_tokens::lifetime::Lifetime;
 use syn_tokens::literal::Literal;
 use syn_tokens::punct::Spacing;
 use syn_tokens::stream::TokenStream;
+use syn_tokens::stream::tree::{Group, TokenTree};
 use syn_tokens::token::{DelimiterKind, Delimiters, Mark, MarkKind, Word, WordKind};
-use syn_tokens::tree::{Group, TokenTree};
 
 impl Print for Ident {
     fn print_in(&self, out: &mut TokenStream) -> Result<(), AllocError> {

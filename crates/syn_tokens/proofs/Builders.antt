@@ -12,9 +12,9 @@ use Rattle.syn_tokens.proofs.Entries.{is_flat, decoded, token_flat, length_encod
 use Rattle.syn_tokens.proofs.Building.{built_is, is_built, laid_more, laid_open, places_open, Last, last_place, none_open, closed, laid_closed, length_laid}
 use Rattle.syn_tokens.specs.declared.span.Span.{Span}
 use Rattle.syn_tokens.specs.declared.delimiter.Delimiter.{Delimiter}
-use Rattle.syn_tokens.specs.declared.entry.Token.{Token as Entry}
-use Rattle.syn_tokens.specs.declared.entry.Token.TheVariants as E
-use Rattle.syn_tokens.specs.declared.builder.Pending.{Pending}
+use Rattle.syn_tokens.specs.declared.stream.entry.Token.{Token as Entry}
+use Rattle.syn_tokens.specs.declared.stream.entry.Token.TheVariants as E
+use Rattle.syn_tokens.specs.declared.stream.builder.Pending.{Pending}
 
 longer : (gs : List OpenGroup) (s : Stream) → length (encode s) ≤ length (laid gs s)
 longer [] s = omega arith

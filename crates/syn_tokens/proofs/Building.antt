@@ -11,11 +11,11 @@ use Rattle.syn_tokens.specs.Building.{OpenGroup, Building, open_sign, laid, grou
 use Rattle.syn_tokens.specs.Builders.{pending, places, IsBuilt}
 use Rattle.syn_tokens.proofs.Entries.{ahead, states_back, delimiter_there, encode-append}
 use Rattle.syn_tokens.specs.declared.span.Span.{Span}
-use Rattle.syn_tokens.specs.declared.entry.Open.{Open}
-use Rattle.syn_tokens.specs.declared.entry.Close.{Close}
-use Rattle.syn_tokens.specs.declared.entry.Token.{Token as Entry}
-use Rattle.syn_tokens.specs.declared.entry.Token.TheVariants as E
-use Rattle.syn_tokens.specs.declared.builder.Pending.{Pending}
+use Rattle.syn_tokens.specs.declared.stream.entry.Open.{Open}
+use Rattle.syn_tokens.specs.declared.stream.entry.Close.{Close}
+use Rattle.syn_tokens.specs.declared.stream.entry.Token.{Token as Entry}
+use Rattle.syn_tokens.specs.declared.stream.entry.Token.TheVariants as E
+use Rattle.syn_tokens.specs.declared.stream.builder.Pending.{Pending}
 
 -- THERE AND BACK
 

@@ -8,10 +8,10 @@ use Rattle.syn_tokens.specs.Delimiters.{delimiter_of}
 use Rattle.syn_tokens.specs.Entries.{from, delimiter_from, encode, decode, IsFlat}
 use Rattle.syn_tokens.specs.Cursors.{Closes}
 use Rattle.syn_tokens.proofs.Entries.{delimiter_back, decoded, is_flat}
-use Rattle.syn_tokens.specs.declared.entry.Open.{Open}
-use Rattle.syn_tokens.specs.declared.entry.Close.{Close}
-use Rattle.syn_tokens.specs.declared.entry.Token.{Token as Entry}
-use Rattle.syn_tokens.specs.declared.entry.Token.TheVariants as E
+use Rattle.syn_tokens.specs.declared.stream.entry.Open.{Open}
+use Rattle.syn_tokens.specs.declared.stream.entry.Close.{Close}
+use Rattle.syn_tokens.specs.declared.stream.entry.Token.{Token as Entry}
+use Rattle.syn_tokens.specs.declared.stream.entry.Token.TheVariants as E
 
 abbrev closing_of : grammar.Delimiter → grammar.Span → ℕ → Close
 closing_of d c n = record { delimiter = delimiter_from d; span = from c; trees = n }

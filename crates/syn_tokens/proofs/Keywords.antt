@@ -10,7 +10,7 @@ use Rattle.syn_grammar.proofs.Same.{bytes_same_text}
 use Rattle.syn_grammar.proofs.Sets.{same_text_eq, or_split, and_left, and_right}
 use Rattle.syn_tokens.specs.Idents.{is_keyword}
 use Rattle.syn_tokens.specs.Keywords.{texts, by_letter, at_place, keywords_from}
-use Rattle.syn_tokens.specs.declared.keyword.TheConstants.{OTHERS}
+use Rattle.syn_tokens.specs.declared.ident.keyword.TheConstants.{OTHERS}
 
 or_is : (b : Bool) (c d : Bool) → c ≡ d → (b || c) ≡ or b d
 or_is true c d e = refl

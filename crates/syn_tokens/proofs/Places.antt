@@ -6,9 +6,9 @@ use Rattle.syn_grammar.specs.Take as grammar
 use Rattle.syn_tokens.specs.Entries.{leaf_entry, punct_entry, open_entry, close_entry, encode}
 use Rattle.syn_tokens.specs.Cursors.{before_next}
 use Rattle.syn_tokens.specs.Places.{place, after}
-use Rattle.syn_tokens.specs.declared.entry.Token.{Token as Entry}
-use Rattle.syn_tokens.specs.declared.cursor.Next.{Next}
-use Rattle.syn_tokens.specs.declared.cursor.Next.TheVariants as N
+use Rattle.syn_tokens.specs.declared.stream.entry.Token.{Token as Entry}
+use Rattle.syn_tokens.specs.declared.stream.cursor.Next.{Next}
+use Rattle.syn_tokens.specs.declared.stream.cursor.Next.TheVariants as N
 
 after_next : (x : Next) (r : Stream) → after 1 (before_next x r) ≡ r
 after_next (N.Ident i) r = refl

@@ -11,9 +11,9 @@ use Rattle.syn_grammar.proofs.Same.{and_assoc, and_true, and_false}
 use Rattle.syn_tokens.specs.Entries.{delimiter_from, close_entry, encode}
 use Rattle.syn_tokens.specs.SameEntries.{same_entry, same_entries}
 use Rattle.syn_tokens.proofs.Entries.{joint_back, delimiter_back, kind_back}
-use Rattle.syn_tokens.specs.declared.entry.Close.{Close}
-use Rattle.syn_tokens.specs.declared.entry.Token.{Token as Entry}
-use Rattle.syn_tokens.specs.declared.entry.Token.TheVariants as E
+use Rattle.syn_tokens.specs.declared.stream.entry.Close.{Close}
+use Rattle.syn_tokens.specs.declared.stream.entry.Token.{Token as Entry}
+use Rattle.syn_tokens.specs.declared.stream.entry.Token.TheVariants as E
 
 -- what may stand behind the entries of a group's content or of a whole stream
 data Behind : Type 0 where

@@ -3,8 +3,8 @@ use Rattle.std.specs.Prelude.{◌≡◌, ℕ, ◌+◌, List, [], ◌∷◌, leng
 use Rattle.syn_grammar.specs.Take as grammar
 use Rattle.syn_tokens.specs.Entries.{encode}
 use Rattle.syn_tokens.specs.Building.{OpenGroup, laid, building}
-use Rattle.syn_tokens.specs.declared.entry.Token.{Token as Entry}
-use Rattle.syn_tokens.specs.declared.builder.Pending.{Pending}
+use Rattle.syn_tokens.specs.declared.stream.entry.Token.{Token as Entry}
+use Rattle.syn_tokens.specs.declared.stream.builder.Pending.{Pending}
 
 -- an open group that stands behind so many entries
 abbrev pub pending : ℕ → OpenGroup → Pending

@@ -6,11 +6,11 @@ use Rattle.syn_tokens.specs.Delimiters.{delimiter_of}
 use Rattle.syn_tokens.specs.Punct.{is_joint}
 use Rattle.syn_tokens.specs.Literals.{kind_of}
 use Rattle.syn_tokens.specs.declared.span.Span.{Span}
-use Rattle.syn_tokens.specs.declared.entry.Close.{Close as Closing}
-use Rattle.syn_tokens.specs.declared.entry.Token.{Token as Entry}
-use Rattle.syn_tokens.specs.declared.entry.Token.TheVariants as E
-use Rattle.syn_tokens.specs.declared.cursor.Next.{Next}
-use Rattle.syn_tokens.specs.declared.cursor.Next.TheVariants as N
+use Rattle.syn_tokens.specs.declared.stream.entry.Close.{Close as Closing}
+use Rattle.syn_tokens.specs.declared.stream.entry.Token.{Token as Entry}
+use Rattle.syn_tokens.specs.declared.stream.entry.Token.TheVariants as E
+use Rattle.syn_tokens.specs.declared.stream.cursor.Next.{Next}
+use Rattle.syn_tokens.specs.declared.stream.cursor.Next.TheVariants as N
 
 -- a tree, and what follows it
 abbrev pub before_next : Next → Stream → Stream

@@ -14,9 +14,9 @@ use Rattle.syn_tokens.specs.declared.literal.LitKind.{LitKind}
 use Rattle.syn_tokens.specs.declared.literal.LitKind.TheVariants.{Str, ByteStr, CStr, Byte, Char, Int, Float}
 use Rattle.syn_tokens.specs.declared.punct.Spacing.{Spacing}
 use Rattle.syn_tokens.specs.declared.punct.Spacing.TheVariants.{Joint, Alone}
-use Rattle.syn_tokens.specs.declared.entry.Open.{Open}
-use Rattle.syn_tokens.specs.declared.entry.Token.{Token as Entry}
-use Rattle.syn_tokens.specs.declared.entry.Token.TheVariants as E
+use Rattle.syn_tokens.specs.declared.stream.entry.Open.{Open}
+use Rattle.syn_tokens.specs.declared.stream.entry.Token.{Token as Entry}
+use Rattle.syn_tokens.specs.declared.stream.entry.Token.TheVariants as E
 
 -- WORDS OF THE GRAMMAR, as the types of this crate have them
 

@@ -1,12 +1,9 @@
 -- What an error tells.
 use Rattle.std.specs.Prelude.{◌≡◌, ℕ, List, [], ◌∷◌, ◌++◌, take, codes}
 use Rattle.std.specs.Coded.{Coded, coded×, coded_list, coded_ℕ}
-use Rattle.syn_tokens.specs.Expectations.{text_of}
 use Rattle.syn_tokens.specs.declared.span.Span.{Span}
 use Rattle.syn_tokens.specs.contracts.span.Span as span
 use Rattle.syn_tokens.specs.declared.error.Fault.{Fault}
-use Rattle.syn_tokens.specs.declared.refusal.Refusal.{Refusal}
-use Rattle.syn_tokens.specs.declared.refusal.Refusal.TheVariants.{Memory, Syntax}
 
 -- where, and the text
 abbrev pub FaultValue : Type 0
@@ -37,7 +34,6 @@ combined [] gs = []
 combined (f ∷ fs) [] = []
 combined (f ∷ fs) (g ∷ gs) = take 4 (f ∷ fs ++ g ∷ gs)
 
--- the error that a refusal becomes: one fault there, with the text of what was expected
-abbrev pub IsRefusedAs : Refusal → List FaultValue → Type 0
-IsRefusedAs Memory fs = fs ≡ []
-IsRefusedAs (Syntax span expectation) fs = fs ≡ (span, text_of expectation) ∷ []
+-- a word or a mark was expected, which stands in backquotes
+abbrev pub expected : List ℕ → List ℕ
+expected x = codes "expected `" ++ x ++ codes "`"

@@ -3,7 +3,7 @@ use Rattle.std.specs.Prelude.{ℕ, zero, suc, ◌-◌, List, [], ◌∷◌, map,
 use Rattle.std.specs.Int.{is_in_range}
 use Rattle.std.specs.Borrow.{Bor}
 use Rattle.syn_grammar.specs.Words.{Text}
-use Rattle.syn_tokens.specs.declared.keyword.TheConstants.{BY_LETTER, OTHERS}
+use Rattle.syn_tokens.specs.declared.ident.keyword.TheConstants.{BY_LETTER, OTHERS}
 
 abbrev pub texts : List (Bor Text) → List Text
 texts = map (λ w. w.now)

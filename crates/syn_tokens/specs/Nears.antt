@@ -1,6 +1,6 @@
 -- Spans in half their room.
 use Rattle.std.specs.Prelude.{◌<◌, ◌^◌}
-use Rattle.syn_tokens.specs.declared.near.Near.{Near}
+use Rattle.syn_tokens.specs.declared.stream.near.Near.{Near}
 use Rattle.syn_tokens.specs.declared.span.Span.{Span}
 
 -- the span itself

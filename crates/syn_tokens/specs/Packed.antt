@@ -3,10 +3,10 @@ use Rattle.std.specs.Prelude.{◌≡◌, IsTrue}
 use Rattle.syn_tokens.specs.Idents.{is_keyword}
 use Rattle.syn_tokens.specs.Nears.{wide}
 use Rattle.syn_tokens.specs.Punct.{is_punct_character}
-use Rattle.syn_tokens.specs.declared.entry.Token.{Token}
-use Rattle.syn_tokens.specs.declared.entry.Token.TheVariants as E
-use Rattle.syn_tokens.specs.declared.entry.Packed.TheVariants as P
-use Rattle.syn_tokens.specs.declared.entry.Far.TheVariants as F
+use Rattle.syn_tokens.specs.declared.stream.entry.Token.{Token}
+use Rattle.syn_tokens.specs.declared.stream.entry.Token.TheVariants as E
+use Rattle.syn_tokens.specs.declared.stream.entry.Packed.TheVariants as P
+use Rattle.syn_tokens.specs.declared.stream.entry.Far.TheVariants as F
 
 -- what stands beyond the first 2^32 bytes of a text
 abbrev pub far_token : F.the_data → Token

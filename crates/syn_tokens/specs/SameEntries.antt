@@ -5,8 +5,8 @@ use Rattle.syn_grammar.specs.Same.{same_delimiter}
 use Rattle.syn_tokens.specs.Delimiters.{delimiter_of}
 use Rattle.syn_tokens.specs.Literals.{spelling}
 use Rattle.syn_tokens.specs.Punct.{same_punct}
-use Rattle.syn_tokens.specs.declared.entry.Token.{Token as Entry}
-use Rattle.syn_tokens.specs.declared.entry.Token.TheVariants as E
+use Rattle.syn_tokens.specs.declared.stream.entry.Token.{Token as Entry}
+use Rattle.syn_tokens.specs.declared.stream.entry.Token.TheVariants as E
 
 -- the same token, or the same opening sign; closing signs aren't told apart
 abbrev pub same_entry : Entry → Entry → Bool

@@ -6,8 +6,8 @@ use Rattle.syn_tokens.specs.Delimiters.{delimiter_of}
 use Rattle.syn_tokens.specs.Punct.{is_joint}
 use Rattle.syn_tokens.specs.Literals.{kind_of}
 use Rattle.syn_tokens.specs.declared.span.Span.{Span}
-use Rattle.syn_tokens.specs.declared.tree.TokenTree.{TokenTree}
-use Rattle.syn_tokens.specs.declared.tree.TokenTree.TheVariants as T
+use Rattle.syn_tokens.specs.declared.stream.tree.TokenTree.{TokenTree}
+use Rattle.syn_tokens.specs.declared.stream.tree.TokenTree.TheVariants as T
 
 -- a tree, and what follows it
 abbrev pub before : TokenTree → Stream → Stream

@@ -1,8 +1,6 @@
 //! What a public call says where it refuses.
 ghost use Rattle.std.specs.Prelude.{◌≡◌, [], ◌∷◌, ◌++◌, ◌↔◌, ◌≤◌, IsTrue, length, map, take};
-ghost use Rattle.syn_tokens.specs.Faults.{IsRefusedAs};
 
-use crate::refusal::Refusal;
 use crate::span::Span;
 use std::alloc::{AllocError, AllocFailed};
 use std::fmt;
@@ -157,16 +155,5 @@ impl<T: Drop> From<AllocFailed<T>> for Error {
 
     fn from(_e: AllocFailed<T>) -> Error {
         Error::memory()
-    }
-}
-
-impl From<Refusal> for Error {
-    ghost from_gives = { IsRefusedAs };
-
-    fn from(refusal: Refusal) -> Error {
-        match refusal {
-            Refusal::Memory => Error::memory(),
-            Refusal::Syntax { span, expectation } => Error::new(span, expectation.as_str()),
-        }
     }
 }

@@ -6,13 +6,17 @@ ghost use Rattle.syn_tokens.specs.Equal.{same_text_equiv, same_text_per};
 ghost use Rattle.syn_tokens.specs.Idents.{is_keyword, is_identifier};
 
 use crate::error::{Error, Result};
-use crate::ident_ref::IdentRef;
-use crate::identifier::is_identifier;
-use crate::keyword::is_keyword;
+use crate::ident::ident_ref::IdentRef;
+use crate::ident::identifier::is_identifier;
+use crate::ident::keyword::is_keyword;
 use crate::span::Span;
 use crate::text::Text;
 use std::alloc::{AllocError, Global};
 use std::marker::Model;
+
+pub mod ident_ref;
+pub mod identifier;
+pub mod keyword;
 
 /// An identifier or a word of the language, such as `a`, `r#a`, `_` or `struct`. Two are equal where their texts are,
 /// wherever they stand.

@@ -5,11 +5,13 @@ ghost use Rattle.syn_grammar.specs.Tokens.{same_text};
 ghost use Rattle.syn_tokens.specs.Equal.{same_text_equiv, same_text_per};
 
 use crate::error::Result;
-use crate::literal_ref::LiteralRef;
+use crate::literal::literal_ref::LiteralRef;
 use crate::span::Span;
 use crate::text::Text;
 use std::alloc::{AllocError, Global};
 use std::marker::Model;
+
+pub mod literal_ref;
 
 /// What a literal is.
 #[derive(Clone, Copy, Debug, PartialEq, Eq)]

@@ -7,14 +7,22 @@ ghost use Rattle.syn_tokens.specs.Punct.{is_joint, is_punct_character};
 ghost use Rattle.syn_tokens.specs.Entries.{encode, decode, IsFlat, IsToken};
 ghost use Rattle.syn_grammar.specs.Take.{first, length, is_end};
 
-use crate::cursor::Cursor;
-use crate::entry::{Close, Entry, Open};
 use crate::error::Result;
 use crate::punct::{Punct, Spacing};
 use crate::span::Span;
-use crate::tree::{Group, TokenTree};
+use crate::stream::cursor::Cursor;
+use crate::stream::entry::{Close, Entry, Open};
+use crate::stream::tree::{Group, TokenTree};
 use std::alloc::{AllocError, Global};
 use std::marker::Model;
+
+pub mod builder;
+mod copies;
+pub mod cursor;
+pub mod entry;
+mod near;
+mod same;
+pub mod tree;
 
 /// A list of token trees.
 #[derive(Drop)]
@@ -118,8 +126,8 @@ impl TokenStream {
         self.entries.as_slice()
     }
 
-    /// Its trees, to be gone through.
-    pub(crate) fn cursor(&self) -> Cursor<'_>
+    /// A cursor over its trees, from the first one.
+    pub fn cursor(&self) -> Cursor<'_>
         ensures { result ≡ self.now }
     {
         Cursor::new(self.entries.as_slice(), self.trees)

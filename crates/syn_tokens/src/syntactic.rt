@@ -6,6 +6,9 @@ ghost use Rattle.syn_tokens.specs.Leaves.{maybe, syntax_of_ident, syntax_of_lite
 use crate::ident::Ident;
 use crate::literal::Literal;
 
+pub mod compare;
+pub mod try_clone;
+
 /// A value that stands for syntax: for what was read, with its signs and spans.
 pub trait Syntactic {
     ghost syntax: { Self → Syntax };

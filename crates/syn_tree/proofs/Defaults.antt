@@ -2,11 +2,11 @@
 use Rattle.std.proofs.Common.{◌≡◌, List, subst, sym}
 use Rattle.std.specs.Prelude.{Result, Err}
 use Rattle.syn_grammar.specs.Tokens.{Stream}
-use Rattle.syn_tokens.specs.Refusals.{IsSyntax}
-use Rattle.syn_tokens.specs.Faults.{FaultValue, IsSyntaxError, IsRefusedAs}
-use Rattle.syn_tokens.specs.Nexts.{RefusedNext, HasFaultNext}
-use Rattle.syn_tokens.specs.declared.refusal.Refusal.{Refusal}
-use Rattle.syn_tokens.proofs.Refused.{refused_by_syntax, refused_next}
+use Rattle.syn_parse.specs.Refusals.{IsSyntax, IsRefusedAs}
+use Rattle.syn_tokens.specs.Faults.{FaultValue, IsSyntaxError}
+use Rattle.syn_parse.specs.Nexts.{RefusedNext, HasFaultNext}
+use Rattle.syn_parse.specs.declared.read.refusal.Refusal.{Refusal}
+use Rattle.syn_parse.proofs.Refused.{refused_by_syntax, refused_next}
 use Rattle.syn_tree.specs.Defaults.{HasDefault, RefusesDefault, no_default}
 
 -- what was refused as a default is a fault there

@@ -6,8 +6,8 @@ use Rattle.syn_grammar.specs.Take.{sees, at_front, take_token, take_group}
 use Rattle.syn_grammar.specs.Table.{at_restriction}
 use Rattle.syn_grammar.proofs.Sets.{same_text_eq}
 use Rattle.syn_grammar.proofs.Looks.{sees_group, sees_word}
-use Rattle.syn_tokens.specs.Peeks.{past}
-use Rattle.syn_tokens.specs.Opened.{content_of}
+use Rattle.syn_parse.specs.Peeks.{past}
+use Rattle.syn_parse.specs.Opened.{content_of}
 use Rattle.syn_tree.specs.Looks.{lone_word, restricts}
 
 -- a word that begins a restriction by itself

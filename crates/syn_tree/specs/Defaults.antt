@@ -6,7 +6,7 @@ use Rattle.syn_grammar.specs.Grammar.{Syntax}
 use Rattle.syn_grammar.specs.Take.{sees}
 use Rattle.syn_grammar.specs.Run.{reads}
 use Rattle.syn_grammar.specs.Table.{at_equals}
-use Rattle.syn_tokens.specs.Peeks.{past}
+use Rattle.syn_parse.specs.Peeks.{past}
 
 -- a visibility and a type stand there, and behind them `=` and a default
 pub record HasDefault (ts default : Stream) : Type 0 where

@@ -3,7 +3,7 @@ use Rattle.std.specs.Prelude.{Bool, false, Option, Some, None}
 use Rattle.syn_grammar.specs.Words.{w_in, w_crate, w_self, w_super}
 use Rattle.syn_grammar.specs.Tokens.{Stream, or, and, ended, at_word}
 use Rattle.syn_grammar.specs.Take.{sees}
-use Rattle.syn_tokens.specs.Peeks.{past}
+use Rattle.syn_parse.specs.Peeks.{past}
 
 -- `crate`, `self` or `super` stands alone
 abbrev pub lone_word : Stream → Bool

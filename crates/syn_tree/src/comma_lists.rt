@@ -7,11 +7,11 @@ ghost use Rattle.syn_tokens.specs.Kinds.{comma_syntax};
 ghost use Rattle.syn_grammar.specs.Says.{itself};
 
 use crate::data::Field;
-use syn_tokens::buffer::ParseBuffer;
-use syn_tokens::lists::punctuated_list;
+use syn_parse::buffer::ParseBuffer;
+use syn_parse::read::End;
+use syn_parse::read::lists::punctuated_list;
+use syn_parse::read::refusal::Reading;
 use syn_tokens::punctuated::Punctuated;
-use syn_tokens::read::End;
-use syn_tokens::refusal::Reading;
 use syn_tokens::token::Comma;
 
 /// Fields without names: none, or one and, behind a comma, the others. The last comma may stand or not.

@@ -1,20 +1,19 @@
 //! Fields.
 ghost use Rattle.syn_grammar.specs.Rules as rules;
 ghost use Rattle.syn_tree.specs.Parsing.{◌≡◌, OnErr, rule, meaning_of_rule, reads, Says, Parses, Moved, Outcome, itself, IsSyntax, IsSyntaxError};
-ghost use Rattle.syn_tokens.specs.Nexts.{RefusedNext, HasFaultNext};
+ghost use Rattle.syn_parse.specs.Nexts.{RefusedNext, HasFaultNext};
 ghost use Rattle.syn_tree.specs.Defaults.{RefusesDefault};
 
 use crate::comma_lists::unnamed_fields;
 use crate::lower::{Attribute, Expr, Type};
 use crate::restriction::Visibility;
-use syn_tokens::buffer::ParseBuffer;
-use syn_tokens::compare::Compared;
+use syn_parse::buffer::ParseBuffer;
+use syn_parse::read::Read;
+use syn_parse::read::refusal::Reading;
 use syn_tokens::error::Result;
-use syn_tokens::expectation::Expectation;
 use syn_tokens::ident::Ident;
 use syn_tokens::punctuated::Punctuated;
-use syn_tokens::read::Read;
-use syn_tokens::refusal::Reading;
+use syn_tokens::syntactic::compare::Compared;
 use syn_tokens::token::{Colon, Comma, Eq, Paren, kind};
 
 /// The fields of a struct or variant.
@@ -54,7 +53,7 @@ impl Field {
     ///
     /// Where the tokens are no such field, or memory is refused, the buffer stands where it stood. The fault of a `=` is
     /// at the token behind it, as fields without names have no defaults.
-    #[tactic(auto, using(syn_tokens::proofs::Refused::refused_by_syntax))]
+    #[tactic(auto, using(syn_parse::proofs::Refused::refused_by_syntax))]
     pub fn parse_unnamed(input: &mut ParseBuffer<'_>) -> Result<Field>
         ensures outcome { Outcome IsSyntaxError itself (rule rules.unnamed_field) input.old result input.new }
         ensures reads { Says IsSyntaxError itself (reads rules.unnamed_field input.old) result input.new }
@@ -84,7 +83,9 @@ impl Field {
             default: None,
         };
         if input.peek::<Eq>() {
-            return Err(input.refusal_behind(Expectation::NoFieldDefault));
+            return Err(input.refusal_behind(
+                "field default value is only supported in structs with named fields",
+            ));
         }
         Ok(field)
     }

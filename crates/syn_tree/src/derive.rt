@@ -6,10 +6,10 @@ ghost use Rattle.syn_tree.specs.Derive.{structure_syntax, body_syntax};
 use crate::data::Fields;
 use crate::lower::{Attribute, Generics};
 use crate::restriction::Visibility;
-use syn_tokens::buffer::ParseBuffer;
+use syn_parse::buffer::ParseBuffer;
+use syn_parse::read::Read;
+use syn_parse::read::refusal::Reading;
 use syn_tokens::ident::Ident;
-use syn_tokens::read::Read;
-use syn_tokens::refusal::Reading;
 use syn_tokens::token::{Paren, Semi, Struct};
 
 /// A struct, as a derive macro is given it.

@@ -4,8 +4,8 @@ ghost use Rattle.syn_grammar.specs.Take.{sees};
 ghost use Rattle.syn_grammar.specs.Table as table;
 ghost use Rattle.syn_tree.specs.Looks.{lone_word};
 
-use syn_tokens::buffer::ParseBuffer;
-use syn_tokens::read::End;
+use syn_parse::buffer::ParseBuffer;
+use syn_parse::read::End;
 use syn_tokens::token::{Crate, In, SelfValue, Super, kind};
 
 /// Whether parentheses stand next that hold `crate`, `self` or `super` alone, or begin with `in`.

@@ -7,10 +7,10 @@ ghost use Rattle.syn_tree.specs.Restriction.{restriction_syntax};
 
 use crate::looks::at_restriction;
 use crate::lower::Path;
-use syn_tokens::buffer::ParseBuffer;
-use syn_tokens::compare::Compared;
-use syn_tokens::read::Read;
-use syn_tokens::refusal::Reading;
+use syn_parse::buffer::ParseBuffer;
+use syn_parse::read::Read;
+use syn_parse::read::refusal::Reading;
+use syn_tokens::syntactic::compare::Compared;
 use syn_tokens::token::{In, Paren, Pub, kind};
 
 /// How far an item can be seen.

@@ -10,10 +10,10 @@ ghost use Rattle.syn.specs.EntryTexts.{entry_text, direct_behind};
 
 use std::alloc::AllocError;
 use syn_tokens::delimiter::Delimiter;
-use syn_tokens::entry::{Entry, Token};
 use syn_tokens::error::Result;
 use syn_tokens::punct::{Punct, Spacing};
 use syn_tokens::stream::TokenStream;
+use syn_tokens::stream::entry::{Entry, Token};
 
 /// The text of a token stream: its tokens and the signs of its groups with one space between them, and none behind a
 /// mark's character that is `Joint`. The signs of a `None` group are not written. Refused only where memory is.

@@ -14,14 +14,14 @@ use crate::reader::docs::{Doc, doc_of, quoted};
 use crate::reader::lexer::Lexeme;
 use crate::reader::names::Names;
 use std::alloc::{AllocError, Global};
-use syn_tokens::builder::StreamBuilder;
 use syn_tokens::delimiter::Delimiter;
-use syn_tokens::entry::Entry;
 use syn_tokens::error::Result;
 use syn_tokens::literal::{LitKind, Literal};
 use syn_tokens::punct::{Punct, Spacing};
 use syn_tokens::span::Span;
 use syn_tokens::stream::TokenStream;
+use syn_tokens::stream::builder::StreamBuilder;
+use syn_tokens::stream::entry::Entry;
 
 /// Builds token trees from lexemes, one after another.
 #[derive(Drop)]

@@ -5,7 +5,7 @@ use crate::lower::{Generics, Path, Type};
 use crate::restriction::{VisRestricted, Visibility};
 use crate::token::{Delimiter, Ident, Mark, Punct, Spacing, Span, TokenStream};
 use std::alloc::{AllocError, Global};
-use syn_tokens::entry::{Entry, Token};
+use syn_tokens::stream::entry::{Entry, Token};
 
 /// A tree that can be shown.
 pub trait Outlined {

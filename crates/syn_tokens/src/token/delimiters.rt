@@ -1,18 +1,14 @@
 //! The signs of groups.
 ghost use Rattle.std.specs.Prelude.{◌≡◌};
 ghost use Rattle.syn_grammar.specs.Words.{Text};
-ghost use Rattle.syn_grammar.specs.Tokens.{Delimiter, at_group};
-ghost use Rattle.syn_tokens.specs.Expectations.{text_of};
+ghost use Rattle.syn_grammar.specs.Tokens.{Delimiter};
 
-use crate::buffer::ParseBuffer;
 use crate::delimiter::Delimiter;
-use crate::expectation::Expectation;
-use crate::read::Peek;
 use crate::span::Span;
 use std::marker::PhantomData;
 
 /// A kind of group, by its signs.
-pub trait DelimiterKind: Copy {
+pub trait DelimiterKind {
     ghost delimiter: { Delimiter };
 
     /// The signs.
@@ -22,9 +18,9 @@ pub trait DelimiterKind: Copy {
     /// What a fault says where they were expected.
     ghost fault: { Text };
 
-    /// How a fault names them.
-    fn expectation() -> Expectation
-        ensures { text_of result ≡ fault };
+    /// The text of that fault, such as `expected parentheses`.
+    fn expected() -> &'static str
+        ensures { result.now ≡ fault };
 
     ghost use Rattle.syn_tokens.specs.Delimiters.{delimiter_of};
 }
@@ -60,19 +56,5 @@ impl<K> Default for Delimiters<K> {
         ensures close { result.closing ≡ record { start = 0; end = 0 } }
     {
         Delimiters::new(Span::call_site(), Span::call_site())
-    }
-}
-
-impl<K: DelimiterKind> Peek for Delimiters<K> {
-    ghost look = { at_group K.delimiter };
-
-    ghost fault = { K.fault };
-
-    fn peek(input: &ParseBuffer<'_>) -> bool {
-        input.is_at_group(K::delimiter())
-    }
-
-    fn expectation() -> Expectation {
-        K::expectation()
     }
 }

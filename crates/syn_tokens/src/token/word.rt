@@ -1,37 +1,31 @@
 //! Words, such as `struct`.
-ghost use Rattle.std.specs.Prelude.{◌≡◌, [], true, refl, IfOk, OnOk};
+ghost use Rattle.std.specs.Prelude.{◌≡◌, true, IfOk, OnOk};
 ghost use Rattle.syn_grammar.specs.Words.{Text};
-ghost use Rattle.syn_grammar.specs.Tokens.{at_word, end, ident, leaf, ◌⧺◌};
-ghost use Rattle.syn_grammar.specs.Grammar.{word, token};
-ghost use Rattle.syn_grammar.proofs.Outcomes.{meaning_of};
+ghost use Rattle.syn_grammar.specs.Tokens.{end, ident, leaf, ◌⧺◌};
 ghost use Rattle.syn_tokens.specs.Spans.{at};
 ghost use Rattle.syn_tokens.specs.Spelled.{is_plain_word};
-ghost use Rattle.syn_tokens.specs.Expectations.{expected, text_of};
+ghost use Rattle.syn_tokens.specs.Faults.{expected};
 ghost use Rattle.syn_tokens.specs.Leaves.{syntax_of_word, is_known_word};
 
-use crate::buffer::ParseBuffer;
-use crate::expectation::Expectation;
 use crate::ident::Ident;
-use crate::read::{Peek, Read};
-use crate::refusal::Reading;
 use crate::span::Span;
 use crate::stream::TokenStream;
+use crate::stream::tree::TokenTree;
 use crate::syntactic::Syntactic;
-use crate::tree::TokenTree;
 use std::alloc::{AllocError, Global};
 use std::marker::PhantomData;
 
 /// A kind of word, by its text.
-pub trait WordKind: Copy {
+pub trait WordKind {
     ghost text: { Text };
 
     /// The text.
     fn text() -> &'static str
         ensures { result.now ≡ text };
 
-    /// How a fault names it.
-    fn expectation() -> Expectation
-        ensures { text_of result ≡ expected text };
+    /// What a fault says where it was expected: ``expected `struct` ``, with its text.
+    fn expected() -> &'static str
+        ensures { result.now ≡ expected text };
 
     /// Some rule of the grammar may ask for it.
     ghost known: { is_known_word text ≡ true };
@@ -89,29 +83,4 @@ impl<K: WordKind> Word<K> {
 
 impl<K: WordKind> Syntactic for Word<K> {
     ghost syntax = { λ w. syntax_of_word K.text w.span };
-}
-
-impl<K: WordKind> Peek for Word<K> {
-    ghost look = { at_word K.text };
-
-    ghost fault = { expected K.text };
-
-    fn peek(input: &ParseBuffer<'_>) -> bool {
-        input.is_at_word(K::text())
-    }
-
-    fn expectation() -> Expectation {
-        K::expectation()
-    }
-}
-
-impl<K: WordKind> Read for Word<K> {
-    ghost form = { token [] (word K.text) };
-
-    fn read(input: &mut ParseBuffer<'_>) -> Reading<Word<K>> {
-        let span = input.read_word(K::text(), K::expectation())?;
-        Ok(Word::new(span))
-    }
-
-    ghost meaning = { meaning_of (token [] (word K.text)) refl };
 }

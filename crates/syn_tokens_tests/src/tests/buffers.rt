@@ -1,19 +1,19 @@
 //! Buffers: looking ahead, reading and parsing.
 use std::alloc::Global;
 use std::test::Fail;
-use syn_tokens::buffer::ParseBuffer;
+use syn_parse::buffer::ParseBuffer;
+use syn_parse::parse::Parse;
+use syn_parse::read::End;
+use syn_parse::read::refusal::{Reading, Refusal};
 use syn_tokens::delimiter::Delimiter;
 use syn_tokens::ident::Ident;
-use syn_tokens::leaf::Lifetime;
+use syn_tokens::lifetime::Lifetime;
 use syn_tokens::literal::{LitKind, Literal};
-use syn_tokens::parse::Parse;
 use syn_tokens::punct::{Punct, Spacing};
-use syn_tokens::read::End;
-use syn_tokens::refusal::{Reading, Refusal};
 use syn_tokens::span::Span;
 use syn_tokens::stream::TokenStream;
+use syn_tokens::stream::tree::{Group, TokenTree};
 use syn_tokens::token;
-use syn_tokens::tree::{Group, TokenTree};
 
 /// A refusal, for tests that meet none.
 fn read<T>(reading: Reading<T>) -> Result<T, &'static str> {

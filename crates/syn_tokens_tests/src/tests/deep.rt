@@ -1,15 +1,15 @@
 //! Streams whose groups are nested deep, and streams that are built sign by sign.
 use std::alloc::Global;
 use std::test::Fail;
-use syn_tokens::buffer::ParseBuffer;
-use syn_tokens::builder::StreamBuilder;
+use syn_parse::buffer::ParseBuffer;
 use syn_tokens::delimiter::Delimiter;
-use syn_tokens::entry::Entry;
 use syn_tokens::error::Result;
 use syn_tokens::ident::Ident;
 use syn_tokens::span::Span;
 use syn_tokens::stream::TokenStream;
-use syn_tokens::tree::{Group, TokenTree};
+use syn_tokens::stream::builder::StreamBuilder;
+use syn_tokens::stream::entry::Entry;
+use syn_tokens::stream::tree::{Group, TokenTree};
 
 const DEEP: usize = 1_000_000;
 

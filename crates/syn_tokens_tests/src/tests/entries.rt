@@ -3,16 +3,16 @@ use std::alloc::Global;
 use std::mem::size_of;
 use std::process::Abort;
 use std::test::Fail;
-use syn_tokens::builder::StreamBuilder;
 use syn_tokens::delimiter::Delimiter;
-use syn_tokens::entry::{Entry, Token};
 use syn_tokens::error::Result;
 use syn_tokens::ident::Ident;
 use syn_tokens::literal::{LitKind, Literal};
 use syn_tokens::punct::{Punct, Spacing};
 use syn_tokens::span::Span;
 use syn_tokens::stream::TokenStream;
-use syn_tokens::tree::{Group, TokenTree};
+use syn_tokens::stream::builder::StreamBuilder;
+use syn_tokens::stream::entry::{Entry, Token};
+use syn_tokens::stream::tree::{Group, TokenTree};
 
 /// The first byte that 32 bits can't count.
 const FAR: usize = 4_294_967_296;

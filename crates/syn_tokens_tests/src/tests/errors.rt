@@ -1,10 +1,11 @@
 //! Errors and refusals.
 use std::alloc::AllocError;
 use std::test::Fail;
+use syn_parse::read::refusal::{Reading, Refusal};
+use syn_parse::read::{End, Peek};
 use syn_tokens::error::Error;
-use syn_tokens::expectation::Expectation;
-use syn_tokens::refusal::{Reading, Refusal};
 use syn_tokens::span::Span;
+use syn_tokens::token::{PathSep, SelfType, ShrEq, Underscore};
 
 fn span_at(start: usize) -> Span {
     Span { start, end: start }
@@ -64,7 +65,7 @@ fn combined(rt: HostRuntime) {
 fn refuse(span: Span) -> Reading<()> {
     Err(Refusal::Syntax {
         span,
-        expectation: Expectation::Struct,
+        text: "expected `struct`",
     })
 }
 
@@ -100,13 +101,10 @@ fn exhausted(rt: HostRuntime) {
 }
 
 #[test]
-fn expectations(rt: HostRuntime) {
-    assert_eq!(rt; Expectation::Underscore.as_str(), "expected `_`");
-    assert_eq!(rt; Expectation::SelfType.as_str(), "expected `Self`");
-    assert_eq!(rt; Expectation::PathSep.as_str(), "expected `::`");
-    assert_eq!(rt; Expectation::ShrEq.as_str(), "expected `>>=`");
-    assert_eq!(rt;
-        Expectation::UnexpectedEnd.as_str(),
-        "unexpected end of input"
-    );
+fn expected_texts(rt: HostRuntime) {
+    assert_eq!(rt; Underscore::expected(), "expected `_`");
+    assert_eq!(rt; SelfType::expected(), "expected `Self`");
+    assert_eq!(rt; PathSep::expected(), "expected `::`");
+    assert_eq!(rt; ShrEq::expected(), "expected `>>=`");
+    assert_eq!(rt; End::expected(), "unexpected end of input");
 }

@@ -1,17 +1,17 @@
 //! What callers ask of buffers, and of whole streams.
 use std::alloc::Global;
 use std::test::Fail;
-use syn_tokens::buffer::ParseBuffer;
+use syn_parse::buffer::ParseBuffer;
+use syn_parse::parse::parse2;
 use syn_tokens::delimiter::Delimiter;
 use syn_tokens::error::{Error, Result};
 use syn_tokens::ident::Ident;
-use syn_tokens::parse2::parse2;
 use syn_tokens::punct::{Punct, Spacing};
 use syn_tokens::punctuated::Punctuated;
 use syn_tokens::span::Span;
 use syn_tokens::stream::TokenStream;
+use syn_tokens::stream::tree::{Group, TokenTree};
 use syn_tokens::token::{Comma, Enum, PathSep, Pub, Struct, Type};
-use syn_tokens::tree::{Group, TokenTree};
 
 /// One byte.
 fn span(start: usize) -> Span {

@@ -1,8 +1,8 @@
 //! Identifiers, literals, marks' characters and spans.
 use std::test::Fail;
 use syn_tokens::ident::Ident;
-use syn_tokens::identifier::is_identifier;
-use syn_tokens::keyword::is_keyword;
+use syn_tokens::ident::identifier::is_identifier;
+use syn_tokens::ident::keyword::is_keyword;
 use syn_tokens::literal::{LitKind, Literal};
 use syn_tokens::punct::{Punct, Spacing};
 use syn_tokens::span::Span;

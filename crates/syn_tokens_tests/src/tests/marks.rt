@@ -1,15 +1,15 @@
 //! Each mark: seen and read in its own characters alone, and printed as those.
 use std::alloc::{AllocError, Global};
 use std::test::Fail;
-use syn_tokens::buffer::ParseBuffer;
+use syn_parse::buffer::ParseBuffer;
+use syn_parse::parse::Parse;
+use syn_parse::read::{Peek, ReadMark};
 use syn_tokens::error::Result;
-use syn_tokens::parse::Parse;
 use syn_tokens::punct::{Punct, Spacing};
-use syn_tokens::read::Peek;
 use syn_tokens::span::Span;
 use syn_tokens::stream::TokenStream;
-use syn_tokens::token::{self, Mark, MarkKind};
-use syn_tokens::tree::TokenTree;
+use syn_tokens::stream::tree::TokenTree;
+use syn_tokens::token::{self, Mark};
 
 /// The byte at this place.
 fn span(start: usize) -> Span {
@@ -38,7 +38,7 @@ trait Printed: Peek + Parse + Drop {
     fn print_to(&self, out: &mut TokenStream) -> std::result::Result<(), AllocError>;
 }
 
-impl<K: MarkKind<N>, const N: usize> Printed for Mark<K, N> {
+impl<K: ReadMark<N>, const N: usize> Printed for Mark<K, N> {
     fn print_to(&self, out: &mut TokenStream) -> std::result::Result<(), AllocError> {
         self.print(out)
     }

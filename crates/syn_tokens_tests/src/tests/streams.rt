@@ -9,7 +9,7 @@ use syn_tokens::literal::{LitKind, Literal};
 use syn_tokens::punct::{Punct, Spacing};
 use syn_tokens::span::Span;
 use syn_tokens::stream::TokenStream;
-use syn_tokens::tree::{Group, TokenTree};
+use syn_tokens::stream::tree::{Group, TokenTree};
 
 fn at(start: usize, end: usize) -> Span {
     Span { start, end }

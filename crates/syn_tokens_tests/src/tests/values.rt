@@ -1,20 +1,19 @@
 //! Values that were read: copies, comparisons, signs of groups and refusals.
 use std::alloc::Global;
 use std::test::Fail;
-use syn_tokens::buffer::ParseBuffer;
-use syn_tokens::compare::Compared;
+use syn_parse::buffer::ParseBuffer;
+use syn_parse::read::refusal::Refusal;
+use syn_parse::read::{End, Peek};
 use syn_tokens::error::Result;
-use syn_tokens::expectation::Expectation;
 use syn_tokens::ident::Ident;
 use syn_tokens::literal::{LitKind, Literal};
 use syn_tokens::punctuated::Punctuated;
-use syn_tokens::read::End;
-use syn_tokens::refusal::Refusal;
 use syn_tokens::span::Span;
 use syn_tokens::stream::TokenStream;
-use syn_tokens::token::{Comma, Delimiters, Mark, Paren, Pub, Word};
-use syn_tokens::tree::TokenTree;
-use syn_tokens::try_clone::TryClone;
+use syn_tokens::stream::tree::TokenTree;
+use syn_tokens::syntactic::compare::Compared;
+use syn_tokens::syntactic::try_clone::TryClone;
+use syn_tokens::token::{Comma, Delimiters, Mark, Paren, PathSep, Pub, Struct, Word};
 
 const HERE: Span = Span { start: 3, end: 9 };
 
@@ -98,7 +97,7 @@ fn signs(rt: HostRuntime) {
 /// Whether it is the refusal with this text, there.
 fn is_refusal(refusal: Refusal, here: Span, text: &str) -> bool {
     match refusal {
-        Refusal::Syntax { span, expectation } => span == here && expectation.as_str() == text,
+        Refusal::Syntax { span, text: said } => span == here && said == text,
         Refusal::Memory => false,
     }
 }
@@ -109,9 +108,9 @@ fn refusals(rt: HostRuntime) -> std::result::Result<(), Fail> {
     stream.push(TokenTree::Ident(name(rt.alloc(), "a")?))?;
     stream.push(TokenTree::Ident(Ident::new(stream.alloc(), "b", BEHIND)?))?;
     let input = ParseBuffer::new(&stream);
-    let here = input.refusal(Expectation::Struct);
+    let here = input.refusal(Struct::expected());
     assert!(rt; is_refusal(here, HERE, "expected `struct`"));
-    let behind = input.refusal_behind(Expectation::PathSep);
+    let behind = input.refusal_behind(PathSep::expected());
     assert!(rt; is_refusal(behind, BEHIND, "expected `::`"));
     let mut lookahead = input.lookahead1();
     assert!(rt; !lookahead.peek::<End>());

@@ -1,13 +1,13 @@
 //! Each word: seen and read in its own text alone, and printed as that.
 use std::alloc::Global;
 use std::test::Fail;
-use syn_tokens::buffer::ParseBuffer;
+use syn_parse::buffer::ParseBuffer;
 use syn_tokens::error::Result;
 use syn_tokens::ident::Ident;
 use syn_tokens::span::Span;
 use syn_tokens::stream::TokenStream;
+use syn_tokens::stream::tree::TokenTree;
 use syn_tokens::token::{self, Word, WordKind};
-use syn_tokens::tree::TokenTree;
 
 const HERE: Span = Span { start: 3, end: 9 };
 

@@ -7,7 +7,7 @@ ghost use Rattle.syn_tokens.specs.Comparison.{same_by, same_equiv, same_per};
 ghost use Rattle.syn_tree.specs.Derive.{syntax_of_Data, syntax_of_DataStruct};
 
 use crate::derive::{Data, DataStruct, DeriveInput};
-use syn_tokens::compare::Compared;
+use syn_tokens::syntactic::compare::Compared;
 
 impl Compared for DeriveInput {
     fn is_same(&self, other: &DeriveInput) -> bool {

@@ -7,7 +7,7 @@ ghost use Rattle.syn_tokens.specs.Comparison.{same_by, same_equiv, same_per};
 ghost use Rattle.syn_grammar.specs.Says.{itself};
 
 use crate::restriction::{VisRestricted, Visibility};
-use syn_tokens::compare::Compared;
+use syn_tokens::syntactic::compare::Compared;
 
 /// Two are equal exactly where they are once every span is 0 to 0.
 impl PartialEq for Visibility {

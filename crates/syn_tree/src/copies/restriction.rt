@@ -5,7 +5,7 @@
 use crate::restriction::{VisRestricted, Visibility};
 use std::alloc::Global;
 use syn_tokens::error::Result;
-use syn_tokens::try_clone::TryClone;
+use syn_tokens::syntactic::try_clone::TryClone;
 
 impl TryClone for Visibility {
     fn try_clone(&self, alloc: Global) -> Result<Visibility> {

@@ -3,8 +3,8 @@ ghost use Rattle.std.specs.Prelude.{◌≡◌};
 ghost use Rattle.syn_grammar.specs.Grammar.{Nothing};
 
 use std::alloc::Global;
-use syn_tokens::compare::Compared;
 use syn_tokens::punctuated::Punctuated;
+use syn_tokens::syntactic::compare::Compared;
 use syn_tokens::token::{Comma, Gt, Lt};
 
 /// The generic parameters of an item, with its where clause. Signs without parameters are not printed.

@@ -3,12 +3,12 @@ ghost use Rattle.syn_grammar.specs.Rules as rules;
 ghost use Rattle.syn_tree.specs.Parsing.{rule, name_or, meaning_of_rule, reads, take_token, path_words, Says, Moved, itself, IsSyntax, joined_of};
 ghost use Rattle.syn_tokens.specs.Kinds.{path_sep_syntax};
 
-use syn_tokens::buffer::ParseBuffer;
+use syn_parse::buffer::ParseBuffer;
+use syn_parse::read::Read;
+use syn_parse::read::lists::joined_list;
+use syn_parse::read::refusal::Reading;
 use syn_tokens::ident::Ident;
-use syn_tokens::lists::joined_list;
 use syn_tokens::punctuated::Punctuated;
-use syn_tokens::read::Read;
-use syn_tokens::refusal::Reading;
 use syn_tokens::token::PathSep;
 
 /// A path: segments with `::` between them, and perhaps one before the first.

@@ -3,9 +3,9 @@ ghost use Rattle.syn_grammar.specs.Rules as rules;
 ghost use Rattle.syn_tree.specs.Parsing.{rule, meaning_of_rule};
 
 use crate::lower::Path;
-use syn_tokens::buffer::ParseBuffer;
-use syn_tokens::read::Read;
-use syn_tokens::refusal::Reading;
+use syn_parse::buffer::ParseBuffer;
+use syn_parse::read::Read;
+use syn_parse::read::refusal::Reading;
 
 /// A type.
 #[derive(Drop)]

@@ -9,7 +9,7 @@ use syn_tokens::literal::{LitKind, Literal};
 use syn_tokens::punct::{Punct, Spacing};
 use syn_tokens::span::Span;
 use syn_tokens::stream::TokenStream;
-use syn_tokens::tree::{Group, TokenTree};
+use syn_tokens::stream::tree::{Group, TokenTree};
 
 /// Streams, and their texts: `<` and `>` are the signs of a `None` group, `:` is a colon that is Alone, `;` one that is
 /// Joint, and `1` the literal `"a b"`.

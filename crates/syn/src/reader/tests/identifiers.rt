@@ -2,8 +2,8 @@
 use crate::reader::read_tokens;
 use crate::reader::tests::support::{Read, Refused, are_read, are_refused};
 use std::test::Fail;
-use syn_tokens::entry::Token;
 use syn_tokens::span::Span;
+use syn_tokens::stream::entry::Token;
 
 const READ: &[Read] = &[
     ("a", "a@0..1"),

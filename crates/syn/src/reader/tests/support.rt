@@ -8,7 +8,7 @@ use syn_tokens::delimiter::Delimiter;
 use syn_tokens::punct::Spacing;
 use syn_tokens::span::Span;
 use syn_tokens::stream::TokenStream;
-use syn_tokens::tree::{Group, TokenTree};
+use syn_tokens::stream::tree::{Group, TokenTree};
 
 /// A text, and its tokens with their spans: an identifier as `a@0..1`; a mark's character as `:@0..1`, or as `:+@0..1` where
 /// it is Joint; a literal with its kind before it, as `Int1@0..1` or `Str"a"@0..3`; and the two signs of a group as `(@0..1`

@@ -3,10 +3,9 @@ ghost use Rattle.std.specs.Prelude.{refl};
 ghost use Rattle.syn_grammar.specs.Words.{w_const, w_crate, w_enum, w_extern, w_fn, w_impl, w_in, w_mod, w_pub, w_Self_type, w_self, w_static, w_struct, w_super, w_trait, w_type, w_unsafe, w_use, w_where};
 ghost use Rattle.syn_tokens.specs.Leaves.{is_known_word};
 
-use crate::expectation::Expectation;
 use crate::token::WordKind;
 
-#[derive(Clone, Copy, Debug)]
+/// `const`
 pub struct Const;
 
 impl WordKind for Const {
@@ -16,8 +15,8 @@ impl WordKind for Const {
         "const"
     }
 
-    fn expectation() -> Expectation {
-        Expectation::Const
+    fn expected() -> &'static str {
+        "expected `const`"
     }
 
     ghost known = { unfold is_known_word in refl };
@@ -25,7 +24,7 @@ impl WordKind for Const {
     ghost plain = { refl };
 }
 
-#[derive(Clone, Copy, Debug)]
+/// `crate`
 pub struct Crate;
 
 impl WordKind for Crate {
@@ -35,8 +34,8 @@ impl WordKind for Crate {
         "crate"
     }
 
-    fn expectation() -> Expectation {
-        Expectation::Crate
+    fn expected() -> &'static str {
+        "expected `crate`"
     }
 
     ghost known = { unfold is_known_word in refl };
@@ -44,7 +43,7 @@ impl WordKind for Crate {
     ghost plain = { refl };
 }
 
-#[derive(Clone, Copy, Debug)]
+/// `enum`
 pub struct Enum;
 
 impl WordKind for Enum {
@@ -54,8 +53,8 @@ impl WordKind for Enum {
         "enum"
     }
 
-    fn expectation() -> Expectation {
-        Expectation::Enum
+    fn expected() -> &'static str {
+        "expected `enum`"
     }
 
     ghost known = { unfold is_known_word in refl };
@@ -63,7 +62,7 @@ impl WordKind for Enum {
     ghost plain = { refl };
 }
 
-#[derive(Clone, Copy, Debug)]
+/// `extern`
 pub struct Extern;
 
 impl WordKind for Extern {
@@ -73,8 +72,8 @@ impl WordKind for Extern {
         "extern"
     }
 
-    fn expectation() -> Expectation {
-        Expectation::Extern
+    fn expected() -> &'static str {
+        "expected `extern`"
     }
 
     ghost known = { unfold is_known_word in refl };
@@ -82,7 +81,7 @@ impl WordKind for Extern {
     ghost plain = { refl };
 }
 
-#[derive(Clone, Copy, Debug)]
+/// `fn`
 pub struct Fn;
 
 impl WordKind for Fn {
@@ -92,8 +91,8 @@ impl WordKind for Fn {
         "fn"
     }
 
-    fn expectation() -> Expectation {
-        Expectation::Fn
+    fn expected() -> &'static str {
+        "expected `fn`"
     }
 
     ghost known = { unfold is_known_word in refl };
@@ -101,7 +100,7 @@ impl WordKind for Fn {
     ghost plain = { refl };
 }
 
-#[derive(Clone, Copy, Debug)]
+/// `impl`
 pub struct Impl;
 
 impl WordKind for Impl {
@@ -111,8 +110,8 @@ impl WordKind for Impl {
         "impl"
     }
 
-    fn expectation() -> Expectation {
-        Expectation::Impl
+    fn expected() -> &'static str {
+        "expected `impl`"
     }
 
     ghost known = { unfold is_known_word in refl };
@@ -120,7 +119,7 @@ impl WordKind for Impl {
     ghost plain = { refl };
 }
 
-#[derive(Clone, Copy, Debug)]
+/// `in`
 pub struct In;
 
 impl WordKind for In {
@@ -130,8 +129,8 @@ impl WordKind for In {
         "in"
     }
 
-    fn expectation() -> Expectation {
-        Expectation::In
+    fn expected() -> &'static str {
+        "expected `in`"
     }
 
     ghost known = { unfold is_known_word in refl };
@@ -139,7 +138,7 @@ impl WordKind for In {
     ghost plain = { refl };
 }
 
-#[derive(Clone, Copy, Debug)]
+/// `mod`
 pub struct Mod;
 
 impl WordKind for Mod {
@@ -149,8 +148,8 @@ impl WordKind for Mod {
         "mod"
     }
 
-    fn expectation() -> Expectation {
-        Expectation::Mod
+    fn expected() -> &'static str {
+        "expected `mod`"
     }
 
     ghost known = { unfold is_known_word in refl };
@@ -158,7 +157,7 @@ impl WordKind for Mod {
     ghost plain = { refl };
 }
 
-#[derive(Clone, Copy, Debug)]
+/// `pub`
 pub struct Pub;
 
 impl WordKind for Pub {
@@ -168,8 +167,8 @@ impl WordKind for Pub {
         "pub"
     }
 
-    fn expectation() -> Expectation {
-        Expectation::Pub
+    fn expected() -> &'static str {
+        "expected `pub`"
     }
 
     ghost known = { unfold is_known_word in refl };
@@ -177,7 +176,7 @@ impl WordKind for Pub {
     ghost plain = { refl };
 }
 
-#[derive(Clone, Copy, Debug)]
+/// `Self`
 pub struct SelfType;
 
 impl WordKind for SelfType {
@@ -187,8 +186,8 @@ impl WordKind for SelfType {
         "Self"
     }
 
-    fn expectation() -> Expectation {
-        Expectation::SelfType
+    fn expected() -> &'static str {
+        "expected `Self`"
     }
 
     ghost known = { unfold is_known_word in refl };
@@ -196,7 +195,7 @@ impl WordKind for SelfType {
     ghost plain = { refl };
 }
 
-#[derive(Clone, Copy, Debug)]
+/// `self`
 pub struct SelfValue;
 
 impl WordKind for SelfValue {
@@ -206,8 +205,8 @@ impl WordKind for SelfValue {
         "self"
     }
 
-    fn expectation() -> Expectation {
-        Expectation::SelfValue
+    fn expected() -> &'static str {
+        "expected `self`"
     }
 
     ghost known = { unfold is_known_word in refl };
@@ -215,7 +214,7 @@ impl WordKind for SelfValue {
     ghost plain = { refl };
 }
 
-#[derive(Clone, Copy, Debug)]
+/// `static`
 pub struct Static;
 
 impl WordKind for Static {
@@ -225,8 +224,8 @@ impl WordKind for Static {
         "static"
     }
 
-    fn expectation() -> Expectation {
-        Expectation::Static
+    fn expected() -> &'static str {
+        "expected `static`"
     }
 
     ghost known = { unfold is_known_word in refl };
@@ -234,7 +233,7 @@ impl WordKind for Static {
     ghost plain = { refl };
 }
 
-#[derive(Clone, Copy, Debug)]
+/// `struct`
 pub struct Struct;
 
 impl WordKind for Struct {
@@ -244,8 +243,8 @@ impl WordKind for Struct {
         "struct"
     }
 
-    fn expectation() -> Expectation {
-        Expectation::Struct
+    fn expected() -> &'static str {
+        "expected `struct`"
     }
 
     ghost known = { unfold is_known_word in refl };
@@ -253,7 +252,7 @@ impl WordKind for Struct {
     ghost plain = { refl };
 }
 
-#[derive(Clone, Copy, Debug)]
+/// `super`
 pub struct Super;
 
 impl WordKind for Super {
@@ -263,8 +262,8 @@ impl WordKind for Super {
         "super"
     }
 
-    fn expectation() -> Expectation {
-        Expectation::Super
+    fn expected() -> &'static str {
+        "expected `super`"
     }
 
     ghost known = { unfold is_known_word in refl };
@@ -272,7 +271,7 @@ impl WordKind for Super {
     ghost plain = { refl };
 }
 
-#[derive(Clone, Copy, Debug)]
+/// `trait`
 pub struct Trait;
 
 impl WordKind for Trait {
@@ -282,8 +281,8 @@ impl WordKind for Trait {
         "trait"
     }
 
-    fn expectation() -> Expectation {
-        Expectation::Trait
+    fn expected() -> &'static str {
+        "expected `trait`"
     }
 
     ghost known = { unfold is_known_word in refl };
@@ -291,7 +290,7 @@ impl WordKind for Trait {
     ghost plain = { refl };
 }
 
-#[derive(Clone, Copy, Debug)]
+/// `type`
 pub struct Type;
 
 impl WordKind for Type {
@@ -301,8 +300,8 @@ impl WordKind for Type {
         "type"
     }
 
-    fn expectation() -> Expectation {
-        Expectation::Type
+    fn expected() -> &'static str {
+        "expected `type`"
     }
 
     ghost known = { unfold is_known_word in refl };
@@ -310,7 +309,7 @@ impl WordKind for Type {
     ghost plain = { refl };
 }
 
-#[derive(Clone, Copy, Debug)]
+/// `unsafe`
 pub struct Unsafe;
 
 impl WordKind for Unsafe {
@@ -320,8 +319,8 @@ impl WordKind for Unsafe {
         "unsafe"
     }
 
-    fn expectation() -> Expectation {
-        Expectation::Unsafe
+    fn expected() -> &'static str {
+        "expected `unsafe`"
     }
 
     ghost known = { unfold is_known_word in refl };
@@ -329,7 +328,7 @@ impl WordKind for Unsafe {
     ghost plain = { refl };
 }
 
-#[derive(Clone, Copy, Debug)]
+/// `use`
 pub struct Use;
 
 impl WordKind for Use {
@@ -339,8 +338,8 @@ impl WordKind for Use {
         "use"
     }
 
-    fn expectation() -> Expectation {
-        Expectation::Use
+    fn expected() -> &'static str {
+        "expected `use`"
     }
 
     ghost known = { unfold is_known_word in refl };
@@ -348,7 +347,7 @@ impl WordKind for Use {
     ghost plain = { refl };
 }
 
-#[derive(Clone, Copy, Debug)]
+/// `where`
 pub struct Where;
 
 impl WordKind for Where {
@@ -358,8 +357,8 @@ impl WordKind for Where {
         "where"
     }
 
-    fn expectation() -> Expectation {
-        Expectation::Where
+    fn expected() -> &'static str {
+        "expected `where`"
     }
 
     ghost known = { unfold is_known_word in refl };

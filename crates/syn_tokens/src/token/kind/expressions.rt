@@ -3,10 +3,9 @@ ghost use Rattle.std.specs.Prelude.{refl};
 ghost use Rattle.syn_grammar.specs.Words.{w_as, w_async, w_await, w_break, w_continue, w_dyn, w_else, w_false, w_for, w_if, w_let, w_loop, w_match, w_move, w_mut, w_ref, w_return, w_true, w_underscore, w_while};
 ghost use Rattle.syn_tokens.specs.Leaves.{is_known_word};
 
-use crate::expectation::Expectation;
 use crate::token::WordKind;
 
-#[derive(Clone, Copy, Debug)]
+/// `as`
 pub struct As;
 
 impl WordKind for As {
@@ -16,8 +15,8 @@ impl WordKind for As {
         "as"
     }
 
-    fn expectation() -> Expectation {
-        Expectation::As
+    fn expected() -> &'static str {
+        "expected `as`"
     }
 
     ghost known = { unfold is_known_word in refl };
@@ -25,7 +24,7 @@ impl WordKind for As {
     ghost plain = { refl };
 }
 
-#[derive(Clone, Copy, Debug)]
+/// `async`
 pub struct Async;
 
 impl WordKind for Async {
@@ -35,8 +34,8 @@ impl WordKind for Async {
         "async"
     }
 
-    fn expectation() -> Expectation {
-        Expectation::Async
+    fn expected() -> &'static str {
+        "expected `async`"
     }
 
     ghost known = { unfold is_known_word in refl };
@@ -44,7 +43,7 @@ impl WordKind for Async {
     ghost plain = { refl };
 }
 
-#[derive(Clone, Copy, Debug)]
+/// `await`
 pub struct Await;
 
 impl WordKind for Await {
@@ -54,8 +53,8 @@ impl WordKind for Await {
         "await"
     }
 
-    fn expectation() -> Expectation {
-        Expectation::Await
+    fn expected() -> &'static str {
+        "expected `await`"
     }
 
     ghost known = { unfold is_known_word in refl };
@@ -63,7 +62,7 @@ impl WordKind for Await {
     ghost plain = { refl };
 }
 
-#[derive(Clone, Copy, Debug)]
+/// `break`
 pub struct Break;
 
 impl WordKind for Break {
@@ -73,8 +72,8 @@ impl WordKind for Break {
         "break"
     }
 
-    fn expectation() -> Expectation {
-        Expectation::Break
+    fn expected() -> &'static str {
+        "expected `break`"
     }
 
     ghost known = { unfold is_known_word in refl };
@@ -82,7 +81,7 @@ impl WordKind for Break {
     ghost plain = { refl };
 }
 
-#[derive(Clone, Copy, Debug)]
+/// `continue`
 pub struct Continue;
 
 impl WordKind for Continue {
@@ -92,8 +91,8 @@ impl WordKind for Continue {
         "continue"
     }
 
-    fn expectation() -> Expectation {
-        Expectation::Continue
+    fn expected() -> &'static str {
+        "expected `continue`"
     }
 
     ghost known = { unfold is_known_word in refl };
@@ -101,7 +100,7 @@ impl WordKind for Continue {
     ghost plain = { refl };
 }
 
-#[derive(Clone, Copy, Debug)]
+/// `dyn`
 pub struct Dyn;
 
 impl WordKind for Dyn {
@@ -111,8 +110,8 @@ impl WordKind for Dyn {
         "dyn"
     }
 
-    fn expectation() -> Expectation {
-        Expectation::Dyn
+    fn expected() -> &'static str {
+        "expected `dyn`"
     }
 
     ghost known = { unfold is_known_word in refl };
@@ -120,7 +119,7 @@ impl WordKind for Dyn {
     ghost plain = { refl };
 }
 
-#[derive(Clone, Copy, Debug)]
+/// `else`
 pub struct Else;
 
 impl WordKind for Else {
@@ -130,8 +129,8 @@ impl WordKind for Else {
         "else"
     }
 
-    fn expectation() -> Expectation {
-        Expectation::Else
+    fn expected() -> &'static str {
+        "expected `else`"
     }
 
     ghost known = { unfold is_known_word in refl };
@@ -139,7 +138,7 @@ impl WordKind for Else {
     ghost plain = { refl };
 }
 
-#[derive(Clone, Copy, Debug)]
+/// `false`
 pub struct False;
 
 impl WordKind for False {
@@ -149,8 +148,8 @@ impl WordKind for False {
         "false"
     }
 
-    fn expectation() -> Expectation {
-        Expectation::False
+    fn expected() -> &'static str {
+        "expected `false`"
     }
 
     ghost known = { unfold is_known_word in refl };
@@ -158,7 +157,7 @@ impl WordKind for False {
     ghost plain = { refl };
 }
 
-#[derive(Clone, Copy, Debug)]
+/// `for`
 pub struct For;
 
 impl WordKind for For {
@@ -168,8 +167,8 @@ impl WordKind for For {
         "for"
     }
 
-    fn expectation() -> Expectation {
-        Expectation::For
+    fn expected() -> &'static str {
+        "expected `for`"
     }
 
     ghost known = { unfold is_known_word in refl };
@@ -177,7 +176,7 @@ impl WordKind for For {
     ghost plain = { refl };
 }
 
-#[derive(Clone, Copy, Debug)]
+/// `if`
 pub struct If;
 
 impl WordKind for If {
@@ -187,8 +186,8 @@ impl WordKind for If {
         "if"
     }
 
-    fn expectation() -> Expectation {
-        Expectation::If
+    fn expected() -> &'static str {
+        "expected `if`"
     }
 
     ghost known = { unfold is_known_word in refl };
@@ -196,7 +195,7 @@ impl WordKind for If {
     ghost plain = { refl };
 }
 
-#[derive(Clone, Copy, Debug)]
+/// `let`
 pub struct Let;
 
 impl WordKind for Let {
@@ -206,8 +205,8 @@ impl WordKind for Let {
         "let"
     }
 
-    fn expectation() -> Expectation {
-        Expectation::Let
+    fn expected() -> &'static str {
+        "expected `let`"
     }
 
     ghost known = { unfold is_known_word in refl };
@@ -215,7 +214,7 @@ impl WordKind for Let {
     ghost plain = { refl };
 }
 
-#[derive(Clone, Copy, Debug)]
+/// `loop`
 pub struct Loop;
 
 impl WordKind for Loop {
@@ -225,8 +224,8 @@ impl WordKind for Loop {
         "loop"
     }
 
-    fn expectation() -> Expectation {
-        Expectation::Loop
+    fn expected() -> &'static str {
+        "expected `loop`"
     }
 
     ghost known = { unfold is_known_word in refl };
@@ -234,7 +233,7 @@ impl WordKind for Loop {
     ghost plain = { refl };
 }
 
-#[derive(Clone, Copy, Debug)]
+/// `match`
 pub struct Match;
 
 impl WordKind for Match {
@@ -244,8 +243,8 @@ impl WordKind for Match {
         "match"
     }
 
-    fn expectation() -> Expectation {
-        Expectation::Match
+    fn expected() -> &'static str {
+        "expected `match`"
     }
 
     ghost known = { unfold is_known_word in refl };
@@ -253,7 +252,7 @@ impl WordKind for Match {
     ghost plain = { refl };
 }
 
-#[derive(Clone, Copy, Debug)]
+/// `move`
 pub struct Move;
 
 impl WordKind for Move {
@@ -263,8 +262,8 @@ impl WordKind for Move {
         "move"
     }
 
-    fn expectation() -> Expectation {
-        Expectation::Move
+    fn expected() -> &'static str {
+        "expected `move`"
     }
 
     ghost known = { unfold is_known_word in refl };
@@ -272,7 +271,7 @@ impl WordKind for Move {
     ghost plain = { refl };
 }
 
-#[derive(Clone, Copy, Debug)]
+/// `mut`
 pub struct Mut;
 
 impl WordKind for Mut {
@@ -282,8 +281,8 @@ impl WordKind for Mut {
         "mut"
     }
 
-    fn expectation() -> Expectation {
-        Expectation::Mut
+    fn expected() -> &'static str {
+        "expected `mut`"
     }
 
     ghost known = { unfold is_known_word in refl };
@@ -291,7 +290,7 @@ impl WordKind for Mut {
     ghost plain = { refl };
 }
 
-#[derive(Clone, Copy, Debug)]
+/// `ref`
 pub struct Ref;
 
 impl WordKind for Ref {
@@ -301,8 +300,8 @@ impl WordKind for Ref {
         "ref"
     }
 
-    fn expectation() -> Expectation {
-        Expectation::Ref
+    fn expected() -> &'static str {
+        "expected `ref`"
     }
 
     ghost known = { unfold is_known_word in refl };
@@ -310,7 +309,7 @@ impl WordKind for Ref {
     ghost plain = { refl };
 }
 
-#[derive(Clone, Copy, Debug)]
+/// `return`
 pub struct Return;
 
 impl WordKind for Return {
@@ -320,8 +319,8 @@ impl WordKind for Return {
         "return"
     }
 
-    fn expectation() -> Expectation {
-        Expectation::Return
+    fn expected() -> &'static str {
+        "expected `return`"
     }
 
     ghost known = { unfold is_known_word in refl };
@@ -329,7 +328,7 @@ impl WordKind for Return {
     ghost plain = { refl };
 }
 
-#[derive(Clone, Copy, Debug)]
+/// `true`
 pub struct True;
 
 impl WordKind for True {
@@ -339,8 +338,8 @@ impl WordKind for True {
         "true"
     }
 
-    fn expectation() -> Expectation {
-        Expectation::True
+    fn expected() -> &'static str {
+        "expected `true`"
     }
 
     ghost known = { unfold is_known_word in refl };
@@ -348,7 +347,7 @@ impl WordKind for True {
     ghost plain = { refl };
 }
 
-#[derive(Clone, Copy, Debug)]
+/// `_`
 pub struct Underscore;
 
 impl WordKind for Underscore {
@@ -358,8 +357,8 @@ impl WordKind for Underscore {
         "_"
     }
 
-    fn expectation() -> Expectation {
-        Expectation::Underscore
+    fn expected() -> &'static str {
+        "expected `_`"
     }
 
     ghost known = { unfold is_known_word in refl };
@@ -367,7 +366,7 @@ impl WordKind for Underscore {
     ghost plain = { refl };
 }
 
-#[derive(Clone, Copy, Debug)]
+/// `while`
 pub struct While;
 
 impl WordKind for While {
@@ -377,8 +376,8 @@ impl WordKind for While {
         "while"
     }
 
-    fn expectation() -> Expectation {
-        Expectation::While
+    fn expected() -> &'static str {
+        "expected `while`"
     }
 
     ghost known = { unfold is_known_word in refl };

@@ -3,10 +3,9 @@ ghost use Rattle.std.specs.Prelude.{codes};
 ghost use Rattle.syn_grammar.specs.Tokens as grammar;
 
 use crate::delimiter::Delimiter;
-use crate::expectation::Expectation;
 use crate::token::DelimiterKind;
 
-#[derive(Clone, Copy, Debug)]
+/// `( )`
 pub struct Paren;
 
 impl DelimiterKind for Paren {
@@ -18,12 +17,12 @@ impl DelimiterKind for Paren {
         Delimiter::Paren
     }
 
-    fn expectation() -> Expectation {
-        Expectation::Parentheses
+    fn expected() -> &'static str {
+        "expected parentheses"
     }
 }
 
-#[derive(Clone, Copy, Debug)]
+/// `{ }`
 pub struct Brace;
 
 impl DelimiterKind for Brace {
@@ -35,12 +34,12 @@ impl DelimiterKind for Brace {
         Delimiter::Brace
     }
 
-    fn expectation() -> Expectation {
-        Expectation::CurlyBraces
+    fn expected() -> &'static str {
+        "expected curly braces"
     }
 }
 
-#[derive(Clone, Copy, Debug)]
+/// `[ ]`
 pub struct Bracket;
 
 impl DelimiterKind for Bracket {
@@ -52,7 +51,7 @@ impl DelimiterKind for Bracket {
         Delimiter::Bracket
     }
 
-    fn expectation() -> Expectation {
-        Expectation::SquareBrackets
+    fn expected() -> &'static str {
+        "expected square brackets"
     }
 }

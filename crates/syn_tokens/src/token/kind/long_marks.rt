@@ -2,10 +2,9 @@
 ghost use Rattle.std.specs.Prelude.{refl};
 ghost use Rattle.syn_tokens.specs.Punct.{is_punct_character};
 
-use crate::expectation::Expectation;
 use crate::token::{ThreeCharacters, TwoCharacters};
 
-#[derive(Clone, Copy, Debug)]
+/// `&&`
 pub struct AndAnd;
 
 impl TwoCharacters for AndAnd {
@@ -17,8 +16,8 @@ impl TwoCharacters for AndAnd {
         ('&', '&')
     }
 
-    fn expectation() -> Expectation {
-        Expectation::AndAnd
+    fn expected() -> &'static str {
+        "expected `&&`"
     }
 
     ghost known = { refl };
@@ -26,7 +25,7 @@ impl TwoCharacters for AndAnd {
     ghost printable = { unfold is_punct_character in (refl, refl) };
 }
 
-#[derive(Clone, Copy, Debug)]
+/// `&=`
 pub struct AndEq;
 
 impl TwoCharacters for AndEq {
@@ -38,8 +37,8 @@ impl TwoCharacters for AndEq {
         ('&', '=')
     }
 
-    fn expectation() -> Expectation {
-        Expectation::AndEq
+    fn expected() -> &'static str {
+        "expected `&=`"
     }
 
     ghost known = { refl };
@@ -47,7 +46,7 @@ impl TwoCharacters for AndEq {
     ghost printable = { unfold is_punct_character in (refl, refl) };
 }
 
-#[derive(Clone, Copy, Debug)]
+/// `^=`
 pub struct CaretEq;
 
 impl TwoCharacters for CaretEq {
@@ -59,8 +58,8 @@ impl TwoCharacters for CaretEq {
         ('^', '=')
     }
 
-    fn expectation() -> Expectation {
-        Expectation::CaretEq
+    fn expected() -> &'static str {
+        "expected `^=`"
     }
 
     ghost known = { refl };
@@ -68,7 +67,7 @@ impl TwoCharacters for CaretEq {
     ghost printable = { unfold is_punct_character in (refl, refl) };
 }
 
-#[derive(Clone, Copy, Debug)]
+/// `..`
 pub struct DotDot;
 
 impl TwoCharacters for DotDot {
@@ -80,8 +79,8 @@ impl TwoCharacters for DotDot {
         ('.', '.')
     }
 
-    fn expectation() -> Expectation {
-        Expectation::DotDot
+    fn expected() -> &'static str {
+        "expected `..`"
     }
 
     ghost known = { refl };
@@ -89,7 +88,7 @@ impl TwoCharacters for DotDot {
     ghost printable = { unfold is_punct_character in (refl, refl) };
 }
 
-#[derive(Clone, Copy, Debug)]
+/// `...`
 pub struct DotDotDot;
 
 impl ThreeCharacters for DotDotDot {
@@ -103,8 +102,8 @@ impl ThreeCharacters for DotDotDot {
         ('.', '.', '.')
     }
 
-    fn expectation() -> Expectation {
-        Expectation::DotDotDot
+    fn expected() -> &'static str {
+        "expected `...`"
     }
 
     ghost known = { refl };
@@ -112,7 +111,7 @@ impl ThreeCharacters for DotDotDot {
     ghost printable = { unfold is_punct_character in (refl, refl, refl) };
 }
 
-#[derive(Clone, Copy, Debug)]
+/// `==`
 pub struct EqEq;
 
 impl TwoCharacters for EqEq {
@@ -124,8 +123,8 @@ impl TwoCharacters for EqEq {
         ('=', '=')
     }
 
-    fn expectation() -> Expectation {
-        Expectation::EqEq
+    fn expected() -> &'static str {
+        "expected `==`"
     }
 
     ghost known = { refl };
@@ -133,7 +132,7 @@ impl TwoCharacters for EqEq {
     ghost printable = { unfold is_punct_character in (refl, refl) };
 }
 
-#[derive(Clone, Copy, Debug)]
+/// `=>`
 pub struct FatArrow;
 
 impl TwoCharacters for FatArrow {
@@ -145,8 +144,8 @@ impl TwoCharacters for FatArrow {
         ('=', '>')
     }
 
-    fn expectation() -> Expectation {
-        Expectation::FatArrow
+    fn expected() -> &'static str {
+        "expected `=>`"
     }
 
     ghost known = { refl };
@@ -154,7 +153,7 @@ impl TwoCharacters for FatArrow {
     ghost printable = { unfold is_punct_character in (refl, refl) };
 }
 
-#[derive(Clone, Copy, Debug)]
+/// `>=`
 pub struct Ge;
 
 impl TwoCharacters for Ge {
@@ -166,8 +165,8 @@ impl TwoCharacters for Ge {
         ('>', '=')
     }
 
-    fn expectation() -> Expectation {
-        Expectation::Ge
+    fn expected() -> &'static str {
+        "expected `>=`"
     }
 
     ghost known = { refl };
@@ -175,7 +174,7 @@ impl TwoCharacters for Ge {
     ghost printable = { unfold is_punct_character in (refl, refl) };
 }
 
-#[derive(Clone, Copy, Debug)]
+/// `<=`
 pub struct Le;
 
 impl TwoCharacters for Le {
@@ -187,8 +186,8 @@ impl TwoCharacters for Le {
         ('<', '=')
     }
 
-    fn expectation() -> Expectation {
-        Expectation::Le
+    fn expected() -> &'static str {
+        "expected `<=`"
     }
 
     ghost known = { refl };
@@ -196,7 +195,7 @@ impl TwoCharacters for Le {
     ghost printable = { unfold is_punct_character in (refl, refl) };
 }
 
-#[derive(Clone, Copy, Debug)]
+/// `-=`
 pub struct MinusEq;
 
 impl TwoCharacters for MinusEq {
@@ -208,8 +207,8 @@ impl TwoCharacters for MinusEq {
         ('-', '=')
     }
 
-    fn expectation() -> Expectation {
-        Expectation::MinusEq
+    fn expected() -> &'static str {
+        "expected `-=`"
     }
 
     ghost known = { refl };
@@ -217,7 +216,7 @@ impl TwoCharacters for MinusEq {
     ghost printable = { unfold is_punct_character in (refl, refl) };
 }
 
-#[derive(Clone, Copy, Debug)]
+/// `!=`
 pub struct Ne;
 
 impl TwoCharacters for Ne {
@@ -229,8 +228,8 @@ impl TwoCharacters for Ne {
         ('!', '=')
     }
 
-    fn expectation() -> Expectation {
-        Expectation::Ne
+    fn expected() -> &'static str {
+        "expected `!=`"
     }
 
     ghost known = { refl };
@@ -238,7 +237,7 @@ impl TwoCharacters for Ne {
     ghost printable = { unfold is_punct_character in (refl, refl) };
 }
 
-#[derive(Clone, Copy, Debug)]
+/// `|=`
 pub struct OrEq;
 
 impl TwoCharacters for OrEq {
@@ -250,8 +249,8 @@ impl TwoCharacters for OrEq {
         ('|', '=')
     }
 
-    fn expectation() -> Expectation {
-        Expectation::OrEq
+    fn expected() -> &'static str {
+        "expected `|=`"
     }
 
     ghost known = { refl };
@@ -259,7 +258,7 @@ impl TwoCharacters for OrEq {
     ghost printable = { unfold is_punct_character in (refl, refl) };
 }
 
-#[derive(Clone, Copy, Debug)]
+/// `||`
 pub struct OrOr;
 
 impl TwoCharacters for OrOr {
@@ -271,8 +270,8 @@ impl TwoCharacters for OrOr {
         ('|', '|')
     }
 
-    fn expectation() -> Expectation {
-        Expectation::OrOr
+    fn expected() -> &'static str {
+        "expected `||`"
     }
 
     ghost known = { refl };
@@ -280,7 +279,7 @@ impl TwoCharacters for OrOr {
     ghost printable = { unfold is_punct_character in (refl, refl) };
 }
 
-#[derive(Clone, Copy, Debug)]
+/// `::`
 pub struct PathSep;
 
 impl TwoCharacters for PathSep {
@@ -292,8 +291,8 @@ impl TwoCharacters for PathSep {
         (':', ':')
     }
 
-    fn expectation() -> Expectation {
-        Expectation::PathSep
+    fn expected() -> &'static str {
+        "expected `::`"
     }
 
     ghost known = { refl };
@@ -301,7 +300,7 @@ impl TwoCharacters for PathSep {
     ghost printable = { unfold is_punct_character in (refl, refl) };
 }
 
-#[derive(Clone, Copy, Debug)]
+/// `%=`
 pub struct PercentEq;
 
 impl TwoCharacters for PercentEq {
@@ -313,8 +312,8 @@ impl TwoCharacters for PercentEq {
         ('%', '=')
     }
 
-    fn expectation() -> Expectation {
-        Expectation::PercentEq
+    fn expected() -> &'static str {
+        "expected `%=`"
     }
 
     ghost known = { refl };
@@ -322,7 +321,7 @@ impl TwoCharacters for PercentEq {
     ghost printable = { unfold is_punct_character in (refl, refl) };
 }
 
-#[derive(Clone, Copy, Debug)]
+/// `+=`
 pub struct PlusEq;
 
 impl TwoCharacters for PlusEq {
@@ -334,8 +333,8 @@ impl TwoCharacters for PlusEq {
         ('+', '=')
     }
 
-    fn expectation() -> Expectation {
-        Expectation::PlusEq
+    fn expected() -> &'static str {
+        "expected `+=`"
     }
 
     ghost known = { refl };
@@ -343,7 +342,7 @@ impl TwoCharacters for PlusEq {
     ghost printable = { unfold is_punct_character in (refl, refl) };
 }
 
-#[derive(Clone, Copy, Debug)]
+/// `->`
 pub struct RArrow;
 
 impl TwoCharacters for RArrow {
@@ -355,8 +354,8 @@ impl TwoCharacters for RArrow {
         ('-', '>')
     }
 
-    fn expectation() -> Expectation {
-        Expectation::RArrow
+    fn expected() -> &'static str {
+        "expected `->`"
     }
 
     ghost known = { refl };
@@ -364,7 +363,7 @@ impl TwoCharacters for RArrow {
     ghost printable = { unfold is_punct_character in (refl, refl) };
 }
 
-#[derive(Clone, Copy, Debug)]
+/// `<<`
 pub struct Shl;
 
 impl TwoCharacters for Shl {
@@ -376,8 +375,8 @@ impl TwoCharacters for Shl {
         ('<', '<')
     }
 
-    fn expectation() -> Expectation {
-        Expectation::Shl
+    fn expected() -> &'static str {
+        "expected `<<`"
     }
 
     ghost known = { refl };
@@ -385,7 +384,7 @@ impl TwoCharacters for Shl {
     ghost printable = { unfold is_punct_character in (refl, refl) };
 }
 
-#[derive(Clone, Copy, Debug)]
+/// `<<=`
 pub struct ShlEq;
 
 impl ThreeCharacters for ShlEq {
@@ -399,8 +398,8 @@ impl ThreeCharacters for ShlEq {
         ('<', '<', '=')
     }
 
-    fn expectation() -> Expectation {
-        Expectation::ShlEq
+    fn expected() -> &'static str {
+        "expected `<<=`"
     }
 
     ghost known = { refl };
@@ -408,7 +407,7 @@ impl ThreeCharacters for ShlEq {
     ghost printable = { unfold is_punct_character in (refl, refl, refl) };
 }
 
-#[derive(Clone, Copy, Debug)]
+/// `>>`
 pub struct Shr;
 
 impl TwoCharacters for Shr {
@@ -420,8 +419,8 @@ impl TwoCharacters for Shr {
         ('>', '>')
     }
 
-    fn expectation() -> Expectation {
-        Expectation::Shr
+    fn expected() -> &'static str {
+        "expected `>>`"
     }
 
     ghost known = { refl };
@@ -429,7 +428,7 @@ impl TwoCharacters for Shr {
     ghost printable = { unfold is_punct_character in (refl, refl) };
 }
 
-#[derive(Clone, Copy, Debug)]
+/// `>>=`
 pub struct ShrEq;
 
 impl ThreeCharacters for ShrEq {
@@ -443,8 +442,8 @@ impl ThreeCharacters for ShrEq {
         ('>', '>', '=')
     }
 
-    fn expectation() -> Expectation {
-        Expectation::ShrEq
+    fn expected() -> &'static str {
+        "expected `>>=`"
     }
 
     ghost known = { refl };
@@ -452,7 +451,7 @@ impl ThreeCharacters for ShrEq {
     ghost printable = { unfold is_punct_character in (refl, refl, refl) };
 }
 
-#[derive(Clone, Copy, Debug)]
+/// `/=`
 pub struct SlashEq;
 
 impl TwoCharacters for SlashEq {
@@ -464,8 +463,8 @@ impl TwoCharacters for SlashEq {
         ('/', '=')
     }
 
-    fn expectation() -> Expectation {
-        Expectation::SlashEq
+    fn expected() -> &'static str {
+        "expected `/=`"
     }
 
     ghost known = { refl };
@@ -473,7 +472,7 @@ impl TwoCharacters for SlashEq {
     ghost printable = { unfold is_punct_character in (refl, refl) };
 }
 
-#[derive(Clone, Copy, Debug)]
+/// `*=`
 pub struct StarEq;
 
 impl TwoCharacters for StarEq {
@@ -485,8 +484,8 @@ impl TwoCharacters for StarEq {
         ('*', '=')
     }
 
-    fn expectation() -> Expectation {
-        Expectation::StarEq
+    fn expected() -> &'static str {
+        "expected `*=`"
     }
 
     ghost known = { refl };

@@ -2,10 +2,9 @@
 ghost use Rattle.std.specs.Prelude.{refl};
 ghost use Rattle.syn_tokens.specs.Punct.{is_punct_character};
 
-use crate::expectation::Expectation;
 use crate::token::OneCharacter;
 
-#[derive(Clone, Copy, Debug)]
+/// `&`
 pub struct And;
 
 impl OneCharacter for And {
@@ -15,14 +14,14 @@ impl OneCharacter for And {
         '&'
     }
 
-    fn expectation() -> Expectation {
-        Expectation::And
+    fn expected() -> &'static str {
+        "expected `&`"
     }
 
     ghost printable = { unfold is_punct_character in refl };
 }
 
-#[derive(Clone, Copy, Debug)]
+/// `@`
 pub struct At;
 
 impl OneCharacter for At {
@@ -32,14 +31,14 @@ impl OneCharacter for At {
         '@'
     }
 
-    fn expectation() -> Expectation {
-        Expectation::At
+    fn expected() -> &'static str {
+        "expected `@`"
     }
 
     ghost printable = { unfold is_punct_character in refl };
 }
 
-#[derive(Clone, Copy, Debug)]
+/// `^`
 pub struct Caret;
 
 impl OneCharacter for Caret {
@@ -49,14 +48,14 @@ impl OneCharacter for Caret {
         '^'
     }
 
-    fn expectation() -> Expectation {
-        Expectation::Caret
+    fn expected() -> &'static str {
+        "expected `^`"
     }
 
     ghost printable = { unfold is_punct_character in refl };
 }
 
-#[derive(Clone, Copy, Debug)]
+/// `:`
 pub struct Colon;
 
 impl OneCharacter for Colon {
@@ -66,14 +65,14 @@ impl OneCharacter for Colon {
         ':'
     }
 
-    fn expectation() -> Expectation {
-        Expectation::Colon
+    fn expected() -> &'static str {
+        "expected `:`"
     }
 
     ghost printable = { unfold is_punct_character in refl };
 }
 
-#[derive(Clone, Copy, Debug)]
+/// `,`
 pub struct Comma;
 
 impl OneCharacter for Comma {
@@ -83,14 +82,14 @@ impl OneCharacter for Comma {
         ','
     }
 
-    fn expectation() -> Expectation {
-        Expectation::Comma
+    fn expected() -> &'static str {
+        "expected `,`"
     }
 
     ghost printable = { unfold is_punct_character in refl };
 }
 
-#[derive(Clone, Copy, Debug)]
+/// `$`
 pub struct Dollar;
 
 impl OneCharacter for Dollar {
@@ -100,14 +99,14 @@ impl OneCharacter for Dollar {
         '$'
     }
 
-    fn expectation() -> Expectation {
-        Expectation::Dollar
+    fn expected() -> &'static str {
+        "expected `$`"
     }
 
     ghost printable = { unfold is_punct_character in refl };
 }
 
-#[derive(Clone, Copy, Debug)]
+/// `.`
 pub struct Dot;
 
 impl OneCharacter for Dot {
@@ -117,14 +116,14 @@ impl OneCharacter for Dot {
         '.'
     }
 
-    fn expectation() -> Expectation {
-        Expectation::Dot
+    fn expected() -> &'static str {
+        "expected `.`"
     }
 
     ghost printable = { unfold is_punct_character in refl };
 }
 
-#[derive(Clone, Copy, Debug)]
+/// `=`
 pub struct Eq;
 
 impl OneCharacter for Eq {
@@ -134,14 +133,14 @@ impl OneCharacter for Eq {
         '='
     }
 
-    fn expectation() -> Expectation {
-        Expectation::Eq
+    fn expected() -> &'static str {
+        "expected `=`"
     }
 
     ghost printable = { unfold is_punct_character in refl };
 }
 
-#[derive(Clone, Copy, Debug)]
+/// `>`
 pub struct Gt;
 
 impl OneCharacter for Gt {
@@ -151,14 +150,14 @@ impl OneCharacter for Gt {
         '>'
     }
 
-    fn expectation() -> Expectation {
-        Expectation::Gt
+    fn expected() -> &'static str {
+        "expected `>`"
     }
 
     ghost printable = { unfold is_punct_character in refl };
 }
 
-#[derive(Clone, Copy, Debug)]
+/// `<`
 pub struct Lt;
 
 impl OneCharacter for Lt {
@@ -168,14 +167,14 @@ impl OneCharacter for Lt {
         '<'
     }
 
-    fn expectation() -> Expectation {
-        Expectation::Lt
+    fn expected() -> &'static str {
+        "expected `<`"
     }
 
     ghost printable = { unfold is_punct_character in refl };
 }
 
-#[derive(Clone, Copy, Debug)]
+/// `-`
 pub struct Minus;
 
 impl OneCharacter for Minus {
@@ -185,14 +184,14 @@ impl OneCharacter for Minus {
         '-'
     }
 
-    fn expectation() -> Expectation {
-        Expectation::Minus
+    fn expected() -> &'static str {
+        "expected `-`"
     }
 
     ghost printable = { unfold is_punct_character in refl };
 }
 
-#[derive(Clone, Copy, Debug)]
+/// `!`
 pub struct Not;
 
 impl OneCharacter for Not {
@@ -202,14 +201,14 @@ impl OneCharacter for Not {
         '!'
     }
 
-    fn expectation() -> Expectation {
-        Expectation::Not
+    fn expected() -> &'static str {
+        "expected `!`"
     }
 
     ghost printable = { unfold is_punct_character in refl };
 }
 
-#[derive(Clone, Copy, Debug)]
+/// `|`
 pub struct Or;
 
 impl OneCharacter for Or {
@@ -219,14 +218,14 @@ impl OneCharacter for Or {
         '|'
     }
 
-    fn expectation() -> Expectation {
-        Expectation::Or
+    fn expected() -> &'static str {
+        "expected `|`"
     }
 
     ghost printable = { unfold is_punct_character in refl };
 }
 
-#[derive(Clone, Copy, Debug)]
+/// `%`
 pub struct Percent;
 
 impl OneCharacter for Percent {
@@ -236,14 +235,14 @@ impl OneCharacter for Percent {
         '%'
     }
 
-    fn expectation() -> Expectation {
-        Expectation::Percent
+    fn expected() -> &'static str {
+        "expected `%`"
     }
 
     ghost printable = { unfold is_punct_character in refl };
 }
 
-#[derive(Clone, Copy, Debug)]
+/// `+`
 pub struct Plus;
 
 impl OneCharacter for Plus {
@@ -253,14 +252,14 @@ impl OneCharacter for Plus {
         '+'
     }
 
-    fn expectation() -> Expectation {
-        Expectation::Plus
+    fn expected() -> &'static str {
+        "expected `+`"
     }
 
     ghost printable = { unfold is_punct_character in refl };
 }
 
-#[derive(Clone, Copy, Debug)]
+/// `#`
 pub struct Pound;
 
 impl OneCharacter for Pound {
@@ -270,14 +269,14 @@ impl OneCharacter for Pound {
         '#'
     }
 
-    fn expectation() -> Expectation {
-        Expectation::Pound
+    fn expected() -> &'static str {
+        "expected `#`"
     }
 
     ghost printable = { unfold is_punct_character in refl };
 }
 
-#[derive(Clone, Copy, Debug)]
+/// `?`
 pub struct Question;
 
 impl OneCharacter for Question {
@@ -287,14 +286,14 @@ impl OneCharacter for Question {
         '?'
     }
 
-    fn expectation() -> Expectation {
-        Expectation::Question
+    fn expected() -> &'static str {
+        "expected `?`"
     }
 
     ghost printable = { unfold is_punct_character in refl };
 }
 
-#[derive(Clone, Copy, Debug)]
+/// `;`
 pub struct Semi;
 
 impl OneCharacter for Semi {
@@ -304,14 +303,14 @@ impl OneCharacter for Semi {
         ';'
     }
 
-    fn expectation() -> Expectation {
-        Expectation::Semi
+    fn expected() -> &'static str {
+        "expected `;`"
     }
 
     ghost printable = { unfold is_punct_character in refl };
 }
 
-#[derive(Clone, Copy, Debug)]
+/// `/`
 pub struct Slash;
 
 impl OneCharacter for Slash {
@@ -321,14 +320,14 @@ impl OneCharacter for Slash {
         '/'
     }
 
-    fn expectation() -> Expectation {
-        Expectation::Slash
+    fn expected() -> &'static str {
+        "expected `/`"
     }
 
     ghost printable = { unfold is_punct_character in refl };
 }
 
-#[derive(Clone, Copy, Debug)]
+/// `*`
 pub struct Star;
 
 impl OneCharacter for Star {
@@ -338,14 +337,14 @@ impl OneCharacter for Star {
         '*'
     }
 
-    fn expectation() -> Expectation {
-        Expectation::Star
+    fn expected() -> &'static str {
+        "expected `*`"
     }
 
     ghost printable = { unfold is_punct_character in refl };
 }
 
-#[derive(Clone, Copy, Debug)]
+/// `~`
 pub struct Tilde;
 
 impl OneCharacter for Tilde {
@@ -355,8 +354,8 @@ impl OneCharacter for Tilde {
         '~'
     }
 
-    fn expectation() -> Expectation {
-        Expectation::Tilde
+    fn expected() -> &'static str {
+        "expected `~`"
     }
 
     ghost printable = { unfold is_punct_character in refl };

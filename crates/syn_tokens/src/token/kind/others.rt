@@ -3,10 +3,9 @@ ghost use Rattle.std.specs.Prelude.{refl};
 ghost use Rattle.syn_grammar.specs.Words.{w_abstract, w_auto, w_become, w_box, w_default, w_do, w_final, w_macro, w_override, w_priv, w_safe, w_try, w_typeof, w_union, w_unsized, w_virtual, w_yield};
 ghost use Rattle.syn_tokens.specs.Leaves.{is_known_word};
 
-use crate::expectation::Expectation;
 use crate::token::WordKind;
 
-#[derive(Clone, Copy, Debug)]
+/// `abstract`
 pub struct Abstract;
 
 impl WordKind for Abstract {
@@ -16,8 +15,8 @@ impl WordKind for Abstract {
         "abstract"
     }
 
-    fn expectation() -> Expectation {
-        Expectation::Abstract
+    fn expected() -> &'static str {
+        "expected `abstract`"
     }
 
     ghost known = { unfold is_known_word in refl };
@@ -25,7 +24,7 @@ impl WordKind for Abstract {
     ghost plain = { refl };
 }
 
-#[derive(Clone, Copy, Debug)]
+/// `auto`
 pub struct Auto;
 
 impl WordKind for Auto {
@@ -35,8 +34,8 @@ impl WordKind for Auto {
         "auto"
     }
 
-    fn expectation() -> Expectation {
-        Expectation::Auto
+    fn expected() -> &'static str {
+        "expected `auto`"
     }
 
     ghost known = { unfold is_known_word in refl };
@@ -44,7 +43,7 @@ impl WordKind for Auto {
     ghost plain = { refl };
 }
 
-#[derive(Clone, Copy, Debug)]
+/// `become`
 pub struct Become;
 
 impl WordKind for Become {
@@ -54,8 +53,8 @@ impl WordKind for Become {
         "become"
     }
 
-    fn expectation() -> Expectation {
-        Expectation::Become
+    fn expected() -> &'static str {
+        "expected `become`"
     }
 
     ghost known = { unfold is_known_word in refl };
@@ -63,7 +62,7 @@ impl WordKind for Become {
     ghost plain = { refl };
 }
 
-#[derive(Clone, Copy, Debug)]
+/// `box`
 pub struct Box;
 
 impl WordKind for Box {
@@ -73,8 +72,8 @@ impl WordKind for Box {
         "box"
     }
 
-    fn expectation() -> Expectation {
-        Expectation::Box
+    fn expected() -> &'static str {
+        "expected `box`"
     }
 
     ghost known = { unfold is_known_word in refl };
@@ -82,7 +81,7 @@ impl WordKind for Box {
     ghost plain = { refl };
 }
 
-#[derive(Clone, Copy, Debug)]
+/// `default`
 pub struct Default;
 
 impl WordKind for Default {
@@ -92,8 +91,8 @@ impl WordKind for Default {
         "default"
     }
 
-    fn expectation() -> Expectation {
-        Expectation::Default
+    fn expected() -> &'static str {
+        "expected `default`"
     }
 
     ghost known = { unfold is_known_word in refl };
@@ -101,7 +100,7 @@ impl WordKind for Default {
     ghost plain = { refl };
 }
 
-#[derive(Clone, Copy, Debug)]
+/// `do`
 pub struct Do;
 
 impl WordKind for Do {
@@ -111,8 +110,8 @@ impl WordKind for Do {
         "do"
     }
 
-    fn expectation() -> Expectation {
-        Expectation::Do
+    fn expected() -> &'static str {
+        "expected `do`"
     }
 
     ghost known = { unfold is_known_word in refl };
@@ -120,7 +119,7 @@ impl WordKind for Do {
     ghost plain = { refl };
 }
 
-#[derive(Clone, Copy, Debug)]
+/// `final`
 pub struct Final;
 
 impl WordKind for Final {
@@ -130,8 +129,8 @@ impl WordKind for Final {
         "final"
     }
 
-    fn expectation() -> Expectation {
-        Expectation::Final
+    fn expected() -> &'static str {
+        "expected `final`"
     }
 
     ghost known = { unfold is_known_word in refl };
@@ -139,7 +138,7 @@ impl WordKind for Final {
     ghost plain = { refl };
 }
 
-#[derive(Clone, Copy, Debug)]
+/// `macro`
 pub struct Macro;
 
 impl WordKind for Macro {
@@ -149,8 +148,8 @@ impl WordKind for Macro {
         "macro"
     }
 
-    fn expectation() -> Expectation {
-        Expectation::Macro
+    fn expected() -> &'static str {
+        "expected `macro`"
     }
 
     ghost known = { unfold is_known_word in refl };
@@ -158,7 +157,7 @@ impl WordKind for Macro {
     ghost plain = { refl };
 }
 
-#[derive(Clone, Copy, Debug)]
+/// `override`
 pub struct Override;
 
 impl WordKind for Override {
@@ -168,8 +167,8 @@ impl WordKind for Override {
         "override"
     }
 
-    fn expectation() -> Expectation {
-        Expectation::Override
+    fn expected() -> &'static str {
+        "expected `override`"
     }
 
     ghost known = { unfold is_known_word in refl };
@@ -177,7 +176,7 @@ impl WordKind for Override {
     ghost plain = { refl };
 }
 
-#[derive(Clone, Copy, Debug)]
+/// `priv`
 pub struct Priv;
 
 impl WordKind for Priv {
@@ -187,8 +186,8 @@ impl WordKind for Priv {
         "priv"
     }
 
-    fn expectation() -> Expectation {
-        Expectation::Priv
+    fn expected() -> &'static str {
+        "expected `priv`"
     }
 
     ghost known = { unfold is_known_word in refl };
@@ -196,7 +195,7 @@ impl WordKind for Priv {
     ghost plain = { refl };
 }
 
-#[derive(Clone, Copy, Debug)]
+/// `safe`
 pub struct Safe;
 
 impl WordKind for Safe {
@@ -206,8 +205,8 @@ impl WordKind for Safe {
         "safe"
     }
 
-    fn expectation() -> Expectation {
-        Expectation::Safe
+    fn expected() -> &'static str {
+        "expected `safe`"
     }
 
     ghost known = { unfold is_known_word in refl };
@@ -215,7 +214,7 @@ impl WordKind for Safe {
     ghost plain = { refl };
 }
 
-#[derive(Clone, Copy, Debug)]
+/// `try`
 pub struct Try;
 
 impl WordKind for Try {
@@ -225,8 +224,8 @@ impl WordKind for Try {
         "try"
     }
 
-    fn expectation() -> Expectation {
-        Expectation::Try
+    fn expected() -> &'static str {
+        "expected `try`"
     }
 
     ghost known = { unfold is_known_word in refl };
@@ -234,7 +233,7 @@ impl WordKind for Try {
     ghost plain = { refl };
 }
 
-#[derive(Clone, Copy, Debug)]
+/// `typeof`
 pub struct Typeof;
 
 impl WordKind for Typeof {
@@ -244,8 +243,8 @@ impl WordKind for Typeof {
         "typeof"
     }
 
-    fn expectation() -> Expectation {
-        Expectation::Typeof
+    fn expected() -> &'static str {
+        "expected `typeof`"
     }
 
     ghost known = { unfold is_known_word in refl };
@@ -253,7 +252,7 @@ impl WordKind for Typeof {
     ghost plain = { refl };
 }
 
-#[derive(Clone, Copy, Debug)]
+/// `union`
 pub struct Union;
 
 impl WordKind for Union {
@@ -263,8 +262,8 @@ impl WordKind for Union {
         "union"
     }
 
-    fn expectation() -> Expectation {
-        Expectation::Union
+    fn expected() -> &'static str {
+        "expected `union`"
     }
 
     ghost known = { unfold is_known_word in refl };
@@ -272,7 +271,7 @@ impl WordKind for Union {
     ghost plain = { refl };
 }
 
-#[derive(Clone, Copy, Debug)]
+/// `unsized`
 pub struct Unsized;
 
 impl WordKind for Unsized {
@@ -282,8 +281,8 @@ impl WordKind for Unsized {
         "unsized"
     }
 
-    fn expectation() -> Expectation {
-        Expectation::Unsized
+    fn expected() -> &'static str {
+        "expected `unsized`"
     }
 
     ghost known = { unfold is_known_word in refl };
@@ -291,7 +290,7 @@ impl WordKind for Unsized {
     ghost plain = { refl };
 }
 
-#[derive(Clone, Copy, Debug)]
+/// `virtual`
 pub struct Virtual;
 
 impl WordKind for Virtual {
@@ -301,8 +300,8 @@ impl WordKind for Virtual {
         "virtual"
     }
 
-    fn expectation() -> Expectation {
-        Expectation::Virtual
+    fn expected() -> &'static str {
+        "expected `virtual`"
     }
 
     ghost known = { unfold is_known_word in refl };
@@ -310,7 +309,7 @@ impl WordKind for Virtual {
     ghost plain = { refl };
 }
 
-#[derive(Clone, Copy, Debug)]
+/// `yield`
 pub struct Yield;
 
 impl WordKind for Yield {
@@ -320,8 +319,8 @@ impl WordKind for Yield {
         "yield"
     }
 
-    fn expectation() -> Expectation {
-        Expectation::Yield
+    fn expected() -> &'static str {
+        "expected `yield`"
     }
 
     ghost known = { unfold is_known_word in refl };

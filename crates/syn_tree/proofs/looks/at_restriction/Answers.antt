@@ -2,7 +2,7 @@ use Rattle.std.proofs.Common.{◌≡◌, true, false, None, Some, rules, sym, ap
 use Rattle.syn_grammar.specs.Words.{w_in}
 use Rattle.syn_grammar.specs.Tokens.{Paren, or, at_word}
 use Rattle.syn_grammar.specs.Take.{sees, take_group}
-use Rattle.syn_tokens.specs.Opened.{content_of}
+use Rattle.syn_parse.specs.Opened.{content_of}
 use Rattle.syn_tree.specs.Looks.{lone_word, restricts}
 use Rattle.syn_tree.proofs.Restricted.{restriction_seen}
 use Rattle.syn_tree.proofs.looks.at_restriction.Goals as goal

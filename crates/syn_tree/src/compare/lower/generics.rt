@@ -6,7 +6,7 @@ ghost use Rattle.syn_tree.specs.Equality.{Equals};
 ghost use Rattle.syn_tokens.specs.Comparison.{same_by, same_equiv, same_per};
 
 use crate::lower::Generics;
-use syn_tokens::compare::Compared;
+use syn_tokens::syntactic::compare::Compared;
 
 /// Two are equal exactly where they are once every span is 0 to 0.
 impl PartialEq for Generics {

@@ -7,7 +7,7 @@ ghost use Rattle.syn_tokens.specs.Comparison.{same_by, same_equiv, same_per};
 ghost use Rattle.syn_tree.specs.Lower.{syntax_of_PathArguments};
 
 use crate::lower::{Path, PathArguments, PathSegment};
-use syn_tokens::compare::Compared;
+use syn_tokens::syntactic::compare::Compared;
 
 impl Compared for Path {
     fn is_same(&self, other: &Path) -> bool {

@@ -7,7 +7,7 @@ ghost use Rattle.syn_tokens.specs.Comparison.{same_by, same_equiv, same_per};
 ghost use Rattle.syn_grammar.specs.Says.{itself};
 
 use crate::lower::{Type, TypePath};
-use syn_tokens::compare::Compared;
+use syn_tokens::syntactic::compare::Compared;
 
 impl Compared for Type {
     fn is_same(&self, other: &Type) -> bool {

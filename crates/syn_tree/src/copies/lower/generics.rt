@@ -6,7 +6,7 @@ use crate::lower::Generics;
 use std::alloc::Global;
 use syn_tokens::error::Result;
 use syn_tokens::punctuated::Punctuated;
-use syn_tokens::try_clone::TryClone;
+use syn_tokens::syntactic::try_clone::TryClone;
 
 impl TryClone for Generics {
     fn try_clone(&self, alloc: Global) -> Result<Generics> {

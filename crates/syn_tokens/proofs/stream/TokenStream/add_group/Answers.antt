@@ -4,7 +4,7 @@ use Rattle.syn_tokens.specs.Spans.{at}
 use Rattle.syn_tokens.specs.Delimiters.{delimiter_of}
 use Rattle.syn_tokens.specs.Entries.{decode}
 use Rattle.syn_tokens.proofs.Entries.{few, joined, joined_is, enclosed, group_flat, group_is}
-use Rattle.syn_tokens.specs.declared.entry.Token.TheVariants as E
+use Rattle.syn_tokens.specs.declared.stream.entry.Token.TheVariants as E
 use Rattle.syn_tokens.proofs.stream.TokenStream.add_group.Goals as goal
 
 pub overflow_add-self : goal.overflow_add-self

@@ -5,7 +5,7 @@ use Rattle.syn_grammar.specs.Says.{itself}
 use Rattle.syn_grammar.proofs.Outcomes.{meaning_of_rule, outcome_of}
 use Rattle.syn_tokens.specs.Faults.{IsSyntaxError}
 use Rattle.std.proofs.lemmas.Result.{err_from_is_err_and}
-use Rattle.syn_tokens.proofs.Refused.{refused_by_syntax}
+use Rattle.syn_parse.proofs.Refused.{refused_by_syntax}
 use Rattle.syn_tree.proofs.Defaults.{default_fault}
 use Rattle.syn_tree.proofs.data.Field.parse_unnamed.Goals as goal
 

@@ -6,7 +6,7 @@ use Rattle.syn_tokens.specs.Punct.{is_joint}
 use Rattle.syn_tokens.specs.Idents.{IdentValue}
 use Rattle.syn_tokens.specs.Literals.{LiteralValue, kind_of}
 use Rattle.syn_tokens.specs.Entries.{decode}
-use Rattle.syn_tokens.specs.declared.entry.Token.TheVariants as E
+use Rattle.syn_tokens.specs.declared.stream.entry.Token.TheVariants as E
 use Rattle.syn.specs.Flat.{one, flat}
 use Rattle.syn.specs.Spelling.{Piece, word, constant, mark, opening, closing, comment, doc, IsPieceAt}
 use Rattle.syn.proofs.Groups.{piece_starts, piece_ends, same_added, builds_more, builds_or_fault}

@@ -6,7 +6,7 @@ use Rattle.syn_tokens.specs.Idents.{IdentValue}
 use Rattle.syn_tokens.specs.Literals.{LiteralValue, kind_of}
 use Rattle.syn.specs.Docs.{quoted}
 use Rattle.syn_tokens.specs.Entries.{decode}
-use Rattle.syn_tokens.specs.declared.entry.Token.TheVariants as E
+use Rattle.syn_tokens.specs.declared.stream.entry.Token.TheVariants as E
 use Rattle.syn.specs.Flat.{one, flat}
 use Rattle.syn.specs.Building.{AllWithin}
 use Rattle.syn.proofs.Groups.{six_joined, same_added, then_ok}

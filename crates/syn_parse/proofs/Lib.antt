@@ -1,0 +1,10 @@
+pub mod Errors
+pub mod Fronts
+pub mod Listing
+pub mod Literals
+pub mod Lookaheads
+pub mod Nexts
+pub mod Refused
+pub mod TerminatedLists
+pub mod Wholes
+pub mod Words

@@ -1,0 +1,46 @@
+-- Faults that are gathered at one place.
+use Rattle.std.proofs.Common.{◌≡◌, ℕ, ◌+◌, ◌<◌, ◌≤◌, List, [], ◌∷◌, ◌++◌, length, get_or, map, take, arith, length-append, refl, sym, ap, ◌∙◌}
+use Rattle.std.specs.Borrow.{Bor}
+use Rattle.std.proofs.lemmas.List.{length-map, length-take-le, map_more, take_all}
+use Rattle.syn_grammar.specs.Tokens.{Stream}
+use Rattle.syn_tokens.specs.Faults.{FaultValue, combined}
+use Rattle.syn_parse.specs.Looked.{HasFaultsNext, texts, told}
+use Rattle.syn_parse.specs.Nexts.{StandsNext}
+use Rattle.syn_tokens.specs.declared.span.Span.{Span}
+
+-- a text, as it is lent
+abbrev pub Name : Type 0
+Name = Bor (List ℕ)
+
+-- the fault there that a name makes
+abbrev pub fault_at : Span → Name → FaultValue
+fault_at here name = (here, name.now)
+
+-- a fault behind fewer than four
+pub one_told : (here : Span) (names : List Name) (i : ℕ) (d : Name) (f : FaultValue) (text : List ℕ) (start faults new : List FaultValue) →
+    faults ≡ start ++ map (fault_at here) (take i names) → start ≡ f ∷ [] → new ≡ (here, text) ∷ [] → text ≡ (get_or names i d).now → i < length names → length names < 4 →
+    combined faults new ≡ start ++ map (fault_at here) (take (i + 1) names)
+one_told here names i d f text start faults new x s n t l few =
+    ap (λ z. combined z new) (x ∙ ap (λ z. z ++ map (fault_at here) (take i names)) s)
+    ∙ ap (combined (f ∷ map (fault_at here) (take i names))) (n ∙ ap (λ z. (here, z) ∷ []) t)
+    ∙ take_all 4 (f ∷ (map (fault_at here) (take i names) ++ fault_at here (get_or names i d) ∷ [])) (omega (arith, length-append (map (fault_at here) (take i names)) (fault_at here (get_or names i d) ∷ []), length-map (take i names) (fault_at here), length-take-le i names (omega (arith, l)), l, few))
+    ∙ ap (λ z. f ∷ z) (sym (map_more (fault_at here) names i d l))
+    ∙ ap (λ z. z ++ map (fault_at here) (take (i + 1) names)) (sym s)
+
+by_texts : (here : Span) (names : List Name) → map (fault_at here) names ≡ map (λ text. (here, text)) (texts names)
+by_texts here [] = refl
+by_texts here (n ∷ names) = ap (λ l. fault_at here n ∷ l) (by_texts here names)
+
+-- the faults of all names
+pub all_told : (ts : Stream) (here : Span) (first : Name) (others names : List Name) (missed : List (List ℕ)) (i : ℕ) (text : List ℕ) (start faults : List FaultValue) →
+    StandsNext ts here → names ≡ first ∷ others → texts names ≡ missed → faults ≡ start ++ map (fault_at here) (take i others) → start ≡ (here, text) ∷ [] → text ≡ first.now → length others ≤ i →
+    HasFaultsNext ts (told ts missed) faults
+all_told ts here first others names missed i text start faults h a m x s t l = (
+  here,
+  x ∙ ap (λ z. z ++ map (fault_at here) (take i others)) s
+      ∙ ap (λ z. (here, z) ∷ map (fault_at here) (take i others)) t
+      ∙ ap (λ z. fault_at here first ∷ map (fault_at here) z) (take_all i others l)
+      ∙ ap (λ z. fault_at here first ∷ z) (by_texts here others)
+      ∙ ap (λ z. map (λ text. (here, text)) (told ts z)) (ap texts (sym a) ∙ m),
+  h,
+)

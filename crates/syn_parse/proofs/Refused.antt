@@ -1,0 +1,19 @@
+-- Errors that were refusals.
+use Rattle.std.proofs.Common.{ℕ, List, [], ◌∷◌, subst, ap, ◌∙◌}
+use Rattle.syn_grammar.specs.Tokens.{Stream}
+use Rattle.syn_parse.specs.Refusals.{IsSyntax}
+use Rattle.syn_tokens.specs.Faults.{FaultValue, IsSyntaxError}
+use Rattle.syn_parse.specs.Refusals.{IsRefusedAs}
+use Rattle.syn_parse.specs.Nexts.{RefusedNext, HasFaultNext}
+use Rattle.syn_parse.specs.declared.read.refusal.Refusal.{Refusal}
+use Rattle.syn_parse.specs.declared.read.refusal.Refusal.TheVariants.{Memory, Syntax}
+
+-- a syntax error was a refusal of the tokens
+pub refused_by_syntax : (r : Refusal) (e : List FaultValue) → IsRefusedAs r e → IsSyntaxError e → IsSyntax r
+refused_by_syntax Memory e h s = subst IsSyntaxError h s
+refused_by_syntax (Syntax span text) e h s = tt
+
+-- what was refused at the next token is a fault there, of the same text
+pub refused_next : (ts : Stream) (text : List ℕ) (r : Refusal) (e : List FaultValue) → IsRefusedAs r e → RefusedNext ts text r → HasFaultNext ts text e
+refused_next ts text Memory e h n = absurd n
+refused_next ts text (Syntax span said) e h (t, s) = (span, h ∙ ap (λ x. (span, x) ∷ []) t, s)

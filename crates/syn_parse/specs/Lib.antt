@@ -1,0 +1,9 @@
+pub mod Calls
+pub mod Fronts
+pub mod Listing
+pub mod Looked
+pub mod Nexts
+pub mod Opened
+pub mod Peeks
+pub mod Refusals
+pub mod Terminated

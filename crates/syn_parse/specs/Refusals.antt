@@ -1,0 +1,15 @@
+-- Why a parser read nothing, and the error that it becomes.
+use Rattle.std.specs.Prelude.{◌≡◌, List, [], ◌∷◌}
+use Rattle.syn_tokens.specs.Faults.{FaultValue}
+use Rattle.syn_parse.specs.declared.read.refusal.Refusal.{Refusal}
+use Rattle.syn_parse.specs.declared.read.refusal.Refusal.TheVariants.{Memory, Syntax}
+
+-- the tokens were at fault, and not the memory
+abbrev pub IsSyntax : Refusal → Type 0
+IsSyntax Memory = ⊥
+IsSyntax (Syntax span text) = Unit {0}
+
+-- the error that a refusal becomes: one fault there, with the text of what was expected
+abbrev pub IsRefusedAs : Refusal → List FaultValue → Type 0
+IsRefusedAs Memory fs = fs ≡ []
+IsRefusedAs (Syntax span text) fs = fs ≡ (span, text.now) ∷ []

@@ -1,0 +1,263 @@
+//! The token trees that are left to read.
+ghost use Rattle.std.specs.Prelude.{◌≡◌, ◌<◌, IfOk, IfErr, OnErr, MatchOption, None, Some, codes};
+ghost use Rattle.syn_grammar.specs.Tokens as grammar;
+ghost use Rattle.syn_grammar.specs.Tokens.{ended};
+ghost use Rattle.syn_grammar.specs.Take.{left, sees, take_group};
+ghost use Rattle.syn_grammar.specs.Run.{parse};
+ghost use Rattle.syn_grammar.specs.Says.{Says, Takes, Finished};
+ghost use Rattle.syn_parse.specs.Refusals.{IsSyntax};
+ghost use Rattle.syn_parse.specs.Nexts.{StandsNext, RefusedNext};
+ghost use Rattle.syn_tokens.specs.Punct.{is_joint};
+ghost use Rattle.syn_parse.specs.Peeks.{past};
+ghost use Rattle.syn_parse.specs.Peeks as peeks;
+ghost use Rattle.syn_tokens.specs.Cursors.{before_next};
+ghost use Rattle.syn_parse.specs.Opened.{SaysOpened, content_of};
+
+use crate::buffer::front::split_group;
+use crate::read::refusal::{Reading, Refusal};
+use crate::read::{Peek, Read};
+use std::alloc::Global;
+use std::marker::Model;
+use syn_tokens::punct::{Punct, Spacing};
+use syn_tokens::span::Span;
+use syn_tokens::stream::TokenStream;
+use syn_tokens::stream::cursor::{Cursor, Next};
+use syn_tokens::stream::entry::Entry;
+use syn_tokens::token::{DelimiterKind, Delimiters};
+
+pub mod call;
+mod captures;
+mod faces;
+mod front;
+mod leaves;
+mod marks;
+
+/// The token trees that are left to read, and where they end.
+#[derive(Drop)]
+pub struct ParseBuffer<'a> {
+    tokens: Cursor<'a>,
+    end: Span,
+    alloc: Global,
+}
+
+impl<'a> Model for ParseBuffer<'a> {
+    ghost use Rattle.syn_grammar.specs.Tokens.{Stream};
+    ghost use Rattle.syn_grammar.specs.Codes.{stream_code};
+
+    ghost Value = { Stream };
+
+    ghost coded = { stream_code };
+
+    ghost view = { λ b. b.tokens };
+}
+
+/// Where the last of these entries ends: an empty span behind it, 0 to 0 where there is none.
+fn end_of(entries: &[Entry]) -> Span {
+    let end = match entries.last() {
+        Some(entry) => entry.span().end,
+        None => 0,
+    };
+    Span { start: end, end }
+}
+
+/// What is left past a tree; where that is the `'` of a lifetime, past its identifier too.
+fn past_next<'a>(next: &Next<'_>, rest: Cursor<'a>) -> Cursor<'a>
+    ensures { result ≡ past (before_next next.now rest.entry) }
+{
+    match next {
+        Next::Ident(_) => rest,
+        Next::Literal(_) => rest,
+        Next::Group(_) => rest,
+        Next::Punct(punct) => past_mark(punct, rest),
+    }
+}
+
+/// What is left past a mark's character; where that makes a lifetime, past its identifier too.
+fn past_mark<'a>(punct: &Punct, rest: Cursor<'a>) -> Cursor<'a>
+    ensures { result ≡ peeks.past_mark punct.now.character (is_joint punct.now.spacing) rest.entry }
+{
+    if punct.character() != '\'' || punct.spacing != Spacing::Joint {
+        return rest;
+    }
+    match rest.split() {
+        Some((Next::Ident(_), behind)) => behind,
+        Some((Next::Literal(_), _)) => rest,
+        Some((Next::Punct(_), _)) => rest,
+        Some((Next::Group(_), _)) => rest,
+        None => rest,
+    }
+}
+
+impl<'a> ParseBuffer<'a> {
+    /// All of a stream.
+    pub fn new(stream: &'a TokenStream) -> ParseBuffer<'a>
+        ensures { result ≡ stream.now }
+    {
+        ParseBuffer {
+            tokens: stream.cursor(),
+            end: end_of(stream.entries()),
+            alloc: stream.alloc(),
+        }
+    }
+
+    /// A buffer of its own over what is left.
+    pub fn fork(&self) -> ParseBuffer<'a>
+        ensures { result ≡ self.now }
+    {
+        ParseBuffer {
+            tokens: self.tokens.fork(),
+            end: self.end,
+            alloc: self.alloc,
+        }
+    }
+
+    /// Goes on where the other buffer stands.
+    pub fn advance_to(&mut self, fork: &ParseBuffer<'a>)
+        ensures { self.new ≡ fork.now }
+    {
+        self.tokens = fork.tokens.fork();
+        self.end = fork.end;
+    }
+
+    /// Where what is read takes its memory from.
+    pub fn alloc(&self) -> Global {
+        self.alloc
+    }
+
+    /// Whether nothing is left.
+    #[tactic(auto, using(syn_grammar::proofs::Looks::sees_ended), unfolding(syn_grammar::specs::Take::is_end))]
+    pub fn is_empty(&self) -> bool
+        ensures { result ≡ sees ended self.now }
+    {
+        match self.tokens.split() {
+            None => true,
+            Some((Next::Ident(_), _)) => false,
+            Some((Next::Literal(_), _)) => false,
+            Some((Next::Punct(_), _)) => false,
+            Some((Next::Group(_), _)) => false,
+        }
+    }
+
+    /// Where the next token stands; at the end of a group its closing sign, at the end of a stream the empty span
+    /// behind its last tree.
+    #[tactic(auto, using(crate::proofs::Nexts::first_stands))]
+    pub fn span(&self) -> Span
+        ensures { StandsNext self.now result }
+    {
+        match self.tokens.split() {
+            Some((next, _)) => next.span(),
+            None => self.end,
+        }
+    }
+
+    /// The refusal that something else stands next than was expected.
+    pub fn refusal(&self, text: &'static str) -> Refusal
+        ensures syntax { IsSyntax result }
+        ensures next { RefusedNext self.now text.now result }
+    {
+        Refusal::Syntax {
+            span: self.span(),
+            text,
+        }
+    }
+
+    /// Whether a `T` stands next.
+    pub fn peek<T: Peek>(&self) -> bool
+        ensures { result ≡ sees T.look self.now }
+    {
+        T::peek(self)
+    }
+
+    /// Whether a `T` stands past the next tree, where a lifetime counts as one.
+    pub fn peek2<T: Peek>(&self) -> bool
+        ensures { result ≡ sees T.look (past self.now) }
+    {
+        T::peek(&self.past())
+    }
+
+    /// Whether a `T` stands past the next two trees, where a lifetime counts as one.
+    pub fn peek3<T: Peek>(&self) -> bool
+        ensures { result ≡ sees T.look (past (past self.now)) }
+    {
+        T::peek(&self.past().past())
+    }
+
+    /// What is left past the next tree, where a lifetime counts as one.
+    fn past(&self) -> ParseBuffer<'a>
+        ensures { result ≡ past self.now }
+    {
+        let tokens = match self.tokens.split() {
+            Some((next, rest)) => past_next(&next, rest),
+            None => Cursor::none(),
+        };
+        ParseBuffer {
+            tokens,
+            end: self.end,
+            alloc: self.alloc,
+        }
+    }
+
+    /// The refusal that something else stands past the next tree than was expected.
+    pub fn refusal_behind(&self, text: &'static str) -> Refusal
+        ensures syntax { IsSyntax result }
+        ensures behind { RefusedNext (past self.now) text.now result }
+    {
+        self.past().refusal(text)
+    }
+
+    /// Reads a `T`, as a part of what a rule reads.
+    pub fn read<T: Read>(&mut self) -> Reading<T>
+        ensures reads { Says IsSyntax T.syntax (parse T.form self.old) result self.new }
+        ensures moved { Takes T.takes self.old result self.new }
+    {
+        T::read(self)
+    }
+
+    /// Reads a group with these signs: its signs, and its content. Where it is refused, nothing is read.
+    pub fn read_group<K: DelimiterKind>(&mut self) -> Reading<(Delimiters<K>, ParseBuffer<'a>)>
+        ensures reads { SaysOpened IsSyntax (take_group K.delimiter self.old) result self.new }
+        ensures moved { Takes 1 self.old result self.new }
+        ensures inside { IfOk result (λ p. left p.1 < left self.old) }
+        ensures unchanged { OnErr result (self.new ≡ self.old) }
+        ensures syntax { IfErr result IsSyntax }
+        ensures fault { IfErr result (RefusedNext self.old K.fault) }
+    {
+        let Some((group, rest)) = split_group(&self.tokens, K::delimiter()) else {
+            return Err(self.refusal(K::expected()));
+        };
+        self.tokens = rest;
+        let content = ParseBuffer {
+            tokens: group.content,
+            end: group.closing,
+            alloc: self.alloc,
+        };
+        Ok((Delimiters::new(group.opening, group.closing), content))
+    }
+
+    /// The content of the group with these signs that stands next; nothing is read.
+    pub fn peek_group<K: DelimiterKind>(&self) -> Option<ParseBuffer<'a>>
+        ensures { MatchOption result (take_group K.delimiter self.now ≡ None) (λ b. content_of (take_group K.delimiter self.now) ≡ Some b) }
+    {
+        let (group, _) = split_group(&self.tokens, K::delimiter())?;
+        Some(ParseBuffer {
+            tokens: group.content,
+            end: group.closing,
+            alloc: self.alloc,
+        })
+    }
+
+    /// The end of a group or stream; refused where something is left.
+    #[tactic(auto, unfolding(syn_grammar::specs::Take::is_end))]
+    pub fn read_end(&self) -> Reading<()>
+        ensures end { Finished IsSyntax self.now result }
+        ensures fault { IfErr result (RefusedNext self.now (codes "unexpected token")) }
+    {
+        match self.tokens.split() {
+            None => Ok(()),
+            Some((Next::Ident(_), _)) => Err(self.refusal("unexpected token")),
+            Some((Next::Literal(_), _)) => Err(self.refusal("unexpected token")),
+            Some((Next::Punct(_), _)) => Err(self.refusal("unexpected token")),
+            Some((Next::Group(_), _)) => Err(self.refusal("unexpected token")),
+        }
+    }
+}

@@ -1,0 +1,87 @@
+//! What callers ask of a buffer: each call that is refused says why by an `Error`, and leaves the buffer as it was.
+ghost use Rattle.std.specs.Prelude.{◌≡◌, ◌<◌, IfOk, IfErr, OnErr, codes};
+ghost use Rattle.syn_grammar.specs.Tokens as grammar;
+ghost use Rattle.syn_grammar.specs.Take.{left, take_group};
+ghost use Rattle.syn_grammar.specs.Run as run;
+ghost use Rattle.syn_grammar.specs.Says.{Says, Takes, Kept, Outcome, Finished};
+ghost use Rattle.syn_tokens.specs.Faults.{IsSyntaxError};
+ghost use Rattle.syn_parse.specs.Nexts.{HasFaultNext};
+ghost use Rattle.syn_parse.specs.Opened.{SaysOpened};
+
+use crate::buffer::ParseBuffer;
+use crate::parse::Parse;
+use syn_tokens::error::{Error, Result};
+use syn_tokens::token::{Brace, Bracket, Paren, kind};
+
+impl<'a> ParseBuffer<'a> {
+    /// Parses a `T`. It is refused where the tokens are no `T`, with a fault at a token that can't stand there, and where
+    /// memory is refused; the buffer then stands where it stood.
+    pub fn parse<T: Parse>(&mut self) -> Result<T>
+        ensures outcome { Outcome IsSyntaxError T.syntax T.form self.old result self.new }
+        ensures reads { Says IsSyntaxError T.syntax (run.parse T.form self.old) result self.new }
+        ensures unchanged { OnErr result (self.new ≡ self.old) }
+        ensures kept { Kept self.old result self.new }
+    {
+        T::parse(self)
+    }
+
+    /// Reads a group in parentheses: its signs, and a buffer over its content. It is refused where no such group stands
+    /// next, with the fault `expected parentheses` at the next token; nothing is read then. It takes no memory.
+    #[tactic(auto, using(crate::proofs::Errors::syntax_becomes_error, crate::proofs::Refused::refused_by_syntax, crate::proofs::Refused::refused_next))]
+    pub fn parenthesized(&mut self) -> Result<(Paren, ParseBuffer<'a>)>
+        ensures reads { SaysOpened IsSyntaxError (take_group grammar.Paren self.old) result self.new }
+        ensures moved { Takes 1 self.old result self.new }
+        ensures inside { IfOk result (λ p. left p.1 < left self.old) }
+        ensures unchanged { OnErr result (self.new ≡ self.old) }
+        ensures syntax { IfErr result IsSyntaxError }
+        ensures fault { IfErr result (HasFaultNext self.old (codes "expected parentheses")) }
+    {
+        Ok(self.read_group::<kind::Paren>()?)
+    }
+
+    /// Reads a group in braces: its signs, and a buffer over its content. It is refused where no such group stands
+    /// next, with the fault `expected curly braces` at the next token; nothing is read then. It takes no memory.
+    #[tactic(auto, using(crate::proofs::Errors::syntax_becomes_error, crate::proofs::Refused::refused_by_syntax, crate::proofs::Refused::refused_next))]
+    pub fn braced(&mut self) -> Result<(Brace, ParseBuffer<'a>)>
+        ensures reads { SaysOpened IsSyntaxError (take_group grammar.Brace self.old) result self.new }
+        ensures moved { Takes 1 self.old result self.new }
+        ensures inside { IfOk result (λ p. left p.1 < left self.old) }
+        ensures unchanged { OnErr result (self.new ≡ self.old) }
+        ensures syntax { IfErr result IsSyntaxError }
+        ensures fault { IfErr result (HasFaultNext self.old (codes "expected curly braces")) }
+    {
+        Ok(self.read_group::<kind::Brace>()?)
+    }
+
+    /// Reads a group in brackets: its signs, and a buffer over its content. It is refused where no such group stands
+    /// next, with the fault `expected square brackets` at the next token; nothing is read then. It takes no memory.
+    #[tactic(auto, using(crate::proofs::Errors::syntax_becomes_error, crate::proofs::Refused::refused_by_syntax, crate::proofs::Refused::refused_next))]
+    pub fn bracketed(&mut self) -> Result<(Bracket, ParseBuffer<'a>)>
+        ensures reads { SaysOpened IsSyntaxError (take_group grammar.Bracket self.old) result self.new }
+        ensures moved { Takes 1 self.old result self.new }
+        ensures inside { IfOk result (λ p. left p.1 < left self.old) }
+        ensures unchanged { OnErr result (self.new ≡ self.old) }
+        ensures syntax { IfErr result IsSyntaxError }
+        ensures fault { IfErr result (HasFaultNext self.old (codes "expected square brackets")) }
+    {
+        Ok(self.read_group::<kind::Bracket>()?)
+    }
+
+    /// Asks that nothing is left. It is refused where something is, with the fault `unexpected token` at the next
+    /// token. It takes no memory.
+    #[tactic(auto, using(crate::proofs::Errors::syntax_becomes_error, crate::proofs::Refused::refused_next))]
+    pub fn finish(&self) -> Result<()>
+        ensures end { Finished IsSyntaxError self.now result }
+        ensures fault { IfErr result (HasFaultNext self.now (codes "unexpected token")) }
+    {
+        Ok(self.read_end()?)
+    }
+
+    /// The error with one fault, of this text, at the next token; where nothing is left it is at the closing sign of the
+    /// group, or behind the last token of the stream. It takes no memory.
+    pub fn error(&self, text: &'static str) -> Error
+        ensures { HasFaultNext self.now text.now result }
+    {
+        Error::new(self.span(), text)
+    }
+}

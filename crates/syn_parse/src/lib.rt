@@ -1,0 +1,7 @@
+//! Buffers of tokens, and what is read and parsed from them.
+#![tactic(auto)]
+
+pub mod buffer;
+pub mod lookahead;
+pub mod parse;
+pub mod read;

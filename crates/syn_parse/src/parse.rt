@@ -1,0 +1,57 @@
+//! What callers parse.
+ghost use Rattle.std.specs.Prelude.{◌≡◌, OnErr};
+ghost use Rattle.syn_grammar.specs.Grammar.{Grammar};
+ghost use Rattle.syn_grammar.specs.Run.{parse};
+ghost use Rattle.syn_grammar.specs.Says.{Says, Kept, Meaning, Outcome, WholeOutcome};
+ghost use Rattle.syn_tokens.specs.Faults.{IsSyntaxError};
+
+use crate::buffer::ParseBuffer;
+use crate::read::Read;
+use syn_tokens::error::Result;
+use syn_tokens::stream::TokenStream;
+use syn_tokens::syntactic::Syntactic;
+
+mod terminated;
+
+/// What can be parsed from the front of a buffer.
+pub trait Parse: Syntactic {
+    /// How the grammar writes it.
+    ghost form: { Grammar };
+
+    /// Parses it from the front of the buffer. Where the tokens are no such thing, or memory is refused, the buffer
+    /// stands where it stood.
+    fn parse(input: &mut ParseBuffer<'_>) -> Result<Self>
+        ensures outcome { Outcome IsSyntaxError Self.syntax form input.old result input.new }
+        ensures reads { Says IsSyntaxError Self.syntax (parse form input.old) result input.new }
+        ensures unchanged { OnErr result (input.new ≡ input.old) }
+        ensures kept { Kept input.old result input.new };
+
+    /// What is computed of the form is what it reads.
+    ghost meaning: { Meaning form };
+}
+
+impl<T: Read> Parse for T {
+    ghost form = { T.form };
+
+    #[tactic(auto, using(crate::proofs::Refused::refused_by_syntax))]
+    fn parse(input: &mut ParseBuffer<'_>) -> Result<T> {
+        let mut ahead = input.fork();
+        let value = T::read(&mut ahead)?;
+        input.advance_to(&ahead);
+        Ok(value)
+    }
+
+    ghost meaning = { T.meaning };
+}
+
+/// Parses a whole stream as a `T`, and uses the stream up. It is refused where the tokens are no `T`, with a fault at a
+/// token that can't stand there; where something is left behind a `T`, with the fault `unexpected token` at its first
+/// token; and where memory is refused.
+pub fn parse2<T: Parse + Drop>(tokens: TokenStream) -> Result<T>
+    ensures { WholeOutcome IsSyntaxError T.syntax T.form tokens result }
+{
+    let mut input = ParseBuffer::new(&tokens);
+    let value = T::parse(&mut input)?;
+    input.finish()?;
+    Ok(value)
+}

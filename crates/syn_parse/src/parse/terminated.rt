@@ -1,0 +1,70 @@
+//! Lists with separators, up to the end of a buffer.
+ghost use Rattle.std.specs.Prelude.{◌≡◌, IsTrue, OnOk, OnErr};
+ghost use Rattle.syn_grammar.specs.Take.{is_end};
+ghost use Rattle.syn_grammar.specs.Run.{parse};
+ghost use Rattle.syn_grammar.specs.Says.{Says};
+ghost use Rattle.syn_grammar.proofs.Takes.{token_less, sign_less};
+ghost use Rattle.syn_tokens.specs.Faults.{IsSyntaxError};
+ghost use Rattle.syn_tokens.specs.Listing.{list_of};
+ghost use Rattle.syn_parse.specs.Terminated.{terminated, ReadsSome, ListOutcome};
+
+use crate::buffer::ParseBuffer;
+use crate::parse::Parse;
+use crate::read::{Read, ReadMark};
+use syn_tokens::error::Result;
+use syn_tokens::punctuated::Punctuated;
+use syn_tokens::token::{Mark, Word, WordKind};
+
+/// What may stand between the elements of a list: a word or a mark.
+pub trait Separator: Read {
+    /// Some token is read by it.
+    ghost reads_some: { ReadsSome Self.form };
+}
+
+impl<K: WordKind> Separator for Word<K> {
+    ghost reads_some = { token_less _ };
+}
+
+impl<K: ReadMark<N>, const N: usize> Separator for Mark<K, N> {
+    ghost reads_some = { sign_less _ };
+}
+
+impl<'a> ParseBuffer<'a> {
+    /// Parses elements `T` with separators `P` between them, up to the end of the buffer; a separator may stand behind the
+    /// last one or not, and there may be no elements. It is refused where an element or a separator is missing, with the
+    /// fault that `T` or `P` has there, and where memory is refused; the buffer then stands where it stood.
+    pub fn parse_terminated<T: Parse + Drop, P: Separator + Drop>(
+        &mut self,
+    ) -> Result<Punctuated<T, P>>
+        ensures outcome { ListOutcome IsSyntaxError T.syntax P.syntax T.form P.form self.old result }
+        ensures reads { Says IsSyntaxError (λ l. list_of T.syntax P.syntax l.pairs l.last) (terminated (parse T.form) (parse P.form) self.old) result self.new }
+        ensures all { OnOk result (IsTrue (is_end self.new)) }
+        ensures unchanged { OnErr result (self.new ≡ self.old) }
+    {
+        let mut ahead = self.fork();
+        let list = read_to_end(&mut ahead)?;
+        self.advance_to(&ahead);
+        Ok(list)
+    }
+}
+
+/// The same, but where it is refused nothing is said of what is left.
+#[tactic(auto, using(syn_grammar::proofs::Looks::sees_ended))]
+fn read_to_end<T: Parse + Drop, P: Separator + Drop>(
+    input: &mut ParseBuffer<'_>,
+) -> Result<Punctuated<T, P>>
+    ensures reads { Says IsSyntaxError (λ l. list_of T.syntax P.syntax l.pairs l.last) (terminated (parse T.form) (parse P.form) input.old) result input.new }
+    ensures all { OnOk result (IsTrue (is_end input.new)) }
+{
+    let mut list = Punctuated::new(input.alloc());
+    'elements: while !input.is_empty() {
+        let value = T::parse(input)?;
+        if input.is_empty() {
+            list.push_value(value)?;
+            return Ok(list);
+        }
+        let separator = input.read()?;
+        list.push_pair(value, separator)?;
+    }
+    Ok(list)
+}

@@ -1,0 +1,91 @@
+//! Identifiers, literals and lifetimes, as rules read them.
+ghost use Rattle.std.specs.Prelude.{[], codes, refl};
+ghost use Rattle.syn_grammar.specs.Words.{apostrophe};
+ghost use Rattle.syn_grammar.specs.Tokens.{at_mark, at_name};
+ghost use Rattle.syn_grammar.specs.Grammar.{any_literal, lifetime, name, token};
+ghost use Rattle.syn_grammar.proofs.Outcomes.{meaning_of};
+ghost use Rattle.syn_parse.specs.Fronts.{at_any_literal};
+
+use crate::buffer::ParseBuffer;
+use crate::read::refusal::Reading;
+use crate::read::{Peek, Read};
+use syn_tokens::ident::Ident;
+use syn_tokens::lifetime::Lifetime;
+use syn_tokens::literal::Literal;
+
+/// An identifier that is no keyword.
+impl Peek for Ident {
+    ghost look = { at_name };
+
+    ghost fault = { codes "expected identifier" };
+
+    fn peek(input: &ParseBuffer<'_>) -> bool {
+        input.is_at_name()
+    }
+
+    fn expected() -> &'static str {
+        "expected identifier"
+    }
+}
+
+impl Read for Ident {
+    ghost form = { token [] name };
+
+    fn read(input: &mut ParseBuffer<'_>) -> Reading<Ident> {
+        input.read_name()
+    }
+
+    ghost meaning = { meaning_of (token [] name) refl };
+}
+
+/// A literal of any kind.
+impl Read for Literal {
+    ghost form = { token [] any_literal };
+
+    fn read(input: &mut ParseBuffer<'_>) -> Reading<Literal> {
+        input.read_literal()
+    }
+
+    ghost meaning = { meaning_of (token [] any_literal) refl };
+}
+
+impl Peek for Literal {
+    ghost look = { at_any_literal };
+
+    ghost fault = { codes "expected literal" };
+
+    fn peek(input: &ParseBuffer<'_>) -> bool {
+        input.is_at_literal()
+    }
+
+    fn expected() -> &'static str {
+        "expected literal"
+    }
+}
+
+/// A lifetime is looked for by its `'`.
+impl Peek for Lifetime {
+    ghost look = { at_mark apostrophe };
+
+    ghost fault = { codes "expected lifetime" };
+
+    fn peek(input: &ParseBuffer<'_>) -> bool {
+        input.is_at_mark1('\'')
+    }
+
+    fn expected() -> &'static str {
+        "expected lifetime"
+    }
+}
+
+/// `'` directly before an identifier of any text.
+impl Read for Lifetime {
+    ghost form = { lifetime };
+
+    fn read(input: &mut ParseBuffer<'_>) -> Reading<Lifetime> {
+        let (apostrophe, ident) = input.read_lifetime()?;
+        Ok(Lifetime { apostrophe, ident })
+    }
+
+    ghost meaning = { meaning_of lifetime refl };
+}

@@ -1,0 +1,67 @@
+//! Lists with separators between their elements, as rules of the grammar read them.
+ghost use Rattle.std.specs.Prelude.{◌≡◌};
+ghost use Rattle.syn_grammar.specs.Rules.{Rule};
+ghost use Rattle.syn_grammar.specs.Grammar.{Grammar, Syntax};
+ghost use Rattle.syn_grammar.specs.Take.{left};
+ghost use Rattle.syn_grammar.specs.Run.{reads};
+ghost use Rattle.syn_grammar.specs.Says.{Says, Moved, Kept};
+ghost use Rattle.syn_parse.specs.Refusals.{IsSyntax};
+ghost use Rattle.syn_tokens.specs.Listing.{list_of, joined_of};
+ghost use Rattle.syn_parse.specs.Listing.{Callable, Answers, IsList, IsJoined};
+
+use crate::buffer::ParseBuffer;
+use crate::buffer::call::Answer;
+use crate::read::refusal::{Reading, Refusal};
+use crate::read::{Peek, Read};
+use syn_tokens::punctuated::Punctuated;
+
+/// Elements with separators between them, up to an `S`, which is not read. The last separator may stand or not.
+pub fn punctuated_list<
+    S: Peek,
+    P: Peek + Read + Drop,
+    R: Answer<Refusal>,
+    F: Fn(&mut ParseBuffer<'_>) -> R,
+>(input: &mut ParseBuffer<'_>, element: F) -> Reading<Punctuated<R::Node, P>>
+where
+    R::Node: Drop,
+    requires { Callable (left input.old) R.answers (F.pre element) (F.post element) }
+    ensures reads { (k : Rule) (e : Grammar) (v : R.Node → Syntax) → IsList k e S.look P.look P.form → Answers IsSyntax e v R.answers (F.post element)
+        → Says IsSyntax (λ l. list_of v P.syntax l.pairs l.last) (reads k input.old) result input.new }
+    ensures moved { Kept input.old result input.new }
+{
+    let mut list = Punctuated::new(input.alloc());
+    'elements: while !input.peek::<S>() {
+        let value = element(input).answer()?;
+        if !input.peek::<P>() {
+            list.push_value(value)?;
+            return Ok(list);
+        }
+        let separator = input.read()?;
+        list.push_pair(value, separator)?;
+    }
+    Ok(list)
+}
+
+/// One element at least, and others as long as a separator stands next.
+pub fn joined_list<P: Peek + Read + Drop, R: Answer<Refusal>, F: Fn(&mut ParseBuffer<'_>) -> R>(
+    input: &mut ParseBuffer<'_>,
+    element: F,
+) -> Reading<Punctuated<R::Node, P>>
+where
+    R::Node: Drop,
+    requires { Callable (left input.old) R.answers (F.pre element) (F.post element) }
+    ensures reads { (k : Rule) (e : Grammar) (v : R.Node → Syntax) → IsJoined k e P.look P.form → Answers IsSyntax e v R.answers (F.post element)
+        → Says IsSyntax (λ l. joined_of v P.syntax l.pairs l.last) (reads k input.old) result input.new }
+    ensures moved { Moved input.old result input.new }
+{
+    let mut list = Punctuated::new(input.alloc());
+    'elements: loop {
+        let value = element(input).answer()?;
+        if !input.peek::<P>() {
+            list.push_value(value)?;
+            return Ok(list);
+        }
+        let separator = input.read()?;
+        list.push_pair(value, separator)?;
+    }
+}

@@ -1,0 +1,47 @@
+//! Why a parser read nothing.
+ghost use Rattle.std.specs.Prelude.{◌≡◌};
+ghost use Rattle.syn_parse.specs.Refusals.{IsRefusedAs};
+ghost use Rattle.syn_parse.specs.declared.read.refusal.Refusal.TheVariants.{Memory};
+
+use std::alloc::{AllocError, AllocFailed};
+use syn_tokens::error::Error;
+use syn_tokens::span::Span;
+
+/// Why a parser read nothing; smaller than an `Error`, which has room for four faults.
+#[derive(Clone, Copy, Debug)]
+pub enum Refusal {
+    /// Memory was refused.
+    Memory,
+    /// The tokens are no such thing: where, and the text of the fault, such as ``expected `struct` ``.
+    Syntax { span: Span, text: &'static str },
+}
+
+/// What a parser answers.
+pub type Reading<T> = std::result::Result<T, Refusal>;
+
+impl From<AllocError> for Refusal {
+    ghost from_gives = { λ _ e. e ≡ Memory };
+
+    fn from(_e: AllocError) -> Refusal {
+        Refusal::Memory
+    }
+}
+
+impl<T: Drop> From<AllocFailed<T>> for Refusal {
+    ghost from_gives = { λ _ e. e ≡ Memory };
+
+    fn from(_e: AllocFailed<T>) -> Refusal {
+        Refusal::Memory
+    }
+}
+
+impl From<Refusal> for Error {
+    ghost from_gives = { IsRefusedAs };
+
+    fn from(refusal: Refusal) -> Error {
+        match refusal {
+            Refusal::Memory => Error::memory(),
+            Refusal::Syntax { span, text } => Error::new(span, text),
+        }
+    }
+}

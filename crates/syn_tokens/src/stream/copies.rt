@@ -1,0 +1,125 @@
+//! Copies of token trees and streams: each takes memory once, however deep its groups are.
+ghost use Rattle.std.specs.Prelude.{◌≡◌, ℕ, [], IfOk, IfErr, OnOk, OnErr};
+ghost use Rattle.syn_grammar.specs.Tokens.{end};
+ghost use Rattle.syn_grammar.specs.Take as grammar;
+ghost use Rattle.syn_tokens.specs.Entries.{decode, IsFlat};
+ghost use Rattle.syn_tokens.specs.Lists.{listed};
+ghost use Rattle.syn_tokens.specs.Trees.{stream_of, before};
+ghost use Rattle.syn_tokens.specs.Cursors.{before_next};
+ghost use Rattle.syn_tokens.specs.Places.{place};
+
+use crate::error::Result;
+use crate::stream::TokenStream;
+use crate::stream::cursor::{Cursor, Next};
+use crate::stream::entry::Entry;
+use crate::stream::tree::{Group, TokenTree};
+use std::alloc::{AllocError, Global};
+
+/// Copies of these entries.
+fn copy_entries(entries: &[Entry], alloc: Global) -> std::result::Result<Vec<Entry>, AllocError>
+    ensures { IfOk result (λ copy. copy.items ≡ entries.now) }
+{
+    let mut copy = Vec::with_capacity(alloc, entries.len())?;
+    for entry in entries {
+        copy.push(entry.copy()?)?;
+    }
+    Ok(copy)
+}
+
+impl<'a> Cursor<'a> {
+    /// A stream of copies of all the trees, in memory from `alloc`; refused only where memory is.
+    pub fn to_stream(&self, alloc: Global) -> std::result::Result<TokenStream, AllocError>
+        ensures { IfOk result (λ copy. copy ≡ self.now) }
+    {
+        let entries = copy_entries(self.entries(), alloc)?;
+        Ok(TokenStream::of_entries(entries, self.len(), alloc))
+    }
+
+    /// A stream of copies of the first trees, of so many, or of all where there are fewer; refused only where memory is.
+    pub fn first_to_stream(
+        &self,
+        count: usize,
+        alloc: Global,
+    ) -> std::result::Result<TokenStream, AllocError>
+        ensures { IfOk result (λ copy. copy ≡ grammar.first count self.now) }
+    {
+        let entries = copy_entries(self.front(count), alloc)?;
+        Ok(TokenStream::of_entries(entries, self.len().min(count), alloc))
+    }
+}
+
+/// A copy of a tree.
+fn copy_next(next: &Next<'_>, alloc: Global) -> std::result::Result<TokenTree, AllocError>
+    ensures { IfOk result (λ copy. before copy end ≡ before_next next.now end) }
+{
+    match next {
+        Next::Group(inner) => Ok(TokenTree::Group(Group {
+            delimiter: inner.delimiter,
+            stream: inner.content.to_stream(alloc)?,
+            opening: inner.opening,
+            closing: inner.closing,
+        })),
+        Next::Ident(ident) => Ok(TokenTree::Ident(ident.to_ident()?)),
+        Next::Punct(punct) => Ok(TokenTree::Punct(*punct)),
+        Next::Literal(literal) => Ok(TokenTree::Literal(literal.to_literal()?)),
+    }
+}
+
+impl TokenTree {
+    /// The same tree once more, with the same spans, in memory from `alloc`; refused only where memory is.
+    pub fn copy(&self, alloc: Global) -> std::result::Result<TokenTree, AllocError>
+        ensures { IfOk result (λ copy. copy ≡ self.now) }
+    {
+        match self {
+            TokenTree::Group(group) => Ok(TokenTree::Group(Group {
+                delimiter: group.delimiter,
+                stream: group.stream.copy(alloc)?,
+                opening: group.opening,
+                closing: group.closing,
+            })),
+            TokenTree::Ident(ident) => Ok(TokenTree::Ident(ident.copy()?)),
+            TokenTree::Punct(punct) => Ok(TokenTree::Punct(*punct)),
+            TokenTree::Literal(literal) => Ok(TokenTree::Literal(literal.copy()?)),
+        }
+    }
+
+    /// The same as `copy`.
+    pub fn try_clone(&self, alloc: Global) -> Result<TokenTree>
+        ensures ok { IfOk result (λ copy. copy ≡ self.now) }
+        ensures err { IfErr result (λ e. e ≡ []) }
+    {
+        Ok(self.copy(alloc)?)
+    }
+}
+
+impl TokenStream {
+    /// The same stream once more, with the same spans, in memory from `alloc`; refused only where memory is.
+    pub fn copy(&self, alloc: Global) -> std::result::Result<TokenStream, AllocError>
+        ensures { IfOk result (λ copy. copy ≡ self.now) }
+    {
+        self.cursor().to_stream(alloc)
+    }
+
+    /// The same as `copy`.
+    pub fn try_clone(&self, alloc: Global) -> Result<TokenStream>
+        ensures ok { IfOk result (λ copy. copy ≡ self.now) }
+        ensures err { IfErr result (λ e. e ≡ []) }
+    {
+        Ok(self.copy(alloc)?)
+    }
+
+    /// A copy of the tree at this place, counted from 0 (a group counts as one); none where there is no such place.
+    /// Refused only where memory is.
+    #[tactic(auto, using(crate::proofs::Places::place_is, crate::proofs::Places::no_place))]
+    pub fn get(&self, index: usize) -> Result<Option<TokenTree>>
+        ensures ok { IfOk result (λ tree. stream_of (listed tree) ≡ place index self.now) }
+        ensures err { IfErr result (λ e. e ≡ []) }
+    {
+        let mut rest = self.cursor();
+        rest.skip(index);
+        match rest.split() {
+            Some((next, _)) => Ok(Some(copy_next(&next, self.alloc())?)),
+            None => Ok(None),
+        }
+    }
+}

@@ -1,0 +1,190 @@
+//! Token trees that stand one behind another in a stream.
+ghost use Rattle.std.specs.Prelude.{◌≡◌, [], ◌∷◌, ◌++◌, length, MatchOption};
+ghost use Rattle.syn_grammar.specs.Tokens.{end};
+ghost use Rattle.syn_grammar.specs.Take as grammar;
+ghost use Rattle.syn_tokens.specs.Entries.{encode, decode, IsFlat};
+ghost use Rattle.syn_tokens.specs.Places.{after};
+ghost use Rattle.syn_tokens.specs.Cursors.{before_next, next_span, Closes};
+ghost use Rattle.syn_tokens.specs.declared.stream.entry.Token.TheVariants as E;
+
+use crate::delimiter::Delimiter;
+use crate::ident::ident_ref::IdentRef;
+use crate::literal::literal_ref::LiteralRef;
+use crate::punct::Punct;
+use crate::span::Span;
+use crate::stream::entry::{Close, Entry, Token};
+use std::marker::Model;
+
+/// A place in a stream: the token trees that stand from there on, up to the end of the stream or of a group in it. They are
+/// lent, so a cursor takes no memory, and one more of the same place is made by `fork`.
+#[derive(Drop)]
+pub struct Cursor<'a> {
+    entries: &'a [Entry],
+    /// How many trees they are.
+    trees: usize,
+}
+
+impl<'a> Model for Cursor<'a> {
+    ghost use Rattle.syn_grammar.specs.Tokens.{Stream};
+    ghost use Rattle.syn_grammar.specs.Codes.{stream_code};
+    ghost use Rattle.syn_tokens.specs.Entries.{decode, IsFlat};
+
+    ghost Value = { Stream };
+
+    ghost coded = { stream_code };
+
+    ghost view = { λ c. decode c.entries.now };
+
+    ghost invariant = { λ c. IsFlat c.entries.now c.trees };
+}
+
+/// A group in a stream: its signs, where they stand, and a cursor over its content.
+#[derive(Drop)]
+pub struct Inner<'a> {
+    pub delimiter: Delimiter,
+    pub opening: Span,
+    pub closing: Span,
+    pub content: Cursor<'a>,
+}
+
+/// A token tree in a stream, lent.
+#[derive(Drop)]
+pub enum Next<'a> {
+    Ident(IdentRef<'a>),
+    Literal(LiteralRef<'a>),
+    Punct(Punct),
+    Group(Inner<'a>),
+}
+
+/// The first entry, and the others.
+#[inline(always)]
+fn split_first(entries: &[Entry]) -> Option<(&Entry, &[Entry])>
+    ensures { MatchOption result (entries.now ≡ []) (λ p. entries.now ≡ p.0.now ∷ p.1.now) }
+{
+    entries.split_first()
+}
+
+/// So many entries, the closing sign behind them, and the others.
+#[inline(always)]
+fn split_close(entries: &[Entry], count: usize) -> Option<(&[Entry], Close, &[Entry])>
+    ensures { MatchOption result (Closes entries.now count → ⊥)
+        (λ p. (entries.now ≡ p.0.now ++ E.Close p.1 ∷ p.2.now) × (length p.0.now ≡ count)) }
+{
+    let (content, rest) = entries.split_at_checked(count)?;
+    let (sign, rest) = split_first(rest)?;
+    match sign.token() {
+        Token::Close(close) => Some((content, close, rest)),
+        Token::Ident(_) => None,
+        Token::Literal(_) => None,
+        Token::Punct(_) => None,
+        Token::Open(_) => None,
+    }
+}
+
+impl<'a> Next<'a> {
+    /// Where it stands; of a group, where its opening sign does.
+    pub fn span(&self) -> Span
+        ensures { result ≡ next_span self.now }
+    {
+        match self {
+            Next::Ident(ident) => ident.span,
+            Next::Literal(literal) => literal.span,
+            Next::Punct(punct) => punct.span,
+            Next::Group(group) => group.opening,
+        }
+    }
+}
+
+impl<'a> Cursor<'a> {
+    /// The trees of these entries, which are so many.
+    pub(crate) fn new(entries: &'a [Entry], trees: usize) -> Cursor<'a>
+        requires { IsFlat entries.now trees }
+        ensures { result ≡ decode entries.now }
+    {
+        Cursor { entries, trees }
+    }
+
+    /// A cursor over no tree.
+    pub fn none() -> Cursor<'a>
+        ensures { result ≡ end }
+    {
+        Cursor {
+            entries: &[],
+            trees: 0,
+        }
+    }
+
+    /// A cursor of its own at the same place.
+    pub fn fork(&self) -> Cursor<'a>
+        ensures { result ≡ self.now }
+    {
+        Cursor {
+            entries: self.entries,
+            trees: self.trees,
+        }
+    }
+
+    /// Their entries.
+    pub(crate) fn entries(&self) -> &'a [Entry]
+        ensures { result.now ≡ encode self.now }
+    {
+        self.entries
+    }
+
+    /// How many trees stand from here on, each group counted as one.
+    pub fn len(&self) -> usize
+        ensures { result ≡ grammar.length self.now }
+    {
+        self.trees
+    }
+
+    /// The first tree, and a cursor behind it; none at the end. It takes no memory, and as little time for a group as for a
+    /// token.
+    #[inline(always)]
+    pub fn split(&self) -> Option<(Next<'a>, Cursor<'a>)>
+        ensures { MatchOption result (self.now ≡ end) (λ p. self.now ≡ before_next p.0 p.1) }
+    {
+        let (first, rest) = split_first(self.entries)?;
+        let behind = self.trees.saturating_sub(1);
+        match first.token() {
+            Token::Ident(ident) => Some((Next::Ident(ident), Cursor::new(rest, behind))),
+            Token::Literal(literal) => Some((Next::Literal(literal), Cursor::new(rest, behind))),
+            Token::Punct(punct) => Some((Next::Punct(punct), Cursor::new(rest, behind))),
+            Token::Open(open) => {
+                let (content, close, rest) = split_close(rest, open.skip)?;
+                let inner = Inner {
+                    delimiter: open.delimiter,
+                    opening: open.span,
+                    closing: close.span,
+                    content: Cursor::new(content, close.trees),
+                };
+                Some((Next::Group(inner), Cursor::new(rest, behind)))
+            }
+            Token::Close(_) => None,
+        }
+    }
+
+    /// Goes past so many trees, or past all where there are fewer.
+    pub(crate) fn skip(&mut self, count: usize)
+        ensures { self.new ≡ after count self.old }
+    {
+        for i in 0..count {
+            let Some((_, rest)) = self.split() else {
+                return;
+            };
+            *self = rest;
+        }
+    }
+
+    /// The entries of the first trees, of so many, or of all where there are fewer.
+    pub(crate) fn front(&self, count: usize) -> &'a [Entry]
+        ensures { result.now ≡ encode (grammar.first count self.now) }
+    {
+        let mut rest = self.fork();
+        rest.skip(count);
+        let (front, _) = self
+            .entries
+            .split_at(self.entries.len() - rest.entries.len());
+        front
+    }
+}

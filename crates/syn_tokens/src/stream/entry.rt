@@ -1,0 +1,240 @@
+//! What a token stream is kept as: one entry for each token, and two for each group, its signs.
+ghost use Rattle.std.specs.Prelude.{◌≡◌, IfOk};
+ghost use Rattle.syn_tokens.specs.Entries.{entry_span};
+ghost use Rattle.syn_tokens.specs.declared.stream.entry.Token.TheVariants as E;
+
+use crate::delimiter::Delimiter;
+use crate::ident::Ident;
+use crate::ident::ident_ref::IdentRef;
+use crate::literal::literal_ref::LiteralRef;
+use crate::literal::{LitKind, Literal};
+use crate::punct::{Punct, Spacing};
+use crate::span::Span;
+use crate::stream::near::Near;
+use crate::text::Text;
+use std::alloc::{AllocError, Global};
+use std::marker::Model;
+use std::rc::Rc;
+
+/// The opening sign of a group.
+#[derive(Clone, Copy, Debug)]
+pub struct Open {
+    pub delimiter: Delimiter,
+    pub span: Span,
+    /// How many entries stand between it and its closing sign.
+    pub skip: usize,
+}
+
+/// The closing sign of a group.
+#[derive(Clone, Copy, Debug)]
+pub struct Close {
+    pub delimiter: Delimiter,
+    pub span: Span,
+    /// How many token trees the group has.
+    pub trees: usize,
+}
+
+/// A token in a stream, or a sign of a group there.
+#[derive(Drop)]
+pub enum Token<'a> {
+    Ident(IdentRef<'a>),
+    Literal(LiteralRef<'a>),
+    Punct(Punct),
+    Open(Open),
+    Close(Close),
+}
+
+/// A token, or a sign of a group, as a stream keeps it: in 24 bytes, where it stands within the first 2^32 bytes of a text.
+#[derive(Drop)]
+pub struct Entry {
+    inner: Packed,
+}
+
+/// What it is, and where it stands.
+#[derive(Drop)]
+enum Packed {
+    /// Whether it is a keyword, where it stands, and its text.
+    Ident(bool, Near, Text),
+    Literal(LitKind, Near, Text),
+    Punct(Spacing, char, Near),
+    /// With how many entries there are before its closing sign.
+    Open(Delimiter, Near, usize),
+    /// With how many token trees the group has.
+    Close(Delimiter, Near, usize),
+    Far(Rc<Far>),
+}
+
+/// What stands elsewhere.
+#[derive(Drop)]
+enum Far {
+    Ident(Ident),
+    Literal(Literal),
+    Punct(Punct),
+    Open(Open),
+    Close(Close),
+}
+
+impl Model for Entry {
+    ghost use Rattle.syn_tokens.specs.declared.stream.entry.Token.{Token};
+    ghost use Rattle.syn_tokens.specs.Packed.{unpacked, IsPacked};
+
+    ghost Value = { Token };
+
+    ghost view = { λ e. unpacked e.inner };
+
+    ghost invariant = { λ e. IsPacked e.inner };
+}
+
+impl Far {
+    ghost use Rattle.syn_tokens.specs.Packed.{far_token};
+
+    /// The token or sign itself.
+    fn token(&self) -> Token<'_>
+        ensures { result ≡ far_token self.now }
+    {
+        match self {
+            Far::Ident(ident) => Token::Ident(ident.as_ref()),
+            Far::Literal(literal) => Token::Literal(literal.as_ref()),
+            Far::Punct(punct) => Token::Punct(*punct),
+            Far::Open(open) => Token::Open(*open),
+            Far::Close(close) => Token::Close(*close),
+        }
+    }
+}
+
+impl Entry {
+    ghost use Rattle.syn_tokens.specs.Packed.{far_token};
+
+    fn far(alloc: Global, far: Far) -> Result<Entry, AllocError>
+        ensures { IfOk result (λ entry. entry ≡ far_token far) }
+    {
+        Ok(Entry {
+            inner: Packed::Far(Rc::new(alloc, far)?),
+        })
+    }
+
+    /// The entry of an identifier. It takes memory only where the identifier stands beyond the first 2^32 bytes of a text.
+    #[inline(always)]
+    pub fn ident(alloc: Global, ident: Ident) -> Result<Entry, AllocError>
+        ensures { IfOk result (λ entry. entry ≡ E.Ident ident) }
+    {
+        let Some(place) = Near::of(ident.span) else {
+            return Entry::far(alloc, Far::Ident(ident));
+        };
+        let (keyword, text) = ident.into_parts();
+        Ok(Entry {
+            inner: Packed::Ident(keyword, place, text),
+        })
+    }
+
+    /// The entry of a literal. It takes memory only where the literal stands beyond the first 2^32 bytes of a text.
+    #[inline(always)]
+    pub fn literal(alloc: Global, literal: Literal) -> Result<Entry, AllocError>
+        ensures { IfOk result (λ entry. entry ≡ E.Literal literal) }
+    {
+        let Some(place) = Near::of(literal.span) else {
+            return Entry::far(alloc, Far::Literal(literal));
+        };
+        let (kind, text) = literal.into_parts();
+        Ok(Entry {
+            inner: Packed::Literal(kind, place, text),
+        })
+    }
+
+    /// The entry of a mark's character. It takes memory only where that stands beyond the first 2^32 bytes of a text.
+    #[inline(always)]
+    pub fn punct(alloc: Global, punct: Punct) -> Result<Entry, AllocError>
+        ensures { IfOk result (λ entry. entry ≡ E.Punct punct) }
+    {
+        let Some(place) = Near::of(punct.span) else {
+            return Entry::far(alloc, Far::Punct(punct));
+        };
+        Ok(Entry {
+            inner: Packed::Punct(punct.spacing, punct.character(), place),
+        })
+    }
+
+    /// The entry of an opening sign. It takes memory only where the sign stands beyond the first 2^32 bytes of a text.
+    #[inline(always)]
+    pub(crate) fn open(alloc: Global, sign: Open) -> Result<Entry, AllocError>
+        ensures { IfOk result (λ entry. entry ≡ E.Open sign) }
+    {
+        let Some(place) = Near::of(sign.span) else {
+            return Entry::far(alloc, Far::Open(sign));
+        };
+        Ok(Entry {
+            inner: Packed::Open(sign.delimiter, place, sign.skip),
+        })
+    }
+
+    /// The entry of a closing sign. It takes memory only where the sign stands beyond the first 2^32 bytes of a text.
+    #[inline(always)]
+    pub(crate) fn close(alloc: Global, sign: Close) -> Result<Entry, AllocError>
+        ensures { IfOk result (λ entry. entry ≡ E.Close sign) }
+    {
+        let Some(place) = Near::of(sign.span) else {
+            return Entry::far(alloc, Far::Close(sign));
+        };
+        Ok(Entry {
+            inner: Packed::Close(sign.delimiter, place, sign.trees),
+        })
+    }
+
+    /// The token or sign that it is.
+    #[inline(always)]
+    pub fn token(&self) -> Token<'_>
+        ensures { result ≡ self.now }
+    {
+        match &self.inner {
+            Packed::Ident(keyword, place, text) => {
+                Token::Ident(IdentRef::new(text, *keyword, place.span()))
+            }
+            Packed::Literal(kind, place, text) => {
+                Token::Literal(LiteralRef::new(*kind, text, place.span()))
+            }
+            Packed::Punct(spacing, character, place) => {
+                Token::Punct(Punct::new(*character, *spacing, place.span()))
+            }
+            Packed::Open(delimiter, place, skip) => Token::Open(Open {
+                delimiter: *delimiter,
+                span: place.span(),
+                skip: *skip,
+            }),
+            Packed::Close(delimiter, place, trees) => Token::Close(Close {
+                delimiter: *delimiter,
+                span: place.span(),
+                trees: *trees,
+            }),
+            Packed::Far(far) => far.token(),
+        }
+    }
+
+    /// The same entry once more, with the same span. It takes no memory, and is refused only where 2^64 - 1 copies of it or
+    /// of its text are there.
+    pub fn copy(&self) -> Result<Entry, AllocError>
+        ensures { IfOk result (λ entry. entry ≡ self.now) }
+    {
+        let inner = match &self.inner {
+            Packed::Ident(keyword, place, text) => Packed::Ident(*keyword, *place, text.share()?),
+            Packed::Literal(kind, place, text) => Packed::Literal(*kind, *place, text.share()?),
+            Packed::Punct(spacing, character, place) => Packed::Punct(*spacing, *character, *place),
+            Packed::Open(delimiter, place, skip) => Packed::Open(*delimiter, *place, *skip),
+            Packed::Close(delimiter, place, trees) => Packed::Close(*delimiter, *place, *trees),
+            Packed::Far(far) => Packed::Far(far.clone()?),
+        };
+        Ok(Entry { inner })
+    }
+
+    /// Where it stands.
+    pub fn span(&self) -> Span
+        ensures { result ≡ entry_span self.now }
+    {
+        match self.token() {
+            Token::Ident(ident) => ident.span,
+            Token::Literal(literal) => literal.span,
+            Token::Punct(punct) => punct.span,
+            Token::Open(open) => open.span,
+            Token::Close(close) => close.span,
+        }
+    }
+}
