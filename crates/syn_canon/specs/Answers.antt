@@ -18,6 +18,7 @@ use Rattle.syn_canon.specs.declared.failure.Failure.{Failure}
 use Rattle.syn_canon.specs.declared.failure.Failure.TheVariants.{Usage, ReadFailed, NotUtf8, Refused, WriteFailed, OutOfMemory}
 use Rattle.syn_canon.specs.Kinds.{rule_of}
 use Rattle.syn_canon.specs.Words.{IsCommand, NoCommand}
+use Rattle.syn_canon.specs.Statuses.{status_of, line_of}
 
 -- THE GRAMMAR
 
@@ -94,3 +95,11 @@ pub record IsDone (words : List (String Global)) (known old new : Option (List �
 abbrev pub IsUndone : List (String Global) → Option (List ℕ) → Failure → Type 0
 IsUndone words known WriteFailed = Unit {0}
 IsUndone words known failure = IsNoAnswer words known failure
+
+-- A run has ended with the status of a failure for which there was a reason, and its line, with a newline, stands behind what
+-- the writer held, where it is known what that was.
+pub record IsTold (words : List (String Global)) (known : Option (List ℕ)) (status : ℕ) (old new : Option (List ℕ)) : Type 0 where
+  pub failure : Failure
+  pub is_undone : IsUndone words known failure
+  pub is_status : status ≡ status_of failure
+  pub is_written : Appends old new (line_of failure ++ codes "\n")

@@ -2,10 +2,10 @@
 //! input.
 #![tactic(auto)]
 
-ghost use Rattle.std.specs.Prelude.{◌≡◌, ◌≢◌, ◌≤◌, ◌↔◌, ◌⊎◌, ◌++◌, codes, Err, OnOk, IfErr};
+ghost use Rattle.std.specs.Prelude.{◌≡◌, ◌≢◌, ◌≤◌, ◌↔◌, ◌⊎◌, ◌++◌, true, codes, Err, OnOk, IfErr};
 ghost use Rattle.std.specs.Io.KnownBytes.{Appends};
 ghost use Rattle.syn_canon.specs.Words.{NoCommand};
-ghost use Rattle.syn_canon.specs.Answers.{IsDone, IsUndone};
+ghost use Rattle.syn_canon.specs.Answers.{IsDone, IsUndone, IsTold};
 ghost use Rattle.syn_canon.specs.Statuses.{status_of, line_of};
 ghost use Rattle.syn_canon.specs.declared.failure.Failure.TheVariants.{Usage, WriteFailed, OutOfMemory};
 
@@ -24,26 +24,38 @@ use std::io::{Read, Write};
 use std::process::ExitCode;
 use std::{env, io};
 
-/// Does what the words after the program's name say with the text in `input`, and answers the exit status: 0 where the
-/// whole answer was written, 1 where the input was refused, or a read or a write failed, 2 where the words are no command,
-/// and 3 where memory was refused. The answer goes to `output` only once all of it is found; where there is none, one line
-/// goes to `faults`, if that can be written.
+/// How a run ends.
+#[derive(Clone, Copy, Debug, PartialEq, Eq)]
+pub struct Exit {
+    /// The exit status: 0 where the whole answer was written, 1 where the input was refused, or a read or a write failed, 2
+    /// where the words are no command, and 3 where memory was refused.
+    pub status: u8,
+    /// Whether the line of a failure was written whole. It is true where there was none to write.
+    pub is_told: bool,
+}
+
+/// Does what the words after the program's name say with the text in `input`. The answer goes to `output` only once all of
+/// it is found; where there is none, one line that says why goes to `faults`, and a write of it that fails changes no status.
 pub fn run<R: Read, W: Write, V: Write>(
     alloc: Global,
     words: &[String],
     input: &mut R,
     output: &mut W,
     faults: &mut V,
-) -> u8
-    ensures known { result ≤ 3 }
-    ensures usage { (result ≡ 2) ↔ NoCommand words.now }
-    ensures done { result ≡ 0 → IsDone words.now (R.remaining input.old) (W.contents output.old) (W.contents output.new) }
-    ensures quiet { result ≡ 0 → faults.new ≡ faults.old }
-    ensures unread { result ≡ 2 → input.new ≡ input.old }
-    ensures unwritten { 2 ≤ result → output.new ≡ output.old }
+) -> Exit
+    ensures known { result.status ≤ 3 }
+    ensures usage { (result.status ≡ 2) ↔ NoCommand words.now }
+    ensures done { result.status ≡ 0 → IsDone words.now (R.remaining input.old) (W.contents output.old) (W.contents output.new) }
+    ensures quiet { result.status ≡ 0 → faults.new ≡ faults.old }
+    ensures told { result.is_told ≡ true → result.status ≢ 0 → IsTold words.now (R.remaining input.old) result.status (V.contents faults.old) (V.contents faults.new) }
+    ensures unread { result.status ≡ 2 → input.new ≡ input.old }
+    ensures unwritten { 2 ≤ result.status → output.new ≡ output.old }
 {
     match carry_out(alloc, words, input, output) {
-        Ok(()) => 0,
+        Ok(()) => Exit {
+            status: 0,
+            is_told: true,
+        },
         Err(failure) => report(faults, &failure),
     }
 }
@@ -77,11 +89,15 @@ fn write_whole<W: Write>(output: &mut W, text: &str) -> io::Result<()>
 }
 
 /// Writes the failure's line, and answers its status, also where the line can't be written.
-fn report<V: Write>(faults: &mut V, failure: &Failure) -> u8
-    ensures { result ≡ status_of failure.now }
+fn report<V: Write>(faults: &mut V, failure: &Failure) -> Exit
+    ensures status { result.status ≡ status_of failure.now }
+    ensures told { result.is_told ≡ true → Appends (V.contents faults.old) (V.contents faults.new) (line_of failure.now ++ codes "\n") }
 {
-    let _ = write_line(faults, failure);
-    failure.status()
+    let is_told = write_line(faults, failure).is_ok();
+    Exit {
+        status: failure.status(),
+        is_told,
+    }
 }
 
 /// Writes the line that says why there is no answer.
@@ -105,7 +121,7 @@ fn words(rt: &HostRuntime) -> Result<Vec<String>, Failure>
 }
 
 fn main(rt: HostRuntime) -> ExitCode {
-    let status = match words(&rt) {
+    let exit = match words(&rt) {
         Ok(words) => run(
             rt.alloc(),
             words.as_slice(),
@@ -115,5 +131,5 @@ fn main(rt: HostRuntime) -> ExitCode {
         ),
         Err(failure) => report(&mut rt.stderr(), &failure),
     };
-    ExitCode::from(status)
+    ExitCode::from(exit.status)
 }

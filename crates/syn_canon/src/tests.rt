@@ -1,5 +1,6 @@
 //! Whole runs of the program, over readers and writers in memory.
 mod failing;
+mod flushed;
 mod refused;
 mod scarce_memory;
 mod support;

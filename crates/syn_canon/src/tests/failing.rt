@@ -52,14 +52,15 @@ fn writes(rt: HostRuntime) -> Result<(), Fail> {
         let mut output = Full::new(rt.alloc(), room, flushes);
         let mut faults = Vec::new(rt.alloc());
         let mut input = STRUCT.as_bytes();
-        let status = run(
+        let exit = run(
             rt.alloc(),
             words.as_slice(),
             &mut input,
             &mut output,
             &mut faults,
         );
-        assert_eq!(rt; status, 1, "{room}");
+        assert_eq!(rt; exit.status, 1, "{room}");
+        assert!(rt; exit.is_told, "{room}");
         assert_eq!(rt; faults.as_slice(), b"write failed\n".as_slice(), "{room}");
     }
     Ok(())
@@ -72,20 +73,21 @@ fn short_writes(rt: HostRuntime) -> Result<(), Fail> {
     let mut output = Full::new(rt.alloc(), 15, true);
     let mut faults = Vec::new(rt.alloc());
     let mut input = STRUCT.as_bytes();
-    let status = run(
+    let exit = run(
         rt.alloc(),
         words.as_slice(),
         &mut input,
         &mut output,
         &mut faults,
     );
-    assert_eq!(rt; status, 0);
+    assert_eq!(rt; exit.status, 0);
+    assert!(rt; exit.is_told);
     assert_eq!(rt; output.taken.as_slice(), b"pub struct S ;\n".as_slice());
     assert!(rt; faults.is_empty());
     Ok(())
 }
 
-/// A fault line that can't be written changes no status.
+/// A fault line that can't be written, or not be passed on, changes no status.
 #[test]
 fn faults(rt: HostRuntime) -> Result<(), Fail> {
     for (line, input, want) in [
@@ -94,18 +96,19 @@ fn faults(rt: HostRuntime) -> Result<(), Fail> {
         ("print item", "struct S;", 2),
         ("check derive", STRUCT, 0),
     ] {
-        for room in [0, 7] {
+        for room in [0, 7, 100] {
             let words = words(rt.alloc(), line)?;
             let mut output = Vec::new(rt.alloc());
             let mut faults = Full::new(rt.alloc(), room, false);
-            let status = run(
+            let exit = run(
                 rt.alloc(),
                 words.as_slice(),
                 &mut input.as_bytes(),
                 &mut output,
                 &mut faults,
             );
-            assert_eq!(rt; status, want, "{line}: {input}");
+            assert_eq!(rt; exit.status, want, "{line}: {input}");
+            assert_eq!(rt; exit.is_told, want == 0, "{line}: {input}");
         }
     }
     Ok(())
@@ -117,14 +120,15 @@ fn both_fail(rt: HostRuntime) -> Result<(), Fail> {
     let words = words(rt.alloc(), "check derive")?;
     let mut output = Full::new(rt.alloc(), 1, true);
     let mut faults = Full::new(rt.alloc(), 5, true);
-    let status = run(
+    let exit = run(
         rt.alloc(),
         words.as_slice(),
         &mut STRUCT.as_bytes(),
         &mut output,
         &mut faults,
     );
-    assert_eq!(rt; status, 1);
+    assert_eq!(rt; exit.status, 1);
+    assert!(rt; !exit.is_told);
     assert_eq!(rt; output.taken.as_slice(), b"o".as_slice());
     assert_eq!(rt; faults.taken.as_slice(), b"write".as_slice());
     Ok(())

@@ -26,17 +26,17 @@ fn ends_so(
     let words = words(alloc, line)?;
     let mut output = [0u8; 64];
     let mut faults = [0u8; 64];
-    let ended = run(
+    let exit = run(
         alloc,
         words.as_slice(),
         &mut input.as_bytes(),
         &mut &mut output[..],
         &mut &mut faults[..],
     );
-    if ended == 3 && holds(&output, "") && holds(&faults, "out of memory\n") {
+    if exit.status == 3 && holds(&output, "") && holds(&faults, "out of memory\n") {
         return Err(AllocError);
     }
-    Ok(ended == status && holds(&output, written) && holds(&faults, said))
+    Ok(exit.status == status && exit.is_told && holds(&output, written) && holds(&faults, said))
 }
 
 /// Whether one of two answers is right, and the other one is right too or a want of memory.

@@ -29,15 +29,18 @@ pub fn run_on<R: Read + Drop>(alloc: Global, line: &str, mut input: R) -> Result
     let words = words(alloc, line)?;
     let mut output = Vec::new(alloc);
     let mut faults = Vec::new(alloc);
-    let status = run(
+    let exit = run(
         alloc,
         words.as_slice(),
         &mut input,
         &mut output,
         &mut faults,
     );
+    if !exit.is_told {
+        return Err("the line of a failure was not written".into());
+    }
     Ok(Ended {
-        status,
+        status: exit.status,
         output: String::from_utf8(output).map_err(|_| "the output is not UTF-8")?,
         faults: String::from_utf8(faults).map_err(|_| "the faults are not UTF-8")?,
     })
