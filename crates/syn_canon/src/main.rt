@@ -2,7 +2,7 @@
 //! input.
 #![tactic(auto)]
 
-ghost use Rattle.std.specs.Prelude.{◌≡◌, ◌≢◌, ◌≤◌, ◌↔◌, ◌⊎◌, ◌++◌, true, codes, Err, OnOk, IfErr};
+ghost use Rattle.std.specs.Prelude.{◌≡◌, ◌≢◌, ◌≤◌, ◌↔◌, ◌⊎◌, [], ◌++◌, true, codes, Err, OnOk, IfErr};
 ghost use Rattle.std.specs.Io.KnownBytes.{Appends};
 ghost use Rattle.syn_canon.specs.Words.{NoCommand};
 ghost use Rattle.syn_canon.specs.Answers.{IsDone, IsUndone, IsTold};
@@ -14,13 +14,15 @@ mod by_kind;
 mod command;
 mod failure;
 mod kind;
+pub mod output;
 #[cfg(test)]
 mod tests;
 
 use crate::answer::answer;
 use crate::failure::Failure;
+use crate::output::Output;
 use std::alloc::Global;
-use std::io::{Read, Write};
+use std::io::Read;
 use std::process::ExitCode;
 use std::{env, io};
 
@@ -30,13 +32,13 @@ pub struct Exit {
     /// The exit status: 0 where the whole answer was written, 1 where the input was refused, or a read or a write failed, 2
     /// where the words are no command, and 3 where memory was refused.
     pub status: u8,
-    /// Whether the line of a failure was written whole. It is true where there was none to write.
+    /// Whether the line of a failure was written whole, and flushed. It is true where there was none to write.
     pub is_told: bool,
 }
 
 /// Does what the words after the program's name say with the text in `input`. The answer goes to `output` only once all of
 /// it is found; where there is none, one line that says why goes to `faults`, and a write of it that fails changes no status.
-pub fn run<R: Read, W: Write, V: Write>(
+pub fn run<R: Read, W: Output, V: Output>(
     alloc: Global,
     words: &[String],
     input: &mut R,
@@ -46,8 +48,10 @@ pub fn run<R: Read, W: Write, V: Write>(
     ensures known { result.status ≤ 3 }
     ensures usage { (result.status ≡ 2) ↔ NoCommand words.now }
     ensures done { result.status ≡ 0 → IsDone words.now (R.remaining input.old) (W.contents output.old) (W.contents output.new) }
+    ensures flushed { result.status ≡ 0 → W.pending output.new ≡ [] }
     ensures quiet { result.status ≡ 0 → faults.new ≡ faults.old }
     ensures told { result.is_told ≡ true → result.status ≢ 0 → IsTold words.now (R.remaining input.old) result.status (V.contents faults.old) (V.contents faults.new) }
+    ensures told_flushed { result.is_told ≡ true → result.status ≢ 0 → V.pending faults.new ≡ [] }
     ensures unread { result.status ≡ 2 → input.new ≡ input.old }
     ensures unwritten { 2 ≤ result.status → output.new ≡ output.old }
 {
@@ -61,7 +65,7 @@ pub fn run<R: Read, W: Write, V: Write>(
 }
 
 /// Reads the text, and writes the whole answer to it; where there is no answer, nothing is written.
-fn carry_out<R: Read, W: Write>(
+fn carry_out<R: Read, W: Output>(
     alloc: Global,
     words: &[String],
     input: &mut R,
@@ -70,6 +74,7 @@ fn carry_out<R: Read, W: Write>(
     ensures usage { (result ≡ Err Usage) ↔ NoCommand words.now }
     ensures unread { NoCommand words.now → input.new ≡ input.old }
     ensures done { OnOk result (IsDone words.now (R.remaining input.old) (W.contents output.old) (W.contents output.new)) }
+    ensures flushed { OnOk result (W.pending output.new ≡ []) }
     ensures failure { IfErr result (IsUndone words.now (R.remaining input.old)) }
     ensures unwritten { IfErr result (λ failure. failure ≢ WriteFailed → output.new ≡ output.old) }
 {
@@ -81,17 +86,19 @@ fn carry_out<R: Read, W: Write>(
 }
 
 /// Writes the text, and sees that it is passed on.
-fn write_whole<W: Write>(output: &mut W, text: &str) -> io::Result<()>
-    ensures { OnOk result (Appends (W.contents output.old) (W.contents output.new) text.now) }
+fn write_whole<W: Output>(output: &mut W, text: &str) -> io::Result<()>
+    ensures written { OnOk result (Appends (W.contents output.old) (W.contents output.new) text.now) }
+    ensures flushed { OnOk result (W.pending output.new ≡ []) }
 {
     output.write_all(text.as_bytes())?;
-    output.flush()
+    output.flush_out()
 }
 
 /// Writes the failure's line, and answers its status, also where the line can't be written.
-fn report<V: Write>(faults: &mut V, failure: &Failure) -> Exit
+fn report<V: Output>(faults: &mut V, failure: &Failure) -> Exit
     ensures status { result.status ≡ status_of failure.now }
     ensures told { result.is_told ≡ true → Appends (V.contents faults.old) (V.contents faults.new) (line_of failure.now ++ codes "\n") }
+    ensures flushed { result.is_told ≡ true → V.pending faults.new ≡ [] }
 {
     let is_told = write_line(faults, failure).is_ok();
     Exit {
@@ -101,11 +108,12 @@ fn report<V: Write>(faults: &mut V, failure: &Failure) -> Exit
 }
 
 /// Writes the line that says why there is no answer.
-fn write_line<V: Write>(faults: &mut V, failure: &Failure) -> io::Result<()>
-    ensures { OnOk result (Appends (V.contents faults.old) (V.contents faults.new) (line_of failure.now ++ codes "\n")) }
+fn write_line<V: Output>(faults: &mut V, failure: &Failure) -> io::Result<()>
+    ensures written { OnOk result (Appends (V.contents faults.old) (V.contents faults.new) (line_of failure.now ++ codes "\n")) }
+    ensures flushed { OnOk result (V.pending faults.new ≡ []) }
 {
     writeln!(faults, "{failure}")?;
-    faults.flush()
+    faults.flush_out()
 }
 
 /// The words after the program's name.

@@ -1,4 +1,5 @@
 //! Runs in memory, and readers and writers that fail.
+use crate::output::Output;
 use crate::run;
 use std::alloc::{AllocError, Global};
 use std::io;
@@ -118,5 +119,23 @@ impl Write for Full {
         } else {
             Err(io::Error::from(ErrorKind::BrokenPipe))
         }
+    }
+}
+
+impl Output for Full {
+    fn flush_out(&mut self) -> io::Result<()> {
+        self.flush()
+    }
+}
+
+impl Output for Vec<u8> {
+    fn flush_out(&mut self) -> io::Result<()> {
+        self.flush()
+    }
+}
+
+impl<'a> Output for &'a mut [u8] {
+    fn flush_out(&mut self) -> io::Result<()> {
+        self.flush()
     }
 }
