@@ -279,8 +279,9 @@ class Trials(InCrate):
         self.refused("        4\n", "Name::first", "returns-clause-value")
         self.refused("        6\n", "Name::second", "returns")
         wrong = self.trial()[0]
-        self.assertEqual([it.partition(":")[0] for it in wrong], ["b", "b"])
-        self.assertIn("ok is no clause of low::Name::second (returns)", wrong[0])
+        self.assertEqual([it.partition(":")[0] for it in wrong], ["a", "b", "b"])
+        self.assertIn("names no clause", wrong[0])
+        self.assertIn("ok is no clause of low::Name::second (returns)", wrong[1])
 
     def test_what_is_proved_is_tried_again_until_it_is_alone(self):
         self.edit("a", "clause: value", "old:         2", "new:         4")
@@ -367,7 +368,7 @@ class Program(InCrate):
     def test_check_ends_with_1_where_an_edit_names_no_clause_of_the_contract(self):
         (self.top / "crates.txt").write_text("low:\n")
         self.edit("a", "old:         2", "new:         4")
-        for clause, status in [("clause: value", 0), ("clause: ok", 1)]:
+        for clause, status in [("clause: value", 0), ("clause: ok", 1), ("", 1)]:
             self.edit("a", clause, "old:         2", "new:         4")
             with self.subTest(clause), self.program("--check") as (said, ended):
                 self.assertEqual(ended, status, said)

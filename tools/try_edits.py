@@ -26,8 +26,8 @@ itself, and not only because it calls another one that is refused. What changes 
 tried alone. What isn't refused is tried again in smaller packs, until it is alone.
 
 Not counted as refused is an edit that a proof file no longer fits only because it names what is gone: that says nothing
-of the contract. Ends with 1 where an edit is not refused, is refused for another clause than it names, or can't
-be applied.
+of the contract. Ends with 1 where an edit is not refused, is refused for another clause than it names, names none, or
+can't be applied.
 """
 
 import argparse
@@ -154,6 +154,8 @@ def unnamed(trial):
     """What is wrong with edits before any proof: each names a clause, and one that the contract has."""
     for edit in trial.edits:
         known = trial.source.clauses(edit)
+        if not edit.clauses:
+            yield f"{edit.name}: names no clause (a line `clause: NAME`; --record writes what is refused)"
         for clause in edit.clauses:
             name = clause.partition(" by ")[0]
             if known and name not in known and name != "invariant":
