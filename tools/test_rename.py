@@ -45,7 +45,7 @@ FILES = {
     'crates/syn_tokens/specs/Nears.antt': 'use Rattle.syn_tokens.specs.declared.near.Near.{Near}\nabbrev pub wide : Near → Span\n',
     'crates/syn_tokens/src/deep/near.rt': 'pub(crate) struct Near {}\n',
     'crates/syn_tokens/src/deep.rt': 'mod near;\nuse crate::deep::near::Near;\n',
-    'crates/syn_tokens/edits/near_is_far.edit': 'file: src/deep/near.rt\nold: Near {\nnew: Far {\n',
+    'crates/syn_tokens/edits/near_is_far.edit': 'clause: near\nfile: src/deep/near.rt\nold: Near {\nnew: Far {\n',
     'crates/syn_tree/src/path.rt': PARSER,
     'crates/syn_tree/specs/Parsing.antt': PARSING,
     'crates/syn_tree/specs/Views.antt': 'use Rattle.syn_tree.specs.Parsing.{reads}\nx = reads left\ny = parse left\n',
@@ -130,7 +130,7 @@ class Renaming(unittest.TestCase):
         self.renamed()
         self.assertEqual(self.read('crates/syn_tokens/src/deep/compact_span.rt'), 'pub(crate) struct CompactSpan {}\n')
         self.assertEqual(self.read('crates/syn_tokens/src/deep.rt'), 'mod compact_span;\nuse crate::deep::compact_span::CompactSpan;\n')
-        self.assertEqual(self.read('crates/syn_tokens/edits/near_is_far.edit'), 'file: src/deep/compact_span.rt\nold: CompactSpan {\nnew: Far {\n')
+        self.assertEqual(self.read('crates/syn_tokens/edits/near_is_far.edit'), 'clause: compact_span\nfile: src/deep/compact_span.rt\nold: CompactSpan {\nnew: Far {\n')
         self.assertEqual(self.read('crates/syn_tokens/proofs/compact_span/CompactSpan/front/Answers.antt'),
                          'use Rattle.syn_tokens.proofs.compact_span.CompactSpan.front.Goals as goal\n')
         self.assertIn('declared.compact_span.CompactSpan.{CompactSpan}', self.read('crates/syn_tokens/specs/CompactSpans.antt'))
