@@ -108,7 +108,7 @@ class Kinds(unittest.TestCase):
     def test_comma_lists_are_found_in_the_table(self):
         source = self.crate(TYPES + """
 impl Read for Thing {
-    ghost form = { rule rules.thing };
+    ghost form = { of (rule rules.thing) };
 }
 """)
         table = self.top / "Table.antt"

@@ -7,7 +7,7 @@ from .views import syntax_of
 
 RULE = re.compile(r"^--\n((?:-- [^\n]*\n)+)table (\w+) =\n((?:    [^\n]*\n)+)", re.M)
 LIST = "when ended then empty else rule ELEMENT & (when at_comma then sign comma & rule NAME else empty)"
-READ = re.compile(r"^impl Read for (\w+) \{\n    ghost form = \{ rule rules\.(\w+) \};", re.M)
+READ = re.compile(r"^impl Read for (\w+) \{\n    ghost form = \{ of \(rule rules\.(\w+)\) \};", re.M)
 FUNCTION = re.compile(r"^    pub\(crate\) fn (\w+)\(input: &mut ParseBuffer<'_>\) -> Reading<(\w+)>\n        ensures (?:\w+ )?\{ Parses IsSyntax \S+ rules\.(\w+) ", re.M)
 
 
@@ -54,12 +54,13 @@ def answers(source, name, element, kind):
 use Rattle.std.proofs.Common.{{rules}}
 use Rattle.syn_grammar.specs.Rules.{{{name}, {element}}}
 use Rattle.syn_grammar.specs.Grammar.{{rule}}
+use Rattle.syn_parse.specs.Form.{{of}}
 use Rattle.{module}.{{{syntax}}}
 use Rattle.syn_tree.proofs.CommaLists.{{{name}_list}}
 use Rattle.syn_tree.proofs.comma_lists.{name}.Goals as goal
 
 pub returns-clause-reads : goal.returns-clause-reads
-returns-clause-reads c = c.punctuated_list.ensures.reads {name} (rule {element}) {syntax} {name}_list (record {{ says = λ old new x h. search (rules, h) }})
+returns-clause-reads c = c.punctuated_list.ensures.reads {name} (of (rule {element})) {syntax} {name}_list (record {{ says = λ old new x h. search (rules, h) }})
 """
 
 
@@ -67,7 +68,7 @@ def lemmas(lists):
     rules = ", ".join(dict.fromkeys(rule for name, element, _ in lists for rule in (name, element)))
     steps = ", ".join(f"{name}_is" for name, _, _ in lists)
     body = "".join(f"""
-pub {name}_list : IsList {name} (rule {element}) ended (at_mark comma) (mark false comma)
+pub {name}_list : IsList {name} (of (rule {element})) (by ended) (by (at_mark comma)) (of (mark false comma))
 {name}_list = record {{ is = {name}_is }}
 """ for name, element, _ in lists)
     return f"""-- {WRITTEN}
@@ -78,6 +79,7 @@ use Rattle.syn_grammar.specs.Words.{{comma}}
 use Rattle.syn_grammar.specs.Rules.{{{rules}}}
 use Rattle.syn_grammar.specs.Grammar.{{rule, mark}}
 use Rattle.syn_grammar.proofs.Each.{{{steps}}}
+use Rattle.syn_parse.specs.Form.{{by, of}}
 use Rattle.syn_parse.specs.Listing.{{IsList}}
 {body}"""
 

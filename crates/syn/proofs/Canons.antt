@@ -3,10 +3,11 @@ use Rattle.std.proofs.Common.{◌≡◌, true, sym, subst, ap, ◌∙◌, inl, i
 use Rattle.std.specs.Prelude.{Bool, IsTrue, ◌↔◌, Result, Err}
 use Rattle.syn_grammar.specs.Tokens.{Stream, plain, visible}
 use Rattle.syn_grammar.specs.Rules.{Rule}
-use Rattle.syn_grammar.specs.Grammar.{Grammar, Syntax, rule, print, normal}
+use Rattle.syn_grammar.specs.Grammar.{Syntax, rule, print, normal}
 use Rattle.syn_grammar.specs.Laws.{Derives}
 use Rattle.syn_grammar.specs.Run.{held}
-use Rattle.syn_grammar.specs.Says.{HoldsWhole, UnreadWhole, Refused, WholeOutcome}
+use Rattle.syn_grammar.specs.Says.{HoldsWhole, Refused}
+use Rattle.syn_parse.specs.Form.{Form, of, DerivesWhole, UnreadWhole, WholeOutcome}
 use Rattle.syn_grammar.proofs.Proved.{print_is_read, print_is_visible, normal_prints, same_form}
 use Rattle.syn_grammar.proofs.Held.{print_held}
 use Rattle.syn.specs.Canonical.{IsCanonical, IsSameForm, CanonicalOutcome, SameFormOutcome}
@@ -52,25 +53,25 @@ same_form_of k a b p q s t x (u, d, h) (w, e, i) f g y =
     }
 
 -- the same for a type's own form, which is its rule
-pub canonical_by : (g : Grammar) (k : Rule) → g ≡ rule k → (ts p : Stream) (s : Syntax) → visible ts ≡ true → HoldsWhole g s ts → p ≡ print s → IsCanonical k ts p
-canonical_by g k e ts p s v h q = canonical_of k ts p s v (subst (λ z. HoldsWhole z s ts) e h) q
+pub canonical_by : (f : Form) (k : Rule) → f ≡ of (rule k) → (ts p : Stream) (s : Syntax) → visible ts ≡ true → DerivesWhole f s ts → p ≡ print s → IsCanonical k ts p
+canonical_by f k e ts p s v h q = canonical_of k ts p s v (subst (λ z. DerivesWhole z s ts) e h) q
 
-pub refused_by : (g : Grammar) (k : Rule) → g ≡ rule k → (ts : Stream) → UnreadWhole g ts → Refused k ts
-refused_by g k e ts h = subst (λ z. UnreadWhole z ts) e h
+pub refused_by : (f : Form) (k : Rule) → f ≡ of (rule k) → (ts : Stream) → UnreadWhole f ts → Refused k ts
+refused_by f k e ts h = subst (λ z. UnreadWhole z ts) e h
 
-pub same_form_by : (g : Grammar) (k : Rule) → g ≡ rule k → (a b p q : Stream) (s t : Syntax) (x : Bool) → HoldsWhole g s a → HoldsWhole g t b
+pub same_form_by : (f : Form) (k : Rule) → f ≡ of (rule k) → (a b p q : Stream) (s t : Syntax) (x : Bool) → DerivesWhole f s a → DerivesWhole f t b
     → p ≡ print s → q ≡ print t → IsTrue x ↔ (plain p ≡ plain q) → IsSameForm k a b x
-same_form_by g k e a b p q s t x h i = same_form_of k a b p q s t x (subst (λ z. HoldsWhole z s a) e h) (subst (λ z. HoldsWhole z t b) e i)
+same_form_by f k e a b p q s t x h i = same_form_of k a b p q s t x (subst (λ z. DerivesWhole z s a) e h) (subst (λ z. DerivesWhole z t b) e i)
 
 -- a refused parse is a refused canonical print
-pub canonical_refused : {E X : Type 0} (refusal : E → Type 0) (view : X → Syntax) (g : Grammar) (k : Rule) → g ≡ rule k → (ts : Stream) (e : E) (r : Result Stream E)
-    → r ≡ Err e → WholeOutcome refusal view g ts (Err e) → CanonicalOutcome refusal k ts r
-canonical_refused refusal view g k p ts e r q h = subst (CanonicalOutcome refusal k ts) (sym q) (λ v f. refused_by g k p ts (h v f))
+pub canonical_refused : {E X : Type 0} (refusal : E → Type 0) (view : X → Syntax) (f : Form) (k : Rule) → f ≡ of (rule k) → (ts : Stream) (e : E) (r : Result Stream E)
+    → r ≡ Err e → WholeOutcome refusal view f ts (Err e) → CanonicalOutcome refusal k ts r
+canonical_refused refusal view f k p ts e r q h = subst (CanonicalOutcome refusal k ts) (sym q) (λ v d. refused_by f k p ts (h v d))
 
-pub same_form_refused_left : {E X : Type 0} (refusal : E → Type 0) (view : X → Syntax) (g : Grammar) (k : Rule) → g ≡ rule k → (a b : Stream) (e : E) (r : Result Bool E)
-    → r ≡ Err e → WholeOutcome refusal view g a (Err e) → SameFormOutcome refusal k a b r
-same_form_refused_left refusal view g k p a b e r q h = subst (SameFormOutcome refusal k a b) (sym q) (λ v w f. inl (refused_by g k p a (h v f)))
+pub same_form_refused_left : {E X : Type 0} (refusal : E → Type 0) (view : X → Syntax) (f : Form) (k : Rule) → f ≡ of (rule k) → (a b : Stream) (e : E) (r : Result Bool E)
+    → r ≡ Err e → WholeOutcome refusal view f a (Err e) → SameFormOutcome refusal k a b r
+same_form_refused_left refusal view f k p a b e r q h = subst (SameFormOutcome refusal k a b) (sym q) (λ v w d. inl (refused_by f k p a (h v d)))
 
-pub same_form_refused_right : {E X : Type 0} (refusal : E → Type 0) (view : X → Syntax) (g : Grammar) (k : Rule) → g ≡ rule k → (a b : Stream) (e : E) (r : Result Bool E)
-    → r ≡ Err e → WholeOutcome refusal view g b (Err e) → SameFormOutcome refusal k a b r
-same_form_refused_right refusal view g k p a b e r q h = subst (SameFormOutcome refusal k a b) (sym q) (λ v w f. inr (refused_by g k p b (h w f)))
+pub same_form_refused_right : {E X : Type 0} (refusal : E → Type 0) (view : X → Syntax) (f : Form) (k : Rule) → f ≡ of (rule k) → (a b : Stream) (e : E) (r : Result Bool E)
+    → r ≡ Err e → WholeOutcome refusal view f b (Err e) → SameFormOutcome refusal k a b r
+same_form_refused_right refusal view f k p a b e r q h = subst (SameFormOutcome refusal k a b) (sym q) (λ v w d. inr (refused_by f k p b (h w d)))

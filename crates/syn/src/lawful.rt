@@ -3,6 +3,7 @@
 ghost use Rattle.std.specs.Prelude.{◌≡◌};
 ghost use Rattle.syn_grammar.specs.Grammar as grammar;
 ghost use Rattle.syn_grammar.specs.Rules.{Rule};
+ghost use Rattle.syn_parse.specs.Form.{of};
 
 use syn_parse::parse::Parse;
 use syn_print::ToTokens;
@@ -14,5 +15,5 @@ pub trait Canonical: Parse + ToTokens {
     ghost rule: { Rule };
 
     /// The rule is all that it reads.
-    ghost reads_rule: { Self.form ≡ grammar.rule rule };
+    ghost reads_rule: { Self.form ≡ of (grammar.rule rule) };
 }

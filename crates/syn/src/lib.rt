@@ -11,8 +11,20 @@ mod tests;
 pub use syn_parse::parse::parse2;
 pub use syn_print::{ToTokens, print};
 pub use syn_tokens::error::{Error, Fault, Result};
+pub use syn_tokens::ident::Ident;
+pub use syn_tokens::lifetime::Lifetime;
+pub use syn_tokens::literal::{LitKind, Literal};
+pub use syn_tokens::span::Span;
+pub use syn_tokens::syntactic::Syntactic;
 pub use syn_tokens::syntactic::try_clone::TryClone;
 pub use syn_tokens::{error, punctuated};
+pub use syn_tree::data::{Field, FieldModifiers, Fields, FieldsUnnamed};
+pub use syn_tree::derive::{Data, DataStruct, DeriveInput};
+pub use syn_tree::lower::{
+    Attribute, Expr, GenericParam, Generics, Path, PathArguments, PathSegment, QSelf, Type,
+    TypePath, WhereClause,
+};
+pub use syn_tree::restriction::{VisRestricted, Visibility};
 pub use syn_tree::{data, derive, lower, restriction};
 
 /// Buffers of tokens, and what is parsed from them.
@@ -20,7 +32,7 @@ pub mod parse {
     pub use syn_parse::buffer::ParseBuffer;
     pub use syn_parse::buffer::call::Answer;
     pub use syn_parse::lookahead::Lookahead1;
-    pub use syn_parse::parse::{Parse, parse2};
+    pub use syn_parse::parse::{Parse, Separator, parse2};
     pub use syn_parse::read::refusal::{Reading, Refusal};
     pub use syn_parse::read::{End, Peek, Read};
     pub use syn_tokens::error::{Error, Fault, Result};
@@ -67,6 +79,10 @@ pub mod token {
     pub use syn_tokens::token::Const;
     pub use syn_tokens::token::Continue;
     pub use syn_tokens::token::Crate;
+    pub use syn_tokens::token::CustomKeyword;
+    pub use syn_tokens::token::CustomKeywordKind;
+    pub use syn_tokens::token::CustomPunctuation;
+    pub use syn_tokens::token::CustomPunctuationKind;
     pub use syn_tokens::token::Default;
     pub use syn_tokens::token::Delimiters;
     pub use syn_tokens::token::Do;

@@ -1,12 +1,14 @@
 -- Which identifiers are names and words, of their texts.
 use Rattle.std.proofs.Common.{◌≡◌, Bool, true, false, List, [], ◌∷◌, ◌++◌, map, Some, None, refl, sym, ap, ◌∙◌, true≢false}
 use Rattle.syn_grammar.specs.Words.{Text, keywords, contextual}
-use Rattle.syn_grammar.specs.Tokens.{Span, LitKind, Str, ByteStr, CStr, Byte, Char, Int, Float, ident, literal, Stream, leaf, and, or, no, pick, same_text, one_of_texts, Name, Word, mem}
+use Rattle.syn_grammar.specs.Tokens.{Span, LitKind, Str, ByteStr, CStr, Byte, Char, Int, Float, ident, literal, Stream, end, leaf, punct, group, and, or, no, pick, same_text, one_of_texts, Name, Word, mem}
 use Rattle.syn_grammar.specs.Grammar.{name, identifier, word, name_or, any_literal, fits, Syntax, Token}
 use Rattle.syn_grammar.specs.Take.{Out, only, take_token}
 use Rattle.syn_grammar.proofs.Sets.{same_text_eq}
 use Rattle.syn_tokens.specs.Idents.{is_keyword}
 use Rattle.syn_tokens.specs.Leaves.{is_known_word}
+use Rattle.syn_parse.specs.Form.{take_keyword}
+use Rattle.syn_parse.specs.Fronts.{NoIdent}
 
 or_assoc : (a b c : Bool) → or (or a b) c ≡ or a (or b c)
 or_assoc true b c = refl
@@ -125,3 +127,20 @@ fits_literal Float x = refl
 pub take_literal : (k : LitKind) (x : Text) (sp : Span) (r : Stream) → take_token any_literal (leaf (literal k x) sp r) ≡ Some (Token (literal k x) sp, r)
 unfolding take_token
 take_literal k x sp r = ap (λ b. taken_if b (Token (literal k x) sp) r) (fits_literal k x)
+
+-- KEYWORDS OF OWN SYNTAXES
+pub take_the_keyword : (w x : Text) (sp : Span) (r : Stream) → same_text x w ≡ true → take_keyword w (leaf (ident x) sp r) ≡ Some (Token (ident w) sp, r)
+unfolding take_keyword
+take_the_keyword w x sp r e = ap (λ b. taken_if b (Token (ident x) sp) r) e ∙ ap (λ z. Some (Token (ident z) sp, r)) (same_text_eq x w e)
+
+pub take_no_keyword : (w x : Text) (sp : Span) (r : Stream) → same_text x w ≡ false → take_keyword w (leaf (ident x) sp r) ≡ None
+unfolding take_keyword
+take_no_keyword w x sp r e = ap (λ b. taken_if b (Token (ident x) sp) r) e
+
+pub no_keyword : (w : Text) (ts : Stream) → NoIdent ts → take_keyword w ts ≡ None
+unfolding take_keyword
+no_keyword w end n = refl
+no_keyword w (leaf (ident x) sp r) n = absurd (cc (sym (take_identifier x sp r) ∙ n identifier refl))
+no_keyword w (leaf (literal k x) sp r) n = refl
+no_keyword w (punct c j sp m) n = refl
+no_keyword w (group d o c i m) n = refl

@@ -1,9 +1,12 @@
 pub mod Calls
+pub mod Form
 pub mod Fronts
 pub mod Listing
 pub mod Looked
+pub mod Meanings
 pub mod Nexts
 pub mod Opened
 pub mod Peeks
 pub mod Refusals
 pub mod Terminated
+pub mod TerminatedLists

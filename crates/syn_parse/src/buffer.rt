@@ -3,7 +3,7 @@ ghost use Rattle.std.specs.Prelude.{◌≡◌, ◌<◌, IfOk, IfErr, OnErr, Matc
 ghost use Rattle.syn_grammar.specs.Tokens as grammar;
 ghost use Rattle.syn_grammar.specs.Tokens.{ended};
 ghost use Rattle.syn_grammar.specs.Take.{left, sees, take_group};
-ghost use Rattle.syn_grammar.specs.Run.{parse};
+ghost use Rattle.syn_parse.specs.Form.{meets, parse};
 ghost use Rattle.syn_grammar.specs.Says.{Says, Takes, Finished};
 ghost use Rattle.syn_parse.specs.Refusals.{IsSyntax};
 ghost use Rattle.syn_parse.specs.Nexts.{StandsNext, RefusedNext};
@@ -27,6 +27,7 @@ use syn_tokens::token::{DelimiterKind, Delimiters};
 
 pub mod call;
 mod captures;
+mod custom;
 mod faces;
 mod front;
 mod leaves;
@@ -163,21 +164,21 @@ impl<'a> ParseBuffer<'a> {
 
     /// Whether a `T` stands next.
     pub fn peek<T: Peek>(&self) -> bool
-        ensures { result ≡ sees T.look self.now }
+        ensures { result ≡ meets T.look self.now }
     {
         T::peek(self)
     }
 
     /// Whether a `T` stands past the next tree, where a lifetime counts as one.
     pub fn peek2<T: Peek>(&self) -> bool
-        ensures { result ≡ sees T.look (past self.now) }
+        ensures { result ≡ meets T.look (past self.now) }
     {
         T::peek(&self.past())
     }
 
     /// Whether a `T` stands past the next two trees, where a lifetime counts as one.
     pub fn peek3<T: Peek>(&self) -> bool
-        ensures { result ≡ sees T.look (past (past self.now)) }
+        ensures { result ≡ meets T.look (past (past self.now)) }
     {
         T::peek(&self.past().past())
     }

@@ -2,6 +2,7 @@
 #![tactic(auto)]
 
 pub mod buffer;
+pub mod laws;
 pub mod lookahead;
 pub mod parse;
 pub mod read;

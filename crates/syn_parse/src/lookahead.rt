@@ -1,6 +1,6 @@
 //! What was looked for at one place of a buffer.
 ghost use Rattle.std.specs.Prelude.{◌≡◌, [], ◌∷◌, ◌++◌, ◌≤◌, length, take};
-ghost use Rattle.syn_grammar.specs.Take.{sees};
+ghost use Rattle.syn_parse.specs.Form.{meets};
 ghost use Rattle.syn_parse.specs.Looked.{HasFaultsNext, MissedBy, texts, told, unexpected};
 
 use crate::buffer::ParseBuffer;
@@ -51,7 +51,7 @@ impl<'a> Lookahead1<'a> {
     /// Whether a `T` stands next. Where it doesn't, its name is kept for the error, if there are fewer than four. It
     /// takes no memory.
     pub fn peek<T: Peek>(&mut self) -> bool
-        ensures seen { result ≡ sees T.look self.old.stream }
+        ensures seen { result ≡ meets T.look self.old.stream }
         ensures place { self.new.stream ≡ self.old.stream }
         ensures missed { MissedBy result T.fault self.old.missed self.new.missed }
     {

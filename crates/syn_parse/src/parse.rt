@@ -1,8 +1,7 @@
 //! What callers parse.
 ghost use Rattle.std.specs.Prelude.{◌≡◌, OnErr};
-ghost use Rattle.syn_grammar.specs.Grammar.{Grammar};
-ghost use Rattle.syn_grammar.specs.Run.{parse};
-ghost use Rattle.syn_grammar.specs.Says.{Says, Kept, Meaning, Outcome, WholeOutcome};
+ghost use Rattle.syn_grammar.specs.Says.{Says, Kept};
+ghost use Rattle.syn_parse.specs.Form.{Form, parse, Meaning, Outcome, WholeOutcome};
 ghost use Rattle.syn_tokens.specs.Faults.{IsSyntaxError};
 
 use crate::buffer::ParseBuffer;
@@ -13,10 +12,12 @@ use syn_tokens::syntactic::Syntactic;
 
 mod terminated;
 
+pub use terminated::Separator;
+
 /// What can be parsed from the front of a buffer.
 pub trait Parse: Syntactic {
-    /// How the grammar writes it.
-    ghost form: { Grammar };
+    /// What it is read by: a form of the grammar, or one made of forms.
+    ghost form: { Form };
 
     /// Parses it from the front of the buffer. Where the tokens are no such thing, or memory is refused, the buffer
     /// stands where it stood.

@@ -1,18 +1,17 @@
 //! What can be looked for, and what rules read.
 ghost use Rattle.std.specs.Prelude.{◌≡◌, ℕ, codes};
 ghost use Rattle.syn_grammar.specs.Words.{Text};
-ghost use Rattle.syn_grammar.specs.Tokens.{Look, ended};
-ghost use Rattle.syn_grammar.specs.Grammar.{Grammar, empty, when◌then◌else◌};
-ghost use Rattle.syn_grammar.specs.Take.{sees};
-ghost use Rattle.syn_grammar.specs.Run.{parse};
-ghost use Rattle.syn_grammar.specs.Says.{Says, Takes, Meaning};
-ghost use Rattle.syn_grammar.proofs.Outcomes.{meaning_of_optional};
+ghost use Rattle.syn_grammar.specs.Tokens.{ended};
+ghost use Rattle.syn_grammar.specs.Says.{Says, Takes};
+ghost use Rattle.syn_parse.specs.Form.{Condition, by, meets, Form, optional, parse, Meaning};
+ghost use Rattle.syn_parse.specs.Meanings.{meaning_of_optional};
 ghost use Rattle.syn_parse.specs.Refusals.{IsSyntax};
 
 use crate::buffer::ParseBuffer;
 use crate::read::refusal::Reading;
 use syn_tokens::syntactic::Syntactic;
 
+mod custom;
 mod leaf;
 pub mod lists;
 pub mod refusal;
@@ -22,15 +21,15 @@ pub use token::ReadMark;
 
 /// What can be looked for at the front of a buffer.
 pub trait Peek {
-    /// The condition of the grammar that asks for it.
-    ghost look: { Look };
+    /// The condition on what stands next that asks for it: a look of the grammar, or one that the grammar doesn't know.
+    ghost look: { Condition };
 
     /// What a fault says where it was expected.
     ghost fault: { Text };
 
     /// Whether it stands next.
     fn peek(input: &ParseBuffer<'_>) -> bool
-        ensures { result ≡ sees look input.now };
+        ensures { result ≡ meets look input.now };
 
     /// The text of that fault.
     fn expected() -> &'static str
@@ -39,8 +38,8 @@ pub trait Peek {
 
 /// What the parsers of rules read.
 pub trait Read: Syntactic {
-    /// How the grammar writes it.
-    ghost form: { Grammar };
+    /// What it is read by: a form of the grammar, or one made of forms.
+    ghost form: { Form };
 
     /// How many tokens are read at least.
     ghost takes: { ℕ } = { 1 };
@@ -56,7 +55,7 @@ pub trait Read: Syntactic {
 
 /// `None` where it does not stand next.
 impl<T: Peek + Read> Read for Option<T> {
-    ghost form = { when T.look then T.form else empty };
+    ghost form = { optional T.look T.form };
 
     ghost takes = { 0 };
 
@@ -88,7 +87,7 @@ impl<T: Read + Drop> Read for Box<T> {
 pub struct End;
 
 impl Peek for End {
-    ghost look = { ended };
+    ghost look = { by ended };
 
     ghost fault = { codes "unexpected end of input" };
 

@@ -1,5 +1,5 @@
 -- The characters of marks.
-use Rattle.std.specs.Prelude.{◌≡◌, ℕ, Bool, true, false, List, codes, nat_eq, ◌==◌}
+use Rattle.std.specs.Prelude.{◌≡◌, ℕ, Bool, true, false, List, [], ◌∷◌, codes, nat_eq, ◌==◌}
 use Rattle.std.specs.Cmp.{IsEquivalence, IsPartialEquivalence, partial_equiv_from_equiv}
 use Rattle.std.proofs.Common.{refl, sym, subst, true≢false}
 use Rattle.std.proofs.lemmas.Bool.{eqb-true, eq-eqb}
@@ -30,6 +30,11 @@ punct_characters = codes "~!@#$%^&*-=+|;:,<.>/?'"
 
 unfoldable pub is_punct_character : ℕ → Bool
 is_punct_character c = list_any (λ d. d == c) punct_characters
+
+-- each of these
+abbrev pub all_punct : List ℕ → Bool
+all_punct [] = true
+all_punct (c ∷ l) = and (is_punct_character c) (all_punct l)
 
 -- the same character, and the next one belongs to the same mark or not
 abbrev pub same_punct : PunctValue → PunctValue → Bool

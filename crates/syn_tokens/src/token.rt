@@ -1,12 +1,14 @@
 //! Words, marks and the signs of groups, each with a type.
 
 mod characters;
+mod custom;
 mod delimiters;
 pub mod kind;
 mod mark;
 mod word;
 
 pub use characters::{OneCharacter, ThreeCharacters, TwoCharacters};
+pub use custom::{CustomKeyword, CustomKeywordKind, CustomPunctuation, CustomPunctuationKind};
 pub use delimiters::{DelimiterKind, Delimiters};
 pub use mark::{Mark, MarkKind};
 pub use word::{Word, WordKind};

@@ -6,7 +6,8 @@ use Rattle.syn_grammar.specs.Words.{comma}
 use Rattle.syn_grammar.specs.Rules.{unnamed_fields, unnamed_field}
 use Rattle.syn_grammar.specs.Grammar.{rule, mark}
 use Rattle.syn_grammar.proofs.Each.{unnamed_fields_is}
+use Rattle.syn_parse.specs.Form.{by, of}
 use Rattle.syn_parse.specs.Listing.{IsList}
 
-pub unnamed_fields_list : IsList unnamed_fields (rule unnamed_field) ended (at_mark comma) (mark false comma)
+pub unnamed_fields_list : IsList unnamed_fields (of (rule unnamed_field)) (by ended) (by (at_mark comma)) (of (mark false comma))
 unnamed_fields_list = record { is = unnamed_fields_is }

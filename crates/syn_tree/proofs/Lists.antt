@@ -6,8 +6,9 @@ use Rattle.syn_grammar.specs.Rules.{module_words}
 use Rattle.syn_grammar.specs.Grammar.{token, mark, name_or}
 use Rattle.std.proofs.Common.{false}
 use Rattle.syn_grammar.proofs.Each.{module_words_is}
+use Rattle.syn_parse.specs.Form.{by, of}
 use Rattle.syn_parse.specs.Fronts.{path_words}
 use Rattle.syn_parse.specs.Listing.{IsJoined}
 
-pub module_words_joined : IsJoined module_words (token [] (name_or path_words)) (at_mark colons) (mark false colons)
+pub module_words_joined : IsJoined module_words (of (token [] (name_or path_words))) (by (at_mark colons)) (of (mark false colons))
 module_words_joined = record { is = module_words_is }

@@ -4,7 +4,8 @@ pub use Rattle.syn_grammar.specs.Grammar.{rule, inside, name_or}
 pub use Rattle.syn_grammar.specs.Run.{reads, parse}
 pub use Rattle.syn_grammar.specs.Says.{Says, Parses, MayParse, Moved, Kept, Outcome, itself}
 pub use Rattle.syn_grammar.specs.Take.{take_token, sees}
-pub use Rattle.syn_grammar.proofs.Outcomes.{meaning_of_rule}
+pub use Rattle.syn_parse.specs.Form.{of}
+pub use Rattle.syn_parse.specs.Meanings.{meaning_of_rule}
 pub use Rattle.syn_parse.specs.Fronts.{path_words}
 pub use Rattle.syn_tokens.specs.Listing.{list_of, joined_of}
 pub use Rattle.syn_parse.specs.Refusals.{IsSyntax}

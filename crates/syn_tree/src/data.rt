@@ -1,6 +1,6 @@
 //! Fields.
 ghost use Rattle.syn_grammar.specs.Rules as rules;
-ghost use Rattle.syn_tree.specs.Parsing.{◌≡◌, OnErr, rule, meaning_of_rule, reads, Says, Parses, Moved, Outcome, itself, IsSyntax, IsSyntaxError};
+ghost use Rattle.syn_tree.specs.Parsing.{◌≡◌, OnErr, of, rule, meaning_of_rule, reads, Says, Parses, Moved, Outcome, itself, IsSyntax, IsSyntaxError};
 ghost use Rattle.syn_parse.specs.Nexts.{RefusedNext, HasFaultNext};
 ghost use Rattle.syn_tree.specs.Defaults.{RefusesDefault};
 
@@ -93,7 +93,7 @@ impl Field {
 
 /// Fields in parentheses.
 impl Read for FieldsUnnamed {
-    ghost form = { rule rules.fields_unnamed };
+    ghost form = { of (rule rules.fields_unnamed) };
 
     ghost meaning = { meaning_of_rule rules.fields_unnamed };
 

@@ -1,6 +1,6 @@
 //! What a derive macro is given.
 ghost use Rattle.syn_grammar.specs.Rules as rules;
-ghost use Rattle.syn_tree.specs.Parsing.{rule, meaning_of_rule, reads, Says, Moved, IsSyntax};
+ghost use Rattle.syn_tree.specs.Parsing.{of, rule, meaning_of_rule, reads, Says, Moved, IsSyntax};
 ghost use Rattle.syn_tree.specs.Derive.{structure_syntax, body_syntax};
 
 use crate::data::Fields;
@@ -38,7 +38,7 @@ pub struct DataStruct {
 
 /// A struct.
 impl Read for DeriveInput {
-    ghost form = { rule rules.derive_input };
+    ghost form = { of (rule rules.derive_input) };
 
     ghost meaning = { meaning_of_rule rules.derive_input };
 

@@ -1,7 +1,7 @@
 //! Visibilities.
 ghost use Rattle.syn_grammar.specs.Rules as rules;
 ghost use Rattle.syn_grammar.specs.Tokens as grammar;
-ghost use Rattle.syn_tree.specs.Parsing.{rule, inside, meaning_of_rule, reads, parse, Says, Moved, IsSyntax};
+ghost use Rattle.syn_tree.specs.Parsing.{of, rule, inside, meaning_of_rule, reads, parse, Says, Moved, IsSyntax};
 ghost use Rattle.syn_tree.specs.Parts.{group_syntax};
 ghost use Rattle.syn_tree.specs.Restriction.{restriction_syntax};
 
@@ -35,7 +35,7 @@ pub struct VisRestricted {
 
 /// `pub`, `pub` and a restriction, or nothing.
 impl Read for Visibility {
-    ghost form = { rule rules.visibility };
+    ghost form = { of (rule rules.visibility) };
 
     ghost takes = { 0 };
 

@@ -2,8 +2,9 @@
 ghost use Rattle.std.specs.Prelude.{◌≡◌, ◌<◌, IfOk, IfErr, OnErr, codes};
 ghost use Rattle.syn_grammar.specs.Tokens as grammar;
 ghost use Rattle.syn_grammar.specs.Take.{left, take_group};
-ghost use Rattle.syn_grammar.specs.Run as run;
-ghost use Rattle.syn_grammar.specs.Says.{Says, Takes, Kept, Outcome, Finished};
+ghost use Rattle.syn_parse.specs.Form as forms;
+ghost use Rattle.syn_parse.specs.Form.{Outcome};
+ghost use Rattle.syn_grammar.specs.Says.{Says, Takes, Kept, Finished};
 ghost use Rattle.syn_tokens.specs.Faults.{IsSyntaxError};
 ghost use Rattle.syn_parse.specs.Nexts.{HasFaultNext};
 ghost use Rattle.syn_parse.specs.Opened.{SaysOpened};
@@ -18,7 +19,7 @@ impl<'a> ParseBuffer<'a> {
     /// memory is refused; the buffer then stands where it stood.
     pub fn parse<T: Parse>(&mut self) -> Result<T>
         ensures outcome { Outcome IsSyntaxError T.syntax T.form self.old result self.new }
-        ensures reads { Says IsSyntaxError T.syntax (run.parse T.form self.old) result self.new }
+        ensures reads { Says IsSyntaxError T.syntax (forms.parse T.form self.old) result self.new }
         ensures unchanged { OnErr result (self.new ≡ self.old) }
         ensures kept { Kept self.old result self.new }
     {

@@ -1,19 +1,25 @@
 //! Lists with separators, up to the end of a buffer.
 ghost use Rattle.std.specs.Prelude.{◌≡◌, IsTrue, OnOk, OnErr};
 ghost use Rattle.syn_grammar.specs.Take.{is_end};
-ghost use Rattle.syn_grammar.specs.Run.{parse};
-ghost use Rattle.syn_grammar.specs.Says.{Says};
+ghost use Rattle.syn_grammar.specs.Says.{Says, Kept};
 ghost use Rattle.syn_grammar.proofs.Takes.{token_less, sign_less};
 ghost use Rattle.syn_tokens.specs.Faults.{IsSyntaxError};
+ghost use Rattle.syn_parse.specs.Refusals.{IsSyntax};
 ghost use Rattle.syn_tokens.specs.Listing.{list_of};
-ghost use Rattle.syn_parse.specs.Terminated.{terminated, ReadsSome, ListOutcome};
+ghost use Rattle.syn_parse.specs.Terminated.{terminated};
+ghost use Rattle.syn_parse.specs.Meanings.{keyword_less};
+ghost use Rattle.syn_parse.specs.Form.{parse, ReadsSome, ListOutcome};
 
 use crate::buffer::ParseBuffer;
 use crate::parse::Parse;
+use crate::read::refusal::Reading;
 use crate::read::{Read, ReadMark};
 use syn_tokens::error::Result;
 use syn_tokens::punctuated::Punctuated;
-use syn_tokens::token::{Mark, Word, WordKind};
+use syn_tokens::token::{
+    CustomKeyword, CustomKeywordKind, CustomPunctuation, CustomPunctuationKind, Mark, Word,
+    WordKind,
+};
 
 /// What may stand between the elements of a list: a word or a mark.
 pub trait Separator: Read {
@@ -26,6 +32,18 @@ impl<K: WordKind> Separator for Word<K> {
 }
 
 impl<K: ReadMark<N>, const N: usize> Separator for Mark<K, N> {
+    ghost reads_some = { sign_less _ };
+}
+
+impl<K: CustomKeywordKind> Separator for CustomKeyword<K> {
+    ghost reads_some = { keyword_less _ };
+}
+
+impl<K: CustomPunctuationKind<2>> Separator for CustomPunctuation<K, 2> {
+    ghost reads_some = { sign_less _ };
+}
+
+impl<K: CustomPunctuationKind<3>> Separator for CustomPunctuation<K, 3> {
     ghost reads_some = { sign_less _ };
 }
 
@@ -67,4 +85,27 @@ fn read_to_end<T: Parse + Drop, P: Separator + Drop>(
         list.push_pair(value, separator)?;
     }
     Ok(list)
+}
+
+impl<'a> ParseBuffer<'a> {
+    /// The same as `parse_terminated`, as a part of what a rule reads: where it is refused nothing is said of what is left.
+    #[tactic(auto, using(syn_grammar::proofs::Looks::sees_ended))]
+    pub fn read_terminated<T: Read + Drop, P: Separator + Drop>(
+        &mut self,
+    ) -> Reading<Punctuated<T, P>>
+        ensures reads { Says IsSyntax (λ l. list_of T.syntax P.syntax l.pairs l.last) (terminated (parse T.form) (parse P.form) self.old) result self.new }
+        ensures moved { Kept self.old result self.new }
+    {
+        let mut list = Punctuated::new(self.alloc());
+        'elements: while !self.is_empty() {
+            let value = self.read()?;
+            if self.is_empty() {
+                list.push_value(value)?;
+                return Ok(list);
+            }
+            let separator = self.read()?;
+            list.push_pair(value, separator)?;
+        }
+        Ok(list)
+    }
 }

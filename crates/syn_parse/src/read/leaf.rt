@@ -3,7 +3,8 @@ ghost use Rattle.std.specs.Prelude.{[], codes, refl};
 ghost use Rattle.syn_grammar.specs.Words.{apostrophe};
 ghost use Rattle.syn_grammar.specs.Tokens.{at_mark, at_name};
 ghost use Rattle.syn_grammar.specs.Grammar.{any_literal, lifetime, name, token};
-ghost use Rattle.syn_grammar.proofs.Outcomes.{meaning_of};
+ghost use Rattle.syn_parse.specs.Form.{by, of};
+ghost use Rattle.syn_parse.specs.Meanings.{meaning_of};
 ghost use Rattle.syn_parse.specs.Fronts.{at_any_literal};
 
 use crate::buffer::ParseBuffer;
@@ -15,7 +16,7 @@ use syn_tokens::literal::Literal;
 
 /// An identifier that is no keyword.
 impl Peek for Ident {
-    ghost look = { at_name };
+    ghost look = { by at_name };
 
     ghost fault = { codes "expected identifier" };
 
@@ -29,28 +30,28 @@ impl Peek for Ident {
 }
 
 impl Read for Ident {
-    ghost form = { token [] name };
+    ghost form = { of (token [] name) };
 
     fn read(input: &mut ParseBuffer<'_>) -> Reading<Ident> {
         input.read_name()
     }
 
-    ghost meaning = { meaning_of (token [] name) refl };
+    ghost meaning = { meaning_of _ refl };
 }
 
 /// A literal of any kind.
 impl Read for Literal {
-    ghost form = { token [] any_literal };
+    ghost form = { of (token [] any_literal) };
 
     fn read(input: &mut ParseBuffer<'_>) -> Reading<Literal> {
         input.read_literal()
     }
 
-    ghost meaning = { meaning_of (token [] any_literal) refl };
+    ghost meaning = { meaning_of _ refl };
 }
 
 impl Peek for Literal {
-    ghost look = { at_any_literal };
+    ghost look = { by at_any_literal };
 
     ghost fault = { codes "expected literal" };
 
@@ -65,7 +66,7 @@ impl Peek for Literal {
 
 /// A lifetime is looked for by its `'`.
 impl Peek for Lifetime {
-    ghost look = { at_mark apostrophe };
+    ghost look = { by (at_mark apostrophe) };
 
     ghost fault = { codes "expected lifetime" };
 
@@ -80,12 +81,12 @@ impl Peek for Lifetime {
 
 /// `'` directly before an identifier of any text.
 impl Read for Lifetime {
-    ghost form = { lifetime };
+    ghost form = { of lifetime };
 
     fn read(input: &mut ParseBuffer<'_>) -> Reading<Lifetime> {
         let (apostrophe, ident) = input.read_lifetime()?;
         Ok(Lifetime { apostrophe, ident })
     }
 
-    ghost meaning = { meaning_of lifetime refl };
+    ghost meaning = { meaning_of _ refl };
 }

@@ -1,10 +1,11 @@
 //! Lists with separators between their elements, as rules of the grammar read them.
 ghost use Rattle.std.specs.Prelude.{◌≡◌};
 ghost use Rattle.syn_grammar.specs.Rules.{Rule};
-ghost use Rattle.syn_grammar.specs.Grammar.{Grammar, Syntax};
+ghost use Rattle.syn_grammar.specs.Grammar.{Syntax};
 ghost use Rattle.syn_grammar.specs.Take.{left};
 ghost use Rattle.syn_grammar.specs.Run.{reads};
 ghost use Rattle.syn_grammar.specs.Says.{Says, Moved, Kept};
+ghost use Rattle.syn_parse.specs.Form.{Form};
 ghost use Rattle.syn_parse.specs.Refusals.{IsSyntax};
 ghost use Rattle.syn_tokens.specs.Listing.{list_of, joined_of};
 ghost use Rattle.syn_parse.specs.Listing.{Callable, Answers, IsList, IsJoined};
@@ -25,7 +26,7 @@ pub fn punctuated_list<
 where
     R::Node: Drop,
     requires { Callable (left input.old) R.answers (F.pre element) (F.post element) }
-    ensures reads { (k : Rule) (e : Grammar) (v : R.Node → Syntax) → IsList k e S.look P.look P.form → Answers IsSyntax e v R.answers (F.post element)
+    ensures reads { (k : Rule) (e : Form) (v : R.Node → Syntax) → IsList k e S.look P.look P.form → Answers IsSyntax e v R.answers (F.post element)
         → Says IsSyntax (λ l. list_of v P.syntax l.pairs l.last) (reads k input.old) result input.new }
     ensures moved { Kept input.old result input.new }
 {
@@ -50,7 +51,7 @@ pub fn joined_list<P: Peek + Read + Drop, R: Answer<Refusal>, F: Fn(&mut ParseBu
 where
     R::Node: Drop,
     requires { Callable (left input.old) R.answers (F.pre element) (F.post element) }
-    ensures reads { (k : Rule) (e : Grammar) (v : R.Node → Syntax) → IsJoined k e P.look P.form → Answers IsSyntax e v R.answers (F.post element)
+    ensures reads { (k : Rule) (e : Form) (v : R.Node → Syntax) → IsJoined k e P.look P.form → Answers IsSyntax e v R.answers (F.post element)
         → Says IsSyntax (λ l. joined_of v P.syntax l.pairs l.last) (reads k input.old) result input.new }
     ensures moved { Moved input.old result input.new }
 {

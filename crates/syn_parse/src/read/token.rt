@@ -4,7 +4,8 @@ ghost use Rattle.syn_grammar.specs.Tokens.{at_group, at_mark, at_word};
 ghost use Rattle.syn_grammar.specs.Grammar.{mark, token, word};
 ghost use Rattle.syn_grammar.specs.Take.{take_mark, sees};
 ghost use Rattle.syn_grammar.specs.Says.{Says, Takes};
-ghost use Rattle.syn_grammar.proofs.Outcomes.{meaning_of};
+ghost use Rattle.syn_parse.specs.Form.{by, of, punctuation};
+ghost use Rattle.syn_parse.specs.Meanings.{meaning_of};
 ghost use Rattle.syn_tokens.specs.Faults.{expected};
 ghost use Rattle.syn_tokens.specs.Leaves.{syntax_of_mark};
 ghost use Rattle.syn_parse.specs.Refusals.{IsSyntax};
@@ -19,7 +20,7 @@ use syn_tokens::token::{
 };
 
 impl<K: WordKind> Peek for Word<K> {
-    ghost look = { at_word K.text };
+    ghost look = { by (at_word K.text) };
 
     ghost fault = { expected K.text };
 
@@ -33,14 +34,14 @@ impl<K: WordKind> Peek for Word<K> {
 }
 
 impl<K: WordKind> Read for Word<K> {
-    ghost form = { token [] (word K.text) };
+    ghost form = { of (token [] (word K.text)) };
 
     fn read(input: &mut ParseBuffer<'_>) -> Reading<Word<K>> {
         let span = input.read_word(K::text(), K::expected())?;
         Ok(Word::new(span))
     }
 
-    ghost meaning = { meaning_of (token [] (word K.text)) refl };
+    ghost meaning = { meaning_of _ refl };
 }
 
 /// How a mark of `N` characters is read.
@@ -90,7 +91,7 @@ impl<K: ThreeCharacters> ReadMark<3> for K {
 }
 
 impl<K: ReadMark<N>, const N: usize> Peek for Mark<K, N> {
-    ghost look = { at_mark K.text };
+    ghost look = { by (at_mark K.text) };
 
     ghost fault = { expected K.text };
 
@@ -104,7 +105,7 @@ impl<K: ReadMark<N>, const N: usize> Peek for Mark<K, N> {
 }
 
 impl<K: ReadMark<N>, const N: usize> Read for Mark<K, N> {
-    ghost form = { mark false K.text };
+    ghost form = { of (mark false K.text) };
 
     fn read(input: &mut ParseBuffer<'_>) -> Reading<Mark<K, N>> {
         match K::read(input) {
@@ -113,11 +114,11 @@ impl<K: ReadMark<N>, const N: usize> Read for Mark<K, N> {
         }
     }
 
-    ghost meaning = { meaning_of (mark false K.text) refl };
+    ghost meaning = { meaning_of _ refl };
 }
 
 impl<K: DelimiterKind> Peek for Delimiters<K> {
-    ghost look = { at_group K.delimiter };
+    ghost look = { by (at_group K.delimiter) };
 
     ghost fault = { K.fault };
 

@@ -1,6 +1,6 @@
 //! Paths.
 ghost use Rattle.syn_grammar.specs.Rules as rules;
-ghost use Rattle.syn_tree.specs.Parsing.{rule, name_or, meaning_of_rule, reads, take_token, path_words, Says, Moved, itself, IsSyntax, joined_of};
+ghost use Rattle.syn_tree.specs.Parsing.{of, rule, name_or, meaning_of_rule, reads, take_token, path_words, Says, Moved, itself, IsSyntax, joined_of};
 ghost use Rattle.syn_tokens.specs.Kinds.{path_sep_syntax};
 
 use syn_parse::buffer::ParseBuffer;
@@ -33,7 +33,7 @@ pub enum PathArguments {
 
 /// `[::]` and words joined by `::`, each an identifier, `self`, `Self`, `super` or `crate`.
 impl Read for Path {
-    ghost form = { rule rules.module_path };
+    ghost form = { of (rule rules.module_path) };
 
     ghost meaning = { meaning_of_rule rules.module_path };
 

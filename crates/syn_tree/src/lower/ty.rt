@@ -1,6 +1,6 @@
 //! Types.
 ghost use Rattle.syn_grammar.specs.Rules as rules;
-ghost use Rattle.syn_tree.specs.Parsing.{rule, meaning_of_rule};
+ghost use Rattle.syn_tree.specs.Parsing.{of, rule, meaning_of_rule};
 
 use crate::lower::Path;
 use syn_parse::buffer::ParseBuffer;
@@ -25,7 +25,7 @@ pub struct TypePath {
 pub enum QSelf {}
 
 impl Read for TypePath {
-    ghost form = { rule rules.type_path };
+    ghost form = { of (rule rules.type_path) };
 
     ghost meaning = { meaning_of_rule rules.type_path };
 
@@ -39,7 +39,7 @@ impl Read for TypePath {
 }
 
 impl Read for Type {
-    ghost form = { rule rules.type };
+    ghost form = { of (rule rules.type) };
 
     ghost meaning = { meaning_of_rule rules.type };
 

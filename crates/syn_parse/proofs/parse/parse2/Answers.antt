@@ -1,7 +1,6 @@
 use Rattle.std.proofs.Common.{◌≡◌, Some, None, rules}
-use Rattle.syn_grammar.specs.Run.{parse}
-use Rattle.syn_grammar.proofs.Outcomes.{whole_refused, whole_left}
-use Rattle.syn_parse.proofs.Wholes.{whole_err}
+use Rattle.syn_parse.specs.Form.{parse}
+use Rattle.syn_parse.proofs.Wholes.{whole_err, whole_refused, whole_left}
 use Rattle.syn_parse.proofs.parse.parse2.Goals as goal
 
 pub returns-in_err-value : goal.returns-in_err-value

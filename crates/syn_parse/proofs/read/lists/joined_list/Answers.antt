@@ -1,6 +1,7 @@
 use Rattle.std.proofs.Common.{◌≡◌, ◌<◌, ◌+◌, ◌≤◌, true, Some, ◌∙◌, ap, rules, arith}
-use Rattle.syn_grammar.specs.Take.{left, sees}
-use Rattle.syn_grammar.specs.Run.{reads, wrap, parse}
+use Rattle.syn_grammar.specs.Take.{left}
+use Rattle.syn_grammar.specs.Run.{reads, wrap}
+use Rattle.syn_parse.specs.Form.{meets, parse}
 use Rattle.syn_tokens.specs.Listing.{onto, untagged}
 use Rattle.syn_parse.proofs.Listing.{joined_more, onto_grows}
 use Rattle.syn_parse.proofs.read.lists.joined_list.Goals as goal
@@ -18,7 +19,7 @@ elements-preserved g c =
       λ k e v is d.
           let l = c.elements.invariant.2 k e v is d in
           let got : parse e c.elements.input ≡ Some (v c.in_ok-value.value, c.element.new.arg2) = search rules in
-          let more : sees next c.element.new.arg2 ≡ true = search rules in
+          let more : meets next c.element.new.arg2 ≡ true = search rules in
           let sign : parse sep c.element.new.arg2 ≡ Some (w c.in_ok-separator.separator, c.read.new.self) = search rules in
           rw pushed (l ∙ ap (wrap (onto untagged v w c.elements.list.pairs)) (joined_more v w k e next sep is c.elements.input c.in_ok-value.value c.in_ok-separator.separator c.element.new.arg2 c.read.new.self got more sign)
           ∙ onto_grows untagged v w c.elements.list.pairs (c.in_ok-value.value, c.in_ok-separator.separator) (reads k c.read.new.self)),

@@ -1,0 +1,18 @@
+use Rattle.std.proofs.Common.{◌≡◌, ◌≤◌, None}
+use Rattle.syn_grammar.specs.Grammar.{Right}
+use Rattle.syn_grammar.specs.Take.{left}
+use Rattle.syn_grammar.specs.Run.{wrap}
+use Rattle.syn_parse.specs.Form.{parse}
+use Rattle.syn_tokens.specs.Listing.{onto}
+use Rattle.syn_parse.specs.Terminated.{terminated}
+use Rattle.syn_parse.specs.TerminatedLists.{IsTerminated}
+use Rattle.syn_parse.proofs.buffer.ParseBuffer.read_terminated.Given as goal
+
+abbrev pub invariant-elements : goal.invariant-elements
+invariant-elements g l =
+    (left l.self ≤ left l.fn.self) × (l.list.last ≡ None) × IsTerminated (parse g.T.Read.form) (parse g.P.Read.form)
+    × (terminated (parse g.T.Read.form) (parse g.P.Read.form) l.fn.self
+    ≡ wrap (onto Right g.T.Syntactic.syntax g.P.Syntactic.syntax l.list.pairs) (terminated (parse g.T.Read.form) (parse g.P.Read.form) l.self))
+
+abbrev pub decreases-elements : goal.decreases-elements
+decreases-elements g l = left l.self

@@ -1,0 +1,146 @@
+//! Keywords and marks of own syntaxes, which the grammar of Rust need not know.
+ghost use Rattle.std.specs.Prelude.{◌≡◌, true, IfOk};
+ghost use Rattle.syn_grammar.specs.Words.{Text};
+ghost use Rattle.syn_tokens.specs.Spelled.{is_plain_word};
+ghost use Rattle.syn_tokens.specs.Faults.{expected};
+ghost use Rattle.syn_tokens.specs.Leaves.{syntax_of_mark, syntax_of_word};
+ghost use Rattle.syn_tokens.specs.Punct.{all_punct};
+
+use crate::error;
+use crate::ident::Ident;
+use crate::span::Span;
+use crate::syntactic::Syntactic;
+use crate::syntactic::compare::Compared;
+use crate::syntactic::try_clone::TryClone;
+use std::alloc::{AllocError, Global};
+use std::marker::PhantomData;
+
+/// A kind of keyword of an own syntax, by its text: ASCII letters and `_`.
+pub trait CustomKeywordKind {
+    ghost text: { Text };
+
+    /// The text.
+    fn text() -> &'static str
+        ensures { result.now ≡ text };
+
+    /// What a fault says where it was expected: ``expected `route` ``, with its text.
+    fn expected() -> &'static str
+        ensures { result.now ≡ expected text };
+
+    /// It is spelled by ASCII letters and `_`.
+    ghost plain: { is_plain_word text ≡ true };
+}
+
+/// A keyword of an own syntax: the identifier of this text, whether or not it is a keyword of Rust. Those of one kind are
+/// equal, wherever they stand.
+#[derive_where(Clone, Copy, Debug, PartialEq, Eq)]
+pub struct CustomKeyword<K> {
+    #[derive_where(skip(EqHashOrd))]
+    pub span: Span,
+    kind: PhantomData<K>,
+}
+
+impl<K> CustomKeyword<K> {
+    /// The keyword, at this place.
+    pub fn new(span: Span) -> CustomKeyword<K>
+        ensures { result.span ≡ span }
+    {
+        CustomKeyword {
+            span,
+            kind: PhantomData,
+        }
+    }
+}
+
+impl<K> Default for CustomKeyword<K> {
+    /// The keyword at no place of a text: its span is 0 to 0.
+    fn default() -> CustomKeyword<K>
+        ensures { result.span ≡ record { start = 0; end = 0 } }
+    {
+        CustomKeyword::new(Span::call_site())
+    }
+}
+
+impl<K: CustomKeywordKind> CustomKeyword<K> {
+    /// The keyword as an identifier; refused only where memory is.
+    #[tactic(auto, using(crate::specs::Spelled::word_is_identifier))]
+    pub fn to_ident(&self, alloc: Global) -> Result<Ident, AllocError>
+        ensures { IfOk result (λ i. i ≡ record { text = K.text; span = self.now.span }) }
+    {
+        Ident::of_identifier(alloc, K::text(), self.span)
+    }
+}
+
+impl<K: CustomKeywordKind> Syntactic for CustomKeyword<K> {
+    ghost syntax = { λ w. syntax_of_word K.text w.span };
+}
+
+impl<K: CustomKeywordKind> TryClone for CustomKeyword<K> {
+    fn try_clone(&self, _alloc: Global) -> error::Result<CustomKeyword<K>> {
+        Ok(CustomKeyword::new(self.span))
+    }
+}
+
+/// Two keywords of one kind are the same.
+impl<K: CustomKeywordKind> Compared for CustomKeyword<K> {
+    #[tactic(auto, using(syn_grammar::proofs::Sets::same_text_refl))]
+    fn is_same(&self, _other: &CustomKeyword<K>) -> bool {
+        true
+    }
+}
+
+/// A kind of mark of an own syntax, by its `N` characters, two or three.
+pub trait CustomPunctuationKind<const N: usize> {
+    ghost text: { Text };
+
+    /// Its characters.
+    fn characters() -> [char; N]
+        ensures { result ≡ text };
+
+    /// What a fault says where it was expected: ``expected `~>` ``, with its characters.
+    fn expected() -> &'static str
+        ensures { result.now ≡ expected text };
+
+    /// Marks are made of its characters.
+    ghost printable: { all_punct text ≡ true };
+}
+
+/// A mark of an own syntax: these characters, all but the last Joint, whether or not they are a mark of Rust. Those of one
+/// kind are equal, wherever they stand.
+#[derive_where(Clone, Copy, Debug, PartialEq, Eq)]
+pub struct CustomPunctuation<K, const N: usize> {
+    /// Where its characters stand.
+    #[derive_where(skip(EqHashOrd))]
+    pub spans: [Span; N],
+    kind: PhantomData<K>,
+}
+
+impl<K, const N: usize> CustomPunctuation<K, N> {
+    /// The mark, its characters at these places.
+    pub fn new(spans: [Span; N]) -> CustomPunctuation<K, N>
+        ensures { result.spans ≡ spans.entry }
+    {
+        CustomPunctuation {
+            spans,
+            kind: PhantomData,
+        }
+    }
+}
+
+impl<K: CustomPunctuationKind<N>, const N: usize> Syntactic for CustomPunctuation<K, N> {
+    ghost syntax = { λ m. syntax_of_mark K.text m.spans };
+}
+
+impl<K: CustomPunctuationKind<N>, const N: usize> TryClone for CustomPunctuation<K, N> {
+    fn try_clone(&self, _alloc: Global) -> error::Result<CustomPunctuation<K, N>> {
+        Ok(CustomPunctuation::new(self.spans))
+    }
+}
+
+/// Two marks of one kind are the same.
+impl<K: CustomPunctuationKind<N>, const N: usize> Compared for CustomPunctuation<K, N> {
+    #[tactic(auto, using(crate::proofs::Comparisons::same_placed))]
+    fn is_same(&self, _other: &CustomPunctuation<K, N>) -> bool {
+        true
+    }
+}
