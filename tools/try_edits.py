@@ -55,15 +55,11 @@ class Trial:
         self.source, self.edits, self.unfit = edits_of(crate, lower, names)
         self.refused, self.wrong = {}, [f"{path.stem}: can't be applied: {why}" for path, why in self.unfit]
 
-    def check(self, folder, wanted):
-        with self.cores.taken(wanted) as jobs:
-            command = ["rt", "check", "--jobs", str(jobs)]
-            return subprocess.run(command, cwd=folder, stdout=subprocess.PIPE, stderr=subprocess.STDOUT, text=True, errors="replace")
-
     def has_base(self):
         """Proves the crate as it is, so that its own work and the libraries below it are kept."""
-        start = time.monotonic()
-        done = self.check(self.crate, self.cores.number)
+        with self.cores.taken(self.cores.number) as jobs:
+            start = time.monotonic()
+            done = checked(self.crate, jobs)
         print(f"{self.crate.name}: {'proved' if not done.returncode else 'NOT PROVED'} as it is, {time.monotonic() - start:.0f} s", flush=True)
         if done.returncode:
             print(done.stdout[-2000:])
@@ -81,15 +77,14 @@ class Trial:
 
     def try_pack(self, pack):
         """The edits of the pack that are not refused."""
-        start = time.monotonic()
-        with rooms.room(TOP, self.crate.name, pack.texts) as folder:
-            said = self.check(folder, 1).stdout
+        with self.cores.taken(1) as jobs, rooms.room(TOP, self.crate.name, pack.texts) as folder:
+            start = time.monotonic()
+            said = checked(folder, jobs).stdout
         if self.folder:
             (self.folder / f"{self.crate.name}-{pack.edits[0].name}-{len(pack.edits)}.txt").write_text(said)
         answer = answer_of(said, self.crate.name, self.source.function_around, set(pack.texts))
         missed = [edit for edit in pack.edits if not self.is_refused(edit, answer, len(pack.edits) == 1)]
-        seconds = time.monotonic() - start
-        print(f"{self.crate.name}: {len(pack.edits) - len(missed)} of {len(pack.edits)} refused, {seconds:.0f} s", flush=True)
+        print(f"{self.crate.name}: {len(pack.edits) - len(missed)} of {len(pack.edits)} refused, {time.monotonic() - start:.0f} s", flush=True)
         return missed
 
     def is_refused(self, edit, answer, is_alone):
@@ -136,6 +131,12 @@ class Trial:
                 fits = goal in others and (name in self.whole(edit) or not self.whole(edit)) if goal else name in clauses
                 if not fits:
                     self.wrong.append(f"{edit.name}: names {clause}, but refused were: {', '.join([*clauses, *others])}")
+
+
+def checked(folder, jobs):
+    """A check of the crate in this folder."""
+    command = ["rt", "check", "--jobs", str(jobs)]
+    return subprocess.run(command, cwd=folder, stdout=subprocess.PIPE, stderr=subprocess.STDOUT, text=True, errors="replace")
 
 
 def why_not(told, answer):
