@@ -38,6 +38,11 @@ pub mod parse {
     pub use syn_tokens::error::{Error, Fault, Result};
 }
 
+/// What identifiers have besides: `Ident::parse_any`.
+pub mod ext {
+    pub use syn_parse::ext::IdentExt;
+}
+
 /// Tokens, token trees and token streams.
 pub mod token {
     pub use syn_tokens::delimiter::Delimiter;

@@ -2,6 +2,7 @@
 use std::alloc::Global;
 use std::test::Fail;
 use syn_parse::buffer::ParseBuffer;
+use syn_parse::ext::IdentExt;
 use syn_parse::parse::parse2;
 use syn_tokens::delimiter::Delimiter;
 use syn_tokens::error::{Error, Result};
@@ -209,5 +210,50 @@ fn called(rt: HostRuntime) -> std::result::Result<(), Fail> {
     let word = input.call(|input| input.parse::<Pub>())?;
     assert_eq!(rt; word.span, span(2));
     assert_eq!(rt; input.call(|input| input.parse::<Ident>())?.text(), "b");
+    Ok(())
+}
+
+#[test]
+fn any_identifiers(rt: HostRuntime) -> std::result::Result<(), Fail> {
+    let stream = tokens(rt.alloc(), &["struct", "_", "a", ","])?;
+    let mut input = ParseBuffer::new(&stream);
+    assert_eq!(rt; Ident::parse_any(&mut input)?.text(), "struct");
+    assert_eq!(rt; Ident::parse_any(&mut input)?.text(), "_");
+    assert_eq!(rt; Ident::parse_any(&mut input)?.text(), "a");
+    assert!(rt; refused(&Ident::parse_any(&mut input), 3, "expected identifier"));
+    assert_eq!(rt; input.span(), span(3), "nothing is read");
+    Ok(())
+}
+
+/// Whether the buffer stands at the end of a group whose closing sign is at 20: each refusal tells that place.
+fn is_at_close(input: &mut ParseBuffer<'_>) -> bool {
+    let here = input.span() == span(20) && tells(&input.error("no"), 20, "no");
+    let looked = {
+        let mut lookahead = input.lookahead1();
+        !lookahead.peek::<Ident>() && tells(&lookahead.error(), 20, "expected identifier")
+    };
+    here && looked
+        && refused(&input.parse::<Struct>(), 20, "expected `struct`")
+        && refused(&input.parenthesized(), 20, "expected parentheses")
+        && input.finish().is_ok()
+}
+
+#[test]
+fn ends_of_groups(rt: HostRuntime) -> std::result::Result<(), Fail> {
+    let stream = group(rt.alloc(), Delimiter::Paren, &["a"])?;
+    let mut input = ParseBuffer::new(&stream);
+    let (_, mut content) = input.parenthesized()?;
+    let mut ahead = content.fork();
+    ahead.parse::<Ident>()?;
+    assert!(rt; is_at_close(&mut ahead), "read to the end");
+    content.advance_to(&ahead);
+    assert!(rt; is_at_close(&mut content), "behind advance_to");
+    assert!(rt; is_at_close(&mut content.fork()), "behind fork");
+    assert_eq!(rt; input.span().start, 21, "the stream ends behind the group");
+    input.advance_to(&content);
+    assert!(rt;
+        is_at_close(&mut input),
+        "from a buffer that ended elsewhere"
+    );
     Ok(())
 }
