@@ -73,9 +73,9 @@ closes_within (Err e) n d s old new reason h f w l m = fault_within n s reason e
 
 -- no group is open any more
 pub finishes : (r : Result Stream (List FaultValue)) (n : ℕ) (b : Building) → AllWithin n b.open_groups
-    → MatchResult r (λ stream. b ≡ record { open_groups = []; stream = stream }) (λ e. (g : OpenGroup) × (gs : List OpenGroup) × (b.open_groups ≡ g ∷ gs) × (e ≡ unbalanced g.opening))
+    → MatchResult r (λ stream. (b.open_groups ≡ []) × (b.stream ≡ stream)) (λ e. (g : OpenGroup) × (gs : List OpenGroup) × (b.open_groups ≡ g ∷ gs) × (e ≡ unbalanced g.opening))
     → MatchResult r (λ stream. flat stream ≡ tokens_around b.open_groups ++ flat b.stream) (IsFaultWithin n)
-finishes (Ok stream) n b w h = rw h refl
+finishes (Ok stream) n b w h = rw (h.0, h.1) refl
 finishes (Err e) n b w (g, gs, h, f) = let inside = subst (AllWithin n) h w in subst (IsFaultWithin n) (sym f) (inside.0, inside.1)
 
 pub within_more : (n : ℕ) (os : List OpenGroup) (o : OpenGroup) → AllWithin n os → o.opening.start < o.opening.end → o.opening.end ≤ n → AllWithin n (os ++ (o ∷ []))

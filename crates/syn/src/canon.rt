@@ -4,8 +4,8 @@ ghost use Rattle.syn_tokens.specs.Faults.{IsSyntaxError};
 
 pub use crate::lawful::Canonical;
 use syn_parse::parse::parse2;
-use syn_print::ToTokens;
 use syn_tokens::error::Result;
+use syn_tokens::print::ToTokens;
 use syn_tokens::stream::TokenStream;
 
 /// The canonical print of what the tokens spell: the print of the tree that the whole stream is read as.

@@ -6,7 +6,7 @@ ghost use Rattle.syn_grammar.specs.Rules.{Rule};
 ghost use Rattle.syn_parse.specs.Form.{of};
 
 use syn_parse::parse::Parse;
-use syn_print::ToTokens;
+use syn_tokens::print::ToTokens;
 
 /// A type that is read and printed by one rule of the grammar, so that the laws of that rule hold for it: from one stream
 /// at most one tree is read, its print is read again with the same normal form, and equal normal forms print alike.

@@ -9,15 +9,15 @@ pub mod reader;
 mod tests;
 
 pub use syn_parse::parse::parse2;
-pub use syn_print::{ToTokens, print};
 pub use syn_tokens::error::{Error, Fault, Result};
 pub use syn_tokens::ident::Ident;
 pub use syn_tokens::lifetime::Lifetime;
 pub use syn_tokens::literal::{LitKind, Literal};
+pub use syn_tokens::print::ToTokens;
 pub use syn_tokens::span::Span;
 pub use syn_tokens::syntactic::Syntactic;
 pub use syn_tokens::syntactic::try_clone::TryClone;
-pub use syn_tokens::{error, punctuated};
+pub use syn_tokens::{error, print, punctuated};
 pub use syn_tree::data::{Field, FieldModifiers, Fields, FieldsUnnamed};
 pub use syn_tree::derive::{Data, DataStruct, DeriveInput};
 pub use syn_tree::lower::{

@@ -7,8 +7,8 @@ use Rattle.syn_grammar.proofs.Streams.{append_end}
 use Rattle.syn_tokens.specs.Spans.{at}
 use Rattle.syn_tokens.specs.Delimiters.{delimiter_of}
 use Rattle.syn_tokens.specs.Entries.{encode, State, step, states}
-use Rattle.syn_tokens.specs.Building.{OpenGroup, Building, open_sign, laid, groups, content, building}
-use Rattle.syn_tokens.specs.Builders.{pending, places, IsBuilt}
+use Rattle.syn_tokens.specs.Building.{OpenGroup, open_sign, laid, groups, content, groups_in, stream_in}
+use Rattle.syn_tokens.specs.Builders.{pending, places, front, IsBuilt}
 use Rattle.syn_tokens.proofs.Entries.{ahead, states_back, delimiter_there, encode-append}
 use Rattle.syn_tokens.specs.declared.span.Span.{Span}
 use Rattle.syn_tokens.specs.declared.stream.entry.Open.{Open}
@@ -18,10 +18,6 @@ use Rattle.syn_tokens.specs.declared.stream.entry.Token.TheVariants as E
 use Rattle.syn_tokens.specs.declared.stream.builder.Pending.{Pending}
 
 -- THERE AND BACK
-
-abbrev front : List OpenGroup → Stream → Stream
-front [] s = s
-front (g ∷ gs) s = g.outer
 
 abbrev sign : OpenGroup → Open
 sign g = record { delimiter = g.delimiter; span = g.opening; skip = 0 }
@@ -47,19 +43,20 @@ content_back : (gs : List OpenGroup) (s : Stream) → content (front gs s) (open
 content_back [] s = refl
 content_back (g ∷ gs) s = content_back gs s
 
-abbrev read : State → Building
-read st = record { open_groups = groups st.trees st.opened; stream = content st.trees st.opened }
+pub groups_are : (es : List Entry) (gs : List OpenGroup) (s : Stream) → es ≡ laid gs s → groups_in es ≡ gs
+groups_are es gs s e = ap groups_in e ∙ ap (λ (st : State). groups st.trees st.opened) (states_laid gs s) ∙ groups_back gs s
 
-pub built_is : (es : List Entry) (gs : List OpenGroup) (s : Stream) → es ≡ laid gs s → building es ≡ record { open_groups = gs; stream = s }
-built_is es gs s e = ap building e ∙ ap read (states_laid gs s) ∙ (λ i. record { open_groups = groups_back gs s i; stream = content_back gs s i })
+pub stream_is : (es : List Entry) (gs : List OpenGroup) (s : Stream) → es ≡ laid gs s → stream_in es ≡ s
+stream_is es gs s e = ap stream_in e ∙ ap (λ (st : State). content st.trees st.opened) (states_laid gs s) ∙ content_back gs s
 
 pub is_built : (es : List Entry) (ps : List Pending) (n : ℕ) (gs : List OpenGroup) (s : Stream) → es ≡ laid gs s → ps ≡ places 0 gs → n ≡ grammar.length s → IsBuilt es ps n
 is_built es ps n gs s e p c =
-    let b = sym (built_is es gs s e) in
+    let g = sym (groups_are es gs s e) in
+    let t = sym (stream_is es gs s e) in
     record {
-      encoded = e ∙ ap (λ (x : Building). laid x.open_groups x.stream) b;
-      placed = p ∙ ap (λ (x : Building). places 0 x.open_groups) b;
-      counted = c ∙ ap (λ (x : Building). grammar.length x.stream) b;
+      encoded = e ∙ (λ i. laid (g i) (t i));
+      placed = p ∙ ap (places 0) g;
+      counted = c ∙ ap grammar.length t;
     }
 
 -- MORE ENTRIES

@@ -8,5 +8,7 @@ pub mod Faults
 pub mod Keywords
 pub mod Names
 pub mod Places
+pub mod Prints
+pub mod Rows
 pub mod SameEntries
 pub mod Streams

@@ -1,8 +1,9 @@
 -- Where the open groups of a builder stand.
-use Rattle.std.specs.Prelude.{◌≡◌, ℕ, ◌+◌, List, [], ◌∷◌, length}
+use Rattle.std.specs.Prelude.{◌≡◌, ℕ, ◌+◌, ◌≤◌, List, [], ◌∷◌, length, take}
 use Rattle.syn_grammar.specs.Take as grammar
-use Rattle.syn_tokens.specs.Entries.{encode}
-use Rattle.syn_tokens.specs.Building.{OpenGroup, laid, building}
+use Rattle.syn_grammar.specs.Tokens.{Stream}
+use Rattle.syn_tokens.specs.Entries.{encode, IsFlat}
+use Rattle.syn_tokens.specs.Building.{OpenGroup, laid, groups_in, stream_in}
 use Rattle.syn_tokens.specs.declared.stream.entry.Token.{Token as Entry}
 use Rattle.syn_tokens.specs.declared.stream.builder.Pending.{Pending}
 
@@ -17,6 +18,16 @@ places n (g ∷ gs) = pending (n + length (encode g.outer)) g ∷ places (n + le
 
 -- these entries were added so far, with these groups open, and so many trees in the innermost of them
 pub record IsBuilt (es : List Entry) (ps : List Pending) (trees : ℕ) : Type 0 where
-  pub encoded : es ≡ laid (building es).open_groups (building es).stream
-  pub placed : ps ≡ places 0 (building es).open_groups
-  pub counted : trees ≡ grammar.length (building es).stream
+  pub encoded : es ≡ laid (groups_in es) (stream_in es)
+  pub placed : ps ≡ places 0 (groups_in es)
+  pub counted : trees ≡ grammar.length (stream_in es)
+
+-- what stands in no open group
+abbrev pub front : List OpenGroup → Stream → Stream
+front [] s = s
+front (g ∷ gs) s = g.outer
+
+-- the first of these entries, `n` of them, are those of a stream of so many trees, and stand in no open group
+pub record IsBegun (n trees : ℕ) (es : List Entry) : Type 0 where
+  pub flat : IsFlat (take n es) trees
+  pub within : n ≤ length (encode (front (groups_in es) (stream_in es)))

@@ -1,12 +1,13 @@
 -- Token streams that are being built.
-use Rattle.std.specs.Prelude.{◌≡◌, List, [], ◌∷◌, ◌++◌, codes, refl}
+use Rattle.std.specs.Prelude.{◌≡◌, ℕ, Bool, true, false, List, [], ◌∷◌, ◌++◌, take, codes, refl}
 use Rattle.std.specs.Coded.{Coded, code_by, coded×, coded_list}
+use Rattle.syn_grammar.specs.Tokens as grammar
 use Rattle.syn_grammar.specs.Tokens.{Stream, end, group, ◌⧺◌}
 use Rattle.syn_grammar.specs.Codes.{stream_code}
 use Rattle.syn_tokens.specs.Spans.{at}
 use Rattle.syn_tokens.specs.Delimiters.{delimiter_of}
 use Rattle.syn_tokens.specs.Faults.{FaultValue}
-use Rattle.syn_tokens.specs.Entries.{encode, states}
+use Rattle.syn_tokens.specs.Entries.{encode, decode, states, from, delimiter_from}
 use Rattle.syn_tokens.specs.declared.span.Span.{Span}
 use Rattle.syn_tokens.specs.contracts.span.Span as span
 use Rattle.syn_tokens.specs.declared.delimiter.Delimiter.{Delimiter}
@@ -21,8 +22,9 @@ pub record OpenGroup : Type 0 where
   pub opening : Span
   pub outer : Stream  -- what stands before it in the group around it, or in the whole stream
 
--- what was added so far
+-- what it began with, and what stands there now
 pub record Building : Type 0 where
+  pub before : Stream
   pub open_groups : List OpenGroup  -- from the outermost to the innermost
   pub stream : Stream  -- what stands so far in the innermost open group, or in the whole stream
 
@@ -30,7 +32,7 @@ abbrev pub coded_group : Coded OpenGroup
 coded_group = code_by (Delimiter × (Span × Stream)) (coded× delimiter.the_row.coded (coded× span.the_row.coded stream_code)) (λ g. (g.delimiter, (g.opening, g.outer))) (λ p. record { delimiter = p.0; opening = p.1.0; outer = p.1.1 }) (λ _. refl)
 
 abbrev pub coded_building : Coded Building
-coded_building = code_by (List OpenGroup × Stream) (coded× (coded_list coded_group) stream_code) (λ b. (b.open_groups, b.stream)) (λ p. record { open_groups = p.0; stream = p.1 }) (λ _. refl)
+coded_building = code_by (Stream × (List OpenGroup × Stream)) (coded× stream_code (coded× (coded_list coded_group) stream_code)) (λ b. (b.before, (b.open_groups, b.stream))) (λ p. record { before = p.0; open_groups = p.1.0; stream = p.1.1 }) (λ _. refl)
 
 -- THE ENTRIES SO FAR
 
@@ -52,8 +54,15 @@ abbrev pub content : Stream → List (Open × Stream) → Stream
 content s [] = s
 content s (p ∷ ps) = content p.1 ps
 
-abbrev pub building : List Entry → Building
-building es = record { open_groups = groups (states es).trees (states es).opened; stream = content (states es).trees (states es).opened }
+abbrev pub groups_in : List Entry → List OpenGroup
+groups_in es = groups (states es).trees (states es).opened
+
+abbrev pub stream_in : List Entry → Stream
+stream_in es = content (states es).trees (states es).opened
+
+-- where the first of these entries were there from the beginning
+abbrev pub building : ℕ → List Entry → Building
+building n es = record { before = decode (take n es); open_groups = groups_in es; stream = stream_in es }
 
 -- WHAT CALLS DO
 
@@ -63,7 +72,7 @@ pub record Closes (delimiter : Delimiter) (closing : Span) (old new : Building) 
   pub innermost : OpenGroup
   pub was : old.open_groups ≡ around ++ innermost ∷ []
   pub delimits : innermost.delimiter ≡ delimiter
-  pub is : new ≡ record { open_groups = around; stream = innermost.outer ⧺ group (delimiter_of delimiter) (at innermost.opening) (at closing) old.stream end }
+  pub is : new ≡ record old { open_groups = around; stream = innermost.outer ⧺ group (delimiter_of delimiter) (at innermost.opening) (at closing) old.stream end }
 
 -- the innermost open group has another delimiter, or no group is open
 abbrev pub NotOpen : Delimiter → Building → Type 0
@@ -76,3 +85,40 @@ unbalanced s = (s, codes "unbalanced group") ∷ []
 abbrev pub IsUnbalanced : Span → Type 0 → List FaultValue → Type 0
 IsUnbalanced s reason [] = Unit {0}
 IsUnbalanced s reason (f ∷ fs) = (f ∷ fs ≡ unbalanced s) × reason
+
+-- WHAT PRINTS DO, in words that are opened where a proof asks for it
+
+-- these trees were added
+unfoldable pub added : Building → Stream → Building
+added b s = record b { stream = b.stream ⧺ s }
+
+-- inside of a new group
+unfoldable pub into_group : grammar.Delimiter → grammar.Span → Building → Building
+into_group d o b = record b { open_groups = b.open_groups ++ record { delimiter = delimiter_from d; opening = from o; outer = b.stream } ∷ []; stream = end }
+
+-- the last of these groups, and those around it
+abbrev pub innermost : OpenGroup → List OpenGroup → OpenGroup
+innermost g [] = g
+innermost g (h ∷ hs) = innermost h hs
+
+abbrev pub around : OpenGroup → List OpenGroup → List OpenGroup
+around g [] = []
+around g (h ∷ hs) = g ∷ around h hs
+
+-- a group is open
+abbrev pub is_open_in : List OpenGroup → Bool
+is_open_in [] = false
+is_open_in (g ∷ gs) = true
+
+unfoldable pub is_open : Building → Bool
+is_open b = is_open_in b.open_groups
+
+-- outside of the innermost open group, which ends here and is a tree of the group around it
+abbrev pub closed_in : Stream → List OpenGroup → grammar.Span → Stream → Building
+closed_in before [] c s = record { before = before; open_groups = []; stream = s }
+closed_in before (g ∷ gs) c s =
+    let i = innermost g gs in
+    record { before = before; open_groups = around g gs; stream = i.outer ⧺ group (delimiter_of i.delimiter) (at i.opening) c s end }
+
+unfoldable pub out_of_group : grammar.Span → Building → Building
+out_of_group c b = closed_in b.before b.open_groups c b.stream

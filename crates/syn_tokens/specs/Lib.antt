@@ -21,6 +21,7 @@ pub mod Nears
 pub mod Packed
 pub mod Places
 pub mod Punct
+pub mod Rows
 pub mod SameEntries
 pub mod SameStreams
 pub mod Spans

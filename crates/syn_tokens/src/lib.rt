@@ -6,6 +6,7 @@ pub mod error;
 pub mod ident;
 pub mod lifetime;
 pub mod literal;
+pub mod print;
 pub mod punct;
 pub mod punctuated;
 pub mod span;

@@ -1,14 +1,12 @@
 //! Token streams.
-ghost use Rattle.std.specs.Prelude.{◌≡◌, [], ◌∷◌, ◌++◌, IsTrue, IfErr, OnOk, OnErr};
-ghost use Rattle.syn_grammar.specs.Tokens.{end, punct, group, ◌⧺◌};
+ghost use Rattle.std.specs.Prelude.{◌≡◌, [], ◌∷◌, ◌++◌, IfErr, OnOk, OnErr};
+ghost use Rattle.syn_grammar.specs.Tokens.{end, group, ◌⧺◌};
 ghost use Rattle.syn_tokens.specs.Spans.{at};
 ghost use Rattle.syn_tokens.specs.Delimiters.{delimiter_of};
-ghost use Rattle.syn_tokens.specs.Punct.{is_joint, is_punct_character};
 ghost use Rattle.syn_tokens.specs.Entries.{encode, decode, IsFlat, IsToken};
 ghost use Rattle.syn_grammar.specs.Take.{first, length, is_end};
 
 use crate::error::Result;
-use crate::punct::{Punct, Spacing};
 use crate::span::Span;
 use crate::stream::cursor::Cursor;
 use crate::stream::entry::{Close, Entry, Open};
@@ -17,12 +15,13 @@ use std::alloc::{AllocError, Global};
 use std::marker::Model;
 
 pub mod builder;
-mod copies;
+pub(crate) mod copies;
 pub mod cursor;
 pub mod entry;
 mod near;
 mod same;
 pub mod tree;
+mod words;
 
 /// A list of token trees.
 #[derive(Drop)]
@@ -114,6 +113,14 @@ impl TokenStream {
         }
     }
 
+    /// Its entries, and how many trees they are.
+    pub(crate) fn into_entries(self) -> (Vec<Entry>, usize)
+        ensures flat { IsFlat result.0.items result.1 }
+        ensures same { decode result.0.items ≡ self }
+    {
+        (self.entries, self.trees)
+    }
+
     /// Where its memory comes from.
     pub fn alloc(&self) -> Global {
         self.alloc
@@ -157,8 +164,8 @@ impl TokenStream {
         Ok(self.add(tree)?)
     }
 
-    /// The same for prints, by whose type memory alone can be wanting.
-    pub fn add(&mut self, tree: TokenTree) -> std::result::Result<(), AllocError>
+    /// The same, where the type says that memory alone can be wanting.
+    fn add(&mut self, tree: TokenTree) -> std::result::Result<(), AllocError>
         ensures ok { OnOk result (self.new ≡ self.old ⧺ before tree end) }
         ensures err { OnErr result (self.new ≡ self.old) }
     {
@@ -210,21 +217,6 @@ impl TokenStream {
         enclose(&mut self.entries, opening, &mut content, closing)?;
         self.trees += 1;
         Ok(())
-    }
-
-    /// Adds one character of a mark at the end; refused, it leaves the stream as it was.
-    pub fn add_punct(
-        &mut self,
-        character: char,
-        spacing: Spacing,
-        span: Span,
-    ) -> std::result::Result<(), AllocError>
-        requires { IsTrue (is_punct_character character) }
-        ensures ok { OnOk result (self.new ≡ self.old ⧺ punct character (is_joint spacing) (at span) end) }
-        ensures err { OnErr result (self.new ≡ self.old) }
-    {
-        let punct = Punct::new(character, spacing, span);
-        self.add_token(Entry::punct(self.alloc, punct)?)
     }
 
     /// Adds the trees of another stream at the end; refused, it leaves this one as it was. Where this one is empty, it takes

@@ -1,10 +1,12 @@
 //! What values stand for.
-ghost use Rattle.syn_grammar.specs.Grammar.{Syntax};
+ghost use Rattle.std.specs.Prelude.{[]};
+ghost use Rattle.syn_grammar.specs.Grammar.{Rest, Syntax};
 ghost use Rattle.syn_tokens.specs.InOrder.{in_order, pair_of};
 ghost use Rattle.syn_tokens.specs.Leaves.{maybe, syntax_of_ident, syntax_of_literal};
 
 use crate::ident::Ident;
 use crate::literal::Literal;
+use crate::stream::TokenStream;
 
 pub mod compare;
 pub mod try_clone;
@@ -28,6 +30,11 @@ impl Syntactic for Ident {
 
 impl Syntactic for Literal {
     ghost syntax = { syntax_of_literal };
+}
+
+/// Tokens that stand for themselves, whatever they are.
+impl Syntactic for TokenStream {
+    ghost syntax = { λ s. Rest [] s };
 }
 
 impl<T: Syntactic, P: Syntactic> Syntactic for (T, P) {

@@ -8,4 +8,5 @@ pub mod data;
 pub mod derive;
 mod looks;
 pub mod lower;
+mod prints;
 pub mod restriction;

@@ -1,14 +1,22 @@
 //! Token streams that are built one token or sign after another.
-ghost use Rattle.std.specs.Prelude.{◌≡◌, ◌<◌, List, [], ◌∷◌, ◌++◌, length, slice_set, IfErr, OnOk, OnErr, MatchResult, IfOk};
-ghost use Rattle.syn_grammar.specs.Tokens.{end, ◌⧺◌};
+ghost use Rattle.std.specs.Prelude.{◌≡◌, ◌<◌, IsTrue, List, [], ◌∷◌, ◌++◌, true, length, slice_set, IfErr, OnOk, OnErr, MatchResult, IfOk};
+ghost use Rattle.syn_grammar.specs.Tokens.{end, ident, leaf, punct, ◌⧺◌};
 ghost use Rattle.syn_tokens.specs.Entries.{decode, IsToken};
-ghost use Rattle.syn_tokens.specs.Building.{OpenGroup, Closes, NotOpen, IsUnbalanced, unbalanced};
+ghost use Rattle.syn_tokens.specs.Spans.{at};
+ghost use Rattle.syn_tokens.specs.Building.{OpenGroup, Closes, NotOpen, IsUnbalanced, unbalanced, added, is_open, out_of_group};
+ghost use Rattle.syn_tokens.specs.Idents.{is_identifier};
+ghost use Rattle.syn_tokens.specs.Leaves.{ident_leaf, literal_leaf};
+ghost use Rattle.syn_tokens.specs.Punct.{is_joint, is_punct_character};
 
 use crate::delimiter::Delimiter;
 use crate::error::{Error, Result};
+use crate::ident::Ident;
+use crate::literal::Literal;
+use crate::punct::{Punct, Spacing};
 use crate::span::Span;
 use crate::stream::TokenStream;
 use crate::stream::entry::{Close, Entry, Open};
+use crate::stream::words::Words;
 use std::alloc::{AllocError, Global};
 use std::marker::Model;
 
@@ -23,15 +31,24 @@ struct Pending {
     trees: usize,
 }
 
+/// How much of a builder was there from the beginning.
+#[derive(Clone, Copy)]
+struct Mark {
+    entries: usize,
+    trees: usize,
+}
+
 /// Builds a token stream from tokens and the signs of groups, one after another. Groups may be open, one in another;
-/// however deep they are, each call takes as little time.
+/// however deep they are, each call takes as little time. It may begin with a stream, which `undo` gives back.
 #[derive(Drop)]
 pub struct StreamBuilder {
     entries: Vec<Entry>,
+    mark: Mark,
     /// From the outermost to the innermost.
     pending: Vec<Pending>,
     /// How many trees stand so far in the innermost open group, or in the whole stream.
     trees: usize,
+    words: Words,
     alloc: Global,
 }
 
@@ -42,11 +59,11 @@ impl Model for StreamBuilder {
 
     ghost coded = { coded_building };
 
-    ghost view = { λ b. building b.entries.items };
+    ghost view = { λ b. building b.mark.entries b.entries.items };
 
-    ghost use Rattle.syn_tokens.specs.Builders.{IsBuilt};
+    ghost use Rattle.syn_tokens.specs.Builders.{IsBuilt, IsBegun};
 
-    ghost invariant = { λ b. IsBuilt b.entries.items b.pending.items b.trees };
+    ghost invariant = { λ b. IsBuilt b.entries.items b.pending.items b.trees × IsBegun b.mark.entries b.mark.trees b.entries.items };
 }
 
 /// Sets the opening sign of a group, and adds its closing sign; refused, it leaves the entries as they were.
@@ -74,12 +91,26 @@ fn not_balanced(span: Span) -> Error
 impl StreamBuilder {
     /// Begins with no tree and no open group. What grows takes its memory from `alloc`.
     pub fn new(alloc: Global) -> StreamBuilder
-        ensures { result ≡ record { open_groups = []; stream = end } }
+        ensures { result ≡ record { before = end; open_groups = []; stream = end } }
     {
+        StreamBuilder::behind(TokenStream::new(alloc))
+    }
+
+    /// Begins with this stream, and adds behind it. It takes the stream as it is, without memory and in no time.
+    pub(crate) fn behind(stream: TokenStream) -> StreamBuilder
+        ensures { result ≡ record { before = stream; open_groups = []; stream = stream } }
+    {
+        let alloc = stream.alloc();
+        let (entries, trees) = stream.into_entries();
         StreamBuilder {
-            entries: Vec::new(alloc),
+            mark: Mark {
+                entries: entries.len(),
+                trees,
+            },
+            entries,
             pending: Vec::new(alloc),
-            trees: 0,
+            trees,
+            words: Words::new(alloc),
             alloc,
         }
     }
@@ -101,13 +132,75 @@ impl StreamBuilder {
         Ok(())
     }
 
+    /// Adds the trees of a stream, all at once, however deep they are; refused, it leaves all as it was.
+    pub fn append(&mut self, stream: TokenStream) -> std::result::Result<(), AllocError>
+        ensures prints { OnOk result (self.new ≡ added self.old stream) }
+        ensures err { OnErr result (self.new ≡ self.old) }
+        ensures begins { self.new.before ≡ self.old.before }
+    {
+        let (entries, trees) = stream.into_entries();
+        let mut entries = entries;
+        self.entries.append(&mut entries)?;
+        self.trees += trees;
+        Ok(())
+    }
+
+    /// Adds an identifier.
+    #[tactic(auto, unfolding(crate::specs::Building::added))]
+    pub fn add_ident(&mut self, ident: Ident) -> std::result::Result<(), AllocError>
+        ensures prints { OnOk result (self.new ≡ added self.old (leaf (ident_leaf ident) (at ident.span) end)) }
+        ensures begins { self.new.before ≡ self.old.before }
+    {
+        let entry = Entry::ident(self.alloc, ident)?;
+        self.push(entry)
+    }
+
+    /// Adds the identifier of a text that is known to be one. It shares its text with the same word that was added so before,
+    /// of the first words that were.
+    #[tactic(auto, unfolding(crate::specs::Building::added))]
+    pub fn add_word(&mut self, text: &str, span: Span) -> std::result::Result<(), AllocError>
+        requires { IsTrue (is_identifier text.now) }
+        ensures prints { OnOk result (self.new ≡ added self.old (leaf (ident text.now) (at span) end)) }
+        ensures begins { self.new.before ≡ self.old.before }
+    {
+        let ident = self.words.ident(text, span)?;
+        self.add_ident(ident)
+    }
+
+    /// Adds a literal.
+    #[tactic(auto, unfolding(crate::specs::Building::added))]
+    pub fn add_literal(&mut self, literal: Literal) -> std::result::Result<(), AllocError>
+        ensures prints { OnOk result (self.new ≡ added self.old (leaf (literal_leaf literal) (at literal.span) end)) }
+        ensures begins { self.new.before ≡ self.old.before }
+    {
+        let entry = Entry::literal(self.alloc, literal)?;
+        self.push(entry)
+    }
+
+    /// Adds one character of a mark.
+    #[tactic(auto, unfolding(crate::specs::Building::added))]
+    pub fn add_punct(
+        &mut self,
+        character: char,
+        spacing: Spacing,
+        span: Span,
+    ) -> std::result::Result<(), AllocError>
+        requires { IsTrue (is_punct_character character) }
+        ensures prints { OnOk result (self.new ≡ added self.old (punct character (is_joint spacing) (at span) end)) }
+        ensures begins { self.new.before ≡ self.old.before }
+    {
+        let punct = Punct::new(character, spacing, span);
+        let entry = Entry::punct(self.alloc, punct)?;
+        self.push(entry)
+    }
+
     /// Goes into a group; refused, it leaves all as it was.
     pub fn open(
         &mut self,
         delimiter: Delimiter,
         opening: Span,
     ) -> std::result::Result<(), AllocError>
-        ensures ok { OnOk result (self.new ≡ record { open_groups = self.old.open_groups ++ record { delimiter = delimiter; opening = opening; outer = self.old.stream } ∷ []; stream = end }) }
+        ensures ok { OnOk result (self.new ≡ record self.old { open_groups = self.old.open_groups ++ record { delimiter = delimiter; opening = opening; outer = self.old.stream } ∷ []; stream = end }) }
         ensures err { OnErr result (self.new ≡ self.old) }
     {
         let open = Open {
@@ -137,13 +230,27 @@ impl StreamBuilder {
         ensures err { IfErr result (IsUnbalanced closing (NotOpen delimiter self.old)) }
         ensures unchanged { OnErr result (self.new ≡ self.old) }
     {
-        let (innermost, around) = match self.pending.split_last() {
-            Some((innermost, around)) => (*innermost, around.len()),
+        let innermost = match self.pending.split_last() {
+            Some((innermost, _)) => innermost.delimiter,
             None => return Err(not_balanced(closing)),
         };
-        if innermost.delimiter != delimiter {
+        if innermost != delimiter {
             return Err(not_balanced(closing));
         }
+        Ok(self.close_group(closing)?)
+    }
+
+    /// Goes out of the innermost open group, whichever delimiter it has; refused, it leaves all as it was.
+    pub fn close_group(&mut self, closing: Span) -> std::result::Result<(), AllocError>
+        requires { is_open self.old ≡ true }
+        ensures ok { OnOk result (self.new ≡ out_of_group (at closing) self.old) }
+        ensures err { OnErr result (self.new ≡ self.old) }
+        ensures begins { self.new.before ≡ self.old.before }
+    {
+        let (innermost, around) = match self.pending.split_last() {
+            Some((innermost, around)) => (*innermost, around.len()),
+            None => return Ok(()),
+        };
         let open = Open {
             delimiter: innermost.delimiter,
             span: innermost.opening,
@@ -165,18 +272,41 @@ impl StreamBuilder {
     /// The stream, where no group is open any more. Else refused with the fault `unbalanced group` at the outermost open
     /// sign. It takes no memory.
     pub fn finish(self) -> Result<TokenStream>
-        ensures { MatchResult result (λ stream. self ≡ record { open_groups = []; stream = stream })
+        ensures { MatchResult result (λ stream. (self.open_groups ≡ []) × (self.stream ≡ stream))
             (λ e. (g : OpenGroup) × (gs : List OpenGroup) × (self.open_groups ≡ g ∷ gs) × (e ≡ unbalanced g.opening)) }
+    {
+        match self.pending.split_first() {
+            Some((outermost, _)) => Err(not_balanced(outermost.opening)),
+            None => Ok(self.into_stream()),
+        }
+    }
+
+    /// The stream. It takes no memory.
+    pub(crate) fn into_stream(self) -> TokenStream
+        requires { self.open_groups ≡ [] }
+        ensures { result ≡ self.stream }
     {
         let StreamBuilder {
             entries,
-            pending,
             trees,
             alloc,
+            ..
         } = self;
-        match pending.split_first() {
-            Some((outermost, _)) => Err(not_balanced(outermost.opening)),
-            None => Ok(TokenStream::of_entries(entries, trees, alloc)),
-        }
+        TokenStream::of_entries(entries, trees, alloc)
+    }
+
+    /// What it began with, without what was added, whether or not groups are open. It takes no memory.
+    pub(crate) fn undo(self) -> TokenStream
+        ensures { result ≡ self.before }
+    {
+        let StreamBuilder {
+            entries,
+            mark,
+            alloc,
+            ..
+        } = self;
+        let mut entries = entries;
+        entries.truncate(mark.entries);
+        TokenStream::of_entries(entries, mark.trees, alloc)
     }
 }

@@ -9,8 +9,7 @@ ghost use Rattle.syn_tokens.specs.Punct.{is_punct_character};
 
 use crate::punct::{Punct, Spacing};
 use crate::span::Span;
-use crate::stream::TokenStream;
-use crate::stream::tree::TokenTree;
+use crate::stream::builder::StreamBuilder;
 use crate::token::MarkKind;
 use std::alloc::AllocError;
 
@@ -74,7 +73,7 @@ pub trait ThreeCharacters {
 impl<K: OneCharacter> MarkKind<1> for K {
     ghost text = { K.character ∷ [] };
 
-    fn print(spans: &[Span; 1], out: &mut TokenStream) -> Result<(), AllocError> {
+    fn print(spans: &[Span; 1], out: &mut StreamBuilder) -> Result<(), AllocError> {
         let [span] = *spans;
         out.add_punct(K::character(), Spacing::Alone, span)
     }
@@ -87,8 +86,8 @@ impl<K: OneCharacter> MarkKind<1> for K {
 impl<K: TwoCharacters> MarkKind<2> for K {
     ghost text = { K.first ∷ K.second ∷ [] };
 
-    #[tactic(auto, using(syn_grammar::proofs::Streams::append_append))]
-    fn print(spans: &[Span; 2], out: &mut TokenStream) -> Result<(), AllocError> {
+    #[tactic(auto, using(crate::proofs::Prints::prints))]
+    fn print(spans: &[Span; 2], out: &mut StreamBuilder) -> Result<(), AllocError> {
         let (c, d) = K::characters();
         let [first, second] = *spans;
         out.add_punct(c, Spacing::Joint, first)?;
@@ -103,8 +102,8 @@ impl<K: TwoCharacters> MarkKind<2> for K {
 impl<K: ThreeCharacters> MarkKind<3> for K {
     ghost text = { K.first ∷ K.second ∷ K.third ∷ [] };
 
-    #[tactic(auto, using(syn_grammar::proofs::Streams::append_append))]
-    fn print(spans: &[Span; 3], out: &mut TokenStream) -> Result<(), AllocError> {
+    #[tactic(auto, using(crate::proofs::Prints::prints))]
+    fn print(spans: &[Span; 3], out: &mut StreamBuilder) -> Result<(), AllocError> {
         let (c, d, e) = K::characters();
         let [first, second, third] = *spans;
         out.add_punct(c, Spacing::Joint, first)?;

@@ -1,10 +1,14 @@
 //! The signs of groups.
-ghost use Rattle.std.specs.Prelude.{◌≡◌};
+ghost use Rattle.std.specs.Prelude.{◌≡◌, true, OnOk};
 ghost use Rattle.syn_grammar.specs.Words.{Text};
 ghost use Rattle.syn_grammar.specs.Tokens.{Delimiter};
+ghost use Rattle.syn_tokens.specs.Building.{into_group, is_open, out_of_group};
+ghost use Rattle.syn_tokens.specs.Spans.{at};
 
 use crate::delimiter::Delimiter;
 use crate::span::Span;
+use crate::stream::builder::StreamBuilder;
+use std::alloc::AllocError;
 use std::marker::PhantomData;
 
 /// A kind of group, by its signs.
@@ -56,5 +60,25 @@ impl<K> Default for Delimiters<K> {
         ensures close { result.closing ≡ record { start = 0; end = 0 } }
     {
         Delimiters::new(Span::call_site(), Span::call_site())
+    }
+}
+
+impl<K: DelimiterKind> Delimiters<K> {
+    /// Goes into a group with these signs.
+    #[tactic(auto, using(crate::proofs::Prints::opened_group))]
+    pub fn open(&self, out: &mut StreamBuilder) -> Result<(), AllocError>
+        ensures opens { OnOk result (out.new ≡ into_group K.delimiter (at self.now.opening) out.old) }
+        ensures begins { out.new.before ≡ out.old.before }
+    {
+        out.open(K::delimiter(), self.opening)
+    }
+
+    /// Goes out of the innermost open group, with the closing sign of these.
+    pub fn close(&self, out: &mut StreamBuilder) -> Result<(), AllocError>
+        requires { is_open out.old ≡ true }
+        ensures closes { OnOk result (out.new ≡ out_of_group (at self.now.closing) out.old) }
+        ensures begins { out.new.before ≡ out.old.before }
+    {
+        out.close_group(self.closing)
     }
 }

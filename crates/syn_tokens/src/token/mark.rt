@@ -1,13 +1,14 @@
 //! Marks, such as `::`.
 ghost use Rattle.std.specs.Prelude.{◌≡◌, OnOk};
 ghost use Rattle.syn_grammar.specs.Words.{Text};
-ghost use Rattle.syn_grammar.specs.Tokens.{end, ◌⧺◌};
+ghost use Rattle.syn_grammar.specs.Tokens.{end};
 ghost use Rattle.syn_grammar.specs.Grammar.{spell};
+ghost use Rattle.syn_tokens.specs.Building.{added};
 ghost use Rattle.syn_tokens.specs.Faults.{expected};
 ghost use Rattle.syn_tokens.specs.Leaves.{placed, syntax_of_mark};
 
 use crate::span::Span;
-use crate::stream::TokenStream;
+use crate::stream::builder::StreamBuilder;
 use crate::syntactic::Syntactic;
 use std::alloc::AllocError;
 use std::marker::PhantomData;
@@ -16,9 +17,10 @@ use std::marker::PhantomData;
 pub trait MarkKind<const N: usize> {
     ghost text: { Text };
 
-    /// Adds the mark, its characters at these places, at the end of a stream.
-    fn print(spans: &[Span; N], out: &mut TokenStream) -> Result<(), AllocError>
-        ensures { OnOk result (out.new ≡ out.old ⧺ spell (placed text spans.now) end) };
+    /// Adds the mark, its characters at these places, at the end of what is being built.
+    fn print(spans: &[Span; N], out: &mut StreamBuilder) -> Result<(), AllocError>
+        ensures prints { OnOk result (out.new ≡ added out.old (spell (placed text spans.now) end)) }
+        ensures begins { out.new.before ≡ out.old.before };
 
     /// What a fault says where it was expected.
     fn expected() -> &'static str
@@ -47,9 +49,10 @@ impl<K, const N: usize> Mark<K, N> {
 }
 
 impl<K: MarkKind<N>, const N: usize> Mark<K, N> {
-    /// Adds the mark at the end of a stream.
-    pub fn print(&self, out: &mut TokenStream) -> Result<(), AllocError>
-        ensures { OnOk result (out.new ≡ out.old ⧺ spell (placed K.text self.now.spans) end) }
+    /// Adds the mark at the end of what is being built.
+    pub fn print(&self, out: &mut StreamBuilder) -> Result<(), AllocError>
+        ensures prints { OnOk result (out.new ≡ added out.old (spell (placed K.text self.now.spans) end)) }
+        ensures begins { out.new.before ≡ out.old.before }
     {
         K::print(&self.spans, out)
     }

@@ -1,83 +1,30 @@
-use Rattle.std.proofs.Common.{rules, arith, [], ◌∷◌, ◌++◌, ap, sym, ◌∙◌, ◌≡◌, ◌-◌, length, set, take, subst, refl}
-use Rattle.std.proofs.lemmas.List.{take_at}
-use Rattle.syn_tokens.specs.Building.{building, Closes, NotOpen}
-use Rattle.syn_tokens.proofs.Builders.{none_kept, other_kept, told, stands_before, few_around, closed_built, closed_is}
-use Rattle.syn_tokens.specs.declared.stream.entry.Token.TheVariants as E
+use Rattle.std.proofs.Common.{rules, [], ◌∷◌, ◌++◌, ap, sym, ◌∙◌, ◌≡◌, length}
+use Rattle.syn_tokens.specs.Building.{NotOpen}
+use Rattle.syn_tokens.proofs.Builders.{none_kept, other_kept, told, last_open, closes_last}
 use Rattle.syn_tokens.proofs.stream.builder.StreamBuilder.close.Goals as goal
 
 pub returns-in-None-clause-err : goal.returns-in-None-clause-err
 returns-in-None-clause-err c =
     let none : length c.self.inside.pending.items ≡ 0 = ap length (sym c.deref.ensures.value) ∙ c.in-None.ensures.cases in
     told c.args.closing (NotOpen c.args.delimiter c.args.self.now) c.not_balanced.result c.not_balanced.ensures
-    (none_kept c.self.inside.entries.items c.self.inside.pending.items c.self.inside.trees c.args.delimiter c.args.self.now c.self.invariant none c.self.view_is)
+    (none_kept c.self.inside.mark.entries c.self.inside.entries.items c.self.inside.pending.items c.self.inside.trees c.args.delimiter c.args.self.now c.self.invariant.0 none c.self.view_is)
 
 pub returns-then-ne-clause-err : goal.returns-then-ne-clause-err
 returns-then-ne-clause-err c =
-    let last : c.self.inside.pending.items ≡ c.in-Some.around.now ++ c.in-Some.innermost.now ∷ [] = sym c.deref.ensures.value ∙ c.in-Some.ensures.cases.0 in
+    let last : c.self.inside.pending.items ≡ c.in-Some.field-0-1.now ++ c.in-Some.innermost.now ∷ [] = sym c.deref.ensures.value ∙ c.in-Some.ensures.cases.0 in
     let other : c.in-Some.innermost.now.delimiter ≡ c.args.delimiter → ⊥ = search rules in
     told c.args.closing (NotOpen c.args.delimiter c.args.self.now) c.not_balanced-then-ne.result c.not_balanced-then-ne.ensures
-    (other_kept c.self.inside.entries.items c.self.inside.pending.items c.self.inside.trees c.in-Some.around.now c.in-Some.innermost.now c.args.delimiter c.args.self.now
-    c.self.invariant last c.self.view_is other)
+    (other_kept c.self.inside.mark.entries c.self.inside.entries.items c.self.inside.pending.items c.self.inside.trees c.in-Some.field-0-1.now c.in-Some.innermost.now c.args.delimiter c.args.self.now
+    c.self.invariant.0 last c.self.view_is other)
 
-pub overflow_sub-open : goal.overflow_sub-open
-overflow_sub-open c =
-    let last : c.self.inside.pending.items ≡ c.in-Some.around.now ++ c.in-Some.innermost.now ∷ [] = sym c.deref.ensures.value ∙ c.in-Some.ensures.cases.0 in
-    omega (
-      arith,
-      c.len.ensures,
-      c.self.inside.entries.ok.0,
-      stands_before c.self.inside.entries.items c.self.inside.pending.items c.self.inside.trees c.self.invariant c.in-Some.around.now c.in-Some.innermost.now last,
-    )
-
-pub overflow_sub-open-2 : goal.overflow_sub-open-2
-overflow_sub-open-2 c =
-    let last : c.self.inside.pending.items ≡ c.in-Some.around.now ++ c.in-Some.innermost.now ∷ [] = sym c.deref.ensures.value ∙ c.in-Some.ensures.cases.0 in
-    omega (
-      arith,
-      c.len.ensures,
-      c.self.inside.entries.ok.0,
-      stands_before c.self.inside.entries.items c.self.inside.pending.items c.self.inside.trees c.self.invariant c.in-Some.around.now c.in-Some.innermost.now last,
-    )
-
-pub enclose-requires : goal.enclose-requires
-enclose-requires c =
-    let last : c.self.inside.pending.items ≡ c.in-Some.around.now ++ c.in-Some.innermost.now ∷ [] = sym c.deref.ensures.value ∙ c.in-Some.ensures.cases.0 in
-    omega (arith, stands_before c.self.inside.entries.items c.self.inside.pending.items c.self.inside.trees c.self.invariant c.in-Some.around.now c.in-Some.innermost.now last)
-
-pub overflow_add-self : goal.overflow_add-self
-overflow_add-self c =
-    let last : c.self.inside.pending.items ≡ c.in-Some.around.now ++ c.in-Some.innermost.now ∷ [] = sym c.deref.ensures.value ∙ c.in-Some.ensures.cases.0 in
-    omega (
-      arith,
-      c.self.inside.entries.ok.0,
-      c.self.inside.entries.ok.1,
-      c.self.inside.entries.small,
-      stands_before c.self.inside.entries.items c.self.inside.pending.items c.self.inside.trees c.self.invariant c.in-Some.around.now c.in-Some.innermost.now last,
-      few_around c.self.inside.entries.items c.self.inside.pending.items c.self.inside.trees c.self.invariant c.in-Some.around.now c.in-Some.innermost.now last,
-    )
-
-pub invariant_of-self-2 : goal.invariant_of-self-2
-invariant_of-self-2 c =
-    let last : c.self.inside.pending.items ≡ c.in-Some.around.now ++ c.in-Some.innermost.now ∷ [] = sym c.deref.ensures.value ∙ c.in-Some.ensures.cases.0 in
-    let long : c.len.result ≡ length c.self.inside.entries.items = c.len.ensures ∙ c.self.inside.entries.ok.0 in
-    let skip : c.len.result - c.in-Some.innermost.now.at - 1 ≡ length c.self.inside.entries.items - c.in-Some.innermost.now.at - 1 = ap (λ n. n - c.in-Some.innermost.now.at - 1) long in
-    let kept : c.truncate.new.self.items ≡ c.in-Some.around.now =
-    c.truncate.ensures.items ∙ ap (take (length c.in-Some.around.now)) last ∙ take_at c.in-Some.around.now (c.in-Some.innermost.now ∷ []) _ refl in
-    let opening : c.in_ok-opening.opening ≡ E.Open (record { delimiter = c.in-Some.innermost.now.delimiter; span = c.in-Some.innermost.now.opening; skip = c.len.result - c.in-Some.innermost.now.at - 1 }) = search rules in
-    let closing : c.in_ok-closing.closing ≡ E.Close (record { delimiter = c.in-Some.innermost.now.delimiter; span = c.args.closing; trees = c.self.inside.trees }) = search rules in
-    rw (c.in_ok-enclose.ensures.ok, opening, closing, kept)
-    (closed_built c.self.inside.entries.items c.self.inside.pending.items c.self.inside.trees c.self.invariant c.in-Some.around.now c.in-Some.innermost.now last
-    c.args.closing (c.len.result - c.in-Some.innermost.now.at - 1) skip)
+pub close_group-requires : goal.close_group-requires
+close_group-requires c =
+    let last : c.self.inside.pending.items ≡ c.in-Some.field-0-1.now ++ c.in-Some.innermost.now ∷ [] = sym c.deref.ensures.value ∙ c.in-Some.ensures.cases.0 in
+    last_open c.self.inside.mark.entries c.self.inside.entries.items c.self.inside.pending.items c.self.inside.trees c.self.invariant.0 c.in-Some.field-0-1.now c.in-Some.innermost.now last c.args.self.now c.self.view_is
 
 pub returns-clause-ok : goal.returns-clause-ok
 returns-clause-ok c =
-    let last : c.self.inside.pending.items ≡ c.in-Some.around.now ++ c.in-Some.innermost.now ∷ [] = sym c.deref.ensures.value ∙ c.in-Some.ensures.cases.0 in
-    let long : c.len.result ≡ length c.self.inside.entries.items = c.len.ensures ∙ c.self.inside.entries.ok.0 in
-    let skip : c.len.result - c.in-Some.innermost.now.at - 1 ≡ length c.self.inside.entries.items - c.in-Some.innermost.now.at - 1 = ap (λ n. n - c.in-Some.innermost.now.at - 1) long in
+    let last : c.self.inside.pending.items ≡ c.in-Some.field-0-1.now ++ c.in-Some.innermost.now ∷ [] = sym c.deref.ensures.value ∙ c.in-Some.ensures.cases.0 in
     let same : c.in-Some.innermost.now.delimiter ≡ c.args.delimiter = search rules in
-    let opening : c.in_ok-opening.opening ≡ E.Open (record { delimiter = c.in-Some.innermost.now.delimiter; span = c.in-Some.innermost.now.opening; skip = c.len.result - c.in-Some.innermost.now.at - 1 }) = search rules in
-    let closing : c.in_ok-closing.closing ≡ E.Close (record { delimiter = c.in-Some.innermost.now.delimiter; span = c.args.closing; trees = c.self.inside.trees }) = search rules in
-    let whole = c.in_ok-enclose.ensures.ok ∙ (λ i. set (c.self.inside.entries.items ++ closing i ∷ []) c.in-Some.innermost.now.at (opening i)) in
-    subst (λ es. Closes c.args.delimiter c.args.closing c.args.self.now (building es)) (sym whole)
-    (closed_is c.self.inside.entries.items c.self.inside.pending.items c.self.inside.trees c.self.invariant c.in-Some.around.now c.in-Some.innermost.now last
-    c.args.closing (c.len.result - c.in-Some.innermost.now.at - 1) skip c.args.delimiter c.args.self.now c.self.view_is same)
+    closes_last c.self.inside.mark.entries c.self.inside.entries.items c.self.inside.pending.items c.self.inside.trees c.self.invariant.0 c.in-Some.field-0-1.now c.in-Some.innermost.now last c.args.self.now c.self.view_is
+    c.args.delimiter c.args.closing same _ c.in_ok-close_group.ensures.ok

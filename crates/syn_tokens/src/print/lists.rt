@@ -1,0 +1,43 @@
+//! The prints of lists.
+ghost use Rattle.std.specs.Prelude.{◌≡◌, OnOk};
+ghost use Rattle.syn_grammar.specs.Grammar.{print};
+ghost use Rattle.syn_tokens.specs.Building.{added};
+ghost use Rattle.syn_tokens.specs.Listing.{list_of, joined_of};
+ghost use Rattle.syn_tokens.specs.Rows.{row};
+
+use crate::print::Print;
+use crate::punctuated::Punctuated;
+use crate::stream::builder::StreamBuilder;
+use std::alloc::AllocError;
+
+/// Adds the values of a list and its separators at the end, whichever rule of the grammar the list is of.
+#[tactic(auto, using(crate::proofs::Rows::list_row, crate::proofs::Rows::joined_row))]
+pub fn print_list<T: Print, P: Print>(
+    list: &Punctuated<T, P>,
+    out: &mut StreamBuilder,
+) -> Result<(), AllocError>
+    ensures list { OnOk result (out.new ≡ added out.old (print (list_of T.syntax P.syntax list.now.pairs list.now.last))) }
+    ensures joined { OnOk result (out.new ≡ added out.old (print (joined_of T.syntax P.syntax list.now.pairs list.now.last))) }
+    ensures begins { out.new.before ≡ out.old.before }
+{
+    print_row(list, out)
+}
+
+/// The same, where the clause says only in which order.
+#[tactic(auto, using(crate::proofs::Prints::prints, crate::proofs::Rows::row_step, crate::proofs::Rows::row_done))]
+fn print_row<T: Print, P: Print>(
+    list: &Punctuated<T, P>,
+    out: &mut StreamBuilder,
+) -> Result<(), AllocError>
+    ensures row { OnOk result (out.new ≡ added out.old (row T.syntax P.syntax list.now.pairs list.now.last)) }
+    ensures begins { out.new.before ≡ out.old.before }
+{
+    for (value, separator) in list.pairs() {
+        value.print_in(out)?;
+        separator.print_in(out)?;
+    }
+    if let Some(last) = list.trailing_value() {
+        last.print_in(out)?;
+    }
+    Ok(())
+}
