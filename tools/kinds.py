@@ -11,6 +11,7 @@ It writes, laid out as `rt fmt` wants it:
     crates/syn_tree/specs/Plain.antt    the views of structs that are their rule's parts in order
     crates/syn_tree/src/copies**        `TryClone`
     crates/syn_tree/src/compare**       `Compared`, `PartialEq`, `Eq`
+    crates/syn_tree/src/prints**        `Print`, `ToTokens`
     crates/syn_tree/src/comma_lists.rt  the function of each rule that is a comma list, with its proof (proofs/CommaLists)
     crates/syn/src/kinds.rt             `Canonical`, of the kinds below
     docs/GRAMMAR.md                     the table of rules, each in the words above it, with what reads it
@@ -25,7 +26,7 @@ import sys
 from pathlib import Path
 
 from kindslib.grammar import rows
-from kindslib.impls import comparisons, copies
+from kindslib.impls import comparisons, copies, prints
 from kindslib.lists import comma_lists
 from kindslib.program import canonical, dispatch, kind_enum, kind_specs
 from kindslib.source import Fault, Source
@@ -41,6 +42,9 @@ KINDS = [
 # lists with one value at least, which end with one
 JOINED = {("Path", "segments")}
 
+# what is printed by the tree that holds it, and not by itself
+UNPRINTED = {"Data", "DataStruct", "Generics"}
+
 CRATES = Path("crates")
 
 
@@ -52,6 +56,7 @@ def outputs():
     files.update(plain_views(source, JOINED))
     files.update(copies(source))
     files.update(comparisons(source))
+    files.update(prints(source, UNPRINTED))
     table, page = CRATES / "syn_grammar/specs/Table.antt", Path("docs/GRAMMAR.md")
     files.update(comma_lists(source, table))
     files[page] = rows(source, table, page)
@@ -64,7 +69,7 @@ def outputs():
 
 def leftovers(files):
     """Files in the folders that are this script's alone which it wouldn't write."""
-    folders = [CRATES / "syn_tree" / name for name in ("src/copies", "src/compare", "proofs/comma_lists")]
+    folders = [CRATES / "syn_tree" / name for name in ("src/copies", "src/compare", "src/prints", "proofs/comma_lists")]
     return [path for folder in folders for path in sorted(folder.rglob("*.*t*")) if path.is_file() and path not in files]
 
 

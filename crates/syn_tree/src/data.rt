@@ -1,18 +1,28 @@
 //! Fields.
 ghost use Rattle.syn_grammar.specs.Rules as rules;
 ghost use Rattle.syn_tree.specs.Parsing.{◌≡◌, OnErr, of, rule, meaning_of_rule, reads, Says, Parses, Moved, Outcome, itself, IsSyntax, IsSyntaxError};
+ghost use Rattle.std.specs.Prelude.{OnOk};
+ghost use Rattle.syn_grammar.specs.Grammar.{print};
+ghost use Rattle.syn_tokens.specs.Building.{added};
+ghost use Rattle.syn_tokens.specs.Kinds.{colon_syntax};
+ghost use Rattle.syn_tokens.specs.Leaves.{maybe, syntax_of_ident};
+ghost use Rattle.syn_tree.specs.Data.{field_name};
 ghost use Rattle.syn_parse.specs.Nexts.{RefusedNext, HasFaultNext};
 ghost use Rattle.syn_tree.specs.Defaults.{RefusesDefault};
 
 use crate::comma_lists::unnamed_fields;
 use crate::lower::{Attribute, Expr, Type};
 use crate::restriction::Visibility;
+use std::alloc::AllocError;
 use syn_parse::buffer::ParseBuffer;
 use syn_parse::read::Read;
 use syn_parse::read::refusal::Reading;
 use syn_tokens::error::Result;
 use syn_tokens::ident::Ident;
+use syn_tokens::print::Print;
 use syn_tokens::punctuated::Punctuated;
+use syn_tokens::span::Span;
+use syn_tokens::stream::builder::StreamBuilder;
 use syn_tokens::syntactic::compare::Compared;
 use syn_tokens::token::{Colon, Comma, Eq, Paren, kind};
 
@@ -117,6 +127,35 @@ impl Compared for Field {
             && self.ident.is_same(&other.ident)
             && self.colon_token.is_same(&other.colon_token)
             && self.ty.is_same(&other.ty)
+    }
+}
+
+/// A field's name with its colon, which is printed though there is none; without a name no colon is printed.
+#[tactic(auto, using(syn_tokens::proofs::Prints::prints))]
+fn print_name(
+    ident: &Option<Ident>,
+    colon_token: &Option<Colon>,
+    out: &mut StreamBuilder,
+) -> std::result::Result<(), AllocError>
+    ensures prints { OnOk result (out.new ≡ added out.old (print (field_name (maybe syntax_of_ident ident.now) (maybe colon_syntax colon_token.now)))) }
+    ensures begins { out.new.before ≡ out.old.before }
+{
+    match ident {
+        Some(ident) => {
+            ident.print_in(out)?;
+            let colon_token = colon_token.unwrap_or(Colon::new([Span::call_site()]));
+            colon_token.print_in(out)
+        }
+        None => Ok(()),
+    }
+}
+
+impl Print for Field {
+    #[tactic(auto, using(syn_tokens::proofs::Prints::prints))]
+    fn print_in(&self, out: &mut StreamBuilder) -> std::result::Result<(), AllocError> {
+        self.vis.print_in(out)?;
+        print_name(&self.ident, &self.colon_token, out)?;
+        self.ty.print_in(out)
     }
 }
 

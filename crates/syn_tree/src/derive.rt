@@ -6,10 +6,14 @@ ghost use Rattle.syn_tree.specs.Derive.{structure_syntax, body_syntax};
 use crate::data::Fields;
 use crate::lower::{Attribute, Generics};
 use crate::restriction::Visibility;
+use std::alloc::AllocError;
 use syn_parse::buffer::ParseBuffer;
 use syn_parse::read::Read;
 use syn_parse::read::refusal::Reading;
 use syn_tokens::ident::Ident;
+use syn_tokens::print::Print;
+use syn_tokens::span::Span;
+use syn_tokens::stream::builder::StreamBuilder;
 use syn_tokens::token::{Paren, Semi, Struct};
 
 /// A struct, as a derive macro is given it.
@@ -86,6 +90,21 @@ fn structure_body(input: &mut ParseBuffer<'_>) -> Reading<(Fields, Semi)>
         Ok((Fields::Unnamed(input.read()?), input.read()?))
     } else {
         Ok((Fields::Unit, input.read()?))
+    }
+}
+
+/// A struct's own parts stand before and behind its name; its `;` is printed though there is none. Generics without
+/// parameters are not printed.
+impl Print for DeriveInput {
+    #[tactic(auto, using(syn_tokens::proofs::Prints::prints))]
+    fn print_in(&self, out: &mut StreamBuilder) -> Result<(), AllocError> {
+        self.vis.print_in(out)?;
+        let Data::Struct(data) = &self.shape;
+        data.struct_token.print_in(out)?;
+        self.ident.print_in(out)?;
+        data.fields.print_in(out)?;
+        let semi_token = data.semi_token.unwrap_or(Semi::new([Span::call_site()]));
+        semi_token.print_in(out)
     }
 }
 

@@ -1,4 +1,6 @@
-//! The prints of syntax trees.
+//! Written by tools/kinds.py; edits are lost.
+//!
+//! Prints of trees.
 #![tactic(auto, using(syn_tokens::proofs::Prints::prints))]
 
 mod data;

@@ -1,12 +1,25 @@
-//! The prints of visibilities.
+//! Written by tools/kinds.py; edits are lost.
+//!
+//! Prints of `restriction`.
 
 use crate::restriction::{VisRestricted, Visibility};
 use std::alloc::AllocError;
 use syn_tokens::print::{Print, ToTokens};
 use syn_tokens::stream::builder::StreamBuilder;
 
+impl Print for Visibility {
+    fn print_in(&self, out: &mut StreamBuilder) -> Result<(), AllocError> {
+        match self {
+            Visibility::Public(value) => value.print_in(out),
+            Visibility::Restricted(value) => value.print_in(out),
+            Visibility::Inherited => Ok(()),
+        }
+    }
+}
+
+impl ToTokens for Visibility {}
+
 impl Print for VisRestricted {
-    #[tactic(auto, using(syn_tokens::proofs::Prints::groups))]
     fn print_in(&self, out: &mut StreamBuilder) -> Result<(), AllocError> {
         self.pub_token.print_in(out)?;
         self.paren_token.open(out)?;
@@ -16,16 +29,4 @@ impl Print for VisRestricted {
     }
 }
 
-impl Print for Visibility {
-    fn print_in(&self, out: &mut StreamBuilder) -> Result<(), AllocError> {
-        match self {
-            Visibility::Public(pub_token) => pub_token.print_in(out),
-            Visibility::Restricted(restricted) => restricted.print_in(out),
-            Visibility::Inherited => Ok(()),
-        }
-    }
-}
-
 impl ToTokens for VisRestricted {}
-
-impl ToTokens for Visibility {}
