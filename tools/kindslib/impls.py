@@ -227,8 +227,9 @@ def print_block(source, t):
         uses += [("std::alloc", "AllocError"), ("syn_tokens::stream::builder", "StreamBuilder"), ("syn_tokens::print", "Print")]
         body = print_enum(source, t) if t.is_enum else print_struct(source, t, uses)
         out = "out" if "out" in body else "_out"
+        tactic = "    #[tactic(auto, using(syn_tokens::proofs::Prints::groups))]\n" if ".open(out)" in body else ""
         text = f"""impl Print for {t.name} {{
-    fn print_in(&self, {out}: &mut StreamBuilder) -> Result<(), AllocError> {{
+{tactic}    fn print_in(&self, {out}: &mut StreamBuilder) -> Result<(), AllocError> {{
 {body}    }}
 }}
 

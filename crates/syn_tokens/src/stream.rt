@@ -15,7 +15,7 @@ use std::alloc::{AllocError, Global};
 use std::marker::Model;
 
 pub mod builder;
-pub(crate) mod copies;
+mod copies;
 pub mod cursor;
 pub mod entry;
 mod near;

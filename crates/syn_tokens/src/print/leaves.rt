@@ -7,7 +7,6 @@ use crate::print::{Print, ToTokens};
 use crate::punct::Spacing;
 use crate::stream::TokenStream;
 use crate::stream::builder::StreamBuilder;
-use crate::stream::copies::copy_all;
 use crate::token::{Mark, MarkKind, Word, WordKind};
 use std::alloc::AllocError;
 
@@ -34,7 +33,7 @@ impl Print for Lifetime {
 /// Its trees, as they are.
 impl Print for TokenStream {
     fn print_in(&self, out: &mut StreamBuilder) -> Result<(), AllocError> {
-        out.append(copy_all(&self.cursor(), out.alloc())?)
+        out.append(self.copy(out.alloc())?)
     }
 }
 

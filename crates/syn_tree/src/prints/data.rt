@@ -19,6 +19,7 @@ impl Print for Fields {
 impl ToTokens for Fields {}
 
 impl Print for FieldsUnnamed {
+    #[tactic(auto, using(syn_tokens::proofs::Prints::groups))]
     fn print_in(&self, out: &mut StreamBuilder) -> Result<(), AllocError> {
         self.paren_token.open(out)?;
         print_list(&self.unnamed, out)?;

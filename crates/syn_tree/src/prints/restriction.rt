@@ -20,6 +20,7 @@ impl Print for Visibility {
 impl ToTokens for Visibility {}
 
 impl Print for VisRestricted {
+    #[tactic(auto, using(syn_tokens::proofs::Prints::groups))]
     fn print_in(&self, out: &mut StreamBuilder) -> Result<(), AllocError> {
         self.pub_token.print_in(out)?;
         self.paren_token.open(out)?;
