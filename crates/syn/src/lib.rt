@@ -89,6 +89,7 @@ pub mod token {
     pub use syn_tokens::token::CustomPunctuation;
     pub use syn_tokens::token::CustomPunctuationKind;
     pub use syn_tokens::token::Default;
+    pub use syn_tokens::token::DelimiterKind;
     pub use syn_tokens::token::Delimiters;
     pub use syn_tokens::token::Do;
     pub use syn_tokens::token::Dollar;
@@ -117,6 +118,7 @@ pub mod token {
     pub use syn_tokens::token::Lt;
     pub use syn_tokens::token::Macro;
     pub use syn_tokens::token::Mark;
+    pub use syn_tokens::token::MarkKind;
     pub use syn_tokens::token::Match;
     pub use syn_tokens::token::Minus;
     pub use syn_tokens::token::MinusEq;
@@ -172,6 +174,7 @@ pub mod token {
     pub use syn_tokens::token::Where;
     pub use syn_tokens::token::While;
     pub use syn_tokens::token::Word;
+    pub use syn_tokens::token::WordKind;
     pub use syn_tokens::token::Yield;
     pub use syn_tokens::token::kind;
 }
