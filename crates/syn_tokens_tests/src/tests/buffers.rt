@@ -9,6 +9,7 @@ use syn_tokens::delimiter::Delimiter;
 use syn_tokens::ident::Ident;
 use syn_tokens::lifetime::Lifetime;
 use syn_tokens::literal::{LitKind, Literal};
+use syn_tokens::print::ToTokens;
 use syn_tokens::punct::{Punct, Spacing};
 use syn_tokens::span::Span;
 use syn_tokens::stream::TokenStream;
@@ -230,11 +231,11 @@ fn parts_of_streams(rt: HostRuntime) -> Result<(), Fail> {
 fn prints(rt: HostRuntime) -> Result<(), Fail> {
     let mut out = TokenStream::new(rt.alloc());
     let word: token::SelfType = token::Word::default();
-    word.print(&mut out)?;
+    word.to_tokens(&mut out)?;
     let sep: token::PathSep = token::Mark::new([Span::call_site(), Span::call_site()]);
-    sep.print(&mut out)?;
+    sep.to_tokens(&mut out)?;
     let shift: token::ShrEq = token::Mark::new([Span::call_site(); 3]);
-    shift.print(&mut out)?;
+    shift.to_tokens(&mut out)?;
     assert_eq!(rt; out.len(), 6);
     let mut input = ParseBuffer::new(&out);
     let _word: token::SelfType = read(input.read())?;

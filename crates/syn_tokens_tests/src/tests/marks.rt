@@ -1,15 +1,16 @@
 //! Each mark: seen and read in its own characters alone, and printed as those.
-use std::alloc::{AllocError, Global};
+use std::alloc::Global;
 use std::test::Fail;
 use syn_parse::buffer::ParseBuffer;
 use syn_parse::parse::Parse;
-use syn_parse::read::{Peek, ReadMark};
+use syn_parse::read::Peek;
 use syn_tokens::error::Result;
+use syn_tokens::print::ToTokens;
 use syn_tokens::punct::{Punct, Spacing};
 use syn_tokens::span::Span;
 use syn_tokens::stream::TokenStream;
 use syn_tokens::stream::tree::TokenTree;
-use syn_tokens::token::{self, Mark};
+use syn_tokens::token;
 
 /// The byte at this place.
 fn span(start: usize) -> Span {
@@ -32,30 +33,18 @@ fn stream_of(alloc: Global, characters: &str, spacing: Spacing) -> Result<TokenS
     Ok(stream)
 }
 
-/// A mark of any number of characters.
-trait Printed: Peek + Parse + Drop {
-    /// Adds the mark at the end of a stream.
-    fn print_to(&self, out: &mut TokenStream) -> std::result::Result<(), AllocError>;
-}
-
-impl<K: ReadMark<N>, const N: usize> Printed for Mark<K, N> {
-    fn print_to(&self, out: &mut TokenStream) -> std::result::Result<(), AllocError> {
-        self.print(out)
-    }
-}
-
 /// Whether such a mark is seen and read in the stream, and printed as it.
-fn is_read<M: Printed>(stream: &TokenStream) -> Result<bool> {
+fn is_read<M: Peek + Parse + ToTokens + Drop>(stream: &TokenStream) -> Result<bool> {
     let mut input = ParseBuffer::new(stream);
     let seen = input.peek::<M>();
     let mark = input.parse::<M>()?;
     let mut printed = TokenStream::new(stream.alloc());
-    mark.print_to(&mut printed)?;
+    mark.to_tokens(&mut printed)?;
     Ok(seen && input.is_empty() && printed == *stream)
 }
 
 /// Whether such a mark is neither seen nor read in the stream, with this fault at its first token, and nothing is read.
-fn is_refused<M: Printed>(stream: &TokenStream, text: &str) -> bool {
+fn is_refused<M: Peek + Parse + ToTokens + Drop>(stream: &TokenStream, text: &str) -> bool {
     let mut input = ParseBuffer::new(stream);
     let seen = input.peek::<M>();
     let Err(error) = input.parse::<M>() else {
@@ -70,7 +59,12 @@ fn is_refused<M: Printed>(stream: &TokenStream, text: &str) -> bool {
 
 /// Whether such marks are the ones of these characters, and are refused with this fault where the last one is another, or
 /// where they aren't joined.
-fn is_mark<M: Printed>(alloc: Global, characters: &str, other: &str, fault: &str) -> Result<bool> {
+fn is_mark<M: Peek + Parse + ToTokens + Drop>(
+    alloc: Global,
+    characters: &str,
+    other: &str,
+    fault: &str,
+) -> Result<bool> {
     let apart = stream_of(alloc, characters, Spacing::Alone)?;
     let other = stream_of(alloc, other, Spacing::Joint)?;
     let is_apart = characters.len() > 1 && !is_refused::<M>(&apart, fault);

@@ -4,6 +4,7 @@ use std::test::Fail;
 use syn_parse::buffer::ParseBuffer;
 use syn_tokens::error::Result;
 use syn_tokens::ident::Ident;
+use syn_tokens::print::ToTokens;
 use syn_tokens::span::Span;
 use syn_tokens::stream::TokenStream;
 use syn_tokens::stream::tree::TokenTree;
@@ -24,7 +25,7 @@ fn is_read<K: WordKind>(stream: &TokenStream) -> Result<bool> {
     let seen = input.peek::<Word<K>>();
     let word = input.parse::<Word<K>>()?;
     let mut printed = TokenStream::new(stream.alloc());
-    word.print(&mut printed)?;
+    word.to_tokens(&mut printed)?;
     Ok(seen && word.span == HERE && input.is_empty() && printed == *stream)
 }
 
