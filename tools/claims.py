@@ -17,6 +17,7 @@ and a public function with a contract of which nothing is claimed. In tools/clai
     unproved: TEXT             a line behind the crate's table
 """
 
+import argparse
 import fnmatch
 import sys
 from pathlib import Path
@@ -136,10 +137,10 @@ def page_of(head, crates):
     return "\n".join(lines).rstrip("\n") + "\n"
 
 
-def main(words):
-    if words not in ([], ["--check"]):
-        print(__doc__)
-        sys.exit(0 if words in (["--help"], ["-h"]) else 2)
+def main():
+    parser = argparse.ArgumentParser(description=__doc__, formatter_class=argparse.RawDescriptionHelpFormatter)
+    parser.add_argument("--check", action="store_true", help="write nothing, and fail where the page isn't up to date")
+    only_check = parser.parse_args().check
     head, crates = read_source(SOURCE.read_text())
     complaints = []
     for crate in crates:
@@ -152,7 +153,7 @@ def main(words):
     if complaints:
         sys.exit(1)
     page = page_of(head, crates)
-    if words == ["--check"]:
+    if only_check:
         if not PAGE.is_file() or PAGE.read_text() != page:
             sys.exit(f"claims: {PAGE} isn't as it would be written; run tools/claims.py")
         print(f"claims: {PAGE} is up to date")
@@ -161,4 +162,4 @@ def main(words):
 
 
 if __name__ == "__main__":
-    main(sys.argv[1:])
+    main()
