@@ -1,5 +1,4 @@
 -- WHAT THE CONTRACTS OF PARSERS ARE MADE OF, in one place to import from.
-pub use Rattle.std.specs.Prelude.{◌≡◌, OnErr}
 pub use Rattle.syn_grammar.specs.Grammar.{rule, inside, name_or}
 pub use Rattle.syn_grammar.specs.Run.{reads, parse}
 pub use Rattle.syn_grammar.specs.Says.{Says, Parses, MayParse, Moved, Kept, Outcome, itself}

@@ -1,7 +1,7 @@
 //! Fields.
 ghost use Rattle.syn_grammar.specs.Rules as rules;
-ghost use Rattle.syn_tree.specs.Parsing.{◌≡◌, OnErr, of, rule, meaning_of_rule, reads, Says, Parses, Moved, Outcome, itself, IsSyntax, IsSyntaxError};
-ghost use Rattle.std.specs.Prelude.{OnOk};
+ghost use Rattle.syn_tree.specs.Parsing.{of, rule, meaning_of_rule, reads, Says, Parses, Moved, Outcome, itself, IsSyntax, IsSyntaxError};
+ghost use Rattle.std.specs.Prelude.{◌≡◌, OnErr, OnOk};
 ghost use Rattle.syn_grammar.specs.Grammar.{print};
 ghost use Rattle.syn_tokens.specs.Building.{added};
 ghost use Rattle.syn_tokens.specs.Kinds.{colon_syntax};
