@@ -18,11 +18,11 @@ import time
 from pathlib import Path
 
 from grammarlib.examples import parse
-from grammarlib.fronts import Fronts
+from grammarlib.lookaheads import Lookaheads
 from grammarlib.reader import Reader, Refused
 from grammarlib.sentences import LONGEST, Sentences, TooDeep
 from grammarlib.source import Source
-from grammarlib.tokens import SIGNS, Group, Ident, Literal, Punct, read_text, shown, stream
+from grammarlib.tokens import DELIMITER_TEXTS, Group, Ident, Literal, Punct, read_text, shown, stream
 
 HERE = Path(__file__).resolve().parent
 # the oracle's name of a kind, and the rule that reads it
@@ -37,14 +37,14 @@ class Oracle:
         import oracle
         oracle.STAGE = stage
         self.o, self.own = oracle, gen
-        self.delimiters = {SIGNS[d][0]: d for d in ('Paren', 'Brace', 'Bracket')}
+        self.delimiters = {DELIMITER_TEXTS[d][0]: d for d in ('Paren', 'Brace', 'Bracket')}
 
     def to(self, trees):
         o = self.o
         made = {Ident: lambda t: o.Ident(t.text),
                 Punct: lambda t: o.Punct(t.character, t.joint),
                 Literal: lambda t: o.Lit(t.kind, t.text),
-                Group: lambda t: o.Group(SIGNS[t.delimiter][0], self.to(t.content))}
+                Group: lambda t: o.Group(DELIMITER_TEXTS[t.delimiter][0], self.to(t.content))}
         return [made[type(t)](t) for t in trees]
 
     def back(self, trees):
@@ -123,16 +123,16 @@ class Comparison:
 
 def compare(options):
     source = Source(options.crate)
-    fronts = Fronts(source)
+    lookaheads = Lookaheads(source)
     oracle = Oracle(options.oracle, options.stage)
     kinds = [(k, r) for k, r in KINDS.items() if r in source.table]
-    found = Comparison(Table(Reader(fronts, source.table)), oracle)
+    found = Comparison(Table(Reader(lookaheads, source.table)), oracle)
     for example in parse(HERE / 'examples.txt', source.rules):
         for kind in [k for k, rule in kinds if rule == example.rule]:
             found.of(kind, example.rule, read_text(example.text))
     worked = found.inputs
     dice = random.Random(options.seed)
-    sentences, generator = Sentences(fronts, source.table, dice), oracle.own.G(options.seed, options.stage)
+    sentences, generator = Sentences(lookaheads, source.table, dice), oracle.own.G(options.seed, options.stage)
     started = time.time()
     while found.inputs < worked + options.count:
         kind, rule = dice.choice(kinds)

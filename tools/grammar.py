@@ -16,7 +16,7 @@ from grammarlib.apart import Apart
 from grammarlib.borders import Borders, read_equivalent
 from grammarlib.complaints import EXPLAINED, Tests
 from grammarlib.examples import Theorems, parse
-from grammarlib.fronts import Fronts
+from grammarlib.lookaheads import Lookaheads
 from grammarlib.ranks import ranks
 from grammarlib.source import Source
 from grammarlib.starts import Starts
@@ -28,7 +28,7 @@ SHOWN = 20  # complaints that are printed
 
 def checked(source):
     """The files that the table gives, and the complaints about it."""
-    starts = Starts(Fronts(source), source.table)
+    starts = Starts(Lookaheads(source), source.table)
     tests = Tests(starts, Writer(source).look)
     rank, circles = ranks(starts)
     complaints = tests.complaints() + Apart(starts).complaints() + circles
@@ -37,11 +37,11 @@ def checked(source):
 
 def worked_examples(source):
     """The file of the worked examples, and what they lack: of each rule one that is read, one that is refused, and its borders."""
-    fronts, examples = Fronts(source), parse(HERE / 'examples.txt', source.rules)
-    text, bare = Theorems(source, fronts).file(examples)
+    lookaheads, examples = Lookaheads(source), parse(HERE / 'examples.txt', source.rules)
+    text, bare = Theorems(source, lookaheads).file(examples)
     lacking = [f'`{rule}`: an example that is read, and one that is refused' for rule in bare]
     equivalent = read_equivalent(HERE / 'equivalent_mutants.txt')
-    return {'proofs/Examples.antt': text}, lacking + Borders(fronts, source.table, examples, equivalent).lacking()
+    return {'proofs/Examples.antt': text}, lacking + Borders(lookaheads, source.table, examples, equivalent).lacking()
 
 
 def tell_lacking(lacking):

@@ -19,7 +19,7 @@ from pathlib import Path
 from grammarlib.antt import Fault
 from grammarlib.borders import Borders, read_equivalent
 from grammarlib.examples import parse
-from grammarlib.fronts import Fronts
+from grammarlib.lookaheads import Lookaheads
 from grammarlib.reader import Reader, Refused
 from grammarlib.sentences import Sentences, TooDeep
 from grammarlib.source import Source
@@ -30,7 +30,7 @@ TRIES = 4000  # texts that --find tries of each change
 
 
 def borders_of(source, examples):
-    return Borders(Fronts(source), source.table, parse(examples, source.rules), read_equivalent(HERE / 'equivalent_mutants.txt'))
+    return Borders(Lookaheads(source), source.table, parse(examples, source.rules), read_equivalent(HERE / 'equivalent_mutants.txt'))
 
 
 def fate(borders, mutant):
@@ -63,10 +63,10 @@ def answer(reader, rule, trees):
 
 def telling_text(borders, mutant, dice):
     """A short random text that the changed table reads otherwise, or None."""
-    right, wrong, found = Reader(borders.fronts, borders.table), borders.reader(mutant), None
+    right, wrong, found = Reader(borders.lookaheads, borders.table), borders.reader(mutant), None
     tables = [borders.table, {**borders.table, mutant.rule: mutant.form}]
     for _ in range(TRIES):
-        sentences = Sentences(borders.fronts, dice.choice(tables), dice)
+        sentences = Sentences(borders.lookaheads, dice.choice(tables), dice)
         try:
             trees = sentences.sentence(mutant.rule, dice.choice([1, 3, 5]))
         except (TooDeep, AttributeError, IndexError, RecursionError):
@@ -81,7 +81,7 @@ def telling_text(borders, mutant, dice):
 
 def quiet_changes(borders, options):
     """Changes of what tokens promise to tell: how many a law refuses, and how many promise more than anybody asks."""
-    found = [m for rule in borders.table for m in borders.mutants.of_notes(rule) if options.rule in (None, rule)]
+    found = [m for rule in borders.table for m in borders.mutants.of_facts(rule) if options.rule in (None, rule)]
     refused = sum(borders.law(m) is not None for m in found)
     return f'{len(found)} promises taken back: {refused} refused by a law, {len(found) - refused} that nobody asks for'
 

@@ -9,7 +9,7 @@ from grammar import checked
 from grammarlib.antt import Fault
 from grammarlib.complaints import EXPLAINED
 from grammarlib.examples import Theorems, parse
-from grammarlib.fronts import Fronts
+from grammarlib.lookaheads import Lookaheads
 from grammarlib.source import Source
 
 HERE = Path(__file__).resolve().parent
@@ -17,13 +17,13 @@ CRATE = HERE.parent / 'crates' / 'syn_grammar'
 
 # small tables, each with the complaint that it must meet
 SPOILED = {
-    'SEAM': ['table a = plainly name & (when at_mark colons then sign colons & rule a else empty)',
-             'table b = (when at_name and_also noted Before_colons then rule a else plainly name) & sign comma & rule c',
-             'table c = (when at_name and_also noted Before_equals then empty else empty) & plainly name & sign equals'],
+    'SEAM': ['table a = plainly name & (when at_mark colons then punctuation colons & rule a else empty)',
+             'table b = (when at_name and_also ahead Before_colons then rule a else plainly name) & punctuation comma & rule c',
+             'table c = (when at_name and_also ahead Before_equals then empty else empty) & plainly name & punctuation equals'],
     'HALT': ['table a = (when at_word w_where then never else empty) & vanishing true (at_word w_pub) (plainly (word w_pub)) & plainly (word w_where)'],
     'SHUN': ['table a = vanishing true (at_word w_pub) (plainly (word w_pub)) & (when at_word w_pub then plainly (word w_pub) else empty)'],
     'GONE': ['table a = (when at_word w_pub then empty else plainly name) & vanishing true (at_word w_pub) (plainly (word w_pub))'],
-    'KEPT': ['table a = when at_name and_also noted Before_equals then plainly name & sign equals else plainly name'],
+    'KEPT': ['table a = when at_name and_also ahead Before_equals then plainly name & punctuation equals else plainly name'],
     'END': ['table a = inside Paren (vanishing true ended empty)'],
     'ENDED': ['table a = vanishing true ended empty'],
     'UNION': ['table a = one_of (b ∷ c ∷ [])', 'table b = plainly name', 'table c = plainly (word w_union)'],
@@ -31,9 +31,9 @@ SPOILED = {
     'OPEN': ['table a = captured (plainly name)'],
     'LIST': ['table a = ordered lifetime (when at_name then plainly name else empty)'],
     'MEMBER': ['table a = ordered lifetime (plainly (word w_pub) & (when at_mark comma then empty else plainly name))'],
-    'LEAD': ['table a = generics_before lifetime (sign star) (inside Brace empty)'],
+    'LEAD': ['table a = generics_before lifetime (punctuation star) (inside Brace empty)'],
     'SUPPLIED': ['table a = supplied Before_less (when at_name then plainly name else empty) (plainly name)'],
-    'NAMED': ['table a = supplied Before_less (plainly name & (when at_mark less then sign less else empty)) (sign star)'],
+    'NAMED': ['table a = supplied Before_less (plainly name & (when at_mark less then punctuation less else empty)) (punctuation star)'],
 }
 HEAD = '-- A table of a test.\nuse Rattle.syn_grammar.specs.Grammar.{Grammar}\n\nabbrev pub table : Rule → Grammar\n'
 
@@ -59,7 +59,7 @@ class Table(unittest.TestCase):
         source = Source(CRATE)
         files, complaints = checked(source)
         self.assertEqual(complaints, [])
-        files['proofs/Examples.antt'], lacking = Theorems(source, Fronts(source)).file(parse(HERE / 'examples.txt', source.rules))
+        files['proofs/Examples.antt'], lacking = Theorems(source, Lookaheads(source)).file(parse(HERE / 'examples.txt', source.rules))
         self.assertEqual(lacking, [])
         for path, text in files.items():
             self.assertEqual((CRATE / path).read_text(), text, path)
@@ -68,7 +68,7 @@ class Table(unittest.TestCase):
         self.assertEqual(Source(CRATE).without_sentence(), [])
 
     def test_a_good_table(self):
-        self.assertEqual(self.codes(['table a = asking name & (when at_mark colons then asking_sign colons & rule a else empty)']), set())
+        self.assertEqual(self.codes(['table a = asking name & (when at_mark colons then asking_punctuation colons & rule a else empty)']), set())
 
     def test_each_complaint(self):
         for code, lines in SPOILED.items():
@@ -83,7 +83,7 @@ class Table(unittest.TestCase):
     def test_what_cannot_be_read(self):
         self.refuses(['table a = when at_wrd w_pub then empty else empty'], 'nothing is named `at_wrd`')
         self.refuses(['table a = empty', 'table a = unshown'], 'twice')
-        self.refuses(['table a = when at_name but_not noted Before_less and_also at_name then empty else empty'], 'parentheses')
+        self.refuses(['table a = when at_name but_not ahead Before_less and_also at_name then empty else empty'], 'parentheses')
         self.refuses(['table a = empty & when at_name then empty else empty'], 'parentheses')
 
     def test_an_example_that_is_read_otherwise(self):
@@ -91,7 +91,7 @@ class Table(unittest.TestCase):
         path = self.folder / 'examples.txt'
         path.write_text('wrong  visibility  pub(in)  => pub ( in )\n')
         with self.assertRaises(Fault):
-            Theorems(source, Fronts(source)).file(parse(path, source.rules))
+            Theorems(source, Lookaheads(source)).file(parse(path, source.rules))
 
     def test_all_complaints_are_tested(self):
         # no form of today prints `_` as a name

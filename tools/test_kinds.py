@@ -117,13 +117,13 @@ impl Read for Thing {
 table things =
     when ended
     then empty
-    else rule thing & (when at_comma then sign comma & rule things else empty)
+    else rule thing & (when at_comma then punctuation comma & rule things else empty)
 --
 -- Things that end otherwise.
 table others =
     when at_brace
     then empty
-    else rule thing & (when at_comma then sign comma & rule others else empty)
+    else rule thing & (when at_comma then punctuation comma & rule others else empty)
 """)
         self.assertEqual(list_rules(table), [("things", "thing", "Things.")])
         files = comma_lists(source, table)

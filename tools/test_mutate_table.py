@@ -11,7 +11,7 @@ from grammar import checked
 from grammarlib.antt import Fault
 from grammarlib.borders import Borders, read_equivalent
 from grammarlib.examples import Theorems, parse
-from grammarlib.fronts import Fronts
+from grammarlib.lookaheads import Lookaheads
 from grammarlib.mutants import Mutants
 from grammarlib.source import Source
 
@@ -26,7 +26,7 @@ WRONG = {
     'a restriction stands twice': ('inside Paren (rule restriction)', 'inside Paren (rule restriction & (when at_word w_in then rule restriction else empty))'),
 }
 # a rule of forms that the table doesn't use today
-FORMS = '''table a = captured (inside Brace (raw Paren & lifetime)) & vanishing false (at_mark plus) (sign plus & either lifetime (plainly name))
+FORMS = '''table a = captured (inside Brace (raw Paren & lifetime)) & vanishing false (at_mark plus) (punctuation plus & either lifetime (plainly name))
 table b = such no_trailing_brace (rule a) & generics_before lifetime (plainly name) (rest_after equals)
 table c = ordered lifetime (rule a) & supplied Before_less (plainly index) (one_of (a ∷ b ∷ []))
 '''
@@ -49,7 +49,7 @@ class Mutations(unittest.TestCase):
     def borders(self, equivalent=None):
         source = Source(self.folder)
         examples = parse(HERE / 'examples.txt', source.rules)
-        return Borders(Fronts(source), source.table, examples, equivalent or read_equivalent(HERE / 'equivalent_mutants.txt'))
+        return Borders(Lookaheads(source), source.table, examples, equivalent or read_equivalent(HERE / 'equivalent_mutants.txt'))
 
     def test_no_change_gets_through(self):
         self.assertEqual(self.borders().lacking(), [])
@@ -75,10 +75,10 @@ class Mutations(unittest.TestCase):
                 source = Source(self.folder)
                 self.assertEqual(checked(source)[1], [], 'a law refuses it already')
                 with self.assertRaises(Fault):
-                    Theorems(source, Fronts(source)).file(parse(HERE / 'examples.txt', source.rules))
+                    Theorems(source, Lookaheads(source)).file(parse(HERE / 'examples.txt', source.rules))
 
     def test_a_new_rule_wants_examples(self):
-        self.table.write_text(self.table.read_text().rstrip() + '\n--\n-- New.\ntable new =\n    plainly (word w_pub) & sign comma\n')
+        self.table.write_text(self.table.read_text().rstrip() + '\n--\n-- New.\ntable new =\n    plainly (word w_pub) & punctuation comma\n')
         lacking = self.borders().lacking()
         for change in ['`pub` may be left out', '`,` may stand again at the end', '`pub` may be any identifier']:
             self.assertIn(f'`new`: no example tells the table from one in which {change}', lacking)
@@ -95,7 +95,7 @@ class Mutations(unittest.TestCase):
         head = text[:text.index('abbrev pub table')].replace('w_crate,', 'w_crate, plus,')
         self.table.write_text(f'{head}abbrev pub table : Rule → Grammar\n{FORMS}')
         source = Source(self.folder)
-        mutants = Mutants(Fronts(source), source.table)
+        mutants = Mutants(Lookaheads(source), source.table)
         changes = {rule: [m.change for m in mutants.of(rule)] for rule in source.table}
         self.assertIn('the group { } stands without its delimiters', changes['a'])
         self.assertIn('`+` may also be `,`', changes['a'])

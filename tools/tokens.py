@@ -164,7 +164,7 @@ impl DelimiterKind for {name} {{
     }}
 }}
 """ for name, signs, called in GROUPS)
-    return f"""//! The signs of groups.
+    return f"""//! The delimiters of groups.
 ghost use Rattle.std.specs.Prelude.{{codes}};
 ghost use Rattle.syn_grammar.specs.Tokens as grammar;
 
@@ -178,7 +178,7 @@ def kind_module():
     files.sort()
     mods = "".join(f"mod {f};\n" for f, _ in files)
     uses = "".join(f"pub use {f}::{name};\n" for f, kinds in files for name in sorted(kind[0] for kind in kinds))
-    return f"""//! The kinds of words, marks and signs of groups.
+    return f"""//! The kinds of words, marks and delimiters of groups.
 
 {mods}
 {uses}"""
@@ -190,7 +190,7 @@ def token_module():
     aliases += [(f"`{text}`", name, f"Mark<kind::{name}, {len(text)}>") for name, text in MARKS + LONG_MARKS]
     aliases += [(f"`{text}`", name, f"Delimiters<kind::{name}>") for name, text, _ in GROUPS]
     body = "".join(f"\n/// {doc}\npub type {name} = {value};\n" for doc, name, value in aliases)
-    return f"""//! Words, marks and the signs of groups, each with a type.
+    return f"""//! Words, marks and the delimiters of groups, each with a type.
 
 mod characters;
 mod custom;
@@ -258,7 +258,7 @@ abbrev pub {snake(name)}_syntax : {name} → Syntax
 def group_specs():
     uses = "".join(f"use Rattle.syn_tokens.specs.declared.token.kind.groups.{name}.{{{name} as K_{name}}}\n" for name, _, _ in GROUPS)
     body = "".join(f"\nabbrev pub {name} : Type 0\n{name} = Delimiters K_{name}\n" for name, _, _ in GROUPS)
-    return f"""-- Words, marks and the signs of groups, as types and as syntax.
+    return f"""-- Words, marks and the delimiters of groups, as types and as syntax.
 use Rattle.syn_tokens.specs.declared.token.delimiters.Delimiters.{{Delimiters}}
 {uses}pub use Rattle.syn_tokens.specs.KindsOfWords.{{{passed_on([kind[0] for _, _, kinds in WORD_FILES for kind in kinds])}}}
 pub use Rattle.syn_tokens.specs.KindsOfMarks.{{{passed_on([name for name, _ in MARKS + LONG_MARKS])}}}

@@ -9,7 +9,7 @@ COMMON = ['◌≡◌', 'ℕ', 'Bool', 'true', 'false', 'List', '[]', '◌∷◌'
 
 
 class Writer:
-    """Writes faces, looks and texts by the names that the specifications give them."""
+    """Writes terminals, looks and texts by the names that the specifications give them."""
 
     def __init__(self, source):
         self.text_names = {text: name for name, text in source.texts.items()}
@@ -18,11 +18,11 @@ class Writer:
     def text(self, text):
         return self.text_names.get(text) or '(' + ' ∷ '.join(map(str, text.encode())) + ' ∷ [])'
 
-    def face(self, face):
-        if len(face) == 1:
-            return face[0]
-        argument = self.text(face[1]) if face[0] in ('Word', 'Sign') else face[1][0]
-        return f'{face[0]} {argument}'
+    def terminal(self, terminal):
+        if len(terminal) == 1:
+            return terminal[0]
+        argument = self.text(terminal[1]) if terminal[0] in ('Word', 'Punctuation') else terminal[1][0]
+        return f'{terminal[0]} {argument}'
 
     def look(self, look, least=0):
         """A look, in parentheses where `least` (how strongly the context binds) wants them."""
@@ -41,8 +41,8 @@ class Writer:
         items = list(items)
         return ' ∷ '.join(items) + ' ∷ []' if items else '[]'
 
-    def faces(self, faces):
-        return self.list(map(self.face, faces))
+    def terminals(self, terminals):
+        return self.list(map(self.terminal, terminals))
 
     def looks(self, looks):
         return self.list(self.look(c, 50) for c in looks)

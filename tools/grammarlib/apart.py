@@ -17,7 +17,7 @@ def opposite(p, q):
 class Apart:
     def __init__(self, starts):
         sys.setrecursionlimit(20000)
-        self.starts, self.fronts, self.table = starts, starts.fronts, starts.table
+        self.starts, self.lookaheads, self.table = starts, starts.lookaheads, starts.table
 
     def openings(self, form):
         """Forms that together read what this one reads, one step simpler (none: it can't be opened)."""
@@ -30,7 +30,7 @@ class Apart:
                 return [('&', form[1][1], ('&', form[1][2], rest))]
             if form[1][0] == 'generics_before':
                 x, y, behind = form[1][1:]
-                return [('&', opt_generics(self.fronts, x, y), ('&', behind, rest))]
+                return [('&', opt_generics(self.lookaheads, x, y), ('&', behind, rest))]
             return [('&', part, rest) for part in self.openings(form[1])]
         if kind == 'when':
             return [form[2], form[3]]
@@ -41,7 +41,7 @@ class Apart:
         if kind == 'one_of':
             return [self.table[k[0]] for k in form[1]]
         if kind == 'generics_before':
-            return [('&', opt_generics(self.fronts, form[1], form[2]), form[3])]
+            return [('&', opt_generics(self.lookaheads, form[1], form[2]), form[3])]
         if kind in ('such', 'shaped'):
             return [form[2]]
         if kind == 'captured':
@@ -50,26 +50,26 @@ class Apart:
 
     def clears(self, g, h):
         """g reads something, or nothing only before what h can't begin with."""
-        offs = self.starts.offs([], g)
-        return not self.starts.passes(g) or all(any(self.fronts.must(c, f) for c in offs) for f in self.starts.heads(h))
+        never_follow = self.starts.never_follow([], g)
+        return not self.starts.nullable(g) or all(any(self.lookaheads.must(c, f) for c in never_follow) for f in self.starts.first_set(h))
 
     def disjoint(self, g, h):
         starts = self.starts
-        return (not (starts.passes(g) and starts.passes(h)) and self.clears(g, h) and self.clears(h, g)
-                and not set(starts.heads(g)) & set(starts.heads(h)))
+        return (not (starts.nullable(g) and starts.nullable(h)) and self.clears(g, h) and self.clears(h, g)
+                and not set(starts.first_set(g)) & set(starts.first_set(h)))
 
     def sides(self, form):
         """A form that turns by what stands next: the look and its two sides."""
         if form[0] == 'when':
             return form[1], form[2], form[3]
         if form[0] == 'generics_before':
-            return self.fronts.at_generics, ('&', ('ordered', *form[1:3]), form[3]), form[3]
+            return self.lookaheads.at_generics, ('&', ('ordered', *form[1:3]), form[3]), form[3]
         if form[0] == '&' and form[1][0] == 'when':
             look, yes, other = form[1][1:]
             return look, ('&', yes, form[2]), ('&', other, form[2])
         if form[0] == '&' and form[1][0] == 'generics_before':
             x, y, behind = form[1][1:]
-            return self.fronts.at_generics, ('&', ('ordered', x, y), ('&', behind, form[2])), ('&', behind, form[2])
+            return self.lookaheads.at_generics, ('&', ('ordered', x, y), ('&', behind, form[2])), ('&', behind, form[2])
         return None
 
     def apart(self, g, h, depth=0):

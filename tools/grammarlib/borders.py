@@ -60,13 +60,13 @@ class Prepared:
 
 
 class Borders:
-    def __init__(self, fronts, table, examples, equivalent):
-        self.fronts, self.table, self.equivalent = fronts, table, equivalent
-        self.mutants = Mutants(fronts, table)
+    def __init__(self, lookaheads, table, examples, equivalent):
+        self.lookaheads, self.table, self.equivalent = lookaheads, table, equivalent
+        self.mutants = Mutants(lookaheads, table)
         self.examples = {rule: [Prepared(e) for e in examples if e.rule == rule] for rule in table}
 
     def reader(self, mutant):
-        return WrongReader(self.fronts, {**self.table, mutant.rule: mutant.form})
+        return WrongReader(self.lookaheads, {**self.table, mutant.rule: mutant.form})
 
     def told(self, mutant):
         """The name of an example of the rule that tells this change, or None."""
@@ -77,8 +77,8 @@ class Borders:
         """The complaint by which a law refuses the changed table, or None."""
         if any(part == ANY_REST for _, part in places(mutant.form)):
             return None
-        starts = Starts(self.fronts, {**self.table, mutant.rule: mutant.form})
-        found = Tests(starts, Writer(self.fronts.source).look).complaints() + Apart(starts).complaints() + ranks(starts)[1]
+        starts = Starts(self.lookaheads, {**self.table, mutant.rule: mutant.form})
+        found = Tests(starts, Writer(self.lookaheads.source).look).complaints() + Apart(starts).complaints() + ranks(starts)[1]
         return found[0].code if found else None
 
     def lacking(self):

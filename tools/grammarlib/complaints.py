@@ -4,18 +4,18 @@ They are the tests of proofs/Reprint.antt (`fine`), proofs/Unique.antt (`sound`)
 """
 from dataclasses import dataclass
 
-from .fronts import ENDED, mentions_note, unique
-from .sheets import Sheet, Sheets
+from .lookaheads import ENDED, mentions_fact, unique
+from .summaries import Summary, Summaries
 
 EXPLAINED = {
-    'SEAM': 'a part asks what stands behind it, and the answer may differ in the print, where the next part begins with another face. '
-            'First: which notes does the token before it tell (plainly, telling, asking)? Then: does somebody ask who needn\'t?',
+    'SEAM': 'a part asks what stands behind it, and the answer may differ in the print, where the next part begins with another terminal. '
+            'First: which facts does the token before it tell (plainly, telling, asking)? Then: does somebody ask who needn\'t?',
     'HALT': 'an optional part was absent because a look was false; in the print of what follows it may be true. '
-            'First: let the token that follows tell the note (telling, asking); then: is the look too wide?',
+            'First: let the token that follows tell that fact (telling, asking); then: is the look too wide?',
     'SHUN': 'a part that vanishes from the print asks that something doesn\'t follow, but that may follow. Narrow the look of the vanishing part.',
     'GONE': 'what follows may vanish from the print, and a look before it asks for it. Ask for what surely stays, or don\'t let it vanish.',
-    'KEPT': 'a `when` may turn the other way in the print, because the face that it asks for is printed otherwise. '
-            'Let the form keep its first token, or ask by a look that both faces answer alike.',
+    'KEPT': 'a `when` may turn the other way in the print, because the terminal that it asks for is printed otherwise. '
+            'Let the form keep its first token, or ask by a look that both terminals answer alike.',
     'END': 'the content of a group may end where a vanishing part asks that nothing of the kind follows.',
     'ENDED': 'a rule\'s last part asks that the stream doesn\'t end. Every rule must be readable alone.',
     'SUPPLIED': 'the name before a supplied `_ :` may read or print nothing.',
@@ -41,33 +41,33 @@ class Complaint:
         return f'{self.code} in rule {self.rule}: {self.about}'
 
 
-def face_words(face):
-    kind = face[0]
+def terminal_words(terminal):
+    kind = terminal[0]
     return {'Ended': 'the end', 'Name': 'a name'}.get(kind) or {
-        'Word': lambda: f'`{face[1]}`', 'Sign': lambda: f'`{face[1]}`',
-        'Literal': lambda: f'a literal {face[1][0]}', 'Holds': lambda: f'a {face[1][0]} group'}[kind]()
+        'Word': lambda: f'`{terminal[1]}`', 'Punctuation': lambda: f'`{terminal[1]}`',
+        'Literal': lambda: f'a literal {terminal[1][0]}', 'Delimited': lambda: f'a {terminal[1][0]} group'}[kind]()
 
 
 class Tests:
-    """Solves the sheets of a table and collects the complaints."""
+    """Solves the summaries of a table and collects the complaints."""
 
     def __init__(self, starts, show_look):
-        self.starts, self.fronts, self.table = starts, starts.fronts, starts.table
-        self.sheets = Sheets(starts)
+        self.starts, self.lookaheads, self.table = starts, starts.lookaheads, starts.table
+        self.summaries = Summaries(starts)
         self.show = show_look
         self.found = []
         self.run()
 
     def run(self):
-        sheets = self.sheets
-        while sheets.grown:  # the tests may ask for the notes of further rules
-            sheets.solve()
+        summaries = self.summaries
+        while summaries.grown:  # the tests may ask for the facts of further rules
+            summaries.solve()
             self.found = []
-            for rule, told in list(sheets.said):
+            for rule, told in list(summaries.said):
                 self.fine(self.table[rule], rule, told)
         for rule in self.table:
-            for look in sheets.said[rule, False].shuns:
-                if self.fronts.may(look, ENDED):
+            for look in summaries.said[rule, False].shuns:
+                if self.lookaheads.may(look, ENDED):
                     self.report('ENDED', rule, self.show(look))
 
     def report(self, code, rule, about):
@@ -92,115 +92,115 @@ class Tests:
             test(form, rule, told)
 
     def fine_pair(self, form, rule, told):
-        first = self.sheets.sheet(form[1], told)
-        asked = self.sheets.heeds(told, first)
-        second = self.sheets.sheet(form[2], asked)
+        first = self.summaries.summary(form[1], told)
+        asked = self.summaries.heeds(told, first)
+        second = self.summaries.summary(form[2], asked)
         self.fine(form[1], rule, told)
         self.fine(form[2], rule, asked)
-        self.seam(rule, first, second, self.starts.offs([], form[1]))
+        self.seam(rule, first, second, self.starts.never_follow([], form[1]))
 
-    def seam(self, rule, first, second, offs):
+    def seam(self, rule, first, second, never_follow):
         """What the first form asks of what follows it, of the prints of the second."""
-        fronts = self.fronts
-        excluded = lambda face: any(fronts.must(c, face) for c in offs)
+        lookaheads = self.lookaheads
+        excluded = lambda terminal: any(lookaheads.must(c, terminal) for c in never_follow)
         for a, b, told in second.moves:
             if excluded(a):
                 continue
             for look in first.ends:
-                if not fronts.agree(look, a, b, told):
-                    self.report('SEAM', rule, f'{self.show(look)}, where {face_words(a)} may be printed as {face_words(b)}')
+                if not lookaheads.agree(look, a, b, told):
+                    self.report('SEAM', rule, f'{self.show(look)}, where {terminal_words(a)} may be printed as {terminal_words(b)}')
             for look in first.halts:
-                if not fronts.stays_off(look, a, b, told):
-                    self.report('HALT', rule, f'{self.show(look)}, where {face_words(a)} may be printed as {face_words(b)}')
+                if not lookaheads.stays_off(look, a, b, told):
+                    self.report('HALT', rule, f'{self.show(look)}, where {terminal_words(a)} may be printed as {terminal_words(b)}')
             for look in first.shuns:
-                if fronts.may(look, b):
-                    self.report('SHUN', rule, f'{self.show(look)}, before {face_words(b)}')
+                if lookaheads.may(look, b):
+                    self.report('SHUN', rule, f'{self.show(look)}, before {terminal_words(b)}')
         for a in second.stays:
             for look in first.shuns:
-                if not excluded(a) and fronts.may(look, a):
-                    self.report('SHUN', rule, f'{self.show(look)}, before {face_words(a)}')
+                if not excluded(a) and lookaheads.may(look, a):
+                    self.report('SHUN', rule, f'{self.show(look)}, before {terminal_words(a)}')
         for a in second.gone:
             for look in first.ends:
-                if not excluded(a) and fronts.may(look, a):
-                    self.report('GONE', rule, f'{self.show(look)}, where {face_words(a)} may vanish')
+                if not excluded(a) and lookaheads.may(look, a):
+                    self.report('GONE', rule, f'{self.show(look)}, where {terminal_words(a)} may vanish')
 
     def fine_when(self, form, rule, told):
         look = form[1]
-        asked = told or mentions_note(look)
+        asked = told or mentions_fact(look)
         self.fine(form[2], rule, asked)
         self.fine(form[3], rule, asked)
-        self.kept(rule, look, self.sheets.sheet(form[2], asked), self.sheets.sheet(form[3], asked))
+        self.kept(rule, look, self.summaries.summary(form[2], asked), self.summaries.summary(form[3], asked))
 
     def fine_vanishing(self, form, rule, told):
         look = form[2]
-        asked = told or mentions_note(look)
+        asked = told or mentions_fact(look)
         self.fine(form[3], rule, asked)
-        self.kept(rule, look, self.sheets.sheet(form[3], asked), Sheet(passes=True))
+        self.kept(rule, look, self.summaries.summary(form[3], asked), Summary(nullable=True))
 
     def kept(self, rule, look, yes, other):
-        fronts = self.fronts
+        lookaheads = self.lookaheads
         for a, b, told in yes.moves:
-            if fronts.may(look, a) and not fronts.must(look, b) and not fronts.agree(look, a, b, told):
-                self.report('KEPT', rule, f'{self.show(look)}, where {face_words(a)} may be printed as {face_words(b)}')
+            if lookaheads.may(look, a) and not lookaheads.must(look, b) and not lookaheads.agree(look, a, b, told):
+                self.report('KEPT', rule, f'{self.show(look)}, where {terminal_words(a)} may be printed as {terminal_words(b)}')
         for a, b, told in other.moves:
-            if not fronts.must(look, a) and fronts.may(look, b) and not fronts.agree(look, a, b, told):
-                self.report('KEPT', rule, f'not {self.show(look)}, where {face_words(a)} may be printed as {face_words(b)}')
+            if not lookaheads.must(look, a) and lookaheads.may(look, b) and not lookaheads.agree(look, a, b, told):
+                self.report('KEPT', rule, f'not {self.show(look)}, where {terminal_words(a)} may be printed as {terminal_words(b)}')
         for a in yes.gone:
-            if fronts.may(look, a):
-                self.report('KEPT', rule, f'{self.show(look)}, where {face_words(a)} may vanish')
+            if lookaheads.may(look, a):
+                self.report('KEPT', rule, f'{self.show(look)}, where {terminal_words(a)} may vanish')
 
     def fine_inside(self, form, rule, told):
-        asked = bool(self.fronts.asked_inside(form[1]))
+        asked = bool(self.lookaheads.asked_inside(form[1]))
         self.fine(form[2], rule, asked)
-        for look in self.sheets.sheet(form[2], asked).shuns:
-            if self.fronts.may(look, ENDED):
+        for look in self.summaries.summary(form[2], asked).shuns:
+            if self.lookaheads.may(look, ENDED):
                 self.report('END', rule, self.show(look))
 
     def fine_supplied(self, form, rule, told):
         self.fine(form[2], rule, True)
         self.fine(form[3], rule, False)
-        name = self.sheets.sheet(form[2], True)
-        look = ('and_also', ('at_name',), ('noted', form[1]))
-        if name.passes or name.gone:
+        name = self.summaries.summary(form[2], True)
+        look = ('and_also', ('at_name',), ('ahead', form[1]))
+        if name.nullable or name.gone:
             self.report('SUPPLIED', rule, 'the first of its forms')
-        self.seam(rule, name, self.sheets.colon_sheet(), self.starts.offs([], form[2]))
-        for face in self.sheets.wild_out(name):
-            if self.fronts.may(look, face):
-                self.report('WILD', rule, face_words(face))
+        self.seam(rule, name, self.summaries.colon_summary(), self.starts.never_follow([], form[2]))
+        for terminal in self.summaries.wild_out(name):
+            if self.lookaheads.may(look, terminal):
+                self.report('WILD', rule, terminal_words(terminal))
         for move in name.moves:
-            if not self.fronts.stays_off(look, *move):
-                self.report('NAMED', rule, f'{face_words(move[0])} may be printed as {face_words(move[1])}')
+            if not self.lookaheads.stays_off(look, *move):
+                self.report('NAMED', rule, f'{terminal_words(move[0])} may be printed as {terminal_words(move[1])}')
 
     def fine_captured(self, form, rule, told):
-        if not self.starts.closes(form[1]) or self.starts.passes(form[1]):
+        if not self.starts.closes(form[1]) or self.starts.nullable(form[1]):
             self.report('OPEN', rule, 'the captured form')
 
     def fine_generics_before(self, form, rule, told):
         x, y, behind = form[1:]
         self.fine(('ordered', x, y), rule, False)
-        edges = unique(self.fronts.mark_heads(',') + self.fronts.mark_heads('>'))
+        edges = unique(self.lookaheads.mark_first_set(',') + self.lookaheads.mark_first_set('>'))
         for member in (x, y):
-            if not self.sheets.sure(self.fronts.at_parameter, edges, member):
+            if not self.summaries.sure(self.lookaheads.at_parameter, edges, member):
                 self.report('LEAD', rule, 'a member may not begin a parameter in the print')
         self.fine(behind, rule, False)
-        sheet = self.sheets.sheet(behind)
-        if not self.starts.closes(behind) or self.starts.passes(behind) or sheet.passes or sheet.gone:
+        summary = self.summaries.summary(behind)
+        if not self.starts.closes(behind) or self.starts.nullable(behind) or summary.nullable or summary.gone:
             self.report('LEAD', rule, 'what follows the generics')
 
     def fine_ordered(self, form, rule, told):
-        fronts = self.fronts
-        edges = fronts.mark_heads(',') + fronts.mark_heads('>')
+        lookaheads = self.lookaheads
+        edges = lookaheads.mark_first_set(',') + lookaheads.mark_first_set('>')
         for member in form[1:3]:
             self.fine(member, rule, False)
-            sheet = self.sheets.sheet(member)
-            if sheet.passes or sheet.gone:
+            summary = self.summaries.summary(member)
+            if summary.nullable or summary.gone:
                 self.report('LIST', rule, 'a member may read or print nothing')
-            for look in sheet.ends + sheet.halts:
-                if not (all(fronts.must(look, e) for e in edges) or not any(fronts.may(look, e) for e in edges)):
+            for look in summary.ends + summary.halts:
+                if not (all(lookaheads.must(look, e) for e in edges) or not any(lookaheads.may(look, e) for e in edges)):
                     self.report('MEMBER', rule, self.show(look))
-            for look in sheet.shuns:
-                if any(fronts.may(look, e) for e in edges):
+            for look in summary.shuns:
+                if any(lookaheads.may(look, e) for e in edges):
                     self.report('MEMBER', rule, f'{self.show(look)} (of a part that vanishes)')
-            for face in sheet.prints():
-                if fronts.may(('at_mark', '>'), face):
-                    self.report('LIST', rule, f'a member may begin with {face_words(face)}')
+            for terminal in summary.prints():
+                if lookaheads.may(('at_mark', '>'), terminal):
+                    self.report('LIST', rule, f'a member may begin with {terminal_words(terminal)}')

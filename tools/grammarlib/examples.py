@@ -16,7 +16,7 @@ from .reader import Reader, Refused
 from .tokens import Group, Ident, Literal, Punct, read_text, stream
 from .write import MARK
 
-UNFOLD = 'left is_end at_front sees take_token take_lifetime take_mark take_group before rows_for rows run reads'
+UNFOLD = 'left is_end lookahead_at sees take_token take_lifetime take_mark take_group before rows_for rows run parse_rule'
 
 
 @dataclass
@@ -54,9 +54,9 @@ def parse(path, rules):
 
 
 class Theorems:
-    def __init__(self, source, fronts):
+    def __init__(self, source, lookaheads):
         self.source, self.writer = source, Writer(source)
-        self.reader = Reader(fronts, source.table)
+        self.reader = Reader(lookaheads, source.table)
 
     def span(self, span, plain):
         return 'call_site' if plain else f'(at {span[0]} {span[1]})'
@@ -94,7 +94,7 @@ class Theorems:
         trees = read_text(example.text)
         comment = f'-- `{example.text}`' if example.text else '-- no tokens'
         if example.unread:
-            claim, proof = f'Unread (rule {example.rule})\n    ({self.stream(trees)})', f'not_read {example.rule} _ refl refl'
+            claim, proof = f'NotDerived (rule {example.rule})\n    ({self.stream(trees)})', f'not_read {example.rule} _ refl refl'
             comment += ': nothing is read'
         elif example.printed is None:
             claim, proof = f'Refused {example.rule}\n    ({self.stream(trees)})', f'not_derived {example.rule} _ refl refl'
@@ -102,7 +102,7 @@ class Theorems:
         else:
             rest = trees[len(trees) - len(read_text(example.rest)):] if example.rest else ()
             printed = self.stream(read_text(example.printed), True)
-            claim = f'ReadsAs {example.rule}\n    ({self.stream(trees)})\n    ({printed})\n    ({self.stream(rest)})'
+            claim = f'DerivesAs {example.rule}\n    ({self.stream(trees)})\n    ({printed})\n    ({self.stream(rest)})'
             proof = f'computed {example.rule} _ _ _ refl refl'
             comment += f' prints `{example.printed}`' + (f' and leaves `{example.rest}`' if example.rest else '')
         return f'{comment}\n{example.name} : {claim}\nunfolding {UNFOLD}\n{example.name} = {proof}\n'
@@ -121,7 +121,7 @@ class Theorems:
         modules = [
             ('Rattle.std.proofs.Common', COMMON), specs('Words'), specs('Tokens'),
             (f'{CRATE}.specs.Rules', ['Rule'] + self.source.rules), (f'{CRATE}.specs.Grammar', ['rule']),
-            specs('Take'), specs('Run'), (f'{CRATE}.specs.Says', ['Refused', 'Unread']),
-            (f'{CRATE}.proofs.Means', ['not_derived']), (f'{CRATE}.proofs.Shown', ['at', 'ReadsAs', 'computed', 'not_read'])]
+            specs('Take'), specs('Run'), (f'{CRATE}.specs.Promises', ['Refused', 'NotDerived']),
+            (f'{CRATE}.proofs.Means', ['not_derived']), (f'{CRATE}.proofs.Shown', ['at', 'DerivesAs', 'computed', 'not_read'])]
         about = '-- Worked examples, from tools/examples.txt: what each rule reads, prints and refuses. The checker computes each.'
         return f'{MARK}\n{about}\n' + use_lines(body, modules) + '\n' + body

@@ -6,7 +6,7 @@ a name that may be a keyword; a group whose content isn't read to its end, or ma
 """
 from dataclasses import dataclass
 
-from .fronts import EMPTY, JOINED, NEVER, unique
+from .lookaheads import EMPTY, JOINED, NEVER, unique
 from .reader import Reader, Refused
 from .starts import LOOKS, Starts
 from .tokens import stream
@@ -111,20 +111,20 @@ def exchanged(value, change):
 
 
 class Mutants:
-    def __init__(self, fronts, table):
-        self.fronts, self.table = fronts, table
-        self.starts = Starts(fronts, table)
-        self.words = fronts.keywords + fronts.contextual
+    def __init__(self, lookaheads, table):
+        self.lookaheads, self.table = lookaheads, table
+        self.starts = Starts(lookaheads, table)
+        self.words = lookaheads.keywords + lookaheads.contextual
 
     def of(self, rule):
         """The changes of a rule that alter what is read or printed; each form once."""
         return self.distinct(rule, self.changes(self.table[rule]))
 
-    def of_notes(self, rule):
+    def of_facts(self, rule):
         """The changes of what the rule's tokens promise to tell: they alter nothing that is read, but a law may refuse them."""
         form = self.table[rule]
         quiet = {'token': (), 'mark': False}
-        return self.distinct(rule, ((f'{self.name(part)} promises no notes', put(form, path, (part[0], quiet[part[0]], part[2])))
+        return self.distinct(rule, ((f'{self.name(part)} promises no facts', put(form, path, (part[0], quiet[part[0]], part[2])))
                                     for path, part in places(form) if part[0] in quiet))
 
     def distinct(self, rule, changes):
@@ -152,20 +152,20 @@ class Mutants:
                 yield change, put(form, path, sequence(new))
 
     def guard(self, form, path):
-        """The faces with which what stands at this place may begin, where a choice has seen to it; else None."""
+        """The terminals with which what stands at this place may begin, where a choice has seen to it; else None."""
         if not path:
             return None
         above = [f for p, f in places(form) if p == path[:-1]][0]
         if above[0] != 'when' or path[-1] != 2:
             return None
-        return {f for f in self.faces() if self.fronts.may(above[1], f)}
+        return {f for f in self.terminals() if self.lookaheads.may(above[1], f)}
 
     def of_members(self, parts, guard):
         for n, part in enumerate(parts):
             name, before, behind = self.name(part), parts[:n], parts[n + 1:]
             yield f'{name} is left out', before + behind
-            heads = set(self.starts.heads(part))
-            if not self.starts.passes(part) and not (n == 0 and guard is not None and guard <= heads):
+            first_set = set(self.starts.first_set(part))
+            if not self.starts.nullable(part) and not (n == 0 and guard is not None and guard <= first_set):
                 yield f'{name} may be left out', before + [self.optional(part)] + behind
             if behind:
                 yield f'{name} and {self.name(behind[0])} are exchanged', before + [behind[0], part] + behind[1:]
@@ -174,26 +174,26 @@ class Mutants:
             if not self.is_idle_behind(before + [part], part):
                 yield f'{name} stands twice', before + [part, part] + behind
             for place in [p for p in range(len(parts) + 1) if p != n]:
-                if place == 0 and guard is not None and not guard & heads or self.is_idle_behind(parts[:place], part):
+                if place == 0 and guard is not None and not guard & first_set or self.is_idle_behind(parts[:place], part):
                     continue
                 where = f'before {self.name(parts[place])}' if place < len(parts) else 'at the end'
                 yield f'{name} may stand again {where}', parts[:place] + [self.optional(part)] + parts[place:]
 
     def optional(self, part):
-        if self.starts.passes(part):
+        if self.starts.nullable(part):
             return part
         return ('when', self.first(part), part, EMPTY)
 
     def is_idle_behind(self, before, part):
         """What the optional part begins with never stands behind these."""
         made = self.optional(part)
-        return bool(before) and made[0] == 'when' and made[3] == EMPTY and made[1] in self.starts.offs([], sequence(before))
+        return bool(before) and made[0] == 'when' and made[3] == EMPTY and made[1] in self.starts.never_follow([], sequence(before))
 
     def first(self, part):
         """What the part begins with stands next."""
-        made = {'Name': lambda f: ('at_name',), 'Word': lambda f: ('at_word', f[1]), 'Sign': lambda f: ('at_mark', f[1]),
-                'Literal': lambda f: ('at_literal', f[1]), 'Holds': lambda f: ('at_group', f[1])}
-        return any_of([made[f[0]](f) for f in self.starts.heads(part)] or [('ended',)])
+        made = {'Name': lambda f: ('at_name',), 'Word': lambda f: ('at_word', f[1]), 'Punctuation': lambda f: ('at_mark', f[1]),
+                'Literal': lambda f: ('at_literal', f[1]), 'Delimited': lambda f: ('at_group', f[1])}
+        return any_of([made[f[0]](f) for f in self.starts.first_set(part)] or [('ended',)])
 
     # CHOICES, GROUPS AND UNIONS
 
@@ -227,7 +227,7 @@ class Mutants:
     def reads_nothing(self, form):
         """The form reads the end of a group or stream."""
         try:
-            return Reader(self.fronts, self.table).read(form, stream(()))[1].token is None
+            return Reader(self.lookaheads, self.table).read(form, stream(()))[1].token is None
         except Refused:
             return False
 
@@ -257,7 +257,7 @@ class Mutants:
             if kind != 'but_not':
                 yield f'where only {self.look_name(look[2])}', look[2]
         if kind == 'at_mark':
-            longer = [m for m in self.fronts.long_marks if m.startswith(look[1]) and m != look[1]]
+            longer = [m for m in self.lookaheads.long_marks if m.startswith(look[1]) and m != look[1]]
             for text in [look[1][:-1]] * (len(look[1]) > 1) + longer[:2]:
                 yield f'where `{text}` stands and not `{look[1]}`', ('at_mark', text)
         if kind == 'at_group':
@@ -269,20 +269,20 @@ class Mutants:
         if kind == 'at_word':
             yield f'where a name stands too', either(look, ('at_name',))
 
-    def faces(self):
-        signs = list("~!@#$%^&*-=+|;:,<.>/?'") + self.fronts.long_marks
+    def terminals(self):
+        signs = list("~!@#$%^&*-=+|;:,<.>/?'") + self.lookaheads.long_marks
         kinds = ['Str', 'ByteStr', 'CStr', 'Byte', 'Char', 'Int', 'Float']
-        return ([('Ended',), ('Name',)] + [('Word', w) for w in self.words] + [('Sign', s) for s in signs]
-                + [('Literal', (k,)) for k in kinds] + [('Holds', (d,)) for d in list(DELIMITERS) + ['None']])
+        return ([('Ended',), ('Name',)] + [('Word', w) for w in self.words] + [('Punctuation', s) for s in signs]
+                + [('Literal', (k,)) for k in kinds] + [('Delimited', (d,)) for d in list(DELIMITERS) + ['None']])
 
     def is_idle(self, look, new, yes, other):
         """The two conditions differ only before what neither way reads."""
-        fronts, starts = self.fronts, self.starts
-        alike = lambda f: (fronts.must(look, f) and fronts.must(new, f)) or not (fronts.may(look, f) or fronts.may(new, f))
-        differ = [f for f in self.faces() if not alike(f)]
-        if starts.passes(yes) or starts.passes(other):
+        lookaheads, starts = self.lookaheads, self.starts
+        alike = lambda f: (lookaheads.must(look, f) and lookaheads.must(new, f)) or not (lookaheads.may(look, f) or lookaheads.may(new, f))
+        differ = [f for f in self.terminals() if not alike(f)]
+        if starts.nullable(yes) or starts.nullable(other):
             return not differ
-        return not any(f in starts.heads(yes) or f in starts.heads(other) for f in differ)
+        return not any(f in starts.first_set(yes) or f in starts.first_set(other) for f in differ)
 
     # WORDS, MARKS AND DELIMITERS, in tokens and conditions alike
 
@@ -367,7 +367,7 @@ class Mutants:
             for word in known:
                 rest = tuple(w for w in known if w != word)
                 yield f'{self.name(part)} may not be `{word}`', put(form, path, part[:2] + (('name_or', rest) if rest else ('name',),))
-            for word in self.fronts.contextual:
+            for word in self.lookaheads.contextual:
                 yield f'{self.name(part)} may not be `{word}`', put(form, path, ('when', ('at_word', word), NEVER, part))
             yield f'{self.name(part)} may also be a literal', put(form, path, ('either', part, part[:2] + (('literal_of', (('Int',), ('Str',))),)))
 
@@ -400,7 +400,7 @@ class Mutants:
         return f'{kind} {" and ".join(inner)}'.strip()
 
     def look_name(self, look):
-        names = {look: name for name, look in self.fronts.source.looks.items()}
+        names = {look: name for name, look in self.lookaheads.source.looks.items()}
         if look in names:
             return names[look]
         if look[0] in JOINED:

@@ -9,7 +9,7 @@ def called_first(starts, form, free, calls):
     kind = form[0]
     if kind == '&':
         called_first(starts, form[1], free, calls)
-        called_first(starts, form[2], free and starts.passes(form[1]), calls)
+        called_first(starts, form[2], free and starts.nullable(form[1]), calls)
     elif kind in ('when', 'supplied'):
         called_first(starts, form[2], free, calls)
         called_first(starts, form[3], free, calls)

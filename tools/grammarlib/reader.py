@@ -1,5 +1,5 @@
-"""Reads token trees by the table, as `Reads` of specs/Grammar.antt does, and prints what was read."""
-from .fronts import ENDED
+"""Reads token trees by the table, as `DerivesPrefix` of specs/Grammar.antt does, and prints what was read."""
+from .lookaheads import ENDED
 from .tokens import Group, Ident, Literal, Punct, Stream, mark, stream
 
 LARGEST_INDEX = 2 ** 32 - 1
@@ -16,33 +16,33 @@ def is_index(text):
 class Reader:
     """Trees are tuples: nothing, token, mark, tokens, both, vanishing, group, case, impl, list."""
 
-    def __init__(self, fronts, table):
-        self.fronts, self.table = fronts, table
+    def __init__(self, lookaheads, table):
+        self.lookaheads, self.table = lookaheads, table
         self.methods = {'&': self.read_pair}
 
     # FRONTS
 
-    def front(self, here):
-        if here.known_front is None:
-            here.known_front = self.compute_front(here)
-        return here.known_front
+    def lookahead(self, here):
+        if here.known_lookahead is None:
+            here.known_lookahead = self.compute_lookahead(here)
+        return here.known_lookahead
 
-    def compute_front(self, here):
-        token, fronts = here.token, self.fronts
+    def compute_lookahead(self, here):
+        token, lookaheads = here.token, self.lookaheads
         if token is None:
             return ENDED, []
         if isinstance(token, Ident):
-            face = fronts.leaf_face(token.text)
-            return face, fronts.note(fronts.asked(face), self.front(here.rest)) if fronts.asked(face) else []
+            terminal = lookaheads.leaf_terminal(token.text)
+            return terminal, lookaheads.facts_for(lookaheads.asked(terminal), self.lookahead(here.rest)) if lookaheads.asked(terminal) else []
         if isinstance(token, Literal):
             return ('Literal', (token.kind,)), []
         if isinstance(token, Punct):
-            return fronts.sign_front(token.character, token.joint, self.front(here.rest))
+            return lookaheads.punctuation_lookahead(token.character, token.joint, self.lookahead(here.rest))
         delimiter = (token.delimiter,)
-        return ('Holds', delimiter), fronts.note(fronts.asked_inside(delimiter), self.front(stream(token.content)))
+        return ('Delimited', delimiter), lookaheads.facts_for(lookaheads.asked_inside(delimiter), self.lookahead(stream(token.content)))
 
     def sees(self, look, here):
-        return self.fronts.answers(look, self.front(here))
+        return self.lookaheads.answers(look, self.lookahead(here))
 
     # READING: each gives the tree and what is left, or raises Refused
 
@@ -64,7 +64,7 @@ class Reader:
 
     def read_token(self, form, here):
         token, kind = here.token, form[2]
-        if not isinstance(token, (Ident, Literal)) or self.front(here)[0] not in self.fronts.faces(kind):
+        if not isinstance(token, (Ident, Literal)) or self.lookahead(here)[0] not in self.lookaheads.terminals(kind):
             raise Refused()
         if kind[0] == 'index' and not is_index(token.text):
             raise Refused()
@@ -165,13 +165,13 @@ class Reader:
     def read_generics_before(self, form, here):
         x, y, behind = form[1:]
         generics = ('nothing',)
-        if self.sees(self.fronts.at_generics, here):
+        if self.sees(self.lookaheads.at_generics, here):
             generics, here = self.read(('ordered', x, y), here)
         tree, rest = self.read(behind, here)
         return ('impl', generics, tree), rest
 
     def read_supplied(self, form, here):
-        if self.sees(('and_also', ('at_name',), ('noted', form[1])), here):
+        if self.sees(('and_also', ('at_name',), ('ahead', form[1])), here):
             tree, rest = self.read(form[3], here)
             return ('both', ('token', Ident('_')), ('both', ('mark', ':'), tree)), rest
         name, rest = self.read(form[2], here)
@@ -229,13 +229,13 @@ class Reader:
         behind = self.print(tree[2])
         if not bare(tree[1]):
             return self.print(tree[1]) + behind
-        led = self.sees(self.fronts.at_generics, stream(behind)) or self.has_led(tree[2])
+        led = self.sees(self.lookaheads.at_generics, stream(behind)) or self.has_led(tree[2])
         return (mark('<') + mark('>') if led else []) + behind
 
     def has_led(self, tree):
         """A part that was chosen as a self type would be read as generics."""
         if tree[0] == 'case':
-            leads = tree[1][0] in self.fronts.source.self_types and self.sees(self.fronts.at_generics, stream(self.print(tree[2])))
+            leads = tree[1][0] in self.lookaheads.source.self_types and self.sees(self.lookaheads.at_generics, stream(self.print(tree[2])))
             return leads or self.has_led(tree[2])
         return tree[0] == 'both' and (self.has_led(tree[1]) or self.has_led(tree[2]))
 

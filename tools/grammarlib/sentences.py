@@ -1,5 +1,5 @@
 """Random sentences of the table, and random changes of token trees."""
-from .fronts import EMPTY, NEVER
+from .lookaheads import EMPTY, NEVER
 from .tokens import Group, Ident, Literal, Punct
 
 NAMES = ['a', 'b', 'T', 'x', 'union', 'auto', 'foo']
@@ -19,8 +19,8 @@ class TooDeep(Exception):
 class Sentences:
     """Random token trees; `random` is a random.Random."""
 
-    def __init__(self, fronts, table, random):
-        self.fronts, self.table, self.random = fronts, table, random
+    def __init__(self, lookaheads, table, random):
+        self.lookaheads, self.table, self.random = lookaheads, table, random
 
     def sentence(self, rule, depth):
         return self.of(('rule', (rule,)), depth)
@@ -58,7 +58,7 @@ class Sentences:
         """Of a form that no other form stands in."""
         kind, r = form[0], self.random
         if kind == 'token':
-            return [self.token(r.choice(self.fronts.faces(form[2])))]
+            return [self.token(r.choice(self.lookaheads.terminals(form[2])))]
         if kind == 'mark':
             return self.mark(form[2])
         if kind == 'lifetime':
@@ -83,11 +83,11 @@ class Sentences:
                 trees += self.mark(',')
         return trees + self.mark('>')
 
-    def token(self, face):
+    def token(self, terminal):
         r = self.random
-        if face[0] == 'Name':
+        if terminal[0] == 'Name':
             return Ident(r.choice(NAMES))
-        return Ident(face[1]) if face[0] == 'Word' else Literal(face[1][0], r.choice(LITERALS[face[1][0]]))
+        return Ident(terminal[1]) if terminal[0] == 'Word' else Literal(terminal[1][0], r.choice(LITERALS[terminal[1][0]]))
 
     def mark(self, text):
         """Its last character is Joint now and then: that isn't looked at."""

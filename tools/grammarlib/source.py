@@ -1,4 +1,4 @@
-"""The grammar as it is written in a crate's specs/: words, notes, looks and rules."""
+"""The grammar as it is written in a crate's specs/: words, facts, looks and rules."""
 import re
 from pathlib import Path
 
@@ -35,7 +35,7 @@ class Source:
         self.looks = {n: self.value(n) for n, d in definitions.items() if d.type == 'Look'}
         self.texts = {n: self.value(n) for n, d in definitions.items() if d.type == 'Text'}
         self.self_types = [k for k in self.rules if self.names_self_type(k)]
-        self.notes = [n for n in self.notes_of()]
+        self.facts = [n for n in self.facts_of()]
 
     def rule_of(self, clause):
         if len(clause.patterns) != 1 or clause.patterns[0][0] != 'name':
@@ -64,11 +64,11 @@ class Source:
     def value(self, name, *arguments):
         return antt.simple(self.evaluator.value(name, *arguments))
 
-    def notes_of(self):
+    def facts_of(self):
         """The constructors of Next, in their order."""
         text = (self.crate / 'specs' / 'Tokens.antt').read_text()
-        body = re.search(r'^pub data Next : Type 0 where\n((?:  .*\n)+)', text, re.M)[1]
-        return re.findall(r'^  (\w+) : Next', body, re.M)
+        body = re.search(r'^pub data Fact : Type 0 where\n((?:  .*\n)+)', text, re.M)[1]
+        return re.findall(r'^  (\w+) : Fact', body, re.M)
 
     def without_sentence(self):
         """The rules and looks of the table that no sentence explains."""

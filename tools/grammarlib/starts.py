@@ -1,15 +1,15 @@
 """What each rule begins with, whether it may read nothing, whether it ends by itself, and what never stands behind it.
 
-These are the functions of proofs/Heads.antt, proofs/Extend.antt and proofs/Offs.antt, computed for all rules at once.
+These are the functions of proofs/FirstSets.antt, proofs/Extend.antt and proofs/NeverFollow.antt, computed for all rules at once.
 """
-from .fronts import NAME, NEVER, mentions_note, parts, unique
+from .lookaheads import NAME, NEVER, mentions_fact, parts, unique
 
-LOOKS = ('at_word', 'at_mark', 'ended', 'at_name', 'at_literal', 'at_group', 'noted', 'or_else', 'and_also', 'but_not')
+LOOKS = ('at_word', 'at_mark', 'ended', 'at_name', 'at_literal', 'at_group', 'ahead', 'or_else', 'and_also', 'but_not')
 
 
-def opt_generics(fronts, x, y):
+def opt_generics(lookaheads, x, y):
     """A list in `< >` where generics stand next, or nothing."""
-    return ('when', fronts.at_generics, ('ordered', x, y), ('empty',))
+    return ('when', lookaheads.at_generics, ('ordered', x, y), ('empty',))
 
 
 def looks_of(form):
@@ -22,16 +22,16 @@ def looks_of(form):
 
 
 class Starts:
-    def __init__(self, fronts, table):
-        self.fronts, self.table = fronts, table
+    def __init__(self, lookaheads, table):
+        self.lookaheads, self.table = lookaheads, table
         self.start_of = {k: (frozenset(), False) for k in table}
-        self.settle(self.start_of, lambda form: (frozenset(self.heads(form)), self.passes(form)))
-        self.heads_of = {k: unique(self.heads(form)) for k, form in table.items()}
+        self.settle(self.start_of, lambda form: (frozenset(self.first_set(form)), self.nullable(form)))
+        self.first_set_of = {k: unique(self.first_set(form)) for k, form in table.items()}
         self.closed_of = {k: True for k in table}
         self.settle(self.closed_of, self.closes)
         every = unique(look for form in table.values() for look in looks_of(form))
-        self.offs_of = {k: list(every) for k in table}
-        self.settle(self.offs_of, lambda form: unique(self.offs([], form)), set)
+        self.never_follow_of = {k: list(every) for k in table}
+        self.settle(self.never_follow_of, lambda form: unique(self.never_follow([], form)), set)
 
     def settle(self, known, compute, compare=lambda x: x):
         """Computes anew until nothing changes."""
@@ -41,69 +41,69 @@ class Starts:
                 return
             known.update(new)
 
-    def passes(self, form):
+    def nullable(self, form):
         """The form may read nothing."""
         kind = form[0]
         if kind in ('empty', 'vanishing', 'unshown'):
             return True
         if kind == '&':
-            return self.passes(form[1]) and self.passes(form[2])
+            return self.nullable(form[1]) and self.nullable(form[2])
         if kind == 'when':
-            return self.passes(form[2]) or self.passes(form[3])
+            return self.nullable(form[2]) or self.nullable(form[3])
         if kind == 'either':
-            return self.passes(form[1]) or self.passes(form[2])
+            return self.nullable(form[1]) or self.nullable(form[2])
         if kind == 'one_of':
             return any(self.start_of[k[0]][1] for k in form[1])
         if kind == 'rule':
             return self.start_of[form[1][0]][1]
         if kind == 'generics_before':
-            return self.passes(form[3])
+            return self.nullable(form[3])
         if kind in ('such', 'shaped'):
-            return self.passes(form[2])
-        return kind == 'captured' and self.passes(form[1])
+            return self.nullable(form[2])
+        return kind == 'captured' and self.nullable(form[1])
 
-    def heads(self, form):
-        """The faces that what the form reads may begin with."""
-        kind, fronts = form[0], self.fronts
+    def first_set(self, form):
+        """The terminals that what the form reads may begin with."""
+        kind, lookaheads = form[0], self.lookaheads
         if kind == 'token':
-            return fronts.faces(form[2])
+            return lookaheads.terminals(form[2])
         if kind == 'mark':
-            return fronts.mark_heads(form[2])
+            return lookaheads.mark_first_set(form[2])
         if kind == 'rest_after':
-            return fronts.mark_heads(form[1])
+            return lookaheads.mark_first_set(form[1])
         if kind == 'lifetime':
-            return [('Sign', "'")]
+            return [('Punctuation', "'")]
         if kind == '&':
-            return self.heads(form[1]) + (self.heads(form[2]) if self.passes(form[1]) else [])
+            return self.first_set(form[1]) + (self.first_set(form[2]) if self.nullable(form[1]) else [])
         if kind == 'when':
-            return ([f for f in self.heads(form[2]) if fronts.may(form[1], f)]
-                    + [f for f in self.heads(form[3]) if not fronts.must(form[1], f)])
+            return ([f for f in self.first_set(form[2]) if lookaheads.may(form[1], f)]
+                    + [f for f in self.first_set(form[3]) if not lookaheads.must(form[1], f)])
         if kind == 'vanishing':
-            return [f for f in self.heads(form[3]) if fronts.may(form[2], f)]
+            return [f for f in self.first_set(form[3]) if lookaheads.may(form[2], f)]
         if kind in ('inside', 'raw'):
-            return [('Holds', form[1])]
+            return [('Delimited', form[1])]
         if kind == 'either':
-            return self.heads(form[1]) + self.heads(form[2])
+            return self.first_set(form[1]) + self.first_set(form[2])
         if kind == 'one_of':
             return [f for k in form[1] for f in sorted(self.start_of[k[0]][0])]
         if kind == 'rule':
             return sorted(self.start_of[form[1][0]][0])
         if kind in ('such', 'shaped'):
-            return self.heads(form[2])
+            return self.first_set(form[2])
         if kind == 'captured':
-            return self.heads(form[1])
+            return self.first_set(form[1])
         if kind == 'generics_before':
-            return fronts.mark_heads('<') + self.heads(form[3])
+            return lookaheads.mark_first_set('<') + self.first_set(form[3])
         if kind == 'supplied':
-            return fronts.faces(('name',)) + self.heads(form[2]) + fronts.mark_heads(':')
-        return fronts.mark_heads('<') if kind == 'ordered' else []
+            return lookaheads.terminals(('name',)) + self.first_set(form[2]) + lookaheads.mark_first_set(':')
+        return lookaheads.mark_first_set('<') if kind == 'ordered' else []
 
     def closes(self, form):
         """What is read by the form alone is read before everything."""
         kind = form[0]
         if kind == 'mark':
             mark = form[2]
-            return len(mark) == 1 and not self.fronts.beginning(mark) and not self.fronts.asked(('Sign', mark))
+            return len(mark) == 1 and not self.lookaheads.beginning(mark) and not self.lookaheads.asked(('Punctuation', mark))
         if kind in ('inside', 'raw'):
             return True
         if kind == '&':
@@ -122,30 +122,30 @@ class Starts:
             return self.closes(form[2])
         return kind == 'captured' and self.closes(form[1])
 
-    def offs(self, known, form):
+    def never_follow(self, known, form):
         """Looks that what stands behind the form never meets (`known`: those that hold where it reads nothing)."""
         kind = form[0]
         if kind in ('empty', 'unshown'):
             return known
         if kind == '&':
-            return self.offs([], form[2])
+            return self.never_follow([], form[2])
         if kind == 'when':
-            yes, other = self.offs([], form[2]), self.offs([form[1]] + known, form[3])
+            yes, other = self.never_follow([], form[2]), self.never_follow([form[1]] + known, form[3])
             return other if form[2] == NEVER else [c for c in yes if c in other]
         if kind == 'vanishing':
-            return [c for c in self.offs([], form[3]) if c in [form[2]] + known]
+            return [c for c in self.never_follow([], form[3]) if c in [form[2]] + known]
         if kind == 'either':
-            left, right = self.offs(known, form[1]), self.offs(known, form[2])
+            left, right = self.never_follow(known, form[1]), self.never_follow(known, form[2])
             return [c for c in left if c in right]
         if kind == 'one_of':
-            lists = [self.offs_of[k[0]] for k in form[1]]
+            lists = [self.never_follow_of[k[0]] for k in form[1]]
             return [c for c in (lists[0] if lists else []) if all(c in x for x in lists)]
         if kind == 'rule':
-            return self.offs_of[form[1][0]]
+            return self.never_follow_of[form[1][0]]
         if kind in ('such', 'shaped'):
-            return self.offs(known, form[2])
+            return self.never_follow(known, form[2])
         if kind == 'captured':
-            return self.offs(known, form[1])
+            return self.never_follow(known, form[1])
         if kind in ('supplied', 'generics_before'):
-            return self.offs([], form[3])
+            return self.never_follow([], form[3])
         return []

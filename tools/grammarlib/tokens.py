@@ -4,7 +4,7 @@ from dataclasses import dataclass, field
 
 OPENING = {'(': 'Paren', '{': 'Brace', '[': 'Bracket'}
 CLOSING = {')': '(', '}': '{', ']': '['}
-SIGNS = {'Paren': '()', 'Brace': '{}', 'Bracket': '[]', 'None': ('', '')}
+DELIMITER_TEXTS = {'Paren': '()', 'Brace': '{}', 'Bracket': '[]', 'None': ('', '')}
 MARKS = "~!@#$%^&*-=+|;:,<.>/?'"
 WORD = re.compile(r'[A-Za-z_]\w*')
 NUMBER = re.compile(r'\d\w*')
@@ -42,11 +42,11 @@ class Group:
 
 
 class Stream:
-    """Token trees in a row, and what stands at their front (computed once)."""
-    __slots__ = ('token', 'rest', 'known_front')
+    """Token trees in a row, and their lookahead (computed once)."""
+    __slots__ = ('token', 'rest', 'known_lookahead')
 
     def __init__(self, token=None, rest=None):
-        self.token, self.rest, self.known_front = token, rest, None
+        self.token, self.rest, self.known_lookahead = token, rest, None
 
     def trees(self, stop=None):
         """The trees before the rest `stop`, else all."""
@@ -74,7 +74,7 @@ def shown(trees):
     text = ''
     for tree in trees:
         if isinstance(tree, Group):
-            opening, closing = SIGNS[tree.delimiter]
+            opening, closing = DELIMITER_TEXTS[tree.delimiter]
             text += f'{opening}{shown(tree.content)}{closing} '
         else:
             text += tree.character + ' ' * (not tree.joint) if isinstance(tree, Punct) else tree.text + ' '

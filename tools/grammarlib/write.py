@@ -3,7 +3,7 @@ import re
 
 from .antt_text import COMMON, CRATE, PRELUDE, Writer, argument, exports, use_lines
 from .ranks import HIGHEST
-from .sheets import Sheet
+from .summaries import Summary
 
 MARK = '-- Written by tools/grammar.py from specs/Table.antt; edits are lost.'
 
@@ -16,7 +16,7 @@ class Files:
     """Path (below the crate) and text of each file."""
 
     def __init__(self, source, starts, tests, rank):
-        self.source, self.starts, self.said, self.rank = source, starts, tests.sheets.said, rank
+        self.source, self.starts, self.said, self.rank = source, starts, tests.summaries.said, rank
         self.writer = Writer(source)
         self.rules = source.rules
 
@@ -76,27 +76,27 @@ class Files:
     # PROOFS
 
     def start_line(self, rule):
-        heads = self.writer.faces(self.starts.heads_of[rule])
-        offs = self.writer.looks(self.starts.offs_of[rule])
-        return f'start_of {rule} = record {{ heads = {heads}; passes = {truth(self.starts.start_of[rule][1])}; offs = {offs} }}'
+        first_set = self.writer.terminals(self.starts.first_set_of[rule])
+        never_follow = self.writer.looks(self.starts.never_follow_of[rule])
+        return f'start_of {rule} = record {{ first_set = {first_set}; nullable = {truth(self.starts.start_of[rule][1])}; never_follow = {never_follow} }}'
 
     def move(self, move):
         a, b, told = move
-        notes = argument(self.writer.list(n[0] for n in told))
-        return f'move {argument(self.writer.face(a))} {argument(self.writer.face(b))} {notes}'
+        facts = argument(self.writer.list(n[0] for n in told))
+        return f'move {argument(self.writer.terminal(a))} {argument(self.writer.terminal(b))} {facts}'
 
-    def sheet_line(self, rule, told):
-        sheet, w = self.said.get((rule, told)) or Sheet(), self.writer
-        fields = {'stays': w.faces(sheet.stays), 'moves': w.list(map(self.move, sheet.moves)), 'passes': truth(sheet.passes),
-                  'gone': w.faces(sheet.gone), 'ends': w.looks(sheet.ends), 'halts': w.looks(sheet.halts), 'shuns': w.looks(sheet.shuns)}
-        return f'sheet_of {truth(told)} {rule} = record {{ ' + '; '.join(f'{k} = {v}' for k, v in fields.items()) + ' }'
+    def summary_line(self, rule, told):
+        summary, w = self.said.get((rule, told)) or Summary(), self.writer
+        fields = {'stays': w.terminals(summary.stays), 'moves': w.list(map(self.move, summary.moves)), 'nullable': truth(summary.nullable),
+                  'gone': w.terminals(summary.gone), 'ends': w.looks(summary.ends), 'halts': w.looks(summary.halts), 'shuns': w.looks(summary.shuns)}
+        return f'summary_of {truth(told)} {rule} = record {{ ' + '; '.join(f'{k} = {v}' for k, v in fields.items()) + ' }'
 
     def block(self, about, signature, line):
         """A definition with one line a rule."""
         return f'-- {about}\n{signature}\n' + self.lines(line)
 
     def twice(self, about, signature, line):
-        """A definition with one line a rule where nobody asks for its notes, and one where somebody does."""
+        """A definition with one line a rule where nobody asks for its facts, and one where somebody does."""
         return f'-- {about}\n{signature}\n' + self.lines(lambda k: line(k, False)) + self.lines(lambda k: line(k, True))
 
     def said_values(self):
@@ -106,35 +106,35 @@ class Files:
                        'abbrev pub start_of : Rule → Start', self.start_line),
             self.block('it ends by itself',
                        'abbrev pub closed_of : Rule → Bool', lambda k: f'closed_of {k} = {truth(closed[k])}'),
-            self.block('somebody asks for the notes of its front',
+            self.block('somebody asks for the facts of its lookahead',
                        'abbrev pub heard_of : Rule → Bool', lambda k: f'heard_of {k} = {truth((k, True) in self.said)}'),
             self.twice('how its print may differ from what it read',
-                       'abbrev pub sheet_of : Bool → Rule → Sheet', self.sheet_line),
+                       'abbrev pub summary_of : Bool → Rule → Summary', self.summary_line),
         ]
 
     def said_proofs(self):
         absurd = 'absurd (true≢false (sym e))'
-        passes = lambda k: 'refl' if self.starts.start_of[k][1] else 'e'
+        nullable = lambda k: 'refl' if self.starts.start_of[k][1] else 'e'
         closes = lambda k: 'refl' if self.starts.closed_of[k] else absurd
-        sheet = lambda k, told: '(refl, refl)' if (k, told) in self.said else absurd
+        summary = lambda k, told: '(refl, refl)' if (k, told) in self.said else absurd
         return [
-            self.block('so it is', 'pub starts_hold : IsSaid start_of table', lambda k: f'starts_hold {k} = (refl, λ e. {passes(k)})'),
-            self.block('nor do these', 'pub offs_hold : IsOff start_of table', lambda k: f'offs_hold {k} = refl'),
+            self.block('so it is', 'pub starts_hold : IsSaid start_of table', lambda k: f'starts_hold {k} = (refl, λ e. {nullable(k)})'),
+            self.block('nor do these', 'pub never_follow_hold : IsOff start_of table', lambda k: f'never_follow_hold {k} = refl'),
             self.block('nothing is asked behind it',
                        'pub closed_hold : (k : Rule) → closed_of k ≡ true → closes closed_of (table k) ≡ true',
                        lambda k: f'closed_hold {k} e = {closes(k)}'),
             self.block('no stream is read by two forms of a union',
                        'pub unions_hold : (k : Rule) → sound table start_of (table k) ≡ true', lambda k: f'unions_hold {k} = refl'),
-            self.twice('its sheet covers what its form prints',
-                       'pub sheets_hold : IsSheet sheet_of heard_of start_of closed_of table',
-                       lambda k, told: f'sheets_hold {truth(told)} {k} e = {sheet(k, told)}'),
+            self.twice('its summary covers what its form prints',
+                       'pub summaries_hold : IsSummary summary_of heard_of start_of closed_of table',
+                       lambda k, told: f'summaries_hold {truth(told)} {k} e = {summary(k, told)}'),
             self.block('nothing that may not follow is the end',
-                       'pub ends_hold : (k : Rule) → clear (sheet_of false k).shuns Ended ≡ true', lambda k: f'ends_hold {k} = refl'),
+                       'pub ends_hold : (k : Rule) → clear (summary_of false k).shuns Ended ≡ true', lambda k: f'ends_hold {k} = refl'),
         ]
 
     def said_file(self):
-        lemmas = [('Heads', ['Start', 'IsSaid']), ('Offs', ['IsOff']), ('Extend', ['closes']), ('Apart', ['sound']),
-                  ('Again', ['move', 'clear']), ('Sheets', ['Sheet']), ('Reprint', ['IsSheet'])]
+        lemmas = [('FirstSets', ['Start', 'IsSaid']), ('NeverFollow', ['IsOff']), ('Extend', ['closes']), ('Apart', ['sound']),
+                  ('Again', ['move', 'clear']), ('Summaries', ['Summary']), ('Reprint', ['IsSummary'])]
         modules = ([('Rattle.std.proofs.Common', COMMON)] + self.specs('Words', 'Tokens', 'Rules', 'Table')
                    + [(f'{CRATE}.proofs.{m}', names) for m, names in lemmas])
         body = '\n'.join(self.said_values() + self.said_proofs())
@@ -147,14 +147,14 @@ class Files:
             self.block('not too many',
                        f'pub ranks_low : (k : Rule) → nat_lt (rank k) {HIGHEST} ≡ true', lambda k: f'ranks_low {k} = refl'),
             self.block('each of them has a lower rank, so no rule comes back to itself',
-                       'pub fronts_low : (k : Rule) → low start_of rank (rank k) (table k) ≡ true', lambda k: f'fronts_low {k} = refl'),
+                       'pub lookaheads_low : (k : Rule) → low start_of rank (rank k) (table k) ≡ true', lambda k: f'lookaheads_low {k} = refl'),
         ])
         modules = [('Rattle.std.proofs.Common', COMMON), ('Rattle.std.specs.Prelude', ['nat_lt'])] + self.specs('Rules', 'Table') + [
             (f'{CRATE}.proofs.Said', ['start_of']), (f'{CRATE}.proofs.Low', ['low'])]
         return self.file('How many rules may call one another before anything is read.', modules, body)
 
     def each_file(self):
-        equation = lambda k: f'pub {k}_is : (ts : Stream) → reads {k} ts ≡ wrap Node (parse (table {k}) ts)\n{k}_is = reads_is {k}\n'
+        equation = lambda k: f'pub {k}_is : (ts : Stream) → parse_rule {k} ts ≡ wrap Node (parse_form (table {k}) ts)\n{k}_is = parse_rule_is {k}\n'
         modules = [('Rattle.std.specs.Prelude', PRELUDE)] + self.specs('Tokens', 'Rules', 'Grammar', 'Table', 'Run') + [
-            (f'{CRATE}.proofs.Run', ['reads_is'])]
+            (f'{CRATE}.proofs.Run', ['parse_rule_is'])]
         return self.file('What each rule reads is what its form reads.', modules, '\n'.join(map(equation, self.rules)))

@@ -199,7 +199,7 @@ def print_step(source, t, field, kind, uses):
 
 
 def print_struct(source, t, uses):
-    """The fields in order; what stands behind a sign of a group is printed between its signs."""
+    """The fields in order; what stands behind a delimiter of a group is printed between its delimiters."""
     steps, open_groups = [], []
     for field, kind in t.fields:
         if kind in DELIMITERS and source.is_token(t, kind):

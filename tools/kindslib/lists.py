@@ -6,9 +6,9 @@ from .impls import WRITTEN, import_line
 from .views import syntax_of
 
 RULE = re.compile(r"^--\n((?:-- [^\n]*\n)+)table (\w+) =\n((?:    [^\n]*\n)+)", re.M)
-LIST = "when ended then empty else rule ELEMENT & (when at_comma then sign comma & rule NAME else empty)"
+LIST = "when ended then empty else rule ELEMENT & (when at_comma then punctuation comma & rule NAME else empty)"
 READ = re.compile(r"^impl Read for (\w+) \{\n    ghost form = \{ of \(rule rules\.(\w+)\) \};", re.M)
-FUNCTION = re.compile(r"^    pub\(crate\) fn (\w+)\(input: &mut ParseBuffer<'_>\) -> Reading<(\w+)>\n        ensures (?:\w+ )?\{ Parses IsSyntax \S+ rules\.(\w+) ", re.M)
+FUNCTION = re.compile(r"^    pub\(crate\) fn (\w+)\(input: &mut ParseBuffer<'_>\) -> Parsed<(\w+)>\n        ensures (?:\w+ )?\{ Parses IsSyntax \S+ rules\.(\w+) ", re.M)
 
 
 def list_rules(table):
@@ -39,8 +39,8 @@ def function(source, name, words, kind, call):
     said = "\n".join(textwrap.wrap(words, 116, initial_indent="/// ", subsequent_indent="/// "))
     return f"""
 {said}
-pub(crate) fn {name}(input: &mut ParseBuffer<'_>) -> Reading<Punctuated<{kind}, Comma>>
-    ensures reads {{ Says IsSyntax (λ l. list_of {syntax} comma_syntax l.pairs l.last) (reads rules.{name} input.old) result input.new }}
+pub(crate) fn {name}(input: &mut ParseBuffer<'_>) -> Parsed<Punctuated<{kind}, Comma>>
+    ensures reads {{ Computes IsSyntax (λ l. list_of {syntax} comma_syntax l.pairs l.last) (parse_rule rules.{name} input.old) result input.new }}
     ensures moved {{ Kept input.old result input.new }}
 {{
     punctuated_list::<End, Comma, _, _>(input, |next| {call})
@@ -90,7 +90,7 @@ def comma_lists(source, table):
     lists = [(name, element, words) for name, element, words in list_rules(table) if element in known]
     views = {}
     uses = {"syn_tokens::token": ["Comma"]}
-    needs = [("syn_parse::buffer", "ParseBuffer"), ("syn_parse::read::lists", "punctuated_list"), ("syn_tokens::punctuated", "Punctuated"), ("syn_parse::read", "End"), ("syn_parse::read::refusal", "Reading")]
+    needs = [("syn_parse::buffer", "ParseBuffer"), ("syn_parse::read::lists", "punctuated_list"), ("syn_tokens::punctuated", "Punctuated"), ("syn_parse::read", "End"), ("syn_parse::read::refusal", "Parsed")]
     for _, element, _ in lists:
         kind, call = known[element]
         syntax, module = syntax_of(source, source.types[kind])
@@ -107,7 +107,7 @@ def comma_lists(source, table):
 //!
 //! The rules of the grammar that are comma lists to the end of a group.
 ghost use Rattle.syn_grammar.specs.Rules as rules;
-ghost use Rattle.syn_tree.specs.Parsing.{{reads, Says, Kept, IsSyntax, list_of}};
+ghost use Rattle.syn_tree.specs.Parsing.{{parse_rule, Computes, Kept, IsSyntax, list_of}};
 ghost use Rattle.syn_tokens.specs.Kinds.{{comma_syntax}};
 {heads}
 {imports}{functions}"""}

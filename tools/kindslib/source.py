@@ -77,7 +77,7 @@ class Source:
         return self.types[name].file.parts[0].removesuffix(".rt")
 
     def is_token(self, owner, kind):
-        """Whether a type of a field of `owner` is a word, a mark or the signs of a group."""
+        """Whether a type of a field of `owner` is a word, a mark or the delimiters of a group."""
         return kind in self.tokens[owner.file]
 
     def is_empty(self, kind):

@@ -36,7 +36,7 @@ impl std::marker::Model for {t.name} {{
 def syntax_of(source, t):
     """What the clauses of this type call its syntax, and the module of specifications that it is from."""
     if has_model(source, t):
-        return "itself", "syn_grammar.specs.Says"
+        return "itself", "syn_grammar.specs.Promises"
     name = f"syntax_of_{t.name}"
     file = source.spec_of(name)
     if file is None:
@@ -65,7 +65,7 @@ def endings(source):
 
 
 class PlainView:
-    """The view of one struct: its fields in order, each behind the next sign of a group inside that group."""
+    """The view of one struct: its fields in order, each behind the next delimiter of a group inside that group."""
 
     def __init__(self, source, joined, imports):
         self.source = source
@@ -97,11 +97,11 @@ class PlainView:
             function, place = self.function(t, outer[2]), f"{place}.value"
             return f"{function} {place}" if function else place
         if outer and outer[1] == "Option":
-            function = self.function(t, outer[2]) or self.take("syn_grammar.specs.Says", "itself")
+            function = self.function(t, outer[2]) or self.take("syn_grammar.specs.Promises", "itself")
             return f"{self.take('syn_tokens.specs.Leaves', 'maybe')} {function} {place}"
         if outer:
             value, sign = outer[2].split(", ")
-            values = self.function(t, value) or self.take("syn_grammar.specs.Says", "itself")
+            values = self.function(t, value) or self.take("syn_grammar.specs.Promises", "itself")
             name = self.take("syn_tokens.specs.Listing", "joined_of" if (t.name, field) in self.joined else "list_of")
             return f"{name} {values} {self.function(t, sign)} {place}.pairs {place}.last"
         function = self.function(t, kind)

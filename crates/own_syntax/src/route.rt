@@ -2,7 +2,7 @@
 ghost use Rattle.std.specs.Prelude.{◌≡◌, true, codes, refl, IfErr};
 ghost use Rattle.syn_grammar.specs.Grammar.{any_literal};
 ghost use Rattle.syn_grammar.specs.Take.{take_token, taken};
-ghost use Rattle.syn_grammar.specs.Says.{Says, Moved};
+ghost use Rattle.syn_grammar.specs.Promises.{Computes, Moved};
 ghost use Rattle.syn_parse.specs.Form.{parse};
 ghost use Rattle.syn_parse.specs.Meanings.{meaning_of};
 ghost use Rattle.syn_parse.specs.Nexts.{RefusedNext};
@@ -11,7 +11,7 @@ ghost use Rattle.own_syntax.specs.Routes.{path_form, parameter_form, parameters_
 ghost use Rattle.own_syntax.specs.Syntax.{syntax_of_RoutePath, syntax_of_Parameter, syntax_of_Guard, parameters_syntax, syntax_of_Route};
 
 use crate::kw;
-use syn::parse::{ParseBuffer, Peek, Read, Reading, Refusal};
+use syn::parse::{ParseBuffer, Parsed, Peek, Read, Refusal};
 use syn::punctuated::Punctuated;
 use syn::token::{Colon, Comma, If, Paren, kind};
 use syn::{Ident, Literal, Path, Syntactic, Type};
@@ -57,7 +57,7 @@ impl Syntactic for RoutePath {
 impl Read for RoutePath {
     ghost form = { path_form };
 
-    fn read(input: &mut ParseBuffer<'_>) -> Reading<RoutePath> {
+    fn read(input: &mut ParseBuffer<'_>) -> Parsed<RoutePath> {
         route_path(input)
     }
 
@@ -65,8 +65,8 @@ impl Read for RoutePath {
 }
 
 /// A literal whose text begins with `/`. Any other is refused at its place, with a text of its own.
-fn route_path(input: &mut ParseBuffer<'_>) -> Reading<RoutePath>
-    ensures reads { Says IsSyntax syntax_of_RoutePath (parse path_form input.old) result input.new }
+fn route_path(input: &mut ParseBuffer<'_>) -> Parsed<RoutePath>
+    ensures reads { Computes IsSyntax syntax_of_RoutePath (parse path_form input.old) result input.new }
     ensures moved { Moved input.old result input.new }
     ensures fault { IfErr result (λ refusal. IsSyntax refusal → taken (take_token any_literal input.old) ≡ true → RefusedNext input.old (codes "expected a path that begins with `/`") refusal) }
 {
@@ -85,7 +85,7 @@ impl Syntactic for Parameter {
 impl Read for Parameter {
     ghost form = { parameter_form };
 
-    fn read(input: &mut ParseBuffer<'_>) -> Reading<Parameter> {
+    fn read(input: &mut ParseBuffer<'_>) -> Parsed<Parameter> {
         Ok(Parameter {
             name: input.read()?,
             colon_token: input.read()?,
@@ -117,7 +117,7 @@ impl Peek for Guard {
 impl Read for Guard {
     ghost form = { guard_form };
 
-    fn read(input: &mut ParseBuffer<'_>) -> Reading<Guard> {
+    fn read(input: &mut ParseBuffer<'_>) -> Parsed<Guard> {
         Ok(Guard {
             if_token: input.read()?,
             condition: input.read()?,
@@ -134,7 +134,7 @@ impl Syntactic for Route {
 impl Read for Route {
     ghost form = { route_form };
 
-    fn read(input: &mut ParseBuffer<'_>) -> Reading<Route> {
+    fn read(input: &mut ParseBuffer<'_>) -> Parsed<Route> {
         let route_token = input.read()?;
         let method = input.read()?;
         let path = input.read()?;
@@ -158,8 +158,8 @@ impl Read for Route {
 
 /// In parentheses, parameters with commas between them.
 #[tactic(auto, unfolding(syn_grammar::specs::Take::is_end))]
-fn parameters(input: &mut ParseBuffer<'_>) -> Reading<(Paren, Punctuated<Parameter, Comma>)>
-    ensures reads { Says IsSyntax parameters_syntax (parse parameters_form input.old) result input.new }
+fn parameters(input: &mut ParseBuffer<'_>) -> Parsed<(Paren, Punctuated<Parameter, Comma>)>
+    ensures reads { Computes IsSyntax parameters_syntax (parse parameters_form input.old) result input.new }
     ensures moved { Moved input.old result input.new }
 {
     let (paren_token, mut content) = input.read_group::<kind::Paren>()?;

@@ -5,11 +5,11 @@ use Rattle.syn_grammar.specs.Tokens.{Stream, plain, visible}
 use Rattle.syn_grammar.specs.Rules.{Rule}
 use Rattle.syn_grammar.specs.Grammar.{Syntax, rule, print, normal}
 use Rattle.syn_grammar.specs.Laws.{Derives}
-use Rattle.syn_grammar.specs.Run.{held}
-use Rattle.syn_grammar.specs.Says.{HoldsWhole, Refused}
-use Rattle.syn_parse.specs.Form.{Form, of, DerivesWhole, UnreadWhole, WholeOutcome}
+use Rattle.syn_grammar.specs.Run.{value_of}
+use Rattle.syn_grammar.specs.Promises.{DerivesWholeValue, Refused}
+use Rattle.syn_parse.specs.Form.{Form, of, DerivesWhole, NotDerivedWhole, WholeOutcome}
 use Rattle.syn_grammar.proofs.Proved.{print_is_read, print_is_visible, normal_prints, same_form}
-use Rattle.syn_grammar.proofs.Held.{print_held}
+use Rattle.syn_grammar.proofs.PrintedValues.{print_value}
 use Rattle.syn.specs.Canonical.{IsCanonical, IsSameForm, CanonicalOutcome, SameFormOutcome}
 
 -- trees of equal normal forms print alike
@@ -17,12 +17,12 @@ alike : (s t : Syntax) → normal s ≡ normal t → plain (print s) ≡ plain (
 alike s t e = sym (normal_prints s) ∙ ap print e ∙ normal_prints t
 
 -- the print of what a value holds is that of the tree
-pub held_print : (k : Rule) (ts p : Stream) (s t : Syntax) → held t ≡ s → p ≡ print s → p ≡ print t
-held_print k ts p s t h e = e ∙ ap print (sym h) ∙ print_held t
+pub value_print : (k : Rule) (ts p : Stream) (s t : Syntax) → value_of t ≡ s → p ≡ print s → p ≡ print t
+value_print k ts p s t h e = e ∙ ap print (sym h) ∙ print_value t
 
-pub canonical_of : (k : Rule) (ts p : Stream) (s : Syntax) → visible ts ≡ true → HoldsWhole (rule k) s ts → p ≡ print s → IsCanonical k ts p
+pub canonical_of : (k : Rule) (ts p : Stream) (s : Syntax) → visible ts ≡ true → DerivesWholeValue (rule k) s ts → p ≡ print s → IsCanonical k ts p
 canonical_of k ts p s v (t, d, h) e =
-    let q : p ≡ print t = held_print k ts p s t h e in
+    let q : p ≡ print t = value_print k ts p s t h e in
     let (u, x, i) = print_is_read k ts t d in
     record {
       tree = t;
@@ -35,11 +35,11 @@ canonical_of k ts p s v (t, d, h) e =
       prints_again = alike u t i ∙ ap plain (sym q);
     }
 
-pub same_form_of : (k : Rule) (a b p q : Stream) (s t : Syntax) (x : Bool) → HoldsWhole (rule k) s a → HoldsWhole (rule k) t b
+pub same_form_of : (k : Rule) (a b p q : Stream) (s t : Syntax) (x : Bool) → DerivesWholeValue (rule k) s a → DerivesWholeValue (rule k) t b
     → p ≡ print s → q ≡ print t → IsTrue x ↔ (plain p ≡ plain q) → IsSameForm k a b x
 same_form_of k a b p q s t x (u, d, h) (w, e, i) f g y =
-    let f' : p ≡ print u = held_print k a p s u h f in
-    let g' : q ≡ print w = held_print k b q t w i g in
+    let f' : p ≡ print u = value_print k a p s u h f in
+    let g' : q ≡ print w = value_print k b q t w i g in
     let z = same_form k a b u w d e in
     let prints : IsTrue x ↔ (plain (print u) ≡ plain (print w)) =
     subst (λ m. IsTrue x ↔ (plain m ≡ plain (print w))) f' (subst (λ n. IsTrue x ↔ (plain p ≡ plain n)) g' y) in
@@ -56,8 +56,8 @@ same_form_of k a b p q s t x (u, d, h) (w, e, i) f g y =
 pub canonical_by : (f : Form) (k : Rule) → f ≡ of (rule k) → (ts p : Stream) (s : Syntax) → visible ts ≡ true → DerivesWhole f s ts → p ≡ print s → IsCanonical k ts p
 canonical_by f k e ts p s v h q = canonical_of k ts p s v (subst (λ z. DerivesWhole z s ts) e h) q
 
-pub refused_by : (f : Form) (k : Rule) → f ≡ of (rule k) → (ts : Stream) → UnreadWhole f ts → Refused k ts
-refused_by f k e ts h = subst (λ z. UnreadWhole z ts) e h
+pub refused_by : (f : Form) (k : Rule) → f ≡ of (rule k) → (ts : Stream) → NotDerivedWhole f ts → Refused k ts
+refused_by f k e ts h = subst (λ z. NotDerivedWhole z ts) e h
 
 pub same_form_by : (f : Form) (k : Rule) → f ≡ of (rule k) → (a b p q : Stream) (s t : Syntax) (x : Bool) → DerivesWhole f s a → DerivesWhole f t b
     → p ≡ print s → q ≡ print t → IsTrue x ↔ (plain p ≡ plain q) → IsSameForm k a b x

@@ -3,14 +3,14 @@ use Rattle.std.proofs.Common.{◌≡◌, ℕ, Bool, true, false, ◌&&◌, List,
 use Rattle.std.specs.List.{list_all}
 use Rattle.std.proofs.lemmas.List.Folds.{list_all-append}
 use Rattle.syn_grammar.specs.Tokens.{Span, Stream, end, leaf, punct, group, ◌⧺◌, is_visible, visible}
-use Rattle.syn.specs.Flat.{Token, one, sign, opened, closed, flat}
+use Rattle.syn.specs.Flat.{Token, one, punctuation, opened, closed, flat}
 use Rattle.syn.specs.Spelling.{Piece, word, constant, mark, opening, closing, comment, doc, IsWhole, tokens_of, IsCut, all_tokens, Spells}
 
 -- one stream after another
 pub flat_append : (a b : Stream) → flat (a ⧺ b) ≡ flat a ++ flat b
 flat_append end b = refl
 flat_append (leaf x s m) b = ap (λ l. one x s ∷ l) (flat_append m b)
-flat_append (punct c j s m) b = ap (λ l. sign c j s ∷ l) (flat_append m b)
+flat_append (punct c j s m) b = ap (λ l. punctuation c j s ∷ l) (flat_append m b)
 flat_append (group d o c i m) b =
     ap (λ l. opened d o ∷ (flat i ++ (closed d c ∷ l))) (flat_append m b)
     ∙ ap (λ l. opened d o ∷ l) (sym (append_assoc (flat i) (closed d c ∷ flat m) (flat b)))
@@ -24,7 +24,7 @@ flat_more around a b = ap (λ l. around ++ l) (flat_append a b) ∙ sym (append_
 -- the token opens no invisible group
 abbrev is_seen : Token → Bool
 is_seen (one x s) = true
-is_seen (sign c j s) = true
+is_seen (punctuation c j s) = true
 is_seen (opened d s) = is_visible d
 is_seen (closed d s) = true
 

@@ -35,7 +35,7 @@ regroup a b t c d =
     sym (append_assoc (a ++ b) (t ∷ []) (c ++ d))
     ∙ (ap (λ l. l ++ (c ++ d)) (append_assoc a b (t ∷ [])) ∙ sym (append_assoc (a ++ (b ++ (t ∷ []))) c d))
 
--- the innermost group is closed: its content and the closing sign stand behind what was added before it
+-- the innermost group is closed: its content and the closing delimiter stand behind what was added before it
 pub closed_more : (os : List OpenGroup) (o : OpenGroup) (content last : List Token)
     → (tokens_around os ++ flat o.outer) ++ (opened (delimiter_of o.delimiter) (at o.opening) ∷ (content ++ last)) ≡ (tokens_around (os ++ (o ∷ [])) ++ content) ++ last
 closed_more os o content last =

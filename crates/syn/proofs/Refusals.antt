@@ -26,7 +26,7 @@ leaves_flat (group d o c i m) ts around after h =
     subst (λ (l : List Token). Leaves l ((d, o) ∷ around) after) (sym (append_assoc (flat i) (closed d c ∷ flat m) ts))
     (leaves_flat i (closed d c ∷ (flat m ++ ts)) ((d, o) ∷ around) after (refl, leaves_flat m ts around after h))
 
--- the opening signs of these groups, the innermost first, before those of the groups around them
+-- the opening delimiters of these groups, the innermost first, before those of the groups around them
 abbrev pub signs : List OpenGroup → List Opening → List Opening
 signs [] around = around
 signs (g ∷ gs) around = signs gs ((delimiter_of g.delimiter, at g.opening) ∷ around)
@@ -114,7 +114,7 @@ lexical_refusal text b i (f ∷ []) builds (blank, (starts, some, inside, (flaw,
     placed text around open_group s read is = absurd is
 lexical_refusal text b i (f ∷ g ∷ fs) builds (blank, h) = absurd h
 
--- a closing sign that isn't the innermost open group's
+-- a closing delimiter that isn't the innermost open group's
 pub closing_refusal : (text : List ℕ) (b : TreeBuilder) (i j : ℕ) (d : Delimiter) (s : TokenSpan) (e : List FaultValue) → Builds text b i → IsBlank text i s.start
     → IsPieceAt text (closing (delimiter_of d)) s.start j → s.end ≡ j → IsUnbalanced s (NotOpen d b.inner) e → IsRefusal text e
 closing_refusal text b i j d s [] builds blank piece ends h = tt

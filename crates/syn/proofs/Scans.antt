@@ -262,12 +262,12 @@ pub plain_word : (c : ℕ) (cs : List ℕ) → (c == 114) ≡ false → drop_whi
 unfolding after_word
 plain_word c cs e = ap (drop_while is_xid_continue) (sym (cond-false (c == 114 && begins_raw_name cs) (drop 2 cs) cs (and_left (c == 114) _ e)))
 
--- the sign of a lifetime
-pub lifetime_sign : (start next : Cursor) (p : PunctValue) (s : Span) → IsPast 39 start next → Stands start.text.now (encode_utf8 39) start.offset next.offset
+-- the `'` of a lifetime
+pub lifetime_apostrophe : (start next : Cursor) (p : PunctValue) (s : Span) → IsPast 39 start next → Stands start.text.now (encode_utf8 39) start.offset next.offset
     → begins_character (left next) ≡ false → first_passes may_start (left next) ≡ true → p ≡ record { character = 39; spacing = Joint; span = s }
     → s ≡ record { start = start.offset; end = next.offset } → IsLexemeFrom start.text.now start.offset (Punct p) next.offset
 unfolding begins_comment
-lifetime_sign start next p s past stands b n e f =
+lifetime_apostrophe start next p s past stands b n e f =
     let same : left next ≡ behind start.text.now next.offset = ap (λ (t : Bor (List ℕ)). behind t.now next.offset) past.0 in
     let named : first_passes may_start (behind start.text.now next.offset) ≡ true = ap (first_passes may_start) (sym same) ∙ n in
     let mark : ℕ → Span → Type 0 = λ c x. IsLexemeFrom start.text.now start.offset (Punct (record { character = c; spacing = Joint; span = x })) next.offset in

@@ -1,4 +1,4 @@
--- Characters with which no piece begins, and the signs of groups.
+-- Characters with which no piece begins, and the delimiters of groups.
 use Rattle.std.proofs.Common.{◌≡◌, ◌≢◌, ◌<◌, ◌==◌, ℕ, true, false, List, [], ◌∷◌, codes, refl, sym, ap, ◌∙◌, subst, true≢false, lit<}
 use Rattle.std.proofs.lemmas.Bool.{eq-eqb}
 use Rattle.std.specs.Prelude.{Result, Ok, Err, IfOk, IfErr, MatchResult}
@@ -17,8 +17,8 @@ use Rattle.syn.specs.declared.reader.lexer.Lexeme.TheVariants.{Open, Close, Iden
 use Rattle.syn.specs.Places.{left, IsPast}
 use Rattle.syn.specs.Scanning.{first_passes, literal_from, lettered, Absent, begins_character}
 use Rattle.syn.specs.Spelling.{Stands, begins_mark}
-use Rattle.syn.specs.Lexemes.{IsSign, IsLexemeFrom}
-use Rattle.syn.specs.Refusals.{NoSign, BeginsNone, unexpected, IsLexicalFault}
+use Rattle.syn.specs.Lexemes.{IsDelimiter, IsLexemeFrom}
+use Rattle.syn.specs.Refusals.{NoDelimiter, BeginsNone, unexpected, IsLexicalFault}
 use Rattle.syn.proofs.Beginnings.{differs, letter_starts}
 use Rattle.syn.proofs.Scans.{quote_literal, no_character}
 use Rattle.syn.proofs.Spelling.{stands_within}
@@ -40,7 +40,7 @@ other_sign a b h e = let same : a ≡ b = cc in true≢false (sym (eq-eqb a b sa
 no_text : (a : ℕ) → [] ≢ a ∷ []
 no_text a e = cc
 
-quote_no_sign : NoSign 39
+quote_no_sign : NoDelimiter 39
 quote_no_sign grammar.Paren = (other_sign 40 39 refl, other_sign 41 39 refl)
 quote_no_sign grammar.Brace = (other_sign 123 39 refl, other_sign 125 39 refl)
 quote_no_sign grammar.Bracket = (other_sign 91 39 refl, other_sign 93 39 refl)
@@ -74,7 +74,7 @@ stands_sign text i j n c e f stands =
     subst (λ (x : List ℕ). Stands text x i j) (ap encode_utf8 same ∙ f) stands
 
 sign_there : (start next : Cursor) (c : ℕ) (s : Span) (l : Lexeme) → start.offset < next.offset → Stands start.text.now (encode_utf8 c) start.offset next.offset
-    → s ≡ record { start = start.offset; end = next.offset } → IsSign c s l → IsLexemeFrom start.text.now start.offset l next.offset
+    → s ≡ record { start = start.offset; end = next.offset } → IsDelimiter c s l → IsLexemeFrom start.text.now start.offset l next.offset
 unfolding encode_utf8
 sign_there start next c s (Open D.Paren t) past stands there (e, v, at) = ((stands_sign _ _ _ 40 c e refl stands, past, v), ap (λ (x : Span). x.start) (at ∙ there), ap (λ (x : Span). x.end) (at ∙ there))
 sign_there start next c s (Open D.Brace t) past stands there (e, v, at) = ((stands_sign _ _ _ 123 c e refl stands, past, v), ap (λ (x : Span). x.start) (at ∙ there), ap (λ (x : Span). x.end) (at ∙ there))
@@ -89,11 +89,11 @@ sign_there start next c s (Literal k x t) past stands there h = absurd h
 sign_there start next c s (Punct p) past stands there h = absurd h
 sign_there start next c s (Comment x t) past stands there h = absurd h
 
--- a sign of a group, or a character with which no piece begins
+-- a delimiter of a group, or a character with which no piece begins
 pub sign_or_fault : (r : Result Lexeme (List FaultValue)) (start next : Cursor) (c : ℕ) (s : Span) → IsPast c start next
     → Stands start.text.now (encode_utf8 c) start.offset next.offset → s ≡ record { start = start.offset; end = next.offset }
     → may_start c ≡ false → (c ≡ 34 → ⊥) → (c ≡ 39 → ⊥) → is_ascii_digit c ≡ false → is_punct_character c ≡ false
-    → IfOk r (IsSign c s) → IfErr r (λ e. NoSign c) → IfErr r (λ e. e ≡ (s, codes "unexpected character") ∷ [])
+    → IfOk r (IsDelimiter c s) → IfErr r (λ e. NoDelimiter c) → IfErr r (λ e. e ≡ (s, codes "unexpected character") ∷ [])
     → MatchResult r (λ l. IsLexemeFrom start.text.now start.offset l next.offset) (IsLexicalFault start.text.now start.offset)
 sign_or_fault (Ok l) start next c s past stands there m q a d p ok none is = sign_there start next c s l past.1 stands there ok
 sign_or_fault (Err e) start next c s past stands there m q a d p ok none is =

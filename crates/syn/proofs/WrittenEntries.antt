@@ -7,7 +7,7 @@ use Rattle.syn_grammar.specs.Take as count
 use Rattle.syn_tokens.specs.Entries.{close_entry, encode}
 use Rattle.syn_tokens.specs.declared.stream.entry.Token.{Token as Entry}
 use Rattle.syn_tokens.proofs.Entries.{joint_back}
-use Rattle.syn.specs.Spelling.{opening_sign, closing_sign}
+use Rattle.syn.specs.Spelling.{opening_delimiter, closing_delimiter}
 use Rattle.syn.specs.Texts.{gap, follows_directly, text_behind, text_of}
 use Rattle.syn.specs.EntryTexts.{entry_text, direct_behind, entries_text}
 
@@ -19,12 +19,12 @@ word_first a b c r = append_assoc a b (c ++ r) ∙ ap (λ t. a ++ t) (sym (appen
 abbrev WritesFirst : Bool → Stream → Type 0
 WritesFirst direct s = (rest : List Entry) → entries_text direct (encode s ++ rest) ≡ text_behind direct s ++ entries_text (follows_directly direct s) rest
 
--- the content of a visible group and what is behind the group, where its signs are these
-in_signs : (space opening closing : List ℕ) (close : Entry) → ((b : Bool) → entry_text b close ≡ gap b ++ closing) → ((b : Bool) → direct_behind b close ≡ false)
+-- the content of a visible group and what is behind the group, where its delimiters are these
+in_delimiters : (space opening closing : List ℕ) (close : Entry) → ((b : Bool) → entry_text b close ≡ gap b ++ closing) → ((b : Bool) → direct_behind b close ≡ false)
     → (i m : Stream) → WritesFirst false i → WritesFirst false m → (rest : List Entry)
     → (space ++ opening) ++ entries_text false ((encode i ++ close ∷ encode m) ++ rest)
     ≡ (space ++ (opening ++ (text_behind false i ++ (gap (follows_directly false i) ++ (closing ++ text_behind false m))))) ++ entries_text (follows_directly false m) rest
-in_signs space opening closing close writes ends i m inner more rest =
+in_delimiters space opening closing close writes ends i m inner more rest =
     let direct = follows_directly false i in
     let left = entries_text (follows_directly false m) rest in
     let tail = gap direct ++ (closing ++ text_behind false m) in
@@ -56,11 +56,11 @@ behind_stream direct (group None o c i m) rest =
     ∙ ap (λ t. text_behind direct i ++ t) (behind_stream (follows_directly direct i) m rest)
     ∙ sym (append_assoc (text_behind direct i) (text_behind (follows_directly direct i) m) (entries_text (follows_directly (follows_directly direct i) m) rest))
 behind_stream direct (group Paren o c i m) rest =
-    in_signs (gap direct) (opening_sign Paren) (closing_sign Paren) (close_entry Paren c (count.length i)) (λ b. refl) (λ b. refl) i m (behind_stream false i) (behind_stream false m) rest
+    in_delimiters (gap direct) (opening_delimiter Paren) (closing_delimiter Paren) (close_entry Paren c (count.length i)) (λ b. refl) (λ b. refl) i m (behind_stream false i) (behind_stream false m) rest
 behind_stream direct (group Brace o c i m) rest =
-    in_signs (gap direct) (opening_sign Brace) (closing_sign Brace) (close_entry Brace c (count.length i)) (λ b. refl) (λ b. refl) i m (behind_stream false i) (behind_stream false m) rest
+    in_delimiters (gap direct) (opening_delimiter Brace) (closing_delimiter Brace) (close_entry Brace c (count.length i)) (λ b. refl) (λ b. refl) i m (behind_stream false i) (behind_stream false m) rest
 behind_stream direct (group Bracket o c i m) rest =
-    in_signs (gap direct) (opening_sign Bracket) (closing_sign Bracket) (close_entry Bracket c (count.length i)) (λ b. refl) (λ b. refl) i m (behind_stream false i) (behind_stream false m) rest
+    in_delimiters (gap direct) (opening_delimiter Bracket) (closing_delimiter Bracket) (close_entry Bracket c (count.length i)) (λ b. refl) (λ b. refl) i m (behind_stream false i) (behind_stream false m) rest
 
 -- the entries of a stream alone
 pub whole_text : (s : Stream) → entries_text true (encode s) ≡ text_of s

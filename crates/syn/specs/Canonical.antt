@@ -4,7 +4,7 @@ use Rattle.syn_grammar.specs.Tokens.{Stream, plain, visible}
 use Rattle.syn_grammar.specs.Rules.{Rule}
 use Rattle.syn_grammar.specs.Grammar.{Syntax, print, normal}
 use Rattle.syn_grammar.specs.Laws.{Derives}
-use Rattle.syn_grammar.specs.Says.{Refused}
+use Rattle.syn_grammar.specs.Promises.{Refused}
 
 -- a tree is derived from ts, and p is its print; from p in turn a tree with the same normal form is derived, which prints alike
 pub record IsCanonical (k : Rule) (ts p : Stream) : Type 0 where

@@ -4,10 +4,10 @@ use Rattle.std.specs.Char.{encode_utf8}
 
 -- the comment is this sign, then the text, and then the other sign
 abbrev pub IsBetween : List ℕ → List ℕ → List ℕ → List ℕ → Type 0
-IsBetween sign text last comment = comment ≡ sign ++ (text ++ last)
+IsBetween group_delimiter text last comment = comment ≡ group_delimiter ++ (text ++ last)
 
 abbrev pub Lacks : List ℕ → List ℕ → Type 0
-Lacks sign comment = (rest : List ℕ) → comment ≢ sign ++ rest
+Lacks group_delimiter comment = (rest : List ℕ) → comment ≢ group_delimiter ++ rest
 
 -- The comment says this text of what it stands in (true): `//!`, `/*! */`; or of what follows it (false): `///` but not `////`, and
 -- `/** */` but not `/***`. (Nor `/**/`, which has no end apart from its beginning.)

@@ -10,7 +10,7 @@ use Rattle.syn_tokens.specs.Faults.{FaultValue}
 use Rattle.syn.specs.declared.reader.lexer.Lexeme.{Lexeme}
 use Rattle.syn.specs.declared.reader.lexer.Lexeme.TheVariants.{Open, Close, Ident, Literal, Punct, Comment}
 use Rattle.syn.specs.declared.reader.lexer.Lexer.{Lexer}
-use Rattle.syn.specs.Spelling.{Stands, IsBlank, word, constant, mark, opening, closing, opening_sign, closing_sign, IsPieceAt, IsComment}
+use Rattle.syn.specs.Spelling.{Stands, IsBlank, word, constant, mark, opening, closing, opening_delimiter, closing_delimiter, IsPieceAt, IsComment}
 use Rattle.syn.specs.Refusals.{FollowsAsFault}
 
 abbrev pub span_of : Lexeme → Span
@@ -34,11 +34,11 @@ IsCutOut text (Comment x s) i j = Stands text x.now i j × (i < j) × IsComment 
 abbrev pub IsLexemeFrom : List ℕ → ℕ → Lexeme → ℕ → Type 0
 IsLexemeFrom text i l j = IsCutOut text l i j × ((span_of l).start ≡ i) × ((span_of l).stop ≡ j)
 
--- it is the sign of a group that this character is, and it stands there
-abbrev pub IsSign : ℕ → LexemeSpan → Lexeme → Type 0
-IsSign c s (Open d t) = (opening_sign (delimiter_of d) ≡ c ∷ []) × (is_visible (delimiter_of d) ≡ true) × (t ≡ s)
-IsSign c s (Close d t) = (closing_sign (delimiter_of d) ≡ c ∷ []) × (is_visible (delimiter_of d) ≡ true) × (t ≡ s)
-IsSign c s _ = ⊥
+-- it is the delimiter of a group that this character is, and it stands there
+abbrev pub IsDelimiter : ℕ → LexemeSpan → Lexeme → Type 0
+IsDelimiter c s (Open d t) = (opening_delimiter (delimiter_of d) ≡ c ∷ []) × (is_visible (delimiter_of d) ≡ true) × (t ≡ s)
+IsDelimiter c s (Close d t) = (closing_delimiter (delimiter_of d) ≡ c ∷ []) × (is_visible (delimiter_of d) ≡ true) × (t ≡ s)
+IsDelimiter c s _ = ⊥
 
 -- what is taken for an identifier is one
 abbrev pub IsNamed : Lexeme → Type 0

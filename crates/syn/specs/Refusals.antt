@@ -6,26 +6,26 @@ use Rattle.syn_tokens.specs.Spans.{at}
 use Rattle.syn_tokens.specs.Idents.{may_start}
 use Rattle.syn_tokens.specs.Faults.{FaultValue}
 use Rattle.syn.specs.Scanning.{behind, literal_from, literal_at, Absent, Unclosed, begins_comment, after_comment}
-use Rattle.syn.specs.Flat.{Token, one, sign, opened, closed}
-use Rattle.syn.specs.Spelling.{Stands, IsBlank, Piece, closing, opening_sign, closing_sign, begins_mark, IsPieceAt, IsCut, all_tokens}
+use Rattle.syn.specs.Flat.{Token, one, punctuation, opened, closed}
+use Rattle.syn.specs.Spelling.{Stands, IsBlank, Piece, closing, opening_delimiter, closing_delimiter, begins_mark, IsPieceAt, IsCut, all_tokens}
 
 -- THE GROUPS THAT ARE OPEN
 
--- the opening sign of a group: of which delimiter, and where it stands
+-- the opening delimiter of a group: of which delimiter, and where it stands
 abbrev pub Opening : Type 0
 Opening = Delimiter × Span
 
--- Each closing sign of these tokens is the innermost open group's, where these groups are open around them, the innermost first;
+-- Each closing delimiter of these tokens is the innermost open group's, where these groups are open around them, the innermost first;
 -- and behind them those are open.
 abbrev pub Leaves : List Token → List Opening → List Opening → Type 0
 Leaves [] around after = after ≡ around
 Leaves (one x s ∷ ts) around after = Leaves ts around after
-Leaves (sign c j s ∷ ts) around after = Leaves ts around after
+Leaves (punctuation c j s ∷ ts) around after = Leaves ts around after
 Leaves (opened d s ∷ ts) around after = Leaves ts ((d, s) ∷ around) after
 Leaves (closed d s ∷ ts) [] after = ⊥
 Leaves (closed d s ∷ ts) ((e, o) ∷ around) after = (e ≡ d) × Leaves ts around after
 
--- The text is read up to byte i: it is cut into pieces, whose signs of groups fit, and leave these groups open.
+-- The text is read up to byte i: it is cut into pieces, whose delimiters of groups fit, and leave these groups open.
 abbrev pub IsReadTo : List ℕ → ℕ → List Opening → Type 0
 IsReadTo text i around = (pieces : List (Piece × Span)) × IsCut text 0 pieces i × Leaves (all_tokens pieces) [] around
 
@@ -35,7 +35,7 @@ pub data Flaw : Type 0 where
   unexpected : Flaw  -- a character that no piece begins with
   open_literal : Flaw  -- a literal that isn't closed
   open_comment : Flaw  -- a comment that isn't closed
-  stray_closing : Flaw  -- a closing sign that isn't the innermost open group's
+  stray_closing : Flaw  -- a closing delimiter that isn't the innermost open group's
   open_group : Flaw  -- a group that isn't closed
 
 abbrev pub words_of : Flaw → List ℕ
@@ -45,19 +45,19 @@ words_of open_comment = codes "unterminated comment"
 words_of stray_closing = codes "unbalanced group"
 words_of open_group = codes "unbalanced group"
 
--- no group has this character for a sign
-abbrev pub NoSign : ℕ → Type 0
-NoSign c = (d : Delimiter) → (opening_sign d ≢ c ∷ []) × (closing_sign d ≢ c ∷ [])
+-- no group has this character for a delimiter
+abbrev pub NoDelimiter : ℕ → Type 0
+NoDelimiter c = (d : Delimiter) → (opening_delimiter d ≢ c ∷ []) × (closing_delimiter d ≢ c ∷ [])
 
--- no identifier, literal, mark or sign of a group begins with this character, before these; nor a comment, which begins as marks do
+-- no identifier, literal, mark or delimiter of a group begins with this character, before these; nor a comment, which begins as marks do
 abbrev pub BeginsNone : ℕ → List ℕ → Type 0
-BeginsNone c cs = (may_start c ≡ false) × (literal_from c cs ≡ Absent) × (begins_mark c cs ≡ false) × NoSign c
+BeginsNone c cs = (may_start c ≡ false) × (literal_from c cs ≡ Absent) × (begins_mark c cs ≡ false) × NoDelimiter c
 
 -- from byte i to byte j stands one character, with which no piece begins
 abbrev pub IsUnexpected : List ℕ → ℕ → ℕ → Type 0
 IsUnexpected text i j = (c : ℕ) × Stands text (encode_utf8 c) i j × (cs : List ℕ) × (behind text i ≡ c ∷ cs) × BeginsNone c cs
 
--- a closing sign of this delimiter belongs to none of these groups, or not to the innermost
+-- a closing delimiter of this delimiter belongs to none of these groups, or not to the innermost
 abbrev pub NotInnermost : Delimiter → List Opening → Type 0
 NotInnermost d [] = Unit {0}
 NotInnermost d ((e, o) ∷ around) = e ≢ d

@@ -11,7 +11,7 @@ use Rattle.syn_tokens.specs.Faults.{FaultValue}
 use Rattle.syn_tokens.specs.declared.literal.LitKind.{LitKind}
 use Rattle.syn.specs.Scanning.{behind, first_passes, Absent, Scanned, literal_at, after_word, begins_comment, after_comment}
 use Rattle.syn.specs.Docs.{IsDoc, IsNoDoc, quoted}
-use Rattle.syn.specs.Flat.{Token, one, sign, opened, closed, flat}
+use Rattle.syn.specs.Flat.{Token, one, punctuation, opened, closed, flat}
 
 -- the first character of the bytes passes the test; false where there is none
 abbrev pub begins_by : (ℕ → Bool) → List ℕ → Bool
@@ -26,17 +26,17 @@ pub record Stands (text bytes : List ℕ) (i j : ℕ) : Type 0 where
 abbrev pub IsBlank : List ℕ → ℕ → ℕ → Type 0
 IsBlank text i j = (space : List ℕ) × NoCharPasses is_not_whitespace space × Stands text space i j
 
-abbrev pub opening_sign : Delimiter → List ℕ
-opening_sign Paren = codes "("
-opening_sign Brace = codes "{"
-opening_sign Bracket = codes "["
-opening_sign None = []
+abbrev pub opening_delimiter : Delimiter → List ℕ
+opening_delimiter Paren = codes "("
+opening_delimiter Brace = codes "{"
+opening_delimiter Bracket = codes "["
+opening_delimiter None = []
 
-abbrev pub closing_sign : Delimiter → List ℕ
-closing_sign Paren = codes ")"
-closing_sign Brace = codes "}"
-closing_sign Bracket = codes "]"
-closing_sign None = []
+abbrev pub closing_delimiter : Delimiter → List ℕ
+closing_delimiter Paren = codes ")"
+closing_delimiter Brace = codes "}"
+closing_delimiter Bracket = codes "]"
+closing_delimiter None = []
 
 -- A piece of a text.
 pub data Piece : Type 0 where
@@ -53,8 +53,8 @@ abbrev pub bytes_of : Piece → List ℕ
 bytes_of (word x) = x
 bytes_of (constant k x) = x
 bytes_of (mark c joint) = encode_utf8 c
-bytes_of (opening d) = opening_sign d
-bytes_of (closing d) = closing_sign d
+bytes_of (opening d) = opening_delimiter d
+bytes_of (closing d) = closing_delimiter d
 bytes_of (comment x) = x
 bytes_of (doc x inner said) = x
 
@@ -89,14 +89,14 @@ IsPieceAt text p i j = Stands text (bytes_of p) i j × (i < j) × IsWhole text p
 -- the tokens of `#[doc = ".."]`, or of `#![doc = ".."]`, all with the span of the comment
 abbrev pub doc_tokens : Bool → List ℕ → Span → List Token
 doc_tokens inner said s =
-    (sign 35 false s ∷ (if inner then sign 33 false s ∷ [] else []))
-    ++ (opened Bracket s ∷ one (ident (codes "doc")) s ∷ sign 61 false s ∷ one (literal Str (quoted (chars said))) s ∷ closed Bracket s ∷ [])
+    (punctuation 35 false s ∷ (if inner then punctuation 33 false s ∷ [] else []))
+    ++ (opened Bracket s ∷ one (ident (codes "doc")) s ∷ punctuation 61 false s ∷ one (literal Str (quoted (chars said))) s ∷ closed Bracket s ∷ [])
 
 -- the tokens that it stands for
 abbrev pub tokens_of : Piece → Span → List Token
 tokens_of (word x) s = one (ident x) s ∷ []
 tokens_of (constant k x) s = one (literal (kind_of k) x) s ∷ []
-tokens_of (mark c joint) s = sign c joint s ∷ []
+tokens_of (mark c joint) s = punctuation c joint s ∷ []
 tokens_of (opening d) s = opened d s ∷ []
 tokens_of (closing d) s = closed d s ∷ []
 tokens_of (comment x) s = []

@@ -33,7 +33,7 @@ pub mod parse {
     pub use syn_parse::buffer::call::Answer;
     pub use syn_parse::lookahead::Lookahead1;
     pub use syn_parse::parse::{Parse, Separator, parse2};
-    pub use syn_parse::read::refusal::{Reading, Refusal};
+    pub use syn_parse::read::refusal::{Parsed, Refusal};
     pub use syn_parse::read::{End, Peek, Read};
     pub use syn_tokens::error::{Error, Fault, Result};
 }

@@ -6,8 +6,8 @@ ghost use Rattle.syn.specs.Refusals.{IsRefusal};
 
 mod cursor;
 mod docs;
+mod ident_cache;
 mod lexer;
-mod names;
 mod text;
 mod trees;
 
@@ -24,7 +24,7 @@ use syn_tokens::stream::TokenStream;
 ///
 /// Refused with one fault, at the bytes that it names: `unexpected character` at one that no token begins with,
 /// `unterminated literal` and `unterminated comment` at the beginning of what has no end, `unbalanced group` at a closing
-/// sign that doesn't belong to the innermost open group, or, at the end of the text, at the outermost group that is still
+/// delimiter that doesn't belong to the innermost open group, or, at the end of the text, at the outermost group that is still
 /// open. Refused without a fault where memory is.
 pub fn read_tokens(alloc: Global, text: &str) -> Result<TokenStream>
     ensures visible { IfOk result (λ stream. visible stream ≡ true) }

@@ -2,7 +2,7 @@
 use Rattle.std.proofs.Common.{List, [], ◌∷◌}
 use Rattle.syn_grammar.specs.Tokens.{Stream}
 use Rattle.syn_grammar.specs.Rules.{Rule}
-use Rattle.syn_grammar.specs.Says.{Refused}
+use Rattle.syn_grammar.specs.Promises.{Refused}
 use Rattle.syn_tokens.specs.Faults.{FaultValue, IsSyntaxError}
 use Rattle.syn_canon.specs.Statuses.{failure_of}
 use Rattle.syn_canon.specs.Answers.{IsUnderived}

@@ -7,7 +7,7 @@ use Rattle.syn_grammar.specs.Tokens.{Stream}
 use Rattle.syn_grammar.specs.Rules.{Rule}
 use Rattle.syn_grammar.specs.Grammar.{Syntax}
 use Rattle.syn_grammar.specs.Laws.{Derives}
-use Rattle.syn_grammar.specs.Says as grammar
+use Rattle.syn_grammar.specs.Promises as grammar
 use Rattle.syn_tokens.specs.Faults.{FaultValue, IsSyntaxError}
 use Rattle.syn.specs.Spelling.{Spells, IsFaultWithin}
 use Rattle.syn.specs.Texts.{text_of}

@@ -3,12 +3,12 @@ use Rattle.std.proofs.Common.{◌≡◌, ℕ, zero, suc, Bool, true, false, List
 use Rattle.syn_grammar.specs.Tokens.{Span, Stream, punct, or, and, no, Look, ended, stands, at_generics}
 use Rattle.syn_grammar.specs.Rules.{Rule}
 use Rattle.syn_grammar.specs.RuleNumbers.{same_rule}
-use Rattle.syn_grammar.specs.Grammar.{Syntax, Token, Group, Raw, Reads, Grammar, empty, token, ◌&◌, when◌then◌else◌, vanishing, inside, raw, either, one_of, rule, such, captured, unshown, supplied, generics_before, opt_generics, row, ordered, among, at_row_comma, shaped}
+use Rattle.syn_grammar.specs.Grammar.{Syntax, Token, Group, Raw, DerivesPrefix, Grammar, empty, token, ◌&◌, when◌then◌else◌, vanishing, inside, raw, either, one_of, rule, such, captured, unshown, supplied, generics_before, opt_generics, row, ordered, among, at_row_comma, shaped}
 use Rattle.syn_grammar.proofs.RuleLemmas.{same_rule_eq}
 use Rattle.syn_grammar.proofs.Sets.{or_split, and_left, and_right, apart_sets, every, same_look}
-use Rattle.syn_grammar.proofs.Heads.{Start, passes, heads}
+use Rattle.syn_grammar.proofs.FirstSets.{Start, nullable, first_set}
 use Rattle.syn_grammar.proofs.Again.{excluded}
-use Rattle.syn_grammar.proofs.Offs.{offs}
+use Rattle.syn_grammar.proofs.NeverFollow.{never_follow}
 use Rattle.syn_grammar.proofs.FormEquality.{opposite, same, single, tail, all_forms, all_rules, some_form, comma_stands}
 
 abbrev pub shared : Grammar → Grammar → Bool
@@ -83,8 +83,8 @@ pub on_right : {A B B' : Type 0} → (B → B') → A ⊎ B → A ⊎ B'
 on_right f (inl a) = inl a
 on_right f (inr b) = inr (f b)
 
-pub comma_class : (j : Bool) (sp : Span) (m m' : Stream) → m ≡ punct 44 j sp m' → stands at_row_comma m ≡ true
-comma_class j sp m m' e = ap (stands at_row_comma) e ∙ comma_stands j sp m'
+pub comma_lookahead : (j : Bool) (sp : Span) (m m' : Stream) → m ≡ punct 44 j sp m' → stands at_row_comma m ≡ true
+comma_lookahead j sp m m' e = ap (stands at_row_comma) e ∙ comma_stands j sp m'
 
 module _ (table : Rule → Grammar) (said : Rule → Start) where
   abbrev pub each_form : List Rule → List Grammar
@@ -125,11 +125,11 @@ module _ (table : Rule → Grammar) (said : Rule → Start) where
 
   -- where the first reads nothing, the second doesn't begin
   abbrev pub clears : Grammar → Grammar → Bool
-  clears g h = or (no (passes said g)) (every (excluded (offs said [] g)) (heads said h))
+  clears g h = or (no (nullable said g)) (every (excluded (never_follow said [] g)) (first_set said h))
 
   -- no list begins with both, by what each begins with
   abbrev pub disjoint : Grammar → Grammar → Bool
-  disjoint g h = and (no (and (passes said g) (passes said h))) (and (and (clears g h) (clears h g)) (apart_sets (heads said g) (heads said h)))
+  disjoint g h = and (no (and (nullable said g) (nullable said h))) (and (and (clears g h) (clears h g)) (apart_sets (first_set said g) (first_set said h)))
 
   -- No list is read by both, seen in this many steps: they begin apart, or with the same form and go on apart, or end with
   -- the same rule and are apart before it, or each of the forms that one comes to is apart from the other (or both turn by one condition and are apart on each side).
@@ -193,7 +193,7 @@ module _ (table : Rule → Grammar) (said : Rule → Start) where
       go (inl q) ih = ap (λ z. p (table z & g)) (same_rule_eq k l q) ∙ and_left (p (table l & g)) _ e
       go (inr q) ih = ih q (and_right (p (table l & g)) _ e)
 
-  pub single_tail : (g : Grammar) (s : Syntax) (ts r : Stream) → single g ≡ true → Reads table g s ts r → r ≡ tail ts
+  pub single_tail : (g : Grammar) (s : Syntax) (ts r : Stream) → single g ≡ true → DerivesPrefix table g s ts r → r ≡ tail ts
   single_tail (token b k) (Token x sp) ts r e a = ap tail (sym a.1)
   single_tail (raw d) (Raw d' o c i) ts r e a = ap tail (sym a.1)
   single_tail (inside d g) (Group d' o c s) ts r e a = ap tail (sym a.2)

@@ -1,25 +1,25 @@
--- What was read is read again, as the same tree, before another rest with the same front; closed forms before any rest.
+-- What was read is read again, as the same tree, before another rest with the same lookahead; closed forms before any rest.
 use Rattle.std.proofs.Common.{◌≡◌, ℕ, Bool, true, false, List, [], ◌∷◌, refl, sym, ap, ◌∙◌, subst, true≢false, ◌⊎◌, inl, inr}
 use Rattle.syn_grammar.specs.Words.{long_marks}
-use Rattle.syn_grammar.specs.Tokens.{Stream, end, leaf, ident, punct, group, ◌⧺◌, and, or, Face, Sign, mem, answers, asked, class, stands, char_face, sign_notes, sign_front, Look, Front, front, is_ended}
+use Rattle.syn_grammar.specs.Tokens.{Stream, end, leaf, ident, punct, group, ◌⧺◌, and, or, Terminal, Punctuation, mem, answers, asked, lookahead, stands, char_terminal, punctuation_facts, punctuation_lookahead, Look, Lookahead, lookahead_with, is_ended}
 use Rattle.syn_grammar.specs.Rules.{Rule}
 use Rattle.syn_grammar.specs.RuleNumbers.{same_rule}
-use Rattle.syn_grammar.specs.Grammar.{Syntax, Nothing, Token, Mark, Lifetime, Both, Left, Right, Node, Vanishing, Group, Raw, Rest, Case, Captured, Unshown, Impl, Done, Last, More, Order, Such, Spelled, Reads, Grammar, empty, token, mark, lifetime, ◌&◌, when◌then◌else◌, vanishing, inside, raw, rest_after, either, one_of, rule, such, captured, unshown, supplied, generics_before, opt_generics, row, ordered, choose, among, at_unnamed, at_row_end, at_row_comma, Shaped, shaped}
+use Rattle.syn_grammar.specs.Grammar.{Syntax, Nothing, Token, Mark, Lifetime, Both, Left, Right, Node, Vanishing, Group, Raw, Rest, Case, Captured, Unshown, Impl, Done, Last, More, Order, Such, Spelled, DerivesPrefix, Grammar, empty, token, mark, lifetime, ◌&◌, when◌then◌else◌, vanishing, inside, raw, rest_after, either, one_of, rule, such, captured, unshown, supplied, generics_before, opt_generics, row, ordered, choose, among, at_unnamed, at_row_end, at_row_comma, Shaped, shaped}
 use Rattle.syn_grammar.proofs.RuleLemmas.{same_rule_eq}
-use Rattle.syn_grammar.proofs.Sets.{or_split, and_left, and_right, same_face_eq}
-use Rattle.syn_grammar.proofs.Heads.{beginning, char_start}
-use Rattle.syn_grammar.proofs.Streams.{append_append, append_end, same_before, class_same, class_end, spelled_alone, quiet, silent_note}
+use Rattle.syn_grammar.proofs.Sets.{or_split, and_left, and_right, same_terminal_eq}
+use Rattle.syn_grammar.proofs.FirstSets.{beginning, char_start}
+use Rattle.syn_grammar.proofs.Streams.{append_append, append_end, same_before, lookahead_same, lookahead_end, spelled_alone, quiet, silent_fact}
 
 module _ (table : Rule → Grammar) where
   -- the tokens that were read, and the same reading before another rest
   abbrev pub Carried : Grammar → Syntax → Stream → Stream → Type 0
-  Carried g s ts r = (c : Stream) × (ts ≡ c ⧺ r) × ((r' : Stream) → class r' ≡ class r → Reads table g s (c ⧺ r') r')
+  Carried g s ts r = (c : Stream) × (ts ≡ c ⧺ r) × ((r' : Stream) → lookahead r' ≡ lookahead r → DerivesPrefix table g s (c ⧺ r') r')
 
-  -- a condition is the same before a rest with the same front
-  moved : (l : Look) (b : Bool) (c ts r r' : Stream) → ts ≡ c ⧺ r → class r' ≡ class r → stands l ts ≡ b → stands l (c ⧺ r') ≡ b
-  moved l b c ts r r' e f h = ap (answers l) (class_same c r' r f ∙ ap class (sym e)) ∙ h
+  -- a condition is the same before a rest with the same lookahead
+  moved : (l : Look) (b : Bool) (c ts r r' : Stream) → ts ≡ c ⧺ r → lookahead r' ≡ lookahead r → stands l ts ≡ b → stands l (c ⧺ r') ≡ b
+  moved l b c ts r r' e f h = ap (answers l) (lookahead_same c r' r f ∙ ap lookahead (sym e)) ∙ h
 
-  pub carried : (g : Grammar) (s : Syntax) (ts r : Stream) → Reads table g s ts r → Carried g s ts r
+  pub carried : (g : Grammar) (s : Syntax) (ts r : Stream) → DerivesPrefix table g s ts r → Carried g s ts r
   carried empty Nothing ts r h = (end, h, λ r' e. refl)
   carried (token b k) (Token x sp) ts r h = (leaf x sp end, h.1, λ r' e. (h.0, refl))
   carried (mark b cs) (Mark xs) ts r h =
@@ -32,8 +32,8 @@ module _ (table : Rule → Grammar) where
         c ⧺ d,
         e ∙ ap (λ z. c ⧺ z) f ∙ sym (append_append c d r),
         λ r' q.
-            let x = k (d ⧺ r') (class_same d r' r q ∙ ap class (sym f)) in
-            subst (λ z. Reads table (g & h) (Both s t) z r') (sym (append_append c d r')) (d ⧺ r', x, l r' q),
+            let x = k (d ⧺ r') (lookahead_same d r' r q ∙ ap lookahead (sym f)) in
+            subst (λ z. DerivesPrefix table (g & h) (Both s t) z r') (sym (append_append c d r')) (d ⧺ r', x, l r' q),
       )
   carried (when l then g else h) (Left s) ts r (w, a) =
       let (c, e, k) = carried g s ts r a in
@@ -51,7 +51,7 @@ module _ (table : Rule → Grammar) where
         c ⧺ i,
         q ∙ ap (λ z. c ⧺ z) (sym (append_end i) ∙ ap (λ z. i ⧺ z) (sym f)) ∙ sym (append_append c i r),
         λ r' w.
-            let z = class_end r' (ap (λ v. is_ended v.face) (w ∙ ap class f)) in
+            let z = lookahead_end r' (ap (λ v. is_ended v.terminal) (w ∙ ap lookahead f)) in
             (e, subst (λ v. Spelled xs v i) (sym (append_end (c ⧺ i)) ∙ ap (λ v. (c ⧺ i) ⧺ v) (sym z)) (k i), n, z),
       )
   carried (either g h) (Left s) ts r a = carried g s ts r a
@@ -68,12 +68,12 @@ module _ (table : Rule → Grammar) where
       (c, e, λ r' f. (w, k r' f))
   carried (captured g) (Captured s i) ts r (w, a) =
       let (c, e, k) = carried g s ts r a in
-      (i, w, λ r' f. (refl, subst (λ z. Reads table g s (z ⧺ r') r') (same_before c i r (sym e ∙ w)) (k r' f)))
+      (i, w, λ r' f. (refl, subst (λ z. DerivesPrefix table g s (z ⧺ r') r') (same_before c i r (sym e ∙ w)) (k r' f)))
   carried unshown (Unshown s) ts r h = (end, h.1, λ r' e. (h.0, refl))
   carried (supplied n p t) (Both a (Both (Mark xs) s)) ts r (inl (w, x, sp, c, e, pa, f, q)) =
       let (d, e', k) = carried t s ts r q in
       let same : leaf x sp c ≡ d = same_before (leaf x sp c) d r (sym e ∙ e') in
-      (leaf x sp c, e, λ r' v. inl (moved (at_unnamed n) true (leaf x sp c) ts r r' e v w, x, sp, c, refl, pa, f, subst (λ z. Reads table t s (z ⧺ r') r') (sym same) (k r' v)))
+      (leaf x sp c, e, λ r' v. inl (moved (at_unnamed n) true (leaf x sp c) ts r r' e v w, x, sp, c, refl, pa, f, subst (λ z. DerivesPrefix table t s (z ⧺ r') r') (sym same) (k r' v)))
   carried (supplied n p t) (Both a (Both (Mark xs) s)) ts r (inr (w, m, pa, f, m', d, q)) =
       let (c1, e1, k1) = carried p a ts m pa in
       let (c2, e2, k2) = spelled_alone xs m m' d in
@@ -84,9 +84,9 @@ module _ (table : Rule → Grammar) where
         whole,
         λ r' v.
             let tail = c2 ⧺ (c3 ⧺ r') in
-            let y = k1 tail (class_same c2 (c3 ⧺ r') m' (class_same c3 r' r v ∙ ap class (sym e3)) ∙ ap class (sym e2)) in
+            let y = k1 tail (lookahead_same c2 (c3 ⧺ r') m' (lookahead_same c3 r' r v ∙ ap lookahead (sym e3)) ∙ ap lookahead (sym e2)) in
             let same : all ⧺ r' ≡ c1 ⧺ tail = append_append c1 (c2 ⧺ c3) r' ∙ ap (λ z. c1 ⧺ z) (append_append c2 c3 r') in
-            inr (moved (at_unnamed n) false all ts r r' whole v w, tail, subst (λ z. Reads table p a z tail) (sym same) y, f, c3 ⧺ r', k2 (c3 ⧺ r'), k3 r' v),
+            inr (moved (at_unnamed n) false all ts r r' whole v w, tail, subst (λ z. DerivesPrefix table p a z tail) (sym same) y, f, c3 ⧺ r', k2 (c3 ⧺ r'), k3 r' v),
       )
   carried (generics_before x y h) (Impl s t) ts r (m, a, b) =
       let (c, e, k) = carried (opt_generics x y) s ts m a in
@@ -94,10 +94,10 @@ module _ (table : Rule → Grammar) where
         c ⧺ d,
         e ∙ ap (λ z. c ⧺ z) f ∙ sym (append_append c d r),
         λ r' q.
-            let x' = k (d ⧺ r') (class_same d r' r q ∙ ap class (sym f)) in
-            subst (λ z. Reads table (generics_before x y h) (Impl s t) z r') (sym (append_append c d r')) (d ⧺ r', x', l r' q),
+            let x' = k (d ⧺ r') (lookahead_same d r' r q ∙ ap lookahead (sym f)) in
+            subst (λ z. DerivesPrefix table (generics_before x y h) (Impl s t) z r') (sym (append_append c d r')) (d ⧺ r', x', l r' q),
       )
-  carried (row g h) Done ts r (w, a) = (end, a, λ r' f. (ap (answers at_row_end) (f ∙ ap class (sym a)) ∙ w, refl))
+  carried (row g h) Done ts r (w, a) = (end, a, λ r' f. (ap (answers at_row_end) (f ∙ ap lookahead (sym a)) ∙ w, refl))
   carried (row g h) (Last b s) ts r (w, a, n) =
       let (c, e, k) = carried (choose b g h) s ts r a in
       (c, e, λ r' f. (moved at_row_end false c ts r r' e f w, k r' f, ap (answers at_row_comma) f ∙ n))
@@ -110,8 +110,8 @@ module _ (table : Rule → Grammar) where
         whole,
         λ r' v.
             let n = punct 44 d.0 sp (u ⧺ r') in
-            let x = k n (ap (sign_front 44 d.0) (class_same u r' r v ∙ ap class (sym f)) ∙ ap class (sym d.1)) in
-            (moved at_row_end false all ts r r' whole v w, n, subst (λ z. Reads table (choose b g h) s z n) (sym (append_append c (punct 44 d.0 sp u) r')) x, u ⧺ r', (d.0, refl), l r' v),
+            let x = k n (ap (punctuation_lookahead 44 d.0) (lookahead_same u r' r v ∙ ap lookahead (sym f)) ∙ ap lookahead (sym d.1)) in
+            (moved at_row_end false all ts r r' whole v w, n, subst (λ z. DerivesPrefix table (choose b g h) s z n) (sym (append_append c (punct 44 d.0 sp u) r')) x, u ⧺ r', (d.0, refl), l r' v),
       )
   carried (ordered g h) (Order xs l ys) ts r (m, e, d, m', a, e', d') =
       let (c, f, k) = spelled_alone xs ts m d in
@@ -121,16 +121,16 @@ module _ (table : Rule → Grammar) where
         all,
         f ∙ ap (λ z. c ⧺ z) (f1 ∙ ap (λ z. u ⧺ z) f2 ∙ sym (append_append u v r)) ∙ sym (append_append c (u ⧺ v) r),
         λ r' q.
-            let y = k1 (v ⧺ r') (class_same v r' r q ∙ ap class (sym f2)) in
+            let y = k1 (v ⧺ r') (lookahead_same v r' r q ∙ ap lookahead (sym f2)) in
             let same : all ⧺ r' ≡ c ⧺ (u ⧺ (v ⧺ r')) = append_append c (u ⧺ v) r' ∙ ap (λ z. c ⧺ z) (append_append u v r') in
-            subst (λ z. Reads table (ordered g h) (Order xs l ys) z r') (sym same) (u ⧺ (v ⧺ r'), e, k (u ⧺ (v ⧺ r')), v ⧺ r', y, e', k2 r'),
+            subst (λ z. DerivesPrefix table (ordered g h) (Order xs l ys) z r') (sym same) (u ⧺ (v ⧺ r'), e, k (u ⧺ (v ⧺ r')), v ⧺ r', y, e', k2 r'),
       )
   carried _ _ ts r a = elim a [ ]
 
 false_true : false ≡ true → ⊥
 false_true e = true≢false (sym e)
 
-abbrev none_of : List Face → Bool
+abbrev none_of : List Terminal → Bool
 none_of [] = true
 none_of (x ∷ l) = false
 
@@ -141,7 +141,7 @@ module _ (said : Rule → Bool) where
 
   -- its last token looks the same whatever follows: `;`, or a group
   abbrev pub closes : Grammar → Bool
-  closes (mark b (c ∷ [])) = and (none_of (beginning c long_marks)) (quiet (Sign (c ∷ [])))
+  closes (mark b (c ∷ [])) = and (none_of (beginning c long_marks)) (quiet (Punctuation (c ∷ [])))
   closes (inside d g) = true
   closes (raw d) = true
   closes (g & h) = closes h
@@ -158,7 +158,7 @@ module _ (said : Rule → Bool) where
   module _ (table : Rule → Grammar) (law : (k : Rule) → said k ≡ true → closes (table k) ≡ true) where
     -- the tokens that were read are read before every rest
     abbrev pub Alone : Grammar → Syntax → Stream → Stream → Type 0
-    Alone g s ts r = (c : Stream) × (ts ≡ c ⧺ r) × ((r' : Stream) → Reads table g s (c ⧺ r') r' × (class (c ⧺ r') ≡ class ts))
+    Alone g s ts r = (c : Stream) × (ts ≡ c ⧺ r) × ((r' : Stream) → DerivesPrefix table g s (c ⧺ r') r' × (lookahead (c ⧺ r') ≡ lookahead ts))
 
     one_closes : (k : Rule) (ks : List Rule) → among k ks ≡ true → all_close ks ≡ true → said k ≡ true
     one_closes k [] e w = absurd (true≢false (sym e))
@@ -168,32 +168,32 @@ module _ (said : Rule → Bool) where
         go (inl q) ih = ap said (same_rule_eq k l q) ∙ and_left (said l) _ w
         go (inr q) ih = ih q (and_right (said l) _ w)
 
-    lone_face : (c : ℕ) (j : Bool) (f : Face) → none_of (beginning c long_marks) ≡ true → char_face c j f ≡ Sign (c ∷ [])
-    lone_face c j f w = go (beginning c long_marks) w (char_start c j f)
+    lone_terminal : (c : ℕ) (j : Bool) (f : Terminal) → none_of (beginning c long_marks) ≡ true → char_terminal c j f ≡ Punctuation (c ∷ [])
+    lone_terminal c j f w = go (beginning c long_marks) w (char_start c j f)
       where
-        go : (l : List Face) → none_of l ≡ true → mem (char_face c j f) (Sign (c ∷ []) ∷ l) ≡ true → char_face c j f ≡ Sign (c ∷ [])
-        go [] w h = same_face_eq (char_face c j f) (Sign (c ∷ [])) (only _ h)
+        go : (l : List Terminal) → none_of l ≡ true → mem (char_terminal c j f) (Punctuation (c ∷ []) ∷ l) ≡ true → char_terminal c j f ≡ Punctuation (c ∷ [])
+        go [] w h = same_terminal_eq (char_terminal c j f) (Punctuation (c ∷ [])) (only _ h)
           where
             only : (b : Bool) → or b false ≡ true → b ≡ true
             only true e = refl
             only false e = e
         go (x ∷ l) w h = absurd (true≢false (sym w))
 
-    lone_front : (c : ℕ) (j : Bool) (f : Front) → and (none_of (beginning c long_marks)) (quiet (Sign (c ∷ []))) ≡ true → sign_front c j f ≡ front (Sign (c ∷ [])) []
-    lone_front c j f w =
-        ap (λ z. front z (sign_notes c z f)) (lone_face c j f.face (and_left (none_of (beginning c long_marks)) _ w)) ∙ ap (front (Sign (c ∷ []))) (silent_note (asked (Sign (c ∷ []))) f (and_right (none_of (beginning c long_marks)) _ w))
+    lone_lookahead : (c : ℕ) (j : Bool) (f : Lookahead) → and (none_of (beginning c long_marks)) (quiet (Punctuation (c ∷ []))) ≡ true → punctuation_lookahead c j f ≡ lookahead_with (Punctuation (c ∷ [])) []
+    lone_lookahead c j f w =
+        ap (λ z. lookahead_with z (punctuation_facts c z f)) (lone_terminal c j f.terminal (and_left (none_of (beginning c long_marks)) _ w)) ∙ ap (lookahead_with (Punctuation (c ∷ []))) (silent_fact (asked (Punctuation (c ∷ []))) f (and_right (none_of (beginning c long_marks)) _ w))
 
-    pub alone : (g : Grammar) (s : Syntax) (ts r : Stream) → closes g ≡ true → Reads table g s ts r → Alone g s ts r
+    pub alone : (g : Grammar) (s : Syntax) (ts r : Stream) → closes g ≡ true → DerivesPrefix table g s ts r → Alone g s ts r
     alone (mark b (p ∷ [])) (Mark (x ∷ [])) ts r w (e, h) =
         let q : x.0 ≡ p = cc (e) in
-        (punct x.0 h.0 x.1 end, h.1, λ r'. ((e, (h.0, refl)), face h.0 r' q ∙ sym (face h.0 r q) ∙ ap class (sym h.1)))
+        (punct x.0 h.0 x.1 end, h.1, λ r'. ((e, (h.0, refl)), terminal h.0 r' q ∙ sym (terminal h.0 r q) ∙ ap lookahead (sym h.1)))
       where
-        face : (j : Bool) (r' : Stream) → x.0 ≡ p → sign_front x.0 j (class r') ≡ front (Sign (p ∷ [])) []
-        face j r' q = ap (λ z. sign_front z j (class r')) q ∙ lone_front p j (class r') w
+        terminal : (j : Bool) (r' : Stream) → x.0 ≡ p → punctuation_lookahead x.0 j (lookahead r') ≡ lookahead_with (Punctuation (p ∷ [])) []
+        terminal j r' q = ap (λ z. punctuation_lookahead z j (lookahead r')) q ∙ lone_lookahead p j (lookahead r') w
     alone (mark b (p ∷ [])) (Mark (x ∷ y ∷ l)) ts r w (e, h) = cc (e)
     alone (mark b (p ∷ [])) (Mark []) ts r w (e, h) = elim h [ ]
-    alone (inside d g) (Group d' o c s) ts r w (e, i, f, a) = (group d' o c i end, f, λ r'. ((e, i, refl, a), ap class (sym f)))
-    alone (raw d) (Raw d' o c i) ts r w (e, f) = (group d' o c i end, f, λ r'. ((e, refl), ap class (sym f)))
+    alone (inside d g) (Group d' o c s) ts r w (e, i, f, a) = (group d' o c i end, f, λ r'. ((e, i, refl, a), ap lookahead (sym f)))
+    alone (raw d) (Raw d' o c i) ts r w (e, f) = (group d' o c i end, f, λ r'. ((e, refl), ap lookahead (sym f)))
     alone (g & h) (Both s t) ts r w (m, a, b) =
         let (c, e, k) = carried table g s ts m a in
         let (d, f, l) = alone h t m r w b in (
@@ -201,8 +201,8 @@ module _ (said : Rule → Bool) where
           e ∙ ap (λ z. c ⧺ z) f ∙ sym (append_append c d r),
           λ r'.
               let q = l r' in
-              subst (λ z. Reads table (g & h) (Both s t) z r' × (class z ≡ class ts)) (sym (append_append c d r'))
-              ((d ⧺ r', k (d ⧺ r') q.1, q.0), class_same c (d ⧺ r') m q.1 ∙ ap class (sym e)),
+              subst (λ z. DerivesPrefix table (g & h) (Both s t) z r' × (lookahead z ≡ lookahead ts)) (sym (append_append c d r'))
+              ((d ⧺ r', k (d ⧺ r') q.1, q.0), lookahead_same c (d ⧺ r') m q.1 ∙ ap lookahead (sym e)),
         )
     alone (generics_before x y h) (Impl s t) ts r w (m, a, b) =
         let (c, e, k) = carried table (opt_generics x y) s ts m a in
@@ -211,8 +211,8 @@ module _ (said : Rule → Bool) where
           e ∙ ap (λ z. c ⧺ z) f ∙ sym (append_append c d r),
           λ r'.
               let q = l r' in
-              subst (λ z. Reads table (generics_before x y h) (Impl s t) z r' × (class z ≡ class ts)) (sym (append_append c d r'))
-              ((d ⧺ r', k (d ⧺ r') q.1, q.0), class_same c (d ⧺ r') m q.1 ∙ ap class (sym e)),
+              subst (λ z. DerivesPrefix table (generics_before x y h) (Impl s t) z r' × (lookahead z ≡ lookahead ts)) (sym (append_append c d r'))
+              ((d ⧺ r', k (d ⧺ r') q.1, q.0), lookahead_same c (d ⧺ r') m q.1 ∙ ap lookahead (sym e)),
         )
     alone (when l then g else h) (Left s) ts r w (v, a) =
         let (c, e, k) = alone g s ts r (and_left (closes g) _ w) a in
@@ -235,5 +235,5 @@ module _ (said : Rule → Bool) where
     alone (captured g) (Captured s i) ts r w (v, a) =
         let (c, e, k) = alone g s ts r w a in
         let same = same_before c i r (sym e ∙ v) in
-        (i, v, λ r'. let q = k r' in ((refl, subst (λ z. Reads table g s (z ⧺ r') r') same q.0), ap (λ z. class (z ⧺ r')) (sym same) ∙ q.1))
+        (i, v, λ r'. let q = k r' in ((refl, subst (λ z. DerivesPrefix table g s (z ⧺ r') r') same q.0), ap (λ z. lookahead (z ⧺ r')) (sym same) ∙ q.1))
     alone _ _ ts r w a = search false_true

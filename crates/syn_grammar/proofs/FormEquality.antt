@@ -3,13 +3,13 @@ use Rattle.std.proofs.Common.{◌≡◌, ℕ, Bool, true, false, List, [], ◌�
 use Rattle.std.proofs.lemmas.Bool.{eqb-true}
 use Rattle.syn_grammar.specs.Words.{Text, comma}
 use Rattle.syn_grammar.specs.Shape.{Shape, shape_number, shape_at, shape_back, same_shape}
-use Rattle.syn_grammar.specs.Tokens.{Span, Delimiter, LitKind, Stream, end, leaf, punct, group, and, class, stands, same_text, kind_number, same_next, delimiter_number, Face, Sign, starts_mark, join}
+use Rattle.syn_grammar.specs.Tokens.{Span, Delimiter, LitKind, Stream, end, leaf, punct, group, and, lookahead, stands, same_text, kind_number, same_fact, delimiter_number, Terminal, Punctuation, starts_mark, join}
 use Rattle.syn_grammar.specs.Rules.{Rule}
 use Rattle.syn_grammar.specs.RuleNumbers.{same_rule}
 use Rattle.syn_grammar.specs.Grammar.{Syntax, chars, Spelled, Kind, name, identifier, word, name_or, literal_of, Grammar, empty, token, mark, lifetime, ◌&◌, when◌then◌else◌, vanishing, inside, raw, rest_after, either, one_of, rule, such, captured, unshown, supplied, generics_before, holds, Test, trailing_brace, no_trailing_brace, has, has_no, one_where, has_part, ends_brace, row, ordered, at_row_comma, index, shaped}
 use Rattle.syn_grammar.proofs.RuleLemmas.{same_rule_eq}
-use Rattle.syn_grammar.proofs.Sets.{and_left, and_right, no_true, same_text_eq, same_kind_eq, same_next_eq, same_delimiter_eq, same_look, same_look_eq}
-use Rattle.syn_grammar.proofs.Again.{same_nexts, same_nexts_eq}
+use Rattle.syn_grammar.proofs.Sets.{and_left, and_right, no_true, same_text_eq, same_kind_eq, same_fact_eq, same_delimiter_eq, same_look, same_look_eq}
+use Rattle.syn_grammar.proofs.Again.{same_facts, same_facts_eq}
 
 abbrev pub same_texts : List Text → List Text → Bool
 same_texts [] [] = true
@@ -112,7 +112,7 @@ same_shape_eq a b e =
 
 abbrev pub same : Grammar → Grammar → Bool
 same empty empty = true
-same (token b k) (token c l) = and (same_nexts b c) (same_choice k l)
+same (token b k) (token c l) = and (same_facts b c) (same_choice k l)
 same (mark b l) (mark c m) = and (same_bool b c) (same_text l m)
 same (rest_after l) (rest_after m) = same_text l m
 same lifetime lifetime = true
@@ -128,7 +128,7 @@ same (such p g) (such q h) = and (same_test p q) (same g h)
 same (shaped i g) (shaped j h) = and (same_shape i j) (same g h)
 same (captured g) (captured h) = same g h
 same unshown unshown = true
-same (supplied n p t) (supplied n' p' t') = and (same_next n n') (and (same p p') (same t t'))
+same (supplied n p t) (supplied n' p' t') = and (same_fact n n') (and (same p p') (same t t'))
 same (generics_before x y h) (generics_before x' y' h') = and (same x x') (and (same y y') (same h h'))
 same (row g h) (row g' h') = and (same g g') (same h h')
 same (ordered g h) (ordered g' h') = and (same g g') (same h h')
@@ -136,7 +136,7 @@ same _ _ = false
 
 pub same_eq : (g h : Grammar) → same g h ≡ true → g ≡ h
 same_eq empty empty e = refl
-same_eq (token b k) (token c l) e = ap₂ token (same_nexts_eq b c (and_left (same_nexts b c) _ e)) (same_choice_eq k l (and_right (same_nexts b c) _ e))
+same_eq (token b k) (token c l) e = ap₂ token (same_facts_eq b c (and_left (same_facts b c) _ e)) (same_choice_eq k l (and_right (same_facts b c) _ e))
 same_eq (mark b l) (mark c m) e = ap₂ mark (same_bool_eq b c (and_left (same_bool b c) _ e)) (same_text_eq l m (and_right (same_bool b c) _ e))
 same_eq (rest_after l) (rest_after m) e = ap rest_after (same_text_eq l m e)
 same_eq lifetime lifetime e = refl
@@ -159,8 +159,8 @@ same_eq (shaped i g) (shaped j h) e = ap₂ shaped (same_shape_eq i j (and_left 
 same_eq (captured g) (captured h) e = ap captured (same_eq g h e)
 same_eq unshown unshown e = refl
 same_eq (supplied n p t) (supplied n' p' t') e =
-    let q = and_right (same_next n n') _ e in
-    ap (λ v. supplied v p t) (same_next_eq n n' (and_left (same_next n n') _ e)) ∙ ap₂ (supplied n') (same_eq p p' (and_left (same p p') _ q)) (same_eq t t' (and_right (same p p') _ q))
+    let q = and_right (same_fact n n') _ e in
+    ap (λ v. supplied v p t) (same_fact_eq n n' (and_left (same_fact n n') _ e)) ∙ ap₂ (supplied n') (same_eq p p' (and_left (same p p') _ q)) (same_eq t t' (and_right (same p p') _ q))
 same_eq (generics_before x y h) (generics_before x' y' h') e =
     let q = and_right (same x x') _ e in
     ap (λ v. generics_before v y h) (same_eq x x' (and_left (same x x') _ e)) ∙ ap₂ (generics_before x') (same_eq y y' (and_left (same y y') _ q)) (same_eq h h' (and_right (same y y') _ q))
@@ -211,9 +211,9 @@ spelled_same (x ∷ []) (y ∷ y' ∷ l') ts r r' e h k = cc (e)
 spelled_same (x ∷ x' ∷ l) (y ∷ []) ts r r' e h k = cc (e)
 
 pub comma_stands : (j : Bool) (sp : Span) (m : Stream) → stands at_row_comma (punct 44 j sp m) ≡ true
-comma_stands true sp m = go (class m).face
+comma_stands true sp m = go (lookahead m).terminal
   where
-    go : (f : Face) → starts_mark comma (join 44 f) ≡ true
-    go (Sign l) = refl
+    go : (f : Terminal) → starts_mark comma (join 44 f) ≡ true
+    go (Punctuation l) = refl
     go _ = refl
 comma_stands false sp m = refl

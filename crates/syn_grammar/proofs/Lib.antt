@@ -1,7 +1,7 @@
 pub mod Plain
 pub mod Sets
 pub mod RuleLemmas
-pub mod Heads
+pub mod FirstSets
 pub mod Streams
 pub mod Extend
 pub mod Spans
@@ -9,8 +9,8 @@ pub mod FormEquality
 pub mod Apart
 pub mod Unique
 pub mod Again
-pub mod Sheets
-pub mod Offs
+pub mod Summaries
+pub mod NeverFollow
 pub mod Marks
 pub mod Surely
 pub mod Parts
@@ -29,7 +29,7 @@ pub mod Looks
 pub mod Rows
 pub mod Begins
 pub mod Turns
-pub mod Held
+pub mod PrintedValues
 pub mod Shown
 pub mod Examples
 pub mod Shapes

@@ -2,12 +2,12 @@
 use Rattle.std.proofs.Common.{◌≡◌, ℕ, Bool, true, false, List, [], ◌∷◌, ◌++◌, map, nat_eq, Option, Some, None, ◌⊎◌, inl, inr, refl, sym, ap, ap₂, ◌∙◌, subst, true≢false}
 use Rattle.std.proofs.lemmas.Bool.{eqb-true, eq-eqb}
 use Rattle.syn_grammar.specs.Words.{Text, keywords, contextual, long_marks}
-use Rattle.syn_grammar.specs.Tokens.{Span, Delimiter, LitKind, kind_number, Leaf, ident, literal, Stream, end, leaf, punct, group, and, or, no, pick, same_text, one_of_texts, begins_text, Face, Name, Word, Sign, Literal, mem, is_ended, is_group, is_name, is_word, is_literal, starts_mark, leaf_face, char_face, longest, Look, ended, at_name, at_word, at_mark, at_literal, at_group, ◌or_else◌, ◌and_also◌, ◌but_not◌, class}
-use Rattle.syn_grammar.specs.Grammar.{name, word, literal_of, faces, Token}
-use Rattle.syn_grammar.specs.Take.{only, is_end, at_front, sees, take_token, Chars, add_char, take_chars, marked, take_mark, take_group, same_delimiter, taken}
+use Rattle.syn_grammar.specs.Tokens.{Span, Delimiter, LitKind, kind_number, Leaf, ident, literal, Stream, end, leaf, punct, group, and, or, no, pick, same_text, one_of_texts, begins_text, Terminal, Name, Word, Punctuation, Literal, mem, is_ended, is_group, is_name, is_word, is_literal, starts_mark, leaf_terminal, char_terminal, longest, Look, ended, at_name, at_word, at_mark, at_literal, at_group, ◌or_else◌, ◌and_also◌, ◌but_not◌, lookahead}
+use Rattle.syn_grammar.specs.Grammar.{name, word, literal_of, terminals, Token}
+use Rattle.syn_grammar.specs.Take.{only, is_end, lookahead_at, sees, take_token, Chars, add_char, take_chars, marked, take_mark, take_group, same_delimiter, taken}
 use Rattle.syn_grammar.proofs.Sets.{and_left, and_right, or_split, same_text_eq}
-use Rattle.syn_grammar.proofs.Streams.{class_end}
-use Rattle.syn_grammar.proofs.Takes.{Read}
+use Rattle.syn_grammar.proofs.Streams.{lookahead_end}
+use Rattle.syn_grammar.proofs.Takes.{TreeAndRest}
 
 -- ---- conditions are made of conditions
 pub sees_or : (a b : Look) (ts : Stream) → sees (a or_else b) ts ≡ or (sees a ts) (sees b ts)
@@ -51,74 +51,74 @@ and_true true = refl
 and_true false = refl
 
 pub sees_ended : (ts : Stream) → sees ended ts ≡ is_end ts
-unfolding sees at_front is_end
+unfolding sees lookahead_at is_end
 sees_ended end = refl
-sees_ended (leaf x sp m) = go (is_ended (class (leaf x sp m)).face) refl
+sees_ended (leaf x sp m) = go (is_ended (lookahead (leaf x sp m)).terminal) refl
   where
-    go : (b : Bool) → is_ended (class (leaf x sp m)).face ≡ b → b ≡ false
-    go true e = absurd (cc (class_end (leaf x sp m) e))
+    go : (b : Bool) → is_ended (lookahead (leaf x sp m)).terminal ≡ b → b ≡ false
+    go true e = absurd (cc (lookahead_end (leaf x sp m) e))
     go false e = refl
-sees_ended (punct c j sp m) = go (is_ended (class (punct c j sp m)).face) refl
+sees_ended (punct c j sp m) = go (is_ended (lookahead (punct c j sp m)).terminal) refl
   where
-    go : (b : Bool) → is_ended (class (punct c j sp m)).face ≡ b → b ≡ false
-    go true e = absurd (cc (class_end (punct c j sp m) e))
+    go : (b : Bool) → is_ended (lookahead (punct c j sp m)).terminal ≡ b → b ≡ false
+    go true e = absurd (cc (lookahead_end (punct c j sp m) e))
     go false e = refl
 sees_ended (group d o c i m) = refl
 
 -- a mark isn't a name, a word, a literal or a group
-not_sign : (p : Face → Bool) → ((x : Text) → p (Sign x) ≡ false) → (c : ℕ) (j : Bool) (f : Face) → p (char_face c j f) ≡ false
-not_sign p u c false f = u _
-not_sign p u c true (Sign l) = u _
-not_sign p u c true _ = u _
+not_punctuation : (p : Terminal → Bool) → ((x : Text) → p (Punctuation x) ≡ false) → (c : ℕ) (j : Bool) (f : Terminal) → p (char_terminal c j f) ≡ false
+not_punctuation p u c false f = u _
+not_punctuation p u c true (Punctuation l) = u _
+not_punctuation p u c true _ = u _
 
 pub sees_name : (ts : Stream) → sees at_name ts ≡ taken (take_token name ts)
-unfolding sees at_front take_token
+unfolding sees lookahead_at take_token
 sees_name end = refl
 sees_name (leaf (ident x) sp m) = go (one_of_texts x (keywords ++ contextual))
   where
-    go : (b : Bool) → is_name (pick b (Word x) Name) ≡ taken {A = Read} (only (mem (pick b (Word x) Name) (faces name)) (Some (Token (ident x) sp, m)))
-    go true = sym (taken_only {A = Read} (mem (Word x) (faces name)) (Some (Token (ident x) sp, m)) ∙ and_true (mem (Word x) (faces name)) ∙ of_words x contextual)
+    go : (b : Bool) → is_name (pick b (Word x) Name) ≡ taken {A = TreeAndRest} (only (mem (pick b (Word x) Name) (terminals name)) (Some (Token (ident x) sp, m)))
+    go true = sym (taken_only {A = TreeAndRest} (mem (Word x) (terminals name)) (Some (Token (ident x) sp, m)) ∙ and_true (mem (Word x) (terminals name)) ∙ of_words x contextual)
       where
         of_words : (x : Text) (l : List Text) → mem (Word x) (map Word l) ≡ one_of_texts x l
         of_words x [] = refl
         of_words x (y ∷ l) = ap (or (same_text x y)) (of_words x l)
     go false = refl
-sees_name (leaf (literal k x) sp m) = sym (taken_only {A = Read} (mem (Literal k) (faces name)) (Some (Token (literal k x) sp, m)) ∙ and_true (mem (Literal k) (faces name)) ∙ of_words contextual)
+sees_name (leaf (literal k x) sp m) = sym (taken_only {A = TreeAndRest} (mem (Literal k) (terminals name)) (Some (Token (literal k x) sp, m)) ∙ and_true (mem (Literal k) (terminals name)) ∙ of_words contextual)
   where
     of_words : (l : List Text) → mem (Literal k) (map Word l) ≡ false
     of_words [] = refl
     of_words (y ∷ l) = of_words l
-sees_name (punct c j sp m) = not_sign is_name (λ x. refl) c j (class m).face
+sees_name (punct c j sp m) = not_punctuation is_name (λ x. refl) c j (lookahead m).terminal
 sees_name (group d o c i m) = refl
 
 pub sees_word : (w : Text) (ts : Stream) → sees (at_word w) ts ≡ taken (take_token (word w) ts)
-unfolding sees at_front take_token
+unfolding sees lookahead_at take_token
 sees_word w end = refl
 sees_word w (leaf (ident x) sp m) = go (one_of_texts x (keywords ++ contextual))
   where
-    go : (b : Bool) → is_word w (pick b (Word x) Name) ≡ taken {A = Read} (only (mem (pick b (Word x) Name) (faces (word w))) (Some (Token (ident x) sp, m)))
-    go true = same_texts w x ∙ sym (taken_only {A = Read} (or (same_text x w) false) (Some (Token (ident x) sp, m)) ∙ and_true (or (same_text x w) false) ∙ or_false (same_text x w))
+    go : (b : Bool) → is_word w (pick b (Word x) Name) ≡ taken {A = TreeAndRest} (only (mem (pick b (Word x) Name) (terminals (word w))) (Some (Token (ident x) sp, m)))
+    go true = same_texts w x ∙ sym (taken_only {A = TreeAndRest} (or (same_text x w) false) (Some (Token (ident x) sp, m)) ∙ and_true (or (same_text x w) false) ∙ or_false (same_text x w))
     go false = refl
 sees_word w (leaf (literal k x) sp m) = refl
-sees_word w (punct c j sp m) = not_sign (is_word w) (λ x. refl) c j (class m).face
+sees_word w (punct c j sp m) = not_punctuation (is_word w) (λ x. refl) c j (lookahead m).terminal
 sees_word w (group d o c i m) = refl
 
 pub sees_literal : (k : LitKind) (ts : Stream) → sees (at_literal k) ts ≡ taken (take_token (literal_of (k ∷ [])) ts)
-unfolding sees at_front take_token
+unfolding sees lookahead_at take_token
 sees_literal k end = refl
 sees_literal k (leaf (ident x) sp m) = go (one_of_texts x (keywords ++ contextual))
   where
-    go : (b : Bool) → is_literal k (pick b (Word x) Name) ≡ taken {A = Read} (only (mem (pick b (Word x) Name) (faces (literal_of (k ∷ [])))) (Some (Token (ident x) sp, m)))
+    go : (b : Bool) → is_literal k (pick b (Word x) Name) ≡ taken {A = TreeAndRest} (only (mem (pick b (Word x) Name) (terminals (literal_of (k ∷ [])))) (Some (Token (ident x) sp, m)))
     go true = refl
     go false = refl
 sees_literal k (leaf (literal l x) sp m) =
     same_eq (kind_number k) (kind_number l)
-    ∙ sym (taken_only {A = Read} (or (nat_eq (kind_number l) (kind_number k)) false) (Some (Token (literal l x) sp, m)) ∙ and_true (or (nat_eq (kind_number l) (kind_number k)) false) ∙ or_false (nat_eq (kind_number l) (kind_number k)))
-sees_literal k (punct c j sp m) = not_sign (is_literal k) (λ x. refl) c j (class m).face
+    ∙ sym (taken_only {A = TreeAndRest} (or (nat_eq (kind_number l) (kind_number k)) false) (Some (Token (literal l x) sp, m)) ∙ and_true (or (nat_eq (kind_number l) (kind_number k)) false) ∙ or_false (nat_eq (kind_number l) (kind_number k)))
+sees_literal k (punct c j sp m) = not_punctuation (is_literal k) (λ x. refl) c j (lookahead m).terminal
 sees_literal k (group d o c i m) = refl
 
 pub sees_group : (d : Delimiter) (ts : Stream) → sees (at_group d) ts ≡ taken (take_group d ts)
-unfolding sees at_front take_group
+unfolding sees lookahead_at take_group
 sees_group d end = refl
 sees_group d (leaf (ident x) sp m) = go (one_of_texts x (keywords ++ contextual))
   where
@@ -126,7 +126,7 @@ sees_group d (leaf (ident x) sp m) = go (one_of_texts x (keywords ++ contextual)
     go true = refl
     go false = refl
 sees_group d (leaf (literal k x) sp m) = refl
-sees_group d (punct c j sp m) = not_sign (is_group d) (λ x. refl) c j (class m).face
+sees_group d (punct c j sp m) = not_punctuation (is_group d) (λ x. refl) c j (lookahead m).terminal
 sees_group d (group d' o c i m) = sym (taken_only (same_delimiter d d') _ ∙ and_true (same_delimiter d d'))
 
 -- ---- of a mark
@@ -208,19 +208,19 @@ first_of_longest c d ((x ∷ m) ∷ ms) y w = go (first_of_longest c d ms y w) (
     go ih true e = and_true (nat_eq c x) ∙ ap (nat_eq c) (eqb-true x d (and_left (nat_eq x d) _ e))
     go ih false e = ih
 
-one_char : (c d : ℕ) (j : Bool) (f : Face) → starts_mark (c ∷ []) (char_face d j f) ≡ nat_eq c d
+one_char : (c d : ℕ) (j : Bool) (f : Terminal) → starts_mark (c ∷ []) (char_terminal d j f) ≡ nat_eq c d
 one_char c d false f = and_true (nat_eq c d)
-one_char c d true (Sign l) = first_of_longest c d long_marks l refl
+one_char c d true (Punctuation l) = first_of_longest c d long_marks l refl
 one_char c d true _ = and_true (nat_eq c d)
 
 -- of more: the first character is joined to the rest of the mark
-more_chars : (c e d : ℕ) (l : Text) (j : Bool) (f : Face) → reaches (c ∷ e ∷ l) long_marks ≡ true → starts_mark (c ∷ e ∷ l) (char_face d j f) ≡ and j (and (nat_eq c d) (starts_mark (e ∷ l) f))
+more_chars : (c e d : ℕ) (l : Text) (j : Bool) (f : Terminal) → reaches (c ∷ e ∷ l) long_marks ≡ true → starts_mark (c ∷ e ∷ l) (char_terminal d j f) ≡ and j (and (nat_eq c d) (starts_mark (e ∷ l) f))
 more_chars c e d l false f w = and_off (nat_eq c d)
   where
     and_off : (b : Bool) → and b false ≡ false
     and_off true = refl
     and_off false = refl
-more_chars c e d l true (Sign y) w =
+more_chars c e d l true (Punctuation y) w =
     same_truth (begins_text (c ∷ e ∷ l) (longest long_marks (d ∷ y) (d ∷ []))) (and (nat_eq c d) (begins_text (e ∷ l) y))
     (longest_is (c ∷ e ∷ l) long_marks (d ∷ y) (d ∷ []) (off (nat_eq c d))) (longest_begins (c ∷ e ∷ l) long_marks (d ∷ y) (d ∷ []) w)
   where
@@ -233,7 +233,7 @@ taken_more : (d : ℕ) (sp : Span) (o : Chars) → taken (add_char d sp o) ≡ t
 taken_more d sp None = refl
 taken_more d sp (Some p) = refl
 
-leaf_mark : (cs : Text) (x : Leaf) → starts_mark cs (leaf_face x) ≡ false
+leaf_mark : (cs : Text) (x : Leaf) → starts_mark cs (leaf_terminal x) ≡ false
 leaf_mark cs (ident x) = go (one_of_texts x (keywords ++ contextual))
   where
     go : (b : Bool) → starts_mark cs (pick b (Word x) Name) ≡ false
@@ -241,14 +241,14 @@ leaf_mark cs (ident x) = go (one_of_texts x (keywords ++ contextual))
     go false = refl
 leaf_mark cs (literal k x) = refl
 
-sees_chars : (cs : Text) → known_mark cs ≡ true → (ts : Stream) → starts_mark cs (class ts).face ≡ taken (take_chars cs ts)
+sees_chars : (cs : Text) → known_mark cs ≡ true → (ts : Stream) → starts_mark cs (lookahead ts).terminal ≡ taken (take_chars cs ts)
 sees_chars [] w ts = absurd (true≢false (sym w))
-sees_chars (c ∷ []) w (punct d j sp r) = one_char c d j (class r).face ∙ same_eq c d ∙ sym (taken_only (nat_eq d c) (Some ((d, sp) ∷ [], r)) ∙ and_true (nat_eq d c))
+sees_chars (c ∷ []) w (punct d j sp r) = one_char c d j (lookahead r).terminal ∙ same_eq c d ∙ sym (taken_only (nat_eq d c) (Some ((d, sp) ∷ [], r)) ∙ and_true (nat_eq d c))
 sees_chars (c ∷ e ∷ l) w (punct d true sp r) =
-    more_chars c e d l true (class r).face (and_left (reaches (c ∷ e ∷ l) long_marks) _ w)
+    more_chars c e d l true (lookahead r).terminal (and_left (reaches (c ∷ e ∷ l) long_marks) _ w)
     ∙ ap₂ and (same_eq c d) (sees_chars (e ∷ l) (and_right (reaches (c ∷ e ∷ l) long_marks) _ w) r)
     ∙ sym (taken_only (nat_eq d c) (add_char d sp (take_chars (e ∷ l) r)) ∙ ap (and (nat_eq d c)) (taken_more d sp (take_chars (e ∷ l) r)))
-sees_chars (c ∷ e ∷ l) w (punct d false sp r) = more_chars c e d l false (class r).face (and_left (reaches (c ∷ e ∷ l) long_marks) _ w)
+sees_chars (c ∷ e ∷ l) w (punct d false sp r) = more_chars c e d l false (lookahead r).terminal (and_left (reaches (c ∷ e ∷ l) long_marks) _ w)
 sees_chars (c ∷ []) w end = refl
 sees_chars (c ∷ e ∷ l) w end = refl
 sees_chars (c ∷ []) w (leaf x sp m) = leaf_mark (c ∷ []) x
@@ -258,7 +258,7 @@ sees_chars (c ∷ e ∷ l) w (group d o q i m) = refl
 
 -- a mark stands next where it can be taken, however the characters behind it are joined
 pub sees_mark : (cs : Text) → known_mark cs ≡ true → (ts : Stream) → sees (at_mark cs) ts ≡ taken (take_mark cs ts)
-unfolding sees at_front take_mark
+unfolding sees lookahead_at take_mark
 sees_mark cs w ts = sees_chars cs w ts ∙ of_marked (take_chars cs ts)
   where
     of_marked : (o : Chars) → taken o ≡ taken (marked o)

@@ -3,7 +3,7 @@ use Rattle.std.specs.Prelude.{ℕ, Bool, true, List, [], ◌∷◌, nat_lt}
 use Rattle.syn_grammar.specs.Tokens.{and, pick}
 use Rattle.syn_grammar.specs.Rules.{Rule}
 use Rattle.syn_grammar.specs.Grammar.{Grammar, ◌&◌, when◌then◌else◌, vanishing, inside, either, one_of, rule, such, captured, supplied, row, ordered, shaped, generics_before}
-use Rattle.syn_grammar.proofs.Heads.{Start, passes}
+use Rattle.syn_grammar.proofs.FirstSets.{Start, nullable}
 
 module _ (said : Rule → Start) (rank : Rule → ℕ) where
   -- each of these rules has a rank below this
@@ -13,7 +13,7 @@ module _ (said : Rule → Start) (rank : Rule → ℕ) where
 
   -- so has each rule that the form calls before it has read anything
   abbrev pub low : ℕ → Grammar → Bool
-  low top (g & h) = and (low top g) (low (pick (passes said g) top 256) h)
+  low top (g & h) = and (low top g) (low (pick (nullable said g) top 256) h)
   low top (when c then g else h) = and (low top g) (low top h)
   low top (vanishing b c g) = low top g
   low top (inside d g) = low 256 g

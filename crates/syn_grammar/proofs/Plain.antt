@@ -1,8 +1,8 @@
 -- The normal form and the print, for every tree.
 use Rattle.std.proofs.Common.{◌≡◌, ℕ, Bool, true, false, List, [], ◌∷◌, refl, sym, ap, ◌∙◌, ap₂, true≢false}
 use Rattle.syn_grammar.specs.Words.{Text, colon}
-use Rattle.syn_grammar.specs.Tokens.{Span, Paren, Brace, Bracket, None, ident, literal, Stream, end, leaf, punct, group, ◌⧺◌, call_site, plain, or, and, no, pick, same_text, at_generics, answers, class}
-use Rattle.syn_grammar.proofs.Streams.{class_plain}
+use Rattle.syn_grammar.specs.Tokens.{Span, Paren, Brace, Bracket, None, ident, literal, Stream, end, leaf, punct, group, ◌⧺◌, call_site, plain, or, and, no, pick, same_text, at_generics, answers, lookahead}
+use Rattle.syn_grammar.proofs.Streams.{lookahead_plain}
 use Rattle.syn_grammar.specs.Rules.{Rule}
 use Rattle.syn_grammar.specs.SelfTypes.{self_types}
 use Rattle.syn_grammar.specs.RuleNumbers.{same_rule}
@@ -168,12 +168,12 @@ led_part_plain (Both s t) = ap₂ or (led_part_plain s) (led_part_plain t)
 led_part_plain (Left s) = led_part_plain s
 led_part_plain (Right s) = led_part_plain s
 led_part_plain (Node s) = led_part_plain s
-led_part_plain (Case k s) = ap₂ (λ v z. or (and (among k self_types) (answers at_generics v)) z) (ap class (show_plain s) ∙ class_plain (show s)) (led_part_plain s)
+led_part_plain (Case k s) = ap₂ (λ v z. or (and (among k self_types) (answers at_generics v)) z) (ap lookahead (show_plain s) ∙ lookahead_plain (show s)) (led_part_plain s)
 led_part_plain (Such s) = led_part_plain s
 led_part_plain _ = refl
 
 led_plain : (s : Syntax) → led (plain_syntax s) ≡ led s
-led_plain s = ap₂ (λ v z. or (answers at_generics v) z) (ap class (show_plain s) ∙ class_plain (show s)) (led_part_plain s)
+led_plain s = ap₂ (λ v z. or (answers at_generics v) z) (ap lookahead (show_plain s) ∙ lookahead_plain (show s)) (led_part_plain s)
 
 pub renew_renew : (s : Syntax) → renew (renew s) ≡ renew s
 renew_renew Nothing = refl

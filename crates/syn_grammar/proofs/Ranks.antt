@@ -38,16 +38,16 @@ ranks_low structure = refl
 ranks_low derive_input = refl
 
 -- each of them has a lower rank, so no rule comes back to itself
-pub fronts_low : (k : Rule) → low start_of rank (rank k) (table k) ≡ true
-fronts_low module_path = refl
-fronts_low module_words = refl
-fronts_low visibility = refl
-fronts_low restriction = refl
-fronts_low type_path = refl
-fronts_low type = refl
-fronts_low unnamed_field = refl
-fronts_low unnamed_fields = refl
-fronts_low fields_unnamed = refl
-fronts_low structure_body = refl
-fronts_low structure = refl
-fronts_low derive_input = refl
+pub lookaheads_low : (k : Rule) → low start_of rank (rank k) (table k) ≡ true
+lookaheads_low module_path = refl
+lookaheads_low module_words = refl
+lookaheads_low visibility = refl
+lookaheads_low restriction = refl
+lookaheads_low type_path = refl
+lookaheads_low type = refl
+lookaheads_low unnamed_field = refl
+lookaheads_low unnamed_fields = refl
+lookaheads_low fields_unnamed = refl
+lookaheads_low structure_body = refl
+lookaheads_low structure = refl
+lookaheads_low derive_input = refl

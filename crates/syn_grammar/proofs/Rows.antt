@@ -4,12 +4,12 @@ use Rattle.syn_grammar.specs.Words.{comma}
 use Rattle.syn_grammar.specs.Tokens.{Stream}
 use Rattle.syn_grammar.specs.Grammar.{Syntax, Grammar, Done, at_row_end, at_row_comma}
 use Rattle.syn_grammar.specs.Take.{Parser, sees, take_mark}
-use Rattle.syn_grammar.specs.Run.{wrap, union, last, more, span_of, row_member, row_after, row_comma, row_from, rows, parse}
-use Rattle.syn_grammar.specs.Says.{IsRow}
+use Rattle.syn_grammar.specs.Run.{wrap, union, last, more, span_of, row_member, row_after, row_comma, row_from, rows, parse_form}
+use Rattle.syn_grammar.specs.Promises.{IsRow}
 use Rattle.syn_grammar.proofs.Run.{row_is}
 
 -- a row of two forms
-pub row_of : (g h : Grammar) → IsRow (union (parse g) (parse h))
+pub row_of : (g h : Grammar) → IsRow (union (parse_form g) (parse_form h))
 row_of g h = record { is = row_is g h }
 
 module _ (p : Parser) (is : IsRow p) (ts : Stream) where

@@ -2,31 +2,31 @@
 -- What the proofs say of each rule; the checker computes each line again.
 use Rattle.std.proofs.Common.{◌≡◌, Bool, true, false, [], ◌∷◌, refl, sym, true≢false}
 use Rattle.syn_grammar.specs.Words.{w_as, w_crate, w_impl, w_in, w_pub, w_Self_type, w_self, w_struct, w_super, w_trait, w_unsafe, w_union, w_auto, w_default, w_safe, semicolon, less, colons, less_equals}
-use Rattle.syn_grammar.specs.Tokens.{Paren, Ended, Name, Word, Sign, Holds, Bang_brace, Bang_name, Bang_group, ended, at_name, at_word, at_mark, noted, ◌or_else◌, ◌and_also◌, ◌but_not◌, at_path_rest}
+use Rattle.syn_grammar.specs.Tokens.{Paren, Ended, Name, Word, Punctuation, Delimited, Bang_brace, Bang_name, Bang_group, ended, at_name, at_word, at_mark, ahead, ◌or_else◌, ◌and_also◌, ◌but_not◌, at_path_rest}
 use Rattle.syn_grammar.specs.Rules.{Rule, module_path, module_words, visibility, restriction, type_path, type, unnamed_field, unnamed_fields, fields_unnamed, structure_body, structure, derive_input}
 use Rattle.syn_grammar.specs.Table.{at_colons, at_equals, at_comma, at_paren, at_restriction, table}
-use Rattle.syn_grammar.proofs.Heads.{Start, IsSaid}
-use Rattle.syn_grammar.proofs.Offs.{IsOff}
+use Rattle.syn_grammar.proofs.FirstSets.{Start, IsSaid}
+use Rattle.syn_grammar.proofs.NeverFollow.{IsOff}
 use Rattle.syn_grammar.proofs.Extend.{closes}
 use Rattle.syn_grammar.proofs.Apart.{sound}
 use Rattle.syn_grammar.proofs.Again.{move, clear}
-use Rattle.syn_grammar.proofs.Sheets.{Sheet}
-use Rattle.syn_grammar.proofs.Reprint.{IsSheet}
+use Rattle.syn_grammar.proofs.Summaries.{Summary}
+use Rattle.syn_grammar.proofs.Reprint.{IsSummary}
 
 -- what each rule begins with, whether it may read nothing, and what never stands behind it
 abbrev pub start_of : Rule → Start
-start_of module_path = record { heads = Sign colons ∷ Name ∷ Word w_Self_type ∷ Word w_auto ∷ Word w_crate ∷ Word w_default ∷ Word w_safe ∷ Word w_self ∷ Word w_super ∷ Word w_union ∷ []; passes = false; offs = at_colons ∷ [] }
-start_of module_words = record { heads = Name ∷ Word w_union ∷ Word w_auto ∷ Word w_default ∷ Word w_safe ∷ Word w_self ∷ Word w_Self_type ∷ Word w_super ∷ Word w_crate ∷ []; passes = false; offs = at_colons ∷ [] }
-start_of visibility = record { heads = Word w_pub ∷ []; passes = true; offs = [] }
-start_of restriction = record { heads = Word w_in ∷ Name ∷ Sign colons ∷ Word w_Self_type ∷ Word w_auto ∷ Word w_crate ∷ Word w_default ∷ Word w_safe ∷ Word w_self ∷ Word w_super ∷ Word w_union ∷ []; passes = false; offs = at_colons ∷ [] }
-start_of type_path = record { heads = Name ∷ Sign colons ∷ Word w_Self_type ∷ Word w_auto ∷ Word w_crate ∷ Word w_default ∷ Word w_safe ∷ Word w_self ∷ Word w_super ∷ Word w_union ∷ []; passes = false; offs = at_colons ∷ [] }
-start_of type = record { heads = Name ∷ Sign colons ∷ Word w_Self_type ∷ Word w_auto ∷ Word w_crate ∷ Word w_default ∷ Word w_safe ∷ Word w_self ∷ Word w_super ∷ Word w_union ∷ []; passes = false; offs = at_colons ∷ [] }
-start_of unnamed_field = record { heads = Word w_pub ∷ Name ∷ Sign colons ∷ Word w_Self_type ∷ Word w_auto ∷ Word w_crate ∷ Word w_default ∷ Word w_safe ∷ Word w_self ∷ Word w_super ∷ Word w_union ∷ []; passes = false; offs = at_equals ∷ [] }
-start_of unnamed_fields = record { heads = Name ∷ Sign colons ∷ Word w_Self_type ∷ Word w_auto ∷ Word w_crate ∷ Word w_default ∷ Word w_pub ∷ Word w_safe ∷ Word w_self ∷ Word w_super ∷ Word w_union ∷ []; passes = true; offs = [] }
-start_of fields_unnamed = record { heads = Holds Paren ∷ []; passes = false; offs = [] }
-start_of structure_body = record { heads = Holds Paren ∷ Sign semicolon ∷ []; passes = false; offs = [] }
-start_of structure = record { heads = Word w_pub ∷ Word w_struct ∷ []; passes = false; offs = [] }
-start_of derive_input = record { heads = Word w_pub ∷ Word w_struct ∷ []; passes = false; offs = [] }
+start_of module_path = record { first_set = Punctuation colons ∷ Name ∷ Word w_Self_type ∷ Word w_auto ∷ Word w_crate ∷ Word w_default ∷ Word w_safe ∷ Word w_self ∷ Word w_super ∷ Word w_union ∷ []; nullable = false; never_follow = at_colons ∷ [] }
+start_of module_words = record { first_set = Name ∷ Word w_union ∷ Word w_auto ∷ Word w_default ∷ Word w_safe ∷ Word w_self ∷ Word w_Self_type ∷ Word w_super ∷ Word w_crate ∷ []; nullable = false; never_follow = at_colons ∷ [] }
+start_of visibility = record { first_set = Word w_pub ∷ []; nullable = true; never_follow = [] }
+start_of restriction = record { first_set = Word w_in ∷ Name ∷ Punctuation colons ∷ Word w_Self_type ∷ Word w_auto ∷ Word w_crate ∷ Word w_default ∷ Word w_safe ∷ Word w_self ∷ Word w_super ∷ Word w_union ∷ []; nullable = false; never_follow = at_colons ∷ [] }
+start_of type_path = record { first_set = Name ∷ Punctuation colons ∷ Word w_Self_type ∷ Word w_auto ∷ Word w_crate ∷ Word w_default ∷ Word w_safe ∷ Word w_self ∷ Word w_super ∷ Word w_union ∷ []; nullable = false; never_follow = at_colons ∷ [] }
+start_of type = record { first_set = Name ∷ Punctuation colons ∷ Word w_Self_type ∷ Word w_auto ∷ Word w_crate ∷ Word w_default ∷ Word w_safe ∷ Word w_self ∷ Word w_super ∷ Word w_union ∷ []; nullable = false; never_follow = at_colons ∷ [] }
+start_of unnamed_field = record { first_set = Word w_pub ∷ Name ∷ Punctuation colons ∷ Word w_Self_type ∷ Word w_auto ∷ Word w_crate ∷ Word w_default ∷ Word w_safe ∷ Word w_self ∷ Word w_super ∷ Word w_union ∷ []; nullable = false; never_follow = at_equals ∷ [] }
+start_of unnamed_fields = record { first_set = Name ∷ Punctuation colons ∷ Word w_Self_type ∷ Word w_auto ∷ Word w_crate ∷ Word w_default ∷ Word w_pub ∷ Word w_safe ∷ Word w_self ∷ Word w_super ∷ Word w_union ∷ []; nullable = true; never_follow = [] }
+start_of fields_unnamed = record { first_set = Delimited Paren ∷ []; nullable = false; never_follow = [] }
+start_of structure_body = record { first_set = Delimited Paren ∷ Punctuation semicolon ∷ []; nullable = false; never_follow = [] }
+start_of structure = record { first_set = Word w_pub ∷ Word w_struct ∷ []; nullable = false; never_follow = [] }
+start_of derive_input = record { first_set = Word w_pub ∷ Word w_struct ∷ []; nullable = false; never_follow = [] }
 
 -- it ends by itself
 abbrev pub closed_of : Rule → Bool
@@ -43,7 +43,7 @@ closed_of structure_body = true
 closed_of structure = true
 closed_of derive_input = true
 
--- somebody asks for the notes of its front
+-- somebody asks for the facts of its lookahead
 abbrev pub heard_of : Rule → Bool
 heard_of module_path = true
 heard_of module_words = true
@@ -59,31 +59,31 @@ heard_of structure = false
 heard_of derive_input = false
 
 -- how its print may differ from what it read
-abbrev pub sheet_of : Bool → Rule → Sheet
-sheet_of false module_path = record { stays = []; moves = move (Sign colons) (Sign colons) [] ∷ move Name Name [] ∷ move (Word w_union) (Word w_union) [] ∷ move (Word w_auto) (Word w_auto) [] ∷ move (Word w_default) (Word w_default) [] ∷ move (Word w_safe) (Word w_safe) [] ∷ move (Word w_self) (Word w_self) [] ∷ move (Word w_Self_type) (Word w_Self_type) [] ∷ move (Word w_super) (Word w_super) [] ∷ move (Word w_crate) (Word w_crate) [] ∷ []; passes = false; gone = []; ends = []; halts = at_colons ∷ []; shuns = [] }
-sheet_of false module_words = record { stays = []; moves = move Name Name [] ∷ move (Word w_union) (Word w_union) [] ∷ move (Word w_auto) (Word w_auto) [] ∷ move (Word w_default) (Word w_default) [] ∷ move (Word w_safe) (Word w_safe) [] ∷ move (Word w_self) (Word w_self) [] ∷ move (Word w_Self_type) (Word w_Self_type) [] ∷ move (Word w_super) (Word w_super) [] ∷ move (Word w_crate) (Word w_crate) [] ∷ []; passes = false; gone = []; ends = []; halts = at_colons ∷ []; shuns = [] }
-sheet_of false visibility = record { stays = Word w_pub ∷ []; moves = []; passes = true; gone = []; ends = []; halts = at_restriction ∷ at_word w_pub ∷ []; shuns = [] }
-sheet_of false restriction = record { stays = Word w_in ∷ []; moves = move (Sign colons) (Sign colons) [] ∷ move Name Name [] ∷ move (Word w_union) (Word w_union) [] ∷ move (Word w_auto) (Word w_auto) [] ∷ move (Word w_default) (Word w_default) [] ∷ move (Word w_safe) (Word w_safe) [] ∷ move (Word w_self) (Word w_self) [] ∷ move (Word w_Self_type) (Word w_Self_type) [] ∷ move (Word w_super) (Word w_super) [] ∷ move (Word w_crate) (Word w_crate) [] ∷ []; passes = false; gone = []; ends = []; halts = at_colons ∷ []; shuns = [] }
-sheet_of false type_path = record { stays = []; moves = move (Sign colons) (Sign colons) [] ∷ move Name Name [] ∷ move (Word w_union) (Word w_union) [] ∷ move (Word w_auto) (Word w_auto) [] ∷ move (Word w_default) (Word w_default) [] ∷ move (Word w_safe) (Word w_safe) [] ∷ move (Word w_self) (Word w_self) [] ∷ move (Word w_Self_type) (Word w_Self_type) [] ∷ move (Word w_super) (Word w_super) [] ∷ move (Word w_crate) (Word w_crate) [] ∷ []; passes = false; gone = []; ends = []; halts = at_colons ∷ []; shuns = [] }
-sheet_of false type = record { stays = []; moves = move (Sign colons) (Sign colons) [] ∷ move Name Name [] ∷ move (Word w_union) (Word w_union) [] ∷ move (Word w_auto) (Word w_auto) [] ∷ move (Word w_default) (Word w_default) [] ∷ move (Word w_safe) (Word w_safe) [] ∷ move (Word w_self) (Word w_self) [] ∷ move (Word w_Self_type) (Word w_Self_type) [] ∷ move (Word w_super) (Word w_super) [] ∷ move (Word w_crate) (Word w_crate) [] ∷ []; passes = false; gone = []; ends = []; halts = at_colons ∷ []; shuns = [] }
-sheet_of false unnamed_field = record { stays = Word w_pub ∷ Sign colons ∷ Name ∷ Word w_union ∷ Word w_auto ∷ Word w_default ∷ Word w_safe ∷ Word w_self ∷ Word w_Self_type ∷ Word w_super ∷ Word w_crate ∷ []; moves = []; passes = false; gone = []; ends = (at_equals but_not at_equals) ∷ at_paren ∷ at_mark less ∷ ((at_colons or_else at_mark less but_not at_mark less_equals or_else at_paren or_else at_word w_as) but_not at_colons) ∷ (at_colons but_not at_colons) ∷ ((at_path_rest and_also noted Bang_brace) but_not at_colons) ∷ ((at_path_rest and_also noted Bang_name) but_not at_colons) ∷ ((at_path_rest and_also noted Bang_group) but_not at_colons) ∷ at_name ∷ at_word w_trait ∷ (at_word w_unsafe or_else at_word w_impl) ∷ ended ∷ []; halts = at_equals ∷ at_colons ∷ []; shuns = [] }
-sheet_of false unnamed_fields = record { stays = Word w_pub ∷ Sign colons ∷ Name ∷ Word w_union ∷ Word w_auto ∷ Word w_default ∷ Word w_safe ∷ Word w_self ∷ Word w_Self_type ∷ Word w_super ∷ Word w_crate ∷ []; moves = []; passes = true; gone = []; ends = ended ∷ (at_equals but_not at_equals) ∷ at_paren ∷ at_mark less ∷ ((at_colons or_else at_mark less but_not at_mark less_equals or_else at_paren or_else at_word w_as) but_not at_colons) ∷ (at_colons but_not at_colons) ∷ ((at_path_rest and_also noted Bang_brace) but_not at_colons) ∷ ((at_path_rest and_also noted Bang_name) but_not at_colons) ∷ ((at_path_rest and_also noted Bang_group) but_not at_colons) ∷ at_name ∷ at_word w_trait ∷ (at_word w_unsafe or_else at_word w_impl) ∷ []; halts = at_comma ∷ at_equals ∷ at_colons ∷ []; shuns = [] }
-sheet_of false fields_unnamed = record { stays = Holds Paren ∷ []; moves = []; passes = false; gone = []; ends = []; halts = []; shuns = [] }
-sheet_of false structure_body = record { stays = Holds Paren ∷ Sign semicolon ∷ []; moves = []; passes = false; gone = []; ends = []; halts = []; shuns = [] }
-sheet_of false structure = record { stays = Word w_pub ∷ Word w_struct ∷ []; moves = []; passes = false; gone = []; ends = []; halts = []; shuns = [] }
-sheet_of false derive_input = record { stays = Word w_pub ∷ Word w_struct ∷ []; moves = []; passes = false; gone = []; ends = []; halts = []; shuns = [] }
-sheet_of true module_path = record { stays = Sign colons ∷ Name ∷ Word w_union ∷ Word w_auto ∷ Word w_default ∷ Word w_safe ∷ Word w_self ∷ Word w_Self_type ∷ Word w_super ∷ Word w_crate ∷ []; moves = []; passes = false; gone = []; ends = at_equals ∷ at_paren ∷ at_mark less ∷ ((at_colons or_else at_mark less but_not at_mark less_equals or_else at_paren or_else at_word w_as) but_not at_colons) ∷ (at_colons but_not at_colons) ∷ ((at_path_rest and_also noted Bang_brace) but_not at_colons) ∷ ((at_path_rest and_also noted Bang_name) but_not at_colons) ∷ ((at_path_rest and_also noted Bang_group) but_not at_colons) ∷ at_name ∷ at_word w_trait ∷ (at_word w_unsafe or_else at_word w_impl) ∷ ended ∷ []; halts = at_colons ∷ []; shuns = [] }
-sheet_of true module_words = record { stays = Name ∷ Word w_union ∷ Word w_auto ∷ Word w_default ∷ Word w_safe ∷ Word w_self ∷ Word w_Self_type ∷ Word w_super ∷ Word w_crate ∷ []; moves = []; passes = false; gone = []; ends = at_equals ∷ at_paren ∷ at_mark less ∷ ((at_colons or_else at_mark less but_not at_mark less_equals or_else at_paren or_else at_word w_as) but_not at_colons) ∷ (at_colons but_not at_colons) ∷ ((at_path_rest and_also noted Bang_brace) but_not at_colons) ∷ ((at_path_rest and_also noted Bang_name) but_not at_colons) ∷ ((at_path_rest and_also noted Bang_group) but_not at_colons) ∷ at_name ∷ at_word w_trait ∷ (at_word w_unsafe or_else at_word w_impl) ∷ ended ∷ []; halts = at_colons ∷ []; shuns = [] }
-sheet_of true visibility = record { stays = Word w_pub ∷ []; moves = []; passes = true; gone = []; ends = []; halts = at_restriction ∷ at_word w_pub ∷ []; shuns = [] }
-sheet_of true restriction = record { stays = Word w_in ∷ Sign colons ∷ Name ∷ Word w_union ∷ Word w_auto ∷ Word w_default ∷ Word w_safe ∷ Word w_self ∷ Word w_Self_type ∷ Word w_super ∷ Word w_crate ∷ []; moves = []; passes = false; gone = []; ends = at_equals ∷ at_paren ∷ at_mark less ∷ ((at_colons or_else at_mark less but_not at_mark less_equals or_else at_paren or_else at_word w_as) but_not at_colons) ∷ (at_colons but_not at_colons) ∷ ((at_path_rest and_also noted Bang_brace) but_not at_colons) ∷ ((at_path_rest and_also noted Bang_name) but_not at_colons) ∷ ((at_path_rest and_also noted Bang_group) but_not at_colons) ∷ at_name ∷ at_word w_trait ∷ (at_word w_unsafe or_else at_word w_impl) ∷ ended ∷ []; halts = at_colons ∷ []; shuns = [] }
-sheet_of true type_path = record { stays = Sign colons ∷ Name ∷ Word w_union ∷ Word w_auto ∷ Word w_default ∷ Word w_safe ∷ Word w_self ∷ Word w_Self_type ∷ Word w_super ∷ Word w_crate ∷ []; moves = []; passes = false; gone = []; ends = at_equals ∷ at_paren ∷ at_mark less ∷ ((at_colons or_else at_mark less but_not at_mark less_equals or_else at_paren or_else at_word w_as) but_not at_colons) ∷ (at_colons but_not at_colons) ∷ ((at_path_rest and_also noted Bang_brace) but_not at_colons) ∷ ((at_path_rest and_also noted Bang_name) but_not at_colons) ∷ ((at_path_rest and_also noted Bang_group) but_not at_colons) ∷ at_name ∷ at_word w_trait ∷ (at_word w_unsafe or_else at_word w_impl) ∷ ended ∷ []; halts = at_colons ∷ []; shuns = [] }
-sheet_of true type = record { stays = Sign colons ∷ Name ∷ Word w_union ∷ Word w_auto ∷ Word w_default ∷ Word w_safe ∷ Word w_self ∷ Word w_Self_type ∷ Word w_super ∷ Word w_crate ∷ []; moves = []; passes = false; gone = []; ends = at_equals ∷ at_paren ∷ at_mark less ∷ ((at_colons or_else at_mark less but_not at_mark less_equals or_else at_paren or_else at_word w_as) but_not at_colons) ∷ (at_colons but_not at_colons) ∷ ((at_path_rest and_also noted Bang_brace) but_not at_colons) ∷ ((at_path_rest and_also noted Bang_name) but_not at_colons) ∷ ((at_path_rest and_also noted Bang_group) but_not at_colons) ∷ at_name ∷ at_word w_trait ∷ (at_word w_unsafe or_else at_word w_impl) ∷ ended ∷ []; halts = at_colons ∷ []; shuns = [] }
-sheet_of true unnamed_field = record { stays = Word w_pub ∷ Sign colons ∷ Name ∷ Word w_union ∷ Word w_auto ∷ Word w_default ∷ Word w_safe ∷ Word w_self ∷ Word w_Self_type ∷ Word w_super ∷ Word w_crate ∷ []; moves = []; passes = false; gone = []; ends = (at_equals but_not at_equals) ∷ at_paren ∷ at_mark less ∷ ((at_colons or_else at_mark less but_not at_mark less_equals or_else at_paren or_else at_word w_as) but_not at_colons) ∷ (at_colons but_not at_colons) ∷ ((at_path_rest and_also noted Bang_brace) but_not at_colons) ∷ ((at_path_rest and_also noted Bang_name) but_not at_colons) ∷ ((at_path_rest and_also noted Bang_group) but_not at_colons) ∷ at_name ∷ at_word w_trait ∷ (at_word w_unsafe or_else at_word w_impl) ∷ ended ∷ []; halts = at_equals ∷ at_colons ∷ []; shuns = [] }
-sheet_of true unnamed_fields = record { stays = Word w_pub ∷ Sign colons ∷ Name ∷ Word w_union ∷ Word w_auto ∷ Word w_default ∷ Word w_safe ∷ Word w_self ∷ Word w_Self_type ∷ Word w_super ∷ Word w_crate ∷ []; moves = []; passes = true; gone = []; ends = ended ∷ (at_equals but_not at_equals) ∷ at_paren ∷ at_mark less ∷ ((at_colons or_else at_mark less but_not at_mark less_equals or_else at_paren or_else at_word w_as) but_not at_colons) ∷ (at_colons but_not at_colons) ∷ ((at_path_rest and_also noted Bang_brace) but_not at_colons) ∷ ((at_path_rest and_also noted Bang_name) but_not at_colons) ∷ ((at_path_rest and_also noted Bang_group) but_not at_colons) ∷ at_name ∷ at_word w_trait ∷ (at_word w_unsafe or_else at_word w_impl) ∷ []; halts = at_comma ∷ at_equals ∷ at_colons ∷ []; shuns = [] }
-sheet_of true fields_unnamed = record { stays = []; moves = []; passes = false; gone = []; ends = []; halts = []; shuns = [] }
-sheet_of true structure_body = record { stays = []; moves = []; passes = false; gone = []; ends = []; halts = []; shuns = [] }
-sheet_of true structure = record { stays = []; moves = []; passes = false; gone = []; ends = []; halts = []; shuns = [] }
-sheet_of true derive_input = record { stays = []; moves = []; passes = false; gone = []; ends = []; halts = []; shuns = [] }
+abbrev pub summary_of : Bool → Rule → Summary
+summary_of false module_path = record { stays = []; moves = move (Punctuation colons) (Punctuation colons) [] ∷ move Name Name [] ∷ move (Word w_union) (Word w_union) [] ∷ move (Word w_auto) (Word w_auto) [] ∷ move (Word w_default) (Word w_default) [] ∷ move (Word w_safe) (Word w_safe) [] ∷ move (Word w_self) (Word w_self) [] ∷ move (Word w_Self_type) (Word w_Self_type) [] ∷ move (Word w_super) (Word w_super) [] ∷ move (Word w_crate) (Word w_crate) [] ∷ []; nullable = false; gone = []; ends = []; halts = at_colons ∷ []; shuns = [] }
+summary_of false module_words = record { stays = []; moves = move Name Name [] ∷ move (Word w_union) (Word w_union) [] ∷ move (Word w_auto) (Word w_auto) [] ∷ move (Word w_default) (Word w_default) [] ∷ move (Word w_safe) (Word w_safe) [] ∷ move (Word w_self) (Word w_self) [] ∷ move (Word w_Self_type) (Word w_Self_type) [] ∷ move (Word w_super) (Word w_super) [] ∷ move (Word w_crate) (Word w_crate) [] ∷ []; nullable = false; gone = []; ends = []; halts = at_colons ∷ []; shuns = [] }
+summary_of false visibility = record { stays = Word w_pub ∷ []; moves = []; nullable = true; gone = []; ends = []; halts = at_restriction ∷ at_word w_pub ∷ []; shuns = [] }
+summary_of false restriction = record { stays = Word w_in ∷ []; moves = move (Punctuation colons) (Punctuation colons) [] ∷ move Name Name [] ∷ move (Word w_union) (Word w_union) [] ∷ move (Word w_auto) (Word w_auto) [] ∷ move (Word w_default) (Word w_default) [] ∷ move (Word w_safe) (Word w_safe) [] ∷ move (Word w_self) (Word w_self) [] ∷ move (Word w_Self_type) (Word w_Self_type) [] ∷ move (Word w_super) (Word w_super) [] ∷ move (Word w_crate) (Word w_crate) [] ∷ []; nullable = false; gone = []; ends = []; halts = at_colons ∷ []; shuns = [] }
+summary_of false type_path = record { stays = []; moves = move (Punctuation colons) (Punctuation colons) [] ∷ move Name Name [] ∷ move (Word w_union) (Word w_union) [] ∷ move (Word w_auto) (Word w_auto) [] ∷ move (Word w_default) (Word w_default) [] ∷ move (Word w_safe) (Word w_safe) [] ∷ move (Word w_self) (Word w_self) [] ∷ move (Word w_Self_type) (Word w_Self_type) [] ∷ move (Word w_super) (Word w_super) [] ∷ move (Word w_crate) (Word w_crate) [] ∷ []; nullable = false; gone = []; ends = []; halts = at_colons ∷ []; shuns = [] }
+summary_of false type = record { stays = []; moves = move (Punctuation colons) (Punctuation colons) [] ∷ move Name Name [] ∷ move (Word w_union) (Word w_union) [] ∷ move (Word w_auto) (Word w_auto) [] ∷ move (Word w_default) (Word w_default) [] ∷ move (Word w_safe) (Word w_safe) [] ∷ move (Word w_self) (Word w_self) [] ∷ move (Word w_Self_type) (Word w_Self_type) [] ∷ move (Word w_super) (Word w_super) [] ∷ move (Word w_crate) (Word w_crate) [] ∷ []; nullable = false; gone = []; ends = []; halts = at_colons ∷ []; shuns = [] }
+summary_of false unnamed_field = record { stays = Word w_pub ∷ Punctuation colons ∷ Name ∷ Word w_union ∷ Word w_auto ∷ Word w_default ∷ Word w_safe ∷ Word w_self ∷ Word w_Self_type ∷ Word w_super ∷ Word w_crate ∷ []; moves = []; nullable = false; gone = []; ends = (at_equals but_not at_equals) ∷ at_paren ∷ at_mark less ∷ ((at_colons or_else at_mark less but_not at_mark less_equals or_else at_paren or_else at_word w_as) but_not at_colons) ∷ (at_colons but_not at_colons) ∷ ((at_path_rest and_also ahead Bang_brace) but_not at_colons) ∷ ((at_path_rest and_also ahead Bang_name) but_not at_colons) ∷ ((at_path_rest and_also ahead Bang_group) but_not at_colons) ∷ at_name ∷ at_word w_trait ∷ (at_word w_unsafe or_else at_word w_impl) ∷ ended ∷ []; halts = at_equals ∷ at_colons ∷ []; shuns = [] }
+summary_of false unnamed_fields = record { stays = Word w_pub ∷ Punctuation colons ∷ Name ∷ Word w_union ∷ Word w_auto ∷ Word w_default ∷ Word w_safe ∷ Word w_self ∷ Word w_Self_type ∷ Word w_super ∷ Word w_crate ∷ []; moves = []; nullable = true; gone = []; ends = ended ∷ (at_equals but_not at_equals) ∷ at_paren ∷ at_mark less ∷ ((at_colons or_else at_mark less but_not at_mark less_equals or_else at_paren or_else at_word w_as) but_not at_colons) ∷ (at_colons but_not at_colons) ∷ ((at_path_rest and_also ahead Bang_brace) but_not at_colons) ∷ ((at_path_rest and_also ahead Bang_name) but_not at_colons) ∷ ((at_path_rest and_also ahead Bang_group) but_not at_colons) ∷ at_name ∷ at_word w_trait ∷ (at_word w_unsafe or_else at_word w_impl) ∷ []; halts = at_comma ∷ at_equals ∷ at_colons ∷ []; shuns = [] }
+summary_of false fields_unnamed = record { stays = Delimited Paren ∷ []; moves = []; nullable = false; gone = []; ends = []; halts = []; shuns = [] }
+summary_of false structure_body = record { stays = Delimited Paren ∷ Punctuation semicolon ∷ []; moves = []; nullable = false; gone = []; ends = []; halts = []; shuns = [] }
+summary_of false structure = record { stays = Word w_pub ∷ Word w_struct ∷ []; moves = []; nullable = false; gone = []; ends = []; halts = []; shuns = [] }
+summary_of false derive_input = record { stays = Word w_pub ∷ Word w_struct ∷ []; moves = []; nullable = false; gone = []; ends = []; halts = []; shuns = [] }
+summary_of true module_path = record { stays = Punctuation colons ∷ Name ∷ Word w_union ∷ Word w_auto ∷ Word w_default ∷ Word w_safe ∷ Word w_self ∷ Word w_Self_type ∷ Word w_super ∷ Word w_crate ∷ []; moves = []; nullable = false; gone = []; ends = at_equals ∷ at_paren ∷ at_mark less ∷ ((at_colons or_else at_mark less but_not at_mark less_equals or_else at_paren or_else at_word w_as) but_not at_colons) ∷ (at_colons but_not at_colons) ∷ ((at_path_rest and_also ahead Bang_brace) but_not at_colons) ∷ ((at_path_rest and_also ahead Bang_name) but_not at_colons) ∷ ((at_path_rest and_also ahead Bang_group) but_not at_colons) ∷ at_name ∷ at_word w_trait ∷ (at_word w_unsafe or_else at_word w_impl) ∷ ended ∷ []; halts = at_colons ∷ []; shuns = [] }
+summary_of true module_words = record { stays = Name ∷ Word w_union ∷ Word w_auto ∷ Word w_default ∷ Word w_safe ∷ Word w_self ∷ Word w_Self_type ∷ Word w_super ∷ Word w_crate ∷ []; moves = []; nullable = false; gone = []; ends = at_equals ∷ at_paren ∷ at_mark less ∷ ((at_colons or_else at_mark less but_not at_mark less_equals or_else at_paren or_else at_word w_as) but_not at_colons) ∷ (at_colons but_not at_colons) ∷ ((at_path_rest and_also ahead Bang_brace) but_not at_colons) ∷ ((at_path_rest and_also ahead Bang_name) but_not at_colons) ∷ ((at_path_rest and_also ahead Bang_group) but_not at_colons) ∷ at_name ∷ at_word w_trait ∷ (at_word w_unsafe or_else at_word w_impl) ∷ ended ∷ []; halts = at_colons ∷ []; shuns = [] }
+summary_of true visibility = record { stays = Word w_pub ∷ []; moves = []; nullable = true; gone = []; ends = []; halts = at_restriction ∷ at_word w_pub ∷ []; shuns = [] }
+summary_of true restriction = record { stays = Word w_in ∷ Punctuation colons ∷ Name ∷ Word w_union ∷ Word w_auto ∷ Word w_default ∷ Word w_safe ∷ Word w_self ∷ Word w_Self_type ∷ Word w_super ∷ Word w_crate ∷ []; moves = []; nullable = false; gone = []; ends = at_equals ∷ at_paren ∷ at_mark less ∷ ((at_colons or_else at_mark less but_not at_mark less_equals or_else at_paren or_else at_word w_as) but_not at_colons) ∷ (at_colons but_not at_colons) ∷ ((at_path_rest and_also ahead Bang_brace) but_not at_colons) ∷ ((at_path_rest and_also ahead Bang_name) but_not at_colons) ∷ ((at_path_rest and_also ahead Bang_group) but_not at_colons) ∷ at_name ∷ at_word w_trait ∷ (at_word w_unsafe or_else at_word w_impl) ∷ ended ∷ []; halts = at_colons ∷ []; shuns = [] }
+summary_of true type_path = record { stays = Punctuation colons ∷ Name ∷ Word w_union ∷ Word w_auto ∷ Word w_default ∷ Word w_safe ∷ Word w_self ∷ Word w_Self_type ∷ Word w_super ∷ Word w_crate ∷ []; moves = []; nullable = false; gone = []; ends = at_equals ∷ at_paren ∷ at_mark less ∷ ((at_colons or_else at_mark less but_not at_mark less_equals or_else at_paren or_else at_word w_as) but_not at_colons) ∷ (at_colons but_not at_colons) ∷ ((at_path_rest and_also ahead Bang_brace) but_not at_colons) ∷ ((at_path_rest and_also ahead Bang_name) but_not at_colons) ∷ ((at_path_rest and_also ahead Bang_group) but_not at_colons) ∷ at_name ∷ at_word w_trait ∷ (at_word w_unsafe or_else at_word w_impl) ∷ ended ∷ []; halts = at_colons ∷ []; shuns = [] }
+summary_of true type = record { stays = Punctuation colons ∷ Name ∷ Word w_union ∷ Word w_auto ∷ Word w_default ∷ Word w_safe ∷ Word w_self ∷ Word w_Self_type ∷ Word w_super ∷ Word w_crate ∷ []; moves = []; nullable = false; gone = []; ends = at_equals ∷ at_paren ∷ at_mark less ∷ ((at_colons or_else at_mark less but_not at_mark less_equals or_else at_paren or_else at_word w_as) but_not at_colons) ∷ (at_colons but_not at_colons) ∷ ((at_path_rest and_also ahead Bang_brace) but_not at_colons) ∷ ((at_path_rest and_also ahead Bang_name) but_not at_colons) ∷ ((at_path_rest and_also ahead Bang_group) but_not at_colons) ∷ at_name ∷ at_word w_trait ∷ (at_word w_unsafe or_else at_word w_impl) ∷ ended ∷ []; halts = at_colons ∷ []; shuns = [] }
+summary_of true unnamed_field = record { stays = Word w_pub ∷ Punctuation colons ∷ Name ∷ Word w_union ∷ Word w_auto ∷ Word w_default ∷ Word w_safe ∷ Word w_self ∷ Word w_Self_type ∷ Word w_super ∷ Word w_crate ∷ []; moves = []; nullable = false; gone = []; ends = (at_equals but_not at_equals) ∷ at_paren ∷ at_mark less ∷ ((at_colons or_else at_mark less but_not at_mark less_equals or_else at_paren or_else at_word w_as) but_not at_colons) ∷ (at_colons but_not at_colons) ∷ ((at_path_rest and_also ahead Bang_brace) but_not at_colons) ∷ ((at_path_rest and_also ahead Bang_name) but_not at_colons) ∷ ((at_path_rest and_also ahead Bang_group) but_not at_colons) ∷ at_name ∷ at_word w_trait ∷ (at_word w_unsafe or_else at_word w_impl) ∷ ended ∷ []; halts = at_equals ∷ at_colons ∷ []; shuns = [] }
+summary_of true unnamed_fields = record { stays = Word w_pub ∷ Punctuation colons ∷ Name ∷ Word w_union ∷ Word w_auto ∷ Word w_default ∷ Word w_safe ∷ Word w_self ∷ Word w_Self_type ∷ Word w_super ∷ Word w_crate ∷ []; moves = []; nullable = true; gone = []; ends = ended ∷ (at_equals but_not at_equals) ∷ at_paren ∷ at_mark less ∷ ((at_colons or_else at_mark less but_not at_mark less_equals or_else at_paren or_else at_word w_as) but_not at_colons) ∷ (at_colons but_not at_colons) ∷ ((at_path_rest and_also ahead Bang_brace) but_not at_colons) ∷ ((at_path_rest and_also ahead Bang_name) but_not at_colons) ∷ ((at_path_rest and_also ahead Bang_group) but_not at_colons) ∷ at_name ∷ at_word w_trait ∷ (at_word w_unsafe or_else at_word w_impl) ∷ []; halts = at_comma ∷ at_equals ∷ at_colons ∷ []; shuns = [] }
+summary_of true fields_unnamed = record { stays = []; moves = []; nullable = false; gone = []; ends = []; halts = []; shuns = [] }
+summary_of true structure_body = record { stays = []; moves = []; nullable = false; gone = []; ends = []; halts = []; shuns = [] }
+summary_of true structure = record { stays = []; moves = []; nullable = false; gone = []; ends = []; halts = []; shuns = [] }
+summary_of true derive_input = record { stays = []; moves = []; nullable = false; gone = []; ends = []; halts = []; shuns = [] }
 
 -- so it is
 pub starts_hold : IsSaid start_of table
@@ -101,19 +101,19 @@ starts_hold structure = (refl, λ e. e)
 starts_hold derive_input = (refl, λ e. e)
 
 -- nor do these
-pub offs_hold : IsOff start_of table
-offs_hold module_path = refl
-offs_hold module_words = refl
-offs_hold visibility = refl
-offs_hold restriction = refl
-offs_hold type_path = refl
-offs_hold type = refl
-offs_hold unnamed_field = refl
-offs_hold unnamed_fields = refl
-offs_hold fields_unnamed = refl
-offs_hold structure_body = refl
-offs_hold structure = refl
-offs_hold derive_input = refl
+pub never_follow_hold : IsOff start_of table
+never_follow_hold module_path = refl
+never_follow_hold module_words = refl
+never_follow_hold visibility = refl
+never_follow_hold restriction = refl
+never_follow_hold type_path = refl
+never_follow_hold type = refl
+never_follow_hold unnamed_field = refl
+never_follow_hold unnamed_fields = refl
+never_follow_hold fields_unnamed = refl
+never_follow_hold structure_body = refl
+never_follow_hold structure = refl
+never_follow_hold derive_input = refl
 
 -- nothing is asked behind it
 pub closed_hold : (k : Rule) → closed_of k ≡ true → closes closed_of (table k) ≡ true
@@ -145,35 +145,35 @@ unions_hold structure_body = refl
 unions_hold structure = refl
 unions_hold derive_input = refl
 
--- its sheet covers what its form prints
-pub sheets_hold : IsSheet sheet_of heard_of start_of closed_of table
-sheets_hold false module_path e = (refl, refl)
-sheets_hold false module_words e = (refl, refl)
-sheets_hold false visibility e = (refl, refl)
-sheets_hold false restriction e = (refl, refl)
-sheets_hold false type_path e = (refl, refl)
-sheets_hold false type e = (refl, refl)
-sheets_hold false unnamed_field e = (refl, refl)
-sheets_hold false unnamed_fields e = (refl, refl)
-sheets_hold false fields_unnamed e = (refl, refl)
-sheets_hold false structure_body e = (refl, refl)
-sheets_hold false structure e = (refl, refl)
-sheets_hold false derive_input e = (refl, refl)
-sheets_hold true module_path e = (refl, refl)
-sheets_hold true module_words e = (refl, refl)
-sheets_hold true visibility e = (refl, refl)
-sheets_hold true restriction e = (refl, refl)
-sheets_hold true type_path e = (refl, refl)
-sheets_hold true type e = (refl, refl)
-sheets_hold true unnamed_field e = (refl, refl)
-sheets_hold true unnamed_fields e = (refl, refl)
-sheets_hold true fields_unnamed e = absurd (true≢false (sym e))
-sheets_hold true structure_body e = absurd (true≢false (sym e))
-sheets_hold true structure e = absurd (true≢false (sym e))
-sheets_hold true derive_input e = absurd (true≢false (sym e))
+-- its summary covers what its form prints
+pub summaries_hold : IsSummary summary_of heard_of start_of closed_of table
+summaries_hold false module_path e = (refl, refl)
+summaries_hold false module_words e = (refl, refl)
+summaries_hold false visibility e = (refl, refl)
+summaries_hold false restriction e = (refl, refl)
+summaries_hold false type_path e = (refl, refl)
+summaries_hold false type e = (refl, refl)
+summaries_hold false unnamed_field e = (refl, refl)
+summaries_hold false unnamed_fields e = (refl, refl)
+summaries_hold false fields_unnamed e = (refl, refl)
+summaries_hold false structure_body e = (refl, refl)
+summaries_hold false structure e = (refl, refl)
+summaries_hold false derive_input e = (refl, refl)
+summaries_hold true module_path e = (refl, refl)
+summaries_hold true module_words e = (refl, refl)
+summaries_hold true visibility e = (refl, refl)
+summaries_hold true restriction e = (refl, refl)
+summaries_hold true type_path e = (refl, refl)
+summaries_hold true type e = (refl, refl)
+summaries_hold true unnamed_field e = (refl, refl)
+summaries_hold true unnamed_fields e = (refl, refl)
+summaries_hold true fields_unnamed e = absurd (true≢false (sym e))
+summaries_hold true structure_body e = absurd (true≢false (sym e))
+summaries_hold true structure e = absurd (true≢false (sym e))
+summaries_hold true derive_input e = absurd (true≢false (sym e))
 
 -- nothing that may not follow is the end
-pub ends_hold : (k : Rule) → clear (sheet_of false k).shuns Ended ≡ true
+pub ends_hold : (k : Rule) → clear (summary_of false k).shuns Ended ≡ true
 ends_hold module_path = refl
 ends_hold module_words = refl
 ends_hold visibility = refl

@@ -1,8 +1,8 @@
 -- Spans decide nothing: what is read of one stream is read of every stream that differs in its spans alone.
 use Rattle.std.proofs.Common.{◌≡◌, ℕ, Bool, true, List, [], ◌∷◌, refl, sym, ap, ◌∙◌, ap₂, subst, inl, inr}
-use Rattle.syn_grammar.specs.Tokens.{Span, Delimiter, Leaf, Stream, end, leaf, ident, punct, group, ◌⧺◌, call_site, plain, front, sign_front, answers, class, note, asked, asked_inside, Holds, leaf_face}
+use Rattle.syn_grammar.specs.Tokens.{Span, Delimiter, Leaf, Stream, end, leaf, ident, punct, group, ◌⧺◌, call_site, plain, lookahead_with, punctuation_lookahead, answers, lookahead, facts_for, asked, asked_inside, Delimited, leaf_terminal}
 use Rattle.syn_grammar.specs.Rules.{Rule}
-use Rattle.syn_grammar.specs.Grammar.{Syntax, Nothing, Token, Mark, Lifetime, Both, Left, Right, Node, Vanishing, Group, Raw, Rest, Case, Captured, Unshown, Impl, Done, Last, More, Order, Such, some_tree, plain_mark, plain_syntax, chars, Spelled, Reads, Grammar, empty, token, mark, lifetime, ◌&◌, when◌then◌else◌, vanishing, inside, raw, rest_after, either, one_of, rule, such, captured, unshown, supplied, generics_before, opt_generics, holds, row, ordered, choose, at_unnamed, underscore, at_row_end, at_row_comma, Shaped, shaped}
+use Rattle.syn_grammar.specs.Grammar.{Syntax, Nothing, Token, Mark, Lifetime, Both, Left, Right, Node, Vanishing, Group, Raw, Rest, Case, Captured, Unshown, Impl, Done, Last, More, Order, Such, some_tree, plain_mark, plain_syntax, chars, Spelled, DerivesPrefix, Grammar, empty, token, mark, lifetime, ◌&◌, when◌then◌else◌, vanishing, inside, raw, rest_after, either, one_of, rule, such, captured, unshown, supplied, generics_before, opt_generics, holds, row, ordered, choose, at_unnamed, underscore, at_row_end, at_row_comma, Shaped, shaped}
 use Rattle.syn_grammar.proofs.Plain.{holds_plain, plain_append}
 use Rattle.syn_grammar.proofs.Streams.{same_before}
 use Rattle.syn_grammar.proofs.Extend.{carried}
@@ -38,13 +38,13 @@ plain_of_like (punct c j sp m) (punct c' j' sp' m') h = ap (λ v. punct v j call
 plain_of_like (group d o c i m) (group d' o' c' i' m') h = ap (λ v. group v call_site call_site (plain i) (plain m)) h.0 ∙ ap₂ (group d' call_site call_site) (plain_of_like i i' h.1) (plain_of_like m m' h.2)
 plain_of_like _ _ h = elim h [ ]
 
-pub class_like : (a b : Stream) → Like a b → class a ≡ class b
-class_like end end h = refl
-class_like (leaf x sp m) (leaf y sp' m') h = ap₂ (λ v n. front (leaf_face v) (note (asked (leaf_face v)) n)) h.0 (class_like m m' h.1)
-class_like (punct c j sp m) (punct c' j' sp' m') h =
-    ap₂ (λ v w. sign_front v w (class m)) h.0 h.1 ∙ ap (sign_front c' j') (class_like m m' h.2)
-class_like (group d o c i m) (group d' o' c' i' m') h = ap₂ (λ v n. front (Holds v) (note (asked_inside v) n)) h.0 (class_like i i' h.1)
-class_like _ _ h = elim h [ ]
+pub lookahead_like : (a b : Stream) → Like a b → lookahead a ≡ lookahead b
+lookahead_like end end h = refl
+lookahead_like (leaf x sp m) (leaf y sp' m') h = ap₂ (λ v n. lookahead_with (leaf_terminal v) (facts_for (asked (leaf_terminal v)) n)) h.0 (lookahead_like m m' h.1)
+lookahead_like (punct c j sp m) (punct c' j' sp' m') h =
+    ap₂ (λ v w. punctuation_lookahead v w (lookahead m)) h.0 h.1 ∙ ap (punctuation_lookahead c' j') (lookahead_like m m' h.2)
+lookahead_like (group d o c i m) (group d' o' c' i' m') h = ap₂ (λ v n. lookahead_with (Delimited v) (facts_for (asked_inside v) n)) h.0 (lookahead_like i i' h.1)
+lookahead_like _ _ h = elim h [ ]
 
 -- what stands before rests that differ in spans alone
 like_before : (a b r r' : Stream) → Like (a ⧺ r) (b ⧺ r') → Like r r' → plain a ≡ plain b
@@ -94,9 +94,9 @@ like_spelled (x ∷ y ∷ l) ts r ts' h k =
 module _ (table : Rule → Grammar) where
   -- what reading a stream with other spans gives
   abbrev pub Respanned : Grammar → Syntax → Stream → Stream → Type 0
-  Respanned g s r ts' = (s' : Syntax) × (r' : Stream) × Reads table g s' ts' r' × (plain_syntax s' ≡ plain_syntax s) × Like r r'
+  Respanned g s r ts' = (s' : Syntax) × (r' : Stream) × DerivesPrefix table g s' ts' r' × (plain_syntax s' ≡ plain_syntax s) × Like r r'
 
-  pub respan : (g : Grammar) (s : Syntax) (ts r ts' : Stream) → Reads table g s ts r → Like ts ts' → Respanned g s r ts'
+  pub respan : (g : Grammar) (s : Syntax) (ts r ts' : Stream) → DerivesPrefix table g s ts r → Like ts ts' → Respanned g s r ts'
   respan empty Nothing ts r ts' h k = (Nothing, ts', refl, refl, subst (λ t. Like t ts') h k)
   respan (token b kd) (Token x sp) ts r ts' h k =
       let (sp', r', e, q) = like_leaf x sp r ts' (subst (λ t. Like t ts') h.1 k) in
@@ -114,17 +114,17 @@ module _ (table : Rule → Grammar) where
       (Both s' t', r', (m', a', b'), ap₂ Both p p', q')
   respan (when c then g else h) (Left s) ts r ts' (e, a) k =
       let (s', r', a', p, q) = respan g s ts r ts' a k in
-      (Left s', r', (ap (answers c) (sym (class_like ts ts' k)) ∙ e, a'), ap Left p, q)
+      (Left s', r', (ap (answers c) (sym (lookahead_like ts ts' k)) ∙ e, a'), ap Left p, q)
   respan (when c then g else h) (Right s) ts r ts' (e, a) k =
       let (s', r', a', p, q) = respan h s ts r ts' a k in
-      (Right s', r', (ap (answers c) (sym (class_like ts ts' k)) ∙ e, a'), ap Right p, q)
+      (Right s', r', (ap (answers c) (sym (lookahead_like ts ts' k)) ∙ e, a'), ap Right p, q)
   respan (vanishing b c g) (Vanishing b' s) ts r ts' (e, a) k =
       let (s', r', a', p, q) = respan (when c then g else empty) s ts r ts' a k in
       (Vanishing b' s', r', (e, a'), ap (Vanishing b') p, q)
   respan (inside d g) (Group d' o c s) ts r ts' (e, i, f, a) k =
       let (o', c', i', r', e', q, q') = like_group d' o c i r ts' (subst (λ t. Like t ts') f k) in
       let (s', z, a', p, w) = respan g s i end i' a q in
-      (Group d' o' c' s', r', (e, i', e', subst (λ t. Reads table g s' i' t) (like_end z w) a'), ap (Group d' call_site call_site) p, q')
+      (Group d' o' c' s', r', (e, i', e', subst (λ t. DerivesPrefix table g s' i' t) (like_end z w) a'), ap (Group d' call_site call_site) p, q')
   respan (raw d) (Raw d' o c i) ts r ts' (e, f) k =
       let (o', c', i', r', e', q, q') = like_group d' o c i r ts' (subst (λ t. Like t ts') f k) in
       (Raw d' o' c' i', r', (e, e'), ap (Raw d' call_site call_site) (sym (plain_of_like i i' q)), q')
@@ -159,13 +159,13 @@ module _ (table : Rule → Grammar) where
       let (d, e', _) = carried table t s' ts' r' q' in
       go s' r' q' ps kr d e' (like_before (leaf x sp c) d r r' (subst (λ z. Like z (d ⧺ r')) e (subst (λ z. Like ts z) e' k)) kr) (λ sp'. respan p a (underscore sp) end (underscore sp') pa (refl, tt))
     where
-      go : (s' : Syntax) (r' : Stream) → Reads table t s' ts' r' → plain_syntax s' ≡ plain_syntax s → Like r r' → (d : Stream) → ts' ≡ d ⧺ r' → plain (leaf x sp c) ≡ plain d → ((sp' : Span) → Respanned p a end (underscore sp')) →
+      go : (s' : Syntax) (r' : Stream) → DerivesPrefix table t s' ts' r' → plain_syntax s' ≡ plain_syntax s → Like r r' → (d : Stream) → ts' ≡ d ⧺ r' → plain (leaf x sp c) ≡ plain d → ((sp' : Span) → Respanned p a end (underscore sp')) →
           Respanned (supplied n p t) (Both a (Both (Mark xs) s)) r ts'
       go s' r' q' ps kr (leaf y sp' c') e' i again =
           let (a', z, pa', pp, kk) = again sp' in (
             Both a' (Both (Mark ((58, sp') ∷ [])) s'),
             r',
-            inl (ap (answers (at_unnamed n)) (sym (class_like ts ts' k)) ∙ w, y, sp', c', e', subst (λ t. Reads table p a' (underscore sp') t) (like_end z kk) pa', refl, q'),
+            inl (ap (answers (at_unnamed n)) (sym (lookahead_like ts ts' k)) ∙ w, y, sp', c', e', subst (λ t. DerivesPrefix table p a' (underscore sp') t) (like_end z kk) pa', refl, q'),
             ap₂ (λ u v. Both u (Both (Mark ((58, call_site) ∷ [])) v)) pp ps ∙ ap (λ z. Both (plain_syntax a) (Both (Mark (plain_mark z)) (plain_syntax s))) (sym f),
             kr,
           )
@@ -178,7 +178,7 @@ module _ (table : Rule → Grammar) where
       let (s', r', q', ps, k3) = respan t s m' r v q k2 in (
         Both a' (Both (Mark ys) s'),
         r',
-        inr (ap (answers (at_unnamed n)) (sym (class_like ts ts' k)) ∙ w, u, pa', cy ∙ f, v, d', q'),
+        inr (ap (answers (at_unnamed n)) (sym (lookahead_like ts ts' k)) ∙ w, u, pa', cy ∙ f, v, d', q'),
         ap₂ (λ u v. Both u (Both (Mark (plain_mark ys)) v)) pp ps ∙ ap (λ z. Both (plain_syntax a) (Both (Mark z) (plain_syntax s))) py,
         k3,
       )
@@ -186,15 +186,15 @@ module _ (table : Rule → Grammar) where
       let (s', m', a', p, q) = respan (opt_generics x y) s ts m ts' a k in
       let (t', r', b', p', q') = respan h t m r m' b q in
       (Impl s' t', r', (m', a', b'), ap₂ Impl p p', q')
-  respan (row g h) Done ts r ts' (e, f) k = (Done, ts', (ap (answers at_row_end) (sym (class_like ts ts' k)) ∙ e, refl), refl, subst (λ t. Like t ts') f k)
+  respan (row g h) Done ts r ts' (e, f) k = (Done, ts', (ap (answers at_row_end) (sym (lookahead_like ts ts' k)) ∙ e, refl), refl, subst (λ t. Like t ts') f k)
   respan (row g h) (Last b s) ts r ts' (e, a, n) k =
       let (s', r', a', p, q) = respan (choose b g h) s ts r ts' a k in
-      (Last b s', r', (ap (answers at_row_end) (sym (class_like ts ts' k)) ∙ e, a', ap (answers at_row_comma) (sym (class_like r r' q)) ∙ n), ap (Last b) p, q)
+      (Last b s', r', (ap (answers at_row_end) (sym (lookahead_like ts ts' k)) ∙ e, a', ap (answers at_row_comma) (sym (lookahead_like r r' q)) ∙ n), ap (Last b) p, q)
   respan (row g h) (More b s sp t) ts r ts' (e, m, a, m', d, rs) k =
       let (s', n, a', p, q) = respan (choose b g h) s ts m ts' a k in
       let (sp', n', de, q') = like_punct 44 d.0 sp m' n (subst (λ t. Like t n) d.1 q) in
       let (t', r', rs', p', q'') = respan (row g h) t m' r n' rs q' in
-      (More b s' sp' t', r', (ap (answers at_row_end) (sym (class_like ts ts' k)) ∙ e, n, a', n', (d.0, de), rs'), ap₂ (λ x y. More b x call_site y) p p', q'')
+      (More b s' sp' t', r', (ap (answers at_row_end) (sym (lookahead_like ts ts' k)) ∙ e, n, a', n', (d.0, de), rs'), ap₂ (λ x y. More b x call_site y) p p', q'')
   respan (ordered g h) (Order xs l ys) ts r ts' (m, e, d, m', a, e', d') k =
       let (xs', n, dx, cx, px, q) = like_spelled xs ts m ts' d k in
       let (l', n', a', p, q') = respan (row g h) l m m' n a q in

@@ -4,42 +4,42 @@ use Rattle.std.proofs.Common.{◌≡◌, ℕ, ◌+◌, ◌-◌, ◌<◌, ◌≤�
 use Rattle.std.specs.Prelude.{nat_lt}
 use Rattle.std.proofs.lemmas.Bool.{eqb-true, eq-eqb, ltb-true, lt-ltb}
 use Rattle.syn_grammar.specs.Words.{Text, keywords, contextual, apostrophe}
-use Rattle.syn_grammar.specs.Tokens.{Span, Delimiter, delimiter_number, Leaf, ident, literal, Stream, end, leaf, punct, group, ◌⧺◌, weight, no, pick, one_of_texts, Name, Word, Sign, Holds, join, mem, Look, answers, class, stands, visible}
-use Rattle.syn_grammar.specs.Grammar.{Kind, faces, suits, fits, underscore, Syntax, Token, Mark, Lifetime, chars, Spelled, some_tree}
-use Rattle.syn_grammar.specs.Take.{only, left, is_end, at_front, sees, take_token, take_lifetime, Chars, add_char, take_chars, marked, take_mark, Opened, same_delimiter, take_group, length, first, before, leaf_span, first_span}
+use Rattle.syn_grammar.specs.Tokens.{Span, Delimiter, delimiter_number, Leaf, ident, literal, Stream, end, leaf, punct, group, ◌⧺◌, weight, no, pick, one_of_texts, Name, Word, Punctuation, Delimited, join, mem, Look, answers, lookahead, stands, visible}
+use Rattle.syn_grammar.specs.Grammar.{Kind, terminals, suits, fits, underscore, Syntax, Token, Mark, Lifetime, chars, Spelled, some_tree}
+use Rattle.syn_grammar.specs.Take.{only, left, is_end, lookahead_at, sees, take_token, take_lifetime, Chars, add_char, take_chars, marked, take_mark, Opened, same_delimiter, take_group, length, first, before, leaf_span, first_span}
 use Rattle.syn_grammar.proofs.Sets.{same_delimiter_eq, mem_here, and_right}
-use Rattle.syn_grammar.proofs.Heads.{mark_heads, mark_head}
+use Rattle.syn_grammar.proofs.FirstSets.{mark_first_set, mark_head}
 use Rattle.syn_grammar.proofs.Streams.{weight_append}
 
 less_than_itself : (n : ℕ) → n < n → ⊥
 less_than_itself n h = omega (arith, h)
 
-abbrev pub Read : Type 0
-Read = Syntax × Stream
+abbrev pub TreeAndRest : Type 0
+TreeAndRest = Syntax × Stream
 
 pub inv_only : {A : Type 0} (b : Bool) (o : Option A) (x : A) → only b o ≡ Some x → (b ≡ true) × (o ≡ Some x)
 inv_only true o x e = (refl, e)
 inv_only false o x e = absurd (cc e)
 
 -- ---- less is left
-pub token_less : (k : Kind) (ts : Stream) (x : Read) → take_token k ts ≡ Some x → left x.1 < left ts
+pub token_less : (k : Kind) (ts : Stream) (x : TreeAndRest) → take_token k ts ≡ Some x → left x.1 < left ts
 unfolding take_token left
 token_less k end x e = absurd (cc e)
 token_less k (leaf y sp r) x e = let a : x.1 ≡ r = cc (inv_only (fits k y) _ x e).1 in rw a (omega arith)
 token_less k (punct c j sp m) x e = absurd (cc e)
 token_less k (group d o c i m) x e = absurd (cc e)
 
-pub life_less : (ts : Stream) (x : Read) → take_lifetime ts ≡ Some x → left x.1 < left ts
+pub lifetime_less : (ts : Stream) (x : TreeAndRest) → take_lifetime ts ≡ Some x → left x.1 < left ts
 unfolding take_lifetime left
-life_less (punct c true sp (leaf (ident y) sq r)) x e = let a : x.1 ≡ r = cc (inv_only (nat_eq c 39) _ x e).1 in rw a (omega arith)
-life_less (punct c true sp (leaf (literal k y) sq r)) x e = absurd (cc e)
-life_less (punct c true sp end) x e = absurd (cc e)
-life_less (punct c true sp (punct c' j' sq m)) x e = absurd (cc e)
-life_less (punct c true sp (group d o q i m)) x e = absurd (cc e)
-life_less (punct c false sp m) x e = absurd (cc e)
-life_less end x e = absurd (cc e)
-life_less (leaf y sp m) x e = absurd (cc e)
-life_less (group d o c i m) x e = absurd (cc e)
+lifetime_less (punct c true sp (leaf (ident y) sq r)) x e = let a : x.1 ≡ r = cc (inv_only (nat_eq c 39) _ x e).1 in rw a (omega arith)
+lifetime_less (punct c true sp (leaf (literal k y) sq r)) x e = absurd (cc e)
+lifetime_less (punct c true sp end) x e = absurd (cc e)
+lifetime_less (punct c true sp (punct c' j' sq m)) x e = absurd (cc e)
+lifetime_less (punct c true sp (group d o q i m)) x e = absurd (cc e)
+lifetime_less (punct c false sp m) x e = absurd (cc e)
+lifetime_less end x e = absurd (cc e)
+lifetime_less (leaf y sp m) x e = absurd (cc e)
+lifetime_less (group d o c i m) x e = absurd (cc e)
 
 abbrev Spelling : Type 0
 Spelling = List (ℕ × Span) × Stream
@@ -54,9 +54,9 @@ chars_less (c ∷ f ∷ l) (punct d true sp r) x e = more (take_chars (f ∷ l) 
     more (Some p) h u e = let a : x.1 ≡ p.1 = cc e in rw a (omega (arith, u p h))
 chars_less _ _ x e = absurd (cc e)
 
-pub sign_less : (cs : Text) (ts : Stream) (x : Read) → take_mark cs ts ≡ Some x → left x.1 < left ts
+pub mark_less : (cs : Text) (ts : Stream) (x : TreeAndRest) → take_mark cs ts ≡ Some x → left x.1 < left ts
 unfolding take_mark left
-sign_less cs ts x e = go (take_chars cs ts) refl e
+mark_less cs ts x e = go (take_chars cs ts) refl e
   where
     go : (o : Chars) → take_chars cs ts ≡ o → marked o ≡ Some x → weight x.1 < weight ts
     go None h e = absurd (cc e)
@@ -87,7 +87,7 @@ span_some ts r sp sq e = let h = span_less ts r sp e in omega (arith, h)
 
 -- ---- what they take, their forms read; on visible streams
 pub sees_is : (c : Look) (ts : Stream) → visible ts ≡ true → sees c ts ≡ stands c ts
-unfolding sees at_front
+unfolding sees lookahead_at
 sees_is c ts v = refl
 
 pub end_told : (ts : Stream) → visible ts ≡ true → is_end ts ≡ true → ts ≡ end
@@ -108,7 +108,7 @@ tree_is (leaf x sp m) v = refl
 tree_is (punct c j sp m) v = refl
 tree_is (group d o c i m) v = refl
 
-pub token_told : (k : Kind) (ts : Stream) (x : Read) → visible ts ≡ true → take_token k ts ≡ Some x → (y : Leaf) × (sp : Span) × (x.0 ≡ Token y sp) × (fits k y ≡ true) × (ts ≡ leaf y sp x.1)
+pub token_told : (k : Kind) (ts : Stream) (x : TreeAndRest) → visible ts ≡ true → take_token k ts ≡ Some x → (y : Leaf) × (sp : Span) × (x.0 ≡ Token y sp) × (fits k y ≡ true) × (ts ≡ leaf y sp x.1)
 unfolding take_token
 token_told k end x v e = absurd (cc e)
 token_told k (leaf y sp r) x v e =
@@ -123,25 +123,25 @@ pub token_found : (k : Kind) (y : Leaf) (sp : Span) (ts r : Stream) → visible 
 unfolding take_token
 token_found k y sp ts r v h e = ap (take_token k) e ∙ ap (λ b. only b (Some (Token y sp, r))) h
 
-pub life_told : (ts : Stream) (x : Read) → visible ts ≡ true → take_lifetime ts ≡ Some x → (sp : Span) × (y : Text) × (sq : Span) × (x.0 ≡ Lifetime sp y sq) × (ts ≡ punct 39 true sp (leaf (ident y) sq x.1))
+pub lifetime_told : (ts : Stream) (x : TreeAndRest) → visible ts ≡ true → take_lifetime ts ≡ Some x → (sp : Span) × (y : Text) × (sq : Span) × (x.0 ≡ Lifetime sp y sq) × (ts ≡ punct 39 true sp (leaf (ident y) sq x.1))
 unfolding take_lifetime
-life_told (punct c true sp (leaf (ident y) sq r)) x v e =
+lifetime_told (punct c true sp (leaf (ident y) sq r)) x v e =
     let h = inv_only (nat_eq c 39) _ x e in
     let a : x.0 ≡ Lifetime sp y sq = cc h.1 in
     let b : r ≡ x.1 = cc h.1 in
     (sp, y, sq, a, ap (λ n. punct n true sp (leaf (ident y) sq r)) (eqb-true c 39 h.0) ∙ ap (λ m. punct 39 true sp (leaf (ident y) sq m)) b)
-life_told (punct c true sp (leaf (literal k y) sq r)) x v e = absurd (cc e)
-life_told (punct c true sp end) x v e = absurd (cc e)
-life_told (punct c true sp (punct c' j' sq m)) x v e = absurd (cc e)
-life_told (punct c true sp (group d o q i m)) x v e = absurd (cc e)
-life_told (punct c false sp m) x v e = absurd (cc e)
-life_told end x v e = absurd (cc e)
-life_told (leaf y sp m) x v e = absurd (cc e)
-life_told (group d o c i m) x v e = absurd (cc e)
+lifetime_told (punct c true sp (leaf (literal k y) sq r)) x v e = absurd (cc e)
+lifetime_told (punct c true sp end) x v e = absurd (cc e)
+lifetime_told (punct c true sp (punct c' j' sq m)) x v e = absurd (cc e)
+lifetime_told (punct c true sp (group d o q i m)) x v e = absurd (cc e)
+lifetime_told (punct c false sp m) x v e = absurd (cc e)
+lifetime_told end x v e = absurd (cc e)
+lifetime_told (leaf y sp m) x v e = absurd (cc e)
+lifetime_told (group d o c i m) x v e = absurd (cc e)
 
-pub life_found : (sp : Span) (y : Text) (sq : Span) (ts r : Stream) → visible ts ≡ true → ts ≡ punct 39 true sp (leaf (ident y) sq r) → take_lifetime ts ≡ Some (Lifetime sp y sq, r)
+pub lifetime_found : (sp : Span) (y : Text) (sq : Span) (ts r : Stream) → visible ts ≡ true → ts ≡ punct 39 true sp (leaf (ident y) sq r) → take_lifetime ts ≡ Some (Lifetime sp y sq, r)
 unfolding take_lifetime
-life_found sp y sq ts r v e = ap take_lifetime e
+lifetime_found sp y sq ts r v e = ap take_lifetime e
 
 -- a mark that stands in front of what is left
 abbrev Marked : Text → Stream → Spelling → Type 0
@@ -166,9 +166,9 @@ chars_told (c ∷ f ∷ l) (punct d true sp r) x e =
     more (Some p) h q u e = let a : ◌≡◌ {A = Spelling} ((d, sp) ∷ p.0, p.1) x = cc e in subst (Marked (c ∷ f ∷ l) (punct d true sp r)) a (longer c f l d sp r p q (u p h))
 chars_told _ _ x e = absurd (cc e)
 
-pub sign_told : (cs : Text) (ts : Stream) (x : Read) → visible ts ≡ true → take_mark cs ts ≡ Some x → (xs : List (ℕ × Span)) × (x.0 ≡ Mark xs) × (chars xs ≡ cs) × Spelled xs ts x.1
+pub mark_told : (cs : Text) (ts : Stream) (x : TreeAndRest) → visible ts ≡ true → take_mark cs ts ≡ Some x → (xs : List (ℕ × Span)) × (x.0 ≡ Mark xs) × (chars xs ≡ cs) × Spelled xs ts x.1
 unfolding take_mark
-sign_told cs ts x v e = go (take_chars cs ts) refl e
+mark_told cs ts x v e = go (take_chars cs ts) refl e
   where
     go : (o : Chars) → take_chars cs ts ≡ o → marked o ≡ Some x → (xs : List (ℕ × Span)) × (x.0 ≡ Mark xs) × (chars xs ≡ cs) × Spelled xs ts x.1
     go None h e = absurd (cc e)
@@ -184,9 +184,9 @@ chars_found (x ∷ []) ts r h = ap (take_chars (x.0 ∷ [])) h.1 ∙ ap (λ b. o
 chars_found (x ∷ y ∷ l) ts r h = ap (take_chars (x.0 ∷ y.0 ∷ chars l)) h.1 ∙ ap (λ b. only b (add_char x.0 x.1 (take_chars (chars (y ∷ l)) h.0))) (eq-eqb x.0 x.0 refl)
     ∙ ap (add_char x.0 x.1) (chars_found (y ∷ l) h.0 r h.2)
 
-pub sign_found : (xs : List (ℕ × Span)) (cs : Text) (ts r : Stream) → visible ts ≡ true → chars xs ≡ cs → Spelled xs ts r → take_mark cs ts ≡ Some (Mark xs, r)
+pub mark_found : (xs : List (ℕ × Span)) (cs : Text) (ts r : Stream) → visible ts ≡ true → chars xs ≡ cs → Spelled xs ts r → take_mark cs ts ≡ Some (Mark xs, r)
 unfolding take_mark
-sign_found xs cs ts r v e h = ap (λ l. marked (take_chars l ts)) (sym e) ∙ ap marked (chars_found xs ts r h)
+mark_found xs cs ts r v e h = ap (λ l. marked (take_chars l ts)) (sym e) ∙ ap marked (chars_found xs ts r h)
 
 pub group_told : (d : Delimiter) (ts : Stream) (g : Opened) → visible ts ≡ true → take_group d ts ≡ Some g → ts ≡ group d g.opening g.closing g.content g.rest
 unfolding take_group
@@ -237,49 +237,49 @@ span_found x sp ts d r v e =
     ap (λ z. only (nat_lt (weight r) (weight z)) (leaf_span z)) e ∙ ap (λ b. only b (Some sp)) (lt-ltb (weight r) (weight (leaf x sp (d ⧺ r))) h)
 
 -- ---- what stands in front of what is taken
-pub sees_answers : (c : Look) (ts : Stream) → sees c ts ≡ answers c (at_front ts)
+pub sees_answers : (c : Look) (ts : Stream) → sees c ts ≡ answers c (lookahead_at ts)
 unfolding sees
 sees_answers c ts = refl
 
-pub token_begins : (k : Kind) (ts : Stream) (x : Read) → take_token k ts ≡ Some x → mem (at_front ts).face (faces k) ≡ true
-unfolding take_token at_front
+pub token_begins : (k : Kind) (ts : Stream) (x : TreeAndRest) → take_token k ts ≡ Some x → mem (lookahead_at ts).terminal (terminals k) ≡ true
+unfolding take_token lookahead_at
 token_begins k end x e = absurd (cc e)
 token_begins k (leaf y sp r) x e = and_right (suits k y) _ (inv_only (fits k y) _ x e).0
 token_begins k (punct c j sp m) x e = absurd (cc e)
 token_begins k (group d o c i m) x e = absurd (cc e)
 
-pub sign_begins : (cs : Text) (ts : Stream) (x : Read) → take_mark cs ts ≡ Some x → mem (at_front ts).face (mark_heads cs) ≡ true
-unfolding take_mark at_front
-sign_begins cs ts x e = go (take_chars cs ts) refl e
+pub mark_begins : (cs : Text) (ts : Stream) (x : TreeAndRest) → take_mark cs ts ≡ Some x → mem (lookahead_at ts).terminal (mark_first_set cs) ≡ true
+unfolding take_mark lookahead_at
+mark_begins cs ts x e = go (take_chars cs ts) refl e
   where
-    go : (o : Chars) → take_chars cs ts ≡ o → marked o ≡ Some x → mem (class ts).face (mark_heads cs) ≡ true
+    go : (o : Chars) → take_chars cs ts ≡ o → marked o ≡ Some x → mem (lookahead ts).terminal (mark_first_set cs) ≡ true
     go None h e = absurd (cc e)
-    go (Some p) h e = let c = chars_told cs ts p h in ap (λ l. mem (class ts).face (mark_heads l)) (sym c.0) ∙ mark_head p.0 ts p.1 c.1
+    go (Some p) h e = let c = chars_told cs ts p h in ap (λ l. mem (lookahead ts).terminal (mark_first_set l)) (sym c.0) ∙ mark_head p.0 ts p.1 c.1
 
-life_face : (sp : Span) (y : Text) (sq : Span) (r : Stream) → (class (punct 39 true sp (leaf (ident y) sq r))).face ≡ Sign apostrophe
-life_face sp y sq r = go (one_of_texts y (keywords ++ contextual))
+lifetime_terminal : (sp : Span) (y : Text) (sq : Span) (r : Stream) → (lookahead (punct 39 true sp (leaf (ident y) sq r))).terminal ≡ Punctuation apostrophe
+lifetime_terminal sp y sq r = go (one_of_texts y (keywords ++ contextual))
   where
-    go : (b : Bool) → join 39 (pick b (Word y) Name) ≡ Sign apostrophe
+    go : (b : Bool) → join 39 (pick b (Word y) Name) ≡ Punctuation apostrophe
     go true = refl
     go false = refl
 
-pub life_begins : (ts : Stream) (x : Read) → take_lifetime ts ≡ Some x → mem (at_front ts).face (Sign apostrophe ∷ []) ≡ true
-unfolding take_lifetime at_front
-life_begins (punct c true sp (leaf (ident y) sq r)) x e =
-    ap (λ n. mem (class (punct n true sp (leaf (ident y) sq r))).face (Sign apostrophe ∷ [])) (eqb-true c 39 (inv_only (nat_eq c 39) _ x e).0)
-    ∙ ap (λ z. mem z (Sign apostrophe ∷ [])) (life_face sp y sq r)
-life_begins (punct c true sp (leaf (literal k y) sq r)) x e = absurd (cc e)
-life_begins (punct c true sp end) x e = absurd (cc e)
-life_begins (punct c true sp (punct c' j' sq m)) x e = absurd (cc e)
-life_begins (punct c true sp (group d o q i m)) x e = absurd (cc e)
-life_begins (punct c false sp m) x e = absurd (cc e)
-life_begins end x e = absurd (cc e)
-life_begins (leaf y sp m) x e = absurd (cc e)
-life_begins (group d o c i m) x e = absurd (cc e)
+pub lifetime_begins : (ts : Stream) (x : TreeAndRest) → take_lifetime ts ≡ Some x → mem (lookahead_at ts).terminal (Punctuation apostrophe ∷ []) ≡ true
+unfolding take_lifetime lookahead_at
+lifetime_begins (punct c true sp (leaf (ident y) sq r)) x e =
+    ap (λ n. mem (lookahead (punct n true sp (leaf (ident y) sq r))).terminal (Punctuation apostrophe ∷ [])) (eqb-true c 39 (inv_only (nat_eq c 39) _ x e).0)
+    ∙ ap (λ z. mem z (Punctuation apostrophe ∷ [])) (lifetime_terminal sp y sq r)
+lifetime_begins (punct c true sp (leaf (literal k y) sq r)) x e = absurd (cc e)
+lifetime_begins (punct c true sp end) x e = absurd (cc e)
+lifetime_begins (punct c true sp (punct c' j' sq m)) x e = absurd (cc e)
+lifetime_begins (punct c true sp (group d o q i m)) x e = absurd (cc e)
+lifetime_begins (punct c false sp m) x e = absurd (cc e)
+lifetime_begins end x e = absurd (cc e)
+lifetime_begins (leaf y sp m) x e = absurd (cc e)
+lifetime_begins (group d o c i m) x e = absurd (cc e)
 
-pub group_begins : (d : Delimiter) (ts : Stream) (g : Opened) → take_group d ts ≡ Some g → mem (at_front ts).face (Holds d ∷ []) ≡ true
-unfolding take_group at_front
+pub group_begins : (d : Delimiter) (ts : Stream) (g : Opened) → take_group d ts ≡ Some g → mem (lookahead_at ts).terminal (Delimited d ∷ []) ≡ true
+unfolding take_group lookahead_at
 group_begins d end g e = absurd (cc e)
 group_begins d (leaf x sp m) g e = absurd (cc e)
 group_begins d (punct c j sp m) g e = absurd (cc e)
-group_begins d (group d' o c i r) g e = ap (λ z. mem (Holds z) (Holds d ∷ [])) (sym (same_delimiter_eq d d' (inv_only (same_delimiter d d') _ g e).0)) ∙ mem_here (Holds d) []
+group_begins d (group d' o c i r) g e = ap (λ z. mem (Delimited z) (Delimited d ∷ [])) (sym (same_delimiter_eq d d' (inv_only (same_delimiter d d') _ g e).0)) ∙ mem_here (Delimited d) []

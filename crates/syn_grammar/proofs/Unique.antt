@@ -2,18 +2,18 @@
 use Rattle.std.proofs.Common.{◌≡◌, ℕ, zero, suc, Bool, true, false, List, [], ◌∷◌, refl, sym, ap, ◌∙◌, ap₂, subst, true≢false, ◌⊎◌, inl, inr}
 use Rattle.syn_grammar.specs.Words.{Text}
 use Rattle.syn_grammar.specs.Shape.{Shape}
-use Rattle.syn_grammar.specs.Tokens.{Span, Delimiter, Leaf, Stream, end, ident, ◌⧺◌, or, and, no, class, stands, mem}
+use Rattle.syn_grammar.specs.Tokens.{Span, Delimiter, Leaf, Stream, end, ident, ◌⧺◌, or, and, no, lookahead, stands, mem}
 use Rattle.syn_grammar.specs.Rules.{Rule}
 use Rattle.syn_grammar.specs.RuleNumbers.{same_rule}
-use Rattle.syn_grammar.specs.Grammar.{Syntax, Nothing, Token, Mark, Lifetime, Both, Left, Right, Node, Vanishing, Group, Raw, Rest, Case, Captured, Unshown, Impl, Added, Done, Last, More, Order, Such, Spelled, Reads, Grammar, empty, token, mark, lifetime, ◌&◌, when◌then◌else◌, vanishing, inside, raw, rest_after, either, one_of, rule, such, captured, unshown, supplied, generics_before, opt_generics, holds, row, ordered, choose, among, underscore, at_row_comma, Shaped, shaped}
+use Rattle.syn_grammar.specs.Grammar.{Syntax, Nothing, Token, Mark, Lifetime, Both, Left, Right, Node, Vanishing, Group, Raw, Rest, Case, Captured, Unshown, Impl, Added, Done, Last, More, Order, Such, Spelled, DerivesPrefix, Grammar, empty, token, mark, lifetime, ◌&◌, when◌then◌else◌, vanishing, inside, raw, rest_after, either, one_of, rule, such, captured, unshown, supplied, generics_before, opt_generics, holds, row, ordered, choose, among, underscore, at_row_comma, Shaped, shaped}
 use Rattle.syn_grammar.proofs.RuleLemmas.{same_rule_eq}
 use Rattle.syn_grammar.proofs.Sets.{or_split, and_left, and_right, no_true, apart_sets, mem_apart, every, every_at, same_look_eq}
-use Rattle.syn_grammar.proofs.Heads.{Start, passes, heads, Begins, IsSaid, begins}
+use Rattle.syn_grammar.proofs.FirstSets.{Start, nullable, first_set, Begins, IsSaid, begins}
 use Rattle.syn_grammar.proofs.Streams.{same_before}
 use Rattle.syn_grammar.proofs.Again.{Off, excluded, excluded_off}
-use Rattle.syn_grammar.proofs.Offs.{offs, IsOff, ended_off}
+use Rattle.syn_grammar.proofs.NeverFollow.{never_follow, IsOff, ended_off}
 use Rattle.syn_grammar.proofs.FormEquality.{opposite, opposite_sound, same, same_eq, single, all_forms, all_rules, some_form, spelled_same}
-use Rattle.syn_grammar.proofs.Apart.{all_rules_at, on_left, on_right, comma_class, each_form_at, each_seq_at, single_tail, shared, opposed, rest, trailed, first, part_of, turns, turn_of, on_side, turned, open_form as open_form_of, clears as clears_of, disjoint as disjoint_of, apart as apart_of, steps as steps_of, each_apart as each_apart_of, sound as sound_of}
+use Rattle.syn_grammar.proofs.Apart.{all_rules_at, on_left, on_right, comma_lookahead, each_form_at, each_seq_at, single_tail, shared, opposed, rest, trailed, first, part_of, turns, turn_of, on_side, turned, open_form as open_form_of, clears as clears_of, disjoint as disjoint_of, apart as apart_of, steps as steps_of, each_apart as each_apart_of, sound as sound_of}
 
 module _ (table : Rule → Grammar) (said : Rule → Start) where
   -- the test of unions, of this table
@@ -38,9 +38,9 @@ module _ (table : Rule → Grammar) (said : Rule → Start) where
   abbrev sound : Grammar → Bool
   sound = sound_of table said
 
-  module _ (law : IsSaid said table) (offs_hold : IsOff said table) (sounds : (k : Rule) → sound (table k) ≡ true) where
+  module _ (law : IsSaid said table) (never_follow_hold : IsOff said table) (sounds : (k : Rule) → sound (table k) ≡ true) where
     abbrev pub Unique : Syntax → Type 0
-    Unique s = (g : Grammar) → sound g ≡ true → (ts r : Stream) (s' : Syntax) (r' : Stream) → Reads table g s ts r → Reads table g s' ts r' → (s ≡ s') × (r ≡ r')
+    Unique s = (g : Grammar) → sound g ≡ true → (ts r : Stream) (s' : Syntax) (r' : Stream) → DerivesPrefix table g s ts r → DerivesPrefix table g s' ts r' → (s ≡ s') × (r ≡ r')
 
     abbrev pub Parts : Syntax → Type 0
     Parts (Both s t) = Unique s × Unique t × Parts s × Parts t
@@ -61,19 +61,19 @@ module _ (table : Rule → Grammar) (said : Rule → Start) where
     step_both : (s t : Syntax) → Unique s → Unique t → Parts t → Unique (Both s t)
     step_both s t us ut pt (g & h) w ts r (Both s' t') r' (m, a, b) (m', a', b') =
         let p = us g (and_left (sound g) _ w) ts m s' m' a a' in
-        let q = ut h (and_right (sound g) _ w) m r t' r' b (subst (λ x. Reads table h t' x r') (sym p.1) b') in
+        let q = ut h (and_right (sound g) _ w) m r t' r' b (subst (λ x. DerivesPrefix table h t' x r') (sym p.1) b') in
         (ap₂ Both p.0 q.0, q.1)
     step_both s t us ut pt (g & h) w ts r _ r' a b = elim b [ ]
     step_both s (Both (Mark xs) s2) us ut pt (supplied n p t) w ts r (Both a' (Both (Mark ys) s2')) r' (inl (v, x, sp, c, e, pa, f, q)) (inl (v', x', sp', c', e', pa', f', q')) =
         let d = sym e ∙ e' in
         let same_span : sp ≡ sp' = cc (d) in
-        let y = us p (and_left (sound p) _ w) (underscore sp) end a' end pa (subst (λ z. Reads table p a' (underscore z) end) (sym same_span) pa') in
+        let y = us p (and_left (sound p) _ w) (underscore sp) end a' end pa (subst (λ z. DerivesPrefix table p a' (underscore z) end) (sym same_span) pa') in
         let z = pt.1 t (and_right (sound p) _ w) ts r s2' r' q q' in
         (ap₂ Both y.0 (ap₂ (λ u v. Both (Mark u) v) (f ∙ ap (λ z. (58, z) ∷ []) same_span ∙ sym f') z.0), z.1)
     step_both s (Both (Mark xs) s2) us ut pt (supplied n p t) w ts r (Both a' (Both (Mark ys) s2')) r' (inr (v, m, pa, f, m', d, q)) (inr (v', u, pa', f', u', d', q')) =
         let y = us p (and_left (sound p) _ w) ts m a' u pa pa' in
         let o = spelled_same xs ys m m' u' (f ∙ sym f') d (subst (λ z. Spelled ys z u') (sym y.1) d') in
-        let z = pt.1 t (and_right (sound p) _ w) m' r s2' r' q (subst (λ z. Reads table t s2' z r') (sym o.1) q') in
+        let z = pt.1 t (and_right (sound p) _ w) m' r s2' r' q (subst (λ z. DerivesPrefix table t s2' z r') (sym o.1) q') in
         (ap₂ Both y.0 (ap₂ (λ u v. Both (Mark u) v) o.0 z.0), z.1)
     step_both s (Both (Mark xs) s2) us ut pt (supplied n p t) w ts r (Both a' (Both (Mark ys) s2')) r' (inl h) (inr h') = absurd (true≢false (sym h.0 ∙ h'.0))
     step_both s (Both (Mark xs) s2) us ut pt (supplied n p t) w ts r (Both a' (Both (Mark ys) s2')) r' (inr h) (inl h') = absurd (true≢false (sym h'.0 ∙ h.0))
@@ -85,17 +85,17 @@ module _ (table : Rule → Grammar) (said : Rule → Start) where
     step_impl : (s t : Syntax) → Unique s → Unique t → Unique (Impl s t)
     step_impl s t us ut (generics_before x y h) w ts r (Impl s' t') r' (m, a, b) (m', a', b') =
         let p = us (opt_generics x y) (and_left (sound (opt_generics x y)) _ w) ts m s' m' a a' in
-        let q = ut h (and_right (sound (opt_generics x y)) _ w) m r t' r' b (subst (λ z. Reads table h t' z r') (sym p.1) b') in
+        let q = ut h (and_right (sound (opt_generics x y)) _ w) m r t' r' b (subst (λ z. DerivesPrefix table h t' z r') (sym p.1) b') in
         (ap₂ Impl p.0 q.0, q.1)
     step_impl s t us ut (generics_before x y h) w ts r _ r' a b = elim b [ ]
     step_impl s t us ut _ w ts r s' r' a b = elim a [ ]
 
     abbrev Opened : (Grammar → Bool) → Syntax → Stream → Stream → Type 0
-    Opened p s ts r = (g' : Grammar) × (s' : Syntax) × (p g' ≡ true) × Reads table g' s' ts r × (Parts s → Parts s') × (sound g' ≡ true)
+    Opened p s ts r = (g' : Grammar) × (s' : Syntax) × (p g' ≡ true) × DerivesPrefix table g' s' ts r × (Parts s → Parts s') × (sound g' ≡ true)
 
-    opened_seq : (p : Grammar → Bool) (g k : Grammar) (s t : Syntax) (ts m r : Stream) → Reads table g s ts m → Reads table k t m r →
+    opened_seq : (p : Grammar → Bool) (g k : Grammar) (s t : Syntax) (ts m r : Stream) → DerivesPrefix table g s ts m → DerivesPrefix table k t m r →
         some_form (open_form (g & k)) ≡ true → all_forms p (open_form (g & k)) ≡ true → sound g ≡ true → sound k ≡ true → Opened p (Both s t) ts r
-    opened_seq p empty k Nothing t ts m r a b n e w v = (k, t, and_left (p k) true e, subst (λ x. Reads table k t x r) (sym a) b, λ q. q.3, v)
+    opened_seq p empty k Nothing t ts m r a b n e w v = (k, t, and_left (p k) true e, subst (λ x. DerivesPrefix table k t x r) (sym a) b, λ q. q.3, v)
     opened_seq p (g & h) k (Both s s') t ts m r a b n e w v = (g & (h & k), Both s (Both s' t), and_left _ true e, (a.0, a.1, (m, a.2, b)), λ q. (q.2.0, step_both s' t q.2.1 q.1 q.3, q.2.2, (q.2.1, q.1, q.2.3, q.3)), and_regroup (sound g) (sound h) (sound k) w v)
       where
         and_regroup : (a b c : Bool) → and a b ≡ true → c ≡ true → and a (and b c) ≡ true
@@ -111,7 +111,7 @@ module _ (table : Rule → Grammar) (said : Rule → Start) where
     opened_seq p (one_of ks) k (Case n s) t ts m r a b nn e w v = (table n & k, Both s t, each_seq_at table said p ks k n a.0 e, (m, a.1, b), λ q. (q.2.0, q.1, q.2.1, q.3), ap₂ and (sounds n) v)
     opened_seq p (such q g) k (Such s) t ts m r a b n e w v = (g & k, Both s t, and_left _ true e, (m, a.1, b), λ q. (q.2.0, q.1, q.2.1, q.3), ap₂ and w v)
     opened_seq p (shaped j g) k (Shaped i s) t ts m r a b n e w v = (g & k, Both s t, and_left _ true e, (m, a.1, b), λ q. (q.2.0, q.1, q.2.1, q.3), ap₂ and w v)
-    opened_seq p unshown k (Unshown s) t ts m r a b n e w v = (k, t, and_left (p k) true e, subst (λ x. Reads table k t x r) (sym a.1) b, λ q. q.3, v)
+    opened_seq p unshown k (Unshown s) t ts m r a b n e w v = (k, t, and_left (p k) true e, subst (λ x. DerivesPrefix table k t x r) (sym a.1) b, λ q. q.3, v)
     opened_seq p (generics_before x y h) k (Impl s s') t ts m r a b n e w v = (opt_generics x y & (h & k), Both s (Both s' t), and_left _ true e, (a.0, a.1, (m, a.2, b)), λ q. (q.2.0, step_both s' t q.2.1 q.1 q.3, q.2.2, (q.2.1, q.1, q.2.3, q.3)), regroup (sound (opt_generics x y)) (sound h) (sound k) w v)
       where
         regroup : (a b c : Bool) → and a b ≡ true → c ≡ true → and a (and b c) ≡ true
@@ -130,7 +130,7 @@ module _ (table : Rule → Grammar) (said : Rule → Start) where
     opened_seq p (raw d) k s t ts m r a b n e w v = absurd (true≢false (sym n))
     opened_seq p _ k _ t ts m r a b n e w v = elim a [ ]
 
-    opened : (p : Grammar → Bool) (g : Grammar) (s : Syntax) (ts r : Stream) → Reads table g s ts r →
+    opened : (p : Grammar → Bool) (g : Grammar) (s : Syntax) (ts r : Stream) → DerivesPrefix table g s ts r →
         some_form (open_form g) ≡ true → all_forms p (open_form g) ≡ true → sound g ≡ true → Opened p s ts r
     opened p (g & k) (Both s t) ts r (m, a, b) n e w = opened_seq p g k s t ts m r a b n e (and_left (sound g) _ w) (and_right (sound g) _ w)
     opened p (when c then g else h) (Left s) ts r a n e w = (g, s, and_left (p g) _ e, a.1, λ q. q.1, and_left (sound g) _ w)
@@ -157,40 +157,40 @@ module _ (table : Rule → Grammar) (said : Rule → Start) where
     opened p (raw d) s ts r a n e w = absurd (true≢false (sym n))
     opened p _ _ ts r a n e w = elim a [ ]
 
-    clears_sound : (g h : Grammar) (s : Syntax) (ts r : Stream) → clears g h ≡ true → Reads table g s ts r → passes said g ≡ true → ts ≡ r → mem (class ts).face (heads said h) ≡ true → ⊥
-    clears_sound g h s ts r e a p q m = go (or_split (no (passes said g)) _ e)
+    clears_sound : (g h : Grammar) (s : Syntax) (ts r : Stream) → clears g h ≡ true → DerivesPrefix table g s ts r → nullable said g ≡ true → ts ≡ r → mem (lookahead ts).terminal (first_set said h) ≡ true → ⊥
+    clears_sound g h s ts r e a p q m = go (or_split (no (nullable said g)) _ e)
       where
-        go : (no (passes said g) ≡ true) ⊎ (every (excluded (offs said [] g)) (heads said h) ≡ true) → ⊥
-        go (inl f) = true≢false (sym p ∙ no_true (passes said g) f)
-        go (inr f) = true≢false (sym (every_at (excluded (offs said [] g)) (class ts).face (heads said h) f m) ∙ excluded_off (offs said [] g) (class ts) (subst (λ z. Off (offs said [] g) (class z)) (sym q) (ended_off said table offs_hold [] g s ts r tt a)))
+        go : (no (nullable said g) ≡ true) ⊎ (every (excluded (never_follow said [] g)) (first_set said h) ≡ true) → ⊥
+        go (inl f) = true≢false (sym p ∙ no_true (nullable said g) f)
+        go (inr f) = true≢false (sym (every_at (excluded (never_follow said [] g)) (lookahead ts).terminal (first_set said h) f m) ∙ excluded_off (never_follow said [] g) (lookahead ts) (subst (λ z. Off (never_follow said [] g) (lookahead z)) (sym q) (ended_off said table never_follow_hold [] g s ts r tt a)))
 
-    disjoint_sound : (g h : Grammar) (s s' : Syntax) (ts r r' : Stream) → disjoint g h ≡ true → Reads table g s ts r → Reads table h s' ts r' → ⊥
+    disjoint_sound : (g h : Grammar) (s s' : Syntax) (ts r r' : Stream) → disjoint g h ≡ true → DerivesPrefix table g s ts r → DerivesPrefix table h s' ts r' → ⊥
     disjoint_sound g h s s' ts r r' e a b = go (begins said table law g s ts r a) (begins said table law h s' ts r' b)
       where
-        both : and (passes said g) (passes said h) ≡ false
-        both = no_true (and (passes said g) (passes said h)) (and_left (no (and (passes said g) (passes said h))) _ e)
+        both : and (nullable said g) (nullable said h) ≡ false
+        both = no_true (and (nullable said g) (nullable said h)) (and_left (no (and (nullable said g) (nullable said h))) _ e)
 
-        rest_of : and (and (clears g h) (clears h g)) (apart_sets (heads said g) (heads said h)) ≡ true
-        rest_of = and_right (no (and (passes said g) (passes said h))) _ e
+        rest_of : and (and (clears g h) (clears h g)) (apart_sets (first_set said g) (first_set said h)) ≡ true
+        rest_of = and_right (no (and (nullable said g) (nullable said h))) _ e
 
         cleared : and (clears g h) (clears h g) ≡ true
         cleared = and_left (and (clears g h) (clears h g)) _ rest_of
 
         go : Begins said g ts r → Begins said h ts r' → ⊥
-        go (inl p) (inl q) = true≢false (sym q ∙ mem_apart (class ts).face (heads said g) (heads said h) (and_right (and (clears g h) (clears h g)) _ rest_of) p)
+        go (inl p) (inl q) = true≢false (sym q ∙ mem_apart (lookahead ts).terminal (first_set said g) (first_set said h) (and_right (and (clears g h) (clears h g)) _ rest_of) p)
         go (inr p) (inr q) = true≢false (sym (ap₂ and p.0 q.0) ∙ both)
         go (inr p) (inl q) = clears_sound g h s ts r (and_left (clears g h) _ cleared) a p.0 p.1 q
         go (inl p) (inr q) = clears_sound h g s' ts r' (and_right (clears g h) _ cleared) b q.0 q.1 p
 
     abbrev Apart : ℕ → Type 0
-    Apart n = (g h : Grammar) (s s' : Syntax) (ts r r' : Stream) → apart n g h ≡ true → sound g ≡ true → sound h ≡ true → Parts s ⊎ Parts s' → Reads table g s ts r → Reads table h s' ts r' → ⊥
+    Apart n = (g h : Grammar) (s s' : Syntax) (ts r r' : Stream) → apart n g h ≡ true → sound g ≡ true → sound h ≡ true → Parts s ⊎ Parts s' → DerivesPrefix table g s ts r → DerivesPrefix table h s' ts r' → ⊥
 
-    opposed_sound : (g h : Grammar) (s s' : Syntax) (ts r r' : Stream) → opposed g h ≡ true → sound g ≡ true → sound h ≡ true → Parts s ⊎ Parts s' → Reads table g s ts r → Reads table h s' ts r' → ⊥
+    opposed_sound : (g h : Grammar) (s s' : Syntax) (ts r r' : Stream) → opposed g h ≡ true → sound g ≡ true → sound h ≡ true → Parts s ⊎ Parts s' → DerivesPrefix table g s ts r → DerivesPrefix table h s' ts r' → ⊥
     opposed_sound (such a g & k) (such b h & l) (Both (Such s) t) (Both (Such s') t') ts r r' e w v (inl p) x y =
-        let q = p.2.0 g (and_left (sound g) _ w) ts x.0 s' y.0 x.1.1 (subst (λ z. Reads table z s' ts y.0) (sym (same_eq g h (and_right (opposite a b) _ e))) y.1.1) in
+        let q = p.2.0 g (and_left (sound g) _ w) ts x.0 s' y.0 x.1.1 (subst (λ z. DerivesPrefix table z s' ts y.0) (sym (same_eq g h (and_right (opposite a b) _ e))) y.1.1) in
         opposite_sound a b s (and_left (opposite a b) _ e) x.1.0 (ap (holds b) q.0 ∙ y.1.0)
     opposed_sound (such a g & k) (such b h & l) (Both (Such s) t) (Both (Such s') t') ts r r' e w v (inr p) x y =
-        let q = p.2.0 h (and_left (sound h) _ v) ts y.0 s x.0 y.1.1 (subst (λ z. Reads table z s ts x.0) (same_eq g h (and_right (opposite a b) _ e)) x.1.1) in
+        let q = p.2.0 h (and_left (sound h) _ v) ts y.0 s x.0 y.1.1 (subst (λ z. DerivesPrefix table z s ts x.0) (same_eq g h (and_right (opposite a b) _ e)) x.1.1) in
         opposite_sound a b s (and_left (opposite a b) _ e) x.1.0 (ap (holds b) (sym q.0) ∙ y.1.0)
     opposed_sound (such a g & k) (such b h & l) (Both (Such s) t) (Both _ t') ts r r' e w v p x y = elim y.1 [ ]
     opposed_sound (such a g & k) (such b h & l) (Both (Such s) t) _ ts r r' e w v p x y = elim y [ ]
@@ -199,24 +199,24 @@ module _ (table : Rule → Grammar) (said : Rule → Start) where
     opposed_sound _ _ s s' ts r r' e w v p x y = true≢false (sym e)
 
     shared_sound : (n : ℕ) → Apart n → (g h : Grammar) (s s' : Syntax) (ts r r' : Stream) → shared g h ≡ true → apart n (rest g) (rest h) ≡ true →
-        sound g ≡ true → sound h ≡ true → Parts s ⊎ Parts s' → Reads table g s ts r → Reads table h s' ts r' → ⊥
+        sound g ≡ true → sound h ≡ true → Parts s ⊎ Parts s' → DerivesPrefix table g s ts r → DerivesPrefix table h s' ts r' → ⊥
     shared_sound n ih (a & k) (b & l) (Both s t) (Both s' t') ts r r' e f w v p x y =
-        ih k l t t' x.0 r r' f (and_right (sound a) _ w) (and_right (sound b) _ v) (parts p) x.2 (subst (λ z. Reads table l t' z r') (sym (go p (or_split (same a b) _ e))) y.2)
+        ih k l t t' x.0 r r' f (and_right (sound a) _ w) (and_right (sound b) _ v) (parts p) x.2 (subst (λ z. DerivesPrefix table l t' z r') (sym (go p (or_split (same a b) _ e))) y.2)
       where
         parts : Parts (Both s t) ⊎ Parts (Both s' t') → Parts t ⊎ Parts t'
         parts (inl p) = inl p.3
         parts (inr p) = inr p.3
 
         go : Parts (Both s t) ⊎ Parts (Both s' t') → (same a b ≡ true) ⊎ (and (single a) (single b) ≡ true) → x.0 ≡ y.0
-        go (inl p) (inl e) = (p.0 a (and_left (sound a) _ w) ts x.0 s' y.0 x.1 (subst (λ z. Reads table z s' ts y.0) (sym (same_eq a b e)) y.1)).1
-        go (inr p) (inl e) = sym (p.0 b (and_left (sound b) _ v) ts y.0 s x.0 y.1 (subst (λ z. Reads table z s ts x.0) (same_eq a b e) x.1)).1
+        go (inl p) (inl e) = (p.0 a (and_left (sound a) _ w) ts x.0 s' y.0 x.1 (subst (λ z. DerivesPrefix table z s' ts y.0) (sym (same_eq a b e)) y.1)).1
+        go (inr p) (inl e) = sym (p.0 b (and_left (sound b) _ v) ts y.0 s x.0 y.1 (subst (λ z. DerivesPrefix table z s ts x.0) (same_eq a b e) x.1)).1
         go p (inr e) = single_tail table said a s ts x.0 (and_left (single a) _ e) x.1 ∙ sym (single_tail table said b s' ts y.0 (and_right (single a) _ e) y.1)
     shared_sound n ih (a & k) (b & l) (Both s t) _ ts r r' e f w v p x y = elim y [ ]
     shared_sound n ih (a & k) (b & l) _ s' ts r r' e f w v p x y = elim x [ ]
     shared_sound n ih _ _ s s' ts r r' e f w v p x y = true≢false (sym e)
 
     trailed_sound : (n : ℕ) → Apart n → (g h : Grammar) (s s' : Syntax) (ts r r' : Stream) → trailed g h ≡ true → apart n (first g) (first h) ≡ true →
-        sound g ≡ true → sound h ≡ true → Parts s ⊎ Parts s' → Reads table g s ts r → Reads table h s' ts r' → ⊥
+        sound g ≡ true → sound h ≡ true → Parts s ⊎ Parts s' → DerivesPrefix table g s ts r → DerivesPrefix table h s' ts r' → ⊥
     trailed_sound n ih (a & rule j) (b & rule k) (Both s t) (Both s' t') ts r r' e f w v p x y = ih a b s s' ts x.0 y.0 f (and_left (sound a) _ w) (and_left (sound b) _ v) (parts p) x.1 y.1
       where
         parts : Parts (Both s t) ⊎ Parts (Both s' t') → Parts s ⊎ Parts s'
@@ -227,7 +227,7 @@ module _ (table : Rule → Grammar) (said : Rule → Start) where
     trailed_sound n ih _ _ s s' ts r r' e f w v p x y = true≢false (sym e)
 
     cut_sound : (n : ℕ) → Apart n → (g h : Grammar) (s s' : Syntax) (ts r r' : Stream) → or (shared g h) (trailed g h) ≡ true → apart n (part_of (shared g h) g) (part_of (shared g h) h) ≡ true →
-        sound g ≡ true → sound h ≡ true → Parts s ⊎ Parts s' → Reads table g s ts r → Reads table h s' ts r' → ⊥
+        sound g ≡ true → sound h ≡ true → Parts s ⊎ Parts s' → DerivesPrefix table g s ts r → DerivesPrefix table h s' ts r' → ⊥
     cut_sound n ih g h s s' ts r r' e f w v p x y = go (shared g h) refl e f
       where
         go : (b : Bool) → shared g h ≡ b → or b (trailed g h) ≡ true → apart n (part_of b g) (part_of b h) ≡ true → ⊥
@@ -236,9 +236,9 @@ module _ (table : Rule → Grammar) (said : Rule → Start) where
 
     -- one side of a form that turns
     abbrev Sided : Grammar → Syntax → Stream → Stream → Type 0
-    Sided g s ts r = (v : Bool) × (s' : Syntax) × (stands (turn_of g) ts ≡ v) × Reads table (on_side v g) s' ts r × (Parts s → Parts s') × (sound (on_side v g) ≡ true)
+    Sided g s ts r = (v : Bool) × (s' : Syntax) × (stands (turn_of g) ts ≡ v) × DerivesPrefix table (on_side v g) s' ts r × (Parts s → Parts s') × (sound (on_side v g) ≡ true)
 
-    sided : (g : Grammar) (s : Syntax) (ts r : Stream) → turns g ≡ true → sound g ≡ true → Reads table g s ts r → Sided g s ts r
+    sided : (g : Grammar) (s : Syntax) (ts r : Stream) → turns g ≡ true → sound g ≡ true → DerivesPrefix table g s ts r → Sided g s ts r
     sided (when c then a else b) (Left s) ts r e w x = (true, s, x.0, x.1, λ q. q.1, and_left (sound a) _ w)
     sided (when c then a else b) (Right s) ts r e w x = (false, s, x.0, x.1, λ q. q.1, and_right (sound a) _ w)
     sided ((when c then a else b) & k) (Both (Left s) t) ts r e w (m, x, y) = (true, Both s t, x.0, (m, x.1, y), λ q. (q.2.0, q.1, q.2.1, q.3), ap₂ and (and_left (sound a) _ (and_left (and (sound a) (sound b)) _ w)) (and_right (and (sound a) (sound b)) _ w))
@@ -248,7 +248,7 @@ module _ (table : Rule → Grammar) (said : Rule → Start) where
         side_sound : (a b : Bool) → and (and a true) b ≡ true → and a b ≡ true
         side_sound true b e = e
         side_sound false b e = e
-    sided (generics_before x y h) (Impl (Right Nothing) s) ts r e w (m, (v, a), b) = (false, s, v, subst (λ z. Reads table h s z r) (sym a) b, λ q. q.3, and_right (and (sound (ordered x y)) true) _ w)
+    sided (generics_before x y h) (Impl (Right Nothing) s) ts r e w (m, (v, a), b) = (false, s, v, subst (λ z. DerivesPrefix table h s z r) (sym a) b, λ q. q.3, and_right (and (sound (ordered x y)) true) _ w)
     sided (generics_before x y h & k) (Both (Impl (Left l) s) t) ts r e w (i, (m, (v, a), b), c) =
         (true, Both l (Both s t), v, (m, a, (i, b, c)), λ q. (q.2.2.0, step_both s t q.2.1 q.1 q.3, q.2.2.1, (q.2.1, q.1, q.2.3, q.3)), side_sound (sound (ordered x y)) (sound h) (sound k) w)
       where
@@ -257,7 +257,7 @@ module _ (table : Rule → Grammar) (said : Rule → Start) where
         side_sound true false c e = e
         side_sound false b c e = e
     sided (generics_before x y h & k) (Both (Impl (Right Nothing) s) t) ts r e w (i, (m, (v, a), b), c) =
-        (false, Both s t, v, (i, subst (λ z. Reads table h s z i) (sym a) b, c), λ q. (q.2.1, q.1, q.2.3, q.3), side_sound (sound (ordered x y)) (sound h) (sound k) w)
+        (false, Both s t, v, (i, subst (λ z. DerivesPrefix table h s z i) (sym a) b, c), λ q. (q.2.1, q.1, q.2.3, q.3), side_sound (sound (ordered x y)) (sound h) (sound k) w)
       where
         side_sound : (a b c : Bool) → and (and (and a true) b) c ≡ true → and b c ≡ true
         side_sound true b c e = e
@@ -275,7 +275,7 @@ module _ (table : Rule → Grammar) (said : Rule → Start) where
     sided _ s ts r e w x = absurd (true≢false (sym e))
 
     turned_sound : (n : ℕ) → Apart n → (g h : Grammar) (s s' : Syntax) (ts r r' : Stream) → turned g h ≡ true → and (apart n (on_side true g) (on_side true h)) (apart n (on_side false g) (on_side false h)) ≡ true →
-        sound g ≡ true → sound h ≡ true → Parts s ⊎ Parts s' → Reads table g s ts r → Reads table h s' ts r' → ⊥
+        sound g ≡ true → sound h ≡ true → Parts s ⊎ Parts s' → DerivesPrefix table g s ts r → DerivesPrefix table h s' ts r' → ⊥
     turned_sound n ih g h s s' ts r r' e f w v p x y = go (sided g s ts r (and_left (turns g) _ both) w x) (sided h s' ts r' (and_right (turns g) _ both) v y)
       where
         both : and (turns g) (turns h) ≡ true
@@ -402,7 +402,7 @@ module _ (table : Rule → Grammar) (said : Rule → Start) where
         let pc : c ≡ c' = cc (p) in
         let pi : i ≡ i' = cc (p) in
         let pr : r ≡ r' = cc (p) in
-        let q = u g w i end s' end a (subst (λ z. Reads table g s' z end) (sym pi) a') in
+        let q = u g w i end s' end a (subst (λ z. DerivesPrefix table g s' z end) (sym pi) a') in
         (ap₂ (λ x y. Group x y c s) pd po ∙ ap₂ (λ x y. Group d' o' x y) pc q.0, pr)
     step_group d o c s u (inside n g) w ts r _ r' a b = elim b [ ]
     step_group d o c s u _ w ts r s' r' a b = elim a [ ]
@@ -482,7 +482,7 @@ module _ (table : Rule → Grammar) (said : Rule → Start) where
     step_case k s u p (one_of ks) w ts r (Case l s') r' a b = go (two ks k l a.0 b.0 w)
       where
         go : Two k l → (Case k s ≡ Case l s') × (r ≡ r')
-        go (inl e) = let q = u (table k) (sounds k) ts r s' r' a.1 (subst (λ z. Reads table (table z) s' ts r') (sym e) b.1) in (ap₂ Case e q.0, q.1)
+        go (inl e) = let q = u (table k) (sounds k) ts r s' r' a.1 (subst (λ z. DerivesPrefix table (table z) s' ts r') (sym e) b.1) in (ap₂ Case e q.0, q.1)
         go (inr (inl e)) = absurd (apart_sound steps (table k) (table l) s s' ts r r' e (sounds k) (sounds l) (inl p) a.1 b.1)
         go (inr (inr e)) = absurd (apart_sound steps (table l) (table k) s' s ts r' r e (sounds l) (sounds k) (inr p) b.1 a.1)
     step_case k s u p (one_of ks) w ts r _ r' a b = elim b [ ]
@@ -506,7 +506,7 @@ module _ (table : Rule → Grammar) (said : Rule → Start) where
     step_shaped i s u _ w ts r s' r' a b = elim a [ ]
 
     -- two of a row are read alike
-    row_same : (g h : Grammar) (k k' : Bool) (s s' : Syntax) (ts r r' : Stream) → sound (row g h) ≡ true → Unique s → Parts s → Reads table (choose k g h) s ts r → Reads table (choose k' g h) s' ts r' → (k ≡ k') × (s ≡ s') × (r ≡ r')
+    row_same : (g h : Grammar) (k k' : Bool) (s s' : Syntax) (ts r r' : Stream) → sound (row g h) ≡ true → Unique s → Parts s → DerivesPrefix table (choose k g h) s ts r → DerivesPrefix table (choose k' g h) s' ts r' → (k ≡ k') × (s ≡ s') × (r ≡ r')
     row_same g h true true s s' ts r r' w u p a b = let q = u g (and_left (sound g) _ (and_right (apart steps g h) _ w)) ts r s' r' a b in (refl, q.0, q.1)
     row_same g h false false s s' ts r r' w u p a b = let q = u h (and_right (sound g) _ (and_right (apart steps g h) _ w)) ts r s' r' a b in (refl, q.0, q.1)
     row_same g h true false s s' ts r r' w u p a b =
@@ -530,7 +530,7 @@ module _ (table : Rule → Grammar) (said : Rule → Start) where
         (ap₂ Last q.0 q.1, q.2)
     step_last k s u p (row g h) w ts r (More k' s' sp t) r' a b =
         let q = row_same g h k k' s s' ts r b.1 w u p a.1 b.2 in
-        absurd (true≢false (sym (comma_class b.4.0 sp b.1 b.3 b.4.1) ∙ ap (stands at_row_comma) (sym q.2) ∙ a.2))
+        absurd (true≢false (sym (comma_lookahead b.4.0 sp b.1 b.3 b.4.1) ∙ ap (stands at_row_comma) (sym q.2) ∙ a.2))
     step_last k s u p (row g h) w ts r _ r' a b = elim b [ ]
     step_last k s u p _ w ts r s' r' a b = elim a [ ]
 
@@ -538,13 +538,13 @@ module _ (table : Rule → Grammar) (said : Rule → Start) where
     step_more k s sp t u p v (row g h) w ts r Done r' a b = absurd (true≢false (sym b.0 ∙ a.0))
     step_more k s sp t u p v (row g h) w ts r (Last k' s') r' a b =
         let q = row_same g h k k' s s' ts a.1 r' w u p a.2 b.1 in
-        absurd (true≢false (sym (comma_class a.4.0 sp a.1 a.3 a.4.1) ∙ ap (stands at_row_comma) q.2 ∙ b.2))
+        absurd (true≢false (sym (comma_lookahead a.4.0 sp a.1 a.3 a.4.1) ∙ ap (stands at_row_comma) q.2 ∙ b.2))
     step_more k s sp t u p v (row g h) w ts r (More k' s' sp' t') r' a b =
         let q = row_same g h k k' s s' ts a.1 b.1 w u p a.2 b.2 in
         let d = sym a.4.1 ∙ (q.2 ∙ b.4.1) in
         let ds : sp ≡ sp' = cc (d) in
         let dm : a.3 ≡ b.3 = cc (d) in
-        let z = v (row g h) w a.3 r t' r' a.5 (subst (λ x. Reads table (row g h) t' x r') (sym dm) b.5) in
+        let z = v (row g h) w a.3 r t' r' a.5 (subst (λ x. DerivesPrefix table (row g h) t' x r') (sym dm) b.5) in
         (ap₂ (λ x y. More x y sp t) q.0 q.1 ∙ ap₂ (λ x y. More k' s' x y) ds z.0, z.1)
     step_more k s sp t u p v (row g h) w ts r _ r' a b = elim b [ ]
     step_more k s sp t u p v _ w ts r s' r' a b = elim a [ ]
@@ -552,13 +552,13 @@ module _ (table : Rule → Grammar) (said : Rule → Start) where
     step_order : (xs : List (ℕ × Span)) (l : Syntax) (ys : List (ℕ × Span)) → Unique l → Unique (Order xs l ys)
     step_order xs l ys u (ordered g h) w ts r (Order xs' l' ys') r' (m, e, d, n, a, f, k) (m', e', d', n', a', f', k') =
         let p = spelled_same xs xs' ts m m' (e ∙ sym e') d d' in
-        let q = u (row g h) w m n l' n' a (subst (λ z. Reads table (row g h) l' z n') (sym p.1) a') in
+        let q = u (row g h) w m n l' n' a (subst (λ z. DerivesPrefix table (row g h) l' z n') (sym p.1) a') in
         let z = spelled_same ys ys' n r r' (f ∙ sym f') k (subst (λ x. Spelled ys' x r') (sym q.1) k') in
         (ap₂ (λ x y. Order x y ys) p.0 q.0 ∙ ap (Order xs' l') z.0, z.1)
     step_order xs l ys u (ordered g h) w ts r _ r' a b = elim b [ ]
     step_order xs l ys u _ w ts r s' r' a b = elim a [ ]
 
-    added_unread : (g : Grammar) (cs : Text) (ts r : Stream) → Reads table g (Added cs) ts r → ⊥
+    added_unread : (g : Grammar) (cs : Text) (ts r : Stream) → DerivesPrefix table g (Added cs) ts r → ⊥
     added_unread empty cs ts r a = elim a [ ]
     added_unread _ cs ts r a = elim a [ ]
 
@@ -588,5 +588,5 @@ module _ (table : Rule → Grammar) (said : Rule → Start) where
     unique_all (Order xs l ys) = let p = unique_all l in (step_order xs l ys p.0, tt)
 
     -- of every tree at once
-    pub unique : (g : Grammar) → sound g ≡ true → (ts : Stream) (s : Syntax) (r : Stream) (s' : Syntax) (r' : Stream) → Reads table g s ts r → Reads table g s' ts r' → (s ≡ s') × (r ≡ r')
+    pub unique : (g : Grammar) → sound g ≡ true → (ts : Stream) (s : Syntax) (r : Stream) (s' : Syntax) (r' : Stream) → DerivesPrefix table g s ts r → DerivesPrefix table g s' ts r' → (s ≡ s') × (r ≡ r')
     unique g w ts s r s' r' a b = (unique_all s).0 g w ts r s' r' a b

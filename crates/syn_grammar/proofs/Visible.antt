@@ -2,7 +2,7 @@
 use Rattle.std.proofs.Common.{◌≡◌, ℕ, Bool, true, false, List, [], ◌∷◌, refl, sym, ap, ◌∙◌, ap₂, inl, inr}
 use Rattle.syn_grammar.specs.Tokens.{Span, Delimiter, Stream, end, punct, group, ◌⧺◌, and, or, pick, is_visible, visible}
 use Rattle.syn_grammar.specs.Rules.{Rule}
-use Rattle.syn_grammar.specs.Grammar.{Syntax, Nothing, Token, Mark, Lifetime, Both, Left, Right, Node, Vanishing, Group, Raw, Rest, Case, Captured, Unshown, Impl, Added, Done, Last, More, Order, Such, added, spell, Spelled, Reads, Grammar, empty, token, mark, lifetime, ◌&◌, when◌then◌else◌, vanishing, inside, raw, rest_after, either, one_of, rule, such, captured, unshown, supplied, generics_before, opt_generics, no_generics, row, ordered, choose, underscore, bare, show, behind, sort, renew, print, Shaped, shaped, led}
+use Rattle.syn_grammar.specs.Grammar.{Syntax, Nothing, Token, Mark, Lifetime, Both, Left, Right, Node, Vanishing, Group, Raw, Rest, Case, Captured, Unshown, Impl, Added, Done, Last, More, Order, Such, added, spell, Spelled, DerivesPrefix, Grammar, empty, token, mark, lifetime, ◌&◌, when◌then◌else◌, vanishing, inside, raw, rest_after, either, one_of, rule, such, captured, unshown, supplied, generics_before, opt_generics, no_generics, row, ordered, choose, underscore, bare, show, behind, sort, renew, print, Shaped, shaped, led}
 use Rattle.syn_grammar.proofs.Sets.{and_left, and_right}
 use Rattle.syn_grammar.proofs.Streams.{visible_append}
 
@@ -122,7 +122,7 @@ module _ (table : Rule → Grammar) where
       let z = and_right (is_visible d') _ w in
       (and_left (is_visible d') _ w, and_left (visible i) _ z, and_right (visible i) _ z)
 
-  pub read_seen : (g : Grammar) (s : Syntax) (ts r : Stream) → Reads table g s ts r → visible ts ≡ true → Kept s r
+  pub read_seen : (g : Grammar) (s : Syntax) (ts r : Stream) → DerivesPrefix table g s ts r → visible ts ≡ true → Kept s r
   read_seen empty Nothing ts r h v = (refl, ap visible (sym h) ∙ v)
   read_seen (token b k) (Token x sp) ts r h v = (refl, ap visible (sym h.1) ∙ v)
   read_seen (mark b cs) (Mark xs) ts r h v = (refl, sym (visible_spelled xs ts r h.1) ∙ v)
@@ -171,5 +171,5 @@ module _ (table : Rule → Grammar) where
       (p.0, sym (visible_spelled ys m' r d') ∙ p.1)
   read_seen _ _ ts r a v = elim a [ ]
 
-  pub visible_print : (g : Grammar) (s : Syntax) (ts r : Stream) → Reads table g s ts r → visible ts ≡ true → visible (print s) ≡ true
+  pub visible_print : (g : Grammar) (s : Syntax) (ts r : Stream) → DerivesPrefix table g s ts r → visible ts ≡ true → visible (print s) ≡ true
   visible_print g s ts r a v = visible_show (renew s) ∙ seen_renew s (read_seen g s ts r a v).0

@@ -1,9 +1,9 @@
 -- GRAMMARS AS DATA: the forms that a rule is made of, the syntax trees that they read, how a tree prints, and its normal form.
--- `Reads` says what each form reads from a token stream; it knows no position and no order of trials. `print` and `normal` are
+-- `DerivesPrefix` says what each form reads from a token stream; it knows no position and no order of trials. `print` and `normal` are
 -- functions of the tree alone.
 use Rattle.std.specs.Prelude.{◌≡◌, ℕ, Bool, true, false, List, [], ◌∷◌, ◌++◌, map, ◌⊎◌, ◌+◌, ◌-◌, ◌*◌, nat_eq, nat_le}
 use Rattle.syn_grammar.specs.Words.{Text, keywords, contextual, w_where, w_underscore, colon, comma, less, greater}
-use Rattle.syn_grammar.specs.Tokens.{Span, call_site, Delimiter, Brace, LitKind, Str, ByteStr, CStr, Byte, Char, Int, Float, Leaf, ident, literal, Stream, end, leaf, punct, group, ◌⧺◌, plain, or, and, no, pick, same_text, Face, Name, Word, Literal, mem, leaf_face, Look, Next, at_name, at_generics, at_mark, noted, ◌and_also◌, stands}
+use Rattle.syn_grammar.specs.Tokens.{Span, call_site, Delimiter, Brace, LitKind, Str, ByteStr, CStr, Byte, Char, Int, Float, Leaf, ident, literal, Stream, end, leaf, punct, group, ◌⧺◌, plain, or, and, no, pick, same_text, Terminal, Name, Word, Literal, mem, leaf_terminal, Look, Fact, at_name, at_generics, at_mark, ahead, ◌and_also◌, stands}
 use Rattle.syn_grammar.specs.Rules.{Rule}
 use Rattle.syn_grammar.specs.SelfTypes.{self_types}
 use Rattle.syn_grammar.specs.RuleNumbers.{same_rule}
@@ -18,14 +18,14 @@ pub data Kind : Type 0 where
   literal_of : List LitKind → Kind  -- a literal of one of these kinds
   index : Kind  -- a field number: decimal digits without a leading zero, at most 2 ^ 32 - 1
 
--- the faces that a token of this kind may have
-abbrev pub faces : Kind → List Face
-faces name = Name ∷ map Word contextual
-faces identifier = Name ∷ map Word (keywords ++ contextual)
-faces (word x) = Word x ∷ []
-faces (name_or xs) = Name ∷ map Word (contextual ++ xs)
-faces (literal_of ks) = map Literal ks
-faces index = Literal Int ∷ []
+-- the terminals that a token of this kind may have
+abbrev pub terminals : Kind → List Terminal
+terminals name = Name ∷ map Word contextual
+terminals identifier = Name ∷ map Word (keywords ++ contextual)
+terminals (word x) = Word x ∷ []
+terminals (name_or xs) = Name ∷ map Word (contextual ++ xs)
+terminals (literal_of ks) = map Literal ks
+terminals index = Literal Int ∷ []
 
 abbrev pub any_literal : Kind
 any_literal = literal_of (Str ∷ ByteStr ∷ CStr ∷ Byte ∷ Char ∷ Int ∷ Float ∷ [])
@@ -58,7 +58,7 @@ suits index (literal k x) = is_index x
 suits _ x = true
 
 abbrev pub fits : Kind → Leaf → Bool
-fits k x = and (suits k x) (mem (leaf_face x) (faces k))
+fits k x = and (suits k x) (mem (leaf_terminal x) (terminals k))
 
 -- Conditions on a syntax tree, for what no lookahead can decide.
 pub data Test : Type 0 where
@@ -69,8 +69,8 @@ pub data Test : Type 0 where
 -- The forms that a rule is made of.
 pub data Grammar : Type 0 where
   empty : Grammar  -- reads nothing
-  token : List Next → Kind → Grammar  -- one token of this kind; of its front other forms may ask these notes (each other note of it is never asked)
-  mark : Bool → Text → Grammar  -- a mark of one or more characters, all but the last Joint (true: of its front other forms may ask notes)
+  token : List Fact → Kind → Grammar  -- one token of this kind; of its lookahead other forms may ask these facts (each other fact of it is never asked)
+  mark : Bool → Text → Grammar  -- a mark of one or more characters, all but the last Joint (true: of its lookahead other forms may ask facts)
   lifetime : Grammar  -- a lifetime: `'` Joint directly before an identifier of any text
   ◌&◌ : Grammar → Grammar → Grammar  -- a sequence: one form and then the other
   when◌then◌else◌ : Look → Grammar → Grammar → Grammar  -- a choice by lookahead: the first form where the look holds of what stands next, else the second
@@ -85,7 +85,7 @@ pub data Grammar : Type 0 where
   shaped : Shape → Grammar → Grammar  -- a form whose value is built in this way (it reads, prints and is compared as the form itself)
   captured : Grammar → Grammar  -- a form that is kept as exactly the tokens that it reads, spacing too
   unshown : Grammar  -- a part that is never printed: reads nothing, and a tree made by hand may hold anything there
-  supplied : Next → Grammar → Grammar → Grammar  -- a form, `:` and a second form; where a name stands next whose front tells this note, the second form alone, and `_` and `:` count as read
+  supplied : Fact → Grammar → Grammar → Grammar  -- a form, `:` and a second form; where a name stands next whose lookahead tells this fact, the second form alone, and `_` and `:` count as read
   generics_before : Grammar → Grammar → Grammar → Grammar  -- where generics stand next, a list in `< >` of the first two forms; then the third; printed with `< >` where the third would be read as generics
   row : Grammar → Grammar → Grammar  -- a comma list of these two forms, up to `>`; the last comma may stand or not
   ordered : Grammar → Grammar → Grammar  -- such a list in `< >`, printed with the members of the first form first
@@ -223,9 +223,9 @@ at_row_end = at_mark greater
 abbrev pub at_row_comma : Look
 at_row_comma = at_mark comma
 
--- a name stands next whose front tells this
-abbrev pub at_unnamed : Next → Look
-at_unnamed n = at_name and_also noted n
+-- a name stands next whose lookahead tells this
+abbrev pub at_unnamed : Fact → Look
+at_unnamed n = at_name and_also ahead n
 
 -- a mark, and `_`, all of it at this span
 abbrev pub written : Text → Span → List (ℕ × Span)
@@ -239,37 +239,37 @@ abbrev pub opt_generics : Grammar → Grammar → Grammar
 opt_generics x y = when at_generics then ordered x y else empty
 
 -- WHAT A FORM READS: from the stream ts it reads this tree, and r is left. By recursion on the tree.
-abbrev pub Reads : (Rule → Grammar) → Grammar → Syntax → Stream → Stream → Type 0
-Reads table empty Nothing ts r = ts ≡ r
-Reads table (token b k) (Token x sp) ts r = (fits k x ≡ true) × (ts ≡ leaf x sp r)
-Reads table (mark b cs) (Mark xs) ts r = (chars xs ≡ cs) × Spelled xs ts r
-Reads table lifetime (Lifetime sp x sq) ts r = ts ≡ punct 39 true sp (leaf (ident x) sq r)
-Reads table (g & h) (Both s t) ts r = (m : Stream) × Reads table g s ts m × Reads table h t m r
-Reads table (when c then g else h) (Left s) ts r = (stands c ts ≡ true) × Reads table g s ts r
-Reads table (when c then g else h) (Right s) ts r = (stands c ts ≡ false) × Reads table h s ts r
-Reads table (vanishing b c g) (Vanishing b' s) ts r = (b ≡ b') × Reads table (when c then g else empty) s ts r
-Reads table (inside d g) (Group d' o c s) ts r = (d ≡ d') × (content : Stream) × (ts ≡ group d' o c content r) × Reads table g s content end
-Reads table (raw d) (Raw d' o c content) ts r = (d ≡ d') × (ts ≡ group d' o c content r)
-Reads table (rest_after cs) (Rest xs content) ts r = (chars xs ≡ cs) × Spelled xs ts content × (some_tree content ≡ true) × (r ≡ end)
-Reads table (either g h) (Left s) ts r = Reads table g s ts r
-Reads table (either g h) (Right s) ts r = Reads table h s ts r
-Reads table (one_of ks) (Case k s) ts r = (among k ks ≡ true) × Reads table (table k) s ts r
-Reads table (rule k) (Node s) ts r = Reads table (table k) s ts r
-Reads table (such q g) (Such s) ts r = (holds q s ≡ true) × Reads table g s ts r
-Reads table (shaped j g) (Shaped j' s) ts r = (j ≡ j') × Reads table g s ts r
-Reads table (captured g) (Captured s content) ts r = (ts ≡ content ⧺ r) × Reads table g s ts r
-Reads table unshown (Unshown s) ts r = (s ≡ Nothing) × (ts ≡ r)
-Reads table (supplied n p t) (Both a (Both (Mark xs) s)) ts r =
-    ((stands (at_unnamed n) ts ≡ true) × (x : Leaf) × (sp : Span) × (c : Stream) × (ts ≡ leaf x sp (c ⧺ r)) × Reads table p a (underscore sp) end × (xs ≡ written colon sp) × Reads table t s ts r)
-    ⊎ ((stands (at_unnamed n) ts ≡ false) × (m : Stream) × Reads table p a ts m × (chars xs ≡ colon) × (m' : Stream) × Spelled xs m m' × Reads table t s m' r)
-Reads table (generics_before x y h) (Impl l s) ts r = (m : Stream) × Reads table (opt_generics x y) l ts m × Reads table h s m r
-Reads table (row g h) Done ts r = (stands at_row_end ts ≡ true) × (ts ≡ r)
-Reads table (row g h) (Last k s) ts r = (stands at_row_end ts ≡ false) × Reads table (choose k g h) s ts r × (stands at_row_comma r ≡ false)
-Reads table (row g h) (More k s sp t) ts r = (stands at_row_end ts ≡ false) × (m : Stream) × Reads table (choose k g h) s ts m
-    × (m' : Stream) × Spelled ((44, sp) ∷ []) m m' × Reads table (row g h) t m' r
-Reads table (ordered g h) (Order xs l ys) ts r = (m : Stream) × (chars xs ≡ less) × Spelled xs ts m
-    × (m' : Stream) × Reads table (row g h) l m m' × (chars ys ≡ greater) × Spelled ys m' r
-Reads table _ _ ts r = ⊥
+abbrev pub DerivesPrefix : (Rule → Grammar) → Grammar → Syntax → Stream → Stream → Type 0
+DerivesPrefix table empty Nothing ts r = ts ≡ r
+DerivesPrefix table (token b k) (Token x sp) ts r = (fits k x ≡ true) × (ts ≡ leaf x sp r)
+DerivesPrefix table (mark b cs) (Mark xs) ts r = (chars xs ≡ cs) × Spelled xs ts r
+DerivesPrefix table lifetime (Lifetime sp x sq) ts r = ts ≡ punct 39 true sp (leaf (ident x) sq r)
+DerivesPrefix table (g & h) (Both s t) ts r = (m : Stream) × DerivesPrefix table g s ts m × DerivesPrefix table h t m r
+DerivesPrefix table (when c then g else h) (Left s) ts r = (stands c ts ≡ true) × DerivesPrefix table g s ts r
+DerivesPrefix table (when c then g else h) (Right s) ts r = (stands c ts ≡ false) × DerivesPrefix table h s ts r
+DerivesPrefix table (vanishing b c g) (Vanishing b' s) ts r = (b ≡ b') × DerivesPrefix table (when c then g else empty) s ts r
+DerivesPrefix table (inside d g) (Group d' o c s) ts r = (d ≡ d') × (content : Stream) × (ts ≡ group d' o c content r) × DerivesPrefix table g s content end
+DerivesPrefix table (raw d) (Raw d' o c content) ts r = (d ≡ d') × (ts ≡ group d' o c content r)
+DerivesPrefix table (rest_after cs) (Rest xs content) ts r = (chars xs ≡ cs) × Spelled xs ts content × (some_tree content ≡ true) × (r ≡ end)
+DerivesPrefix table (either g h) (Left s) ts r = DerivesPrefix table g s ts r
+DerivesPrefix table (either g h) (Right s) ts r = DerivesPrefix table h s ts r
+DerivesPrefix table (one_of ks) (Case k s) ts r = (among k ks ≡ true) × DerivesPrefix table (table k) s ts r
+DerivesPrefix table (rule k) (Node s) ts r = DerivesPrefix table (table k) s ts r
+DerivesPrefix table (such q g) (Such s) ts r = (holds q s ≡ true) × DerivesPrefix table g s ts r
+DerivesPrefix table (shaped j g) (Shaped j' s) ts r = (j ≡ j') × DerivesPrefix table g s ts r
+DerivesPrefix table (captured g) (Captured s content) ts r = (ts ≡ content ⧺ r) × DerivesPrefix table g s ts r
+DerivesPrefix table unshown (Unshown s) ts r = (s ≡ Nothing) × (ts ≡ r)
+DerivesPrefix table (supplied n p t) (Both a (Both (Mark xs) s)) ts r =
+    ((stands (at_unnamed n) ts ≡ true) × (x : Leaf) × (sp : Span) × (c : Stream) × (ts ≡ leaf x sp (c ⧺ r)) × DerivesPrefix table p a (underscore sp) end × (xs ≡ written colon sp) × DerivesPrefix table t s ts r)
+    ⊎ ((stands (at_unnamed n) ts ≡ false) × (m : Stream) × DerivesPrefix table p a ts m × (chars xs ≡ colon) × (m' : Stream) × Spelled xs m m' × DerivesPrefix table t s m' r)
+DerivesPrefix table (generics_before x y h) (Impl l s) ts r = (m : Stream) × DerivesPrefix table (opt_generics x y) l ts m × DerivesPrefix table h s m r
+DerivesPrefix table (row g h) Done ts r = (stands at_row_end ts ≡ true) × (ts ≡ r)
+DerivesPrefix table (row g h) (Last k s) ts r = (stands at_row_end ts ≡ false) × DerivesPrefix table (choose k g h) s ts r × (stands at_row_comma r ≡ false)
+DerivesPrefix table (row g h) (More k s sp t) ts r = (stands at_row_end ts ≡ false) × (m : Stream) × DerivesPrefix table (choose k g h) s ts m
+    × (m' : Stream) × Spelled ((44, sp) ∷ []) m m' × DerivesPrefix table (row g h) t m' r
+DerivesPrefix table (ordered g h) (Order xs l ys) ts r = (m : Stream) × (chars xs ≡ less) × Spelled xs ts m
+    × (m' : Stream) × DerivesPrefix table (row g h) l m m' × (chars ys ≡ greater) × Spelled ys m' r
+DerivesPrefix table _ _ ts r = ⊥
 
 -- HOW A TREE PRINTS
 

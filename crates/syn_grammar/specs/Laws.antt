@@ -2,16 +2,16 @@
 use Rattle.std.specs.Prelude.{◌≡◌, ◌↔◌, true}
 use Rattle.syn_grammar.specs.Tokens.{Stream, end, ◌⧺◌, plain, visible}
 use Rattle.syn_grammar.specs.Rules.{Rule}
-use Rattle.syn_grammar.specs.Grammar.{Syntax, Reads, rule, print, normal, plain_syntax}
+use Rattle.syn_grammar.specs.Grammar.{Syntax, DerivesPrefix, rule, print, normal, plain_syntax}
 use Rattle.syn_grammar.specs.Table.{table}
 
 -- A derivation: the rule reads the whole token stream as this syntax tree.
 abbrev pub Derives : Rule → Stream → Syntax → Type 0
-Derives k ts s = Reads table (rule k) s ts end
+Derives k ts s = DerivesPrefix table (rule k) s ts end
 
 -- The grammar is unambiguous: from one token stream a rule reads at most one syntax tree, and leaves one rest.
 abbrev pub OneTree : Type 0
-OneTree = (k : Rule) (ts : Stream) (s t : Syntax) (r q : Stream) → Reads table (rule k) s ts r → Reads table (rule k) t ts q → (s ≡ t) × (r ≡ q)
+OneTree = (k : Rule) (ts : Stream) (s t : Syntax) (r q : Stream) → DerivesPrefix table (rule k) s ts r → DerivesPrefix table (rule k) t ts q → (s ≡ t) × (r ≡ q)
 
 -- Spans decide nothing: of two token streams that are equal but for their spans, a rule derives the second wherever it derives
 -- the first, and the trees are equal but for their spans.
@@ -44,4 +44,4 @@ SameForm = (k : Rule) (a b : Stream) (s t : Syntax) → Derives k a s → Derive
 
 -- This rule ends by itself, without lookahead at what follows: what it derives of a token stream, it reads of that stream before any other.
 abbrev pub EndsByItself : Rule → Type 0
-EndsByItself k = (a r : Stream) (s : Syntax) → Derives k a s → Reads table (rule k) s (a ⧺ r) r
+EndsByItself k = (a r : Stream) (s : Syntax) → Derives k a s → DerivesPrefix table (rule k) s (a ⧺ r) r

@@ -13,7 +13,7 @@ pub mod Codes
 pub mod TreeCodes
 pub mod Take
 pub mod Run
-pub mod Says
+pub mod Promises
 pub mod Computed
 pub mod Turns
 pub mod Same

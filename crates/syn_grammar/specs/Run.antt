@@ -214,28 +214,28 @@ run zero k ts = None
 run (suc n) k ts = wrap Node (runs (run n) (table k) ts)
 
 -- what a rule reads
-unfoldable pub reads : Rule → Parser
-reads k ts = run (suc (left ts * 256 + 255)) k ts
+unfoldable pub parse_rule : Rule → Parser
+parse_rule k ts = run (suc (left ts * 256 + 255)) k ts
 
 -- what a form reads
-abbrev pub parse : Grammar → Parser
-parse g = runs reads g
+abbrev pub parse_form : Grammar → Parser
+parse_form g = runs parse_rule g
 
 -- WHAT A RUST VALUE HOLDS OF A TREE: not how captured tokens were read, and not what is never printed; expressions and statements are built by their shapes
-abbrev pub held : Syntax → Syntax
-held (Both s t) = Both (held s) (held t)
-held (Left s) = Left (held s)
-held (Right s) = Right (held s)
-held (Node s) = Node (held s)
-held (Vanishing b s) = Vanishing b (pick b (Right Nothing) (held s))
-held (Group d o c s) = Group d o c (held s)
-held (Case k s) = Case k (held s)
-held (Such s) = Such (held s)
-held (Shaped j s) = shape j (held s)
-held (Impl l s) = Impl (held l) (held s)
-held (Unshown s) = Unshown (held s)
-held (Captured s i) = Captured Nothing i
-held (Last k s) = Last k (held s)
-held (More k s sp t) = More k (held s) sp (held t)
-held (Order xs l ys) = Order xs (held l) ys
-held s = s
+abbrev pub value_of : Syntax → Syntax
+value_of (Both s t) = Both (value_of s) (value_of t)
+value_of (Left s) = Left (value_of s)
+value_of (Right s) = Right (value_of s)
+value_of (Node s) = Node (value_of s)
+value_of (Vanishing b s) = Vanishing b (pick b (Right Nothing) (value_of s))
+value_of (Group d o c s) = Group d o c (value_of s)
+value_of (Case k s) = Case k (value_of s)
+value_of (Such s) = Such (value_of s)
+value_of (Shaped j s) = shape j (value_of s)
+value_of (Impl l s) = Impl (value_of l) (value_of s)
+value_of (Unshown s) = Unshown (value_of s)
+value_of (Captured s i) = Captured Nothing i
+value_of (Last k s) = Last k (value_of s)
+value_of (More k s sp t) = More k (value_of s) sp (value_of t)
+value_of (Order xs l ys) = Order xs (value_of l) ys
+value_of s = s

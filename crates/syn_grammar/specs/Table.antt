@@ -5,10 +5,10 @@
 -- A comment directly above a look or a rule says it in words.
 use Rattle.std.specs.Prelude.{[], ◌∷◌}
 use Rattle.syn_grammar.specs.Words.{w_crate, w_in, w_pub, w_Self_type, w_self, w_struct, w_super, comma, semicolon, equals, colons}
-use Rattle.syn_grammar.specs.Tokens.{Paren, Lone_word, Begins_in, Look, ended, at_word, at_mark, at_group, noted, ◌or_else◌, ◌and_also◌}
+use Rattle.syn_grammar.specs.Tokens.{Paren, Lone_word, Begins_in, Look, ended, at_word, at_mark, at_group, ahead, ◌or_else◌, ◌and_also◌}
 use Rattle.syn_grammar.specs.Rules.{Rule, module_path, module_words, visibility, restriction, type_path, type, unnamed_field, unnamed_fields, fields_unnamed, structure_body, structure, derive_input}
 use Rattle.syn_grammar.specs.Grammar.{name, word, name_or, Grammar, empty, ◌&◌, when◌then◌else◌, inside, one_of, rule, unshown}
-use Rattle.syn_grammar.specs.Forms.{plainly, asking, sign, asking_sign, never}
+use Rattle.syn_grammar.specs.Forms.{plainly, asking, punctuation, asking_punctuation, never}
 
 -- LOOKS: conditions on what stands next
 
@@ -30,7 +30,7 @@ at_paren = at_group Paren
 
 -- A group in parentheses stands next whose content is `crate`, `self` or `super` alone, or begins with `in`.
 abbrev pub at_restriction : Look
-at_restriction = at_paren and_also (noted Lone_word or_else noted Begins_in)
+at_restriction = at_paren and_also (ahead Lone_word or_else ahead Begins_in)
 
 -- RULES
 
@@ -38,14 +38,14 @@ abbrev pub table : Rule → Grammar
 --
 -- A path in module style: `::` where it stands next, and then the words of the path.
 table module_path =
-    (when at_colons then asking_sign colons else empty)
+    (when at_colons then asking_punctuation colons else empty)
     & rule module_words
 --
 -- The words of a path: an identifier that isn't a keyword, `self`, `Self`, `super` or `crate`;
 -- and where `::` stands next, that mark and the words that follow.
 table module_words =
     asking (name_or (w_self ∷ w_Self_type ∷ w_super ∷ w_crate ∷ []))
-    & (when at_colons then asking_sign colons & rule module_words else empty)
+    & (when at_colons then asking_punctuation colons & rule module_words else empty)
 --
 -- A visibility: `pub` with its restriction in parentheses, `pub` alone, or nothing. Parentheses belong to it
 -- where they hold `crate`, `self` or `super` alone, or begin with `in`; then they must hold a restriction. Any others are left.
@@ -80,7 +80,7 @@ table unnamed_field =
 table unnamed_fields =
     when ended
     then empty
-    else rule unnamed_field & (when at_comma then sign comma & rule unnamed_fields else empty)
+    else rule unnamed_field & (when at_comma then punctuation comma & rule unnamed_fields else empty)
 --
 -- The fields of a tuple struct, in parentheses.
 table fields_unnamed =
@@ -89,8 +89,8 @@ table fields_unnamed =
 -- What follows a struct's name: its fields in parentheses and `;`, or `;` alone.
 table structure_body =
     when at_paren
-    then rule fields_unnamed & sign semicolon
-    else sign semicolon
+    then rule fields_unnamed & punctuation semicolon
+    else punctuation semicolon
 --
 -- A struct: a visibility, `struct`, a name and a body.
 -- Generics that a tree made by hand holds are not printed.

@@ -1,7 +1,7 @@
 -- WHAT IS TAKEN FROM THE FRONT OF A STREAM, a token or a group at a time. The computed reading looks into streams by these alone.
 use Rattle.std.specs.Prelude.{ℕ, zero, suc, ◌-◌, Bool, true, false, List, [], ◌∷◌, nat_eq, nat_lt, Option, Some, None}
 use Rattle.syn_grammar.specs.Words.{Text}
-use Rattle.syn_grammar.specs.Tokens.{Span, Delimiter, delimiter_number, ident, Stream, end, leaf, punct, group, weight, Front, Look, answers, class}
+use Rattle.syn_grammar.specs.Tokens.{Span, Delimiter, delimiter_number, ident, Stream, end, leaf, punct, group, weight, Lookahead, Look, answers, lookahead}
 use Rattle.syn_grammar.specs.Grammar.{Kind, fits, Syntax, Token, Mark, Lifetime}
 
 -- what is read, and what is left
@@ -26,13 +26,13 @@ unfoldable pub is_end : Stream → Bool
 is_end end = true
 is_end _ = false
 
--- the front of the stream
-unfoldable pub at_front : Stream → Front
-at_front ts = class ts
+-- the lookahead of the stream
+unfoldable pub lookahead_at : Stream → Lookahead
+lookahead_at ts = lookahead ts
 
 -- the look holds of what stands next
 unfoldable pub sees : Look → Stream → Bool
-sees c ts = answers c (at_front ts)
+sees c ts = answers c (lookahead_at ts)
 
 -- one token of this kind
 unfoldable pub take_token : Kind → Parser

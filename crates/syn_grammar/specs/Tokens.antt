@@ -97,50 +97,50 @@ begins_text [] m = true
 begins_text (x ∷ l) [] = false
 begins_text (x ∷ l) (y ∷ m) = and (nat_eq x y) (begins_text l m)
 
--- THE FRONT OF A STREAM: the face of its first token tree, and notes of what stands behind or inside it
+-- THE LOOKAHEAD OF A STREAM: the terminal of its first token tree, and facts of what stands behind or inside it
 
 -- What the first token tree is.
-pub data Face : Type 0 where
-  Ended : Face  -- there is none
-  Name : Face  -- an identifier whose text no rule asks for
-  Word : Text → Face  -- an identifier whose text some rule asks for
-  Sign : Text → Face  -- a punctuation character: the longest mark that begins there
-  Literal : LitKind → Face
-  Holds : Delimiter → Face  -- a group
+pub data Terminal : Type 0 where
+  Ended : Terminal  -- there is none
+  Name : Terminal  -- an identifier whose text no rule asks for
+  Word : Text → Terminal  -- an identifier whose text some rule asks for
+  Punctuation : Text → Terminal  -- a punctuation character: the longest mark that begins there
+  Literal : LitKind → Terminal
+  Delimited : Delimiter → Terminal  -- a group
 
--- Notes: what the front of a stream tells besides its face. A token notes something only where `asked` says so, so that the
--- front depends on the next one alone and lookahead stays short.
-pub data Next : Type 0 where
-  Before_equals : Next  -- an identifier: `=` follows it
-  Before_end : Next  -- `crate`, `self` or `super`: nothing follows it
-  Before_colons : Next  -- a word of a path: `::` follows it
-  Before_paren : Next  -- an identifier: a group in parentheses follows it
-  Before_less : Next  -- an identifier: `<` follows it
-  Before_bang : Next  -- `#`: `!` follows it
-  Before_type_rest : Next  -- an identifier: what may go on a type follows it (`::`, `<`, arguments in parentheses, or `as`)
-  Before_own_self : Next  -- `mut`: `self` follows it, and no `::` behind that
-  Before_parameter : Next  -- `<`: `>` or a parameter of generics follows it
-  Begins_item : Next  -- a word that begins an item in a block only with what follows it
-  Not_item : Next  -- a word that begins no item in a block because of what follows it
-  Bang_brace : Next  -- a path or `!`: `!` and a group in braces follow the path, or this group follows `!`
-  Bang_name : Next  -- the same with an identifier that isn't a keyword, or `try`, in place of the group
-  Bang_group : Next  -- the same with a group in parentheses or brackets
-  Lone_word : Next  -- a group in parentheses: its content is `crate`, `self` or `super` alone
-  Begins_in : Next  -- a group in parentheses: its content begins with `in`
+-- Facts: what the lookahead of a stream tells besides its terminal. A token tells something only where `asked` says so, so that the
+-- lookahead depends on the next one alone and lookahead stays short.
+pub data Fact : Type 0 where
+  Before_equals : Fact  -- an identifier: `=` follows it
+  Before_end : Fact  -- `crate`, `self` or `super`: nothing follows it
+  Before_colons : Fact  -- a word of a path: `::` follows it
+  Before_paren : Fact  -- an identifier: a group in parentheses follows it
+  Before_less : Fact  -- an identifier: `<` follows it
+  Before_bang : Fact  -- `#`: `!` follows it
+  Before_type_rest : Fact  -- an identifier: what may go on a type follows it (`::`, `<`, arguments in parentheses, or `as`)
+  Before_own_self : Fact  -- `mut`: `self` follows it, and no `::` behind that
+  Before_parameter : Fact  -- `<`: `>` or a parameter of generics follows it
+  Begins_item : Fact  -- a word that begins an item in a block only with what follows it
+  Not_item : Fact  -- a word that begins no item in a block because of what follows it
+  Bang_brace : Fact  -- a path or `!`: `!` and a group in braces follow the path, or this group follows `!`
+  Bang_name : Fact  -- the same with an identifier that isn't a keyword, or `try`, in place of the group
+  Bang_group : Fact  -- the same with a group in parentheses or brackets
+  Lone_word : Fact  -- a group in parentheses: its content is `crate`, `self` or `super` alone
+  Begins_in : Fact  -- a group in parentheses: its content begins with `in`
 
--- every note
-abbrev pub every_note : List Next
-every_note =
+-- every fact
+abbrev pub every_fact : List Fact
+every_fact =
     Before_equals ∷ Before_end ∷ Before_colons ∷ Before_paren ∷ Before_less ∷ Before_bang ∷ Before_type_rest ∷ Before_own_self
     ∷ Before_parameter ∷ Begins_item ∷ Not_item ∷ Bang_brace ∷ Bang_name ∷ Bang_group ∷ Lone_word ∷ Begins_in ∷ []
 
--- The front of a stream.
-pub record Front : Type 0 where
-  pub face : Face
-  pub notes : List Next  -- all that it tells
+-- The lookahead of a stream.
+pub record Lookahead : Type 0 where
+  pub terminal : Terminal
+  pub facts : List Fact  -- all that it tells
 
-abbrev pub front : Face → List Next → Front
-front f l = record { face = f; notes = l }
+abbrev pub lookahead_with : Terminal → List Fact → Lookahead
+lookahead_with f l = record { terminal = f; facts = l }
 
 abbrev pub delimiter_number : Delimiter → ℕ
 delimiter_number Paren = 0
@@ -157,45 +157,45 @@ kind_number Char = 4
 kind_number Int = 5
 kind_number Float = 6
 
-abbrev pub next_number : Next → ℕ
-next_number Before_equals = 0
-next_number Before_end = 1
-next_number Before_colons = 2
-next_number Before_paren = 3
-next_number Before_less = 4
-next_number Before_bang = 5
-next_number Before_type_rest = 6
-next_number Before_own_self = 7
-next_number Before_parameter = 8
-next_number Begins_item = 9
-next_number Not_item = 10
-next_number Bang_brace = 11
-next_number Bang_name = 12
-next_number Bang_group = 13
-next_number Lone_word = 14
-next_number Begins_in = 15
+abbrev pub fact_number : Fact → ℕ
+fact_number Before_equals = 0
+fact_number Before_end = 1
+fact_number Before_colons = 2
+fact_number Before_paren = 3
+fact_number Before_less = 4
+fact_number Before_bang = 5
+fact_number Before_type_rest = 6
+fact_number Before_own_self = 7
+fact_number Before_parameter = 8
+fact_number Begins_item = 9
+fact_number Not_item = 10
+fact_number Bang_brace = 11
+fact_number Bang_name = 12
+fact_number Bang_group = 13
+fact_number Lone_word = 14
+fact_number Begins_in = 15
 
-abbrev pub same_next : Next → Next → Bool
-same_next a b = nat_eq (next_number a) (next_number b)
+abbrev pub same_fact : Fact → Fact → Bool
+same_fact a b = nat_eq (fact_number a) (fact_number b)
 
-abbrev pub tells : Next → List Next → Bool
-tells n [] = false
-tells n (m ∷ l) = or (same_next n m) (tells n l)
+abbrev pub has_fact : Fact → List Fact → Bool
+has_fact n [] = false
+has_fact n (m ∷ l) = or (same_fact n m) (has_fact n l)
 
-abbrev pub same_face : Face → Face → Bool
-same_face Ended Ended = true
-same_face Name Name = true
-same_face (Word x) (Word y) = same_text x y
-same_face (Sign x) (Sign y) = same_text x y
-same_face (Literal a) (Literal b) = nat_eq (kind_number a) (kind_number b)
-same_face (Holds a) (Holds b) = nat_eq (delimiter_number a) (delimiter_number b)
-same_face _ _ = false
+abbrev pub same_terminal : Terminal → Terminal → Bool
+same_terminal Ended Ended = true
+same_terminal Name Name = true
+same_terminal (Word x) (Word y) = same_text x y
+same_terminal (Punctuation x) (Punctuation y) = same_text x y
+same_terminal (Literal a) (Literal b) = nat_eq (kind_number a) (kind_number b)
+same_terminal (Delimited a) (Delimited b) = nat_eq (delimiter_number a) (delimiter_number b)
+same_terminal _ _ = false
 
-abbrev pub mem : Face → List Face → Bool
+abbrev pub mem : Terminal → List Terminal → Bool
 mem a [] = false
-mem a (x ∷ l) = or (same_face a x) (mem a l)
+mem a (x ∷ l) = or (same_terminal a x) (mem a l)
 
--- LOOKS: conditions on the front of a stream, by which forms choose
+-- LOOKS: conditions on the lookahead of a stream, by which forms choose
 
 pub data Look : Type 0 where
   ended : Look  -- nothing stands next: the end of the stream or of the group's content
@@ -204,63 +204,63 @@ pub data Look : Type 0 where
   at_mark : Text → Look  -- this mark stands next: its characters, all but the last Joint; the spacing of the last isn't looked at
   at_literal : LitKind → Look  -- a literal of this kind stands next
   at_group : Delimiter → Look  -- a group with this delimiter stands next
-  noted : Next → Look  -- the front tells this note
+  ahead : Fact → Look  -- the lookahead tells this fact
   ◌or_else◌ ◌and_also◌ ◌but_not◌ : Look → Look → Look  -- one or the other; both; the first and not the second
 
 infixr 30 ◌or_else◌
 infixr 35 ◌and_also◌
 infixr 35 ◌but_not◌
-abbrev pub is_ended : Face → Bool
+abbrev pub is_ended : Terminal → Bool
 is_ended Ended = true
 is_ended _ = false
 
-abbrev pub is_name : Face → Bool
+abbrev pub is_name : Terminal → Bool
 is_name Name = true
 is_name (Word x) = one_of_texts x contextual
 is_name _ = false
 
-abbrev pub is_word : Text → Face → Bool
+abbrev pub is_word : Text → Terminal → Bool
 is_word x (Word y) = same_text x y
 is_word x _ = false
 
-abbrev pub starts_mark : Text → Face → Bool
-starts_mark x (Sign y) = begins_text x y
+abbrev pub starts_mark : Text → Terminal → Bool
+starts_mark x (Punctuation y) = begins_text x y
 starts_mark x _ = false
 
-abbrev pub is_literal : LitKind → Face → Bool
+abbrev pub is_literal : LitKind → Terminal → Bool
 is_literal k (Literal l) = nat_eq (kind_number k) (kind_number l)
 is_literal k _ = false
 
-abbrev pub is_group : Delimiter → Face → Bool
-is_group d (Holds e) = nat_eq (delimiter_number d) (delimiter_number e)
+abbrev pub is_group : Delimiter → Terminal → Bool
+is_group d (Delimited e) = nat_eq (delimiter_number d) (delimiter_number e)
 is_group d _ = false
 
--- the front meets the look
-abbrev pub answers : Look → Front → Bool
-answers ended f = is_ended f.face
-answers at_name f = is_name f.face
-answers (at_word x) f = is_word x f.face
-answers (at_mark x) f = starts_mark x f.face
-answers (at_literal k) f = is_literal k f.face
-answers (at_group d) f = is_group d f.face
-answers (noted n) f = tells n f.notes
+-- the lookahead meets the look
+abbrev pub answers : Look → Lookahead → Bool
+answers ended f = is_ended f.terminal
+answers at_name f = is_name f.terminal
+answers (at_word x) f = is_word x f.terminal
+answers (at_mark x) f = starts_mark x f.terminal
+answers (at_literal k) f = is_literal k f.terminal
+answers (at_group d) f = is_group d f.terminal
+answers (ahead n) f = has_fact n f.facts
 answers (a or_else b) f = or (answers a f) (answers b f)
 answers (a and_also b) f = and (answers a f) (answers b f)
 answers (a but_not b) f = and (answers a f) (no (answers b f))
 
--- THE FRONT OF A STREAM, from right to left
+-- THE LOOKAHEAD OF A STREAM, from right to left
 
--- what a token asks of the front behind it: each look that this front meets is told as the note beside it
+-- what a token asks of the lookahead behind it: each look that this lookahead meets is told as the fact beside it
 abbrev pub Asked : Type 0
-Asked = List (Look × Next)
+Asked = List (Look × Fact)
 
 -- a parameter of generics stands next: `#`, a lifetime, `const`, or an identifier that no type goes on from
 abbrev pub at_parameter : Look
-at_parameter = at_mark pound or_else at_mark apostrophe or_else at_word w_const or_else at_name but_not noted Before_type_rest
+at_parameter = at_mark pound or_else at_mark apostrophe or_else at_word w_const or_else at_name but_not ahead Before_type_rest
 
 -- generics stand next, in a place where a type may stand too: `<` (and not `<=` or `<<`) and then `>` or a parameter
 abbrev pub at_generics : Look
-at_generics = (at_mark less but_not (at_mark less_equals or_else at_mark less_less)) and_also noted Before_parameter
+at_generics = (at_mark less but_not (at_mark less_equals or_else at_mark less_less)) and_also ahead Before_parameter
 
 -- a word of a path stands next: an identifier that isn't a keyword, `self`, `Self`, `super` or `crate`
 abbrev pub at_path_word : Look
@@ -272,7 +272,7 @@ at_path_rest = at_mark colons or_else at_mark exclamation but_not at_mark not_eq
 
 -- what stands behind the `!` of a path that goes on so
 abbrev pub asked_of_path : Look → Asked
-asked_of_path c = (c and_also noted Bang_brace, Bang_brace) ∷ (c and_also noted Bang_name, Bang_name) ∷ (c and_also noted Bang_group, Bang_group) ∷ []
+asked_of_path c = (c and_also ahead Bang_brace, Bang_brace) ∷ (c and_also ahead Bang_name, Bang_name) ∷ (c and_also ahead Bang_group, Bang_group) ∷ []
 
 -- what a word of a path asks
 abbrev pub asked_by_path_word : Asked
@@ -287,10 +287,10 @@ asked_by_name = (at_mark equals, Before_equals) ∷ (at_group Paren, Before_pare
 abbrev pub asked_by_word : Text → Asked
 asked_by_word x = pick (one_of_texts x (w_crate ∷ w_self ∷ w_super ∷ [])) ((ended, Before_end) ∷ asked_by_path_word)
     (pick (same_text x w_Self_type) asked_by_path_word
-    (pick (same_text x w_mut) ((at_word w_self but_not noted Before_colons, Before_own_self) ∷ [])
+    (pick (same_text x w_mut) ((at_word w_self but_not ahead Before_colons, Before_own_self) ∷ [])
     (pick (same_text x w_static) ((at_word w_mut or_else at_name, Begins_item) ∷ [])
     (pick (same_text x w_async) ((at_word w_unsafe or_else at_word w_extern or_else at_word w_fn, Begins_item) ∷ [])
-    (pick (same_text x w_const) ((at_group Brace or_else at_word w_static or_else at_word w_move or_else at_mark bar or_else at_word w_async but_not noted Begins_item, Not_item) ∷ [])
+    (pick (same_text x w_const) ((at_group Brace or_else at_word w_static or_else at_word w_move or_else at_mark bar or_else at_word w_async but_not ahead Begins_item, Not_item) ∷ [])
     (pick (same_text x w_unsafe) ((at_group Brace, Not_item) ∷ [])
     (pick (same_text x w_union) ((at_name, Begins_item) ∷ asked_by_name)
     (pick (same_text x w_auto) ((at_word w_trait, Begins_item) ∷ asked_by_name)
@@ -304,65 +304,65 @@ asked_by_mark x = pick (same_text x exclamation) ((at_group Brace, Bang_brace) �
     (pick (same_text x pound) ((at_mark exclamation, Before_bang) ∷ [])
     (pick (same_text x less) ((at_mark greater or_else at_parameter, Before_parameter) ∷ []) [])))
 
--- what the first token tree asks of what stands behind it: each of these that holds is noted
-abbrev pub asked : Face → Asked
+-- what the first token tree asks of what stands behind it: each of these that holds is told
+abbrev pub asked : Terminal → Asked
 asked Name = asked_by_name
 asked (Word x) = asked_by_word x
-asked (Sign x) = asked_by_mark x
+asked (Punctuation x) = asked_by_mark x
 asked _ = []
 
 -- what a group asks of its content
 abbrev pub asked_inside : Delimiter → Asked
-asked_inside Paren = ((at_word w_crate or_else at_word w_self or_else at_word w_super) and_also noted Before_end, Lone_word) ∷ (at_word w_in, Begins_in) ∷ []
+asked_inside Paren = ((at_word w_crate or_else at_word w_self or_else at_word w_super) and_also ahead Before_end, Lone_word) ∷ (at_word w_in, Begins_in) ∷ []
 asked_inside _ = []
 
--- the notes of those looks that the front behind meets
-abbrev pub note : Asked → Front → List Next
-note [] f = []
-note (p ∷ l) f = pick (answers p.0 f) (p.1 ∷ note l f) (note l f)
+-- the facts of those looks that the lookahead behind meets
+abbrev pub facts_for : Asked → Lookahead → List Fact
+facts_for [] f = []
+facts_for (p ∷ l) f = pick (answers p.0 f) (p.1 ∷ facts_for l f) (facts_for l f)
 
--- the face of an identifier or a literal
-abbrev pub leaf_face : Leaf → Face
-leaf_face (ident x) = pick (one_of_texts x (keywords ++ contextual)) (Word x) Name
-leaf_face (literal k x) = Literal k
+-- the terminal of an identifier or a literal
+abbrev pub leaf_terminal : Leaf → Terminal
+leaf_terminal (ident x) = pick (one_of_texts x (keywords ++ contextual)) (Word x) Name
+leaf_terminal (literal k x) = Literal k
 
 -- the longest mark that this text begins with
 abbrev pub longest : List Text → Text → Text → Text
 longest [] x one = one
 longest (m ∷ l) x one = pick (begins_text m x) m (longest l x one)
 
--- the longest mark that a Joint character begins before this face
-abbrev pub join : ℕ → Face → Face
-join c (Sign l) = Sign (longest long_marks (c ∷ l) (c ∷ []))
-join c _ = Sign (c ∷ [])
+-- the longest mark that a Joint character begins before this terminal
+abbrev pub join : ℕ → Terminal → Terminal
+join c (Punctuation l) = Punctuation (longest long_marks (c ∷ l) (c ∷ []))
+join c _ = Punctuation (c ∷ [])
 
--- the face of a punctuation character before this face
-abbrev pub char_face : ℕ → Bool → Face → Face
-char_face c true f = join c f
-char_face c false f = Sign (c ∷ [])
+-- the terminal of a punctuation character before this terminal
+abbrev pub char_terminal : ℕ → Bool → Terminal → Terminal
+char_terminal c true f = join c f
+char_terminal c false f = Punctuation (c ∷ [])
 
 -- of a mark of one character alone
-abbrev pub lone_notes : Face → List Next → List Next
-lone_notes (Sign (x ∷ [])) l = l
-lone_notes _ l = []
+abbrev pub lone_facts : Terminal → List Fact → List Fact
+lone_facts (Punctuation (x ∷ [])) l = l
+lone_facts _ l = []
 
--- a mark of one character notes what stands behind it, a mark of two what its second character does
-abbrev pub sign_notes : ℕ → Face → Front → List Next
-sign_notes c (Sign (x ∷ [])) f = note (asked (Sign (c ∷ []))) f
-sign_notes c (Sign (x ∷ y ∷ [])) f = lone_notes f.face f.notes
-sign_notes c _ f = []
+-- a mark of one character tells what stands behind it, a mark of two what its second character does
+abbrev pub punctuation_facts : ℕ → Terminal → Lookahead → List Fact
+punctuation_facts c (Punctuation (x ∷ [])) f = facts_for (asked (Punctuation (c ∷ []))) f
+punctuation_facts c (Punctuation (x ∷ y ∷ [])) f = lone_facts f.terminal f.facts
+punctuation_facts c _ f = []
 
--- the front of a punctuation character before this front
-abbrev pub sign_front : ℕ → Bool → Front → Front
-sign_front c j f = front (char_face c j f.face) (sign_notes c (char_face c j f.face) f)
+-- the lookahead of a punctuation character before this lookahead
+abbrev pub punctuation_lookahead : ℕ → Bool → Lookahead → Lookahead
+punctuation_lookahead c j f = lookahead_with (char_terminal c j f.terminal) (punctuation_facts c (char_terminal c j f.terminal) f)
 
--- the front of a stream
-abbrev pub class : Stream → Front
-class end = front Ended []
-class (leaf x sp m) = front (leaf_face x) (note (asked (leaf_face x)) (class m))
-class (punct c j sp m) = sign_front c j (class m)
-class (group d o c i m) = front (Holds d) (note (asked_inside d) (class i))
+-- the lookahead of a stream
+abbrev pub lookahead : Stream → Lookahead
+lookahead end = lookahead_with Ended []
+lookahead (leaf x sp m) = lookahead_with (leaf_terminal x) (facts_for (asked (leaf_terminal x)) (lookahead m))
+lookahead (punct c j sp m) = punctuation_lookahead c j (lookahead m)
+lookahead (group d o c i m) = lookahead_with (Delimited d) (facts_for (asked_inside d) (lookahead i))
 
--- the look holds of the front of this stream
+-- the look holds of the lookahead of this stream
 abbrev pub stands : Look → Stream → Bool
-stands c ts = answers c (class ts)
+stands c ts = answers c (lookahead ts)

@@ -60,7 +60,7 @@ chained s = Shaped chain s
 -- some attributes before others
 abbrev pub attributes_before : Syntax → Syntax → Syntax
 attributes_before (Node (Right Nothing)) b = b
-attributes_before (Node (Left (Both sign (Both brackets more)))) b = Node (Left (Both sign (Both brackets (attributes_before more b))))
+attributes_before (Node (Left (Both punctuation (Both brackets more)))) b = Node (Left (Both punctuation (Both brackets (attributes_before more b))))
 attributes_before a b = Both a b
 
 -- attributes before an expression's own

@@ -1,34 +1,34 @@
 //! The laws of the computed reading, each the contract of a function that takes, gives and does nothing.
 //! Their statements stand in specs/Computed.antt.
 
-ghost use Rattle.syn_grammar.specs.Computed.{ReadsMeans, ReadsForms, ReadsRows, ReadsOnward, HeldPrints, OneValue, CapturedIsSome};
+ghost use Rattle.syn_grammar.specs.Computed.{ParseMeans, ParseForms, ParseRows, ParseOnward, ValuePrints, OneValue, CapturedIsSome};
 
 /// The computed reading answers exactly what the grammar derives: a value and a rest where a tree is
 /// read of which the value holds this, and nothing where no tree is read. Holds of every visible
 /// token stream (one without invisible groups at any depth).
-pub fn reads_means()
-    ensures as_derived { ReadsMeans }
+pub fn parse_means()
+    ensures as_derived { ParseMeans }
 {}
 
 /// What is computed of a rule is what is computed of its form. Holds of every token stream.
-pub fn reads_forms()
-    ensures by_form { ReadsForms }
+pub fn parse_forms()
+    ensures by_form { ParseForms }
 {}
 
 /// What is computed of a comma list is one member, and then a list. Holds of every token stream.
-pub fn reads_rows()
-    ensures one_step { ReadsRows }
+pub fn parse_rows()
+    ensures one_step { ParseRows }
 {}
 
 /// The computed reading leaves no more tokens, counted at every depth, than there were. Holds of every
 /// token stream.
-pub fn reads_onward()
-    ensures no_more_left { ReadsOnward }
+pub fn parse_onward()
+    ensures no_more_left { ParseOnward }
 {}
 
 /// What a value holds of a syntax tree prints as the tree does. Holds of every tree.
-pub fn held_prints()
-    ensures same_print { HeldPrints }
+pub fn value_prints()
+    ensures same_print { ValuePrints }
 {}
 
 /// From one token stream each rule reads trees of at most one value, and leaves one rest. Holds of

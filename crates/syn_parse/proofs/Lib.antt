@@ -1,5 +1,5 @@
 pub mod Errors
-pub mod Fronts
+pub mod FirstTokens
 pub mod Listing
 pub mod Literals
 pub mod Lookaheads

@@ -3,12 +3,12 @@ use Rattle.std.proofs.Common.{◌≡◌, false, true, [], ◌∷◌, refl, ap, a
 use Rattle.syn_grammar.specs.Words.{Text}
 use Rattle.syn_grammar.specs.Tokens.{Span, LitKind, Str, ByteStr, CStr, Byte, Char, Int, Float, literal, Stream, leaf, or, Look, at_literal, ◌or_else◌}
 use Rattle.syn_grammar.specs.Grammar.{literal_of}
-use Rattle.syn_grammar.specs.Take.{at_front, sees, taken}
+use Rattle.syn_grammar.specs.Take.{lookahead_at, sees, taken}
 use Rattle.syn_grammar.proofs.Looks.{sees_or, sees_literal}
-use Rattle.syn_parse.specs.Fronts.{at_any_literal, NoLiteral}
+use Rattle.syn_parse.specs.FirstTokens.{at_any_literal, NoLiteral}
 
 pub literal_seen : (k : LitKind) (x : Text) (sp : Span) (r : Stream) → sees at_any_literal (leaf (literal k x) sp r) ≡ true
-unfolding sees at_front
+unfolding sees lookahead_at
 literal_seen Str x sp r = refl
 literal_seen ByteStr x sp r = refl
 literal_seen CStr x sp r = refl

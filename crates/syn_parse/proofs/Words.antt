@@ -8,7 +8,7 @@ use Rattle.syn_grammar.proofs.Sets.{same_text_eq}
 use Rattle.syn_tokens.specs.Idents.{is_keyword}
 use Rattle.syn_tokens.specs.Leaves.{is_known_word}
 use Rattle.syn_parse.specs.Form.{take_keyword}
-use Rattle.syn_parse.specs.Fronts.{NoIdent}
+use Rattle.syn_parse.specs.FirstTokens.{NoIdent}
 
 or_assoc : (a b c : Bool) → or (or a b) c ≡ or a (or b c)
 or_assoc true b c = refl

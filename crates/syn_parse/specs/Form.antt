@@ -9,14 +9,14 @@ use Rattle.syn_grammar.specs.Table.{table}
 use Rattle.syn_grammar.specs.Take.{Out, Parser, only, left, sees, take_mark, take_group, taken}
 use Rattle.syn_grammar.specs.Run as run
 use Rattle.syn_grammar.specs.Run.{and_then, branch, within}
-use Rattle.syn_grammar.specs.Says as says
-use Rattle.syn_grammar.specs.Says.{Holds, HoldsWhole, itself}
-use Rattle.syn_grammar.proofs.Heads.{passes}
+use Rattle.syn_grammar.specs.Promises as says
+use Rattle.syn_grammar.specs.Promises.{DerivesValue, DerivesWholeValue, itself}
+use Rattle.syn_grammar.proofs.FirstSets.{nullable}
 use Rattle.syn_grammar.proofs.Said.{start_of}
 use Rattle.syn_grammar.proofs.Apart.{sound}
 use Rattle.syn_tokens.specs.Lists.{Sequence}
 use Rattle.syn_tokens.specs.Listing.{list_of}
-use Rattle.syn_parse.specs.Terminated.{terminated, ReadsList}
+use Rattle.syn_parse.specs.Terminated.{terminated, DerivesList}
 
 -- WHAT STANDS NEXT
 
@@ -70,7 +70,7 @@ if_tree q None = None
 
 -- AS IT IS COMPUTED: a tree and what is left, or none
 abbrev pub parse : Form → Parser
-parse (of g) = run.parse g
+parse (of g) = run.parse_form g
 parse (keyword x) = take_keyword x
 parse (f followed_by g) = λ ts. and_then (parse f ts) (parse g)
 parse (choice c f g) = λ ts. branch (meets c ts) (parse f ts) (parse g ts)
@@ -80,24 +80,24 @@ parse (such_that q f) = λ ts. if_tree q (parse f ts)
 
 -- IN THE WORDS OF THE GRAMMAR: from the stream ts the form reads a tree of which the value holds s, and r is left
 abbrev pub Derives : Form → Syntax → Stream → Stream → Type 0
-Derives (of g) s ts r = Holds g s ts r
+Derives (of g) s ts r = DerivesValue g s ts r
 Derives (keyword x) s ts r = (sp : Span) × (s ≡ Token (ident x) sp) × (ts ≡ leaf (ident x) sp r)
 Derives (f followed_by g) s ts r = (a b : Syntax) × (m : Stream) × (s ≡ Both a b) × Derives f a ts m × Derives g b m r
 Derives (choice c f g) s ts r =
     ((a : Syntax) × (stands_next c ts ≡ true) × (s ≡ Left a) × Derives f a ts r)
     ⊎ ((a : Syntax) × (stands_next c ts ≡ false) × (s ≡ Right a) × Derives g a ts r)
 Derives (in_group d f) s ts r = (o c : Span) × (content : Stream) × (a : Syntax) × (s ≡ Group d o c a) × (ts ≡ group d o c content r) × Derives f a content end
-Derives (list f g) s ts r = (l : Sequence Syntax Syntax) × (s ≡ list_of itself itself l.pairs l.last) × (r ≡ end) × ReadsList (Derives f) (Derives g) itself itself l.pairs l.last ts
+Derives (list f g) s ts r = (l : Sequence Syntax Syntax) × (s ≡ list_of itself itself l.pairs l.last) × (r ≡ end) × DerivesList (Derives f) (Derives g) itself itself l.pairs l.last ts
 Derives (such_that q f) s ts r = (q s ≡ true) × Derives f s ts r
 
 -- the form reads nothing here
-abbrev pub Unread : Form → Stream → Type 0
-Unread (of g) ts = says.Unread g ts
-Unread f ts = (s : Syntax) (r : Stream) → Derives f s ts r → ⊥
+abbrev pub NotDerived : Form → Stream → Type 0
+NotDerived (of g) ts = says.NotDerived g ts
+NotDerived f ts = (s : Syntax) (r : Stream) → Derives f s ts r → ⊥
 
 -- by the form some token is read, by its parts alone
 abbrev pub reads_some : Form → Bool
-reads_some (of g) = no (passes start_of g)
+reads_some (of g) = no (nullable start_of g)
 reads_some (keyword x) = true
 reads_some (f followed_by g) = or (reads_some f) (reads_some g)
 reads_some (choice c f g) = and (reads_some f) (reads_some g)
@@ -118,39 +118,39 @@ is_sound (such_that q f) = is_sound f
 -- WHAT IS COMPUTED IS WHAT IS READ, on visible streams; and on every stream no more tokens are left
 pub record Meaning (f : Form) : Type 0 where
   pub derived : (ts : Stream) → visible ts ≡ true → (s : Syntax) (r : Stream) → (parse f ts ≡ Some (s, r)) ↔ Derives f s ts r
-  pub refused : (ts : Stream) → visible ts ≡ true → (parse f ts ≡ None) ↔ Unread f ts
+  pub refused : (ts : Stream) → visible ts ≡ true → (parse f ts ≡ None) ↔ NotDerived f ts
   pub kept : (ts : Stream) (s : Syntax) (r : Stream) → parse f ts ≡ Some (s, r) → left r ≤ left ts
 
 -- by it some token is read: fewer are left
-abbrev pub ReadsSome : Form → Type 0
-ReadsSome f = (ts : Stream) (x : Syntax × Stream) → parse f ts ≡ Some x → left x.1 < left ts
+abbrev pub ParsesSome : Form → Type 0
+ParsesSome f = (ts : Stream) (x : Syntax × Stream) → parse f ts ≡ Some x → left x.1 < left ts
 
 -- WHAT IS PROMISED TO CALLERS
 
 -- on visible streams an answer is what the form reads, and a refusal is one of a stream from which it reads nothing; after an error all is left
 abbrev pub Outcome : {X E : Type 0} → (E → Type 0) → (X → Syntax) → Form → Stream → Result X E → Stream → Type 0
 Outcome refusal view f old (Ok x) new = visible old ≡ true → Derives f (view x) old new
-Outcome refusal view f old (Err e) new = (new ≡ old) × (visible old ≡ true → refusal e → Unread f old)
+Outcome refusal view f old (Err e) new = (new ≡ old) × (visible old ≡ true → refusal e → NotDerived f old)
 
 -- the whole stream is read by the form as a tree of which the value holds this
 abbrev pub DerivesWhole : Form → Syntax → Stream → Type 0
 DerivesWhole f s ts = Derives f s ts end
 
 -- the whole stream is read by the form as no tree
-abbrev pub UnreadWhole : Form → Stream → Type 0
-UnreadWhole (of g) ts = says.UnreadWhole g ts
-UnreadWhole f ts = (s : Syntax) → Derives f s ts end → ⊥
+abbrev pub NotDerivedWhole : Form → Stream → Type 0
+NotDerivedWhole (of g) ts = says.NotDerivedWhole g ts
+NotDerivedWhole f ts = (s : Syntax) → Derives f s ts end → ⊥
 
 -- the same of a whole stream
 abbrev pub WholeOutcome : {X E : Type 0} → (E → Type 0) → (X → Syntax) → Form → Stream → Result X E → Type 0
 WholeOutcome refusal view f ts (Ok x) = visible ts ≡ true → DerivesWhole f (view x) ts
-WholeOutcome refusal view f ts (Err e) = visible ts ≡ true → refusal e → UnreadWhole f ts
+WholeOutcome refusal view f ts (Err e) = visible ts ≡ true → refusal e → NotDerivedWhole f ts
 
 -- the stream is no list of these elements and separators
-abbrev pub UnreadList : Form → Form → Stream → Type 0
-UnreadList f g ts = (l : Sequence Syntax Syntax) → ReadsList (Derives f) (Derives g) itself itself l.pairs l.last ts → ⊥
+abbrev pub NotDerivedList : Form → Form → Stream → Type 0
+NotDerivedList f g ts = (l : Sequence Syntax Syntax) → DerivesList (Derives f) (Derives g) itself itself l.pairs l.last ts → ⊥
 
 -- on visible streams an answer is such a list, and a refusal is one of a stream that is none
 abbrev pub ListOutcome : {T P E : Type 0} → (E → Type 0) → (T → Syntax) → (P → Syntax) → Form → Form → Stream → Result (Sequence T P) E → Type 0
-ListOutcome refusal view sign f g ts (Ok l) = visible ts ≡ true → ReadsList (Derives f) (Derives g) view sign l.pairs l.last ts
-ListOutcome refusal view sign f g ts (Err e) = visible ts ≡ true → refusal e → UnreadList f g ts
+ListOutcome refusal view sign f g ts (Ok l) = visible ts ≡ true → DerivesList (Derives f) (Derives g) view sign l.pairs l.last ts
+ListOutcome refusal view sign f g ts (Err e) = visible ts ≡ true → refusal e → NotDerivedList f g ts

@@ -1,6 +1,6 @@
 pub mod Calls
 pub mod Form
-pub mod Fronts
+pub mod FirstTokens
 pub mod Listing
 pub mod Looked
 pub mod Meanings

@@ -5,22 +5,22 @@ use Rattle.syn_grammar.specs.Tokens.{Stream}
 use Rattle.syn_grammar.specs.Rules.{Rule}
 use Rattle.syn_grammar.specs.Grammar.{Syntax, Nothing, Node}
 use Rattle.syn_grammar.specs.Take.{Out, left}
-use Rattle.syn_grammar.specs.Run.{reads, wrap, and_then, branch}
-use Rattle.syn_grammar.specs.Says.{Says, Moved}
+use Rattle.syn_grammar.specs.Run.{parse_rule, wrap, and_then, branch}
+use Rattle.syn_grammar.specs.Promises.{Computes, Moved}
 use Rattle.syn_parse.specs.Form.{Condition, meets, Form, parse}
 
 -- an element, and where a separator stands next, that and the others
 abbrev pub element_and_others : Rule → Form → Condition → Form → Stream → Out
 element_and_others k element next separator ts =
-    and_then (parse element ts) (λ r. branch (meets next r) (and_then (parse separator r) (reads k)) (Some (Nothing, r)))
+    and_then (parse element ts) (λ r. branch (meets next r) (and_then (parse separator r) (parse_rule k)) (Some (Nothing, r)))
 
 -- the rule is a list of elements, up to a stop that is not read; the last separator may stand or not
 pub record IsList (k : Rule) (element : Form) (stop next : Condition) (separator : Form) : Type 0 where
-  pub is : (ts : Stream) → reads k ts ≡ wrap Node (branch (meets stop ts) (Some (Nothing, ts)) (element_and_others k element next separator ts))
+  pub is : (ts : Stream) → parse_rule k ts ≡ wrap Node (branch (meets stop ts) (Some (Nothing, ts)) (element_and_others k element next separator ts))
 
 -- the rule is one element at least, and others as long as a separator stands next
 pub record IsJoined (k : Rule) (element : Form) (next : Condition) (separator : Form) : Type 0 where
-  pub is : (ts : Stream) → reads k ts ≡ wrap Node (element_and_others k element next separator ts)
+  pub is : (ts : Stream) → parse_rule k ts ≡ wrap Node (element_and_others k element next separator ts)
 
 -- A FUNCTION THAT IS HANDED OVER: it may be called where so many tokens are left, and it answers what a form reads
 pub record Callable {R E T : Type 0} (n : ℕ) (answers : R → Result T E) (pre : MutBor Stream → Type 0) (post : MutBor Stream → R → MutBor Stream → Type 0) : Type 0 where
@@ -28,4 +28,4 @@ pub record Callable {R E T : Type 0} (n : ℕ) (answers : R → Result T E) (pre
   pub moved : (old new : MutBor Stream) (x : R) → post old x new → Moved old.now (answers x) new.now
 
 pub record Answers {R E T : Type 0} (refusal : E → Type 0) (form : Form) (view : T → Syntax) (answers : R → Result T E) (post : MutBor Stream → R → MutBor Stream → Type 0) : Type 0 where
-  pub says : (old new : MutBor Stream) (x : R) → post old x new → Says refusal view (parse form old.now) (answers x) new.now
+  pub says : (old new : MutBor Stream) (x : R) → post old x new → Computes refusal view (parse form old.now) (answers x) new.now

@@ -6,21 +6,21 @@ use Rattle.syn_grammar.specs.Rules.{Rule}
 use Rattle.syn_grammar.specs.Grammar.{Grammar, rule, empty, Syntax, Nothing, Token, Both, Left, Right, Group}
 use Rattle.syn_grammar.specs.Table.{table}
 use Rattle.syn_grammar.specs.Take.{Out, Parser, only, left, is_end, sees, Opened, take_group}
-use Rattle.syn_grammar.specs.Run.{and_then, branch, wrap, close, within, reads}
-use Rattle.syn_grammar.specs.Says as says
-use Rattle.syn_grammar.proofs.Heads.{passes}
+use Rattle.syn_grammar.specs.Run.{and_then, branch, wrap, close, within, parse_rule}
+use Rattle.syn_grammar.specs.Promises as says
+use Rattle.syn_grammar.proofs.FirstSets.{nullable}
 use Rattle.syn_grammar.proofs.Said.{start_of}
 use Rattle.syn_grammar.proofs.Sets.{and_left, and_right, same_text_eq, same_text_refl}
-use Rattle.syn_grammar.proofs.Takes.{Read, inv_only, sees_is, end_told, end_found, group_less, group_told, group_found}
+use Rattle.syn_grammar.proofs.Takes.{TreeAndRest, inv_only, sees_is, end_told, end_found, group_less, group_told, group_found}
 use Rattle.syn_grammar.proofs.Means.{rest_seen}
-use Rattle.syn_grammar.proofs.Run.{Falls, Less, inv_wrap, inv_then, inv_within, parse_falls, runs_shrinks, reads_less}
+use Rattle.syn_grammar.proofs.Run.{Falls, Less, inv_wrap, inv_then, inv_within, parse_falls, runs_shrinks, parse_rule_less}
 use Rattle.syn_grammar.proofs.Outcomes.{meaning_of as grammar_means}
 use Rattle.syn_parse.specs.Terminated.{terminated}
-use Rattle.syn_parse.specs.Form.{Condition, by, at_keyword, at_punctuation, take_keyword, meets, stands_next, Form, of, keyword, ◌followed_by◌, choice, in_group, list, such_that, optional, if_tree, parse, Derives, Unread, reads_some, is_sound, Meaning, ReadsSome}
+use Rattle.syn_parse.specs.Form.{Condition, by, at_keyword, at_punctuation, take_keyword, meets, stands_next, Form, of, keyword, ◌followed_by◌, choice, in_group, list, such_that, optional, if_tree, parse, Derives, NotDerived, reads_some, is_sound, Meaning, ParsesSome}
 use Rattle.syn_parse.specs.TerminatedLists.{Shorter, Law, IsTerminated, terminated_is, list_split, list_found, list_falls}
 
 -- what a form reads of which token
-pub keyword_less : (x : Text) (ts : Stream) (y : Read) → take_keyword x ts ≡ Some y → left y.1 < left ts
+pub keyword_less : (x : Text) (ts : Stream) (y : TreeAndRest) → take_keyword x ts ≡ Some y → left y.1 < left ts
 unfolding take_keyword left
 keyword_less x end y e = absurd (cc e)
 keyword_less x (leaf (ident z) sp r) y e = let a : y.1 ≡ r = cc (inv_only (same_text z x) _ y e).1 in rw a (omega arith)
@@ -34,9 +34,9 @@ keyword_told x end s r e = absurd (cc e)
 keyword_told x (leaf (ident z) sp m) s r e =
     let h = inv_only (same_text z x) _ _ e in
     let a : z ≡ x = same_text_eq z x h.0 in
-    let i : ◌≡◌ {A = Read} (Token (ident z) sp, m) (s, r) = cc h.1 in
-    let b : s ≡ Token (ident z) sp = sym (ap (λ (y : Read). y.0) i) in
-    let c : m ≡ r = ap (λ (y : Read). y.1) i in
+    let i : ◌≡◌ {A = TreeAndRest} (Token (ident z) sp, m) (s, r) = cc h.1 in
+    let b : s ≡ Token (ident z) sp = sym (ap (λ (y : TreeAndRest). y.0) i) in
+    let c : m ≡ r = ap (λ (y : TreeAndRest). y.1) i in
     (sp, b ∙ ap (λ w. Token (ident w) sp) a, ap (λ w. leaf (ident w) sp m) a ∙ ap (leaf (ident x) sp) c)
 keyword_told x (leaf (literal k z) sp m) s r e = absurd (cc e)
 keyword_told x (punct c j sp m) s r e = absurd (cc e)
@@ -72,7 +72,7 @@ seen (such_that q f) s ts r (h, x) v = seen f s ts r x v
 less_then : (p : Parser) (ts m : Stream) → left m ≤ left ts → (r : Stream) → left r < left m → left r < left ts
 less_then p ts m h r k = omega (arith, h, k)
 
-inv_tree : (q : Syntax → Bool) (o : Out) (x : Read) → if_tree q o ≡ Some x → (q x.0 ≡ true) × (o ≡ Some x)
+inv_tree : (q : Syntax → Bool) (o : Out) (x : TreeAndRest) → if_tree q o ≡ Some x → (q x.0 ≡ true) × (o ≡ Some x)
 inv_tree q None x e = absurd (cc e)
 inv_tree q (Some p) x e =
     let h = inv_only (q p.0) _ x e in
@@ -83,28 +83,28 @@ inv_tree q (Some p) x e =
     go None = true
 
 -- of a choice: the first form, or the second
-inv_branch : (b : Bool) (o o' : Out) (x : Read) → branch b o o' ≡ Some x →
-    ((y : Read) × (b ≡ true) × (o ≡ Some y) × (x ≡ (Left y.0, y.1))) ⊎ ((y : Read) × (b ≡ false) × (o' ≡ Some y) × (x ≡ (Right y.0, y.1)))
+inv_branch : (b : Bool) (o o' : Out) (x : TreeAndRest) → branch b o o' ≡ Some x →
+    ((y : TreeAndRest) × (b ≡ true) × (o ≡ Some y) × (x ≡ (Left y.0, y.1))) ⊎ ((y : TreeAndRest) × (b ≡ false) × (o' ≡ Some y) × (x ≡ (Right y.0, y.1)))
 inv_branch true o o' x e = let z = inv_wrap Left o x e in inl (z.0, refl, z.1, z.2)
 inv_branch false o o' x e = let z = inv_wrap Right o' x e in inr (z.0, refl, z.1, z.2)
 
-abbrev Branched : Condition → Form → Form → Stream → Read → Type 0
-Branched c f g ts x = ((y : Read) × (meets c ts ≡ true) × (parse f ts ≡ Some y) × (x ≡ (Left y.0, y.1))) ⊎ ((y : Read) × (meets c ts ≡ false) × (parse g ts ≡ Some y) × (x ≡ (Right y.0, y.1)))
+abbrev Branched : Condition → Form → Form → Stream → TreeAndRest → Type 0
+Branched c f g ts x = ((y : TreeAndRest) × (meets c ts ≡ true) × (parse f ts ≡ Some y) × (x ≡ (Left y.0, y.1))) ⊎ ((y : TreeAndRest) × (meets c ts ≡ false) × (parse g ts ≡ Some y) × (x ≡ (Right y.0, y.1)))
 
-choice_falls : (c : Condition) (f g : Form) → Falls (parse f) → Falls (parse g) → (ts : Stream) (x : Read) → Branched c f g ts x → left x.1 ≤ left ts
-choice_falls c f g a b ts x (inl (y, h, e, i)) = let j : x.1 ≡ y.1 = ap (λ (y : Read). y.1) i in rw j (a ts y e)
-choice_falls c f g a b ts x (inr (y, h, e, i)) = let j : x.1 ≡ y.1 = ap (λ (y : Read). y.1) i in rw j (b ts y e)
+choice_falls : (c : Condition) (f g : Form) → Falls (parse f) → Falls (parse g) → (ts : Stream) (x : TreeAndRest) → Branched c f g ts x → left x.1 ≤ left ts
+choice_falls c f g a b ts x (inl (y, h, e, i)) = let j : x.1 ≡ y.1 = ap (λ (y : TreeAndRest). y.1) i in rw j (a ts y e)
+choice_falls c f g a b ts x (inr (y, h, e, i)) = let j : x.1 ≡ y.1 = ap (λ (y : TreeAndRest). y.1) i in rw j (b ts y e)
 
 abbrev Fewer : Form → Type 0
 Fewer f = Falls (parse f) × (reads_some f ≡ true → Shorter (parse f))
 
-less_of_two : (p q : Parser) (a b : Bool) → Falls p → (a ≡ true → Shorter p) → Falls q → (b ≡ true → Shorter q) → or a b ≡ true → (ts : Stream) (y z : Read) → p ts ≡ Some y → q y.1 ≡ Some z → left z.1 < left ts
+less_of_two : (p q : Parser) (a b : Bool) → Falls p → (a ≡ true → Shorter p) → Falls q → (b ≡ true → Shorter q) → or a b ≡ true → (ts : Stream) (y z : TreeAndRest) → p ts ≡ Some y → q y.1 ≡ Some z → left z.1 < left ts
 less_of_two p q true b fp sp fq sq w ts y z e k = let h = sp refl ts y e in let l = fq y.1 z k in omega (arith, h, l)
 less_of_two p q false b fp sp fq sq w ts y z e k = let h = fp ts y e in let l = sq w y.1 z k in omega (arith, h, l)
 
 -- no more tokens are left, and fewer where some token is read
 fewer : (f : Form) → is_sound f ≡ true → Fewer f
-fewer (of g) w = (parse_falls g, λ s ts x e. go (passes start_of g) s ts x.1 (runs_shrinks reads reads_less g ts x e))
+fewer (of g) w = (parse_falls g, λ s ts x e. go (nullable start_of g) s ts x.1 (runs_shrinks parse_rule parse_rule_less g ts x e))
   where
     go : (b : Bool) → no b ≡ true → (ts r : Stream) → Less b ts r → left r < left ts
     go false s ts r h = h
@@ -115,13 +115,13 @@ fewer (f followed_by g) w =
     let b = fewer g (and_right (is_sound f) _ w) in (
       λ ts x e.
           let z = inv_then (parse f ts) (parse g) x e in
-          let i : x.1 ≡ z.1.1 = ap (λ (y : Read). y.1) z.4 in
+          let i : x.1 ≡ z.1.1 = ap (λ (y : TreeAndRest). y.1) z.4 in
           let h = a.0 ts z.0 z.2 in
           let k = b.0 z.0.1 z.1 z.3 in
           rw i (omega (arith, h, k)),
       λ s ts x e.
           let z = inv_then (parse f ts) (parse g) x e in
-          let i : x.1 ≡ z.1.1 = ap (λ (y : Read). y.1) z.4 in
+          let i : x.1 ≡ z.1.1 = ap (λ (y : TreeAndRest). y.1) z.4 in
           rw i (less_of_two (parse f) (parse g) (reads_some f) (reads_some g) a.0 a.1 b.0 b.1 s ts z.0 z.1 z.2 z.3),
     )
 fewer (choice c f g) w =
@@ -131,15 +131,15 @@ fewer (choice c f g) w =
       λ s ts x e. less_by a b s ts x (inv_branch (meets c ts) (parse f ts) (parse g ts) x e),
     )
   where
-    less_by : Fewer f → Fewer g → and (reads_some f) (reads_some g) ≡ true → (ts : Stream) (x : Read) → Branched c f g ts x → left x.1 < left ts
-    less_by a b s ts x (inl (y, h, e, i)) = let j : x.1 ≡ y.1 = ap (λ (y : Read). y.1) i in rw j (a.1 (and_left (reads_some f) _ s) ts y e)
-    less_by a b s ts x (inr (y, h, e, i)) = let j : x.1 ≡ y.1 = ap (λ (y : Read). y.1) i in rw j (b.1 (and_right (reads_some f) _ s) ts y e)
+    less_by : Fewer f → Fewer g → and (reads_some f) (reads_some g) ≡ true → (ts : Stream) (x : TreeAndRest) → Branched c f g ts x → left x.1 < left ts
+    less_by a b s ts x (inl (y, h, e, i)) = let j : x.1 ≡ y.1 = ap (λ (y : TreeAndRest). y.1) i in rw j (a.1 (and_left (reads_some f) _ s) ts y e)
+    less_by a b s ts x (inr (y, h, e, i)) = let j : x.1 ≡ y.1 = ap (λ (y : TreeAndRest). y.1) i in rw j (b.1 (and_right (reads_some f) _ s) ts y e)
 fewer (in_group d f) w = ((λ ts x e. let h = less ts x e in omega (arith, h)), λ s. less)
   where
     less : Shorter (parse (in_group d f))
     less ts x e =
         let z = inv_within d (take_group d ts) (parse f) x e in
-        let i : x.1 ≡ z.0.rest = ap (λ (y : Read). y.1) z.5 in
+        let i : x.1 ≡ z.0.rest = ap (λ (y : TreeAndRest). y.1) z.5 in
         rw i (group_less d ts z.0 z.2).0
 fewer (list f g) w =
     let a = fewer f (and_left (is_sound f) _ (and_right (reads_some g) _ w)) in
@@ -162,9 +162,9 @@ choice_told : (c : Condition) (f g : Form) → (ts : Stream) → visible ts ≡ 
     parse (choice c f g) ts ≡ Some (s, r) → Derives (choice c f g) s ts r
 choice_told c f g ts v s r h k e = go (inv_branch (meets c ts) (parse f ts) (parse g ts) (s, r) e)
   where
-    go : ((y : Read) × (meets c ts ≡ true) × (parse f ts ≡ Some y) × (◌≡◌ {A = Read} (s, r) (Left y.0, y.1))) ⊎ ((y : Read) × (meets c ts ≡ false) × (parse g ts ≡ Some y) × (◌≡◌ {A = Read} (s, r) (Right y.0, y.1))) → Derives (choice c f g) s ts r
-    go (inl (y, b, e, i)) = inl (y.0, sym (meets_is c ts v) ∙ b, ap (λ (y : Read). y.0) i, subst (λ z. Derives f y.0 ts z) (sym (ap (λ (y : Read). y.1) i)) (h y.0 y.1 e))
-    go (inr (y, b, e, i)) = inr (y.0, sym (meets_is c ts v) ∙ b, ap (λ (y : Read). y.0) i, subst (λ z. Derives g y.0 ts z) (sym (ap (λ (y : Read). y.1) i)) (k y.0 y.1 e))
+    go : ((y : TreeAndRest) × (meets c ts ≡ true) × (parse f ts ≡ Some y) × (◌≡◌ {A = TreeAndRest} (s, r) (Left y.0, y.1))) ⊎ ((y : TreeAndRest) × (meets c ts ≡ false) × (parse g ts ≡ Some y) × (◌≡◌ {A = TreeAndRest} (s, r) (Right y.0, y.1))) → Derives (choice c f g) s ts r
+    go (inl (y, b, e, i)) = inl (y.0, sym (meets_is c ts v) ∙ b, ap (λ (y : TreeAndRest). y.0) i, subst (λ z. Derives f y.0 ts z) (sym (ap (λ (y : TreeAndRest). y.1) i)) (h y.0 y.1 e))
+    go (inr (y, b, e, i)) = inr (y.0, sym (meets_is c ts v) ∙ b, ap (λ (y : TreeAndRest). y.0) i, subst (λ z. Derives g y.0 ts z) (sym (ap (λ (y : TreeAndRest). y.1) i)) (k y.0 y.1 e))
 
 choice_found : (c : Condition) (f g : Form) → (ts : Stream) → visible ts ≡ true → (s : Syntax) (r : Stream) →
     ((s : Syntax) (r : Stream) → Derives f s ts r → parse f ts ≡ Some (s, r)) → ((s : Syntax) (r : Stream) → Derives g s ts r → parse g ts ≡ Some (s, r)) →
@@ -195,7 +195,7 @@ law_of (f followed_by g) w =
           let z = inv_then (parse f ts) (parse g) (s, r) e in
           let a : Derives f z.0.0 ts z.0.1 = lf.told ts z.0.0 z.0.1 v z.2 in
           let b : Derives g z.1.0 z.0.1 z.1.1 = lg.told z.0.1 z.1.0 z.1.1 (seen f z.0.0 ts z.0.1 a v) z.3 in
-          (z.0.0, z.1.0, z.0.1, ap (λ (y : Read). y.0) z.4, a, subst (λ m. Derives g z.1.0 z.0.1 m) (sym (ap (λ (y : Read). y.1) z.4)) b);
+          (z.0.0, z.1.0, z.0.1, ap (λ (y : TreeAndRest). y.0) z.4, a, subst (λ m. Derives g z.1.0 z.0.1 m) (sym (ap (λ (y : TreeAndRest). y.1) z.4)) b);
       found = λ ts s r v (a, b, m, e, x, y).
           ap (λ o. and_then o (parse g)) (lf.found ts a m v x) ∙ ap (wrap (Both a)) (lg.found m b r (seen f a ts m x v) y) ∙ ap (λ z. Some (z, r)) (sym e);
       falls = falls_of (f followed_by g) w;
@@ -223,8 +223,8 @@ law_of (in_group d f) w =
             z.0.closing,
             z.0.content,
             z.1.0,
-            ap (λ (y : Read). y.0) z.5,
-            h ∙ ap (group d z.0.opening z.0.closing z.0.content) (sym (ap (λ (y : Read). y.1) z.5)),
+            ap (λ (y : TreeAndRest). y.0) z.5,
+            h ∙ ap (group d z.0.opening z.0.closing z.0.content) (sym (ap (λ (y : TreeAndRest). y.1) z.5)),
             subst (λ m. Derives f z.1.0 z.0.content m) j a,
           );
       found = λ ts s r v (o, c, i, a, e, h, x).
@@ -271,7 +271,7 @@ is_none f l ts v u = go (parse f ts) refl
     go None e = refl
     go (Some p) e = absurd (u p.0 p.1 (l.told ts p.0 p.1 v e))
 
-refused_of : (f : Form) → is_sound f ≡ true → Law (parse f) (Derives f) → (ts : Stream) → visible ts ≡ true → (parse f ts ≡ None → Unread f ts) × (Unread f ts → parse f ts ≡ None)
+refused_of : (f : Form) → is_sound f ≡ true → Law (parse f) (Derives f) → (ts : Stream) → visible ts ≡ true → (parse f ts ≡ None → NotDerived f ts) × (NotDerived f ts → parse f ts ≡ None)
 refused_of (of g) w l ts v = (grammar_means g w ts v).1
 refused_of (keyword x) w l ts v = (none_is (keyword x) l ts v, is_none (keyword x) l ts v)
 refused_of (f followed_by g) w l ts v = (none_is (f followed_by g) l ts v, is_none (f followed_by g) l ts v)

@@ -7,7 +7,7 @@ use Rattle.syn_tokens.specs.declared.span.Span.{Span}
 use Rattle.syn_parse.specs.declared.read.refusal.Refusal.{Refusal}
 use Rattle.syn_parse.specs.declared.read.refusal.Refusal.TheVariants.{Memory, Syntax}
 
--- it stands here, a group by its opening sign; where nothing is left, nothing is said
+-- it stands here, a group by its opening delimiter; where nothing is left, nothing is said
 abbrev pub StandsNext : Stream → Span → Type 0
 StandsNext end s = Unit {0}
 StandsNext (leaf x sp r) s = at s ≡ sp

@@ -4,13 +4,13 @@ use Rattle.syn_grammar.specs.Tokens.{Stream, end, no, ended, visible}
 use Rattle.syn_grammar.specs.Grammar.{Syntax, Nothing, Node, Left, Right, Both}
 use Rattle.syn_grammar.specs.Take.{Out, Parser, left, sees}
 use Rattle.syn_grammar.specs.Run.{wrap, and_then, branch}
-use Rattle.syn_grammar.specs.Says.{itself}
+use Rattle.syn_grammar.specs.Promises.{itself}
 use Rattle.syn_grammar.proofs.Looks.{sees_ended}
 use Rattle.syn_grammar.proofs.Takes.{end_told, end_found, end_least}
 use Rattle.syn_grammar.proofs.Run.{Falls}
 use Rattle.syn_tokens.specs.Lists.{Sequence}
 use Rattle.syn_tokens.specs.Listing.{list_of}
-use Rattle.syn_parse.specs.Terminated.{terminated_step, terminated_for, terminated, ReadsList}
+use Rattle.syn_parse.specs.Terminated.{terminated_step, terminated_for, terminated, DerivesList}
 
 -- ONE STEP
 
@@ -202,7 +202,7 @@ module _ (p q : Parser) (E S : Syntax → Stream → Stream → Type 0) (lp : La
 
   module _ {T P : Type 0} (v : T → Syntax) (w : P → Syntax) where
     -- what is read is such a list
-    pub list_told : (l : List (T × P)) (o : Option T) (ts r : Stream) → visible ts ≡ true → terminated p q ts ≡ Some (list_of v w l o, r) → ReadsList E S v w l o ts
+    pub list_told : (l : List (T × P)) (o : Option T) (ts r : Stream) → visible ts ≡ true → terminated p q ts ≡ Some (list_of v w l o, r) → DerivesList E S v w l o ts
     list_told [] None ts r k e = told_none ts r k e
     list_told [] (Some x) ts r k e = told_last (v x) ts r k e
     list_told (x ∷ l) o ts r k e =
@@ -210,7 +210,7 @@ module _ (p q : Parser) (E S : Syntax → Stream → Stream → Type 0) (lp : La
         (a.0, a.1, a.2, a.3, list_told l o a.1 r a.4 a.5)
 
     -- such a list is read
-    pub list_found : Shorter q → (l : List (T × P)) (o : Option T) (ts : Stream) → visible ts ≡ true → ReadsList E S v w l o ts → terminated p q ts ≡ Some (list_of v w l o, end)
+    pub list_found : Shorter q → (l : List (T × P)) (o : Option T) (ts : Stream) → visible ts ≡ true → DerivesList E S v w l o ts → terminated p q ts ≡ Some (list_of v w l o, end)
     list_found shrinks [] None ts k a =
         let b : sees ended ts ≡ true = ap (sees ended) a ∙ ended_is in
         let e : terminated p q ts ≡ Some (Node (Left Nothing), ts) = law.is ts ∙ rw b refl in
@@ -232,12 +232,12 @@ module _ (p q : Parser) (E S : Syntax → Stream → Stream → Type 0) (lp : La
         ∙ ap (wrap (λ s. Node (Right (Both (v x.0) (Left (Both (w x.1) s)))))) (list_found shrinks l o m k'' c)
 
   -- nothing is such a list where nothing is read
-  pub list_unread : Shorter q → (ts : Stream) → visible ts ≡ true → terminated p q ts ≡ None → (l : Sequence Syntax Syntax) → ReadsList E S itself itself l.pairs l.last ts → ⊥
+  pub list_unread : Shorter q → (ts : Stream) → visible ts ≡ true → terminated p q ts ≡ None → (l : Sequence Syntax Syntax) → DerivesList E S itself itself l.pairs l.last ts → ⊥
   list_unread shrinks ts k e l a = absurd (cc (sym e ∙ list_found itself itself shrinks l.pairs l.last ts k a))
 
   -- WHATEVER IS READ IS SUCH A LIST
   abbrev pub AsList : Syntax → Stream → Stream → Type 0
-  AsList s ts r = (l : Sequence Syntax Syntax) × (s ≡ list_of itself itself l.pairs l.last) × (r ≡ end) × ReadsList E S itself itself l.pairs l.last ts
+  AsList s ts r = (l : Sequence Syntax Syntax) × (s ≡ list_of itself itself l.pairs l.last) × (r ≡ end) × DerivesList E S itself itself l.pairs l.last ts
 
   split_of : Shorter q → (n : ℕ) (ts : Stream) (x : Syntax × Stream) → left ts < n → visible ts ≡ true → terminated p q ts ≡ Some x → AsList x.0 ts x.1
   unfolding Stepped

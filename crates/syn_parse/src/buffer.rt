@@ -4,17 +4,17 @@ ghost use Rattle.syn_grammar.specs.Tokens as grammar;
 ghost use Rattle.syn_grammar.specs.Tokens.{ended};
 ghost use Rattle.syn_grammar.specs.Take.{left, sees, take_group};
 ghost use Rattle.syn_parse.specs.Form.{meets, parse};
-ghost use Rattle.syn_grammar.specs.Says.{Says, Takes, Finished};
+ghost use Rattle.syn_grammar.specs.Promises.{Computes, Takes, Finished};
 ghost use Rattle.syn_parse.specs.Refusals.{IsSyntax};
 ghost use Rattle.syn_parse.specs.Nexts.{StandsNext, RefusedNext};
 ghost use Rattle.syn_tokens.specs.Punct.{is_joint};
 ghost use Rattle.syn_parse.specs.Peeks.{past};
 ghost use Rattle.syn_parse.specs.Peeks as peeks;
 ghost use Rattle.syn_tokens.specs.Cursors.{before_next};
-ghost use Rattle.syn_parse.specs.Opened.{SaysOpened, content_of};
+ghost use Rattle.syn_parse.specs.Opened.{ComputesOpened, content_of};
 
-use crate::buffer::front::split_group;
-use crate::read::refusal::{Reading, Refusal};
+use crate::buffer::first_token::split_group;
+use crate::read::refusal::{Parsed, Refusal};
 use crate::read::{Peek, Read};
 use std::alloc::Global;
 use std::marker::Model;
@@ -28,10 +28,10 @@ use syn_tokens::token::{DelimiterKind, Delimiters};
 pub mod call;
 mod captures;
 mod custom;
-mod faces;
-mod front;
+mod first_token;
 mod leaves;
 mod marks;
+mod public;
 
 /// The token trees that are left to read, and where they end.
 #[derive(Drop)]
@@ -139,7 +139,7 @@ impl<'a> ParseBuffer<'a> {
         }
     }
 
-    /// Where the next token stands; at the end of a group its closing sign, at the end of a stream the empty span
+    /// Where the next token stands; at the end of a group its closing delimiter, at the end of a stream the empty span
     /// behind its last tree.
     #[tactic(auto, using(crate::proofs::Nexts::first_stands))]
     pub fn span(&self) -> Span
@@ -207,16 +207,16 @@ impl<'a> ParseBuffer<'a> {
     }
 
     /// Reads a `T`, as a part of what a rule reads.
-    pub fn read<T: Read>(&mut self) -> Reading<T>
-        ensures reads { Says IsSyntax T.syntax (parse T.form self.old) result self.new }
+    pub fn read<T: Read>(&mut self) -> Parsed<T>
+        ensures reads { Computes IsSyntax T.syntax (parse T.form self.old) result self.new }
         ensures moved { Takes T.takes self.old result self.new }
     {
         T::read(self)
     }
 
-    /// Reads a group with these signs: its signs, and its content. Where it is refused, nothing is read.
-    pub fn read_group<K: DelimiterKind>(&mut self) -> Reading<(Delimiters<K>, ParseBuffer<'a>)>
-        ensures reads { SaysOpened IsSyntax (take_group K.delimiter self.old) result self.new }
+    /// Reads a group with these delimiters: its delimiters, and its content. Where it is refused, nothing is read.
+    pub fn read_group<K: DelimiterKind>(&mut self) -> Parsed<(Delimiters<K>, ParseBuffer<'a>)>
+        ensures reads { ComputesOpened IsSyntax (take_group K.delimiter self.old) result self.new }
         ensures moved { Takes 1 self.old result self.new }
         ensures inside { IfOk result (λ p. left p.1 < left self.old) }
         ensures unchanged { OnErr result (self.new ≡ self.old) }
@@ -235,7 +235,7 @@ impl<'a> ParseBuffer<'a> {
         Ok((Delimiters::new(group.opening, group.closing), content))
     }
 
-    /// The content of the group with these signs that stands next; nothing is read.
+    /// The content of the group with these delimiters that stands next; nothing is read.
     pub fn peek_group<K: DelimiterKind>(&self) -> Option<ParseBuffer<'a>>
         ensures { MatchOption result (take_group K.delimiter self.now ≡ None) (λ b. content_of (take_group K.delimiter self.now) ≡ Some b) }
     {
@@ -249,7 +249,7 @@ impl<'a> ParseBuffer<'a> {
 
     /// The end of a group or stream; refused where something is left.
     #[tactic(auto, unfolding(syn_grammar::specs::Take::is_end))]
-    pub fn read_end(&self) -> Reading<()>
+    pub fn read_end(&self) -> Parsed<()>
         ensures end { Finished IsSyntax self.now result }
         ensures fault { IfErr result (RefusedNext self.now (codes "unexpected token")) }
     {

@@ -2,7 +2,7 @@
 ghost use Rattle.std.specs.Prelude.{◌≡◌, IfErr, OnErr, codes};
 ghost use Rattle.syn_grammar.specs.Grammar.{identifier};
 ghost use Rattle.syn_grammar.specs.Take.{take_token};
-ghost use Rattle.syn_grammar.specs.Says.{Says, Takes};
+ghost use Rattle.syn_grammar.specs.Promises.{Computes, Takes};
 ghost use Rattle.syn_tokens.specs.Faults.{IsSyntaxError};
 ghost use Rattle.syn_tokens.specs.Leaves.{syntax_of_ident};
 ghost use Rattle.syn_parse.specs.Nexts.{HasFaultNext};
@@ -16,7 +16,7 @@ pub trait IdentExt {
     /// Parses any identifier, also a keyword or `_`. It is refused where none stands next, with the fault `expected
     /// identifier` at the next token, and where memory is refused; nothing is read then.
     fn parse_any(input: &mut ParseBuffer<'_>) -> Result<Ident>
-        ensures reads { Says IsSyntaxError syntax_of_ident (take_token identifier input.old) result input.new }
+        ensures reads { Computes IsSyntaxError syntax_of_ident (take_token identifier input.old) result input.new }
         ensures moved { Takes 1 input.old result input.new }
         ensures unchanged { OnErr result (input.new ≡ input.old) }
         ensures fault { IfErr result (λ e. IsSyntaxError e → HasFaultNext input.old (codes "expected identifier") e) };

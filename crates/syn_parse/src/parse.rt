@@ -1,6 +1,6 @@
 //! What callers parse.
 ghost use Rattle.std.specs.Prelude.{◌≡◌, OnErr};
-ghost use Rattle.syn_grammar.specs.Says.{Says, Kept};
+ghost use Rattle.syn_grammar.specs.Promises.{Computes, Kept};
 ghost use Rattle.syn_parse.specs.Form.{Form, parse, Meaning, Outcome, WholeOutcome};
 ghost use Rattle.syn_tokens.specs.Faults.{IsSyntaxError};
 
@@ -23,7 +23,7 @@ pub trait Parse: Syntactic {
     /// stands where it stood.
     fn parse(input: &mut ParseBuffer<'_>) -> Result<Self>
         ensures outcome { Outcome IsSyntaxError Self.syntax form input.old result input.new }
-        ensures reads { Says IsSyntaxError Self.syntax (parse form input.old) result input.new }
+        ensures reads { Computes IsSyntaxError Self.syntax (parse form input.old) result input.new }
         ensures unchanged { OnErr result (input.new ≡ input.old) }
         ensures kept { Kept input.old result input.new };
 

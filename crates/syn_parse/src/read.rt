@@ -2,13 +2,13 @@
 ghost use Rattle.std.specs.Prelude.{◌≡◌, ℕ, codes};
 ghost use Rattle.syn_grammar.specs.Words.{Text};
 ghost use Rattle.syn_grammar.specs.Tokens.{ended};
-ghost use Rattle.syn_grammar.specs.Says.{Says, Takes};
+ghost use Rattle.syn_grammar.specs.Promises.{Computes, Takes};
 ghost use Rattle.syn_parse.specs.Form.{Condition, by, meets, Form, optional, parse, Meaning};
 ghost use Rattle.syn_parse.specs.Meanings.{meaning_of_optional};
 ghost use Rattle.syn_parse.specs.Refusals.{IsSyntax};
 
 use crate::buffer::ParseBuffer;
-use crate::read::refusal::Reading;
+use crate::read::refusal::Parsed;
 use syn_tokens::syntactic::Syntactic;
 
 mod custom;
@@ -45,8 +45,8 @@ pub trait Read: Syntactic {
     ghost takes: { ℕ } = { 1 };
 
     /// Reads it from the front of the buffer, or is refused; then nothing is said of what is left.
-    fn read(input: &mut ParseBuffer<'_>) -> Reading<Self>
-        ensures reads { Says IsSyntax Self.syntax (parse form input.old) result input.new }
+    fn read(input: &mut ParseBuffer<'_>) -> Parsed<Self>
+        ensures reads { Computes IsSyntax Self.syntax (parse form input.old) result input.new }
         ensures moved { Takes takes input.old result input.new };
 
     /// What is computed of the form is what it reads.
@@ -59,7 +59,7 @@ impl<T: Peek + Read> Read for Option<T> {
 
     ghost takes = { 0 };
 
-    fn read(input: &mut ParseBuffer<'_>) -> Reading<Option<T>> {
+    fn read(input: &mut ParseBuffer<'_>) -> Parsed<Option<T>> {
         if T::peek(input) {
             Ok(Some(T::read(input)?))
         } else {
@@ -75,7 +75,7 @@ impl<T: Read + Drop> Read for Box<T> {
 
     ghost takes = { T.takes };
 
-    fn read(input: &mut ParseBuffer<'_>) -> Reading<Box<T>> {
+    fn read(input: &mut ParseBuffer<'_>) -> Parsed<Box<T>> {
         let value = T::read(input)?;
         Ok(Box::new(input.alloc(), value)?)
     }

@@ -8,7 +8,7 @@ use Rattle.syn_tokens.specs.Spans.{at}
 use Rattle.syn_tokens.specs.Delimiters.{delimiter_of}
 use Rattle.syn_tokens.specs.Faults.{FaultValue}
 use Rattle.syn_tokens.specs.Entries.{encode, decode, IsFlat}
-use Rattle.syn_tokens.specs.Building.{OpenGroup, Building, innermost, around, is_open_in, is_open, out_of_group, open_sign, laid, groups_in, stream_in, building, closed_in, Closes, NotOpen, IsUnbalanced, unbalanced}
+use Rattle.syn_tokens.specs.Building.{OpenGroup, Building, innermost, around, is_open_in, is_open, out_of_group, open_delimiter, laid, groups_in, stream_in, building, closed_in, Closes, NotOpen, IsUnbalanced, unbalanced}
 use Rattle.syn_tokens.specs.Builders.{pending, places, front, IsBuilt, IsBegun}
 use Rattle.syn_tokens.proofs.Entries.{encode-append, is_flat, decoded, length_encode, length-append_streams}
 use Rattle.syn_tokens.proofs.Building.{groups_are, stream_is, is_built, laid_more, laid_open, places_open, Last, last_place, none_open, closed, laid_closed, length_laid}
@@ -20,13 +20,13 @@ use Rattle.syn_tokens.specs.declared.stream.builder.Pending.{Pending}
 
 longer : (gs : List OpenGroup) (s : Stream) → length (encode s) ≤ length (laid gs s)
 longer [] s = omega arith
-longer (g ∷ gs) s = omega (arith, longer gs s, length-append (encode g.outer) (open_sign g ∷ laid gs s))
+longer (g ∷ gs) s = omega (arith, longer gs s, length-append (encode g.outer) (open_delimiter g ∷ laid gs s))
 
 -- WHAT IT BEGAN WITH
 
 front_fits : (gs : List OpenGroup) (s : Stream) → length (encode (front gs s)) ≤ length (laid gs s)
 front_fits [] s = omega arith
-front_fits (g ∷ gs) s = omega (arith, length-append (encode g.outer) (open_sign g ∷ laid gs s))
+front_fits (g ∷ gs) s = omega (arith, length-append (encode g.outer) (open_delimiter g ∷ laid gs s))
 
 front_more : (gs : List OpenGroup) (s u : Stream) → length (encode (front gs s)) ≤ length (encode (front gs (s ⧺ u)))
 front_more [] s u = omega (arith, ap length (encode-append s u), length-append (encode s) (encode u))
@@ -112,32 +112,32 @@ abbrev pub group_from : Delimiter → Span → Stream → OpenGroup
 group_from d o s = record { delimiter = d; opening = o; outer = s }
 
 module _ (es : List Entry) (ps : List Pending) (n : ℕ) (b : IsBuilt es ps n) (d : Delimiter) (o : Span) where
-  opened_laid : es ++ open_sign (group_from d o end) ∷ [] ≡ laid ((groups_in es) ++ group_from d o (stream_in es) ∷ []) end
+  opened_laid : es ++ open_delimiter (group_from d o end) ∷ [] ≡ laid ((groups_in es) ++ group_from d o (stream_in es) ∷ []) end
   opened_laid =
-      ap (λ fs. fs ++ open_sign (group_from d o end) ∷ []) b.encoded
+      ap (λ fs. fs ++ open_delimiter (group_from d o end) ∷ []) b.encoded
       ∙ sym (laid_open (groups_in es) (group_from d o (stream_in es)) end)
 
   pub opened_built : (p : Pending) → p ≡ record { delimiter = d; opening = o; at = length es; trees = n } →
-      IsBuilt (es ++ open_sign (group_from d o end) ∷ []) (ps ++ p ∷ []) 0
+      IsBuilt (es ++ open_delimiter (group_from d o end) ∷ []) (ps ++ p ∷ []) 0
   opened_built p e =
       let k : length es ≡ 0 + length (laid (groups_in es) (stream_in es)) = omega (arith, ap length b.encoded) in
-      is_built (es ++ open_sign (group_from d o end) ∷ []) (ps ++ p ∷ []) 0 ((groups_in es) ++ group_from d o (stream_in es) ∷ []) end opened_laid
+      is_built (es ++ open_delimiter (group_from d o end) ∷ []) (ps ++ p ∷ []) 0 ((groups_in es) ++ group_from d o (stream_in es) ∷ []) end opened_laid
       ((λ i. b.placed i ++ e i ∷ [])
       ∙ (λ i. places 0 (groups_in es) ++ record { delimiter = d; opening = o; at = k i; trees = b.counted i } ∷ [])
       ∙ sym (places_open 0 (groups_in es) (group_from d o (stream_in es))))
       refl
 
   module _ (m k : ℕ) (a : IsBegun m k es) where
-    opened_kept : take m (es ++ open_sign (group_from d o end) ∷ []) ≡ take m es
-    opened_kept = take-append-le m es (open_sign (group_from d o end) ∷ []) (begun_fits m k es a ps n b)
+    opened_kept : take m (es ++ open_delimiter (group_from d o end) ∷ []) ≡ take m es
+    opened_kept = take-append-le m es (open_delimiter (group_from d o end) ∷ []) (begun_fits m k es a ps n b)
 
-    pub opened_begun : IsBegun m k (es ++ open_sign (group_from d o end) ∷ [])
+    pub opened_begun : IsBegun m k (es ++ open_delimiter (group_from d o end) ∷ [])
     opened_begun =
-        begun_on m k es a (es ++ open_sign (group_from d o end) ∷ []) (groups_in es ++ group_from d o (stream_in es) ∷ []) end opened_laid opened_kept
+        begun_on m k es a (es ++ open_delimiter (group_from d o end) ∷ []) (groups_in es ++ group_from d o (stream_in es) ∷ []) end opened_laid opened_kept
         (omega (arith, ap (λ s. length (encode s)) (front_open (groups_in es) (group_from d o (stream_in es)) end)))
 
-    pub opened_is : building m (es ++ open_sign (group_from d o end) ∷ []) ≡ record (building m es) { open_groups = groups_in es ++ group_from d o (stream_in es) ∷ []; stream = end }
-    opened_is = building_on m k es a (es ++ open_sign (group_from d o end) ∷ []) (groups_in es ++ group_from d o (stream_in es) ∷ []) end opened_laid opened_kept
+    pub opened_is : building m (es ++ open_delimiter (group_from d o end) ∷ []) ≡ record (building m es) { open_groups = groups_in es ++ group_from d o (stream_in es) ∷ []; stream = end }
+    opened_is = building_on m k es a (es ++ open_delimiter (group_from d o end) ∷ []) (groups_in es ++ group_from d o (stream_in es) ∷ []) end opened_laid opened_kept
 
 -- A CLOSING SIGN
 
@@ -175,7 +175,7 @@ module _ (es : List Entry) (ps : List Pending) (n : ℕ) (b : IsBuilt es ps n) (
   whole : es ≡ laid ((kept_last es ps n b around p e).around ++ (kept_last es ps n b around p e).innermost ∷ []) (stream_in es)
   whole = let l = kept_last es ps n b around p e in b.encoded ∙ ap (λ gs. laid gs (stream_in es)) l.is
 
-  -- its opening sign stands before all that came later
+  -- its opening delimiter stands before all that came later
   pub stands_before : p.at + 1 ≤ length es
   stands_before =
       let l = kept_last es ps n b around p e in

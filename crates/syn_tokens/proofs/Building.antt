@@ -7,7 +7,7 @@ use Rattle.syn_grammar.proofs.Streams.{append_end}
 use Rattle.syn_tokens.specs.Spans.{at}
 use Rattle.syn_tokens.specs.Delimiters.{delimiter_of}
 use Rattle.syn_tokens.specs.Entries.{encode, State, step, states}
-use Rattle.syn_tokens.specs.Building.{OpenGroup, open_sign, laid, groups, content, groups_in, stream_in}
+use Rattle.syn_tokens.specs.Building.{OpenGroup, open_delimiter, laid, groups, content, groups_in, stream_in}
 use Rattle.syn_tokens.specs.Builders.{pending, places, front, IsBuilt}
 use Rattle.syn_tokens.proofs.Entries.{ahead, states_back, delimiter_there, encode-append}
 use Rattle.syn_tokens.specs.declared.span.Span.{Span}
@@ -31,8 +31,8 @@ states_laid [] s =
     ap states (sym (append-nil (encode s))) ∙ states_back s []
     ∙ ap (λ t. record { trees = t; outer = []; opened = [] }) (append_end s)
 states_laid (g ∷ gs) s =
-    states_back g.outer (open_sign g ∷ laid gs s)
-    ∙ ap (λ st. ahead g.outer (step (open_sign g) st)) (states_laid gs s)
+    states_back g.outer (open_delimiter g ∷ laid gs s)
+    ∙ ap (λ st. ahead g.outer (step (open_delimiter g) st)) (states_laid gs s)
     ∙ ap (λ t. record { trees = t; outer = []; opened = (sign g, front gs s) ∷ opened gs s }) (append_end g.outer)
 
 groups_back : (gs : List OpenGroup) (s : Stream) → groups (front gs s) (opened gs s) ≡ gs
@@ -64,19 +64,19 @@ is_built es ps n gs s e p c =
 pub laid_more : (gs : List OpenGroup) (s u : Stream) → laid gs s ++ encode u ≡ laid gs (s ⧺ u)
 laid_more [] s u = sym (encode-append s u)
 laid_more (g ∷ gs) s u =
-    append_assoc (encode g.outer) (open_sign g ∷ laid gs s) (encode u) ∙ ap (λ es. encode g.outer ++ open_sign g ∷ es) (laid_more gs s u)
+    append_assoc (encode g.outer) (open_delimiter g ∷ laid gs s) (encode u) ∙ ap (λ es. encode g.outer ++ open_delimiter g ∷ es) (laid_more gs s u)
 
-pub laid_open : (gs : List OpenGroup) (g : OpenGroup) (s : Stream) → laid (gs ++ g ∷ []) s ≡ laid gs g.outer ++ open_sign g ∷ encode s
+pub laid_open : (gs : List OpenGroup) (g : OpenGroup) (s : Stream) → laid (gs ++ g ∷ []) s ≡ laid gs g.outer ++ open_delimiter g ∷ encode s
 laid_open [] g s = refl
 laid_open (h ∷ gs) g s =
-    ap (λ es. encode h.outer ++ open_sign h ∷ es) (laid_open gs g s)
-    ∙ sym (append_assoc (encode h.outer) (open_sign h ∷ laid gs g.outer) (open_sign g ∷ encode s))
+    ap (λ es. encode h.outer ++ open_delimiter h ∷ es) (laid_open gs g s)
+    ∙ sym (append_assoc (encode h.outer) (open_delimiter h ∷ laid gs g.outer) (open_delimiter g ∷ encode s))
 
 pub places_open : (n : ℕ) (gs : List OpenGroup) (g : OpenGroup) → places n (gs ++ g ∷ []) ≡ places n gs ++ pending (n + length (laid gs g.outer)) g ∷ []
 places_open n [] g = refl
 places_open n (h ∷ gs) g =
-    let k : n + length (encode h.outer) + 1 + length (laid gs g.outer) ≡ n + length (encode h.outer ++ open_sign h ∷ laid gs g.outer) =
-    omega (arith, length-append (encode h.outer) (open_sign h ∷ laid gs g.outer)) in
+    let k : n + length (encode h.outer) + 1 + length (laid gs g.outer) ≡ n + length (encode h.outer ++ open_delimiter h ∷ laid gs g.outer) =
+    omega (arith, length-append (encode h.outer) (open_delimiter h ∷ laid gs g.outer)) in
     ap (λ ps. pending (n + length (encode h.outer)) h ∷ ps) (places_open (n + length (encode h.outer) + 1) gs g)
     ∙ ap (λ m. pending (n + length (encode h.outer)) h ∷ (places (n + length (encode h.outer) + 1) gs ++ pending m g ∷ [])) k
 
@@ -98,8 +98,8 @@ last_place n (g ∷ h ∷ gs) (q ∷ ps) p e =
     let first : q ≡ pending (n + length (encode g.outer)) g = cc in
     let others : places (n + length (encode g.outer) + 1) (h ∷ gs) ≡ ps ++ p ∷ [] = cc in
     let r = last_place (n + length (encode g.outer) + 1) (h ∷ gs) ps p others in
-    let k : n + length (encode g.outer) + 1 + length (laid r.around r.innermost.outer) ≡ n + length (encode g.outer ++ open_sign g ∷ laid r.around r.innermost.outer) =
-    omega (arith, length-append (encode g.outer) (open_sign g ∷ laid r.around r.innermost.outer)) in
+    let k : n + length (encode g.outer) + 1 + length (laid r.around r.innermost.outer) ≡ n + length (encode g.outer ++ open_delimiter g ∷ laid r.around r.innermost.outer) =
+    omega (arith, length-append (encode g.outer) (open_delimiter g ∷ laid r.around r.innermost.outer)) in
     record {
       around = g ∷ r.around;
       innermost = r.innermost;
@@ -133,11 +133,11 @@ pub laid_closed : (gs : List OpenGroup) (g : OpenGroup) (c : Span) (s : Stream) 
     set (laid (gs ++ g ∷ []) s ++ E.Close (closing g c s) ∷ []) (length (laid gs g.outer)) (E.Open (opening g s)) ≡ laid gs (g.outer ⧺ closed g c s)
 laid_closed gs g c s =
     ap (λ es. set (es ++ E.Close (closing g c s) ∷ []) (length (laid gs g.outer)) (E.Open (opening g s))) (laid_open gs g s)
-    ∙ ap (λ es. set es (length (laid gs g.outer)) (E.Open (opening g s))) (append_assoc (laid gs g.outer) (open_sign g ∷ encode s) (E.Close (closing g c s) ∷ []))
-    ∙ set_at (laid gs g.outer) (open_sign g) (encode s ++ E.Close (closing g c s) ∷ []) (E.Open (opening g s)) (length (laid gs g.outer)) refl
+    ∙ ap (λ es. set es (length (laid gs g.outer)) (E.Open (opening g s))) (append_assoc (laid gs g.outer) (open_delimiter g ∷ encode s) (E.Close (closing g c s) ∷ []))
+    ∙ set_at (laid gs g.outer) (open_delimiter g) (encode s ++ E.Close (closing g c s) ∷ []) (E.Open (opening g s)) (length (laid gs g.outer)) refl
     ∙ ap (λ es. laid gs g.outer ++ es) (signs g c s)
     ∙ laid_more gs g.outer (closed g c s)
 
 -- so many entries, with those of the innermost open group behind its sign
 pub length_laid : (gs : List OpenGroup) (g : OpenGroup) (s : Stream) → length (laid (gs ++ g ∷ []) s) ≡ length (laid gs g.outer) + 1 + length (encode s)
-length_laid gs g s = omega (arith, ap length (laid_open gs g s), length-append (laid gs g.outer) (open_sign g ∷ encode s))
+length_laid gs g s = omega (arith, ap length (laid_open gs g s), length-append (laid gs g.outer) (open_delimiter g ∷ encode s))

@@ -16,7 +16,7 @@ use Rattle.syn_tokens.specs.declared.stream.entry.Open.{Open}
 use Rattle.syn_tokens.specs.declared.stream.entry.Token.{Token as Entry}
 use Rattle.syn_tokens.specs.declared.stream.entry.Token.TheVariants as E
 
--- a group whose closing sign is still to come
+-- a group whose closing delimiter is still to come
 pub record OpenGroup : Type 0 where
   pub delimiter : Delimiter
   pub opening : Span
@@ -36,13 +36,13 @@ coded_building = code_by (Stream × (List OpenGroup × Stream)) (coded× stream_
 
 -- THE ENTRIES SO FAR
 
--- the opening sign of a group that is still open: how far its closing sign stands isn't known yet
-abbrev pub open_sign : OpenGroup → Entry
-open_sign g = E.Open (record { delimiter = g.delimiter; span = g.opening; skip = 0 })
+-- the opening delimiter of a group that is still open: how far its closing delimiter stands isn't known yet
+abbrev pub open_delimiter : OpenGroup → Entry
+open_delimiter g = E.Open (record { delimiter = g.delimiter; span = g.opening; skip = 0 })
 
 abbrev pub laid : List OpenGroup → Stream → List Entry
 laid [] s = encode s
-laid (g ∷ gs) s = encode g.outer ++ open_sign g ∷ laid gs s
+laid (g ∷ gs) s = encode g.outer ++ open_delimiter g ∷ laid gs s
 
 -- the groups that are open, from what stands before the first of them and from the content of each
 abbrev pub groups : Stream → List (Open × Stream) → List OpenGroup
@@ -81,7 +81,7 @@ NotOpen d b = (around : List OpenGroup) (g : OpenGroup) → b.open_groups ≡ ar
 abbrev pub unbalanced : Span → List FaultValue
 unbalanced s = (s, codes "unbalanced group") ∷ []
 
--- memory was refused, or a sign there closes no group, for which this is the reason
+-- memory was refused, or a delimiter there closes no group, for which this is the reason
 abbrev pub IsUnbalanced : Span → Type 0 → List FaultValue → Type 0
 IsUnbalanced s reason [] = Unit {0}
 IsUnbalanced s reason (f ∷ fs) = (f ∷ fs ≡ unbalanced s) × reason

@@ -26,7 +26,7 @@ next_span (N.Literal l) = l.span
 next_span (N.Punct p) = p.span
 next_span (N.Group g) = g.opening
 
--- behind so many entries there is a closing sign
+-- behind so many entries there is a closing delimiter
 pub record Closes (es : List Entry) (count : ℕ) : Type 0 where
   pub content : List Entry
   pub closing : Closing

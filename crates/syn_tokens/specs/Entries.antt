@@ -1,4 +1,4 @@
--- The entries that a stream is kept as: its tokens and the signs of its groups, in order and at every depth.
+-- The entries that a stream is kept as: its tokens and the delimiters of its groups, in order and at every depth.
 use Rattle.std.specs.Prelude.{◌≡◌, ℕ, Bool, true, false, List, [], ◌∷◌, ◌++◌, length}
 use Rattle.syn_grammar.specs.Tokens as grammar
 use Rattle.syn_grammar.specs.Tokens.{Leaf, ident, literal, Stream, end, leaf, punct, group}
@@ -49,11 +49,11 @@ leaf_entry (literal k x) sp = E.Literal (record { kind = kind_from k; text = x; 
 abbrev pub punct_entry : ℕ → Bool → grammar.Span → Entry
 punct_entry c j sp = E.Punct (record { character = c; spacing = spacing_from j; span = from sp })
 
--- an opening sign, with so many entries before its closing sign
+-- an opening delimiter, with so many entries before its closing delimiter
 abbrev pub open_entry : grammar.Delimiter → grammar.Span → ℕ → Entry
 open_entry d o skip = E.Open (record { delimiter = delimiter_from d; span = from o; skip = skip })
 
--- a closing sign, with so many trees behind its opening sign
+-- a closing delimiter, with so many trees behind its opening delimiter
 abbrev pub close_entry : grammar.Delimiter → grammar.Span → ℕ → Entry
 close_entry d c trees = E.Close (record { delimiter = delimiter_from d; span = from c; trees = trees })
 
@@ -74,8 +74,8 @@ encode (group d o c i m) = open_entry d o (length (encode i)) ∷ (encode i ++ c
 
 -- THE STREAM OF ENTRIES, from the last to the first
 
--- the trees before the next sign that has no other sign yet; for each closing sign of this kind where it stands and the
--- trees behind it; for each opening sign of this kind it and the trees behind it
+-- the trees before the next delimiter that has no other one yet; for each closing delimiter of this kind where it stands and the
+-- trees behind it; for each opening delimiter of this kind it and the trees behind it
 pub record State : Type 0 where
   pub trees : Stream
   pub outer : List (grammar.Span × Stream)
@@ -98,12 +98,12 @@ states (e ∷ es) = step e (states es)
 abbrev pub decode : List Entry → Stream
 decode es = (states es).trees
 
--- these are the entries of a stream, which has so many trees: each opening sign has its closing sign where it says
+-- these are the entries of a stream, which has so many trees: each opening delimiter has its closing delimiter where it says
 pub record IsFlat (es : List Entry) (trees : ℕ) : Type 0 where
   pub encoded : es ≡ encode (decode es)
   pub counted : trees ≡ take.length (decode es)
 
--- a token, and no sign of a group
+-- a token, and no delimiter of a group
 abbrev pub IsToken : Entry → Type 0
 IsToken (E.Open o) = ⊥
 IsToken (E.Close c) = ⊥

@@ -1,4 +1,4 @@
--- Words, marks and the signs of groups, as types and as syntax.
+-- Words, marks and the delimiters of groups, as types and as syntax.
 use Rattle.syn_tokens.specs.declared.token.delimiters.Delimiters.{Delimiters}
 use Rattle.syn_tokens.specs.declared.token.kind.groups.Paren.{Paren as K_Paren}
 use Rattle.syn_tokens.specs.declared.token.kind.groups.Brace.{Brace as K_Brace}

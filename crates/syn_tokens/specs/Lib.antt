@@ -17,7 +17,7 @@ pub mod Leaves
 pub mod Listing
 pub mod Lists
 pub mod Literals
-pub mod Nears
+pub mod CompactSpans
 pub mod Packed
 pub mod Places
 pub mod Punct

@@ -1,7 +1,7 @@
--- How a stream keeps tokens and signs of groups.
+-- How a stream keeps tokens and delimiters of groups.
 use Rattle.std.specs.Prelude.{◌≡◌, IsTrue}
 use Rattle.syn_tokens.specs.Idents.{is_keyword}
-use Rattle.syn_tokens.specs.Nears.{wide}
+use Rattle.syn_tokens.specs.CompactSpans.{wide}
 use Rattle.syn_tokens.specs.Punct.{is_punct_character}
 use Rattle.syn_tokens.specs.declared.stream.entry.Token.{Token}
 use Rattle.syn_tokens.specs.declared.stream.entry.Token.TheVariants as E

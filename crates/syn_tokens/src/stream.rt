@@ -15,10 +15,10 @@ use std::alloc::{AllocError, Global};
 use std::marker::Model;
 
 pub mod builder;
+mod compact_span;
 mod copies;
 pub mod cursor;
 pub mod entry;
-mod near;
 mod same;
 pub mod tree;
 mod words;
@@ -26,7 +26,7 @@ mod words;
 /// A list of token trees.
 #[derive(Drop)]
 pub struct TokenStream {
-    /// Their tokens and the signs of their groups, at every depth.
+    /// Their tokens and the delimiters of their groups, at every depth.
     entries: Vec<Entry>,
     /// How many trees there are.
     trees: usize,
@@ -47,7 +47,7 @@ impl Model for TokenStream {
     ghost invariant = { λ s. IsFlat s.entries.items s.trees };
 }
 
-/// Adds a group's signs with these entries between them; refused, it leaves all as it was.
+/// Adds a group's delimiters with these entries between them; refused, it leaves all as it was.
 fn enclose(
     entries: &mut Vec<Entry>,
     opening: Entry,
@@ -126,7 +126,7 @@ impl TokenStream {
         self.alloc
     }
 
-    /// Its tokens and the signs of its groups, in order and at every depth.
+    /// Its tokens and the delimiters of its groups, in order and at every depth.
     pub fn entries(&self) -> &[Entry]
         ensures { result.now ≡ encode self.now }
     {

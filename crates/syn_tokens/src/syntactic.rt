@@ -11,7 +11,7 @@ use crate::stream::TokenStream;
 pub mod compare;
 pub mod try_clone;
 
-/// A value that stands for syntax: for what was read, with its signs and spans.
+/// A value that stands for syntax: for what was read, with its delimiters and spans.
 pub trait Syntactic {
     ghost syntax: { Self → Syntax };
 }

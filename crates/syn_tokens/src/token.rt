@@ -1,4 +1,4 @@
-//! Words, marks and the signs of groups, each with a type.
+//! Words, marks and the delimiters of groups, each with a type.
 
 mod characters;
 mod custom;

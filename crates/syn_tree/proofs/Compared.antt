@@ -10,7 +10,7 @@ use Rattle.syn_tokens.specs.Leaves.{maybe, syntax_of_ident}
 use Rattle.syn_tokens.specs.Idents.{IdentValue}
 use Rattle.syn_tokens.specs.Kinds.{Colon, Lt, Gt, colon_syntax, lt_syntax, gt_syntax}
 use Rattle.syn_tree.specs.Parts.{first, second}
-use Rattle.syn_tree.specs.Lower.{generics_signs}
+use Rattle.syn_tree.specs.Lower.{generics_brackets}
 use Rattle.syn_tree.specs.Data.{field_name}
 
 -- two tests that are true together are equal
@@ -58,24 +58,24 @@ same_name i j c d = told name_of parts_of_name _ _ (Both (maybe syntax_of_ident 
 -- THE SIGNS OF GENERICS
 
 abbrev signs_of : Syntax → Syntax
-signs_of s = generics_signs (first s) (second s)
+signs_of s = generics_brackets (first s) (second s)
 
 abbrev parts_of_signs : Syntax → Syntax
 parts_of_signs Nothing = Both (Right Nothing) (Right Nothing)
 parts_of_signs s = s
 
-plain_signs : (a : Option Lt) (c : Option Gt) → plain_syntax (generics_signs (maybe lt_syntax a) (maybe gt_syntax c)) ≡ signs_of (plain_syntax (Both (maybe lt_syntax a) (maybe gt_syntax c)))
+plain_signs : (a : Option Lt) (c : Option Gt) → plain_syntax (generics_brackets (maybe lt_syntax a) (maybe gt_syntax c)) ≡ signs_of (plain_syntax (Both (maybe lt_syntax a) (maybe gt_syntax c)))
 plain_signs (Some a) (Some c) = refl
 plain_signs (Some a) None = refl
 plain_signs None (Some c) = refl
 plain_signs None None = refl
 
-told_signs : (a : Option Lt) (c : Option Gt) → parts_of_signs (plain_syntax (generics_signs (maybe lt_syntax a) (maybe gt_syntax c))) ≡ plain_syntax (Both (maybe lt_syntax a) (maybe gt_syntax c))
+told_signs : (a : Option Lt) (c : Option Gt) → parts_of_signs (plain_syntax (generics_brackets (maybe lt_syntax a) (maybe gt_syntax c))) ≡ plain_syntax (Both (maybe lt_syntax a) (maybe gt_syntax c))
 told_signs (Some a) (Some c) = refl
 told_signs (Some a) None = refl
 told_signs None (Some c) = refl
 told_signs None None = refl
 
 pub same_signs : (a b : Option Lt) (c d : Option Gt) →
-    same_syntax (generics_signs (maybe lt_syntax a) (maybe gt_syntax c)) (generics_signs (maybe lt_syntax b) (maybe gt_syntax d)) ≡ and (same_syntax (maybe lt_syntax a) (maybe lt_syntax b)) (same_syntax (maybe gt_syntax c) (maybe gt_syntax d))
+    same_syntax (generics_brackets (maybe lt_syntax a) (maybe gt_syntax c)) (generics_brackets (maybe lt_syntax b) (maybe gt_syntax d)) ≡ and (same_syntax (maybe lt_syntax a) (maybe lt_syntax b)) (same_syntax (maybe gt_syntax c) (maybe gt_syntax d))
 same_signs a b c d = told signs_of parts_of_signs _ _ (Both (maybe lt_syntax a) (maybe gt_syntax c)) (Both (maybe lt_syntax b) (maybe gt_syntax d)) (plain_signs a c) (plain_signs b d) (told_signs a c) (told_signs b d)

@@ -1,8 +1,8 @@
 -- The condition of the grammar on what follows `pub`, by looking into the parentheses.
 use Rattle.std.proofs.Common.{◌≡◌, ℕ, Bool, true, false, [], ◌∷◌, ◌++◌, refl, sym, ap, ap₂, ◌∙◌, subst, true≢false}
 use Rattle.syn_grammar.specs.Words.{Text, keywords, contextual, w_in, w_crate, w_self, w_super}
-use Rattle.syn_grammar.specs.Tokens.{Stream, end, leaf, punct, group, ident, literal, Paren, Brace, Bracket, None as Invisible, or, and, pick, tells, Next, same_next, Asked, asked_by_path_word, Lone_word, Begins_in, Before_end, Front, note, asked, leaf_face, class, answers, is_word, is_ended, one_of_texts, Face, Word, Name, Span, Look, ended, at_word, ◌or_else◌, ◌and_also◌, noted}
-use Rattle.syn_grammar.specs.Take.{sees, at_front, take_token, take_group}
+use Rattle.syn_grammar.specs.Tokens.{Stream, end, leaf, punct, group, ident, literal, Paren, Brace, Bracket, None as Invisible, or, and, pick, has_fact, Fact, same_fact, Asked, asked_by_path_word, Lone_word, Begins_in, Before_end, Lookahead, facts_for, asked, leaf_terminal, lookahead, answers, is_word, is_ended, one_of_texts, Terminal, Word, Name, Span, Look, ended, at_word, ◌or_else◌, ◌and_also◌, ahead}
+use Rattle.syn_grammar.specs.Take.{sees, lookahead_at, take_token, take_group}
 use Rattle.syn_grammar.specs.Table.{at_restriction}
 use Rattle.syn_grammar.proofs.Sets.{same_text_eq}
 use Rattle.syn_grammar.proofs.Looks.{sees_group, sees_word}
@@ -12,77 +12,77 @@ use Rattle.syn_tree.specs.Looks.{lone_word, restricts}
 
 -- a word that begins a restriction by itself
 abbrev lone : Look
-lone = (at_word w_crate or_else at_word w_self or_else at_word w_super) and_also noted Before_end
+lone = (at_word w_crate or_else at_word w_self or_else at_word w_super) and_also ahead Before_end
 
--- a note that is not asked for is not told
-abbrev asks : Next → Asked → Bool
+-- a fact that is not asked for is not told
+abbrev asks : Fact → Asked → Bool
 asks n [] = false
-asks n (p ∷ l) = or (same_next n p.1) (asks n l)
+asks n (p ∷ l) = or (same_fact n p.1) (asks n l)
 
-not_told : (n : Next) (l : Asked) (f : Front) → asks n l ≡ false → tells n (note l f) ≡ false
+not_told : (n : Fact) (l : Asked) (f : Lookahead) → asks n l ≡ false → has_fact n (facts_for l f) ≡ false
 not_told n [] f e = refl
-not_told n (p ∷ l) f e = go (answers p.0 f) (same_next n p.1) refl (not_told n l f)
+not_told n (p ∷ l) f e = go (answers p.0 f) (same_fact n p.1) refl (not_told n l f)
   where
-    go : (a b : Bool) → same_next n p.1 ≡ b → (asks n l ≡ false → tells n (note l f) ≡ false) → tells n (pick a (p.1 ∷ note l f) (note l f)) ≡ false
+    go : (a b : Bool) → same_fact n p.1 ≡ b → (asks n l ≡ false → has_fact n (facts_for l f) ≡ false) → has_fact n (pick a (p.1 ∷ facts_for l f) (facts_for l f)) ≡ false
     go a true q h = absurd (true≢false (ap (λ z. or z (asks n l)) (sym q) ∙ e))
-    go true false q h = ap (λ z. or z (tells n (note l f))) q ∙ h (ap (λ z. or z (asks n l)) (sym q) ∙ e)
+    go true false q h = ap (λ z. or z (has_fact n (facts_for l f))) q ∙ h (ap (λ z. or z (asks n l)) (sym q) ∙ e)
     go false false q h = h (ap (λ z. or z (asks n l)) (sym q) ∙ e)
 
--- of a condition that is noted first, and of none behind it
-told_first : (n : Next) (c : Look) (l : Asked) (f : Front) → same_next n n ≡ true → asks n l ≡ false → tells n (note ((c, n) ∷ l) f) ≡ answers c f
+-- of a condition that is told first, and of none behind it
+told_first : (n : Fact) (c : Look) (l : Asked) (f : Lookahead) → same_fact n n ≡ true → asks n l ≡ false → has_fact n (facts_for ((c, n) ∷ l) f) ≡ answers c f
 told_first n c l f r e = go (answers c f)
   where
-    go : (a : Bool) → tells n (pick a (n ∷ note l f) (note l f)) ≡ a
-    go true = ap (λ z. or z (tells n (note l f))) r
+    go : (a : Bool) → has_fact n (pick a (n ∷ facts_for l f) (facts_for l f)) ≡ a
+    go true = ap (λ z. or z (has_fact n (facts_for l f))) r
     go false = not_told n l f e
 
--- an identifier's face is this word's only where that is its text
-word_face : (w x : Text) → is_word w (leaf_face (ident x)) ≡ true → x ≡ w
+-- an identifier's terminal is this word's only where that is its text
+word_face : (w x : Text) → is_word w (leaf_terminal (ident x)) ≡ true → x ≡ w
 word_face w x e = go (one_of_texts x (keywords ++ contextual)) e
   where
     go : (b : Bool) → is_word w (pick b (Word x) Name) ≡ true → x ≡ w
     go true e = sym (same_text_eq w x e)
     go false e = absurd (true≢false (sym e))
 
-abbrev one_of_three : Face → Bool
+abbrev one_of_three : Terminal → Bool
 one_of_three f = or (is_word w_crate f) (or (is_word w_self f) (is_word w_super f))
 
--- what the grammar notes of such a word is whether nothing follows
-noted_end : (x : Text) (m : Stream) → one_of_three (leaf_face (ident x)) ≡ true → tells Before_end (note (asked (leaf_face (ident x))) (class m)) ≡ is_ended (class m).face
-noted_end x m e = go (is_word w_crate (leaf_face (ident x))) (is_word w_self (leaf_face (ident x))) (is_word w_super (leaf_face (ident x))) refl refl refl e
+-- what the grammar tells of such a word is whether nothing follows
+noted_end : (x : Text) (m : Stream) → one_of_three (leaf_terminal (ident x)) ≡ true → has_fact Before_end (facts_for (asked (leaf_terminal (ident x))) (lookahead m)) ≡ is_ended (lookahead m).terminal
+noted_end x m e = go (is_word w_crate (leaf_terminal (ident x))) (is_word w_self (leaf_terminal (ident x))) (is_word w_super (leaf_terminal (ident x))) refl refl refl e
   where
-    at : (w : Text) → x ≡ w → tells Before_end (note (asked (leaf_face (ident w))) (class m)) ≡ is_ended (class m).face
-        → tells Before_end (note (asked (leaf_face (ident x))) (class m)) ≡ is_ended (class m).face
-    at w p h = subst (λ z. tells Before_end (note (asked (leaf_face (ident z))) (class m)) ≡ is_ended (class m).face) (sym p) h
+    at : (w : Text) → x ≡ w → has_fact Before_end (facts_for (asked (leaf_terminal (ident w))) (lookahead m)) ≡ is_ended (lookahead m).terminal
+        → has_fact Before_end (facts_for (asked (leaf_terminal (ident x))) (lookahead m)) ≡ is_ended (lookahead m).terminal
+    at w p h = subst (λ z. has_fact Before_end (facts_for (asked (leaf_terminal (ident z))) (lookahead m)) ≡ is_ended (lookahead m).terminal) (sym p) h
 
-    go : (a b c : Bool) → is_word w_crate (leaf_face (ident x)) ≡ a → is_word w_self (leaf_face (ident x)) ≡ b → is_word w_super (leaf_face (ident x)) ≡ c → or a (or b c) ≡ true →
-        tells Before_end (note (asked (leaf_face (ident x))) (class m)) ≡ is_ended (class m).face
-    go true b c p q r h = at w_crate (word_face w_crate x p) (told_first Before_end ended asked_by_path_word (class m) refl refl)
-    go false true c p q r h = at w_self (word_face w_self x q) (told_first Before_end ended asked_by_path_word (class m) refl refl)
-    go false false true p q r h = at w_super (word_face w_super x r) (told_first Before_end ended asked_by_path_word (class m) refl refl)
+    go : (a b c : Bool) → is_word w_crate (leaf_terminal (ident x)) ≡ a → is_word w_self (leaf_terminal (ident x)) ≡ b → is_word w_super (leaf_terminal (ident x)) ≡ c → or a (or b c) ≡ true →
+        has_fact Before_end (facts_for (asked (leaf_terminal (ident x))) (lookahead m)) ≡ is_ended (lookahead m).terminal
+    go true b c p q r h = at w_crate (word_face w_crate x p) (told_first Before_end ended asked_by_path_word (lookahead m) refl refl)
+    go false true c p q r h = at w_self (word_face w_self x q) (told_first Before_end ended asked_by_path_word (lookahead m) refl refl)
+    go false false true p q r h = at w_super (word_face w_super x r) (told_first Before_end ended asked_by_path_word (lookahead m) refl refl)
     go false false false p q r h = absurd (true≢false (sym h))
 
 and_same : (b c d : Bool) → (b ≡ true → c ≡ d) → and b c ≡ and b d
 and_same true c d h = h refl
 and_same false c d h = refl
 
-no_word : (w : Text) (c : ℕ) (j : Bool) (sp : Span) (m : Stream) → is_word w (class (punct c j sp m)).face ≡ false
-unfolding sees at_front take_token
+no_word : (w : Text) (c : ℕ) (j : Bool) (sp : Span) (m : Stream) → is_word w (lookahead (punct c j sp m)).terminal ≡ false
+unfolding sees lookahead_at take_token
 no_word w c j sp m = sees_word w (punct c j sp m)
 
 -- one of the three words, with nothing behind it
-lone_seen : (i : Stream) → answers lone (class i) ≡ lone_word i
-unfolding sees at_front
+lone_seen : (i : Stream) → answers lone (lookahead i) ≡ lone_word i
+unfolding sees lookahead_at
 lone_seen end = refl
-lone_seen (leaf (ident x) sp m) = and_same (one_of_three (leaf_face (ident x))) _ _ (noted_end x m)
+lone_seen (leaf (ident x) sp m) = and_same (one_of_three (leaf_terminal (ident x))) _ _ (noted_end x m)
 lone_seen (leaf (literal k x) sp m) = refl
 lone_seen (punct c j sp m) =
-    let none : one_of_three (class (punct c j sp m)).face ≡ false = ap₂ or (no_word w_crate c j sp m) (ap₂ or (no_word w_self c j sp m) (no_word w_super c j sp m)) in
-    ap (λ b. and b (tells Before_end (class (punct c j sp m)).notes)) none ∙ ap (λ b. and b (is_ended (class (past (punct c j sp m))).face)) (sym none)
+    let none : one_of_three (lookahead (punct c j sp m)).terminal ≡ false = ap₂ or (no_word w_crate c j sp m) (ap₂ or (no_word w_self c j sp m) (no_word w_super c j sp m)) in
+    ap (λ b. and b (has_fact Before_end (lookahead (punct c j sp m)).facts)) none ∙ ap (λ b. and b (is_ended (lookahead (past (punct c j sp m))).terminal)) (sym none)
 lone_seen (group d o c i m) = refl
 
--- what a group in parentheses notes of its content
-notes_inside : (a b : Bool) → or (tells Lone_word (pick a (Lone_word ∷ pick b (Begins_in ∷ []) []) (pick b (Begins_in ∷ []) []))) (tells Begins_in (pick a (Lone_word ∷ pick b (Begins_in ∷ []) []) (pick b (Begins_in ∷ []) []))) ≡ or b a
+-- what a group in parentheses tells of its content
+notes_inside : (a b : Bool) → or (has_fact Lone_word (pick a (Lone_word ∷ pick b (Begins_in ∷ []) []) (pick b (Begins_in ∷ []) []))) (has_fact Begins_in (pick a (Lone_word ∷ pick b (Begins_in ∷ []) []) (pick b (Begins_in ∷ []) []))) ≡ or b a
 notes_inside true true = refl
 notes_inside true false = refl
 notes_inside false true = refl
@@ -90,11 +90,11 @@ notes_inside false false = refl
 
 -- the condition of the grammar, by looking into the group
 pub restriction_seen : (ts : Stream) → sees at_restriction ts ≡ restricts (content_of (take_group Paren ts))
-unfolding sees at_front take_group
+unfolding sees lookahead_at take_group
 restriction_seen end = refl
-restriction_seen (leaf x sp m) = ap (λ b. and b (or (sees (noted Lone_word) (leaf x sp m)) (sees (noted Begins_in) (leaf x sp m)))) (sees_group Paren (leaf x sp m))
-restriction_seen (punct c j sp m) = ap (λ b. and b (or (sees (noted Lone_word) (punct c j sp m)) (sees (noted Begins_in) (punct c j sp m)))) (sees_group Paren (punct c j sp m))
-restriction_seen (group Paren o c i m) = notes_inside (answers lone (class i)) (answers (at_word w_in) (class i)) ∙ ap (or (answers (at_word w_in) (class i))) (lone_seen i)
+restriction_seen (leaf x sp m) = ap (λ b. and b (or (sees (ahead Lone_word) (leaf x sp m)) (sees (ahead Begins_in) (leaf x sp m)))) (sees_group Paren (leaf x sp m))
+restriction_seen (punct c j sp m) = ap (λ b. and b (or (sees (ahead Lone_word) (punct c j sp m)) (sees (ahead Begins_in) (punct c j sp m)))) (sees_group Paren (punct c j sp m))
+restriction_seen (group Paren o c i m) = notes_inside (answers lone (lookahead i)) (answers (at_word w_in) (lookahead i)) ∙ ap (or (answers (at_word w_in) (lookahead i))) (lone_seen i)
 restriction_seen (group Brace o c i m) = refl
 restriction_seen (group Bracket o c i m) = refl
 restriction_seen (group Invisible o c i m) = refl

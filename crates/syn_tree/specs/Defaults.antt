@@ -4,7 +4,7 @@ use Rattle.syn_grammar.specs.Tokens.{Stream}
 use Rattle.syn_grammar.specs.Rules.{visibility, type}
 use Rattle.syn_grammar.specs.Grammar.{Syntax}
 use Rattle.syn_grammar.specs.Take.{sees}
-use Rattle.syn_grammar.specs.Run.{reads}
+use Rattle.syn_grammar.specs.Run.{parse_rule}
 use Rattle.syn_grammar.specs.Table.{at_equals}
 use Rattle.syn_parse.specs.Peeks.{past}
 
@@ -14,8 +14,8 @@ pub record HasDefault (ts default : Stream) : Type 0 where
   pub behind_vis : Stream
   pub ty : Syntax
   pub behind_type : Stream
-  pub reads_vis : reads visibility ts ≡ Some (vis, behind_vis)
-  pub reads_type : reads type behind_vis ≡ Some (ty, behind_type)
+  pub reads_vis : parse_rule visibility ts ≡ Some (vis, behind_vis)
+  pub reads_type : parse_rule type behind_vis ≡ Some (ty, behind_type)
   pub equals : sees at_equals behind_type ≡ true
   pub is : default ≡ past behind_type
 

@@ -19,11 +19,11 @@ view_PathSegment a = syntax_of_ident a.ident
 abbrev pub syntax_of_Type : Type-m.the_data → Syntax
 syntax_of_Type (Type-m.Path t) = Node t
 
--- the signs of generics without parameters, which are never printed
-abbrev pub generics_signs : Syntax → Syntax → Syntax
-generics_signs (Right s) (Right t) = Nothing
-generics_signs lt_token gt_token = Both lt_token gt_token
+-- the `<` and `>` of generics without parameters, which are never printed
+abbrev pub generics_brackets : Syntax → Syntax → Syntax
+generics_brackets (Right s) (Right t) = Nothing
+generics_brackets lt_token gt_token = Both lt_token gt_token
 
 -- generics: no parameter and no clause can stand in them yet
 abbrev pub view_Generics : Generics-in.Inside → Syntax
-view_Generics a = generics_signs (maybe lt_syntax a.lt_token) (maybe gt_syntax a.gt_token)
+view_Generics a = generics_brackets (maybe lt_syntax a.lt_token) (maybe gt_syntax a.gt_token)

@@ -24,6 +24,6 @@ abbrev pub second : Syntax → Syntax
 second (Both s t) = t
 second s = s
 
--- in a group with these signs
+-- in a group with these delimiters
 abbrev pub group_syntax : {K : Type 0} → Delimiter → Delimiters K → Syntax → Syntax
 group_syntax d signs content = Group d (at signs.opening) (at signs.closing) content

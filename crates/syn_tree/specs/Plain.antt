@@ -1,7 +1,7 @@
 -- Written by tools/kinds.py; edits are lost.
 -- THE VIEWS OF STRUCTS THAT ARE THEIR RULE'S PARTS IN ORDER.
 use Rattle.syn_grammar.specs.Grammar.{Both, Node, Syntax}
-use Rattle.syn_grammar.specs.Says.{itself}
+use Rattle.syn_grammar.specs.Promises.{itself}
 use Rattle.syn_grammar.specs.Tokens.{Paren}
 use Rattle.syn_tokens.specs.Kinds.{comma_syntax, path_sep_syntax}
 use Rattle.syn_tokens.specs.Leaves.{maybe}

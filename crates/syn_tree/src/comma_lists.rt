@@ -2,21 +2,21 @@
 //!
 //! The rules of the grammar that are comma lists to the end of a group.
 ghost use Rattle.syn_grammar.specs.Rules as rules;
-ghost use Rattle.syn_tree.specs.Parsing.{reads, Says, Kept, IsSyntax, list_of};
+ghost use Rattle.syn_tree.specs.Parsing.{parse_rule, Computes, Kept, IsSyntax, list_of};
 ghost use Rattle.syn_tokens.specs.Kinds.{comma_syntax};
-ghost use Rattle.syn_grammar.specs.Says.{itself};
+ghost use Rattle.syn_grammar.specs.Promises.{itself};
 
 use crate::data::Field;
 use syn_parse::buffer::ParseBuffer;
 use syn_parse::read::End;
 use syn_parse::read::lists::punctuated_list;
-use syn_parse::read::refusal::Reading;
+use syn_parse::read::refusal::Parsed;
 use syn_tokens::punctuated::Punctuated;
 use syn_tokens::token::Comma;
 
 /// Fields without names: none, or one and, behind a comma, the others. The last comma may stand or not.
-pub(crate) fn unnamed_fields(input: &mut ParseBuffer<'_>) -> Reading<Punctuated<Field, Comma>>
-    ensures reads { Says IsSyntax (λ l. list_of itself comma_syntax l.pairs l.last) (reads rules.unnamed_fields input.old) result input.new }
+pub(crate) fn unnamed_fields(input: &mut ParseBuffer<'_>) -> Parsed<Punctuated<Field, Comma>>
+    ensures reads { Computes IsSyntax (λ l. list_of itself comma_syntax l.pairs l.last) (parse_rule rules.unnamed_fields input.old) result input.new }
     ensures moved { Kept input.old result input.new }
 {
     punctuated_list::<End, Comma, _, _>(input, |next| Field::read_unnamed(next))

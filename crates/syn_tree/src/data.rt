@@ -1,6 +1,6 @@
 //! Fields.
 ghost use Rattle.syn_grammar.specs.Rules as rules;
-ghost use Rattle.syn_tree.specs.Parsing.{of, rule, meaning_of_rule, reads, Says, Parses, Moved, Outcome, itself, IsSyntax, IsSyntaxError};
+ghost use Rattle.syn_tree.specs.Parsing.{of, rule, meaning_of_rule, parse_rule, Computes, Parses, Moved, Outcome, itself, IsSyntax, IsSyntaxError};
 ghost use Rattle.std.specs.Prelude.{◌≡◌, OnErr, OnOk};
 ghost use Rattle.syn_grammar.specs.Grammar.{print};
 ghost use Rattle.syn_tokens.specs.Building.{added};
@@ -16,7 +16,7 @@ use crate::restriction::Visibility;
 use std::alloc::AllocError;
 use syn_parse::buffer::ParseBuffer;
 use syn_parse::read::Read;
-use syn_parse::read::refusal::Reading;
+use syn_parse::read::refusal::Parsed;
 use syn_tokens::error::Result;
 use syn_tokens::ident::Ident;
 use syn_tokens::print::Print;
@@ -66,7 +66,7 @@ impl Field {
     #[tactic(auto, using(syn_parse::proofs::Refused::refused_by_syntax))]
     pub fn parse_unnamed(input: &mut ParseBuffer<'_>) -> Result<Field>
         ensures outcome { Outcome IsSyntaxError itself (rule rules.unnamed_field) input.old result input.new }
-        ensures reads { Says IsSyntaxError itself (reads rules.unnamed_field input.old) result input.new }
+        ensures reads { Computes IsSyntaxError itself (parse_rule rules.unnamed_field input.old) result input.new }
         ensures default { RefusesDefault input.old IsSyntaxError HasFaultNext result }
         ensures unchanged { OnErr result (input.new ≡ input.old) }
         ensures moved { Moved input.old result input.new }
@@ -79,7 +79,7 @@ impl Field {
 
     /// A visibility and a type, which no `=` may follow.
     #[tactic(auto, using(syn_grammar::proofs::Each::unnamed_field_is))]
-    pub(crate) fn read_unnamed(input: &mut ParseBuffer<'_>) -> Reading<Field>
+    pub(crate) fn read_unnamed(input: &mut ParseBuffer<'_>) -> Parsed<Field>
         ensures parses { Parses IsSyntax itself rules.unnamed_field input.old result input.new }
         ensures default { RefusesDefault input.old IsSyntax RefusedNext result }
     {
@@ -108,7 +108,7 @@ impl Read for FieldsUnnamed {
     ghost meaning = { meaning_of_rule rules.fields_unnamed };
 
     #[tactic(auto, using(syn_grammar::proofs::Each::fields_unnamed_is), unfolding(syn_grammar::specs::Take::is_end))]
-    fn read(input: &mut ParseBuffer<'_>) -> Reading<FieldsUnnamed> {
+    fn read(input: &mut ParseBuffer<'_>) -> Parsed<FieldsUnnamed> {
         let (paren_token, mut content) = input.read_group::<kind::Paren>()?;
         let unnamed = unnamed_fields(&mut content)?;
         content.read_end()?;
@@ -194,13 +194,13 @@ impl syn_tokens::syntactic::Syntactic for Fields {
 }
 
 impl syn_tokens::syntactic::Syntactic for FieldsUnnamed {
-    ghost use Rattle.syn_grammar.specs.Says.{itself};
+    ghost use Rattle.syn_grammar.specs.Promises.{itself};
 
     ghost syntax = { itself };
 }
 
 impl syn_tokens::syntactic::Syntactic for Field {
-    ghost use Rattle.syn_grammar.specs.Says.{itself};
+    ghost use Rattle.syn_grammar.specs.Promises.{itself};
 
     ghost syntax = { itself };
 }

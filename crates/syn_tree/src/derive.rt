@@ -1,6 +1,6 @@
 //! What a derive macro is given.
 ghost use Rattle.syn_grammar.specs.Rules as rules;
-ghost use Rattle.syn_tree.specs.Parsing.{of, rule, meaning_of_rule, reads, Says, Moved, IsSyntax};
+ghost use Rattle.syn_tree.specs.Parsing.{of, rule, meaning_of_rule, parse_rule, Computes, Moved, IsSyntax};
 ghost use Rattle.syn_tree.specs.Derive.{structure_syntax, body_syntax};
 
 use crate::data::Fields;
@@ -9,7 +9,7 @@ use crate::restriction::Visibility;
 use std::alloc::AllocError;
 use syn_parse::buffer::ParseBuffer;
 use syn_parse::read::Read;
-use syn_parse::read::refusal::Reading;
+use syn_parse::read::refusal::Parsed;
 use syn_tokens::ident::Ident;
 use syn_tokens::print::Print;
 use syn_tokens::span::Span;
@@ -47,7 +47,7 @@ impl Read for DeriveInput {
     ghost meaning = { meaning_of_rule rules.derive_input };
 
     #[tactic(auto, using(syn_grammar::proofs::Each::derive_input_is))]
-    fn read(input: &mut ParseBuffer<'_>) -> Reading<DeriveInput> {
+    fn read(input: &mut ParseBuffer<'_>) -> Parsed<DeriveInput> {
         let (vis, ident, data) = structure(input)?;
         Ok(DeriveInput {
             attrs: Vec::new(input.alloc()),
@@ -61,8 +61,8 @@ impl Read for DeriveInput {
 
 /// A visibility, `struct`, a name and what stands behind it.
 #[tactic(auto, using(syn_grammar::proofs::Each::structure_is))]
-fn structure(input: &mut ParseBuffer<'_>) -> Reading<(Visibility, Ident, DataStruct)>
-    ensures reads { Says IsSyntax structure_syntax (reads rules.structure input.old) result input.new }
+fn structure(input: &mut ParseBuffer<'_>) -> Parsed<(Visibility, Ident, DataStruct)>
+    ensures reads { Computes IsSyntax structure_syntax (parse_rule rules.structure input.old) result input.new }
     ensures moved { Moved input.old result input.new }
 {
     let vis = input.read()?;
@@ -82,8 +82,8 @@ fn structure(input: &mut ParseBuffer<'_>) -> Reading<(Visibility, Ident, DataStr
 
 /// Fields in parentheses or none, and `;`.
 #[tactic(auto, using(syn_grammar::proofs::Each::structure_body_is))]
-fn structure_body(input: &mut ParseBuffer<'_>) -> Reading<(Fields, Semi)>
-    ensures reads { Says IsSyntax body_syntax (reads rules.structure_body input.old) result input.new }
+fn structure_body(input: &mut ParseBuffer<'_>) -> Parsed<(Fields, Semi)>
+    ensures reads { Computes IsSyntax body_syntax (parse_rule rules.structure_body input.old) result input.new }
     ensures moved { Moved input.old result input.new }
 {
     if input.peek::<Paren>() {
@@ -124,7 +124,7 @@ impl std::marker::Model for DeriveInput {
 }
 
 impl syn_tokens::syntactic::Syntactic for DeriveInput {
-    ghost use Rattle.syn_grammar.specs.Says.{itself};
+    ghost use Rattle.syn_grammar.specs.Promises.{itself};
 
     ghost syntax = { itself };
 }

@@ -1,7 +1,7 @@
 //! Visibilities.
 ghost use Rattle.syn_grammar.specs.Rules as rules;
 ghost use Rattle.syn_grammar.specs.Tokens as grammar;
-ghost use Rattle.syn_tree.specs.Parsing.{of, rule, inside, meaning_of_rule, reads, parse, Says, Moved, IsSyntax};
+ghost use Rattle.syn_tree.specs.Parsing.{of, rule, inside, meaning_of_rule, parse_rule, parse_form, Computes, Moved, IsSyntax};
 ghost use Rattle.syn_tree.specs.Parts.{group_syntax};
 ghost use Rattle.syn_tree.specs.Restriction.{restriction_syntax};
 
@@ -9,7 +9,7 @@ use crate::looks::at_restriction;
 use crate::lower::Path;
 use syn_parse::buffer::ParseBuffer;
 use syn_parse::read::Read;
-use syn_parse::read::refusal::Reading;
+use syn_parse::read::refusal::Parsed;
 use syn_tokens::syntactic::compare::Compared;
 use syn_tokens::token::{In, Paren, Pub, kind};
 
@@ -42,7 +42,7 @@ impl Read for Visibility {
     ghost meaning = { meaning_of_rule rules.visibility };
 
     #[tactic(auto, using(syn_grammar::proofs::Each::visibility_is))]
-    fn read(input: &mut ParseBuffer<'_>) -> Reading<Visibility> {
+    fn read(input: &mut ParseBuffer<'_>) -> Parsed<Visibility> {
         if !input.peek::<Pub>() {
             return Ok(Visibility::Inherited);
         }
@@ -62,8 +62,8 @@ impl Read for Visibility {
 
 /// A path in parentheses, with or without `in`.
 #[tactic(auto, unfolding(syn_grammar::specs::Take::is_end))]
-fn restriction(input: &mut ParseBuffer<'_>) -> Reading<(Paren, Option<In>, Path)>
-    ensures reads { Says IsSyntax (λ p. group_syntax grammar.Paren p.0 (restriction_syntax (p.1, p.2))) (parse (inside grammar.Paren (rule rules.restriction)) input.old) result input.new }
+fn restriction(input: &mut ParseBuffer<'_>) -> Parsed<(Paren, Option<In>, Path)>
+    ensures reads { Computes IsSyntax (λ p. group_syntax grammar.Paren p.0 (restriction_syntax (p.1, p.2))) (parse_form (inside grammar.Paren (rule rules.restriction)) input.old) result input.new }
     ensures moved { Moved input.old result input.new }
 {
     let (paren_token, mut content) = input.read_group::<kind::Paren>()?;
@@ -74,8 +74,8 @@ fn restriction(input: &mut ParseBuffer<'_>) -> Reading<(Paren, Option<In>, Path)
 
 /// A path, with or without `in` before it.
 #[tactic(auto, using(syn_grammar::proofs::Each::restriction_is))]
-fn restricting_path(input: &mut ParseBuffer<'_>) -> Reading<(Option<In>, Path)>
-    ensures reads { Says IsSyntax restriction_syntax (reads rules.restriction input.old) result input.new }
+fn restricting_path(input: &mut ParseBuffer<'_>) -> Parsed<(Option<In>, Path)>
+    ensures reads { Computes IsSyntax restriction_syntax (parse_rule rules.restriction input.old) result input.new }
     ensures moved { Moved input.old result input.new }
 {
     Ok((input.read()?, input.read()?))
@@ -119,7 +119,7 @@ impl syn_tokens::syntactic::Syntactic for Visibility {
 }
 
 impl syn_tokens::syntactic::Syntactic for VisRestricted {
-    ghost use Rattle.syn_grammar.specs.Says.{itself};
+    ghost use Rattle.syn_grammar.specs.Promises.{itself};
 
     ghost syntax = { itself };
 }

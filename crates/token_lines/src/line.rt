@@ -41,14 +41,14 @@ fn add_entries(alloc: Global, tokens: &TokenStream, out: &mut String) -> Result<
             Token::Ident(ident) => add_ident(alloc, &ident, out)?,
             Token::Literal(literal) => add_literal(alloc, &literal, out)?,
             Token::Punct(punct) => add_punct(&punct, out)?,
-            Token::Open(open) => add(out, signs_of(open.delimiter).0, open.span)?,
-            Token::Close(close) => add(out, signs_of(close.delimiter).1, close.span)?,
+            Token::Open(open) => add(out, delimiters_of(open.delimiter).0, open.span)?,
+            Token::Close(close) => add(out, delimiters_of(close.delimiter).1, close.span)?,
         }
     }
     Ok(())
 }
 
-fn signs_of(delimiter: Delimiter) -> (&'static str, &'static str) {
+fn delimiters_of(delimiter: Delimiter) -> (&'static str, &'static str) {
     match delimiter {
         Delimiter::Paren => ("(", ")"),
         Delimiter::Brace => ("{", "}"),

@@ -3,7 +3,7 @@
 //! Each line of standard input is the hex digits of a text's bytes. For each, one line goes to standard output:
 //! `refused at BYTE: TEXT`, or the tokens of the text with a blank between them, then a tab and the hex digits of the token
 //! text. A token is its kind, where it begins and ends, and its text in hex digits: `Ident:0:1:61`, `Int:0:1:31`; of a mark's
-//! character also its spacing, as `Punct:0:1:2b:Joint`; a group is its two signs, `(:0:1` and `):1:2`, and what stands in it.
+//! character also its spacing, as `Punct:0:1:2b:Joint`; a group is its two delimiters, `(:0:1` and `):1:2`, and what stands in it.
 //!
 //! The status is 0; 1 where a line is no hex digits of a text in UTF-8, or can't be read or written; 3 where memory is
 //! refused.

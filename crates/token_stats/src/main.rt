@@ -2,8 +2,8 @@
 //! and the longest text among those tokens.
 //!
 //! The kinds are: identifiers that are names, keywords, lifetimes, marks, literals by what they are, and groups by their
-//! signs. A mark is the longest one that the library knows at that place, such as `<<=`; `..=` counts as `..` and `=`. The
-//! text of a group is its two signs, whatever stands in it. A doc comment counts as the tokens of the attribute that it is.
+//! delimiters. A mark is the longest one that the library knows at that place, such as `<<=`; `..=` counts as `..` and `=`. The
+//! text of a group is its two delimiters, whatever stands in it. A doc comment counts as the tokens of the attribute that it is.
 //! Lengths are in bytes, and of texts of one length the first is told, in quotes and with escapes, so that a line stays one.
 //!
 //! The status is 0; 1 where the text is refused or can't be read or written, with a line on standard error; 3 where memory

@@ -42,7 +42,7 @@ pub(crate) fn count(alloc: Global, text: &str) -> Result<Stats, Failure>
     Ok(stats)
 }
 
-/// Reads a group, if one stands next: its delimiter, its signs, and what stands in it.
+/// Reads a group, if one stands next: its delimiter, its delimiters, and what stands in it.
 fn group<'a>(input: &mut ParseBuffer<'a>) -> Option<(Delimiter, &'static str, ParseBuffer<'a>)> {
     if let Ok((_, content)) = input.parenthesized() {
         return Some((Delimiter::Paren, "( )", content));

@@ -10,7 +10,7 @@ use std::alloc::{AllocError, Global};
 pub(super) struct Doc<'a> {
     /// Of the item around it, not of the one behind it.
     pub(super) inner: bool,
-    /// What stands behind the opening sign, and before `*/`.
+    /// What stands behind the opening delimiter, and before `*/`.
     pub(super) text: &'a str,
 }
 

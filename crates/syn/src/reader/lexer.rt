@@ -8,9 +8,9 @@ ghost use Rattle.syn_tokens.specs.Idents.{may_start};
 ghost use Rattle.syn_tokens.specs.Punct.{is_joint, is_punct_character};
 ghost use Rattle.syn.specs.Scanning.{first_passes, drop_while, literal_at, Absent, after_word, begins_comment, begins_raw_name};
 ghost use Rattle.syn.specs.Places.{left};
-ghost use Rattle.syn.specs.Lexemes.{IsSign};
+ghost use Rattle.syn.specs.Lexemes.{IsDelimiter};
 ghost use Rattle.syn.specs.Spelling.{Stands};
-ghost use Rattle.syn.specs.Refusals.{NoSign, IsLexicalFault};
+ghost use Rattle.syn.specs.Refusals.{NoDelimiter, IsLexicalFault};
 
 use crate::reader::cursor::Cursor;
 use syn_tokens::delimiter::Delimiter;
@@ -27,7 +27,7 @@ mod numbers;
 use crate::reader::lexer::error::{Result, unexpected_character};
 use crate::reader::lexer::literals::{begins_byte, begins_raw_string};
 
-/// A piece of text that is a token, one of the two signs of a group, or a comment.
+/// A piece of text that is a token, one of the two delimiters of a group, or a comment.
 pub(super) enum Lexeme<'a> {
     Open(Delimiter, Span),
     Close(Delimiter, Span),
@@ -82,7 +82,7 @@ impl<'a> Lexer<'a> {
         if Punct::is_punct_character(first) {
             return Ok(self.mark(start, first));
         }
-        sign(first, self.cursor.span_since(start))
+        group_delimiter(first, self.cursor.span_since(start))
     }
 
     /// The character of a mark that begins at `start` and was stepped over.
@@ -244,10 +244,10 @@ fn begins_comment(cursor: Cursor<'_>) -> bool
     }
 }
 
-/// The sign of a group that this character is, if it is one.
-fn sign<'a>(character: char, span: Span) -> Result<Lexeme<'a>>
-    ensures ok { IfOk result (IsSign character span) }
-    ensures none { IfErr result (λ _. NoSign character) }
+/// The delimiter of a group that this character is, if it is one.
+fn group_delimiter<'a>(character: char, span: Span) -> Result<Lexeme<'a>>
+    ensures ok { IfOk result (IsDelimiter character span) }
+    ensures none { IfErr result (λ _. NoDelimiter character) }
     ensures err { IfErr result (λ e. e ≡ (span, codes "unexpected character") ∷ []) }
 {
     match character {

@@ -4,7 +4,7 @@ ghost use Rattle.std.specs.Char.{encode_utf8};
 ghost use Rattle.syn_grammar.specs.Tokens.{None, is_visible};
 ghost use Rattle.syn_tokens.specs.Delimiters.{delimiter_of};
 ghost use Rattle.syn_tokens.specs.Punct.{is_joint};
-ghost use Rattle.syn.specs.Spelling.{opening_sign, closing_sign};
+ghost use Rattle.syn.specs.Spelling.{opening_delimiter, closing_delimiter};
 ghost use Rattle.syn.specs.Texts.{gap, text_of};
 ghost use Rattle.syn.specs.EntryTexts.{entry_text, direct_behind};
 
@@ -15,8 +15,8 @@ use syn_tokens::punct::{Punct, Spacing};
 use syn_tokens::stream::TokenStream;
 use syn_tokens::stream::entry::{Entry, Token};
 
-/// The text of a token stream: its tokens and the signs of its groups with one space between them, and none behind a
-/// mark's character that is `Joint`. The signs of a `None` group are not written. Refused only where memory is.
+/// The text of a token stream: its tokens and the delimiters of its groups with one space between them, and none behind a
+/// mark's character that is `Joint`. The delimiters of a `None` group are not written. Refused only where memory is.
 #[tactic(auto, using(crate::proofs::WrittenEntries::whole_text, crate::proofs::WrittenEntries::next_entry, crate::proofs::WrittenEntries::no_entry))]
 pub fn token_text(tokens: &TokenStream) -> Result<String>
     ensures text { IfOk result (λ text. string_bytes text ≡ text_of tokens.now) }
@@ -41,7 +41,7 @@ struct Writer {
 }
 
 impl Writer {
-    /// An entry; the signs of an invisible group are not written.
+    /// An entry; the delimiters of an invisible group are not written.
     fn entry(&mut self, entry: &Entry) -> std::result::Result<(), AllocError>
         ensures text { OnOk result (string_bytes self.new.text ≡ string_bytes self.old.text ++ entry_text self.old.glued entry.now) }
         ensures glued { OnOk result (self.new.glued ≡ direct_behind self.old.glued entry.now) }
@@ -91,11 +91,11 @@ impl Writer {
     }
 }
 
-/// The opening and the closing sign of a visible group.
+/// The opening and the closing delimiter of a visible group.
 fn signs(delimiter: Delimiter) -> Option<(&'static str, &'static str)>
     ensures { MatchOption result (delimiter_of delimiter ≡ None)
-        (λ signs. (is_visible (delimiter_of delimiter) ≡ true) × (signs.0.now ≡ opening_sign (delimiter_of delimiter))
-        × (signs.1.now ≡ closing_sign (delimiter_of delimiter))) }
+        (λ signs. (is_visible (delimiter_of delimiter) ≡ true) × (signs.0.now ≡ opening_delimiter (delimiter_of delimiter))
+        × (signs.1.now ≡ closing_delimiter (delimiter_of delimiter))) }
 {
     match delimiter {
         Delimiter::Paren => Some(("(", ")")),

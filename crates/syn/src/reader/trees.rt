@@ -6,13 +6,13 @@ ghost use Rattle.syn_grammar.specs.Tokens.{Stream};
 ghost use Rattle.syn_tokens.specs.Entries.{decode, IsToken};
 ghost use Rattle.syn_tokens.specs.Building.{NotOpen, IsUnbalanced};
 ghost use Rattle.syn_tokens.specs.Delimiters.{delimiter_of};
-ghost use Rattle.syn.specs.Flat.{opened, closed, sign, flat};
+ghost use Rattle.syn.specs.Flat.{opened, closed, punctuation, flat};
 ghost use Rattle.syn.specs.Spelling.{IsFaultWithin, doc_tokens};
 ghost use Rattle.syn.specs.Refusals.{IsRefusal};
 
 use crate::reader::docs::{Doc, doc_of, quoted};
+use crate::reader::ident_cache::IdentCache;
 use crate::reader::lexer::Lexeme;
-use crate::reader::names::Names;
 use std::alloc::{AllocError, Global};
 use syn_tokens::delimiter::Delimiter;
 use syn_tokens::error::Result;
@@ -27,7 +27,7 @@ use syn_tokens::stream::entry::Entry;
 #[derive(Drop)]
 pub(super) struct TreeBuilder {
     inner: StreamBuilder,
-    names: Names,
+    ident_cache: IdentCache,
 }
 
 impl TreeBuilder {
@@ -40,7 +40,7 @@ impl TreeBuilder {
     {
         Ok(TreeBuilder {
             inner: StreamBuilder::new(alloc),
-            names: Names::new(alloc, length)?,
+            ident_cache: IdentCache::new(alloc, length)?,
         })
     }
 
@@ -56,7 +56,7 @@ impl TreeBuilder {
             Lexeme::Open(delimiter, span) => Ok(self.open(delimiter, span)?),
             Lexeme::Close(delimiter, span) => self.close(delimiter, span),
             Lexeme::Ident(text, span) => {
-                let ident = self.names.ident(text, span)?;
+                let ident = self.ident_cache.ident(text, span)?;
                 let entry = Entry::ident(alloc, ident)?;
                 Ok(self.push(entry)?)
             }
@@ -76,7 +76,7 @@ impl TreeBuilder {
         }
     }
 
-    /// The trees, where no group is open any more. Else refused at the outermost open sign.
+    /// The trees, where no group is open any more. Else refused at the outermost open delimiter.
     pub(super) fn finish(self) -> Result<TokenStream>
         ensures tokens { (n : ℕ) → AllWithin n self.inner.open_groups → MatchResult result (λ stream. flat stream ≡ tokens_so_far self) (IsFaultWithin n) }
         ensures fault { IfErr result (IsOutermost self) }
@@ -111,9 +111,9 @@ impl TreeBuilder {
         ensures memory { IfErr result (λ e. e ≡ []) }
     {
         let alloc = self.inner.alloc();
-        self.attribute_sign(doc.inner, span)?;
+        self.attribute_punct(doc.inner, span)?;
         self.open(Delimiter::Bracket, span)?;
-        let name = self.names.ident("doc", span)?;
+        let name = self.ident_cache.ident("doc", span)?;
         let entry = Entry::ident(alloc, name)?;
         self.push(entry)?;
         self.mark('=', span)?;
@@ -126,8 +126,8 @@ impl TreeBuilder {
 
     /// Adds `#` before an attribute, or `#!` where it stands in what it speaks of.
     #[tactic(auto, using(crate::proofs::Groups::joined), unfolding(syn_tokens::specs::Punct::is_punct_character))]
-    fn attribute_sign(&mut self, inner: bool, span: Span) -> std::result::Result<(), AllocError>
-        ensures tokens { IfOk result (λ _. tokens_so_far self.new ≡ tokens_so_far self.old ++ (sign 35 false (at span) ∷ (if inner then sign 33 false (at span) ∷ [] else []))) }
+    fn attribute_punct(&mut self, inner: bool, span: Span) -> std::result::Result<(), AllocError>
+        ensures tokens { IfOk result (λ _. tokens_so_far self.new ≡ tokens_so_far self.old ++ (punctuation 35 false (at span) ∷ (if inner then punctuation 33 false (at span) ∷ [] else []))) }
         ensures groups { self.new.inner.open_groups ≡ self.old.inner.open_groups }
     {
         self.mark('#', span)?;
@@ -137,7 +137,7 @@ impl TreeBuilder {
     /// Adds a mark's character that stands alone.
     fn mark(&mut self, character: char, span: Span) -> std::result::Result<(), AllocError>
         requires { IsTrue (is_punct_character character) }
-        ensures tokens { IfOk result (λ _. tokens_so_far self.new ≡ tokens_so_far self.old ++ (sign character false (at span) ∷ [])) }
+        ensures tokens { IfOk result (λ _. tokens_so_far self.new ≡ tokens_so_far self.old ++ (punctuation character false (at span) ∷ [])) }
         ensures groups { self.new.inner.open_groups ≡ self.old.inner.open_groups }
     {
         let punct = Punct::new(character, Spacing::Alone, span);

@@ -107,7 +107,7 @@ fn absent_semicolon(rt: HostRuntime) -> Result<(), Fail> {
     Ok(())
 }
 
-/// Signs without parameters aren't printed.
+/// `<` and `>` without parameters aren't printed.
 #[test]
 fn empty_generics(rt: HostRuntime) -> Result<(), Fail> {
     let generics = Generics {

@@ -87,7 +87,7 @@ pub fn push_marks(tokens: &mut TokenStream, characters: &str, spacing: Spacing) 
     Ok(())
 }
 
-/// Adds a group at the end of a stream, its signs at 0 to 1 and 1 to 2.
+/// Adds a group at the end of a stream, its delimiters at 0 to 1 and 1 to 2.
 pub fn push_group(
     tokens: &mut TokenStream,
     delimiter: Delimiter,

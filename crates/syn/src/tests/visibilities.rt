@@ -148,7 +148,7 @@ fn restricted_by(alloc: Global, delimiter: Delimiter, text: &str) -> crate::Resu
     Ok(tokens)
 }
 
-/// A raw identifier is no word of the language, and a group without signs is no parentheses.
+/// A raw identifier is no word of the language, and a group without delimiters is no parentheses.
 #[test]
 fn by_hand(rt: HostRuntime) -> Result<(), Fail> {
     for (delimiter, text, restricts) in [

@@ -1,22 +1,22 @@
 //! Keywords and marks of own syntaxes.
 ghost use Rattle.std.specs.Prelude.{◌≡◌, ◌∷◌, [], IfErr};
 ghost use Rattle.syn_grammar.specs.Take.{take_mark, taken};
-ghost use Rattle.syn_grammar.specs.Says.{Says, Takes};
+ghost use Rattle.syn_grammar.specs.Promises.{Computes, Takes};
 ghost use Rattle.syn_tokens.specs.Leaves.{syntax_of_word};
 ghost use Rattle.syn_parse.specs.Form.{take_keyword};
 ghost use Rattle.syn_parse.specs.Nexts.{RefusedNext};
 ghost use Rattle.syn_parse.specs.Refusals.{IsSyntax};
 
 use crate::buffer::ParseBuffer;
-use crate::buffer::front::{split_ident, split_joint, split_last};
-use crate::read::refusal::Reading;
+use crate::buffer::first_token::{split_ident, split_joint, split_last};
+use crate::read::refusal::Parsed;
 use syn_tokens::span::Span;
 
 impl<'a> ParseBuffer<'a> {
     /// The identifier of this text, whether or not the grammar knows it.
     #[tactic(auto, using(crate::proofs::Words::take_the_keyword, crate::proofs::Words::take_no_keyword, crate::proofs::Words::no_keyword), unfolding(syn_grammar::specs::Take::left))]
-    pub(crate) fn read_keyword(&mut self, text: &str, expected: &'static str) -> Reading<Span>
-        ensures reads { Says IsSyntax (syntax_of_word text.now) (take_keyword text.now self.old) result self.new }
+    pub(crate) fn read_keyword(&mut self, text: &str, expected: &'static str) -> Parsed<Span>
+        ensures reads { Computes IsSyntax (syntax_of_word text.now) (take_keyword text.now self.old) result self.new }
         ensures moved { Takes 1 self.old result self.new }
         ensures fault { IfErr result (RefusedNext self.old expected.now) }
     {
@@ -42,7 +42,7 @@ impl<'a> ParseBuffer<'a> {
     }
 
     /// Whether these two characters stand next, the first of them Joint.
-    #[tactic(auto, using(crate::proofs::Fronts::mark_is))]
+    #[tactic(auto, using(crate::proofs::FirstTokens::mark_is))]
     pub(crate) fn is_at_punctuation2(&self, c: char, d: char) -> bool
         ensures { result ≡ taken (take_mark (c ∷ d ∷ []) self.now) }
     {
@@ -53,7 +53,7 @@ impl<'a> ParseBuffer<'a> {
     }
 
     /// Whether these three characters stand next, all but the last of them Joint.
-    #[tactic(auto, using(crate::proofs::Fronts::mark_is))]
+    #[tactic(auto, using(crate::proofs::FirstTokens::mark_is))]
     pub(crate) fn is_at_punctuation3(&self, c: char, d: char, e: char) -> bool
         ensures { result ≡ taken (take_mark (c ∷ d ∷ e ∷ []) self.now) }
     {

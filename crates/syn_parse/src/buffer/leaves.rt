@@ -4,16 +4,16 @@ ghost use Rattle.syn_grammar.specs.Words.{w_self, w_Self_type, w_super, w_crate}
 ghost use Rattle.syn_grammar.specs.Tokens.{at_name, at_word, at_mark, at_literal, at_group, one_of_texts};
 ghost use Rattle.syn_grammar.specs.Grammar.{name, identifier, word, name_or, any_literal, literal_of};
 ghost use Rattle.syn_grammar.specs.Take.{sees, take_token, take_lifetime};
-ghost use Rattle.syn_grammar.specs.Says.{Says, Takes};
+ghost use Rattle.syn_grammar.specs.Promises.{Computes, Takes};
 ghost use Rattle.syn_parse.specs.Refusals.{IsSyntax};
 ghost use Rattle.syn_tokens.specs.Delimiters.{delimiter_of};
 ghost use Rattle.syn_parse.specs.Nexts.{RefusedNext};
 ghost use Rattle.syn_tokens.specs.Leaves.{is_known_word, syntax_of_ident, syntax_of_literal, syntax_of_word, syntax_of_apostrophe};
-ghost use Rattle.syn_parse.specs.Fronts.{at_any_literal, path_words};
+ghost use Rattle.syn_parse.specs.FirstTokens.{at_any_literal, path_words};
 
 use crate::buffer::ParseBuffer;
-use crate::buffer::front::{split_group, split_ident, split_lifetime, split_literal};
-use crate::read::refusal::Reading;
+use crate::buffer::first_token::{split_group, split_ident, split_lifetime, split_literal};
+use crate::read::refusal::Parsed;
 use syn_tokens::delimiter::Delimiter;
 use syn_tokens::ident::Ident;
 use syn_tokens::ident::ident_ref::IdentRef;
@@ -30,8 +30,8 @@ fn is_path_word(ident: &IdentRef<'_>) -> bool
 impl<'a> ParseBuffer<'a> {
     /// An identifier that is no keyword.
     #[tactic(auto, using(crate::proofs::Words::take_name, crate::proofs::Words::take_no_name), unfolding(syn_grammar::specs::Take::left))]
-    pub(crate) fn read_name(&mut self) -> Reading<Ident>
-        ensures reads { Says IsSyntax syntax_of_ident (take_token name self.old) result self.new }
+    pub(crate) fn read_name(&mut self) -> Parsed<Ident>
+        ensures reads { Computes IsSyntax syntax_of_ident (take_token name self.old) result self.new }
         ensures moved { Takes 1 self.old result self.new }
         ensures fault { IfErr result (λ r. IsSyntax r → RefusedNext self.old (codes "expected identifier") r) }
     {
@@ -47,8 +47,8 @@ impl<'a> ParseBuffer<'a> {
 
     /// Any identifier.
     #[tactic(auto, using(crate::proofs::Words::take_identifier), unfolding(syn_grammar::specs::Take::left))]
-    pub fn read_identifier(&mut self) -> Reading<Ident>
-        ensures reads { Says IsSyntax syntax_of_ident (take_token identifier self.old) result self.new }
+    pub fn read_identifier(&mut self) -> Parsed<Ident>
+        ensures reads { Computes IsSyntax syntax_of_ident (take_token identifier self.old) result self.new }
         ensures moved { Takes 1 self.old result self.new }
         ensures fault { IfErr result (λ r. IsSyntax r → RefusedNext self.old (codes "expected identifier") r) }
     {
@@ -61,8 +61,8 @@ impl<'a> ParseBuffer<'a> {
 
     /// An identifier that is no keyword, or one of the keywords of paths: `self`, `Self`, `super`, `crate`.
     #[tactic(auto, using(crate::proofs::Words::take_name_or, crate::proofs::Words::take_no_name_or), unfolding(syn_grammar::specs::Take::left))]
-    pub fn read_path_word(&mut self) -> Reading<Ident>
-        ensures reads { Says IsSyntax syntax_of_ident (take_token (name_or path_words) self.old) result self.new }
+    pub fn read_path_word(&mut self) -> Parsed<Ident>
+        ensures reads { Computes IsSyntax syntax_of_ident (take_token (name_or path_words) self.old) result self.new }
         ensures moved { Takes 1 self.old result self.new }
         ensures fault { IfErr result (λ r. IsSyntax r → RefusedNext self.old (codes "expected identifier") r) }
     {
@@ -78,9 +78,9 @@ impl<'a> ParseBuffer<'a> {
 
     /// The identifier of this text.
     #[tactic(auto, using(crate::proofs::Words::take_word, crate::proofs::Words::take_no_word), unfolding(syn_grammar::specs::Take::left))]
-    pub(crate) fn read_word(&mut self, text: &str, expected: &'static str) -> Reading<Span>
+    pub(crate) fn read_word(&mut self, text: &str, expected: &'static str) -> Parsed<Span>
         requires { is_known_word text.now ≡ true }
-        ensures reads { Says IsSyntax (syntax_of_word text.now) (take_token (word text.now) self.old) result self.new }
+        ensures reads { Computes IsSyntax (syntax_of_word text.now) (take_token (word text.now) self.old) result self.new }
         ensures moved { Takes 1 self.old result self.new }
         ensures fault { IfErr result (RefusedNext self.old expected.now) }
     {
@@ -96,8 +96,8 @@ impl<'a> ParseBuffer<'a> {
 
     /// A literal of any kind.
     #[tactic(auto, using(crate::proofs::Words::take_literal), unfolding(syn_grammar::specs::Take::left))]
-    pub(crate) fn read_literal(&mut self) -> Reading<Literal>
-        ensures reads { Says IsSyntax syntax_of_literal (take_token any_literal self.old) result self.new }
+    pub(crate) fn read_literal(&mut self) -> Parsed<Literal>
+        ensures reads { Computes IsSyntax syntax_of_literal (take_token any_literal self.old) result self.new }
         ensures moved { Takes 1 self.old result self.new }
         ensures fault { IfErr result (λ r. IsSyntax r → RefusedNext self.old (codes "expected literal") r) }
     {
@@ -110,8 +110,8 @@ impl<'a> ParseBuffer<'a> {
 
     /// A `'` directly before an identifier: its span, and the identifier.
     #[tactic(auto, unfolding(syn_grammar::specs::Take::take_lifetime, syn_grammar::specs::Take::left))]
-    pub(crate) fn read_lifetime(&mut self) -> Reading<(Span, Ident)>
-        ensures reads { Says IsSyntax syntax_of_apostrophe (take_lifetime self.old) result self.new }
+    pub(crate) fn read_lifetime(&mut self) -> Parsed<(Span, Ident)>
+        ensures reads { Computes IsSyntax syntax_of_apostrophe (take_lifetime self.old) result self.new }
         ensures moved { Takes 1 self.old result self.new }
         ensures fault { IfErr result (λ r. IsSyntax r → RefusedNext self.old (codes "expected lifetime") r) }
     {
@@ -153,7 +153,7 @@ impl<'a> ParseBuffer<'a> {
         split_literal(&self.tokens).is_some()
     }
 
-    /// Whether a group with these signs stands next.
+    /// Whether a group with these delimiters stands next.
     #[tactic(auto, using(syn_grammar::proofs::Looks::sees_group))]
     pub(crate) fn is_at_group(&self, delimiter: Delimiter) -> bool
         ensures { result ≡ sees (at_group (delimiter_of delimiter)) self.now }

@@ -2,22 +2,22 @@
 ghost use Rattle.std.specs.Prelude.{◌≡◌, ◌∷◌, [], true, IfErr};
 ghost use Rattle.syn_grammar.specs.Tokens.{at_mark};
 ghost use Rattle.syn_grammar.specs.Take.{sees, take_mark};
-ghost use Rattle.syn_grammar.specs.Says.{Says, Takes};
+ghost use Rattle.syn_grammar.specs.Promises.{Computes, Takes};
 ghost use Rattle.syn_grammar.proofs.Looks.{known_mark};
 ghost use Rattle.syn_parse.specs.Refusals.{IsSyntax};
 ghost use Rattle.syn_tokens.specs.Leaves.{syntax_of_mark};
 ghost use Rattle.syn_parse.specs.Nexts.{RefusedNext};
 
 use crate::buffer::ParseBuffer;
-use crate::buffer::front::{split_joint, split_last};
-use crate::read::refusal::Reading;
+use crate::buffer::first_token::{split_joint, split_last};
+use crate::read::refusal::Parsed;
 use syn_tokens::span::Span;
 
 impl<'a> ParseBuffer<'a> {
     /// A mark of one character.
-    #[tactic(auto, using(crate::proofs::Fronts::mark_is))]
-    pub(crate) fn read_mark1(&mut self, c: char, expected: &'static str) -> Reading<[Span; 1]>
-        ensures reads { Says IsSyntax (syntax_of_mark (c ∷ [])) (take_mark (c ∷ []) self.old) result self.new }
+    #[tactic(auto, using(crate::proofs::FirstTokens::mark_is))]
+    pub(crate) fn read_mark1(&mut self, c: char, expected: &'static str) -> Parsed<[Span; 1]>
+        ensures reads { Computes IsSyntax (syntax_of_mark (c ∷ [])) (take_mark (c ∷ []) self.old) result self.new }
         ensures moved { Takes 1 self.old result self.new }
         ensures fault { IfErr result (RefusedNext self.old expected.now) }
     {
@@ -29,14 +29,14 @@ impl<'a> ParseBuffer<'a> {
     }
 
     /// A mark of two characters, the first of them Joint.
-    #[tactic(auto, using(crate::proofs::Fronts::mark_is))]
+    #[tactic(auto, using(crate::proofs::FirstTokens::mark_is))]
     pub(crate) fn read_mark2(
         &mut self,
         c: char,
         d: char,
         expected: &'static str,
-    ) -> Reading<[Span; 2]>
-        ensures reads { Says IsSyntax (syntax_of_mark (c ∷ d ∷ [])) (take_mark (c ∷ d ∷ []) self.old) result self.new }
+    ) -> Parsed<[Span; 2]>
+        ensures reads { Computes IsSyntax (syntax_of_mark (c ∷ d ∷ [])) (take_mark (c ∷ d ∷ []) self.old) result self.new }
         ensures moved { Takes 1 self.old result self.new }
         ensures fault { IfErr result (RefusedNext self.old expected.now) }
     {
@@ -51,15 +51,15 @@ impl<'a> ParseBuffer<'a> {
     }
 
     /// A mark of three characters, all but the last of them Joint.
-    #[tactic(auto, using(crate::proofs::Fronts::mark_is))]
+    #[tactic(auto, using(crate::proofs::FirstTokens::mark_is))]
     pub(crate) fn read_mark3(
         &mut self,
         c: char,
         d: char,
         e: char,
         expected: &'static str,
-    ) -> Reading<[Span; 3]>
-        ensures reads { Says IsSyntax (syntax_of_mark (c ∷ d ∷ e ∷ [])) (take_mark (c ∷ d ∷ e ∷ []) self.old) result self.new }
+    ) -> Parsed<[Span; 3]>
+        ensures reads { Computes IsSyntax (syntax_of_mark (c ∷ d ∷ e ∷ [])) (take_mark (c ∷ d ∷ e ∷ []) self.old) result self.new }
         ensures moved { Takes 1 self.old result self.new }
         ensures fault { IfErr result (RefusedNext self.old expected.now) }
     {
@@ -77,7 +77,7 @@ impl<'a> ParseBuffer<'a> {
     }
 
     /// Whether this mark of one character stands next.
-    #[tactic(auto, using(syn_grammar::proofs::Looks::sees_one, crate::proofs::Fronts::mark_is))]
+    #[tactic(auto, using(syn_grammar::proofs::Looks::sees_one, crate::proofs::FirstTokens::mark_is))]
     pub(crate) fn is_at_mark1(&self, c: char) -> bool
         ensures { result ≡ sees (at_mark (c ∷ [])) self.now }
     {
@@ -85,7 +85,7 @@ impl<'a> ParseBuffer<'a> {
     }
 
     /// Whether this mark of two characters stands next.
-    #[tactic(auto, using(syn_grammar::proofs::Looks::sees_mark, crate::proofs::Fronts::mark_is))]
+    #[tactic(auto, using(syn_grammar::proofs::Looks::sees_mark, crate::proofs::FirstTokens::mark_is))]
     pub(crate) fn is_at_mark2(&self, c: char, d: char) -> bool
         requires { known_mark (c ∷ d ∷ []) ≡ true }
         ensures { result ≡ sees (at_mark (c ∷ d ∷ [])) self.now }
@@ -97,7 +97,7 @@ impl<'a> ParseBuffer<'a> {
     }
 
     /// Whether this mark of three characters stands next.
-    #[tactic(auto, using(syn_grammar::proofs::Looks::sees_mark, crate::proofs::Fronts::mark_is))]
+    #[tactic(auto, using(syn_grammar::proofs::Looks::sees_mark, crate::proofs::FirstTokens::mark_is))]
     pub(crate) fn is_at_mark3(&self, c: char, d: char, e: char) -> bool
         requires { known_mark (c ∷ d ∷ e ∷ []) ≡ true }
         ensures { result ≡ sees (at_mark (c ∷ d ∷ e ∷ [])) self.now }

@@ -1,18 +1,18 @@
 //! Lists with separators, up to the end of a buffer.
 ghost use Rattle.std.specs.Prelude.{◌≡◌, IsTrue, OnOk, OnErr};
 ghost use Rattle.syn_grammar.specs.Take.{is_end};
-ghost use Rattle.syn_grammar.specs.Says.{Says, Kept};
-ghost use Rattle.syn_grammar.proofs.Takes.{token_less, sign_less};
+ghost use Rattle.syn_grammar.specs.Promises.{Computes, Kept};
+ghost use Rattle.syn_grammar.proofs.Takes.{token_less, mark_less};
 ghost use Rattle.syn_tokens.specs.Faults.{IsSyntaxError};
 ghost use Rattle.syn_parse.specs.Refusals.{IsSyntax};
 ghost use Rattle.syn_tokens.specs.Listing.{list_of};
 ghost use Rattle.syn_parse.specs.Terminated.{terminated};
 ghost use Rattle.syn_parse.specs.Meanings.{keyword_less};
-ghost use Rattle.syn_parse.specs.Form.{parse, ReadsSome, ListOutcome};
+ghost use Rattle.syn_parse.specs.Form.{parse, ParsesSome, ListOutcome};
 
 use crate::buffer::ParseBuffer;
 use crate::parse::Parse;
-use crate::read::refusal::Reading;
+use crate::read::refusal::Parsed;
 use crate::read::{Read, ReadMark};
 use syn_tokens::error::Result;
 use syn_tokens::punctuated::Punctuated;
@@ -24,7 +24,7 @@ use syn_tokens::token::{
 /// What may stand between the elements of a list: a word or a mark.
 pub trait Separator: Read {
     /// Some token is read by it.
-    ghost reads_some: { ReadsSome Self.form };
+    ghost reads_some: { ParsesSome Self.form };
 }
 
 impl<K: WordKind> Separator for Word<K> {
@@ -32,7 +32,7 @@ impl<K: WordKind> Separator for Word<K> {
 }
 
 impl<K: ReadMark<N>, const N: usize> Separator for Mark<K, N> {
-    ghost reads_some = { sign_less _ };
+    ghost reads_some = { mark_less _ };
 }
 
 impl<K: CustomKeywordKind> Separator for CustomKeyword<K> {
@@ -40,11 +40,11 @@ impl<K: CustomKeywordKind> Separator for CustomKeyword<K> {
 }
 
 impl<K: CustomPunctuationKind<2>> Separator for CustomPunctuation<K, 2> {
-    ghost reads_some = { sign_less _ };
+    ghost reads_some = { mark_less _ };
 }
 
 impl<K: CustomPunctuationKind<3>> Separator for CustomPunctuation<K, 3> {
-    ghost reads_some = { sign_less _ };
+    ghost reads_some = { mark_less _ };
 }
 
 impl<'a> ParseBuffer<'a> {
@@ -55,7 +55,7 @@ impl<'a> ParseBuffer<'a> {
         &mut self,
     ) -> Result<Punctuated<T, P>>
         ensures outcome { ListOutcome IsSyntaxError T.syntax P.syntax T.form P.form self.old result }
-        ensures reads { Says IsSyntaxError (λ l. list_of T.syntax P.syntax l.pairs l.last) (terminated (parse T.form) (parse P.form) self.old) result self.new }
+        ensures reads { Computes IsSyntaxError (λ l. list_of T.syntax P.syntax l.pairs l.last) (terminated (parse T.form) (parse P.form) self.old) result self.new }
         ensures all { OnOk result (IsTrue (is_end self.new)) }
         ensures unchanged { OnErr result (self.new ≡ self.old) }
     {
@@ -71,7 +71,7 @@ impl<'a> ParseBuffer<'a> {
 fn read_to_end<T: Parse + Drop, P: Separator + Drop>(
     input: &mut ParseBuffer<'_>,
 ) -> Result<Punctuated<T, P>>
-    ensures reads { Says IsSyntaxError (λ l. list_of T.syntax P.syntax l.pairs l.last) (terminated (parse T.form) (parse P.form) input.old) result input.new }
+    ensures reads { Computes IsSyntaxError (λ l. list_of T.syntax P.syntax l.pairs l.last) (terminated (parse T.form) (parse P.form) input.old) result input.new }
     ensures all { OnOk result (IsTrue (is_end input.new)) }
 {
     let mut list = Punctuated::new(input.alloc());
@@ -92,8 +92,8 @@ impl<'a> ParseBuffer<'a> {
     #[tactic(auto, using(syn_grammar::proofs::Looks::sees_ended))]
     pub fn read_terminated<T: Read + Drop, P: Separator + Drop>(
         &mut self,
-    ) -> Reading<Punctuated<T, P>>
-        ensures reads { Says IsSyntax (λ l. list_of T.syntax P.syntax l.pairs l.last) (terminated (parse T.form) (parse P.form) self.old) result self.new }
+    ) -> Parsed<Punctuated<T, P>>
+        ensures reads { Computes IsSyntax (λ l. list_of T.syntax P.syntax l.pairs l.last) (terminated (parse T.form) (parse P.form) self.old) result self.new }
         ensures moved { Kept self.old result self.new }
     {
         let mut list = Punctuated::new(self.alloc());

@@ -5,7 +5,7 @@ ghost use Rattle.syn_parse.specs.Form.{at_keyword, at_punctuation, keyword, punc
 ghost use Rattle.syn_parse.specs.Meanings.{meaning_of};
 
 use crate::buffer::ParseBuffer;
-use crate::read::refusal::Reading;
+use crate::read::refusal::Parsed;
 use crate::read::{Peek, Read};
 use syn_tokens::token::{
     CustomKeyword, CustomKeywordKind, CustomPunctuation, CustomPunctuationKind,
@@ -28,7 +28,7 @@ impl<K: CustomKeywordKind> Peek for CustomKeyword<K> {
 impl<K: CustomKeywordKind> Read for CustomKeyword<K> {
     ghost form = { keyword K.text };
 
-    fn read(input: &mut ParseBuffer<'_>) -> Reading<CustomKeyword<K>> {
+    fn read(input: &mut ParseBuffer<'_>) -> Parsed<CustomKeyword<K>> {
         let span = input.read_keyword(K::text(), K::expected())?;
         Ok(CustomKeyword::new(span))
     }
@@ -54,7 +54,7 @@ impl<K: CustomPunctuationKind<2>> Peek for CustomPunctuation<K, 2> {
 impl<K: CustomPunctuationKind<2>> Read for CustomPunctuation<K, 2> {
     ghost form = { punctuation K.text };
 
-    fn read(input: &mut ParseBuffer<'_>) -> Reading<CustomPunctuation<K, 2>> {
+    fn read(input: &mut ParseBuffer<'_>) -> Parsed<CustomPunctuation<K, 2>> {
         let [c, d] = K::characters();
         let spans = input.read_mark2(c, d, K::expected())?;
         Ok(CustomPunctuation::new(spans))
@@ -81,7 +81,7 @@ impl<K: CustomPunctuationKind<3>> Peek for CustomPunctuation<K, 3> {
 impl<K: CustomPunctuationKind<3>> Read for CustomPunctuation<K, 3> {
     ghost form = { punctuation K.text };
 
-    fn read(input: &mut ParseBuffer<'_>) -> Reading<CustomPunctuation<K, 3>> {
+    fn read(input: &mut ParseBuffer<'_>) -> Parsed<CustomPunctuation<K, 3>> {
         let [c, d, e] = K::characters();
         let spans = input.read_mark3(c, d, e, K::expected())?;
         Ok(CustomPunctuation::new(spans))

@@ -5,10 +5,10 @@ ghost use Rattle.syn_grammar.specs.Tokens.{at_mark, at_name};
 ghost use Rattle.syn_grammar.specs.Grammar.{any_literal, lifetime, name, token};
 ghost use Rattle.syn_parse.specs.Form.{by, of};
 ghost use Rattle.syn_parse.specs.Meanings.{meaning_of};
-ghost use Rattle.syn_parse.specs.Fronts.{at_any_literal};
+ghost use Rattle.syn_parse.specs.FirstTokens.{at_any_literal};
 
 use crate::buffer::ParseBuffer;
-use crate::read::refusal::Reading;
+use crate::read::refusal::Parsed;
 use crate::read::{Peek, Read};
 use syn_tokens::ident::Ident;
 use syn_tokens::lifetime::Lifetime;
@@ -32,7 +32,7 @@ impl Peek for Ident {
 impl Read for Ident {
     ghost form = { of (token [] name) };
 
-    fn read(input: &mut ParseBuffer<'_>) -> Reading<Ident> {
+    fn read(input: &mut ParseBuffer<'_>) -> Parsed<Ident> {
         input.read_name()
     }
 
@@ -43,7 +43,7 @@ impl Read for Ident {
 impl Read for Literal {
     ghost form = { of (token [] any_literal) };
 
-    fn read(input: &mut ParseBuffer<'_>) -> Reading<Literal> {
+    fn read(input: &mut ParseBuffer<'_>) -> Parsed<Literal> {
         input.read_literal()
     }
 
@@ -83,7 +83,7 @@ impl Peek for Lifetime {
 impl Read for Lifetime {
     ghost form = { of lifetime };
 
-    fn read(input: &mut ParseBuffer<'_>) -> Reading<Lifetime> {
+    fn read(input: &mut ParseBuffer<'_>) -> Parsed<Lifetime> {
         let (apostrophe, ident) = input.read_lifetime()?;
         Ok(Lifetime { apostrophe, ident })
     }

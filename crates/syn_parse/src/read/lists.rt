@@ -3,8 +3,8 @@ ghost use Rattle.std.specs.Prelude.{◌≡◌};
 ghost use Rattle.syn_grammar.specs.Rules.{Rule};
 ghost use Rattle.syn_grammar.specs.Grammar.{Syntax};
 ghost use Rattle.syn_grammar.specs.Take.{left};
-ghost use Rattle.syn_grammar.specs.Run.{reads};
-ghost use Rattle.syn_grammar.specs.Says.{Says, Moved, Kept};
+ghost use Rattle.syn_grammar.specs.Run.{parse_rule};
+ghost use Rattle.syn_grammar.specs.Promises.{Computes, Moved, Kept};
 ghost use Rattle.syn_parse.specs.Form.{Form};
 ghost use Rattle.syn_parse.specs.Refusals.{IsSyntax};
 ghost use Rattle.syn_tokens.specs.Listing.{list_of, joined_of};
@@ -12,7 +12,7 @@ ghost use Rattle.syn_parse.specs.Listing.{Callable, Answers, IsList, IsJoined};
 
 use crate::buffer::ParseBuffer;
 use crate::buffer::call::Answer;
-use crate::read::refusal::{Reading, Refusal};
+use crate::read::refusal::{Parsed, Refusal};
 use crate::read::{Peek, Read};
 use syn_tokens::punctuated::Punctuated;
 
@@ -22,12 +22,12 @@ pub fn punctuated_list<
     P: Peek + Read + Drop,
     R: Answer<Refusal>,
     F: Fn(&mut ParseBuffer<'_>) -> R,
->(input: &mut ParseBuffer<'_>, element: F) -> Reading<Punctuated<R::Node, P>>
+>(input: &mut ParseBuffer<'_>, element: F) -> Parsed<Punctuated<R::Node, P>>
 where
     R::Node: Drop,
     requires { Callable (left input.old) R.answers (F.pre element) (F.post element) }
     ensures reads { (k : Rule) (e : Form) (v : R.Node → Syntax) → IsList k e S.look P.look P.form → Answers IsSyntax e v R.answers (F.post element)
-        → Says IsSyntax (λ l. list_of v P.syntax l.pairs l.last) (reads k input.old) result input.new }
+        → Computes IsSyntax (λ l. list_of v P.syntax l.pairs l.last) (parse_rule k input.old) result input.new }
     ensures moved { Kept input.old result input.new }
 {
     let mut list = Punctuated::new(input.alloc());
@@ -47,12 +47,12 @@ where
 pub fn joined_list<P: Peek + Read + Drop, R: Answer<Refusal>, F: Fn(&mut ParseBuffer<'_>) -> R>(
     input: &mut ParseBuffer<'_>,
     element: F,
-) -> Reading<Punctuated<R::Node, P>>
+) -> Parsed<Punctuated<R::Node, P>>
 where
     R::Node: Drop,
     requires { Callable (left input.old) R.answers (F.pre element) (F.post element) }
     ensures reads { (k : Rule) (e : Form) (v : R.Node → Syntax) → IsJoined k e P.look P.form → Answers IsSyntax e v R.answers (F.post element)
-        → Says IsSyntax (λ l. joined_of v P.syntax l.pairs l.last) (reads k input.old) result input.new }
+        → Computes IsSyntax (λ l. joined_of v P.syntax l.pairs l.last) (parse_rule k input.old) result input.new }
     ensures moved { Moved input.old result input.new }
 {
     let mut list = Punctuated::new(input.alloc());

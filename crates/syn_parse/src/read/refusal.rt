@@ -17,7 +17,7 @@ pub enum Refusal {
 }
 
 /// What a parser answers.
-pub type Reading<T> = std::result::Result<T, Refusal>;
+pub type Parsed<T> = std::result::Result<T, Refusal>;
 
 impl From<AllocError> for Refusal {
     ghost from_gives = { λ _ e. e ≡ Memory };

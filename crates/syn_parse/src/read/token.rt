@@ -1,9 +1,9 @@
-//! Words, marks and the signs of groups, as rules read them.
+//! Words, marks and the delimiters of groups, as rules read them.
 ghost use Rattle.std.specs.Prelude.{◌≡◌, [], false, refl};
 ghost use Rattle.syn_grammar.specs.Tokens.{at_group, at_mark, at_word};
 ghost use Rattle.syn_grammar.specs.Grammar.{mark, token, word};
 ghost use Rattle.syn_grammar.specs.Take.{take_mark, sees};
-ghost use Rattle.syn_grammar.specs.Says.{Says, Takes};
+ghost use Rattle.syn_grammar.specs.Promises.{Computes, Takes};
 ghost use Rattle.syn_parse.specs.Form.{by, of, punctuation};
 ghost use Rattle.syn_parse.specs.Meanings.{meaning_of};
 ghost use Rattle.syn_tokens.specs.Faults.{expected};
@@ -11,7 +11,7 @@ ghost use Rattle.syn_tokens.specs.Leaves.{syntax_of_mark};
 ghost use Rattle.syn_parse.specs.Refusals.{IsSyntax};
 
 use crate::buffer::ParseBuffer;
-use crate::read::refusal::Reading;
+use crate::read::refusal::Parsed;
 use crate::read::{Peek, Read};
 use syn_tokens::span::Span;
 use syn_tokens::token::{
@@ -36,7 +36,7 @@ impl<K: WordKind> Peek for Word<K> {
 impl<K: WordKind> Read for Word<K> {
     ghost form = { of (token [] (word K.text)) };
 
-    fn read(input: &mut ParseBuffer<'_>) -> Reading<Word<K>> {
+    fn read(input: &mut ParseBuffer<'_>) -> Parsed<Word<K>> {
         let span = input.read_word(K::text(), K::expected())?;
         Ok(Word::new(span))
     }
@@ -51,8 +51,8 @@ pub trait ReadMark<const N: usize>: MarkKind<N> {
         ensures { result ≡ sees (at_mark Self.text) input.now };
 
     /// Reads the mark: where its characters stand.
-    fn read(input: &mut ParseBuffer<'_>) -> Reading<[Span; N]>
-        ensures reads { Says IsSyntax (syntax_of_mark Self.text) (take_mark Self.text input.old) result input.new }
+    fn read(input: &mut ParseBuffer<'_>) -> Parsed<[Span; N]>
+        ensures reads { Computes IsSyntax (syntax_of_mark Self.text) (take_mark Self.text input.old) result input.new }
         ensures moved { Takes 1 input.old result input.new };
 }
 
@@ -61,7 +61,7 @@ impl<K: OneCharacter> ReadMark<1> for K {
         input.is_at_mark1(K::character())
     }
 
-    fn read(input: &mut ParseBuffer<'_>) -> Reading<[Span; 1]> {
+    fn read(input: &mut ParseBuffer<'_>) -> Parsed<[Span; 1]> {
         input.read_mark1(K::character(), <K as OneCharacter>::expected())
     }
 }
@@ -72,7 +72,7 @@ impl<K: TwoCharacters> ReadMark<2> for K {
         input.is_at_mark2(c, d)
     }
 
-    fn read(input: &mut ParseBuffer<'_>) -> Reading<[Span; 2]> {
+    fn read(input: &mut ParseBuffer<'_>) -> Parsed<[Span; 2]> {
         let (c, d) = K::characters();
         input.read_mark2(c, d, <K as TwoCharacters>::expected())
     }
@@ -84,7 +84,7 @@ impl<K: ThreeCharacters> ReadMark<3> for K {
         input.is_at_mark3(c, d, e)
     }
 
-    fn read(input: &mut ParseBuffer<'_>) -> Reading<[Span; 3]> {
+    fn read(input: &mut ParseBuffer<'_>) -> Parsed<[Span; 3]> {
         let (c, d, e) = K::characters();
         input.read_mark3(c, d, e, <K as ThreeCharacters>::expected())
     }
@@ -107,7 +107,7 @@ impl<K: ReadMark<N>, const N: usize> Peek for Mark<K, N> {
 impl<K: ReadMark<N>, const N: usize> Read for Mark<K, N> {
     ghost form = { of (mark false K.text) };
 
-    fn read(input: &mut ParseBuffer<'_>) -> Reading<Mark<K, N>> {
+    fn read(input: &mut ParseBuffer<'_>) -> Parsed<Mark<K, N>> {
         match K::read(input) {
             Ok(spans) => Ok(Mark::new(spans)),
             Err(refusal) => Err(refusal),

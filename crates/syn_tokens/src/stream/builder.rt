@@ -1,4 +1,4 @@
-//! Token streams that are built one token or sign after another.
+//! Token streams that are built one token or delimiter after another.
 ghost use Rattle.std.specs.Prelude.{◌≡◌, ◌<◌, IsTrue, List, [], ◌∷◌, ◌++◌, true, length, slice_set, IfErr, OnOk, OnErr, MatchResult, IfOk};
 ghost use Rattle.syn_grammar.specs.Tokens.{end, ident, leaf, punct, ◌⧺◌};
 ghost use Rattle.syn_tokens.specs.Entries.{decode, IsToken};
@@ -20,7 +20,7 @@ use crate::stream::words::Words;
 use std::alloc::{AllocError, Global};
 use std::marker::Model;
 
-/// A group whose closing sign is still to come.
+/// A group whose closing delimiter is still to come.
 #[derive(Clone, Copy)]
 struct Pending {
     delimiter: Delimiter,
@@ -38,7 +38,7 @@ struct Mark {
     trees: usize,
 }
 
-/// Builds a token stream from tokens and the signs of groups, one after another. Groups may be open, one in another;
+/// Builds a token stream from tokens and the delimiters of groups, one after another. Groups may be open, one in another;
 /// however deep they are, each call takes as little time. It may begin with a stream, which `undo` gives back.
 #[derive(Drop)]
 pub struct StreamBuilder {
@@ -66,7 +66,7 @@ impl Model for StreamBuilder {
     ghost invariant = { λ b. IsBuilt b.entries.items b.pending.items b.trees × IsBegun b.mark.entries b.mark.trees b.entries.items };
 }
 
-/// Sets the opening sign of a group, and adds its closing sign; refused, it leaves the entries as they were.
+/// Sets the opening delimiter of a group, and adds its closing delimiter; refused, it leaves the entries as they were.
 fn enclose(
     entries: &mut Vec<Entry>,
     place: usize,
@@ -223,7 +223,7 @@ impl StreamBuilder {
     }
 
     /// Goes out of the innermost open group, which becomes a tree of the group around it. Refused with the fault
-    /// `unbalanced group` at the sign where the innermost open group has another delimiter, or none is open; refused, it
+    /// `unbalanced group` at the delimiter where the innermost open group has another delimiter, or none is open; refused, it
     /// leaves all as it was.
     pub fn close(&mut self, delimiter: Delimiter, closing: Span) -> Result<()>
         ensures ok { OnOk result (Closes delimiter closing self.old self.new) }
@@ -270,7 +270,7 @@ impl StreamBuilder {
     }
 
     /// The stream, where no group is open any more. Else refused with the fault `unbalanced group` at the outermost open
-    /// sign. It takes no memory.
+    /// delimiter. It takes no memory.
     pub fn finish(self) -> Result<TokenStream>
         ensures { MatchResult result (λ stream. (self.open_groups ≡ []) × (self.stream ≡ stream))
             (λ e. (g : OpenGroup) × (gs : List OpenGroup) × (self.open_groups ≡ g ∷ gs) × (e ≡ unbalanced g.opening)) }

@@ -38,7 +38,7 @@ impl<'a> Model for Cursor<'a> {
     ghost invariant = { λ c. IsFlat c.entries.now c.trees };
 }
 
-/// A group in a stream: its signs, where they stand, and a cursor over its content.
+/// A group in a stream: its delimiters, where they stand, and a cursor over its content.
 #[derive(Drop)]
 pub struct Inner<'a> {
     pub delimiter: Delimiter,
@@ -64,7 +64,7 @@ fn split_first(entries: &[Entry]) -> Option<(&Entry, &[Entry])>
     entries.split_first()
 }
 
-/// So many entries, the closing sign behind them, and the others.
+/// So many entries, the closing delimiter behind them, and the others.
 #[inline(always)]
 fn split_close(entries: &[Entry], count: usize) -> Option<(&[Entry], Close, &[Entry])>
     ensures { MatchOption result (Closes entries.now count → ⊥)
@@ -82,7 +82,7 @@ fn split_close(entries: &[Entry], count: usize) -> Option<(&[Entry], Close, &[En
 }
 
 impl<'a> Next<'a> {
-    /// Where it stands; of a group, where its opening sign does.
+    /// Where it stands; of a group, where its opening delimiter does.
     pub fn span(&self) -> Span
         ensures { result ≡ next_span self.now }
     {

@@ -1,4 +1,4 @@
-//! What a token stream is kept as: one entry for each token, and two for each group, its signs.
+//! What a token stream is kept as: one entry for each token, and two for each group, its delimiters.
 ghost use Rattle.std.specs.Prelude.{◌≡◌, IfOk};
 ghost use Rattle.syn_tokens.specs.Entries.{entry_span};
 ghost use Rattle.syn_tokens.specs.declared.stream.entry.Token.TheVariants as E;
@@ -10,22 +10,22 @@ use crate::literal::literal_ref::LiteralRef;
 use crate::literal::{LitKind, Literal};
 use crate::punct::{Punct, Spacing};
 use crate::span::Span;
-use crate::stream::near::Near;
+use crate::stream::compact_span::CompactSpan;
 use crate::text::Text;
 use std::alloc::{AllocError, Global};
 use std::marker::Model;
 use std::rc::Rc;
 
-/// The opening sign of a group.
+/// The opening delimiter of a group.
 #[derive(Clone, Copy, Debug)]
 pub struct Open {
     pub delimiter: Delimiter,
     pub span: Span,
-    /// How many entries stand between it and its closing sign.
+    /// How many entries stand between it and its closing delimiter.
     pub skip: usize,
 }
 
-/// The closing sign of a group.
+/// The closing delimiter of a group.
 #[derive(Clone, Copy, Debug)]
 pub struct Close {
     pub delimiter: Delimiter,
@@ -34,7 +34,7 @@ pub struct Close {
     pub trees: usize,
 }
 
-/// A token in a stream, or a sign of a group there.
+/// A token in a stream, or a delimiter of a group there.
 #[derive(Drop)]
 pub enum Token<'a> {
     Ident(IdentRef<'a>),
@@ -44,7 +44,7 @@ pub enum Token<'a> {
     Close(Close),
 }
 
-/// A token, or a sign of a group, as a stream keeps it: in 24 bytes, where it stands within the first 2^32 bytes of a text.
+/// A token, or a delimiter of a group, as a stream keeps it: in 24 bytes, where it stands within the first 2^32 bytes of a text.
 #[derive(Drop)]
 pub struct Entry {
     inner: Packed,
@@ -54,13 +54,13 @@ pub struct Entry {
 #[derive(Drop)]
 enum Packed {
     /// Whether it is a keyword, where it stands, and its text.
-    Ident(bool, Near, Text),
-    Literal(LitKind, Near, Text),
-    Punct(Spacing, char, Near),
-    /// With how many entries there are before its closing sign.
-    Open(Delimiter, Near, usize),
+    Ident(bool, CompactSpan, Text),
+    Literal(LitKind, CompactSpan, Text),
+    Punct(Spacing, char, CompactSpan),
+    /// With how many entries there are before its closing delimiter.
+    Open(Delimiter, CompactSpan, usize),
     /// With how many token trees the group has.
-    Close(Delimiter, Near, usize),
+    Close(Delimiter, CompactSpan, usize),
     Far(Rc<Far>),
 }
 
@@ -88,7 +88,7 @@ impl Model for Entry {
 impl Far {
     ghost use Rattle.syn_tokens.specs.Packed.{far_token};
 
-    /// The token or sign itself.
+    /// The token or delimiter itself.
     fn token(&self) -> Token<'_>
         ensures { result ≡ far_token self.now }
     {
@@ -118,7 +118,7 @@ impl Entry {
     pub fn ident(alloc: Global, ident: Ident) -> Result<Entry, AllocError>
         ensures { IfOk result (λ entry. entry ≡ E.Ident ident) }
     {
-        let Some(place) = Near::of(ident.span) else {
+        let Some(place) = CompactSpan::of(ident.span) else {
             return Entry::far(alloc, Far::Ident(ident));
         };
         let (keyword, text) = ident.into_parts();
@@ -132,7 +132,7 @@ impl Entry {
     pub fn literal(alloc: Global, literal: Literal) -> Result<Entry, AllocError>
         ensures { IfOk result (λ entry. entry ≡ E.Literal literal) }
     {
-        let Some(place) = Near::of(literal.span) else {
+        let Some(place) = CompactSpan::of(literal.span) else {
             return Entry::far(alloc, Far::Literal(literal));
         };
         let (kind, text) = literal.into_parts();
@@ -146,7 +146,7 @@ impl Entry {
     pub fn punct(alloc: Global, punct: Punct) -> Result<Entry, AllocError>
         ensures { IfOk result (λ entry. entry ≡ E.Punct punct) }
     {
-        let Some(place) = Near::of(punct.span) else {
+        let Some(place) = CompactSpan::of(punct.span) else {
             return Entry::far(alloc, Far::Punct(punct));
         };
         Ok(Entry {
@@ -154,12 +154,12 @@ impl Entry {
         })
     }
 
-    /// The entry of an opening sign. It takes memory only where the sign stands beyond the first 2^32 bytes of a text.
+    /// The entry of an opening delimiter. It takes memory only where the delimiter stands beyond the first 2^32 bytes of a text.
     #[inline(always)]
     pub(crate) fn open(alloc: Global, sign: Open) -> Result<Entry, AllocError>
         ensures { IfOk result (λ entry. entry ≡ E.Open sign) }
     {
-        let Some(place) = Near::of(sign.span) else {
+        let Some(place) = CompactSpan::of(sign.span) else {
             return Entry::far(alloc, Far::Open(sign));
         };
         Ok(Entry {
@@ -167,12 +167,12 @@ impl Entry {
         })
     }
 
-    /// The entry of a closing sign. It takes memory only where the sign stands beyond the first 2^32 bytes of a text.
+    /// The entry of a closing delimiter. It takes memory only where the delimiter stands beyond the first 2^32 bytes of a text.
     #[inline(always)]
     pub(crate) fn close(alloc: Global, sign: Close) -> Result<Entry, AllocError>
         ensures { IfOk result (λ entry. entry ≡ E.Close sign) }
     {
-        let Some(place) = Near::of(sign.span) else {
+        let Some(place) = CompactSpan::of(sign.span) else {
             return Entry::far(alloc, Far::Close(sign));
         };
         Ok(Entry {
@@ -180,7 +180,7 @@ impl Entry {
         })
     }
 
-    /// The token or sign that it is.
+    /// The token or delimiter that it is.
     #[inline(always)]
     pub fn token(&self) -> Token<'_>
         ensures { result ≡ self.now }

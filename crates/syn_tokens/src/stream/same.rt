@@ -9,8 +9,8 @@ use crate::stream::TokenStream;
 use crate::stream::entry::{Entry, Token};
 use crate::stream::tree::TokenTree;
 
-/// Whether both are the same token, or the same sign. Closing signs are not told apart: groups are told apart by the
-/// signs that open them.
+/// Whether both are the same token, or the same delimiter. Closing delimiters are not told apart: groups are told apart by the
+/// delimiters that open them.
 fn same_entry(a: &Entry, b: &Entry) -> bool
     ensures { result ≡ same_entry a.now b.now }
 {

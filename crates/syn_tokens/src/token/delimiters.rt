@@ -1,4 +1,4 @@
-//! The signs of groups.
+//! The delimiters of groups.
 ghost use Rattle.std.specs.Prelude.{◌≡◌, true, OnOk};
 ghost use Rattle.syn_grammar.specs.Words.{Text};
 ghost use Rattle.syn_grammar.specs.Tokens.{Delimiter};
@@ -11,11 +11,11 @@ use crate::stream::builder::StreamBuilder;
 use std::alloc::AllocError;
 use std::marker::PhantomData;
 
-/// A kind of group, by its signs.
+/// A kind of group, by its delimiters.
 pub trait DelimiterKind {
     ghost delimiter: { Delimiter };
 
-    /// The signs.
+    /// The delimiters.
     fn delimiter() -> Delimiter
         ensures { delimiter_of result ≡ delimiter };
 
@@ -29,7 +29,7 @@ pub trait DelimiterKind {
     ghost use Rattle.syn_tokens.specs.Delimiters.{delimiter_of};
 }
 
-/// The two signs of a group. Those of one kind are equal, wherever they stand.
+/// The two delimiters of a group. Those of one kind are equal, wherever they stand.
 #[derive_where(Clone, Copy, Debug, PartialEq, Eq)]
 pub struct Delimiters<K> {
     #[derive_where(skip(EqHashOrd))]
@@ -40,7 +40,7 @@ pub struct Delimiters<K> {
 }
 
 impl<K> Delimiters<K> {
-    /// The signs, at these places.
+    /// The delimiters, at these places.
     pub fn new(opening: Span, closing: Span) -> Delimiters<K>
         ensures open { result.opening ≡ opening }
         ensures close { result.closing ≡ closing }
@@ -54,7 +54,7 @@ impl<K> Delimiters<K> {
 }
 
 impl<K> Default for Delimiters<K> {
-    /// The signs at no place of a text: their spans are 0 to 0.
+    /// The delimiters at no place of a text: their spans are 0 to 0.
     fn default() -> Delimiters<K>
         ensures open { result.opening ≡ record { start = 0; end = 0 } }
         ensures close { result.closing ≡ record { start = 0; end = 0 } }
@@ -64,7 +64,7 @@ impl<K> Default for Delimiters<K> {
 }
 
 impl<K: DelimiterKind> Delimiters<K> {
-    /// Goes into a group with these signs.
+    /// Goes into a group with these delimiters.
     #[tactic(auto, using(crate::proofs::Prints::opened_group))]
     pub fn open(&self, out: &mut StreamBuilder) -> Result<(), AllocError>
         ensures opens { OnOk result (out.new ≡ into_group K.delimiter (at self.now.opening) out.old) }
@@ -73,7 +73,7 @@ impl<K: DelimiterKind> Delimiters<K> {
         out.open(K::delimiter(), self.opening)
     }
 
-    /// Goes out of the innermost open group, with the closing sign of these.
+    /// Goes out of the innermost open group, with the closing delimiter of these.
     pub fn close(&self, out: &mut StreamBuilder) -> Result<(), AllocError>
         requires { is_open out.old ≡ true }
         ensures closes { OnOk result (out.new ≡ out_of_group (at self.now.closing) out.old) }

@@ -1,4 +1,4 @@
-//! The kinds of words, marks and signs of groups.
+//! The kinds of words, marks and delimiters of groups.
 
 mod declarations;
 mod expressions;

@@ -4,7 +4,7 @@ use std::test::Fail;
 use syn_parse::buffer::ParseBuffer;
 use syn_parse::parse::Parse;
 use syn_parse::read::End;
-use syn_parse::read::refusal::{Reading, Refusal};
+use syn_parse::read::refusal::{Parsed, Refusal};
 use syn_tokens::delimiter::Delimiter;
 use syn_tokens::ident::Ident;
 use syn_tokens::lifetime::Lifetime;
@@ -17,7 +17,7 @@ use syn_tokens::stream::tree::{Group, TokenTree};
 use syn_tokens::token;
 
 /// A refusal, for tests that meet none.
-fn read<T>(reading: Reading<T>) -> Result<T, &'static str> {
+fn read<T>(reading: Parsed<T>) -> Result<T, &'static str> {
     match reading {
         Ok(value) => Ok(value),
         Err(Refusal::Memory) => Err("memory"),

@@ -1,4 +1,4 @@
-//! Streams whose groups are nested deep, and streams that are built sign by sign.
+//! Streams whose groups are nested deep, and streams that are built entry by entry.
 use std::alloc::Global;
 use std::test::Fail;
 use syn_parse::buffer::ParseBuffer;
@@ -160,7 +160,7 @@ fn parts(rt: HostRuntime) -> std::result::Result<(), Fail> {
     Ok(())
 }
 
-/// Whether the answer is the fault of a sign that belongs to no other, there.
+/// Whether the answer is the fault of a delimiter that belongs to no other, there.
 fn is_unbalanced<T>(answer: &Result<T>, start: usize) -> bool {
     match answer {
         Ok(_) => false,

@@ -1,7 +1,7 @@
 //! Errors and refusals.
 use std::alloc::AllocError;
 use std::test::Fail;
-use syn_parse::read::refusal::{Reading, Refusal};
+use syn_parse::read::refusal::{Parsed, Refusal};
 use syn_parse::read::{End, Peek};
 use syn_tokens::error::Error;
 use syn_tokens::span::Span;
@@ -62,14 +62,14 @@ fn combined(rt: HostRuntime) {
     assert!(rt; refused.is_memory());
 }
 
-fn refuse(span: Span) -> Reading<()> {
+fn refuse(span: Span) -> Parsed<()> {
     Err(Refusal::Syntax {
         span,
         text: "expected `struct`",
     })
 }
 
-fn exhaust() -> Reading<()> {
+fn exhaust() -> Parsed<()> {
     Err(AllocError)?;
     Ok(())
 }

@@ -1,4 +1,4 @@
-//! Values that were read: copies, comparisons, signs of groups and refusals.
+//! Values that were read: copies, comparisons, delimiters of groups and refusals.
 use std::alloc::Global;
 use std::test::Fail;
 use syn_parse::buffer::ParseBuffer;

@@ -4,7 +4,7 @@
 ghost use Rattle.syn_tree.specs.Data.{syntax_of_Fields};
 ghost use Rattle.syn_tree.specs.Equality.{Equals};
 ghost use Rattle.syn_tokens.specs.Comparison.{same_by, same_equiv, same_per};
-ghost use Rattle.syn_grammar.specs.Says.{itself};
+ghost use Rattle.syn_grammar.specs.Promises.{itself};
 
 use crate::data::{Field, Fields, FieldsUnnamed};
 use syn_tokens::syntactic::compare::Compared;

@@ -7,7 +7,7 @@ use syn_tokens::punctuated::Punctuated;
 use syn_tokens::syntactic::compare::Compared;
 use syn_tokens::token::{Comma, Gt, Lt};
 
-/// The generic parameters of an item, with its where clause. Signs without parameters are not printed.
+/// The generic parameters of an item, with its where clause. `<` and `>` without parameters are not printed.
 #[derive(Drop)]
 pub struct Generics {
     pub lt_token: Option<Lt>,
@@ -25,7 +25,7 @@ pub enum GenericParam {}
 pub enum WhereClause {}
 
 impl Generics {
-    /// No generics: no signs, no parameters, no where clause. It takes no memory until something is pushed.
+    /// No generics: no `<` and `>`, no parameters, no where clause. It takes no memory until something is pushed.
     pub fn empty(alloc: Global) -> Generics
         ensures empty { result ≡ Nothing }
     {
@@ -62,7 +62,7 @@ impl std::marker::Model for Generics {
 }
 
 impl syn_tokens::syntactic::Syntactic for Generics {
-    ghost use Rattle.syn_grammar.specs.Says.{itself};
+    ghost use Rattle.syn_grammar.specs.Promises.{itself};
 
     ghost syntax = { itself };
 }

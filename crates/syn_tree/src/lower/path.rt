@@ -1,12 +1,12 @@
 //! Paths.
 ghost use Rattle.syn_grammar.specs.Rules as rules;
-ghost use Rattle.syn_tree.specs.Parsing.{of, rule, name_or, meaning_of_rule, reads, take_token, path_words, Says, Moved, itself, IsSyntax, joined_of};
+ghost use Rattle.syn_tree.specs.Parsing.{of, rule, name_or, meaning_of_rule, parse_rule, take_token, path_words, Computes, Moved, itself, IsSyntax, joined_of};
 ghost use Rattle.syn_tokens.specs.Kinds.{path_sep_syntax};
 
 use syn_parse::buffer::ParseBuffer;
 use syn_parse::read::Read;
 use syn_parse::read::lists::joined_list;
-use syn_parse::read::refusal::Reading;
+use syn_parse::read::refusal::Parsed;
 use syn_tokens::ident::Ident;
 use syn_tokens::punctuated::Punctuated;
 use syn_tokens::token::PathSep;
@@ -38,7 +38,7 @@ impl Read for Path {
     ghost meaning = { meaning_of_rule rules.module_path };
 
     #[tactic(auto, using(syn_grammar::proofs::Each::module_path_is))]
-    fn read(input: &mut ParseBuffer<'_>) -> Reading<Path> {
+    fn read(input: &mut ParseBuffer<'_>) -> Parsed<Path> {
         Ok(Path {
             leading_colon: input.read()?,
             segments: segments(input)?,
@@ -47,16 +47,16 @@ impl Read for Path {
 }
 
 #[tactic(auto, using(crate::proofs::Lists::module_words_joined))]
-fn segments(input: &mut ParseBuffer<'_>) -> Reading<Punctuated<PathSegment, PathSep>>
-    ensures reads { Says IsSyntax (λ l. joined_of itself path_sep_syntax l.pairs l.last) (reads rules.module_words input.old) result input.new }
+fn segments(input: &mut ParseBuffer<'_>) -> Parsed<Punctuated<PathSegment, PathSep>>
+    ensures reads { Computes IsSyntax (λ l. joined_of itself path_sep_syntax l.pairs l.last) (parse_rule rules.module_words input.old) result input.new }
     ensures moved { Moved input.old result input.new }
 {
     joined_list::<PathSep, _, _>(input, |next| segment(next))
 }
 
 /// An identifier, `self`, `Self`, `super` or `crate`.
-fn segment(input: &mut ParseBuffer<'_>) -> Reading<PathSegment>
-    ensures reads { Says IsSyntax itself (take_token (name_or path_words) input.old) result input.new }
+fn segment(input: &mut ParseBuffer<'_>) -> Parsed<PathSegment>
+    ensures reads { Computes IsSyntax itself (take_token (name_or path_words) input.old) result input.new }
     ensures moved { Moved input.old result input.new }
 {
     Ok(PathSegment {
@@ -94,13 +94,13 @@ impl std::marker::Model for PathSegment {
 }
 
 impl syn_tokens::syntactic::Syntactic for Path {
-    ghost use Rattle.syn_grammar.specs.Says.{itself};
+    ghost use Rattle.syn_grammar.specs.Promises.{itself};
 
     ghost syntax = { itself };
 }
 
 impl syn_tokens::syntactic::Syntactic for PathSegment {
-    ghost use Rattle.syn_grammar.specs.Says.{itself};
+    ghost use Rattle.syn_grammar.specs.Promises.{itself};
 
     ghost syntax = { itself };
 }

@@ -5,7 +5,7 @@ ghost use Rattle.syn_tree.specs.Parsing.{of, rule, meaning_of_rule};
 use crate::lower::Path;
 use syn_parse::buffer::ParseBuffer;
 use syn_parse::read::Read;
-use syn_parse::read::refusal::Reading;
+use syn_parse::read::refusal::Parsed;
 
 /// A type.
 #[derive(Drop)]
@@ -30,7 +30,7 @@ impl Read for TypePath {
     ghost meaning = { meaning_of_rule rules.type_path };
 
     #[tactic(auto, using(syn_grammar::proofs::Each::type_path_is))]
-    fn read(input: &mut ParseBuffer<'_>) -> Reading<TypePath> {
+    fn read(input: &mut ParseBuffer<'_>) -> Parsed<TypePath> {
         Ok(TypePath {
             qself: None,
             path: input.read()?,
@@ -44,7 +44,7 @@ impl Read for Type {
     ghost meaning = { meaning_of_rule rules.type };
 
     #[tactic(auto, using(syn_grammar::proofs::Each::type_is))]
-    fn read(input: &mut ParseBuffer<'_>) -> Reading<Type> {
+    fn read(input: &mut ParseBuffer<'_>) -> Parsed<Type> {
         Ok(Type::Path(input.read()?))
     }
 }
@@ -71,7 +71,7 @@ impl syn_tokens::syntactic::Syntactic for Type {
 }
 
 impl syn_tokens::syntactic::Syntactic for TypePath {
-    ghost use Rattle.syn_grammar.specs.Says.{itself};
+    ghost use Rattle.syn_grammar.specs.Promises.{itself};
 
     ghost syntax = { itself };
 }

@@ -19,7 +19,7 @@ impl<'a> Lexer<'a> {
     ghost use Rattle.syn.specs.Places.{IsPast};
     ghost use Rattle.syn.specs.Lexemes.{IsLexemeFrom};
 
-    /// What begins with `'`, which was stepped over: a character, or the sign of a lifetime.
+    /// What begins with `'`, which was stepped over: a character, or the `'` of a lifetime.
     pub(super) fn apostrophe(&mut self, start: &Cursor<'a>) -> Result<Lexeme<'a>>
         requires past { IsPast 39 start.now self.old.cursor }
         requires first { Stands start.now.text.now (encode_utf8 39) start.now.offset self.old.cursor.offset }

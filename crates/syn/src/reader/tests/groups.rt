@@ -16,7 +16,7 @@ const READ: &[Read] = &[
         "pub struct A(u8);",
         "pub@0..3 struct@4..10 A@11..12 (@12..13 u8@13..15 )@15..16 ;@16..17",
     ),
-    // signs within literals and comments are none
+    // delimiters within literals and comments are none
     ("(\")\")", "(@0..1 Str\")\"@1..4 )@4..5"),
     ("[']']", "[@0..1 Char']'@1..4 ]@4..5"),
     ("{r#\"}\"#}", "{@0..1 Strr#\"}\"#@1..7 }@7..8"),
@@ -26,7 +26,7 @@ const READ: &[Read] = &[
 ];
 
 const REFUSED: &[Refused] = &[
-    // a closing sign that does not close the innermost open group
+    // a closing delimiter that does not close the innermost open group
     (")", 0, "unbalanced group"),
     ("a ]", 2, "unbalanced group"),
     ("( [ )", 4, "unbalanced group"),
@@ -34,7 +34,7 @@ const REFUSED: &[Refused] = &[
     ("{(}", 2, "unbalanced group"),
     ("() ) (", 3, "unbalanced group"),
     ("\")\")", 3, "unbalanced group"),
-    // at the end, the outermost open sign
+    // at the end, the outermost open delimiter
     ("(", 0, "unbalanced group"),
     ("{ ( )", 0, "unbalanced group"),
     ("a ( { [", 2, "unbalanced group"),

@@ -11,7 +11,7 @@ use syn_tokens::span::Span;
 use syn_tokens::stream::TokenStream;
 use syn_tokens::stream::tree::{Group, TokenTree};
 
-/// Streams, and their texts: `<` and `>` are the signs of a `None` group, `:` is a colon that is Alone, `;` one that is
+/// Streams, and their texts: `<` and `>` are the delimiters of a `None` group, `:` is a colon that is Alone, `;` one that is
 /// Joint, and `1` the literal `"a b"`.
 const MADE: &[(&str, &str)] = &[
     ("1x", "\"a b\" x"),
@@ -85,8 +85,8 @@ fn made(alloc: Global, letters: &str) -> Result<TokenStream, Fail> {
     Ok(stream)
 }
 
-fn group(sign: char, stream: TokenStream) -> TokenTree {
-    let delimiter = match sign {
+fn group(group_delimiter: char, stream: TokenStream) -> TokenTree {
+    let delimiter = match group_delimiter {
         ')' => Delimiter::Paren,
         '}' => Delimiter::Brace,
         ']' => Delimiter::Bracket,

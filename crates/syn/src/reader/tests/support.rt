@@ -11,23 +11,23 @@ use syn_tokens::stream::TokenStream;
 use syn_tokens::stream::tree::{Group, TokenTree};
 
 /// A text, and its tokens with their spans: an identifier as `a@0..1`; a mark's character as `:@0..1`, or as `:+@0..1` where
-/// it is Joint; a literal with its kind before it, as `Int1@0..1` or `Str"a"@0..3`; and the two signs of a group as `(@0..1`
+/// it is Joint; a literal with its kind before it, as `Int1@0..1` or `Str"a"@0..3`; and the two delimiters of a group as `(@0..1`
 /// and `)@1..2`.
 pub type Read = (&'static str, &'static str);
 
 /// A text that is refused, from which byte, and why.
 pub type Refused = (&'static str, usize, &'static str);
 
-/// What is left of a group, or of the whole text, and with which sign, standing where, it ends.
+/// What is left of a group, or of the whole text, and with which delimiter, standing where, it ends.
 #[derive(Drop)]
 struct Level {
     stream: TokenStream,
     at: usize,
-    sign: &'static str,
+    group_delimiter: &'static str,
     closing: Span,
 }
 
-fn signs_of(delimiter: Delimiter) -> (&'static str, &'static str) {
+fn delimiters_of(delimiter: Delimiter) -> (&'static str, &'static str) {
     match delimiter {
         Delimiter::Paren => ("(", ")"),
         Delimiter::Brace => ("{", "}"),
@@ -68,12 +68,12 @@ fn add_leaf(alloc: Global, out: &mut String, leaf: &TokenTree) -> Result<(), All
 }
 
 fn enter(out: &mut String, group: Group) -> Result<Level, AllocError> {
-    let (opening, sign) = signs_of(group.delimiter);
+    let (opening, group_delimiter) = delimiters_of(group.delimiter);
     add(out, opening, group.opening)?;
     Ok(Level {
         stream: group.stream,
         at: 0,
-        sign,
+        group_delimiter,
         closing: group.closing,
     })
 }
@@ -85,7 +85,7 @@ pub fn described(alloc: Global, tokens: TokenStream) -> Result<String, Fail> {
     let mut level = Level {
         stream: tokens,
         at: 0,
-        sign: "",
+        group_delimiter: "",
         closing: Span::call_site(),
     };
     for _ in 0..1000 {
@@ -100,7 +100,7 @@ pub fn described(alloc: Global, tokens: TokenStream) -> Result<String, Fail> {
                 let Some(outer) = around.pop() else {
                     return Ok(out);
                 };
-                add(&mut out, level.sign, level.closing)?;
+                add(&mut out, level.group_delimiter, level.closing)?;
                 level = outer;
             }
         }

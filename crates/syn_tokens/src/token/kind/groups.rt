@@ -1,4 +1,4 @@
-//! The signs of groups.
+//! The delimiters of groups.
 ghost use Rattle.std.specs.Prelude.{codes};
 ghost use Rattle.syn_grammar.specs.Tokens as grammar;
 

@@ -3,7 +3,7 @@ use Rattle.std.proofs.Common.{rules}
 use Rattle.syn_grammar.specs.Rules.{unnamed_fields, unnamed_field}
 use Rattle.syn_grammar.specs.Grammar.{rule}
 use Rattle.syn_parse.specs.Form.{of}
-use Rattle.syn_grammar.specs.Says.{itself}
+use Rattle.syn_grammar.specs.Promises.{itself}
 use Rattle.syn_tree.proofs.CommaLists.{unnamed_fields_list}
 use Rattle.syn_tree.proofs.comma_lists.unnamed_fields.Goals as goal
 

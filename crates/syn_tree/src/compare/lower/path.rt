@@ -1,7 +1,7 @@
 //! Written by tools/kinds.py; edits are lost.
 //!
 //! Comparisons of `lower/path`.
-ghost use Rattle.syn_grammar.specs.Says.{itself};
+ghost use Rattle.syn_grammar.specs.Promises.{itself};
 ghost use Rattle.syn_tree.specs.Equality.{Equals};
 ghost use Rattle.syn_tokens.specs.Comparison.{same_by, same_equiv, same_per};
 ghost use Rattle.syn_tree.specs.Lower.{syntax_of_PathArguments};

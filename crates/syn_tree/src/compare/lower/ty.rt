@@ -4,7 +4,7 @@
 ghost use Rattle.syn_tree.specs.Lower.{syntax_of_Type};
 ghost use Rattle.syn_tree.specs.Equality.{Equals};
 ghost use Rattle.syn_tokens.specs.Comparison.{same_by, same_equiv, same_per};
-ghost use Rattle.syn_grammar.specs.Says.{itself};
+ghost use Rattle.syn_grammar.specs.Promises.{itself};
 
 use crate::lower::{Type, TypePath};
 use syn_tokens::syntactic::compare::Compared;

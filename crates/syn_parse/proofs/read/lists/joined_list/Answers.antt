@@ -1,6 +1,6 @@
 use Rattle.std.proofs.Common.{◌≡◌, ◌<◌, ◌+◌, ◌≤◌, true, Some, ◌∙◌, ap, rules, arith}
 use Rattle.syn_grammar.specs.Take.{left}
-use Rattle.syn_grammar.specs.Run.{reads, wrap}
+use Rattle.syn_grammar.specs.Run.{parse_rule, wrap}
 use Rattle.syn_parse.specs.Form.{meets, parse}
 use Rattle.syn_tokens.specs.Listing.{onto, untagged}
 use Rattle.syn_parse.proofs.Listing.{joined_more, onto_grows}
@@ -22,5 +22,5 @@ elements-preserved g c =
           let more : meets next c.element.new.arg2 ≡ true = search rules in
           let sign : parse sep c.element.new.arg2 ≡ Some (w c.in_ok-separator.separator, c.read.new.self) = search rules in
           rw pushed (l ∙ ap (wrap (onto untagged v w c.elements.list.pairs)) (joined_more v w k e next sep is c.elements.input c.in_ok-value.value c.in_ok-separator.separator c.element.new.arg2 c.read.new.self got more sign)
-          ∙ onto_grows untagged v w c.elements.list.pairs (c.in_ok-value.value, c.in_ok-separator.separator) (reads k c.read.new.self)),
+          ∙ onto_grows untagged v w c.elements.list.pairs (c.in_ok-value.value, c.in_ok-separator.separator) (parse_rule k c.read.new.self)),
     )

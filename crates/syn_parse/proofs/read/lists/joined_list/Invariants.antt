@@ -2,7 +2,7 @@ use Rattle.std.proofs.Common.{◌≡◌, ◌≤◌, None}
 use Rattle.syn_grammar.specs.Rules.{Rule}
 use Rattle.syn_grammar.specs.Grammar.{Syntax}
 use Rattle.syn_grammar.specs.Take.{left}
-use Rattle.syn_grammar.specs.Run.{reads, wrap}
+use Rattle.syn_grammar.specs.Run.{parse_rule, wrap}
 use Rattle.syn_parse.specs.Form.{Form}
 use Rattle.syn_parse.specs.Refusals.{IsSyntax}
 use Rattle.syn_tokens.specs.Listing.{onto, untagged}
@@ -13,7 +13,7 @@ abbrev pub invariant-elements : goal.invariant-elements
 invariant-elements g l =
     (left l.input ≤ left l.fn.input) × (l.list.last ≡ None)
     × ((k : Rule) (e : Form) (v : g.row.R-Node.Denot → Syntax) → IsJoined k e g.P.Peek.look g.P.Read.form → Answers IsSyntax e v g.R.Answer.answers (goal.F-post g l.element)
-    → reads k l.fn.input ≡ wrap (onto untagged v g.P.Syntactic.syntax l.list.pairs) (reads k l.input))
+    → parse_rule k l.fn.input ≡ wrap (onto untagged v g.P.Syntactic.syntax l.list.pairs) (parse_rule k l.input))
 
 abbrev pub decreases-elements : goal.decreases-elements
 decreases-elements g l = left l.input

@@ -1,7 +1,7 @@
 use Rattle.std.proofs.Common.{◌≡◌, ◌<◌, ◌+◌, ◌≤◌, true, false, Some, ◌∙◌, ap, rules, arith}
 use Rattle.syn_grammar.specs.Grammar.{Right}
 use Rattle.syn_grammar.specs.Take.{left}
-use Rattle.syn_grammar.specs.Run.{reads, wrap}
+use Rattle.syn_grammar.specs.Run.{parse_rule, wrap}
 use Rattle.syn_parse.specs.Form.{meets, parse}
 use Rattle.syn_tokens.specs.Listing.{onto}
 use Rattle.syn_parse.proofs.Listing.{list_more, onto_grows}
@@ -24,5 +24,5 @@ elements-preserved g c =
           let more : meets next c.element.new.arg2 ≡ true = search rules in
           let sign : parse sep c.element.new.arg2 ≡ Some (w c.in_ok-separator.separator, c.read.new.self) = search rules in
           rw pushed (l ∙ ap (wrap (onto Right v w c.elements.list.pairs)) (list_more v w k e g.S.Peek.look next sep is c.elements.input c.in_ok-value.value c.in_ok-separator.separator c.element.new.arg2 c.read.new.self stop got more sign)
-          ∙ onto_grows Right v w c.elements.list.pairs (c.in_ok-value.value, c.in_ok-separator.separator) (reads k c.read.new.self)),
+          ∙ onto_grows Right v w c.elements.list.pairs (c.in_ok-value.value, c.in_ok-separator.separator) (parse_rule k c.read.new.self)),
     )

@@ -1,7 +1,7 @@
 use Rattle.std.proofs.Common.{refl, rules}
 use Rattle.syn_grammar.specs.Rules.{unnamed_field}
 use Rattle.syn_grammar.specs.Grammar.{rule}
-use Rattle.syn_grammar.specs.Says.{itself}
+use Rattle.syn_grammar.specs.Promises.{itself}
 use Rattle.syn_grammar.proofs.Outcomes.{meaning_of_rule, outcome_of}
 use Rattle.syn_tokens.specs.Faults.{IsSyntaxError}
 use Rattle.std.proofs.lemmas.Result.{err_from_is_err_and}

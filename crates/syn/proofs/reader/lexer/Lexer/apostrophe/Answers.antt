@@ -1,6 +1,6 @@
 use Rattle.std.proofs.Common.{refl, sym, ◌∙◌}
 use Rattle.syn_tokens.specs.Punct.{is_punct_character}
-use Rattle.syn.proofs.Scans.{quote_literal, lifetime_sign}
+use Rattle.syn.proofs.Scans.{quote_literal, lifetime_apostrophe}
 use Rattle.syn.proofs.Unexpected.{quote_alone}
 use Rattle.syn.proofs.reader.lexer.Lexer.apostrophe.Goals as goal
 
@@ -13,7 +13,7 @@ new-requires c = refl
 
 pub returns-then-is_at_name-clause-stands : goal.returns-then-is_at_name-clause-stands
 returns-then-is_at_name-clause-stands c =
-    lifetime_sign c.args.start.now c.args.self.now.cursor _ _ c.requires.past c.requires.first (sym c.begins_character.ensures ∙ c.if-begins_character.false)
+    lifetime_apostrophe c.args.start.now c.args.self.now.cursor _ _ c.requires.past c.requires.first (sym c.begins_character.ensures ∙ c.if-begins_character.false)
     (sym c.is_at_name.ensures ∙ c.if-is_at_name.true) c.new.ensures c.span_since-span.ensures
 
 pub returns-else-is_at_name-clause-stands : goal.returns-else-is_at_name-clause-stands

@@ -28,11 +28,11 @@ returns-clause-tokens c =
     (ap (λ e. flat (decode (e ∷ []))) second ∙ ap (λ (l : LiteralValue). one (literal (kind_of l.kind) l.text) (at l.span) ∷ []) c.in_ok-literal.ensures.ok
     ∙ ap (λ (x : List ℕ). one (literal Str x) (at c.args.span) ∷ []) text) in
     then_ok c.close.result _ _ c.close.ensures.tokens
-    (λ last. six_joined _ _ _ _ _ _ _ _ _ _ _ _ _ c.in_ok-attribute_sign.ensures.tokens c.in_ok-open.ensures.tokens name c.in_ok-mark.ensures.tokens said last)
+    (λ last. six_joined _ _ _ _ _ _ _ _ _ _ _ _ _ c.in_ok-attribute_punct.ensures.tokens c.in_ok-open.ensures.tokens name c.in_ok-mark.ensures.tokens said last)
 
 pub returns-clause-within : goal.returns-clause-within
 returns-clause-within c = λ n within starts ends.
-    let signed : AllWithin n c.attribute_sign.new.self.inner.open_groups = rw c.in_ok-attribute_sign.ensures.groups within in
+    let signed : AllWithin n c.attribute_punct.new.self.inner.open_groups = rw c.in_ok-attribute_punct.ensures.groups within in
     let opened = c.in_ok-open.ensures.within n signed starts ends in
     let name : AllWithin n c.push.new.self.inner.open_groups = rw c.in_ok-push.ensures.groups opened in
     let equals : AllWithin n c.mark.new.self.inner.open_groups = rw c.in_ok-mark.ensures.groups name in

@@ -1,24 +1,24 @@
 //! Spans in half their room.
 ghost use Rattle.std.specs.Prelude.{◌≡◌, IfSome, IsSome};
-ghost use Rattle.syn_tokens.specs.Nears.{wide, IsNear};
+ghost use Rattle.syn_tokens.specs.CompactSpans.{wide, IsCompact};
 
 use crate::span::Span;
 
 /// A span within the first 2^32 bytes of a text.
 #[derive(Clone, Copy, Debug)]
-pub(crate) struct Near {
+pub(crate) struct CompactSpan {
     start: u32,
     end: u32,
 }
 
-impl Near {
+impl CompactSpan {
     /// The span, where it is such a one.
     #[inline(always)]
-    pub(crate) fn of(span: Span) -> Option<Near>
-        ensures value { IfSome result (λ near. wide near ≡ span) }
-        ensures near { IsNear span → IsSome result }
+    pub(crate) fn of(span: Span) -> Option<CompactSpan>
+        ensures value { IfSome result (λ compact_span. wide compact_span ≡ span) }
+        ensures compact_span { IsCompact span → IsSome result }
     {
-        Some(Near {
+        Some(CompactSpan {
             start: u32::try_from(span.start).ok()?,
             end: u32::try_from(span.end).ok()?,
         })

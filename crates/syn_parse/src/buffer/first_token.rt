@@ -7,7 +7,7 @@ ghost use Rattle.syn_tokens.specs.Spans.{at};
 ghost use Rattle.syn_tokens.specs.Delimiters.{delimiter_of};
 ghost use Rattle.syn_tokens.specs.Punct.{is_joint};
 ghost use Rattle.syn_tokens.specs.Leaves.{ident_leaf, literal_leaf};
-ghost use Rattle.syn_parse.specs.Fronts.{spelled, NoIdent, NoLiteral, NoPunct};
+ghost use Rattle.syn_parse.specs.FirstTokens.{spelled, NoIdent, NoLiteral, NoPunct};
 
 use syn_tokens::delimiter::Delimiter;
 use syn_tokens::ident::ident_ref::IdentRef;
@@ -17,7 +17,7 @@ use syn_tokens::span::Span;
 use syn_tokens::stream::cursor::{Cursor, Inner, Next};
 
 /// The identifier at the front, and what follows it.
-#[tactic(auto, using(crate::proofs::Fronts::no_ident_at_literal), unfolding(syn_grammar::specs::Take::take_token))]
+#[tactic(auto, using(crate::proofs::FirstTokens::no_ident_at_literal), unfolding(syn_grammar::specs::Take::take_token))]
 #[inline(always)]
 pub(crate) fn split_ident<'a>(cursor: &Cursor<'a>) -> Option<(IdentRef<'a>, Cursor<'a>)>
     ensures { MatchOption result (NoIdent cursor.now)
@@ -33,7 +33,7 @@ pub(crate) fn split_ident<'a>(cursor: &Cursor<'a>) -> Option<(IdentRef<'a>, Curs
 }
 
 /// The literal at the front, and what follows it.
-#[tactic(auto, using(crate::proofs::Fronts::no_literal_at_ident), unfolding(syn_grammar::specs::Take::take_token))]
+#[tactic(auto, using(crate::proofs::FirstTokens::no_literal_at_ident), unfolding(syn_grammar::specs::Take::take_token))]
 #[inline(always)]
 pub(crate) fn split_literal<'a>(cursor: &Cursor<'a>) -> Option<(LiteralRef<'a>, Cursor<'a>)>
     ensures { MatchOption result (NoLiteral cursor.now)
@@ -49,7 +49,7 @@ pub(crate) fn split_literal<'a>(cursor: &Cursor<'a>) -> Option<(LiteralRef<'a>, 
 }
 
 /// The character of a mark at the front, and what follows it.
-#[tactic(auto, using(crate::proofs::Fronts::none_spelled_at_leaf, crate::proofs::Fronts::none_spelled_at_group, crate::proofs::Fronts::none_spelled_at_end), unfolding(syn_grammar::specs::Take::take_lifetime))]
+#[tactic(auto, using(crate::proofs::FirstTokens::none_spelled_at_leaf, crate::proofs::FirstTokens::none_spelled_at_group, crate::proofs::FirstTokens::none_spelled_at_end), unfolding(syn_grammar::specs::Take::take_lifetime))]
 #[inline(always)]
 pub(crate) fn split_punct<'a>(cursor: &Cursor<'a>) -> Option<(Punct, Cursor<'a>)>
     ensures { MatchOption result (NoPunct cursor.now)
@@ -65,7 +65,7 @@ pub(crate) fn split_punct<'a>(cursor: &Cursor<'a>) -> Option<(Punct, Cursor<'a>)
 }
 
 /// The last character of a mark at the front, however it is joined, and what follows it.
-#[tactic(auto, using(crate::proofs::Fronts::last_is), unfolding(syn_grammar::specs::Take::left))]
+#[tactic(auto, using(crate::proofs::FirstTokens::last_is), unfolding(syn_grammar::specs::Take::left))]
 #[inline(always)]
 pub(crate) fn split_last<'a>(cursor: &Cursor<'a>, c: char) -> Option<(Span, Cursor<'a>)>
     ensures found { MatchOption result (spelled (c ∷ []) cursor.now ≡ None)
@@ -81,7 +81,7 @@ pub(crate) fn split_last<'a>(cursor: &Cursor<'a>, c: char) -> Option<(Span, Curs
 }
 
 /// A character at the front that is joined to the next one of its mark, and what follows it.
-#[tactic(auto, using(crate::proofs::Fronts::joint_is, crate::proofs::Fronts::alone_is), unfolding(syn_grammar::specs::Take::left))]
+#[tactic(auto, using(crate::proofs::FirstTokens::joint_is, crate::proofs::FirstTokens::alone_is), unfolding(syn_grammar::specs::Take::left))]
 #[inline(always)]
 pub(crate) fn split_joint<'a>(cursor: &Cursor<'a>, c: char) -> Option<(Span, Cursor<'a>)>
     ensures found { MatchOption result ((e : ℕ) (l : Text) → spelled (c ∷ e ∷ l) cursor.now ≡ None)
@@ -96,7 +96,7 @@ pub(crate) fn split_joint<'a>(cursor: &Cursor<'a>, c: char) -> Option<(Span, Cur
     }
 }
 
-/// The group with these signs at the front, and what follows it.
+/// The group with these delimiters at the front, and what follows it.
 #[tactic(auto, unfolding(syn_grammar::specs::Take::take_group, syn_grammar::specs::Take::left))]
 pub(crate) fn split_group<'a>(
     cursor: &Cursor<'a>,

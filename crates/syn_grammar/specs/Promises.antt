@@ -3,18 +3,18 @@
 use Rattle.std.specs.Prelude.{◌≡◌, ◌+◌, ◌<◌, ◌≤◌, ◌↔◌, ℕ, true, Some, None, Result, Ok, Err}
 use Rattle.syn_grammar.specs.Tokens.{Stream, end, visible}
 use Rattle.syn_grammar.specs.Rules.{Rule}
-use Rattle.syn_grammar.specs.Grammar.{Syntax, Grammar, Reads}
+use Rattle.syn_grammar.specs.Grammar.{Syntax, Grammar, DerivesPrefix}
 use Rattle.syn_grammar.specs.Table.{table}
 use Rattle.syn_grammar.specs.Laws.{Derives}
 use Rattle.syn_grammar.specs.Take.{Out, Parser, left, is_end, only}
-use Rattle.syn_grammar.specs.Run.{row_step, rows, held, reads, parse}
+use Rattle.syn_grammar.specs.Run.{row_step, rows, value_of, parse_rule, parse_form}
 
 -- AMONG PARSERS, on every stream
 
 -- it answers what is computed: this value's tree and this rest; or it refuses, and nothing is computed
-abbrev pub Says : {X E : Type 0} → (E → Type 0) → (X → Syntax) → Out → Result X E → Stream → Type 0
-Says refusal view out (Ok x) new = out ≡ Some (view x, new)
-Says refusal view out (Err e) new = refusal e → out ≡ None
+abbrev pub Computes : {X E : Type 0} → (E → Type 0) → (X → Syntax) → Out → Result X E → Stream → Type 0
+Computes refusal view out (Ok x) new = out ≡ Some (view x, new)
+Computes refusal view out (Err e) new = refusal e → out ≡ None
 
 -- after an answer at least so many tokens fewer are left; of the buffer after an error nothing is said
 abbrev pub Takes : {X E : Type 0} → ℕ → Stream → Result X E → Stream → Type 0
@@ -33,10 +33,10 @@ Kept old (Err e) new = Unit {0}
 
 -- a parser's promise in one line, of a rule that reads some token; and of one that may read none
 abbrev pub Parses : {X E : Type 0} → (E → Type 0) → (X → Syntax) → Rule → Stream → Result X E → Stream → Type 0
-Parses refusal view k old result new = Says refusal view (reads k old) result new × Moved old result new
+Parses refusal view k old result new = Computes refusal view (parse_rule k old) result new × Moved old result new
 
 abbrev pub MayParse : {X E : Type 0} → (E → Type 0) → (X → Syntax) → Rule → Stream → Result X E → Stream → Type 0
-MayParse refusal view k old result new = Says refusal view (reads k old) result new × Kept old result new
+MayParse refusal view k old result new = Computes refusal view (parse_rule k old) result new × Kept old result new
 
 -- what is nested may be read wherever fewer tokens are left; or no more
 abbrev pub MayBelow : {N : Type 0} → (N → Stream → Type 0) → N → Stream → Type 0
@@ -62,38 +62,38 @@ OrMemory refusal (Err e) P = refusal e → ⊥
 -- TO CALLERS, in the words of the grammar
 
 -- the form reads a tree of which the value holds this
-abbrev pub Holds : Grammar → Syntax → Stream → Stream → Type 0
-Holds g s old new = (t : Syntax) × Reads table g t old new × (held t ≡ s)
+abbrev pub DerivesValue : Grammar → Syntax → Stream → Stream → Type 0
+DerivesValue g s old new = (t : Syntax) × DerivesPrefix table g t old new × (value_of t ≡ s)
 
 -- the form reads nothing here
-abbrev pub Unread : Grammar → Stream → Type 0
-Unread g ts = (s : Syntax) (r : Stream) → Reads table g s ts r → ⊥
+abbrev pub NotDerived : Grammar → Stream → Type 0
+NotDerived g ts = (s : Syntax) (r : Stream) → DerivesPrefix table g s ts r → ⊥
 
 -- on visible streams what is computed of the form is exactly what it reads
 abbrev pub Meaning : Grammar → Type 0
 Meaning g = (ts : Stream) → visible ts ≡ true →
-    ((s : Syntax) (r : Stream) → (parse g ts ≡ Some (s, r)) ↔ Holds g s ts r) × ((parse g ts ≡ None) ↔ Unread g ts)
+    ((s : Syntax) (r : Stream) → (parse_form g ts ≡ Some (s, r)) ↔ DerivesValue g s ts r) × ((parse_form g ts ≡ None) ↔ NotDerived g ts)
 
 -- on visible streams an answer is a reading, and a refusal is one of a stream from which nothing is read; after an error all is left
 abbrev pub Outcome : {X E : Type 0} → (E → Type 0) → (X → Syntax) → Grammar → Stream → Result X E → Stream → Type 0
-Outcome refusal view g old (Ok x) new = visible old ≡ true → Holds g (view x) old new
-Outcome refusal view g old (Err e) new = (new ≡ old) × (visible old ≡ true → refusal e → Unread g old)
+Outcome refusal view g old (Ok x) new = visible old ≡ true → DerivesValue g (view x) old new
+Outcome refusal view g old (Err e) new = (new ≡ old) × (visible old ≡ true → refusal e → NotDerived g old)
 
 -- the whole stream is no such thing
 abbrev pub Refused : Rule → Stream → Type 0
 Refused k ts = (s : Syntax) → Derives k ts s → ⊥
 
 -- the whole stream is read by the form as a tree of which the value holds this
-abbrev pub HoldsWhole : Grammar → Syntax → Stream → Type 0
-HoldsWhole g s ts = Holds g s ts end
+abbrev pub DerivesWholeValue : Grammar → Syntax → Stream → Type 0
+DerivesWholeValue g s ts = DerivesValue g s ts end
 
-abbrev pub UnreadWhole : Grammar → Stream → Type 0
-UnreadWhole g ts = (s : Syntax) → Reads table g s ts end → ⊥
+abbrev pub NotDerivedWhole : Grammar → Stream → Type 0
+NotDerivedWhole g ts = (s : Syntax) → DerivesPrefix table g s ts end → ⊥
 
 -- the same of a whole stream
 abbrev pub WholeOutcome : {X E : Type 0} → (E → Type 0) → (X → Syntax) → Grammar → Stream → Result X E → Type 0
-WholeOutcome refusal view g ts (Ok x) = visible ts ≡ true → HoldsWhole g (view x) ts
-WholeOutcome refusal view g ts (Err e) = visible ts ≡ true → refusal e → UnreadWhole g ts
+WholeOutcome refusal view g ts (Ok x) = visible ts ≡ true → DerivesWholeValue g (view x) ts
+WholeOutcome refusal view g ts (Err e) = visible ts ≡ true → refusal e → NotDerivedWhole g ts
 
 -- FOR A LOOP: a row of these members is one member, and then a row
 pub record IsRow (p : Parser) : Type 0 where

@@ -12,7 +12,7 @@ const MOST: usize = 1024;
 /// Identifiers that were read before, each at a place that its text gives. Where another one comes to that place, the earlier
 /// one is kept no longer, so each takes as little time, whatever the texts are.
 #[derive(Drop)]
-pub(super) struct Names {
+pub(super) struct IdentCache {
     places: Vec<Option<Ident>>,
     alloc: Global,
 }
@@ -26,12 +26,12 @@ fn hash(text: &str) -> usize {
     hash
 }
 
-impl Names {
+impl IdentCache {
     /// Keeps none yet; it has places enough for a text of that length.
-    pub(super) fn new(alloc: Global, length: usize) -> Result<Names, AllocError> {
+    pub(super) fn new(alloc: Global, length: usize) -> Result<IdentCache, AllocError> {
         let mut places = Vec::new(alloc);
         places.resize_with((length / 32).clamp(1, MOST), || None)?;
-        Ok(Names { places, alloc })
+        Ok(IdentCache { places, alloc })
     }
 
     /// The identifier of this text, which is known to be one. Where the same was read before, it shares that one's text.

@@ -4,10 +4,10 @@ ghost use Rattle.syn_grammar.specs.Tokens as grammar;
 ghost use Rattle.syn_grammar.specs.Take.{left, take_group};
 ghost use Rattle.syn_parse.specs.Form as forms;
 ghost use Rattle.syn_parse.specs.Form.{Outcome};
-ghost use Rattle.syn_grammar.specs.Says.{Says, Takes, Kept, Finished};
+ghost use Rattle.syn_grammar.specs.Promises.{Computes, Takes, Kept, Finished};
 ghost use Rattle.syn_tokens.specs.Faults.{IsSyntaxError};
 ghost use Rattle.syn_parse.specs.Nexts.{HasFaultNext};
-ghost use Rattle.syn_parse.specs.Opened.{SaysOpened};
+ghost use Rattle.syn_parse.specs.Opened.{ComputesOpened};
 
 use crate::buffer::ParseBuffer;
 use crate::parse::Parse;
@@ -19,18 +19,18 @@ impl<'a> ParseBuffer<'a> {
     /// memory is refused; the buffer then stands where it stood.
     pub fn parse<T: Parse>(&mut self) -> Result<T>
         ensures outcome { Outcome IsSyntaxError T.syntax T.form self.old result self.new }
-        ensures reads { Says IsSyntaxError T.syntax (forms.parse T.form self.old) result self.new }
+        ensures reads { Computes IsSyntaxError T.syntax (forms.parse T.form self.old) result self.new }
         ensures unchanged { OnErr result (self.new ≡ self.old) }
         ensures kept { Kept self.old result self.new }
     {
         T::parse(self)
     }
 
-    /// Reads a group in parentheses: its signs, and a buffer over its content. It is refused where no such group stands
+    /// Reads a group in parentheses: its delimiters, and a buffer over its content. It is refused where no such group stands
     /// next, with the fault `expected parentheses` at the next token; nothing is read then. It takes no memory.
     #[tactic(auto, using(crate::proofs::Errors::syntax_becomes_error, crate::proofs::Refused::refused_by_syntax, crate::proofs::Refused::refused_next))]
     pub fn parenthesized(&mut self) -> Result<(Paren, ParseBuffer<'a>)>
-        ensures reads { SaysOpened IsSyntaxError (take_group grammar.Paren self.old) result self.new }
+        ensures reads { ComputesOpened IsSyntaxError (take_group grammar.Paren self.old) result self.new }
         ensures moved { Takes 1 self.old result self.new }
         ensures inside { IfOk result (λ p. left p.1 < left self.old) }
         ensures unchanged { OnErr result (self.new ≡ self.old) }
@@ -40,11 +40,11 @@ impl<'a> ParseBuffer<'a> {
         Ok(self.read_group::<kind::Paren>()?)
     }
 
-    /// Reads a group in braces: its signs, and a buffer over its content. It is refused where no such group stands
+    /// Reads a group in braces: its delimiters, and a buffer over its content. It is refused where no such group stands
     /// next, with the fault `expected curly braces` at the next token; nothing is read then. It takes no memory.
     #[tactic(auto, using(crate::proofs::Errors::syntax_becomes_error, crate::proofs::Refused::refused_by_syntax, crate::proofs::Refused::refused_next))]
     pub fn braced(&mut self) -> Result<(Brace, ParseBuffer<'a>)>
-        ensures reads { SaysOpened IsSyntaxError (take_group grammar.Brace self.old) result self.new }
+        ensures reads { ComputesOpened IsSyntaxError (take_group grammar.Brace self.old) result self.new }
         ensures moved { Takes 1 self.old result self.new }
         ensures inside { IfOk result (λ p. left p.1 < left self.old) }
         ensures unchanged { OnErr result (self.new ≡ self.old) }
@@ -54,11 +54,11 @@ impl<'a> ParseBuffer<'a> {
         Ok(self.read_group::<kind::Brace>()?)
     }
 
-    /// Reads a group in brackets: its signs, and a buffer over its content. It is refused where no such group stands
+    /// Reads a group in brackets: its delimiters, and a buffer over its content. It is refused where no such group stands
     /// next, with the fault `expected square brackets` at the next token; nothing is read then. It takes no memory.
     #[tactic(auto, using(crate::proofs::Errors::syntax_becomes_error, crate::proofs::Refused::refused_by_syntax, crate::proofs::Refused::refused_next))]
     pub fn bracketed(&mut self) -> Result<(Bracket, ParseBuffer<'a>)>
-        ensures reads { SaysOpened IsSyntaxError (take_group grammar.Bracket self.old) result self.new }
+        ensures reads { ComputesOpened IsSyntaxError (take_group grammar.Bracket self.old) result self.new }
         ensures moved { Takes 1 self.old result self.new }
         ensures inside { IfOk result (λ p. left p.1 < left self.old) }
         ensures unchanged { OnErr result (self.new ≡ self.old) }
@@ -78,7 +78,7 @@ impl<'a> ParseBuffer<'a> {
         Ok(self.read_end()?)
     }
 
-    /// The error with one fault, of this text, at the next token; where nothing is left it is at the closing sign of the
+    /// The error with one fault, of this text, at the next token; where nothing is left it is at the closing delimiter of the
     /// group, or behind the last token of the stream. It takes no memory.
     pub fn error(&self, text: &'static str) -> Error
         ensures { HasFaultNext self.now text.now result }

@@ -4,7 +4,7 @@ use Rattle.syn_grammar.specs.Tokens.{Span, Stream, end, punct, ◌⧺◌, or, an
 use Rattle.syn_grammar.specs.Grammar.{Syntax, Nothing, Both, Left, Right, Node, Vanishing, Group, Case, Such, Unshown, Captured, Last, More, Order, bare, show, spell, behind, sort, renew, print, Shaped, Impl, no_generics, among, led_part, led}
 use Rattle.syn_grammar.specs.SelfTypes.{self_types}
 use Rattle.syn_grammar.specs.Values.{shape}
-use Rattle.syn_grammar.specs.Run.{held}
+use Rattle.syn_grammar.specs.Run.{value_of}
 use Rattle.syn_grammar.proofs.Shapes.{sum_shape, show_sum, renew_shape, is_shaped, shape_apart}
 
 -- without how captured tokens were read
@@ -26,18 +26,18 @@ bleach (More k s sp t) = More k (bleach s) sp (bleach t)
 bleach (Order xs l ys) = Order xs (bleach l) ys
 bleach s = s
 
-bare_held : (s : Syntax) → bare (held s) ≡ bare s
-bare_held (Both s t) = ap₂ and (bare_held s) (bare_held t)
-bare_held (Left s) = bare_held s
-bare_held (Right s) = bare_held s
-bare_held (Node s) = bare_held s
-bare_held (Vanishing true s) = refl
-bare_held (Vanishing false s) = bare_held s
-bare_held (Case k s) = bare_held s
-bare_held (Such s) = bare_held s
-bare_held (Shaped j s) = ap bare (is_shaped j (held s)).2
-bare_held (Order xs l ys) = bare_held l
-bare_held _ = refl
+bare_value : (s : Syntax) → bare (value_of s) ≡ bare s
+bare_value (Both s t) = ap₂ and (bare_value s) (bare_value t)
+bare_value (Left s) = bare_value s
+bare_value (Right s) = bare_value s
+bare_value (Node s) = bare_value s
+bare_value (Vanishing true s) = refl
+bare_value (Vanishing false s) = bare_value s
+bare_value (Case k s) = bare_value s
+bare_value (Such s) = bare_value s
+bare_value (Shaped j s) = ap bare (is_shaped j (value_of s)).2
+bare_value (Order xs l ys) = bare_value l
+bare_value _ = refl
 
 bleach_behind : (s : Syntax) (sp : Span) (t : Syntax) → bleach (behind s sp t) ≡ behind (bleach s) sp (bleach t)
 bleach_behind s sp (Shaped j u) = sym ((shape_apart j (bleach u)).1 (bleach s) sp)
@@ -82,23 +82,23 @@ bleach_led_part _ = refl
 bleach_led : (s : Syntax) → led (bleach s) ≡ led s
 bleach_led s = ap₂ (λ v z. or (stands at_generics v) z) (bleach_show s) (bleach_led_part s)
 
-bleach_renew : (s : Syntax) → renew (held s) ≡ bleach (renew s)
+bleach_renew : (s : Syntax) → renew (value_of s) ≡ bleach (renew s)
 bleach_renew (Both s t) = ap₂ Both (bleach_renew s) (bleach_renew t)
 bleach_renew (Left s) = ap Left (bleach_renew s)
 bleach_renew (Right s) = ap Right (bleach_renew s)
 bleach_renew (Node s) = ap Node (bleach_renew s)
 bleach_renew (Vanishing true s) = refl
-bleach_renew (Vanishing false s) = ap (λ b. Vanishing false (pick b (Right Nothing) (renew (held s)))) (bare_held s) ∙ go (bare s) (bleach_renew s)
+bleach_renew (Vanishing false s) = ap (λ b. Vanishing false (pick b (Right Nothing) (renew (value_of s)))) (bare_value s) ∙ go (bare s) (bleach_renew s)
   where
-    go : (b : Bool) → renew (held s) ≡ bleach (renew s) → Vanishing false (pick b (Right Nothing) (renew (held s))) ≡ Vanishing false (bleach (pick b (Right Nothing) (renew s)))
+    go : (b : Bool) → renew (value_of s) ≡ bleach (renew s) → Vanishing false (pick b (Right Nothing) (renew (value_of s))) ≡ Vanishing false (bleach (pick b (Right Nothing) (renew s)))
     go true e = refl
     go false e = ap (Vanishing false) e
 bleach_renew (Group d o c s) = ap (Group d o c) (bleach_renew s)
 bleach_renew (Case k s) = ap (Case k) (bleach_renew s)
 bleach_renew (Such s) = ap Such (bleach_renew s)
-bleach_renew (Shaped j s) = renew_shape j (held s) ∙ ap (shape j) (bleach_renew s)
+bleach_renew (Shaped j s) = renew_shape j (value_of s) ∙ ap (shape j) (bleach_renew s)
 bleach_renew (Impl l s) =
-    ap₂ Impl (ap₂ (λ b z. pick b (pick (led (renew (held s))) no_generics (Right Nothing)) z) (bare_held l) (bleach_renew l)
+    ap₂ Impl (ap₂ (λ b z. pick b (pick (led (renew (value_of s))) no_generics (Right Nothing)) z) (bare_value l) (bleach_renew l)
     ∙ ap (λ z. pick (bare l) (pick z no_generics (Right Nothing)) (bleach (renew l))) (ap led (bleach_renew s) ∙ bleach_led (renew s)) ∙ go (bare l) (led (renew s))) (bleach_renew s)
   where
     go : (b v : Bool) → pick b (pick v no_generics (Right Nothing)) (bleach (renew l)) ≡ bleach (pick b (pick v no_generics (Right Nothing)) (renew l))
@@ -111,5 +111,5 @@ bleach_renew (More k s sp t) = ap₂ (λ a b. More k a sp b) (bleach_renew s) (b
 bleach_renew (Order xs l ys) = ap (λ a. Order xs (sort a) ys) (bleach_renew l) ∙ ap (λ a. Order xs a ys) (sym (bleach_sort (renew l)))
 bleach_renew _ = refl
 
-pub print_held : (s : Syntax) → print (held s) ≡ print s
-print_held s = ap show (bleach_renew s) ∙ bleach_show (renew s)
+pub print_value : (s : Syntax) → print (value_of s) ≡ print s
+print_value s = ap show (bleach_renew s) ∙ bleach_show (renew s)

@@ -1,10 +1,10 @@
 -- What doesn't stand at the front.
 use Rattle.std.proofs.Common.{◌≡◌, ℕ, Bool, true, false, List, [], ◌∷◌, ◌++◌, map, nat_eq, Some, None, refl, sym, ap, true≢false}
 use Rattle.syn_grammar.specs.Words.{Text, keywords, contextual}
-use Rattle.syn_grammar.specs.Tokens.{Span, Delimiter, LitKind, Int, Leaf, ident, literal, Stream, end, leaf, punct, group, pick, one_of_texts, Name, Word, Literal, mem, leaf_face}
+use Rattle.syn_grammar.specs.Tokens.{Span, Delimiter, LitKind, Int, Leaf, ident, literal, Stream, end, leaf, punct, group, pick, one_of_texts, Name, Word, Literal, mem, leaf_terminal}
 use Rattle.syn_grammar.specs.Grammar.{Kind, name, identifier, word, name_or, literal_of, index, fits, Syntax, Token}
 use Rattle.syn_grammar.specs.Take.{Out, only, take_token, add_char, marked, take_mark}
-use Rattle.syn_parse.specs.Fronts.{is_of_idents, is_of_literals, spelled, NoIdent, NoLiteral}
+use Rattle.syn_parse.specs.FirstTokens.{is_of_idents, is_of_literals, spelled, NoIdent, NoLiteral}
 
 literal_mem : (k : LitKind) (l : List Text) → mem (Literal k) (map Word l) ≡ false
 literal_mem k [] = refl
@@ -18,7 +18,7 @@ name_mem : (l : List LitKind) → mem Name (map Literal l) ≡ false
 name_mem [] = refl
 name_mem (k ∷ l) = name_mem l
 
-ident_mem : (x : Text) (l : List LitKind) → mem (leaf_face (ident x)) (map Literal l) ≡ false
+ident_mem : (x : Text) (l : List LitKind) → mem (leaf_terminal (ident x)) (map Literal l) ≡ false
 ident_mem x l = go (one_of_texts x (keywords ++ contextual))
   where
     go : (b : Bool) → mem (pick b (Word x) Name) (map Literal l) ≡ false

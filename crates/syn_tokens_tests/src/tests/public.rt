@@ -42,7 +42,7 @@ fn tokens(alloc: Global, parts: &[&str]) -> Result<TokenStream> {
     Ok(stream)
 }
 
-/// These tokens between these signs, which stand at 10 and 20.
+/// These tokens between these delimiters, which stand at 10 and 20.
 fn group(alloc: Global, delimiter: Delimiter, parts: &[&str]) -> Result<TokenStream> {
     let mut stream = TokenStream::new(alloc);
     stream.push(TokenTree::Group(Group {
@@ -225,7 +225,7 @@ fn any_identifiers(rt: HostRuntime) -> std::result::Result<(), Fail> {
     Ok(())
 }
 
-/// Whether the buffer stands at the end of a group whose closing sign is at 20: each refusal tells that place.
+/// Whether the buffer stands at the end of a group whose closing delimiter is at 20: each refusal tells that place.
 fn is_at_close(input: &mut ParseBuffer<'_>) -> bool {
     let here = input.span() == span(20) && tells(&input.error("no"), 20, "no");
     let looked = {
