@@ -5,7 +5,7 @@ pub use Rattle.syn_grammar.specs.Promises.{Computes, Parses, MayParse, Moved, Ke
 pub use Rattle.syn_grammar.specs.Take.{take_token, sees}
 pub use Rattle.syn_parse.specs.Form.{of}
 pub use Rattle.syn_parse.specs.Meanings.{meaning_of_rule}
-pub use Rattle.syn_parse.specs.Fronts.{path_words}
+pub use Rattle.syn_parse.specs.FirstTokens.{path_words}
 pub use Rattle.syn_tokens.specs.Listing.{list_of, joined_of}
 pub use Rattle.syn_parse.specs.Refusals.{IsSyntax}
 pub use Rattle.syn_tokens.specs.Faults.{IsSyntaxError}

@@ -3,7 +3,7 @@ use Rattle.syn_grammar.specs.Rules.{module_words}
 use Rattle.syn_grammar.specs.Grammar.{token, name_or}
 use Rattle.syn_grammar.specs.Promises.{itself}
 use Rattle.syn_parse.specs.Form.{of}
-use Rattle.syn_parse.specs.Fronts.{path_words}
+use Rattle.syn_parse.specs.FirstTokens.{path_words}
 use Rattle.syn_tree.proofs.Lists.{module_words_joined}
 use Rattle.syn_tree.proofs.lower.path.segments.Goals as goal
 
