@@ -128,7 +128,7 @@ class Trial:
                 edit.path.write_text(with_clauses(edit.path.read_text(), edit.clauses))
             for clause in edit.clauses:
                 name, _, goal = clause.partition(" by ")
-                fits = goal in others and (name in self.whole(edit) or not self.whole(edit)) if goal else name in clauses
+                fits = goal in [*clauses, *others] and (name in self.whole(edit) or not self.whole(edit)) if goal else name in clauses
                 if not fits:
                     self.wrong.append(f"{edit.name}: names {clause}, but refused were: {', '.join([*clauses, *others])}")
 
