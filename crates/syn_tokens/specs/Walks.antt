@@ -7,12 +7,12 @@ use Rattle.syn_tokens.specs.declared.stream.cursor.TokenTreeRef.{TokenTreeRef}
 use Rattle.syn_tokens.specs.declared.stream.cursor.TokenTreeRef.TheVariants as T
 
 -- its trees in order, each group as one
-abbrev pub trees : Stream → List TokenTreeRef
-trees end = []
-trees (leaf (ident x) sp m) = T.Ident (record { text = x; span = from sp }) ∷ trees m
-trees (leaf (literal k x) sp m) = T.Literal (record { kind = kind_from k; text = x; span = from sp }) ∷ trees m
-trees (punct c j sp m) = T.Punct (record { character = c; spacing = spacing_from j; span = from sp }) ∷ trees m
-trees (group d o c i m) = T.Group (record { delimiter = delimiter_from d; opening = from o; closing = from c; content = i }) ∷ trees m
+abbrev pub trees_of : Stream → List TokenTreeRef
+trees_of end = []
+trees_of (leaf (ident x) sp m) = T.Ident (record { text = x; span = from sp }) ∷ trees_of m
+trees_of (leaf (literal k x) sp m) = T.Literal (record { kind = kind_from k; text = x; span = from sp }) ∷ trees_of m
+trees_of (punct c j sp m) = T.Punct (record { character = c; spacing = spacing_from j; span = from sp }) ∷ trees_of m
+trees_of (group d o c i m) = T.Group (record { delimiter = delimiter_from d; opening = from o; closing = from c; content = i }) ∷ trees_of m
 
 -- the stream that these trees are, one behind another
 abbrev pub in_turn : List TokenTreeRef → Stream

@@ -1,10 +1,11 @@
 //! Token trees that stand one behind another in a stream.
-ghost use Rattle.std.specs.Prelude.{◌≡◌, [], ◌∷◌, ◌++◌, length, MatchOption};
+ghost use Rattle.std.specs.Prelude.{◌≡◌, ◌<◌, ◌^◌, [], ◌∷◌, ◌++◌, length, MatchOption};
 ghost use Rattle.syn_grammar.specs.Tokens.{end};
 ghost use Rattle.syn_grammar.specs.Take as grammar;
 ghost use Rattle.syn_tokens.specs.Entries.{encode, decode, IsFlat};
 ghost use Rattle.syn_tokens.specs.Places.{after};
 ghost use Rattle.syn_tokens.specs.Cursors.{before_next, next_span, Closes};
+ghost use Rattle.syn_tokens.specs.Walks.{trees_of, in_turn};
 ghost use Rattle.syn_tokens.specs.declared.stream.entry.Token.TheVariants as E;
 
 use crate::delimiter::Delimiter;
@@ -13,6 +14,7 @@ use crate::literal::literal_ref::LiteralRef;
 use crate::punct::Punct;
 use crate::span::Span;
 use crate::stream::entry::{Close, Entry, Token};
+use crate::stream::iter::Iter;
 use std::marker::Model;
 
 /// A place in a stream: the token trees that stand from there on, up to the end of the stream or of a group in it. They are
@@ -165,6 +167,16 @@ impl<'a> Cursor<'a> {
             }
             Token::Close(_) => None,
         }
+    }
+
+    /// The trees from here on, in order and lent. It takes no memory.
+    #[tactic(auto, using(crate::proofs::Walks::whole, crate::proofs::Walks::counted))]
+    pub fn iter(&self) -> Iter<'a>
+        ensures stream { result ≡ self.now }
+        ensures whole { in_turn (trees_of result) ≡ self.now }
+        ensures bound { length (trees_of result) < 2 ^ 64 }
+    {
+        Iter::new(Cursor::new(self.entries, self.trees))
     }
 
     /// Goes past so many trees, or past all where there are fewer.

@@ -1,7 +1,7 @@
 //! The iterator over the trees of a stream.
 ghost use Rattle.std.specs.Prelude.{◌≡◌, ◌<◌, ◌^◌, length};
 ghost use Rattle.std.specs.Iterator.{YieldsFirst, item_count};
-ghost use Rattle.syn_tokens.specs.Walks.{trees, in_turn};
+ghost use Rattle.syn_tokens.specs.Walks.{trees_of, in_turn};
 
 use crate::stream::TokenStream;
 use crate::stream::cursor::{Cursor, TokenTreeRef};
@@ -28,24 +28,30 @@ impl<'a> Model for Iter<'a> {
 
 impl TokenStream {
     /// Its trees, in order and lent. It takes no memory.
-    #[tactic(auto, using(crate::proofs::Walks::whole, crate::proofs::Walks::counted))]
     pub fn iter(&self) -> Iter<'_>
         ensures stream { result ≡ self.now }
-        ensures whole { in_turn (trees result) ≡ self.now }
-        ensures bound { length (trees result) < 2 ^ 64 }
+        ensures whole { in_turn (trees_of result) ≡ self.now }
+        ensures bound { length (trees_of result) < 2 ^ 64 }
     {
-        Iter {
-            rest: Cursor::new(self.entries.as_slice(), self.trees),
-        }
+        self.cursor().iter()
+    }
+}
+
+impl<'a> Iter<'a> {
+    /// The trees from this place on.
+    pub(super) fn new(rest: Cursor<'a>) -> Iter<'a>
+        ensures { result ≡ rest.entry }
+    {
+        Iter { rest }
     }
 }
 
 impl<'a> Iterator for Iter<'a> {
     type Item = TokenTreeRef<'a>;
 
-    ghost next_gives = { YieldsFirst trees };
+    ghost next_gives = { YieldsFirst trees_of };
 
-    ghost remaining = { item_count trees };
+    ghost remaining = { item_count trees_of };
 
     #[tactic(auto, using(crate::proofs::Walks::first_tree))]
     fn next(&mut self) -> Option<TokenTreeRef<'a>> {
@@ -76,17 +82,5 @@ impl<'a> IntoIterator for &'a TokenStream {
 
     fn into_iter(self) -> Iter<'a> {
         self.iter()
-    }
-}
-
-impl<'a> IntoIterator for Cursor<'a> {
-    type Item = TokenTreeRef<'a>;
-
-    type IntoIter = Iter<'a>;
-
-    ghost into_iter_gives = { λ cursor i. i ≡ cursor };
-
-    fn into_iter(self) -> Iter<'a> {
-        Iter { rest: self }
     }
 }

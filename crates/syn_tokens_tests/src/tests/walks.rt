@@ -92,7 +92,7 @@ fn into_groups(rt: HostRuntime) -> Result<(), Fail> {
     let mut groups = Vec::new(alloc);
     for tree in &tokens {
         if let TokenTreeRef::Group(group) = tree {
-            groups.push(all_told(alloc, group.content.into_iter())?)?;
+            groups.push(all_told(alloc, group.content.iter())?)?;
         }
     }
     assert_eq!(rt; groups.len(), 1);
