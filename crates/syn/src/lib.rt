@@ -38,6 +38,17 @@ pub mod parse {
     pub use syn_tokens::error::{Error, Fault, Result};
 }
 
+/// Places in token streams, from which their trees are read.
+pub mod buffer {
+    pub use syn_tokens::stream::cursor::Cursor;
+}
+
+/// Token streams, and the iterator over their trees.
+pub mod token_stream {
+    pub use syn_tokens::stream::TokenStream;
+    pub use syn_tokens::stream::iter::Iter;
+}
+
 /// What identifiers have besides: `Ident::parse_any`.
 pub mod ext {
     pub use syn_parse::ext::IdentExt;
@@ -57,6 +68,8 @@ pub mod token {
     pub use syn_tokens::span::Span;
     pub use syn_tokens::stream::TokenStream;
     pub use syn_tokens::stream::builder::StreamBuilder;
+    pub use syn_tokens::stream::cursor::GroupRef;
+    pub use syn_tokens::stream::cursor::TokenTreeRef;
     pub use syn_tokens::stream::entry::Close;
     pub use syn_tokens::stream::entry::Entry;
     pub use syn_tokens::stream::entry::Open;

@@ -21,7 +21,7 @@ use std::marker::Model;
 use syn_tokens::punct::{Punct, Spacing};
 use syn_tokens::span::Span;
 use syn_tokens::stream::TokenStream;
-use syn_tokens::stream::cursor::{Cursor, Next};
+use syn_tokens::stream::cursor::{Cursor, TokenTreeRef};
 use syn_tokens::stream::entry::Entry;
 use syn_tokens::token::{DelimiterKind, Delimiters};
 
@@ -62,14 +62,14 @@ fn end_of(entries: &[Entry]) -> Span {
 }
 
 /// What is left past a tree; where that is the `'` of a lifetime, past its identifier too.
-fn past_next<'a>(next: &Next<'_>, rest: Cursor<'a>) -> Cursor<'a>
+fn past_next<'a>(next: &TokenTreeRef<'_>, rest: Cursor<'a>) -> Cursor<'a>
     ensures { result ≡ past (before_next next.now rest.entry) }
 {
     match next {
-        Next::Ident(_) => rest,
-        Next::Literal(_) => rest,
-        Next::Group(_) => rest,
-        Next::Punct(punct) => past_mark(punct, rest),
+        TokenTreeRef::Ident(_) => rest,
+        TokenTreeRef::Literal(_) => rest,
+        TokenTreeRef::Group(_) => rest,
+        TokenTreeRef::Punct(punct) => past_mark(punct, rest),
     }
 }
 
@@ -81,10 +81,10 @@ fn past_mark<'a>(punct: &Punct, rest: Cursor<'a>) -> Cursor<'a>
         return rest;
     }
     match rest.split() {
-        Some((Next::Ident(_), behind)) => behind,
-        Some((Next::Literal(_), _)) => rest,
-        Some((Next::Punct(_), _)) => rest,
-        Some((Next::Group(_), _)) => rest,
+        Some((TokenTreeRef::Ident(_), behind)) => behind,
+        Some((TokenTreeRef::Literal(_), _)) => rest,
+        Some((TokenTreeRef::Punct(_), _)) => rest,
+        Some((TokenTreeRef::Group(_), _)) => rest,
         None => rest,
     }
 }
@@ -132,10 +132,10 @@ impl<'a> ParseBuffer<'a> {
     {
         match self.tokens.split() {
             None => true,
-            Some((Next::Ident(_), _)) => false,
-            Some((Next::Literal(_), _)) => false,
-            Some((Next::Punct(_), _)) => false,
-            Some((Next::Group(_), _)) => false,
+            Some((TokenTreeRef::Ident(_), _)) => false,
+            Some((TokenTreeRef::Literal(_), _)) => false,
+            Some((TokenTreeRef::Punct(_), _)) => false,
+            Some((TokenTreeRef::Group(_), _)) => false,
         }
     }
 
@@ -255,10 +255,10 @@ impl<'a> ParseBuffer<'a> {
     {
         match self.tokens.split() {
             None => Ok(()),
-            Some((Next::Ident(_), _)) => Err(self.refusal("unexpected token")),
-            Some((Next::Literal(_), _)) => Err(self.refusal("unexpected token")),
-            Some((Next::Punct(_), _)) => Err(self.refusal("unexpected token")),
-            Some((Next::Group(_), _)) => Err(self.refusal("unexpected token")),
+            Some((TokenTreeRef::Ident(_), _)) => Err(self.refusal("unexpected token")),
+            Some((TokenTreeRef::Literal(_), _)) => Err(self.refusal("unexpected token")),
+            Some((TokenTreeRef::Punct(_), _)) => Err(self.refusal("unexpected token")),
+            Some((TokenTreeRef::Group(_), _)) => Err(self.refusal("unexpected token")),
         }
     }
 }

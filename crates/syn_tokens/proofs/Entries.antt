@@ -101,7 +101,7 @@ delimiter_there Brace = refl
 delimiter_there Bracket = refl
 delimiter_there None = refl
 
-kind_there : (k : LitKind) → kind_from (kind_of k) ≡ k
+pub kind_there : (k : LitKind) → kind_from (kind_of k) ≡ k
 kind_there Str = refl
 kind_there ByteStr = refl
 kind_there CStr = refl
@@ -110,7 +110,7 @@ kind_there Char = refl
 kind_there Int = refl
 kind_there Float = refl
 
-joint_there : (s : Spacing) → spacing_from (is_joint s) ≡ s
+pub joint_there : (s : Spacing) → spacing_from (is_joint s) ≡ s
 joint_there Joint = refl
 joint_there Alone = refl
 

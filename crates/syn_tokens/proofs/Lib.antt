@@ -12,3 +12,4 @@ pub mod Prints
 pub mod Rows
 pub mod SameEntries
 pub mod Streams
+pub mod Walks

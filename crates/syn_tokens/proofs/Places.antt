@@ -7,10 +7,10 @@ use Rattle.syn_tokens.specs.Entries.{leaf_entry, punct_entry, open_entry, close_
 use Rattle.syn_tokens.specs.Cursors.{before_next}
 use Rattle.syn_tokens.specs.Places.{place, after}
 use Rattle.syn_tokens.specs.declared.stream.entry.Token.{Token as Entry}
-use Rattle.syn_tokens.specs.declared.stream.cursor.Next.{Next}
-use Rattle.syn_tokens.specs.declared.stream.cursor.Next.TheVariants as N
+use Rattle.syn_tokens.specs.declared.stream.cursor.TokenTreeRef.{TokenTreeRef}
+use Rattle.syn_tokens.specs.declared.stream.cursor.TokenTreeRef.TheVariants as N
 
-after_next : (x : Next) (r : Stream) → after 1 (before_next x r) ≡ r
+after_next : (x : TokenTreeRef) (r : Stream) → after 1 (before_next x r) ≡ r
 after_next (N.Ident i) r = refl
 after_next (N.Literal l) r = refl
 after_next (N.Punct p) r = refl
@@ -24,7 +24,7 @@ after_more (suc n) (punct c j sp m) = after_more n m
 after_more (suc n) (group d o c i m) = after_more n m
 
 -- one tree further
-pub after_one : (n : ℕ) (ts : Stream) (x : Next) (r : Stream) → after n ts ≡ before_next x r → after (suc n) ts ≡ r
+pub after_one : (n : ℕ) (ts : Stream) (x : TokenTreeRef) (r : Stream) → after n ts ≡ before_next x r → after (suc n) ts ≡ r
 after_one n ts x r e = after_more n ts ∙ ap (after 1) e ∙ after_next x r
 
 after_end : (n : ℕ) → after n end ≡ end
@@ -58,7 +58,7 @@ length_first (suc n) (punct c j sp m) = omega (arith, length_first n m)
 length_first (suc n) (group d o c i m) = omega (arith, length_first n m)
 
 -- the tree at a place stands first behind those before it
-pub place_is : (n : ℕ) (ts : Stream) (x : Next) (r : Stream) → after n ts ≡ before_next x r → place n ts ≡ before_next x end
+pub place_is : (n : ℕ) (ts : Stream) (x : TokenTreeRef) (r : Stream) → after n ts ≡ before_next x r → place n ts ≡ before_next x end
 place_is n ts x r e = go n ts ∙ ap (place 0) e ∙ one x r
   where
     go : (n : ℕ) (ts : Stream) → place n ts ≡ place 0 (after n ts)
@@ -68,7 +68,7 @@ place_is n ts x r e = go n ts ∙ ap (place 0) e ∙ one x r
     go (suc n) (punct c j sp m) = go n m
     go (suc n) (group d o c i m) = go n m
 
-    one : (x : Next) (r : Stream) → place 0 (before_next x r) ≡ before_next x end
+    one : (x : TokenTreeRef) (r : Stream) → place 0 (before_next x r) ≡ before_next x end
     one (N.Ident i) r = refl
     one (N.Literal l) r = refl
     one (N.Punct p) r = refl

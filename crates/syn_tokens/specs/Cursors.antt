@@ -9,18 +9,18 @@ use Rattle.syn_tokens.specs.declared.span.Span.{Span}
 use Rattle.syn_tokens.specs.declared.stream.entry.Close.{Close as Closing}
 use Rattle.syn_tokens.specs.declared.stream.entry.Token.{Token as Entry}
 use Rattle.syn_tokens.specs.declared.stream.entry.Token.TheVariants as E
-use Rattle.syn_tokens.specs.declared.stream.cursor.Next.{Next}
-use Rattle.syn_tokens.specs.declared.stream.cursor.Next.TheVariants as N
+use Rattle.syn_tokens.specs.declared.stream.cursor.TokenTreeRef.{TokenTreeRef}
+use Rattle.syn_tokens.specs.declared.stream.cursor.TokenTreeRef.TheVariants as N
 
 -- a tree, and what follows it
-abbrev pub before_next : Next → Stream → Stream
+abbrev pub before_next : TokenTreeRef → Stream → Stream
 before_next (N.Ident i) r = leaf (ident i.text) (at i.span) r
 before_next (N.Literal l) r = leaf (literal (kind_of l.kind) l.text) (at l.span) r
 before_next (N.Punct p) r = punct p.character (is_joint p.spacing) (at p.span) r
 before_next (N.Group g) r = group (delimiter_of g.delimiter) (at g.opening) (at g.closing) g.content r
 
 -- where a tree stands
-abbrev pub next_span : Next → Span
+abbrev pub next_span : TokenTreeRef → Span
 next_span (N.Ident i) = i.span
 next_span (N.Literal l) = l.span
 next_span (N.Punct p) = p.span

@@ -28,3 +28,4 @@ pub mod Spans
 pub mod Spelled
 pub mod Texts
 pub mod Trees
+pub mod Walks

@@ -19,6 +19,7 @@ mod compact_span;
 mod copies;
 pub mod cursor;
 pub mod entry;
+pub mod iter;
 mod same;
 pub mod tree;
 mod words;

@@ -9,4 +9,5 @@ mod marks;
 mod public;
 mod streams;
 mod values;
+mod walks;
 mod words;

@@ -1,2 +1,3 @@
-pub mod Failures
 pub mod Answers
+pub mod Counts
+pub mod Failures

@@ -6,137 +6,124 @@ use crate::failure::Failure;
 use crate::stats::{Kind, Stats};
 use std::alloc::Global;
 use std::mem::replace;
-use syn::parse::{Parse, ParseBuffer};
-use syn::reader::{read_tokens, token_text};
-use syn::token::{
-    And, AndAnd, AndEq, At, Caret, CaretEq, Colon, Comma, Delimiter, Dollar, Dot, DotDot,
-    DotDotDot, Eq, EqEq, FatArrow, Ge, Gt, Le, Lifetime, Literal, Lt, Minus, MinusEq, Ne, Not, Or,
-    OrEq, OrOr, PathSep, Percent, PercentEq, Plus, PlusEq, Pound, Question, RArrow, Semi, Shl,
-    ShlEq, Shr, ShrEq, Slash, SlashEq, Star, StarEq, Tilde,
-};
+use syn::Error;
+use syn::reader::read_tokens;
+use syn::token::{Delimiter, IdentRef, Punct, Spacing, TokenTreeRef};
+use syn::token_stream::Iter;
 
-/// The tokens of a text, by kind, at every depth.
+/// The tokens of a text, by kind, at every depth. Each tree is looked at once, and where a mark may go on once more.
 pub(crate) fn count(alloc: Global, text: &str) -> Result<Stats, Failure>
     ensures { OnOk result (HasTokens text.now) }
 {
     let tokens = read_tokens(alloc, text)?;
-    let mut stats = Stats::new(alloc)?;
-    let mut input = ParseBuffer::new(&tokens);
+    let mut stats = Stats::new(alloc);
+    let mut trees = tokens.iter();
     let mut around = Vec::new(alloc);
     for _ in 0..u64::MAX {
-        if input.is_empty() {
+        let Some(tree) = trees.next() else {
             let Some(outer) = around.pop() else {
                 return Ok(stats);
             };
-            input = outer;
-        } else if let Some((delimiter, signs, content)) = group(&mut input) {
-            stats.add(Kind::Group(delimiter), signs)?;
-            around.push(replace(&mut input, content))?;
-        } else {
-            let before = input.fork();
-            let kind = token(&mut input)?;
-            let text = token_text(&before.between(&input)?)?;
-            stats.add(kind, text.as_str())?;
+            trees = outer;
+            continue;
+        };
+        match &tree {
+            TokenTreeRef::Group(group) => {
+                if let Some((kind, signs)) = signs(group.delimiter) {
+                    stats.add(kind, signs)?;
+                }
+                around.push(replace(&mut trees, group.content.iter()))?;
+            }
+            TokenTreeRef::Ident(ident) => stats.add(kind_of(ident), ident.text())?,
+            TokenTreeRef::Literal(literal) => {
+                stats.add(Kind::Literal(literal.kind()), literal.text())?
+            }
+            TokenTreeRef::Punct(punct) => {
+                let (kind, text) = mark(alloc, punct, &mut trees)?;
+                stats.add(kind, text.as_str())?
+            }
         }
     }
     Ok(stats)
 }
 
-/// Reads a group, if one stands next: its delimiter, its delimiters, and what stands in it.
-fn group<'a>(input: &mut ParseBuffer<'a>) -> Option<(Delimiter, &'static str, ParseBuffer<'a>)> {
-    if let Ok((_, content)) = input.parenthesized() {
-        return Some((Delimiter::Paren, "( )", content));
-    }
-    if let Ok((_, content)) = input.braced() {
-        return Some((Delimiter::Brace, "{ }", content));
-    }
-    match input.bracketed() {
-        Ok((_, content)) => Some((Delimiter::Bracket, "[ ]", content)),
-        Err(_) => None,
+/// What a group is, and its two delimiters; none of an invisible group.
+fn signs(delimiter: Delimiter) -> Option<(Kind, &'static str)> {
+    match delimiter {
+        Delimiter::Paren => Some((Kind::Parentheses, "( )")),
+        Delimiter::Brace => Some((Kind::Braces, "{ }")),
+        Delimiter::Bracket => Some((Kind::Brackets, "[ ]")),
+        Delimiter::None => None,
     }
 }
 
-/// Reads the next token, which is no group, and answers what it is.
-fn token(input: &mut ParseBuffer<'_>) -> Result<Kind, Failure> {
-    if let Ok(ident) = input.read_identifier() {
-        let is_keyword = ident.is_keyword();
-        return Ok(if is_keyword {
-            Kind::Keyword
-        } else {
-            Kind::Identifier
-        });
+/// What an identifier is.
+fn kind_of(ident: &IdentRef<'_>) -> Kind {
+    if ident.is_keyword() {
+        Kind::Keyword
+    } else {
+        Kind::Identifier
     }
-    if input.peek::<Literal>() {
-        let literal: Literal = input.parse()?;
-        return Ok(Kind::Literal(literal.kind()));
-    }
-    if input.peek::<Lifetime>() {
-        let _lifetime: Lifetime = input.parse()?;
-        return Ok(Kind::Lifetime);
-    }
-    if reads_long_mark(input) || reads_mark_with_equals(input) || reads_character(input) {
-        return Ok(Kind::Mark);
-    }
-    Err(Failure::Refused(input.error("unknown token")))
 }
 
-/// Whether a `T` stands next. If so, it is read.
-fn reads<T: Parse + Drop>(input: &mut ParseBuffer<'_>) -> bool {
-    input.parse::<T>().is_ok()
+/// The lifetime or the longest mark that begins with this character, and its text. Its other trees are taken from those that
+/// follow. A `'` that begins no lifetime is refused.
+fn mark(alloc: Global, first: &Punct, trees: &mut Iter<'_>) -> Result<(Kind, String), Failure> {
+    let mut text = String::new(alloc);
+    text.push(first.character())?;
+    let mut is_joint = first.spacing == Spacing::Joint;
+    if first.character() == '\'' {
+        if let (true, Some(TokenTreeRef::Ident(ident))) = (is_joint, &trees.next()) {
+            text.push_str(ident.text())?;
+            return Ok((Kind::Lifetime, text));
+        }
+        return Err(Failure::Refused(Error::new(first.span, "unknown token")));
+    }
+    for _ in 0..2 {
+        let mut ahead = trees.clone()?;
+        let Some(TokenTreeRef::Punct(next)) = &ahead.next() else {
+            break;
+        };
+        if !is_joint {
+            break;
+        }
+        text.push(next.character())?;
+        if !is_long_mark(text.as_str()) {
+            text.pop();
+            break;
+        }
+        is_joint = next.spacing == Spacing::Joint;
+        *trees = ahead;
+    }
+    Ok((Kind::Mark, text))
 }
 
-/// Whether one of the marks of three characters stands next, or one of two that doesn't end with `=`. If so, it is read.
-fn reads_long_mark(input: &mut ParseBuffer<'_>) -> bool {
-    reads::<DotDotDot>(input)
-        || reads::<ShlEq>(input)
-        || reads::<ShrEq>(input)
-        || reads::<AndAnd>(input)
-        || reads::<DotDot>(input)
-        || reads::<FatArrow>(input)
-        || reads::<OrOr>(input)
-        || reads::<PathSep>(input)
-        || reads::<RArrow>(input)
-        || reads::<Shl>(input)
-        || reads::<Shr>(input)
-}
-
-/// Whether one of the marks of two characters that end with `=` stands next. If so, it is read.
-fn reads_mark_with_equals(input: &mut ParseBuffer<'_>) -> bool {
-    reads::<AndEq>(input)
-        || reads::<CaretEq>(input)
-        || reads::<EqEq>(input)
-        || reads::<Ge>(input)
-        || reads::<Le>(input)
-        || reads::<MinusEq>(input)
-        || reads::<Ne>(input)
-        || reads::<OrEq>(input)
-        || reads::<PercentEq>(input)
-        || reads::<PlusEq>(input)
-        || reads::<SlashEq>(input)
-        || reads::<StarEq>(input)
-}
-
-/// Whether a mark of one character stands next. If so, it is read.
-fn reads_character(input: &mut ParseBuffer<'_>) -> bool {
-    reads::<And>(input)
-        || reads::<At>(input)
-        || reads::<Caret>(input)
-        || reads::<Colon>(input)
-        || reads::<Comma>(input)
-        || reads::<Dollar>(input)
-        || reads::<Dot>(input)
-        || reads::<Eq>(input)
-        || reads::<Gt>(input)
-        || reads::<Lt>(input)
-        || reads::<Minus>(input)
-        || reads::<Not>(input)
-        || reads::<Or>(input)
-        || reads::<Percent>(input)
-        || reads::<Plus>(input)
-        || reads::<Pound>(input)
-        || reads::<Question>(input)
-        || reads::<Semi>(input)
-        || reads::<Slash>(input)
-        || reads::<Star>(input)
-        || reads::<Tilde>(input)
+/// Whether these characters are a mark of two or three.
+fn is_long_mark(text: &str) -> bool {
+    matches!(
+        text,
+        "..."
+            | "<<="
+            | ">>="
+            | "!="
+            | "%="
+            | "&&"
+            | "&="
+            | "*="
+            | "+="
+            | "-="
+            | "->"
+            | ".."
+            | "/="
+            | "::"
+            | "<<"
+            | "<="
+            | "=="
+            | "=>"
+            | ">="
+            | ">>"
+            | "^="
+            | "|="
+            | "||"
+    )
 }

@@ -14,7 +14,7 @@ use syn_tokens::ident::ident_ref::IdentRef;
 use syn_tokens::literal::literal_ref::LiteralRef;
 use syn_tokens::punct::{Punct, Spacing};
 use syn_tokens::span::Span;
-use syn_tokens::stream::cursor::{Cursor, Inner, Next};
+use syn_tokens::stream::cursor::{Cursor, GroupRef, TokenTreeRef};
 
 /// The identifier at the front, and what follows it.
 #[tactic(auto, using(crate::proofs::FirstTokens::no_ident_at_literal), unfolding(syn_grammar::specs::Take::take_token))]
@@ -25,10 +25,10 @@ pub(crate) fn split_ident<'a>(cursor: &Cursor<'a>) -> Option<(IdentRef<'a>, Curs
 {
     let (next, rest) = cursor.split()?;
     match next {
-        Next::Ident(ident) => Some((ident, rest)),
-        Next::Literal(_) => None,
-        Next::Punct(_) => None,
-        Next::Group(_) => None,
+        TokenTreeRef::Ident(ident) => Some((ident, rest)),
+        TokenTreeRef::Literal(_) => None,
+        TokenTreeRef::Punct(_) => None,
+        TokenTreeRef::Group(_) => None,
     }
 }
 
@@ -41,10 +41,10 @@ pub(crate) fn split_literal<'a>(cursor: &Cursor<'a>) -> Option<(LiteralRef<'a>, 
 {
     let (next, rest) = cursor.split()?;
     match next {
-        Next::Ident(_) => None,
-        Next::Literal(literal) => Some((literal, rest)),
-        Next::Punct(_) => None,
-        Next::Group(_) => None,
+        TokenTreeRef::Ident(_) => None,
+        TokenTreeRef::Literal(literal) => Some((literal, rest)),
+        TokenTreeRef::Punct(_) => None,
+        TokenTreeRef::Group(_) => None,
     }
 }
 
@@ -57,10 +57,10 @@ pub(crate) fn split_punct<'a>(cursor: &Cursor<'a>) -> Option<(Punct, Cursor<'a>)
 {
     let (next, rest) = cursor.split()?;
     match next {
-        Next::Ident(_) => None,
-        Next::Literal(_) => None,
-        Next::Punct(punct) => Some((punct, rest)),
-        Next::Group(_) => None,
+        TokenTreeRef::Ident(_) => None,
+        TokenTreeRef::Literal(_) => None,
+        TokenTreeRef::Punct(punct) => Some((punct, rest)),
+        TokenTreeRef::Group(_) => None,
     }
 }
 
@@ -101,7 +101,7 @@ pub(crate) fn split_joint<'a>(cursor: &Cursor<'a>, c: char) -> Option<(Span, Cur
 pub(crate) fn split_group<'a>(
     cursor: &Cursor<'a>,
     delimiter: Delimiter,
-) -> Option<(Inner<'a>, Cursor<'a>)>
+) -> Option<(GroupRef<'a>, Cursor<'a>)>
     ensures found { MatchOption result (take_group (delimiter_of delimiter) cursor.now ≡ None)
         (λ p. take_group (delimiter_of delimiter) cursor.now
         ≡ Some (record { opening = at p.0.opening; closing = at p.0.closing; content = p.0.content; rest = p.1 })) }
@@ -110,10 +110,10 @@ pub(crate) fn split_group<'a>(
 {
     let (next, rest) = cursor.split()?;
     match next {
-        Next::Ident(_) => None,
-        Next::Literal(_) => None,
-        Next::Punct(_) => None,
-        Next::Group(inner) => {
+        TokenTreeRef::Ident(_) => None,
+        TokenTreeRef::Literal(_) => None,
+        TokenTreeRef::Punct(_) => None,
+        TokenTreeRef::Group(inner) => {
             if inner.delimiter == delimiter {
                 Some((inner, rest))
             } else {
@@ -135,9 +135,9 @@ pub(crate) fn split_lifetime<'a>(cursor: &Cursor<'a>) -> Option<(Punct, IdentRef
     }
     let (next, rest) = rest.split()?;
     match next {
-        Next::Ident(ident) => Some((apostrophe, ident, rest)),
-        Next::Literal(_) => None,
-        Next::Punct(_) => None,
-        Next::Group(_) => None,
+        TokenTreeRef::Ident(ident) => Some((apostrophe, ident, rest)),
+        TokenTreeRef::Literal(_) => None,
+        TokenTreeRef::Punct(_) => None,
+        TokenTreeRef::Group(_) => None,
     }
 }

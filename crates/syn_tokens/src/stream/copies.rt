@@ -10,7 +10,7 @@ ghost use Rattle.syn_tokens.specs.Places.{place};
 
 use crate::error::Result;
 use crate::stream::TokenStream;
-use crate::stream::cursor::{Cursor, Next};
+use crate::stream::cursor::{Cursor, TokenTreeRef};
 use crate::stream::entry::Entry;
 use crate::stream::tree::{Group, TokenTree};
 use std::alloc::{AllocError, Global};
@@ -49,19 +49,19 @@ impl<'a> Cursor<'a> {
 }
 
 /// A copy of a tree.
-fn copy_next(next: &Next<'_>, alloc: Global) -> std::result::Result<TokenTree, AllocError>
+fn copy_next(next: &TokenTreeRef<'_>, alloc: Global) -> std::result::Result<TokenTree, AllocError>
     ensures { IfOk result (λ copy. before copy end ≡ before_next next.now end) }
 {
     match next {
-        Next::Group(inner) => Ok(TokenTree::Group(Group {
+        TokenTreeRef::Group(inner) => Ok(TokenTree::Group(Group {
             delimiter: inner.delimiter,
             stream: inner.content.to_stream(alloc)?,
             opening: inner.opening,
             closing: inner.closing,
         })),
-        Next::Ident(ident) => Ok(TokenTree::Ident(ident.to_ident()?)),
-        Next::Punct(punct) => Ok(TokenTree::Punct(*punct)),
-        Next::Literal(literal) => Ok(TokenTree::Literal(literal.to_literal()?)),
+        TokenTreeRef::Ident(ident) => Ok(TokenTree::Ident(ident.to_ident()?)),
+        TokenTreeRef::Punct(punct) => Ok(TokenTree::Punct(*punct)),
+        TokenTreeRef::Literal(literal) => Ok(TokenTree::Literal(literal.to_literal()?)),
     }
 }
 

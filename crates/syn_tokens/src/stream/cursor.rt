@@ -1,10 +1,11 @@
 //! Token trees that stand one behind another in a stream.
-ghost use Rattle.std.specs.Prelude.{◌≡◌, [], ◌∷◌, ◌++◌, length, MatchOption};
+ghost use Rattle.std.specs.Prelude.{◌≡◌, ◌<◌, ◌^◌, [], ◌∷◌, ◌++◌, length, MatchOption};
 ghost use Rattle.syn_grammar.specs.Tokens.{end};
 ghost use Rattle.syn_grammar.specs.Take as grammar;
 ghost use Rattle.syn_tokens.specs.Entries.{encode, decode, IsFlat};
 ghost use Rattle.syn_tokens.specs.Places.{after};
 ghost use Rattle.syn_tokens.specs.Cursors.{before_next, next_span, Closes};
+ghost use Rattle.syn_tokens.specs.Walks.{trees_of, in_turn};
 ghost use Rattle.syn_tokens.specs.declared.stream.entry.Token.TheVariants as E;
 
 use crate::delimiter::Delimiter;
@@ -13,6 +14,7 @@ use crate::literal::literal_ref::LiteralRef;
 use crate::punct::Punct;
 use crate::span::Span;
 use crate::stream::entry::{Close, Entry, Token};
+use crate::stream::iter::Iter;
 use std::marker::Model;
 
 /// A place in a stream: the token trees that stand from there on, up to the end of the stream or of a group in it. They are
@@ -40,7 +42,7 @@ impl<'a> Model for Cursor<'a> {
 
 /// A group in a stream: its delimiters, where they stand, and a cursor over its content.
 #[derive(Drop)]
-pub struct Inner<'a> {
+pub struct GroupRef<'a> {
     pub delimiter: Delimiter,
     pub opening: Span,
     pub closing: Span,
@@ -49,11 +51,11 @@ pub struct Inner<'a> {
 
 /// A token tree in a stream, lent.
 #[derive(Drop)]
-pub enum Next<'a> {
+pub enum TokenTreeRef<'a> {
     Ident(IdentRef<'a>),
     Literal(LiteralRef<'a>),
     Punct(Punct),
-    Group(Inner<'a>),
+    Group(GroupRef<'a>),
 }
 
 /// The first entry, and the others.
@@ -81,16 +83,16 @@ fn split_close(entries: &[Entry], count: usize) -> Option<(&[Entry], Close, &[En
     }
 }
 
-impl<'a> Next<'a> {
+impl<'a> TokenTreeRef<'a> {
     /// Where it stands; of a group, where its opening delimiter does.
     pub fn span(&self) -> Span
         ensures { result ≡ next_span self.now }
     {
         match self {
-            Next::Ident(ident) => ident.span,
-            Next::Literal(literal) => literal.span,
-            Next::Punct(punct) => punct.span,
-            Next::Group(group) => group.opening,
+            TokenTreeRef::Ident(ident) => ident.span,
+            TokenTreeRef::Literal(literal) => literal.span,
+            TokenTreeRef::Punct(punct) => punct.span,
+            TokenTreeRef::Group(group) => group.opening,
         }
     }
 }
@@ -141,27 +143,40 @@ impl<'a> Cursor<'a> {
     /// The first tree, and a cursor behind it; none at the end. It takes no memory, and as little time for a group as for a
     /// token.
     #[inline(always)]
-    pub fn split(&self) -> Option<(Next<'a>, Cursor<'a>)>
+    pub fn split(&self) -> Option<(TokenTreeRef<'a>, Cursor<'a>)>
         ensures { MatchOption result (self.now ≡ end) (λ p. self.now ≡ before_next p.0 p.1) }
     {
         let (first, rest) = split_first(self.entries)?;
         let behind = self.trees.saturating_sub(1);
         match first.token() {
-            Token::Ident(ident) => Some((Next::Ident(ident), Cursor::new(rest, behind))),
-            Token::Literal(literal) => Some((Next::Literal(literal), Cursor::new(rest, behind))),
-            Token::Punct(punct) => Some((Next::Punct(punct), Cursor::new(rest, behind))),
+            Token::Ident(ident) => Some((TokenTreeRef::Ident(ident), Cursor::new(rest, behind))),
+            Token::Literal(literal) => Some((
+                TokenTreeRef::Literal(literal),
+                Cursor::new(rest, behind),
+            )),
+            Token::Punct(punct) => Some((TokenTreeRef::Punct(punct), Cursor::new(rest, behind))),
             Token::Open(open) => {
                 let (content, close, rest) = split_close(rest, open.skip)?;
-                let inner = Inner {
+                let inner = GroupRef {
                     delimiter: open.delimiter,
                     opening: open.span,
                     closing: close.span,
                     content: Cursor::new(content, close.trees),
                 };
-                Some((Next::Group(inner), Cursor::new(rest, behind)))
+                Some((TokenTreeRef::Group(inner), Cursor::new(rest, behind)))
             }
             Token::Close(_) => None,
         }
+    }
+
+    /// The trees from here on, in order and lent. It takes no memory.
+    #[tactic(auto, using(crate::proofs::Walks::whole, crate::proofs::Walks::counted))]
+    pub fn iter(&self) -> Iter<'a>
+        ensures stream { result ≡ self.now }
+        ensures whole { in_turn (trees_of result) ≡ self.now }
+        ensures bound { length (trees_of result) < 2 ^ 64 }
+    {
+        Iter::new(Cursor::new(self.entries, self.trees))
     }
 
     /// Goes past so many trees, or past all where there are fewer.
