@@ -1,12 +1,12 @@
--- Spans in half their room.
-use Rattle.std.specs.Prelude.{◌<◌, ◌^◌}
+-- Spans of tokens, in less than half their room.
+use Rattle.std.specs.Prelude.{◌<◌, ◌≤◌, ◌^◌, ◌+◌, ◌*◌}
 use Rattle.syn_tokens.specs.declared.stream.compact_span.CompactSpan.{CompactSpan}
 use Rattle.syn_tokens.specs.declared.span.Span.{Span}
 
 -- the span itself
 abbrev pub wide : CompactSpan → Span
-wide n = record { start = n.start; end = n.end }
+wide n = record { start = n.high * 2 ^ 16 + n.low; end = n.high * 2 ^ 16 + n.low + n.length }
 
--- both ends lie within the first 2^32 bytes
+-- it starts within the first 2^32 bytes, and has fewer than 2^16
 abbrev pub IsCompact : Span → Type 0
-IsCompact s = (s.start < 2 ^ 32) × (s.end < 2 ^ 32)
+IsCompact s = (s.start < 2 ^ 32) × (s.start ≤ s.end) × (s.end < s.start + 2 ^ 16)

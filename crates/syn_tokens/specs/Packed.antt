@@ -8,7 +8,7 @@ use Rattle.syn_tokens.specs.declared.stream.entry.Token.TheVariants as E
 use Rattle.syn_tokens.specs.declared.stream.entry.Packed.TheVariants as P
 use Rattle.syn_tokens.specs.declared.stream.entry.Far.TheVariants as F
 
--- what stands beyond the first 2^32 bytes of a text
+-- what has no compact span
 abbrev pub far_token : F.the_data → Token
 far_token (F.Ident i) = E.Ident i
 far_token (F.Literal l) = E.Literal l

@@ -1,12 +1,28 @@
 //! Lists with separators.
-ghost use Rattle.std.specs.Prelude.{◌≡◌, ◌++◌, ◌-◌, ◌∷◌, ◌≢◌, ◌↔◌, ◌⊎◌, [], IfOk, OnOk, OnErr, IfSome, IsTrue, IsSome, MatchOption, None, Some, length, slice_get};
+ghost use Rattle.std.specs.Prelude.{◌≡◌, ◌++◌, ◌-◌, ◌<◌, ◌∷◌, ◌≢◌, ◌↔◌, ◌⊎◌, [], IfOk, OnOk, OnErr, IfSome, IsTrue, IsSome, MatchOption, None, Some, length, slice_get};
 ghost use Rattle.std.specs.Option.{option_copied};
+ghost use Rattle.std.specs.Vec.{vec_len, vec_capacity};
 ghost use Rattle.syn_tokens.specs.Lists.{nothing_listed, values};
 
 pub mod iterators;
 
 use std::alloc::{AllocError, Global};
 use std::marker::Model;
+
+/// The first pairs of a list, so many, each get the room that they need and no more: most lists are paths of a few words.
+const FEW: usize = 4;
+
+/// Makes room for one more pair; refused, it changes nothing.
+fn make_room<X>(pairs: &mut Vec<X>) -> Result<(), AllocError>
+    ensures items { pairs.new.items ≡ pairs.old.items }
+    ensures room { OnOk result (vec_len pairs.new < vec_capacity pairs.new) }
+{
+    if pairs.len() < FEW {
+        pairs.reserve_exact(1)
+    } else {
+        pairs.reserve(1)
+    }
+}
 
 /// Values with separators between them; the last separator may stand or not.
 #[derive(Drop)]
@@ -128,6 +144,7 @@ impl<T: Drop, P: Drop> Punctuated<T, P> {
         if self.inner.len() == usize::MAX - 1 {
             return Err(AllocError);
         }
+        make_room(&mut self.inner)?;
         self.inner.push((value, punct))?;
         Ok(())
     }
@@ -141,7 +158,7 @@ impl<T: Drop, P: Drop> Punctuated<T, P> {
         if self.inner.len() == usize::MAX - 1 {
             return Err(AllocError);
         }
-        self.inner.reserve(1)?;
+        make_room(&mut self.inner)?;
         if let Some(value) = self.last.take() {
             self.inner.push((Box::into_inner(value), punct))?;
         }

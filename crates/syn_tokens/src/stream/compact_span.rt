@@ -1,14 +1,18 @@
-//! Spans in half their room.
+//! Spans of tokens, in less than half their room.
 ghost use Rattle.std.specs.Prelude.{◌≡◌, IfSome, IsSome};
 ghost use Rattle.syn_tokens.specs.CompactSpans.{wide, IsCompact};
 
 use crate::span::Span;
 
-/// A span within the first 2^32 bytes of a text.
+/// A span of fewer than 2^16 bytes that starts within the first 2^32 bytes of a text. It takes 6 bytes, at any even address,
+/// so an entry has room for it beside the two bytes that tell what it is.
 #[derive(Clone, Copy, Debug)]
 pub(crate) struct CompactSpan {
-    start: u32,
-    end: u32,
+    /// The lower half of where it starts.
+    low: u16,
+    /// The upper half.
+    high: u16,
+    length: u16,
 }
 
 impl CompactSpan {
@@ -18,9 +22,11 @@ impl CompactSpan {
         ensures value { IfSome result (λ compact_span. wide compact_span ≡ span) }
         ensures compact_span { IsCompact span → IsSome result }
     {
+        let length = span.end.checked_sub(span.start)?;
         Some(CompactSpan {
-            start: u32::try_from(span.start).ok()?,
-            end: u32::try_from(span.end).ok()?,
+            low: u16::try_from(span.start % 0x10000).ok()?,
+            high: u16::try_from(span.start / 0x10000).ok()?,
+            length: u16::try_from(length).ok()?,
         })
     }
 
@@ -29,9 +35,10 @@ impl CompactSpan {
     pub(crate) fn span(&self) -> Span
         ensures { result ≡ wide self.now }
     {
+        let start = self.high as usize * 0x10000 + self.low as usize;
         Span {
-            start: self.start as usize,
-            end: self.end as usize,
+            start,
+            end: start + self.length as usize,
         }
     }
 }

@@ -44,7 +44,7 @@ pub enum Token<'a> {
     Close(Close),
 }
 
-/// A token, or a delimiter of a group, as a stream keeps it: in 24 bytes, where it stands within the first 2^32 bytes of a text.
+/// A token, or a delimiter of a group, as a stream keeps it: in 16 bytes, where it has a compact span.
 #[derive(Drop)]
 pub struct Entry {
     inner: Packed,
@@ -64,7 +64,7 @@ enum Packed {
     Far(Rc<Far>),
 }
 
-/// What stands elsewhere.
+/// What has no compact span.
 #[derive(Drop)]
 enum Far {
     Ident(Ident),
@@ -113,7 +113,7 @@ impl Entry {
         })
     }
 
-    /// The entry of an identifier. It takes memory only where the identifier stands beyond the first 2^32 bytes of a text.
+    /// The entry of an identifier. It takes memory only where the identifier has no compact span.
     #[inline(always)]
     pub fn ident(alloc: Global, ident: Ident) -> Result<Entry, AllocError>
         ensures { IfOk result (λ entry. entry ≡ E.Ident ident) }
@@ -127,7 +127,7 @@ impl Entry {
         })
     }
 
-    /// The entry of a literal. It takes memory only where the literal stands beyond the first 2^32 bytes of a text.
+    /// The entry of a literal. It takes memory only where the literal has no compact span.
     #[inline(always)]
     pub fn literal(alloc: Global, literal: Literal) -> Result<Entry, AllocError>
         ensures { IfOk result (λ entry. entry ≡ E.Literal literal) }
@@ -141,7 +141,7 @@ impl Entry {
         })
     }
 
-    /// The entry of a mark's character. It takes memory only where that stands beyond the first 2^32 bytes of a text.
+    /// The entry of a mark's character. It takes memory only where that has no compact span.
     #[inline(always)]
     pub fn punct(alloc: Global, punct: Punct) -> Result<Entry, AllocError>
         ensures { IfOk result (λ entry. entry ≡ E.Punct punct) }
@@ -154,7 +154,7 @@ impl Entry {
         })
     }
 
-    /// The entry of an opening delimiter. It takes memory only where the delimiter stands beyond the first 2^32 bytes of a text.
+    /// The entry of an opening delimiter. It takes memory only where the delimiter has no compact span.
     #[inline(always)]
     pub(crate) fn open(alloc: Global, sign: Open) -> Result<Entry, AllocError>
         ensures { IfOk result (λ entry. entry ≡ E.Open sign) }
@@ -167,7 +167,7 @@ impl Entry {
         })
     }
 
-    /// The entry of a closing delimiter. It takes memory only where the delimiter stands beyond the first 2^32 bytes of a text.
+    /// The entry of a closing delimiter. It takes memory only where the delimiter has no compact span.
     #[inline(always)]
     pub(crate) fn close(alloc: Global, sign: Close) -> Result<Entry, AllocError>
         ensures { IfOk result (λ entry. entry ≡ E.Close sign) }
