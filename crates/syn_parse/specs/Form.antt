@@ -152,5 +152,5 @@ NotDerivedList f g ts = (l : Sequence Syntax Syntax) → DerivesList (Derives f)
 
 -- on visible streams an answer is such a list, and a refusal is one of a stream that is none
 abbrev pub ListOutcome : {T P E : Type 0} → (E → Type 0) → (T → Syntax) → (P → Syntax) → Form → Form → Stream → Result (Sequence T P) E → Type 0
-ListOutcome refusal view sign f g ts (Ok l) = visible ts ≡ true → DerivesList (Derives f) (Derives g) view sign l.pairs l.last ts
-ListOutcome refusal view sign f g ts (Err e) = visible ts ≡ true → refusal e → NotDerivedList f g ts
+ListOutcome refusal view separator_view f g ts (Ok l) = visible ts ≡ true → DerivesList (Derives f) (Derives g) view separator_view l.pairs l.last ts
+ListOutcome refusal view separator_view f g ts (Err e) = visible ts ≡ true → refusal e → NotDerivedList f g ts

@@ -22,9 +22,9 @@ terminated element separator ts = terminated_for (suc (left ts)) element separat
 
 -- IN THE WORDS OF THE GRAMMAR
 
-module _ (element separator : Syntax → Stream → Stream → Type 0) {T P : Type 0} (view : T → Syntax) (sign : P → Syntax) where
+module _ (element separator : Syntax → Stream → Stream → Type 0) {T P : Type 0} (view : T → Syntax) (separator_view : P → Syntax) where
   -- the stream is these elements, each with the separator that follows it, and perhaps a last one that none follows
   abbrev pub DerivesList : List (T × P) → Option T → Stream → Type 0
   DerivesList [] None ts = ts ≡ end
   DerivesList [] (Some x) ts = (ts ≢ end) × element (view x) ts end
-  DerivesList (x ∷ l) last ts = (r m : Stream) × element (view x.0) ts r × separator (sign x.1) r m × DerivesList l last m
+  DerivesList (x ∷ l) last ts = (r m : Stream) × element (view x.0) ts r × separator (separator_view x.1) r m × DerivesList l last m

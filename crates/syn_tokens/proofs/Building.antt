@@ -19,12 +19,12 @@ use Rattle.syn_tokens.specs.declared.stream.builder.Pending.{Pending}
 
 -- THERE AND BACK
 
-abbrev sign : OpenGroup → Open
-sign g = record { delimiter = g.delimiter; span = g.opening; skip = 0 }
+abbrev opening_of : OpenGroup → Open
+opening_of g = record { delimiter = g.delimiter; span = g.opening; skip = 0 }
 
 abbrev opened : List OpenGroup → Stream → List (Open × Stream)
 opened [] s = []
-opened (g ∷ gs) s = (sign g, front gs s) ∷ opened gs s
+opened (g ∷ gs) s = (opening_of g, front gs s) ∷ opened gs s
 
 states_laid : (gs : List OpenGroup) (s : Stream) → states (laid gs s) ≡ record { trees = front gs s; outer = []; opened = opened gs s }
 states_laid [] s =
@@ -33,7 +33,7 @@ states_laid [] s =
 states_laid (g ∷ gs) s =
     states_back g.outer (open_delimiter g ∷ laid gs s)
     ∙ ap (λ st. ahead g.outer (step (open_delimiter g) st)) (states_laid gs s)
-    ∙ ap (λ t. record { trees = t; outer = []; opened = (sign g, front gs s) ∷ opened gs s }) (append_end g.outer)
+    ∙ ap (λ t. record { trees = t; outer = []; opened = (opening_of g, front gs s) ∷ opened gs s }) (append_end g.outer)
 
 groups_back : (gs : List OpenGroup) (s : Stream) → groups (front gs s) (opened gs s) ≡ gs
 groups_back [] s = refl
@@ -124,8 +124,8 @@ closing g c s = record { delimiter = g.delimiter; span = c; trees = grammar.leng
 abbrev pub closed : OpenGroup → Span → Stream → Stream
 closed g c s = group (delimiter_of g.delimiter) (at g.opening) (at c) s end
 
-signs : (g : OpenGroup) (c : Span) (s : Stream) → E.Open (opening g s) ∷ (encode s ++ E.Close (closing g c s) ∷ []) ≡ encode (closed g c s)
-signs g c s =
+delimited : (g : OpenGroup) (c : Span) (s : Stream) → E.Open (opening g s) ∷ (encode s ++ E.Close (closing g c s) ∷ []) ≡ encode (closed g c s)
+delimited g c s =
     ap (λ d. E.Open (record { delimiter = d; span = g.opening; skip = length (encode s) }) ∷ (encode s ++ E.Close (record { delimiter = d; span = c; trees = grammar.length s }) ∷ []))
     (sym (delimiter_there g.delimiter))
 
@@ -135,9 +135,9 @@ laid_closed gs g c s =
     ap (λ es. set (es ++ E.Close (closing g c s) ∷ []) (length (laid gs g.outer)) (E.Open (opening g s))) (laid_open gs g s)
     ∙ ap (λ es. set es (length (laid gs g.outer)) (E.Open (opening g s))) (append_assoc (laid gs g.outer) (open_delimiter g ∷ encode s) (E.Close (closing g c s) ∷ []))
     ∙ set_at (laid gs g.outer) (open_delimiter g) (encode s ++ E.Close (closing g c s) ∷ []) (E.Open (opening g s)) (length (laid gs g.outer)) refl
-    ∙ ap (λ es. laid gs g.outer ++ es) (signs g c s)
+    ∙ ap (λ es. laid gs g.outer ++ es) (delimited g c s)
     ∙ laid_more gs g.outer (closed g c s)
 
--- so many entries, with those of the innermost open group behind its sign
+-- so many entries, with those of the innermost open group behind its delimiter
 pub length_laid : (gs : List OpenGroup) (g : OpenGroup) (s : Stream) → length (laid (gs ++ g ∷ []) s) ≡ length (laid gs g.outer) + 1 + length (encode s)
 length_laid gs g s = omega (arith, ap length (laid_open gs g s), length-append (laid gs g.outer) (open_delimiter g ∷ encode s))

@@ -7,4 +7,4 @@ in_order view [] = Nothing
 in_order view (x ∷ l) = Both (view x) (in_order view l)
 
 abbrev pub pair_of : {T P : Type 0} → (T → Syntax) → (P → Syntax) → T × P → Syntax
-pair_of view sign x = Both (view x.0) (sign x.1)
+pair_of view separator_view x = Both (view x.0) (separator_view x.1)

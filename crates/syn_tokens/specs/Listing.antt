@@ -2,11 +2,11 @@
 use Rattle.std.specs.Prelude.{List, [], ◌∷◌, Option, Some, None}
 use Rattle.syn_grammar.specs.Grammar.{Syntax, Nothing, Node, Right, Left, Both}
 
-module _ {T P : Type 0} (tag : Syntax → Syntax) (view : T → Syntax) (sign : P → Syntax) where
+module _ {T P : Type 0} (tag : Syntax → Syntax) (view : T → Syntax) (separator_view : P → Syntax) where
   -- a list that begins with these, before its other members
   abbrev pub onto : List (T × P) → Syntax → Syntax
   onto [] s = s
-  onto (x ∷ l) s = Node (tag (Both (view x.0) (Left (Both (sign x.1) (onto l s)))))
+  onto (x ∷ l) s = Node (tag (Both (view x.0) (Left (Both (separator_view x.1) (onto l s)))))
 
   abbrev pub last_of : Syntax → Option T → Syntax
   last_of at_end None = at_end
@@ -20,8 +20,8 @@ untagged s = s
 
 -- of a rule that may read nothing
 abbrev pub list_of : {T P : Type 0} → (T → Syntax) → (P → Syntax) → List (T × P) → Option T → Syntax
-list_of view sign = listed Right view sign (Node (Left Nothing))
+list_of view separator_view = listed Right view separator_view (Node (Left Nothing))
 
 -- of a rule that reads one at least
 abbrev pub joined_of : {T P : Type 0} → (T → Syntax) → (P → Syntax) → List (T × P) → Option T → Syntax
-joined_of view sign = listed untagged view sign Nothing
+joined_of view separator_view = listed untagged view separator_view Nothing

@@ -26,4 +26,4 @@ second s = s
 
 -- in a group with these delimiters
 abbrev pub group_syntax : {K : Type 0} → Delimiter → Delimiters K → Syntax → Syntax
-group_syntax d signs content = Group d (at signs.opening) (at signs.closing) content
+group_syntax d delimiters content = Group d (at delimiters.opening) (at delimiters.closing) content

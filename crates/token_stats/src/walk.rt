@@ -29,8 +29,8 @@ pub(crate) fn count(alloc: Global, text: &str) -> Result<Stats, Failure>
         };
         match &tree {
             TokenTreeRef::Group(group) => {
-                if let Some((kind, signs)) = signs(group.delimiter) {
-                    stats.add(kind, signs)?;
+                if let Some((kind, text)) = kind_of_group(group.delimiter) {
+                    stats.add(kind, text)?;
                 }
                 around.push(replace(&mut trees, group.content.iter()))?;
             }
@@ -48,7 +48,7 @@ pub(crate) fn count(alloc: Global, text: &str) -> Result<Stats, Failure>
 }
 
 /// What a group is, and its two delimiters; none of an invisible group.
-fn signs(delimiter: Delimiter) -> Option<(Kind, &'static str)> {
+fn kind_of_group(delimiter: Delimiter) -> Option<(Kind, &'static str)> {
     match delimiter {
         Delimiter::Paren => Some((Kind::Parentheses, "( )")),
         Delimiter::Brace => Some((Kind::Braces, "{ }")),

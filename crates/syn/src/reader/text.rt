@@ -50,11 +50,11 @@ impl Writer {
             Token::Ident(ident) => self.word(ident.text()),
             Token::Literal(literal) => self.word(literal.text()),
             Token::Punct(punct) => self.punct(&punct),
-            Token::Open(open) => match signs(open.delimiter) {
+            Token::Open(open) => match delimiter_texts(open.delimiter) {
                 Some((opening, _)) => self.word(opening),
                 None => Ok(()),
             },
-            Token::Close(close) => match signs(close.delimiter) {
+            Token::Close(close) => match delimiter_texts(close.delimiter) {
                 Some((_, closing)) => self.word(closing),
                 None => Ok(()),
             },
@@ -92,10 +92,10 @@ impl Writer {
 }
 
 /// The opening and the closing delimiter of a visible group.
-fn signs(delimiter: Delimiter) -> Option<(&'static str, &'static str)>
+fn delimiter_texts(delimiter: Delimiter) -> Option<(&'static str, &'static str)>
     ensures { MatchOption result (delimiter_of delimiter ≡ None)
-        (λ signs. (is_visible (delimiter_of delimiter) ≡ true) × (signs.0.now ≡ opening_delimiter (delimiter_of delimiter))
-        × (signs.1.now ≡ closing_delimiter (delimiter_of delimiter))) }
+        (λ pair. (is_visible (delimiter_of delimiter) ≡ true) × (pair.0.now ≡ opening_delimiter (delimiter_of delimiter))
+        × (pair.1.now ≡ closing_delimiter (delimiter_of delimiter))) }
 {
     match delimiter {
         Delimiter::Paren => Some(("(", ")")),

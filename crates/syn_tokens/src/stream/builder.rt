@@ -208,10 +208,10 @@ impl StreamBuilder {
             span: opening,
             skip: 0,
         };
-        let sign = Entry::open(self.alloc, open)?;
+        let entry = Entry::open(self.alloc, open)?;
         self.pending.reserve(1)?;
         let at = self.entries.len();
-        self.entries.push(sign)?;
+        self.entries.push(entry)?;
         self.pending.push(Pending {
             delimiter,
             opening,

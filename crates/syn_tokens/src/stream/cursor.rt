@@ -73,8 +73,8 @@ fn split_close(entries: &[Entry], count: usize) -> Option<(&[Entry], Close, &[En
         (λ p. (entries.now ≡ p.0.now ++ E.Close p.1 ∷ p.2.now) × (length p.0.now ≡ count)) }
 {
     let (content, rest) = entries.split_at_checked(count)?;
-    let (sign, rest) = split_first(rest)?;
-    match sign.token() {
+    let (closing, rest) = split_first(rest)?;
+    match closing.token() {
         Token::Close(close) => Some((content, close, rest)),
         Token::Ident(_) => None,
         Token::Literal(_) => None,

@@ -156,27 +156,27 @@ impl Entry {
 
     /// The entry of an opening delimiter. It takes memory only where the delimiter has no compact span.
     #[inline(always)]
-    pub(crate) fn open(alloc: Global, sign: Open) -> Result<Entry, AllocError>
-        ensures { IfOk result (λ entry. entry ≡ E.Open sign) }
+    pub(crate) fn open(alloc: Global, open: Open) -> Result<Entry, AllocError>
+        ensures { IfOk result (λ entry. entry ≡ E.Open open) }
     {
-        let Some(place) = CompactSpan::of(sign.span) else {
-            return Entry::far(alloc, Far::Open(sign));
+        let Some(place) = CompactSpan::of(open.span) else {
+            return Entry::far(alloc, Far::Open(open));
         };
         Ok(Entry {
-            inner: Packed::Open(sign.delimiter, place, sign.skip),
+            inner: Packed::Open(open.delimiter, place, open.skip),
         })
     }
 
     /// The entry of a closing delimiter. It takes memory only where the delimiter has no compact span.
     #[inline(always)]
-    pub(crate) fn close(alloc: Global, sign: Close) -> Result<Entry, AllocError>
-        ensures { IfOk result (λ entry. entry ≡ E.Close sign) }
+    pub(crate) fn close(alloc: Global, close: Close) -> Result<Entry, AllocError>
+        ensures { IfOk result (λ entry. entry ≡ E.Close close) }
     {
-        let Some(place) = CompactSpan::of(sign.span) else {
-            return Entry::far(alloc, Far::Close(sign));
+        let Some(place) = CompactSpan::of(close.span) else {
+            return Entry::far(alloc, Far::Close(close));
         };
         Ok(Entry {
-            inner: Packed::Close(sign.delimiter, place, sign.trees),
+            inner: Packed::Close(close.delimiter, place, close.trees),
         })
     }
 
