@@ -156,27 +156,27 @@ impl Entry {
 
     /// The entry of an opening delimiter. It takes memory only where the delimiter has no compact span.
     #[inline(always)]
-    pub(crate) fn open(alloc: Global, open: Open) -> Result<Entry, AllocError>
-        ensures { IfOk result (λ entry. entry ≡ E.Open open) }
+    pub(crate) fn open(alloc: Global, opening: Open) -> Result<Entry, AllocError>
+        ensures { IfOk result (λ entry. entry ≡ E.Open opening) }
     {
-        let Some(place) = CompactSpan::of(open.span) else {
-            return Entry::far(alloc, Far::Open(open));
+        let Some(place) = CompactSpan::of(opening.span) else {
+            return Entry::far(alloc, Far::Open(opening));
         };
         Ok(Entry {
-            inner: Packed::Open(open.delimiter, place, open.skip),
+            inner: Packed::Open(opening.delimiter, place, opening.skip),
         })
     }
 
     /// The entry of a closing delimiter. It takes memory only where the delimiter has no compact span.
     #[inline(always)]
-    pub(crate) fn close(alloc: Global, close: Close) -> Result<Entry, AllocError>
-        ensures { IfOk result (λ entry. entry ≡ E.Close close) }
+    pub(crate) fn close(alloc: Global, closing: Close) -> Result<Entry, AllocError>
+        ensures { IfOk result (λ entry. entry ≡ E.Close closing) }
     {
-        let Some(place) = CompactSpan::of(close.span) else {
-            return Entry::far(alloc, Far::Close(close));
+        let Some(place) = CompactSpan::of(closing.span) else {
+            return Entry::far(alloc, Far::Close(closing));
         };
         Ok(Entry {
-            inner: Packed::Close(close.delimiter, place, close.trees),
+            inner: Packed::Close(closing.delimiter, place, closing.trees),
         })
     }
 
