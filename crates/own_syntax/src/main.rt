@@ -1,4 +1,4 @@
-//! Reads routes, a syntax of its own, from standard input, and writes a line for each.
+//! Reads routes, a syntax of its own, from standard input, and writes two lines for each: what it says, and its tokens.
 //!
 //! A route is `route GET "/users" ~> users::list (page: u8, size: u8) if admin`, with or without the part that begins with
 //! `if`; a `;` stands between routes. The status is 0; 1 where the text is refused or can't be read or written, with a line
@@ -14,6 +14,7 @@ ghost use Rattle.own_syntax.specs.Syntax.{syntax_of_Route};
 
 mod kw;
 mod line;
+mod print;
 mod route;
 #[cfg(test)]
 mod tests;
@@ -21,11 +22,13 @@ mod tests;
 use crate::line::add_route;
 use crate::route::Route;
 use std::alloc::Global;
+use std::fmt::Write as _;
 use std::io::{Read, Write};
 use std::process::ExitCode;
+use syn::ToTokens;
 use syn::parse::ParseBuffer;
 use syn::punctuated::Punctuated;
-use syn::reader::read_tokens;
+use syn::reader::{read_tokens, token_text};
 use syn::token::{Semi, TokenStream};
 
 /// The routes that a whole stream is, with `;` between them.
@@ -44,6 +47,9 @@ fn lines(alloc: Global, text: &str) -> syn::Result<String> {
     let mut lines = String::new(alloc);
     for route in parse_routes(&tokens)?.iter() {
         add_route(&mut lines, route)?;
+        let mut printed = TokenStream::new(alloc);
+        route.to_tokens(&mut printed)?;
+        writeln!(lines, "    {}", token_text(&printed)?.as_str())?;
     }
     Ok(lines)
 }

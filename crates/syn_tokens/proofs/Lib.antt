@@ -6,6 +6,7 @@ pub mod Cursors
 pub mod Entries
 pub mod Faults
 pub mod Keywords
+pub mod Marks
 pub mod Names
 pub mod Places
 pub mod Prints

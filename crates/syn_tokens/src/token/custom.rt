@@ -1,14 +1,17 @@
 //! Keywords and marks of own syntaxes, which the grammar of Rust need not know.
-ghost use Rattle.std.specs.Prelude.{◌≡◌, true, IfOk};
+ghost use Rattle.std.specs.Prelude.{◌≡◌, ◌<◌, ◌+◌, nat_lt, true, IfOk};
 ghost use Rattle.syn_grammar.specs.Words.{Text};
 ghost use Rattle.syn_tokens.specs.Spelled.{is_plain_word};
 ghost use Rattle.syn_tokens.specs.Faults.{expected};
 ghost use Rattle.syn_tokens.specs.Leaves.{syntax_of_mark, syntax_of_word};
-ghost use Rattle.syn_tokens.specs.Punct.{all_punct};
+ghost use Rattle.syn_tokens.specs.Punct.{all_punct, is_joint};
 
 use crate::error;
 use crate::ident::Ident;
+use crate::print::{Print, ToTokens};
+use crate::punct::Spacing;
 use crate::span::Span;
+use crate::stream::builder::StreamBuilder;
 use crate::syntactic::Syntactic;
 use crate::syntactic::compare::Compared;
 use crate::syntactic::try_clone::TryClone;
@@ -89,6 +92,15 @@ impl<K: CustomKeywordKind> Compared for CustomKeyword<K> {
     }
 }
 
+impl<K: CustomKeywordKind> Print for CustomKeyword<K> {
+    #[tactic(auto, using(crate::specs::Spelled::word_is_identifier))]
+    fn print_in(&self, out: &mut StreamBuilder) -> Result<(), AllocError> {
+        out.add_word(K::text(), self.span)
+    }
+}
+
+impl<K: CustomKeywordKind> ToTokens for CustomKeyword<K> {}
+
 /// A kind of mark of an own syntax, by its `N` characters, two or three.
 pub trait CustomPunctuationKind<const N: usize> {
     ghost text: { Text };
@@ -144,3 +156,28 @@ impl<K: CustomPunctuationKind<N>, const N: usize> Compared for CustomPunctuation
         true
     }
 }
+
+impl<K: CustomPunctuationKind<N>, const N: usize> Print for CustomPunctuation<K, N> {
+    #[tactic(auto, using(crate::proofs::Prints::prints, crate::proofs::Marks::marks))]
+    fn print_in(&self, out: &mut StreamBuilder) -> Result<(), AllocError> {
+        let characters = K::characters();
+        for i in 0..N {
+            out.add_punct(characters[i], spacing(i, N), self.spans[i])?;
+        }
+        Ok(())
+    }
+}
+
+/// The spacing of the character of this number in a mark of so many.
+fn spacing(index: usize, count: usize) -> Spacing
+    requires { index < count }
+    ensures { is_joint result ≡ nat_lt (index + 1) count }
+{
+    if index + 1 < count {
+        Spacing::Joint
+    } else {
+        Spacing::Alone
+    }
+}
+
+impl<K: CustomPunctuationKind<N>, const N: usize> ToTokens for CustomPunctuation<K, N> {}
