@@ -58,7 +58,6 @@ fn seen(rt: &impl Abort, stream: &TokenStream, start: usize) {
             Token::Literal(literal) => {
                 assert_eq!(rt; (literal.kind(), literal.text()), (LitKind::Char, "'x'"));
                 assert_eq!(rt; (offset, literal.span), (2, span));
-                assert!(rt; literal.is_same(&literal));
             }
             Token::Punct(punct) => {
                 assert_eq!(rt; (punct.character(), punct.spacing), (';', Spacing::Joint));

@@ -72,7 +72,7 @@ fn a_raw_word(rt: HostRuntime) -> Result<(), Fail> {
 
 #[test]
 fn a_copy_of_a_word(rt: HostRuntime) -> Result<(), Fail> {
-    let copy = Ident::new(rt.alloc(), "struct", SPAN)?.copy()?;
+    let copy = Ident::new(rt.alloc(), "struct", SPAN)?.try_clone(rt.alloc())?;
     assert_eq!(rt; copy.span, SPAN);
     assert!(rt; copy.is_keyword());
     assert!(rt; copy.is("struct"));
@@ -125,7 +125,7 @@ fn unequal_literals(rt: HostRuntime) -> Result<(), Fail> {
 #[test]
 fn a_copy_of_a_literal(rt: HostRuntime) -> Result<(), Fail> {
     let copy = Literal::new(rt.alloc(), LitKind::Str, "\"a\"", SPAN)?
-        .copy()?
+        .try_clone(rt.alloc())?
         .try_clone(rt.alloc())?;
     assert_eq!(rt; copy.text(), "\"a\"");
     assert_eq!(rt; copy.span, SPAN);
