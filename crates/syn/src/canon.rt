@@ -36,5 +36,5 @@ pub fn same_form<T: Canonical + Drop>(left: TokenStream, right: TokenStream) -> 
     let mut right_print = TokenStream::new(alloc);
     left_tree.to_tokens(&mut left_print)?;
     right_tree.to_tokens(&mut right_print)?;
-    Ok(left_print.is_same(&right_print))
+    Ok(left_print == right_print)
 }

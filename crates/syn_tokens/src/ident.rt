@@ -84,9 +84,8 @@ impl Ident {
         })
     }
 
-    /// The same identifier once more, with the same span. It takes no memory, and is refused only where 2^64 - 1 copies
-    /// of the text are there.
-    pub fn copy(&self) -> std::result::Result<Ident, AllocError>
+    /// What `try_clone` gives, where the type says that memory alone can be wanting.
+    pub(crate) fn copy(&self) -> std::result::Result<Ident, AllocError>
         ensures { IfOk result (λ i. i ≡ self.now) }
     {
         Ok(Ident {
@@ -122,7 +121,8 @@ impl Ident {
         (self.keyword, self.text)
     }
 
-    /// The same as `copy`.
+    /// The same identifier once more, with the same span. It takes no memory, and is refused only where 2^64 - 1 copies
+    /// of the text are there.
     pub fn try_clone(&self, _alloc: Global) -> Result<Ident>
         ensures ok { IfOk result (λ i. i ≡ self.now) }
         ensures err { IfErr result (λ e. e ≡ []) }

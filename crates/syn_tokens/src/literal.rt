@@ -80,9 +80,8 @@ impl Literal {
         })
     }
 
-    /// The same literal once more, with the same span. It takes no memory, and is refused only where 2^64 - 1 copies of
-    /// the text are there.
-    pub fn copy(&self) -> std::result::Result<Literal, AllocError>
+    /// What `try_clone` gives, where the type says that memory alone can be wanting.
+    pub(crate) fn copy(&self) -> std::result::Result<Literal, AllocError>
         ensures { IfOk result (λ l. l ≡ self.now) }
     {
         Ok(Literal {
@@ -113,7 +112,8 @@ impl Literal {
         (self.kind, self.text)
     }
 
-    /// The same as `copy`.
+    /// The same literal once more, with the same span. It takes no memory, and is refused only where 2^64 - 1 copies of
+    /// the text are there.
     pub fn try_clone(&self, _alloc: Global) -> Result<Literal>
         ensures ok { IfOk result (λ l. l ≡ self.now) }
         ensures err { IfErr result (λ e. e ≡ []) }

@@ -47,13 +47,13 @@ impl IdentCache {
         };
         if let Some(known) = kept {
             if known.text() == text {
-                let mut again = known.copy()?;
+                let mut again = known.as_ref().to_ident()?;
                 again.span = span;
                 return Ok(again);
             }
         }
         let ident = Ident::of_identifier(self.alloc, text, span)?;
-        *kept = Some(ident.copy()?);
+        *kept = Some(ident.as_ref().to_ident()?);
         Ok(ident)
     }
 }

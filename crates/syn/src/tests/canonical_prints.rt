@@ -113,7 +113,7 @@ fn joint_ends(rt: HostRuntime) -> Result<(), Fail> {
         let tokens = restricted(rt.alloc(), spacing)?;
         let print = canonical::<Visibility>(tokens)?;
         assert_eq!(rt; token_text(&print)?.as_str(), "pub ( in a :: b )");
-        assert!(rt; print.is_same(&restricted(rt.alloc(), Spacing::Alone)?));
+        assert!(rt; print == restricted(rt.alloc(), Spacing::Alone)?);
     }
     let joint = restricted(rt.alloc(), Spacing::Joint)?;
     let alone = restricted(rt.alloc(), Spacing::Alone)?;

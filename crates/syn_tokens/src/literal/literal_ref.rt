@@ -58,7 +58,7 @@ impl<'a> LiteralRef<'a> {
 
     /// Whether both have the same kind and text, wherever they stand.
     #[tactic(auto, using(syn_grammar::proofs::Same::bytes_same_text))]
-    pub fn is_same(&self, other: &LiteralRef<'_>) -> bool
+    pub(crate) fn is_same(&self, other: &LiteralRef<'_>) -> bool
         ensures { result ≡ same_text (spelling self.now) (spelling other.now) }
     {
         self.kind == other.kind && self.text() == other.text()

@@ -38,14 +38,15 @@ impl Print for TokenStream {
 }
 
 impl<K: WordKind> Print for Word<K> {
+    #[tactic(auto, using(crate::specs::Spelled::word_is_identifier))]
     fn print_in(&self, out: &mut StreamBuilder) -> Result<(), AllocError> {
-        self.print(out)
+        out.add_word(K::text(), self.span)
     }
 }
 
 impl<K: MarkKind<N>, const N: usize> Print for Mark<K, N> {
     fn print_in(&self, out: &mut StreamBuilder) -> Result<(), AllocError> {
-        self.print(out)
+        K::print(&self.spans, out)
     }
 }
 

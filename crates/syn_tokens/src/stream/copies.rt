@@ -66,8 +66,8 @@ fn copy_next(next: &TokenTreeRef<'_>, alloc: Global) -> std::result::Result<Toke
 }
 
 impl TokenTree {
-    /// The same tree once more, with the same spans, in memory from `alloc`; refused only where memory is.
-    pub fn copy(&self, alloc: Global) -> std::result::Result<TokenTree, AllocError>
+    /// What `try_clone` gives, where the type says that memory alone can be wanting.
+    fn copy(&self, alloc: Global) -> std::result::Result<TokenTree, AllocError>
         ensures { IfOk result (λ copy. copy ≡ self.now) }
     {
         match self {
@@ -83,7 +83,7 @@ impl TokenTree {
         }
     }
 
-    /// The same as `copy`.
+    /// The same tree once more, with the same spans, in memory from `alloc`; refused only where memory is.
     pub fn try_clone(&self, alloc: Global) -> Result<TokenTree>
         ensures ok { IfOk result (λ copy. copy ≡ self.now) }
         ensures err { IfErr result (λ e. e ≡ []) }
@@ -93,14 +93,14 @@ impl TokenTree {
 }
 
 impl TokenStream {
-    /// The same stream once more, with the same spans, in memory from `alloc`; refused only where memory is.
-    pub fn copy(&self, alloc: Global) -> std::result::Result<TokenStream, AllocError>
+    /// What `try_clone` gives, where the type says that memory alone can be wanting.
+    pub(crate) fn copy(&self, alloc: Global) -> std::result::Result<TokenStream, AllocError>
         ensures { IfOk result (λ copy. copy ≡ self.now) }
     {
         self.cursor().to_stream(alloc)
     }
 
-    /// The same as `copy`.
+    /// The same stream once more, with the same spans, in memory from `alloc`; refused only where memory is.
     pub fn try_clone(&self, alloc: Global) -> Result<TokenStream>
         ensures ok { IfOk result (λ copy. copy ≡ self.now) }
         ensures err { IfErr result (λ e. e ≡ []) }

@@ -33,6 +33,7 @@ fn same_entries(a: &[Entry], b: &[Entry]) -> bool
     a.len() == b.len() && a.iter().zip(b).all(|(x, y)| same_entry(x, y))
 }
 
+/// Two are equal exactly where they are once every span is 0 to 0: the same tokens with the same spacing.
 impl PartialEq for TokenStream {
     ghost use Rattle.syn_tokens.specs.SameStreams.{same_stream_per};
 
@@ -40,8 +41,11 @@ impl PartialEq for TokenStream {
 
     ghost laws = { same_stream_per };
 
-    #[tactic(auto, using(crate::proofs::SameEntries::same_encoded))]
-    fn eq(&self, other: &TokenStream) -> bool {
+    #[tactic(auto, using(crate::proofs::SameEntries::same_encoded, syn_grammar::proofs::Same::same_stream_plain))]
+    fn eq(&self, other: &TokenStream) -> bool
+        ensures same { result ≡ same_stream self.now other.now }
+        ensures plain { IsTrue result ↔ (plain self.now ≡ plain other.now) }
+    {
         same_entries(self.entries(), other.entries())
     }
 }
@@ -50,16 +54,6 @@ impl Eq for TokenStream {
     ghost use Rattle.syn_tokens.specs.SameStreams.{same_stream_equiv};
 
     ghost laws = { same_stream_equiv };
-}
-
-impl TokenStream {
-    /// Whether both are the same tokens with the same spacing, whatever the spans: what `==` answers.
-    #[tactic(auto, using(syn_grammar::proofs::Same::same_stream_plain))]
-    pub fn is_same(&self, other: &TokenStream) -> bool
-        ensures { IsTrue result ↔ (plain self.now ≡ plain other.now) }
-    {
-        self == other
-    }
 }
 
 impl PartialEq for TokenTree {

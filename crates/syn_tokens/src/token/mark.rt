@@ -48,16 +48,6 @@ impl<K, const N: usize> Mark<K, N> {
     }
 }
 
-impl<K: MarkKind<N>, const N: usize> Mark<K, N> {
-    /// Adds the mark at the end of what is being built.
-    pub fn print(&self, out: &mut StreamBuilder) -> Result<(), AllocError>
-        ensures prints { OnOk result (out.new ≡ added out.old (spell (placed K.text self.now.spans) end)) }
-        ensures begins { out.new.before ≡ out.old.before }
-    {
-        K::print(&self.spans, out)
-    }
-}
-
 impl<K: MarkKind<N>, const N: usize> Syntactic for Mark<K, N> {
     ghost syntax = { λ m. syntax_of_mark K.text m.spans };
 }

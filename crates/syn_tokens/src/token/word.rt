@@ -1,16 +1,12 @@
 //! Words, such as `struct`.
-ghost use Rattle.std.specs.Prelude.{◌≡◌, true, IfOk, OnOk};
+ghost use Rattle.std.specs.Prelude.{◌≡◌, true, IfOk};
 ghost use Rattle.syn_grammar.specs.Words.{Text};
-ghost use Rattle.syn_grammar.specs.Tokens.{end, ident, leaf};
-ghost use Rattle.syn_tokens.specs.Building.{added};
-ghost use Rattle.syn_tokens.specs.Spans.{at};
 ghost use Rattle.syn_tokens.specs.Spelled.{is_plain_word};
 ghost use Rattle.syn_tokens.specs.Faults.{expected};
 ghost use Rattle.syn_tokens.specs.Leaves.{syntax_of_word, is_known_word};
 
 use crate::ident::Ident;
 use crate::span::Span;
-use crate::stream::builder::StreamBuilder;
 use crate::syntactic::Syntactic;
 use std::alloc::{AllocError, Global};
 use std::marker::PhantomData;
@@ -70,15 +66,6 @@ impl<K: WordKind> Word<K> {
         ensures { IfOk result (λ i. i ≡ record { text = K.text; span = self.now.span }) }
     {
         Ident::of_identifier(alloc, K::text(), self.span)
-    }
-
-    /// Adds the word at the end of what is being built.
-    #[tactic(auto, using(crate::specs::Spelled::word_is_identifier))]
-    pub fn print(&self, out: &mut StreamBuilder) -> Result<(), AllocError>
-        ensures prints { OnOk result (out.new ≡ added out.old (leaf (ident K.text) (at self.now.span) end)) }
-        ensures begins { out.new.before ≡ out.old.before }
-    {
-        out.add_word(K::text(), self.span)
     }
 }
 

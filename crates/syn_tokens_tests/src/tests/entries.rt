@@ -101,7 +101,7 @@ fn is_ident_there(ident: &IdentRef<'_>, place: usize) -> bool {
 fn is_lent(entry: &Entry, place: usize) -> bool {
     match entry.token() {
         Token::Ident(ident) => is_ident_there(&ident, place),
-        Token::Literal(literal) => place == 2 && literal.is_same(&literal),
+        Token::Literal(literal) => place == 2,
         Token::Punct(punct) => (place == 3 || place == 4) && punct.character() == ';',
         Token::Open(open) => place == 1 && open.skip == 3 && open.delimiter == Delimiter::Brace,
         Token::Close(close) => {

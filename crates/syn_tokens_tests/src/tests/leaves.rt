@@ -77,7 +77,7 @@ fn a_raw_word(rt: HostRuntime) -> Result<()> {
 
 #[test]
 fn a_copy_of_a_word(rt: HostRuntime) -> Result<()> {
-    let copy = name(rt.alloc(), "struct")?.copy()?;
+    let copy = name(rt.alloc(), "struct")?.try_clone(rt.alloc())?;
     assert!(rt; copy.is("struct") && copy.is_keyword() && copy.span == SPAN);
     Ok(())
 }
@@ -133,7 +133,7 @@ fn equal_literals(rt: HostRuntime) -> Result<()> {
 
 /// A copy of a copy of a text.
 fn copied(alloc: Global, text: &str) -> Result<Literal> {
-    literal(alloc, LitKind::Str, text)?.copy()?.try_clone(alloc)
+    literal(alloc, LitKind::Str, text)?.try_clone(alloc)
 }
 
 #[test]

@@ -117,7 +117,7 @@ fn longer_ones(rt: HostRuntime) -> Result<()> {
 
 /// Whether both are the same, by each of the three ways to ask that.
 fn are_same(left: &TokenStream, right: &TokenStream) -> bool {
-    left == right && right == left && left.is_same(right)
+    left == right && right == left
 }
 
 fn is_same(alloc: Global, left: &str, right: &str) -> Result<bool> {
@@ -126,7 +126,7 @@ fn is_same(alloc: Global, left: &str, right: &str) -> Result<bool> {
 
 /// Whether no way to ask says that both are the same.
 fn are_different(left: &TokenStream, right: &TokenStream) -> bool {
-    left != right && right != left && !left.is_same(right)
+    left != right && right != left
 }
 
 fn is_different(alloc: Global, left: &str, right: &str) -> Result<bool> {

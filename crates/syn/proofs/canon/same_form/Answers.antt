@@ -22,5 +22,5 @@ returns g c = record {
   same_form = λ v w.
       let left : c.to_tokens.new.tokens ≡ print (g.T.Syntactic.syntax c.in_ok-left_tree.left_tree) = search rules in
       let right : c.to_tokens-2.new.tokens ≡ print (g.T.Syntactic.syntax c.in_ok-right_tree.right_tree) = search rules in
-      same_form_by g.T.Parse.form g.T.Canonical.rule g.met.T.Canonical.reads_rule c.args.left c.args.right c.to_tokens.new.tokens c.to_tokens-2.new.tokens (g.T.Syntactic.syntax c.in_ok-left_tree.left_tree) (g.T.Syntactic.syntax c.in_ok-right_tree.right_tree) c.is_same.result (c.in_ok-left_tree.ensures v) (c.in_ok-right_tree.ensures w) left right c.is_same.ensures;
+      same_form_by g.T.Parse.form g.T.Canonical.rule g.met.T.Canonical.reads_rule c.args.left c.args.right c.to_tokens.new.tokens c.to_tokens-2.new.tokens (g.T.Syntactic.syntax c.in_ok-left_tree.left_tree) (g.T.Syntactic.syntax c.in_ok-right_tree.right_tree) c.eq.result (c.in_ok-left_tree.ensures v) (c.in_ok-right_tree.ensures w) left right c.eq.ensures.plain;
 }
