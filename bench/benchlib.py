@@ -68,13 +68,14 @@ def milliseconds(commands, path, rounds):
 
 
 def megabytes(command, path):
-    """The peak memory of one run, or None without GNU time."""
+    """The peak memory of one run in millions of bytes, or None without GNU time."""
     if not os.path.exists(GNU_TIME):
         return None
     with open(path, 'rb') as source:
         run = subprocess.run([GNU_TIME, '-f', '%M'] + command, stdin=source, stdout=subprocess.DEVNULL,
                              stderr=subprocess.PIPE, check=True)
-    return int(run.stderr.split()[-1]) / 1000
+    kibibytes = int(run.stderr.split()[-1])
+    return kibibytes * 1024 / 1e6
 
 
 def step_times(command, path, rounds):

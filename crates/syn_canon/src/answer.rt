@@ -33,6 +33,8 @@ pub(crate) fn answer<R: Read>(
     let command = Command::from_words(words).ok_or(Failure::Usage)?;
     let text = read_text(alloc, input)?;
     let tokens = read_tokens(alloc, text.as_str())?;
+    // The tokens have texts of their own, and what follows wants memory.
+    drop(text);
     match command {
         Command::Print(kind) => print_as(kind, tokens),
         Command::Check(kind) => {

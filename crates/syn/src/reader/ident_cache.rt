@@ -1,20 +1,45 @@
 //! One text for an identifier that stands in many places.
-ghost use Rattle.std.specs.Prelude.{◌≡◌, IsTrue, IfOk};
+ghost use Rattle.std.specs.Prelude.{◌≡◌, IsTrue, IfOk, IfSome};
 ghost use Rattle.syn_tokens.specs.Idents.{is_identifier};
 
 use std::alloc::{AllocError, Global};
 use syn_tokens::ident::Ident;
 use syn_tokens::span::Span;
 
-/// How many identifiers are kept at most.
-const MOST: usize = 1024;
+/// How many places there are at most.
+const MOST: usize = 512;
 
-/// Identifiers that were read before, each at a place that its text gives. Where another one comes to that place, the earlier
-/// one is kept no longer, so each takes as little time, whatever the texts are.
+/// Identifiers that were read before, each at a place that its text gives. A place keeps the last two that came to it, so each
+/// takes as little time, whatever the texts are.
 #[derive(Drop)]
 pub(super) struct IdentCache {
-    places: Vec<Option<Ident>>,
+    places: Vec<Place>,
     alloc: Global,
+}
+
+/// The last two identifiers that came to a place, so that two names that alternate there are both found.
+#[derive(Drop)]
+struct Place {
+    last: Option<Ident>,
+    before: Option<Ident>,
+}
+
+impl Place {
+    /// The identifier of this text, where it is kept here.
+    fn find(&self, text: &str) -> Option<&Ident>
+        ensures { IfSome result (λ known. known.now.text ≡ text.now) }
+    {
+        match (&self.last, &self.before) {
+            (Some(last), _) if last.text() == text => Some(last),
+            (_, Some(before)) if before.text() == text => Some(before),
+            _ => None,
+        }
+    }
+
+    /// Keeps one more, in the room of the one that came first.
+    fn keep(&mut self, ident: Ident) {
+        self.before = self.last.replace(ident);
+    }
 }
 
 /// A number that the text gives.
@@ -30,7 +55,13 @@ impl IdentCache {
     /// Keeps none yet; it has places enough for a text of that length.
     pub(super) fn new(alloc: Global, length: usize) -> Result<IdentCache, AllocError> {
         let mut places = Vec::new(alloc);
-        places.resize_with((length / 32).clamp(1, MOST), || None)?;
+        places.resize_with(
+            (length / 64).clamp(1, MOST),
+            || Place {
+                last: None,
+                before: None,
+            },
+        )?;
         Ok(IdentCache { places, alloc })
     }
 
@@ -45,15 +76,13 @@ impl IdentCache {
         let Some(kept) = self.places.get_mut(place) else {
             return Ident::of_identifier(self.alloc, text, span);
         };
-        if let Some(known) = kept {
-            if known.text() == text {
-                let mut again = known.as_ref().to_ident()?;
-                again.span = span;
-                return Ok(again);
-            }
+        if let Some(known) = kept.find(text) {
+            let mut again = known.as_ref().to_ident()?;
+            again.span = span;
+            return Ok(again);
         }
         let ident = Ident::of_identifier(self.alloc, text, span)?;
-        *kept = Some(ident.as_ref().to_ident()?);
+        kept.keep(ident.as_ref().to_ident()?);
         Ok(ident)
     }
 }

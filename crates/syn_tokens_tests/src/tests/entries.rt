@@ -4,6 +4,7 @@ use std::alloc::Global;
 use std::mem::size_of;
 use syn_tokens::delimiter::Delimiter;
 use syn_tokens::error::Result;
+use syn_tokens::ident::Ident;
 use syn_tokens::ident::ident_ref::IdentRef;
 use syn_tokens::literal::literal_ref::LiteralRef;
 use syn_tokens::punct::{Punct, Spacing};
@@ -51,7 +52,25 @@ fn is_kept(alloc: Global, start: usize) -> Result<bool> {
 
 #[test]
 fn room(rt: HostRuntime) {
-    assert_eq!(rt; size_of::<Entry>(), 24);
+    assert_eq!(rt; size_of::<Entry>(), 16);
+}
+
+/// Whether the entry of an identifier there keeps its span, and its copy does.
+fn is_kept_at(alloc: Global, span: Span) -> Result<bool> {
+    let entry = Entry::ident(alloc, Ident::new(alloc, "a", span)?)?;
+    Ok(entry.span() == span && entry.copy()?.span() == span)
+}
+
+/// The longest span that is compact, a longer one, and one that ends before it starts.
+#[test]
+fn long(rt: HostRuntime) -> Result<()> {
+    for (start, end) in [(7, 0x10006), (7, 0x10007), (7, 3)] {
+        assert!(rt;
+            is_kept_at(rt.alloc(), Span { start, end })?,
+            "{start} {end}"
+        );
+    }
+    Ok(())
 }
 
 #[test]
