@@ -1,4 +1,4 @@
--- THE LAWS OF THE COMPUTED READING: the functions `reads` and `parse` answer exactly what the grammar derives.
+-- THE LAWS OF THE COMPUTED READING: the functions `parse_rule` and `parse_form` answer exactly what the grammar derives.
 use Rattle.std.specs.Prelude.{◌≡◌, ◌≤◌, ◌↔◌, true, Some, None}
 use Rattle.syn_grammar.specs.Tokens.{Stream, ◌⧺◌, visible}
 use Rattle.syn_grammar.specs.Rules.{Rule}

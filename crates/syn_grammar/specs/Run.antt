@@ -1,6 +1,6 @@
 -- THE COMPUTED READING: the value and the rest that a rule reads from a token stream, or none, as functions.
--- `reads k` is that of a rule, `parse g` that of a form; specs/Computed.antt says that they answer what the grammar derives.
--- An answer is the held tree (`held` below) and what is left.
+-- `parse_rule k` is that of a rule, `parse_form g` that of a form; specs/Computed.antt says that they answer what the grammar derives.
+-- An answer is the value (`value_of` below) and what is left.
 use Rattle.std.specs.Prelude.{ℕ, zero, suc, ◌+◌, ◌*◌, Bool, true, false, List, [], ◌∷◌, Option, Some, None}
 use Rattle.syn_grammar.specs.Words.{colon, comma, less, greater}
 use Rattle.syn_grammar.specs.Tokens.{Span, call_site, Delimiter, Stream, end, no, pick, at_generics}
