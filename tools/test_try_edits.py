@@ -86,6 +86,7 @@ class Functions(unittest.TestCase):
             ("impl From<AllocError> for Error {", "ErrorFromAllocError"),
             ("impl fmt::Display for Error {", "ErrorDisplay"),
             ("impl<K: OneCharacter> MarkKind<1> for K {", "AnyMarkKind1"),
+            ("impl<K: CustomPunctuationKind<2>> Peek for CustomPunctuation<K, 2> {", "CustomPunctuation2Peek"),
             ("impl<T: Compared, P: Compared> Compared for (T, P) {", "Tuple2Compared"),
             ("impl<'a, T, P> IntoIterator for &'a Punctuated<T, P> {", "RefPunctuatedIntoIterator"),
             ("impl<'a, T, P> IntoIterator for &'a mut Punctuated<T, P> {", "RefMutPunctuatedIntoIterator"),

@@ -73,7 +73,7 @@ class Trial:
             tried = packs(self.source, left, size)
             missed = [edit for missed in pool.map(self.try_pack, tried) for edit in missed]
             alone = {pack.edits[0].name for pack in tried if len(pack.edits) == 1}
-            left, size = [edit for edit in missed if edit.name not in alone], max(1, len(missed) // 2)
+            left, size = [edit for edit in missed if edit.name not in alone], max(1, min(size, len(missed)) // 2)
 
     def try_pack(self, pack):
         """The edits of the pack that are not refused."""
@@ -128,7 +128,7 @@ class Trial:
                 edit.path.write_text(with_clauses(edit.path.read_text(), edit.clauses))
             for clause in edit.clauses:
                 name, _, goal = clause.partition(" by ")
-                fits = goal in others and (name in self.whole(edit) or not self.whole(edit)) if goal else name in clauses
+                fits = goal in [*clauses, *others] and (name in self.whole(edit) or not self.whole(edit)) if goal else name in clauses
                 if not fits:
                     self.wrong.append(f"{edit.name}: names {clause}, but refused were: {', '.join([*clauses, *others])}")
 

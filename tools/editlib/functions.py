@@ -40,14 +40,16 @@ def plain(name):
 
 
 def block_of(header):
-    """The prover's name of an impl block, such as ErrorFromRefusal, and AnyParse where the type is a parameter."""
+    """The prover's name of an impl block, such as ErrorFromRefusal, AnyParse where the type is a parameter, and
+    CustomPunctuation2Peek where the type has a number."""
     inside = HEADER.match(re.sub(r"\s*(where .*)?\{$", "", header))[1]
     if " for " not in inside:
         return plain(inside)
     trait, kind = inside.split(" for ", 1)
     arguments = re.findall(r"\w+", trait.partition("<")[2].partition("<")[0])
     name = "Any" if re.fullmatch(r"[A-Z]", kind.split()[0]) else "Tuple2" if kind.startswith("(") else plain(kind)
-    return name + plain(trait) + "".join(word[0].upper() + word[1:] for word in arguments)
+    numbers = re.findall(r"\b\d+\b", kind.partition("<")[2])
+    return name + "".join(numbers) + plain(trait) + "".join(word[0].upper() + word[1:] for word in arguments)
 
 
 def module_of(path):
