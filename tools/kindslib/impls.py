@@ -160,9 +160,11 @@ impl PartialEq for {name} {{
 
     ghost laws = {{ same_per {syntax} }};
 
-    #[tactic(auto, using(syn_grammar::proofs::Same::same_syntax_plain))]
+    #[tactic(auto, using(crate::proofs::Equality::equals))]
     fn eq(&self, other: &{name}) -> bool
-        ensures {{ Equals {syntax} self.now other.now result }}
+        ensures same {{ IsSame {syntax} self.now other.now result }}
+        ensures equal {{ IsEqual {syntax} self.now other.now result }}
+        ensures prints {{ PrintsAlike {syntax} self.now other.now result }}
     {{
         self.is_same(other)
     }}
@@ -177,7 +179,8 @@ impl Eq for {name} {{
 def compare_block(source, t):
     syntax, module = syntax_of(source, t)
     odd = source.by_hand(f"impl Compared for {t.name}")
-    ghosts = [(module, syntax), ("syn_tree.specs.Equality", "Equals")]
+    ghosts = [(module, syntax)]
+    ghosts += [("syn_tree.specs.Equality", name) for name in ("IsSame", "IsEqual", "PrintsAlike")]
     ghosts += [("syn_tokens.specs.Comparison", name) for name in ("same_by", "same_equiv", "same_per")]
     uses = [(f"crate::{source.path_of(t.name)}", t.name), ("syn_tokens::syntactic::compare", "Compared")]
     return {"text": ("" if odd else compared_text(source, t)) + equality_text(t.name, syntax), "uses": uses, "ghosts": ghosts}

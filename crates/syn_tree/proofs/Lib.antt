@@ -1,5 +1,6 @@
 mod CommaLists
 pub mod Compared
 mod Defaults
+pub mod Equality
 mod Lists
 mod Restricted

@@ -2,7 +2,7 @@
 //!
 //! Comparisons of `data`.
 ghost use Rattle.syn_tree.specs.Data.{syntax_of_Fields};
-ghost use Rattle.syn_tree.specs.Equality.{Equals};
+ghost use Rattle.syn_tree.specs.Equality.{IsSame, IsEqual, PrintsAlike};
 ghost use Rattle.syn_tokens.specs.Comparison.{same_by, same_equiv, same_per};
 ghost use Rattle.syn_grammar.specs.Promises.{itself};
 
@@ -25,9 +25,11 @@ impl PartialEq for Fields {
 
     ghost laws = { same_per syntax_of_Fields };
 
-    #[tactic(auto, using(syn_grammar::proofs::Same::same_syntax_plain))]
+    #[tactic(auto, using(crate::proofs::Equality::equals))]
     fn eq(&self, other: &Fields) -> bool
-        ensures { Equals syntax_of_Fields self.now other.now result }
+        ensures same { IsSame syntax_of_Fields self.now other.now result }
+        ensures equal { IsEqual syntax_of_Fields self.now other.now result }
+        ensures prints { PrintsAlike syntax_of_Fields self.now other.now result }
     {
         self.is_same(other)
     }
@@ -49,9 +51,11 @@ impl PartialEq for FieldsUnnamed {
 
     ghost laws = { same_per itself };
 
-    #[tactic(auto, using(syn_grammar::proofs::Same::same_syntax_plain))]
+    #[tactic(auto, using(crate::proofs::Equality::equals))]
     fn eq(&self, other: &FieldsUnnamed) -> bool
-        ensures { Equals itself self.now other.now result }
+        ensures same { IsSame itself self.now other.now result }
+        ensures equal { IsEqual itself self.now other.now result }
+        ensures prints { PrintsAlike itself self.now other.now result }
     {
         self.is_same(other)
     }
@@ -67,9 +71,11 @@ impl PartialEq for Field {
 
     ghost laws = { same_per itself };
 
-    #[tactic(auto, using(syn_grammar::proofs::Same::same_syntax_plain))]
+    #[tactic(auto, using(crate::proofs::Equality::equals))]
     fn eq(&self, other: &Field) -> bool
-        ensures { Equals itself self.now other.now result }
+        ensures same { IsSame itself self.now other.now result }
+        ensures equal { IsEqual itself self.now other.now result }
+        ensures prints { PrintsAlike itself self.now other.now result }
     {
         self.is_same(other)
     }

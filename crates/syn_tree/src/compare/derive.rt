@@ -2,7 +2,7 @@
 //!
 //! Comparisons of `derive`.
 ghost use Rattle.syn_grammar.specs.Promises.{itself};
-ghost use Rattle.syn_tree.specs.Equality.{Equals};
+ghost use Rattle.syn_tree.specs.Equality.{IsSame, IsEqual, PrintsAlike};
 ghost use Rattle.syn_tokens.specs.Comparison.{same_by, same_equiv, same_per};
 ghost use Rattle.syn_tree.specs.Derive.{syntax_of_Data, syntax_of_DataStruct};
 
@@ -24,9 +24,11 @@ impl PartialEq for DeriveInput {
 
     ghost laws = { same_per itself };
 
-    #[tactic(auto, using(syn_grammar::proofs::Same::same_syntax_plain))]
+    #[tactic(auto, using(crate::proofs::Equality::equals))]
     fn eq(&self, other: &DeriveInput) -> bool
-        ensures { Equals itself self.now other.now result }
+        ensures same { IsSame itself self.now other.now result }
+        ensures equal { IsEqual itself self.now other.now result }
+        ensures prints { PrintsAlike itself self.now other.now result }
     {
         self.is_same(other)
     }
@@ -50,9 +52,11 @@ impl PartialEq for Data {
 
     ghost laws = { same_per syntax_of_Data };
 
-    #[tactic(auto, using(syn_grammar::proofs::Same::same_syntax_plain))]
+    #[tactic(auto, using(crate::proofs::Equality::equals))]
     fn eq(&self, other: &Data) -> bool
-        ensures { Equals syntax_of_Data self.now other.now result }
+        ensures same { IsSame syntax_of_Data self.now other.now result }
+        ensures equal { IsEqual syntax_of_Data self.now other.now result }
+        ensures prints { PrintsAlike syntax_of_Data self.now other.now result }
     {
         self.is_same(other)
     }
@@ -76,9 +80,11 @@ impl PartialEq for DataStruct {
 
     ghost laws = { same_per syntax_of_DataStruct };
 
-    #[tactic(auto, using(syn_grammar::proofs::Same::same_syntax_plain))]
+    #[tactic(auto, using(crate::proofs::Equality::equals))]
     fn eq(&self, other: &DataStruct) -> bool
-        ensures { Equals syntax_of_DataStruct self.now other.now result }
+        ensures same { IsSame syntax_of_DataStruct self.now other.now result }
+        ensures equal { IsEqual syntax_of_DataStruct self.now other.now result }
+        ensures prints { PrintsAlike syntax_of_DataStruct self.now other.now result }
     {
         self.is_same(other)
     }

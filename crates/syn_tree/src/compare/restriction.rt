@@ -2,7 +2,7 @@
 //!
 //! Comparisons of `restriction`.
 ghost use Rattle.syn_tree.specs.Restriction.{syntax_of_Visibility};
-ghost use Rattle.syn_tree.specs.Equality.{Equals};
+ghost use Rattle.syn_tree.specs.Equality.{IsSame, IsEqual, PrintsAlike};
 ghost use Rattle.syn_tokens.specs.Comparison.{same_by, same_equiv, same_per};
 ghost use Rattle.syn_grammar.specs.Promises.{itself};
 
@@ -15,9 +15,11 @@ impl PartialEq for Visibility {
 
     ghost laws = { same_per syntax_of_Visibility };
 
-    #[tactic(auto, using(syn_grammar::proofs::Same::same_syntax_plain))]
+    #[tactic(auto, using(crate::proofs::Equality::equals))]
     fn eq(&self, other: &Visibility) -> bool
-        ensures { Equals syntax_of_Visibility self.now other.now result }
+        ensures same { IsSame syntax_of_Visibility self.now other.now result }
+        ensures equal { IsEqual syntax_of_Visibility self.now other.now result }
+        ensures prints { PrintsAlike syntax_of_Visibility self.now other.now result }
     {
         self.is_same(other)
     }
@@ -41,9 +43,11 @@ impl PartialEq for VisRestricted {
 
     ghost laws = { same_per itself };
 
-    #[tactic(auto, using(syn_grammar::proofs::Same::same_syntax_plain))]
+    #[tactic(auto, using(crate::proofs::Equality::equals))]
     fn eq(&self, other: &VisRestricted) -> bool
-        ensures { Equals itself self.now other.now result }
+        ensures same { IsSame itself self.now other.now result }
+        ensures equal { IsEqual itself self.now other.now result }
+        ensures prints { PrintsAlike itself self.now other.now result }
     {
         self.is_same(other)
     }

@@ -2,7 +2,7 @@
 //!
 //! Comparisons of `lower/generics`.
 ghost use Rattle.syn_grammar.specs.Promises.{itself};
-ghost use Rattle.syn_tree.specs.Equality.{Equals};
+ghost use Rattle.syn_tree.specs.Equality.{IsSame, IsEqual, PrintsAlike};
 ghost use Rattle.syn_tokens.specs.Comparison.{same_by, same_equiv, same_per};
 
 use crate::lower::Generics;
@@ -14,9 +14,11 @@ impl PartialEq for Generics {
 
     ghost laws = { same_per itself };
 
-    #[tactic(auto, using(syn_grammar::proofs::Same::same_syntax_plain))]
+    #[tactic(auto, using(crate::proofs::Equality::equals))]
     fn eq(&self, other: &Generics) -> bool
-        ensures { Equals itself self.now other.now result }
+        ensures same { IsSame itself self.now other.now result }
+        ensures equal { IsEqual itself self.now other.now result }
+        ensures prints { PrintsAlike itself self.now other.now result }
     {
         self.is_same(other)
     }

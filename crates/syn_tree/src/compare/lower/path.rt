@@ -2,7 +2,7 @@
 //!
 //! Comparisons of `lower/path`.
 ghost use Rattle.syn_grammar.specs.Promises.{itself};
-ghost use Rattle.syn_tree.specs.Equality.{Equals};
+ghost use Rattle.syn_tree.specs.Equality.{IsSame, IsEqual, PrintsAlike};
 ghost use Rattle.syn_tokens.specs.Comparison.{same_by, same_equiv, same_per};
 ghost use Rattle.syn_tree.specs.Lower.{syntax_of_PathArguments};
 
@@ -21,9 +21,11 @@ impl PartialEq for Path {
 
     ghost laws = { same_per itself };
 
-    #[tactic(auto, using(syn_grammar::proofs::Same::same_syntax_plain))]
+    #[tactic(auto, using(crate::proofs::Equality::equals))]
     fn eq(&self, other: &Path) -> bool
-        ensures { Equals itself self.now other.now result }
+        ensures same { IsSame itself self.now other.now result }
+        ensures equal { IsEqual itself self.now other.now result }
+        ensures prints { PrintsAlike itself self.now other.now result }
     {
         self.is_same(other)
     }
@@ -45,9 +47,11 @@ impl PartialEq for PathSegment {
 
     ghost laws = { same_per itself };
 
-    #[tactic(auto, using(syn_grammar::proofs::Same::same_syntax_plain))]
+    #[tactic(auto, using(crate::proofs::Equality::equals))]
     fn eq(&self, other: &PathSegment) -> bool
-        ensures { Equals itself self.now other.now result }
+        ensures same { IsSame itself self.now other.now result }
+        ensures equal { IsEqual itself self.now other.now result }
+        ensures prints { PrintsAlike itself self.now other.now result }
     {
         self.is_same(other)
     }
@@ -71,9 +75,11 @@ impl PartialEq for PathArguments {
 
     ghost laws = { same_per syntax_of_PathArguments };
 
-    #[tactic(auto, using(syn_grammar::proofs::Same::same_syntax_plain))]
+    #[tactic(auto, using(crate::proofs::Equality::equals))]
     fn eq(&self, other: &PathArguments) -> bool
-        ensures { Equals syntax_of_PathArguments self.now other.now result }
+        ensures same { IsSame syntax_of_PathArguments self.now other.now result }
+        ensures equal { IsEqual syntax_of_PathArguments self.now other.now result }
+        ensures prints { PrintsAlike syntax_of_PathArguments self.now other.now result }
     {
         self.is_same(other)
     }

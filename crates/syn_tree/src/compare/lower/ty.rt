@@ -2,7 +2,7 @@
 //!
 //! Comparisons of `lower/ty`.
 ghost use Rattle.syn_tree.specs.Lower.{syntax_of_Type};
-ghost use Rattle.syn_tree.specs.Equality.{Equals};
+ghost use Rattle.syn_tree.specs.Equality.{IsSame, IsEqual, PrintsAlike};
 ghost use Rattle.syn_tokens.specs.Comparison.{same_by, same_equiv, same_per};
 ghost use Rattle.syn_grammar.specs.Promises.{itself};
 
@@ -23,9 +23,11 @@ impl PartialEq for Type {
 
     ghost laws = { same_per syntax_of_Type };
 
-    #[tactic(auto, using(syn_grammar::proofs::Same::same_syntax_plain))]
+    #[tactic(auto, using(crate::proofs::Equality::equals))]
     fn eq(&self, other: &Type) -> bool
-        ensures { Equals syntax_of_Type self.now other.now result }
+        ensures same { IsSame syntax_of_Type self.now other.now result }
+        ensures equal { IsEqual syntax_of_Type self.now other.now result }
+        ensures prints { PrintsAlike syntax_of_Type self.now other.now result }
     {
         self.is_same(other)
     }
@@ -47,9 +49,11 @@ impl PartialEq for TypePath {
 
     ghost laws = { same_per itself };
 
-    #[tactic(auto, using(syn_grammar::proofs::Same::same_syntax_plain))]
+    #[tactic(auto, using(crate::proofs::Equality::equals))]
     fn eq(&self, other: &TypePath) -> bool
-        ensures { Equals itself self.now other.now result }
+        ensures same { IsSame itself self.now other.now result }
+        ensures equal { IsEqual itself self.now other.now result }
+        ensures prints { PrintsAlike itself self.now other.now result }
     {
         self.is_same(other)
     }
