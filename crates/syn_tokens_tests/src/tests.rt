@@ -1,5 +1,6 @@
 //! Tests with ample memory.
 mod buffers;
+mod custom;
 mod deep;
 mod entries;
 mod errors;
@@ -8,5 +9,6 @@ mod lists;
 mod marks;
 mod public;
 mod streams;
+mod support;
 mod values;
 mod words;

@@ -1,64 +1,82 @@
 //! Errors and refusals.
-use std::alloc::AllocError;
-use std::test::Fail;
+use crate::tests::support::{assert_text, at, refused, tells};
+use std::alloc::{AllocError, Global};
 use syn_parse::read::refusal::{Parsed, Refusal};
 use syn_parse::read::{End, Peek};
-use syn_tokens::error::Error;
+use syn_tokens::error::{Error, Result};
 use syn_tokens::span::Span;
 use syn_tokens::token::{PathSep, SelfType, ShrEq, Underscore};
 
-fn span_at(start: usize) -> Span {
-    Span { start, end: start }
+/// What is printed of an error.
+fn said(alloc: Global, error: &Error) -> Result<String> {
+    Ok(format!(in alloc; "{error}")?)
 }
 
 #[test]
-fn single(rt: HostRuntime) -> Result<(), Fail> {
+fn single(rt: HostRuntime) -> Result<()> {
     let error = Error::new(Span { start: 2, end: 5 }, "expected identifier");
+    assert!(rt; tells(&error, 2, "expected identifier") && !error.is_memory());
     assert_eq!(rt; error.span(), Span { start: 2, end: 5 });
-    assert_eq!(rt; error.faults().len(), 1);
-    assert!(rt; !error.is_memory());
-    assert_eq!(rt;
-        format!(in rt.alloc(); "{error}")?.as_str(),
-        "expected identifier"
+    assert_text(
+        &rt,
+        said(rt.alloc(), &error)?.as_str(),
+        "expected identifier",
     );
-
-    let range = Error::new_range(Span { start: 2, end: 3 }, Span { start: 7, end: 9 }, "no");
-    assert_eq!(rt; range.span(), Span { start: 2, end: 9 });
     Ok(())
 }
 
 #[test]
-fn memory(rt: HostRuntime) -> Result<(), Fail> {
+fn ranges(rt: HostRuntime) {
+    let range = Error::new_range(Span { start: 2, end: 3 }, Span { start: 7, end: 9 }, "no");
+    assert_eq!(rt; range.span(), Span { start: 2, end: 9 });
+}
+
+#[test]
+fn memory(rt: HostRuntime) -> Result<()> {
     let error = Error::from(AllocError);
     assert!(rt; error.is_memory());
     assert_eq!(rt; error.faults().len(), 0);
     assert_eq!(rt; error.span(), Span::call_site());
-    assert_eq!(rt;
-        format!(in rt.alloc(); "{error}")?.as_str(),
-        "out of memory"
-    );
+    assert_text(&rt, said(rt.alloc(), &error)?.as_str(), "out of memory");
     Ok(())
 }
 
+/// Three faults, at 0, 1 and 2.
+fn three() -> Error {
+    let mut error = Error::new(at(0), "a");
+    error.combine(Error::new(at(1), "b"));
+    error.combine(Error::new(at(2), "b"));
+    error
+}
+
+/// Whether the faults stand at 0, 1 and so on, in this number.
+fn are_in_order(error: &Error, count: usize) -> bool {
+    let is_there = |place: usize| match error.faults().get(place) {
+        Some(fault) => fault.span == at(place),
+        None => false,
+    };
+    error.faults().len() == count && (0..count).all(is_there)
+}
+
+/// Of two more faults there is room for one.
 #[test]
 fn combined(rt: HostRuntime) {
-    let mut error = Error::new(span_at(0), "a");
-    for start in 1..3 {
-        error.combine(Error::new(span_at(start), "b"));
-    }
-    let mut more = Error::new(span_at(3), "c");
-    more.combine(Error::new(span_at(4), "d"));
+    let mut more = Error::new(at(3), "c");
+    more.combine(Error::new(at(4), "d"));
+    let mut error = three();
+    assert!(rt; are_in_order(&error, 3));
     error.combine(more);
-    assert_eq!(rt; error.faults().len(), 4);
-    for (at, fault) in error.faults().iter().enumerate() {
-        assert_eq!(rt; fault.span, span_at(at));
-    }
-    assert_eq!(rt; error.faults()[3].text, "c");
+    assert!(rt; are_in_order(&error, 4));
+    assert!(rt; matches!(error.faults().last(), Some(fault) if fault.text == "c"));
+}
+
+#[test]
+fn combined_with_memory(rt: HostRuntime) {
+    let mut error = three();
     error.combine(Error::memory());
     assert!(rt; error.is_memory());
-
     let mut refused = Error::memory();
-    refused.combine(Error::new(span_at(0), "a"));
+    refused.combine(Error::new(at(0), "a"));
     assert!(rt; refused.is_memory());
 }
 
@@ -74,23 +92,28 @@ fn exhaust() -> Parsed<()> {
     Ok(())
 }
 
-fn face(span: Span) -> syn_tokens::error::Result<()> {
+fn face(span: Span) -> Result<()> {
     refuse(span)?;
     Ok(())
 }
 
 #[test]
-fn refused(rt: HostRuntime) -> Result<(), Fail> {
-    match face(span_at(7)) {
-        Ok(()) => panic!(rt; "not refused"),
-        Err(e) => {
-            assert_eq!(rt; e.span(), span_at(7));
-            assert_eq!(rt;
-                format!(in rt.alloc(); "{e}")?.as_str(),
-                "expected `struct`"
-            );
-        }
+fn refusals(rt: HostRuntime) {
+    assert!(rt; refused(&face(at(7)), 7, "expected `struct`"));
+}
+
+/// What is printed of the refusal there.
+fn said_of_refusal(alloc: Global, span: Span) -> Result<String> {
+    match face(span) {
+        Ok(()) => Ok(String::new(alloc)),
+        Err(error) => said(alloc, &error),
     }
+}
+
+#[test]
+fn texts(rt: HostRuntime) -> Result<()> {
+    let said = said_of_refusal(rt.alloc(), at(7))?;
+    assert_text(&rt, said.as_str(), "expected `struct`");
     Ok(())
 }
 

@@ -1,5 +1,6 @@
 //! Identifiers, literals, marks' characters and spans.
-use std::test::Fail;
+use std::alloc::Global;
+use syn_tokens::error::Result;
 use syn_tokens::ident::Ident;
 use syn_tokens::ident::identifier::is_identifier;
 use syn_tokens::ident::keyword::is_keyword;
@@ -8,13 +9,16 @@ use syn_tokens::punct::{Punct, Spacing};
 use syn_tokens::span::Span;
 use syn_tokens::text::Text;
 
+/// Whether a text and what shares it are as they were given.
+fn is_shared(alloc: Global, want: &str) -> Result<bool> {
+    let text = Text::from_str(alloc, want)?;
+    Ok(text.share()?.as_str() == want && text.as_str() == want)
+}
+
 #[test]
-fn texts(rt: HostRuntime) -> Result<(), Fail> {
+fn texts(rt: HostRuntime) -> Result<()> {
     for want in ["größe", "a text of more than sixteen bytes"] {
-        let text = Text::from_str(rt.alloc(), want)?;
-        let copy = text.share()?;
-        assert_eq!(rt; text.as_str(), want);
-        assert_eq!(rt; copy.as_str(), want);
+        assert!(rt; is_shared(rt.alloc(), want)?, "{want}");
     }
     Ok(())
 }
@@ -51,41 +55,44 @@ fn keywords(rt: HostRuntime) {
 
 const SPAN: Span = Span { start: 3, end: 9 };
 
+/// An identifier of this text.
+fn name(alloc: Global, text: &str) -> Result<Ident> {
+    Ident::new(alloc, text, SPAN)
+}
+
 #[test]
-fn a_word(rt: HostRuntime) -> Result<(), Fail> {
-    let word = Ident::new(rt.alloc(), "struct", SPAN)?;
-    assert_eq!(rt; word.text(), "struct");
-    assert_eq!(rt; word.span, SPAN);
-    assert!(rt; word.is_keyword());
-    assert!(rt; word.is("struct"));
-    assert!(rt; !word.is("struc"));
+fn a_word(rt: HostRuntime) -> Result<()> {
+    let word = name(rt.alloc(), "struct")?;
+    assert!(rt; word.text() == "struct" && word.is("struct") && !word.is("struc"));
+    assert!(rt; word.is_keyword() && word.span == SPAN);
     Ok(())
 }
 
 #[test]
-fn a_raw_word(rt: HostRuntime) -> Result<(), Fail> {
-    let raw = Ident::new(rt.alloc(), "r#struct", SPAN)?;
-    assert_eq!(rt; raw.text(), "r#struct");
-    assert!(rt; !raw.is_keyword());
+fn a_raw_word(rt: HostRuntime) -> Result<()> {
+    let raw = name(rt.alloc(), "r#struct")?;
+    assert!(rt; raw.text() == "r#struct" && !raw.is_keyword());
     Ok(())
 }
 
 #[test]
-fn a_copy_of_a_word(rt: HostRuntime) -> Result<(), Fail> {
-    let copy = Ident::new(rt.alloc(), "struct", SPAN)?.copy()?;
-    assert_eq!(rt; copy.span, SPAN);
-    assert!(rt; copy.is_keyword());
-    assert!(rt; copy.is("struct"));
+fn a_copy_of_a_word(rt: HostRuntime) -> Result<()> {
+    let copy = name(rt.alloc(), "struct")?.copy()?;
+    assert!(rt; copy.is("struct") && copy.is_keyword() && copy.span == SPAN);
     Ok(())
 }
 
-#[test]
-fn a_clone_of_a_word(rt: HostRuntime) -> Result<(), Fail> {
-    let word = Ident::new(rt.alloc(), "struct", SPAN)?;
-    let mut clone = word.try_clone(rt.alloc())?;
-    assert_eq!(rt; clone.span, SPAN);
+/// Whether a clone that is put elsewhere is equal to the word, and had its span.
+fn is_cloned(word: &Ident, alloc: Global) -> Result<bool> {
+    let mut clone = word.try_clone(alloc)?;
+    let was_there = clone.span == SPAN;
     clone.span = Span::call_site();
-    assert!(rt; clone == word);
+    Ok(was_there && clone == *word)
+}
+
+#[test]
+fn a_clone_of_a_word(rt: HostRuntime) -> Result<()> {
+    assert!(rt; is_cloned(&name(rt.alloc(), "struct")?, rt.alloc())?);
     Ok(())
 }
 
@@ -97,38 +104,42 @@ fn no_identifier(rt: HostRuntime) {
     }
 }
 
-#[test]
-fn a_literal(rt: HostRuntime) -> Result<(), Fail> {
-    let number = Literal::new(rt.alloc(), LitKind::Int, "1u8", SPAN)?;
-    assert_eq!(rt; number.text(), "1u8");
-    assert_eq!(rt; number.kind(), LitKind::Int);
-    assert_eq!(rt; number.span, SPAN);
-    Ok(())
+/// A literal of this kind and text.
+fn literal(alloc: Global, kind: LitKind, text: &str) -> Result<Literal> {
+    Literal::new(alloc, kind, text, SPAN)
 }
 
 #[test]
-fn equal_literals(rt: HostRuntime) -> Result<(), Fail> {
-    let number = Literal::new(rt.alloc(), LitKind::Int, "1", SPAN)?;
-    let elsewhere = Literal::new(rt.alloc(), LitKind::Int, "1", Span::call_site())?;
-    assert!(rt; number == elsewhere);
+fn a_literal(rt: HostRuntime) -> Result<()> {
+    let number = literal(rt.alloc(), LitKind::Int, "1u8")?;
+    assert!(rt; number.text() == "1u8" && number.kind() == LitKind::Int && number.span == SPAN);
     Ok(())
 }
 
-#[test]
-fn unequal_literals(rt: HostRuntime) -> Result<(), Fail> {
-    let number = Literal::new(rt.alloc(), LitKind::Int, "1", SPAN)?;
-    let float = Literal::new(rt.alloc(), LitKind::Float, "1", SPAN)?;
-    assert!(rt; number != float);
-    Ok(())
+/// Whether `1` is equal to this literal, wherever that stands.
+fn is_one(alloc: Global, kind: LitKind, text: &str) -> Result<bool> {
+    let mut other = literal(alloc, kind, text)?;
+    other.span = Span::call_site();
+    Ok(literal(alloc, LitKind::Int, "1")? == other)
 }
 
 #[test]
-fn a_copy_of_a_literal(rt: HostRuntime) -> Result<(), Fail> {
-    let copy = Literal::new(rt.alloc(), LitKind::Str, "\"a\"", SPAN)?
-        .copy()?
-        .try_clone(rt.alloc())?;
-    assert_eq!(rt; copy.text(), "\"a\"");
-    assert_eq!(rt; copy.span, SPAN);
+fn equal_literals(rt: HostRuntime) -> Result<()> {
+    assert!(rt; is_one(rt.alloc(), LitKind::Int, "1")?);
+    assert!(rt; !is_one(rt.alloc(), LitKind::Float, "1")?);
+    assert!(rt; !is_one(rt.alloc(), LitKind::Int, "2")?);
+    Ok(())
+}
+
+/// A copy of a copy of a text.
+fn copied(alloc: Global, text: &str) -> Result<Literal> {
+    literal(alloc, LitKind::Str, text)?.copy()?.try_clone(alloc)
+}
+
+#[test]
+fn a_copy_of_a_literal(rt: HostRuntime) -> Result<()> {
+    let copy = copied(rt.alloc(), "\"a\"")?;
+    assert!(rt; copy.text() == "\"a\"" && copy.kind() == LitKind::Str && copy.span == SPAN);
     Ok(())
 }
 

@@ -1,6 +1,6 @@
 //! Each mark: seen and read in its own characters alone, and printed as those.
 use std::alloc::Global;
-use std::test::Fail;
+use std::process::Abort;
 use syn_parse::buffer::ParseBuffer;
 use syn_parse::parse::Parse;
 use syn_parse::read::Peek;
@@ -74,39 +74,86 @@ fn is_mark<M: Peek + Parse + ToTokens + Drop>(
     is_read::<M>(&stream_of(alloc, characters, Spacing::Joint)?)
 }
 
+/// Fails where such marks aren't the ones of these characters, and of no other.
+fn assert_mark<M: Peek + Parse + ToTokens + Drop>(
+    rt: &impl Abort,
+    alloc: Global,
+    characters: &str,
+    other: &str,
+) -> Result<()> {
+    let fault = format!(in alloc; "expected `{characters}`")?;
+    assert!(rt;
+        is_mark::<M>(alloc, characters, other, fault.as_str())?,
+        "{characters}"
+    );
+    Ok(())
+}
+
 /// Fails where one of these types isn't the mark of its characters. Behind each stand other characters that are no such
 /// mark.
 macro_rules! assert_marks {
     ($rt:ident; $($kind:ident $text:literal $other:literal)*) => {
-        $(
-            let fault = concat!("expected `", $text, "`");
-            assert!($rt; is_mark::<token::$kind>($rt.alloc(), $text, $other, fault)?, $text);
-        )*
+        $(assert_mark::<token::$kind>(&$rt, $rt.alloc(), $text, $other)?;)*
     };
 }
 
 #[test]
-fn of_one_character(rt: HostRuntime) -> std::result::Result<(), Fail> {
+fn of_operators(rt: HostRuntime) -> Result<()> {
     assert_marks!(rt;
-        And "&" "|" At "@" "#" Caret "^" "&" Colon ":" ";" Comma "," "." Dollar "$" "%"
-        Dot "." "," Eq "=" "-" Gt ">" "<" Lt "<" ">" Minus "-" "+" Not "!" "?" Or "|" "&"
-        Percent "%" "$" Plus "+" "-" Pound "#" "@" Question "?" "!" Semi ";" ":" Slash "/" "*"
-        Star "*" "/" Tilde "~" "'");
+        Caret "^" "&" Minus "-" "+" Percent "%" "$" Plus "+" "-"
+        Slash "/" "*" Star "*" "/");
     Ok(())
 }
 
 #[test]
-fn of_two_characters(rt: HostRuntime) -> std::result::Result<(), Fail> {
+fn of_logic(rt: HostRuntime) -> Result<()> {
     assert_marks!(rt;
-        AndAnd "&&" "&=" AndEq "&=" "&&" CaretEq "^=" "^" DotDot ".." ".=" EqEq "==" "=>"
-        FatArrow "=>" "==" Ge ">=" ">>" Le "<=" "<<" MinusEq "-=" "->" Ne "!=" "!"
-        OrEq "|=" "||" OrOr "||" "|=" PathSep "::" ":" PercentEq "%=" "%" PlusEq "+=" "++"
-        RArrow "->" "-=" Shl "<<" "<=" Shr ">>" ">=" SlashEq "/=" "=/" StarEq "*=" "=*");
+        And "&" "|" At "@" "#" Not "!" "?" Or "|" "&"
+        Question "?" "!" Tilde "~" "'");
     Ok(())
 }
 
 #[test]
-fn of_three_characters(rt: HostRuntime) -> std::result::Result<(), Fail> {
+fn of_comparisons(rt: HostRuntime) -> Result<()> {
+    assert_marks!(rt;
+        Eq "=" "-" Gt ">" "<" Lt "<" ">");
+    Ok(())
+}
+
+#[test]
+fn of_separators(rt: HostRuntime) -> Result<()> {
+    assert_marks!(rt;
+        Colon ":" ";" Comma "," "." Dollar "$" "%" Dot "." ","
+        Pound "#" "@" Semi ";" ":");
+    Ok(())
+}
+
+#[test]
+fn of_two_in_operators(rt: HostRuntime) -> Result<()> {
+    assert_marks!(rt;
+        AndAnd "&&" "&=" DotDot ".." ".=" OrOr "||" "|=" PathSep "::" ":"
+        Shl "<<" "<=" Shr ">>" ">=");
+    Ok(())
+}
+
+#[test]
+fn of_assignments(rt: HostRuntime) -> Result<()> {
+    assert_marks!(rt;
+        AndEq "&=" "&&" CaretEq "^=" "^" MinusEq "-=" "->" OrEq "|=" "||"
+        PercentEq "%=" "%" PlusEq "+=" "++" SlashEq "/=" "=/" StarEq "*=" "=*");
+    Ok(())
+}
+
+#[test]
+fn of_two_in_comparisons(rt: HostRuntime) -> Result<()> {
+    assert_marks!(rt;
+        EqEq "==" "=>" FatArrow "=>" "==" Ge ">=" ">>" Le "<=" "<<"
+        Ne "!=" "!" RArrow "->" "-=");
+    Ok(())
+}
+
+#[test]
+fn of_three_characters(rt: HostRuntime) -> Result<()> {
     assert_marks!(rt;
         DotDotDot "..." "..=" ShlEq "<<=" "<<" ShrEq ">>=" ">=>");
     Ok(())

@@ -1,6 +1,6 @@
 //! Values that were read: copies, comparisons, delimiters of groups and refusals.
+use crate::tests::support::{at, tokens};
 use std::alloc::Global;
-use std::test::Fail;
 use syn_parse::buffer::ParseBuffer;
 use syn_parse::read::refusal::Refusal;
 use syn_parse::read::{End, Peek};
@@ -9,8 +9,6 @@ use syn_tokens::ident::Ident;
 use syn_tokens::literal::{LitKind, Literal};
 use syn_tokens::punctuated::Punctuated;
 use syn_tokens::span::Span;
-use syn_tokens::stream::TokenStream;
-use syn_tokens::stream::tree::TokenTree;
 use syn_tokens::syntactic::compare::Compared;
 use syn_tokens::syntactic::try_clone::TryClone;
 use syn_tokens::token::{Comma, Delimiters, Mark, Paren, PathSep, Pub, Struct, Word};
@@ -23,47 +21,107 @@ fn name(alloc: Global, text: &str) -> Result<Ident> {
     Ident::new(alloc, text, HERE)
 }
 
+fn number(alloc: Global, text: &str) -> Result<Literal> {
+    Literal::new(alloc, LitKind::Int, text, HERE)
+}
+
 /// Whether the value's copy is the same as it, and not the same as the other one.
 fn is_copied<T: TryClone + Compared + Drop>(alloc: Global, value: &T, other: &T) -> Result<bool> {
     let copy = value.try_clone(alloc)?;
     Ok(copy.is_same(value) && !copy.is_same(other))
 }
 
+fn is_identifier_copied(alloc: Global) -> Result<bool> {
+    is_copied(alloc, &name(alloc, "a")?, &name(alloc, "b")?)
+}
+
+fn is_literal_copied(alloc: Global) -> Result<bool> {
+    is_copied(alloc, &number(alloc, "1")?, &number(alloc, "2")?)
+}
+
 #[test]
-fn tokens(rt: HostRuntime) -> std::result::Result<(), Fail> {
-    let alloc = rt.alloc();
-    assert!(rt; is_copied(alloc, &name(alloc, "a")?, &name(alloc, "b")?)?);
-    let one = Literal::new(alloc, LitKind::Int, "1", HERE)?;
-    let two = Literal::new(alloc, LitKind::Int, "2", HERE)?;
-    assert!(rt; is_copied(alloc, &one, &two)?);
-    let word: Pub = Word::new(HERE);
-    assert_eq!(rt; TryClone::try_clone(&word, alloc)?.span, HERE);
-    assert!(rt; word.is_same(&Word::default()), "wherever they stand");
-    let mark: Comma = Mark::new([HERE]);
-    assert_eq!(rt; TryClone::try_clone(&mark, alloc)?.spans[0], HERE);
-    assert!(rt; mark.is_same(&Mark::new([BEHIND])), "wherever they stand");
+fn tokens_with_texts(rt: HostRuntime) -> Result<()> {
+    assert!(rt; is_identifier_copied(rt.alloc())?);
+    assert!(rt; is_literal_copied(rt.alloc())?);
     Ok(())
 }
 
 #[test]
-fn parts(rt: HostRuntime) -> std::result::Result<(), Fail> {
-    let alloc = rt.alloc();
-    assert!(rt; is_copied(alloc, &Some(name(alloc, "a")?), &None)?);
-    assert!(rt; is_copied(alloc, &None, &Some(name(alloc, "a")?))?);
-    let boxed = Box::new(alloc, name(alloc, "a")?)?;
-    assert!(rt; is_copied(alloc, &boxed, &Box::new(alloc, name(alloc, "b")?)?)?);
-    let comma: Comma = Mark::new([HERE]);
-    assert!(rt;
-        is_copied(
-            alloc,
-            &(name(alloc, "a")?, comma),
-            &(name(alloc, "b")?, comma)
-        )?
-    );
-    let several = vec![in alloc; name(alloc, "a")?, name(alloc, "b")?]?;
-    let other = vec![in alloc; name(alloc, "a")?, name(alloc, "c")?]?;
-    assert!(rt; is_copied(alloc, &several, &other)?);
-    assert!(rt; is_copied(alloc, &several, &vec![in alloc; name(alloc, "a")?]?)?);
+fn words(rt: HostRuntime) -> Result<()> {
+    let word: Pub = Word::new(HERE);
+    assert_eq!(rt; TryClone::try_clone(&word, rt.alloc())?.span, HERE);
+    assert!(rt; word.is_same(&Word::default()), "wherever they stand");
+    Ok(())
+}
+
+#[test]
+fn marks(rt: HostRuntime) -> Result<()> {
+    let mark: Comma = Mark::new([HERE]);
+    assert_eq!(rt; TryClone::try_clone(&mark, rt.alloc())?.spans[0], HERE);
+    assert!(rt; mark.is_same(&Mark::new([BEHIND])), "wherever they stand");
+    Ok(())
+}
+
+fn some(alloc: Global, text: &str) -> Result<Option<Ident>> {
+    Ok(Some(name(alloc, text)?))
+}
+
+fn is_some_copied(alloc: Global) -> Result<bool> {
+    is_copied(alloc, &some(alloc, "a")?, &None)
+}
+
+fn is_none_copied(alloc: Global) -> Result<bool> {
+    is_copied(alloc, &None, &some(alloc, "a")?)
+}
+
+#[test]
+fn options(rt: HostRuntime) -> Result<()> {
+    assert!(rt; is_some_copied(rt.alloc())?);
+    assert!(rt; is_none_copied(rt.alloc())?);
+    Ok(())
+}
+
+fn boxed(alloc: Global, text: &str) -> Result<Box<Ident>> {
+    Ok(Box::new(alloc, name(alloc, text)?)?)
+}
+
+fn is_box_copied(alloc: Global) -> Result<bool> {
+    is_copied(alloc, &boxed(alloc, "a")?, &boxed(alloc, "b")?)
+}
+
+fn pair(alloc: Global, text: &str) -> Result<(Ident, Comma)> {
+    Ok((name(alloc, text)?, Mark::new([HERE])))
+}
+
+fn is_pair_copied(alloc: Global) -> Result<bool> {
+    is_copied(alloc, &pair(alloc, "a")?, &pair(alloc, "b")?)
+}
+
+#[test]
+fn boxes_and_pairs(rt: HostRuntime) -> Result<()> {
+    assert!(rt; is_box_copied(rt.alloc())?);
+    assert!(rt; is_pair_copied(rt.alloc())?);
+    Ok(())
+}
+
+/// As many identifiers as there are words.
+fn names(alloc: Global, words: &str) -> Result<Vec<Ident>> {
+    let mut names = Vec::new(alloc);
+    for word in words.split_whitespace() {
+        names.push(name(alloc, word)?)?;
+    }
+    Ok(names)
+}
+
+/// Whether the copy of so many names is the same as they, and not the same as the others.
+fn are_names_copied(alloc: Global, words: &str, others: &str) -> Result<bool> {
+    is_copied(alloc, &names(alloc, words)?, &names(alloc, others)?)
+}
+
+#[test]
+fn vectors(rt: HostRuntime) -> Result<()> {
+    assert!(rt; are_names_copied(rt.alloc(), "a b", "a c")?);
+    assert!(rt; are_names_copied(rt.alloc(), "a b", "a")?);
     Ok(())
 }
 
@@ -75,13 +133,23 @@ fn list(alloc: Global, text: &str) -> Result<Punctuated<Ident, Comma>> {
     Ok(list)
 }
 
+/// Whether the list's copy has as many values and is the same as it, and not the same as the other one.
+fn is_list_copied(
+    alloc: Global,
+    list: &Punctuated<Ident, Comma>,
+    other: &Punctuated<Ident, Comma>,
+) -> Result<bool> {
+    let copy = list.try_clone(alloc)?;
+    Ok(copy.len() == 2 && copy.is_same(list) && !copy.is_same(other))
+}
+
+fn are_lists_copied(alloc: Global) -> Result<bool> {
+    is_list_copied(alloc, &list(alloc, "b")?, &list(alloc, "c")?)
+}
+
 #[test]
-fn lists(rt: HostRuntime) -> std::result::Result<(), Fail> {
-    let alloc = rt.alloc();
-    let copy = list(alloc, "b")?.try_clone(alloc)?;
-    assert_eq!(rt; copy.len(), 2);
-    assert!(rt; copy.is_same(&list(alloc, "b")?));
-    assert!(rt; !copy.is_same(&list(alloc, "c")?));
+fn lists(rt: HostRuntime) -> Result<()> {
+    assert!(rt; are_lists_copied(rt.alloc())?);
     Ok(())
 }
 
@@ -103,32 +171,22 @@ fn is_refusal(refusal: Refusal, here: Span, text: &str) -> bool {
 }
 
 #[test]
-fn refusals(rt: HostRuntime) -> std::result::Result<(), Fail> {
-    let mut stream = TokenStream::new(rt.alloc());
-    stream.push(TokenTree::Ident(name(rt.alloc(), "a")?))?;
-    stream.push(TokenTree::Ident(Ident::new(stream.alloc(), "b", BEHIND)?))?;
+fn refusals(rt: HostRuntime) -> Result<()> {
+    let stream = tokens(rt.alloc(), "a b")?;
     let input = ParseBuffer::new(&stream);
     let here = input.refusal(Struct::expected());
-    assert!(rt; is_refusal(here, HERE, "expected `struct`"));
+    assert!(rt; is_refusal(here, at(0), "expected `struct`"));
     let behind = input.refusal_behind(PathSep::expected());
-    assert!(rt; is_refusal(behind, BEHIND, "expected `::`"));
-    let mut lookahead = input.lookahead1();
-    assert!(rt; !lookahead.peek::<End>());
-    let error = lookahead.error();
-    assert!(rt; matches!(error.faults(), [fault] if fault.text == "unexpected end of input"));
+    assert!(rt; is_refusal(behind, at(1), "expected `::`"));
     Ok(())
 }
 
 #[test]
-fn trees(rt: HostRuntime) -> std::result::Result<(), Fail> {
-    let mut stream = TokenStream::new(rt.alloc());
-    stream.push(TokenTree::Ident(name(rt.alloc(), "a")?))?;
-    assert_eq!(rt; stream.entries().len(), 1);
-    let Some(tree) = stream.get(0)? else {
-        return Err("no tree".into());
-    };
-    let copy = tree.try_clone(rt.alloc())?;
-    assert_eq!(rt; copy.span(), HERE);
-    assert!(rt; copy == tree);
+fn an_end_that_was_looked_for(rt: HostRuntime) -> Result<()> {
+    let stream = tokens(rt.alloc(), "a b")?;
+    let mut lookahead = ParseBuffer::new(&stream).lookahead1();
+    assert!(rt; !lookahead.peek::<End>());
+    let error = lookahead.error();
+    assert!(rt; matches!(error.faults(), [fault] if fault.text == "unexpected end of input"));
     Ok(())
 }

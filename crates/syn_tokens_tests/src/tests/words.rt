@@ -1,6 +1,6 @@
 //! Each word: seen and read in its own text alone, and printed as that.
 use std::alloc::Global;
-use std::test::Fail;
+use std::process::Abort;
 use syn_parse::buffer::ParseBuffer;
 use syn_tokens::error::Result;
 use syn_tokens::ident::Ident;
@@ -8,7 +8,7 @@ use syn_tokens::print::ToTokens;
 use syn_tokens::span::Span;
 use syn_tokens::stream::TokenStream;
 use syn_tokens::stream::tree::TokenTree;
-use syn_tokens::token::{self, Word, WordKind};
+use syn_tokens::token::{Word, WordKind, kind};
 
 const HERE: Span = Span { start: 3, end: 9 };
 
@@ -43,58 +43,102 @@ fn is_refused<K: WordKind>(stream: &TokenStream, text: &str) -> bool {
     !seen && told && input.peek::<Ident>()
 }
 
-/// Whether such words are the ones of this text, and are refused in the others with this fault.
-fn is_word<K: WordKind>(
-    _word: Word<K>,
-    alloc: Global,
-    text: &str,
-    others: [&str; 2],
-    fault: &str,
-) -> Result<bool> {
-    for other in others {
-        if !is_refused::<K>(&stream_of(alloc, other)?, fault) {
-            return Ok(false);
-        }
-    }
-    is_read::<K>(&stream_of(alloc, text)?)
+/// Whether such a word is refused in this text with this fault.
+fn is_refused_in<K: WordKind>(alloc: Global, text: &str, fault: &str) -> Result<bool> {
+    Ok(is_refused::<K>(&stream_of(alloc, text)?, fault))
 }
 
-/// Fails where one of these types isn't the word of its text. A raw identifier and a longer one are no such words.
+/// Whether such a word is refused where its text is a raw identifier, and in a longer one.
+fn is_no_other<K: WordKind>(alloc: Global, text: &str, fault: &str) -> Result<bool> {
+    let raw = format!(in alloc; "r#{text}")?;
+    let longer = format!(in alloc; "{text}s")?;
+    Ok(
+        is_refused_in::<K>(alloc, raw.as_str(), fault)?
+            && is_refused_in::<K>(alloc, longer.as_str(), fault)?,
+    )
+}
+
+/// Fails where such words aren't the ones of this text, and of no other.
+fn assert_word<K: WordKind>(rt: &impl Abort, alloc: Global, text: &str) -> Result<()> {
+    let fault = format!(in alloc; "expected `{text}`")?;
+    assert!(rt; is_no_other::<K>(alloc, text, fault.as_str())?, "{text}");
+    assert!(rt; is_read::<K>(&stream_of(alloc, text)?)?, "{text}");
+    Ok(())
+}
+
+/// Fails where one of these kinds isn't the word of its text.
 macro_rules! assert_words {
     ($rt:ident; $($kind:ident $text:literal)*) => {
-        $(
-            let word: token::$kind = Word::default();
-            let others = [concat!("r#", $text), concat!($text, "s")];
-            let fault = concat!("expected `", $text, "`");
-            assert!($rt; is_word(word, $rt.alloc(), $text, others, fault)?, $text);
-        )*
+        $(assert_word::<kind::$kind>(&$rt, $rt.alloc(), $text)?;)*
     };
 }
 
 #[test]
-fn of_declarations(rt: HostRuntime) -> std::result::Result<(), Fail> {
-    assert_words!(rt;
-        Const "const" Crate "crate" Enum "enum" Extern "extern" Fn "fn" Impl "impl" In "in"
-        Mod "mod" Pub "pub" SelfType "Self" SelfValue "self" Static "static" Struct "struct"
-        Super "super" Trait "trait" Type "type" Unsafe "unsafe" Use "use" Where "where");
+fn of_items(rt: HostRuntime) -> Result<()> {
+    assert_words!(rt; Const "const" Enum "enum" Fn "fn"
+        Impl "impl" Mod "mod" Static "static");
     Ok(())
 }
 
 #[test]
-fn of_expressions(rt: HostRuntime) -> std::result::Result<(), Fail> {
-    assert_words!(rt;
-        As "as" Async "async" Await "await" Break "break" Continue "continue" Dyn "dyn"
-        Else "else" False "false" For "for" If "if" Let "let" Loop "loop" Match "match"
-        Move "move" Mut "mut" Ref "ref" Return "return" True "true" Underscore "_"
-        While "while");
+fn more_items(rt: HostRuntime) -> Result<()> {
+    assert_words!(rt; Struct "struct" Trait "trait" Type "type"
+        Use "use" Union "union" Macro "macro");
     Ok(())
 }
 
 #[test]
-fn of_other_kinds(rt: HostRuntime) -> std::result::Result<(), Fail> {
-    assert_words!(rt;
-        Abstract "abstract" Auto "auto" Become "become" Box "box" Default "default" Do "do"
-        Final "final" Macro "macro" Override "override" Priv "priv" Safe "safe" Try "try"
-        Typeof "typeof" Union "union" Unsized "unsized" Virtual "virtual" Yield "yield");
+fn of_paths_and_scopes(rt: HostRuntime) -> Result<()> {
+    assert_words!(rt; Crate "crate" SelfType "Self" SelfValue "self"
+        Super "super" Pub "pub" In "in");
+    Ok(())
+}
+
+#[test]
+fn of_modifiers(rt: HostRuntime) -> Result<()> {
+    assert_words!(rt; Extern "extern" Unsafe "unsafe" Safe "safe"
+        Where "where" Default "default" Auto "auto");
+    Ok(())
+}
+
+#[test]
+fn of_flow(rt: HostRuntime) -> Result<()> {
+    assert_words!(rt; Break "break" Continue "continue" Return "return"
+        Loop "loop" While "while" For "for");
+    Ok(())
+}
+
+#[test]
+fn of_choices(rt: HostRuntime) -> Result<()> {
+    assert_words!(rt; If "if" Else "else" Match "match"
+        Try "try" Do "do" Yield "yield");
+    Ok(())
+}
+
+#[test]
+fn of_values(rt: HostRuntime) -> Result<()> {
+    assert_words!(rt; As "as" False "false" True "true"
+        Underscore "_" Let "let" Box "box");
+    Ok(())
+}
+
+#[test]
+fn of_binding(rt: HostRuntime) -> Result<()> {
+    assert_words!(rt; Async "async" Await "await" Dyn "dyn"
+        Move "move" Mut "mut" Ref "ref");
+    Ok(())
+}
+
+#[test]
+fn of_reserved(rt: HostRuntime) -> Result<()> {
+    assert_words!(rt; Abstract "abstract" Become "become" Final "final"
+        Override "override" Priv "priv");
+    Ok(())
+}
+
+#[test]
+fn more_reserved(rt: HostRuntime) -> Result<()> {
+    assert_words!(rt; Typeof "typeof" Unsized "unsized"
+        Virtual "virtual");
     Ok(())
 }
