@@ -1,7 +1,7 @@
 #!/usr/bin/env python3
 """Runs the tests of a crate with one request for memory refused: the first, the second, and so on.
 
-    tools/scarce_memory.py [CRATE [FIRST [LAST]]]      syn 1 60 where nothing else is said
+    tools/scarce_memory.py [CRATE [FIRST [LAST]]]      syn_tests 1 60 where nothing else is said
     tools/scarce_memory.py copies
 
 Each test that is judged has to pass, or to fail by the error of memory alone; those of a module scarce_memory have to
@@ -21,12 +21,12 @@ import sys
 from pathlib import Path
 
 # the tests of each crate that tell a want of memory from other errors: how their names begin
-JUDGED = {"syn": "tests::", "syn_canon": "tests::scarce_memory::"}
+JUDGED = {"syn_tests": "tests::", "syn_canon": "tests::scarce_memory::"}
 
 CRATES = Path(__file__).resolve().parent.parent / "crates"
 TEST = re.compile(r"test (\S+) \.\.\. (ok|FAILED)$")
 # how a test ends that hands on an error of memory: an `Error` without faults, or std's own
-WANT_OF_MEMORY = re.compile(r"error: (Error \{.*count: 0 \}|.*AllocError.*|AllocFailed .*|.*OutOfMemory.*)$")
+WANT_OF_MEMORY = re.compile(r"[Ee]rror: (Error \{.*count: 0 \}|.*AllocError.*|AllocFailed .*|.*OutOfMemory.*)$")
 
 
 def run(crate, number):
@@ -78,7 +78,7 @@ def copies():
 
 def main():
     parser = argparse.ArgumentParser(description=__doc__, formatter_class=argparse.RawDescriptionHelpFormatter)
-    parser.add_argument("crate", nargs="?", default="syn", choices=[*JUDGED, "copies"])
+    parser.add_argument("crate", nargs="?", default="syn_tests", choices=[*JUDGED, "copies"])
     parser.add_argument("first", nargs="?", type=int, default=1)
     parser.add_argument("last", nargs="?", type=int, default=60)
     options = parser.parse_args()

@@ -5,8 +5,6 @@ pub mod canon;
 mod kinds;
 mod lawful;
 pub mod reader;
-#[cfg(test)]
-mod tests;
 
 pub use syn_parse::parse::parse2;
 pub use syn_tokens::error::{Error, Fault, Result};

@@ -37,6 +37,3 @@ pub fn read_tokens(alloc: Global, text: &str) -> Result<TokenStream>
     }
     trees.finish()
 }
-
-#[cfg(test)]
-mod tests;

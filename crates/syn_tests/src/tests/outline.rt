@@ -1,16 +1,17 @@
 //! Texts that show trees whole: each token with its spans, each part that is there.
-use crate::data::{Field, Fields, FieldsUnnamed};
-use crate::derive::{Data, DeriveInput};
-use crate::lower::{Generics, Path, Type};
-use crate::restriction::{VisRestricted, Visibility};
-use crate::token::{Delimiter, Ident, Mark, Punct, Spacing, Span, TokenStream};
 use std::alloc::{AllocError, Global};
-use syn_tokens::stream::entry::{Entry, Token};
+use syn::data::{Field, Fields, FieldsUnnamed};
+use syn::derive::{Data, DataStruct, DeriveInput};
+use syn::lower::{Generics, Path, PathArguments, PathSegment, Type, TypePath};
+use syn::restriction::{VisRestricted, Visibility};
+use syn::token::{
+    Delimiter, Entry, Ident, LiteralRef, Mark, Punct, Spacing, Span, Token, TokenStream,
+};
 
 /// A tree that can be shown.
 pub trait Outlined {
     /// Adds what shows the tree: a word as `pub@0..3`, a mark as `::@3..4@4..5`, a group as `(@0..1` and `)@4..5`; the
-    /// character of a mark in a stream as `:@3..4`, or as `:+@3..4` where it is Joint.
+    /// character of a mark in a stream as `:@3..4`, or as `:+@3..4` where it is Joint, and a literal with its kind as `Int1@0..1`.
     fn show(&self, out: &mut TreeText) -> Result<(), AllocError>;
 }
 
@@ -61,11 +62,19 @@ impl TreeText {
     fn entry(&mut self, entry: &Entry) -> Result<(), AllocError> {
         match entry.token() {
             Token::Ident(ident) => self.token(ident.text(), ident.span),
-            Token::Literal(literal) => self.token(literal.text(), literal.span),
+            Token::Literal(literal) => self.literal(&literal),
             Token::Punct(punct) => self.punct(&punct),
             Token::Open(open) => self.token(signs(open.delimiter).0, open.span),
             Token::Close(close) => self.token(signs(close.delimiter).1, close.span),
         }
+    }
+
+    fn literal(&mut self, literal: &LiteralRef<'_>) -> Result<(), AllocError> {
+        let kind = literal.kind();
+        self.word("")?;
+        write!(self.text, "{kind:?}")?;
+        self.text.push_str(literal.text())?;
+        self.place(literal.span)
     }
 
     fn punct(&mut self, punct: &Punct) -> Result<(), AllocError> {
@@ -102,6 +111,20 @@ impl Outlined for Ident {
     }
 }
 
+impl Outlined for PathArguments {
+    fn show(&self, _out: &mut TreeText) -> Result<(), AllocError> {
+        let PathArguments::None = self;
+        Ok(())
+    }
+}
+
+impl Outlined for PathSegment {
+    fn show(&self, out: &mut TreeText) -> Result<(), AllocError> {
+        self.ident.show(out)?;
+        self.arguments.show(out)
+    }
+}
+
 impl Outlined for Path {
     fn show(&self, out: &mut TreeText) -> Result<(), AllocError> {
         out.word("Path")?;
@@ -109,13 +132,19 @@ impl Outlined for Path {
             out.mark("::", leading_colon)?;
         }
         for (segment, separator) in self.segments.pairs() {
-            segment.ident.show(out)?;
+            segment.show(out)?;
             out.mark("::", separator)?;
         }
         if let Some(segment) = self.segments.trailing_value() {
-            segment.ident.show(out)?;
+            segment.show(out)?;
         }
         Ok(())
+    }
+}
+
+impl Outlined for TypePath {
+    fn show(&self, out: &mut TreeText) -> Result<(), AllocError> {
+        self.path.show(out)
     }
 }
 
@@ -123,7 +152,7 @@ impl Outlined for Type {
     fn show(&self, out: &mut TreeText) -> Result<(), AllocError> {
         out.word("Type")?;
         let Type::Path(ty) = self;
-        ty.path.show(out)
+        ty.show(out)
     }
 }
 
@@ -204,6 +233,24 @@ impl Outlined for Generics {
             out.mark(">", gt_token)?;
         }
         Ok(())
+    }
+}
+
+impl Outlined for DataStruct {
+    fn show(&self, out: &mut TreeText) -> Result<(), AllocError> {
+        out.token("struct", self.struct_token.span)?;
+        self.fields.show(out)?;
+        if let Some(semi_token) = &self.semi_token {
+            out.mark(";", semi_token)?;
+        }
+        Ok(())
+    }
+}
+
+impl Outlined for Data {
+    fn show(&self, out: &mut TreeText) -> Result<(), AllocError> {
+        let Data::Struct(data) = self;
+        data.show(out)
     }
 }
 

@@ -1,9 +1,9 @@
 //! Identifiers, raw ones, and lifetimes.
-use crate::reader::read_tokens;
-use crate::reader::tests::support::{Read, Refused, are_read, are_refused};
-use std::test::Fail;
-use syn_tokens::span::Span;
-use syn_tokens::stream::entry::Token;
+use crate::tests::reader::support::{Read, Refused, are_read, are_refused};
+use std::alloc::Global;
+use syn::Result;
+use syn::reader::read_tokens;
+use syn::token::{Entry, Span, Token, TokenStream};
 
 const READ: &[Read] = &[
     ("a", "a@0..1"),
@@ -88,41 +88,63 @@ const REFUSED: &[Refused] = &[
 ];
 
 #[test]
-fn reads(rt: HostRuntime) -> Result<(), Fail> {
+fn reads(rt: HostRuntime) -> Result<()> {
     are_read(&rt, rt.alloc(), READ)
 }
 
 #[test]
-fn refuses(rt: HostRuntime) -> Result<(), Fail> {
+fn refuses(rt: HostRuntime) -> Result<()> {
     are_refused(&rt, rt.alloc(), REFUSED)
 }
 
 /// More names than the reader keeps.
 const MANY: usize = 3000;
 
-/// Names that come again have their text and a span of their own.
-#[test]
-fn again(rt: HostRuntime) -> Result<(), Fail> {
-    let mut text = String::new(rt.alloc());
+/// `n0 same n0 n1 same n1`, and so on.
+fn many_names(alloc: Global) -> Result<String> {
+    let mut text = String::new(alloc);
     for number in 0..MANY {
         write!(text, "n{number} same n{number} ")?;
     }
-    let tokens = read_tokens(rt.alloc(), text.as_str())?;
-    assert_eq!(rt; tokens.len(), 3 * MANY);
+    Ok(text)
+}
+
+/// The name that stands at this place of them.
+fn name_at(alloc: Global, place: usize) -> Result<String> {
+    let number = place / 3;
+    match place % 3 {
+        1 => Ok(String::from_str(alloc, "same")?),
+        _ => Ok(format!(in alloc; "n{number}")?),
+    }
+}
+
+/// Whether the entry is this identifier, there.
+fn is_name(entry: &Entry, text: &str, span: Span) -> bool {
+    match entry.token() {
+        Token::Ident(ident) => ident.text() == text && ident.span == span,
+        _ => false,
+    }
+}
+
+/// Whether all of the names are there, with one byte between them.
+fn are_names(tokens: &TokenStream) -> Result<bool> {
     let mut start: usize = 0;
     for (place, entry) in tokens.entries().iter().enumerate() {
-        let number = place / 3;
-        let expected = match place % 3 {
-            1 => format!(in rt.alloc(); "same")?,
-            _ => format!(in rt.alloc(); "n{number}")?,
-        };
-        let Token::Ident(ident) = entry.token() else {
-            panic!(rt; "no identifier");
-        };
-        let end = start.saturating_add(expected.len());
-        assert_eq!(rt; ident.text(), expected.as_str());
-        assert_eq!(rt; ident.span, Span { start, end });
+        let name = name_at(tokens.alloc(), place)?;
+        let end = start.saturating_add(name.len());
+        if !is_name(entry, name.as_str(), Span { start, end }) {
+            return Ok(false);
+        }
         start = end.saturating_add(1);
     }
+    Ok(true)
+}
+
+/// Names that come again have their text and a span of their own.
+#[test]
+fn again(rt: HostRuntime) -> Result<()> {
+    let tokens = read_tokens(rt.alloc(), many_names(rt.alloc())?.as_str())?;
+    assert_eq!(rt; tokens.len(), 3 * MANY);
+    assert!(rt; are_names(&tokens)?);
     Ok(())
 }

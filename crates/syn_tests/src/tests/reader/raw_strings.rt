@@ -1,8 +1,7 @@
 //! Raw strings.
-use crate::reader::read_tokens;
-use crate::reader::tests::support::{Read, Refused, are_read, are_refused, described};
+use crate::tests::reader::support::{Read, Refused, are_read, are_refused, shown};
 use std::alloc::Global;
-use std::test::Fail;
+use syn::Result;
 
 const READ: &[Read] = &[
     ("r\"\"", "Strr\"\"@0..3"),
@@ -53,38 +52,45 @@ const REFUSED: &[Refused] = &[
     ("r#\"a\"#\"", 6, "unterminated literal"),
 ];
 
+/// Adds so many `#`.
+fn add_hashes(text: &mut String, count: usize) -> Result<()> {
+    for _ in 0..count {
+        text.push('#')?;
+    }
+    Ok(())
+}
+
 /// A raw string with this many `#` on both sides.
-fn raw_string(alloc: Global, count: usize) -> Result<String, Fail> {
+fn raw_string(alloc: Global, count: usize) -> Result<String> {
     let mut text = String::from_str(alloc, "r")?;
-    for _ in 0..count {
-        text.push('#')?;
-    }
+    add_hashes(&mut text, count)?;
     text.push_str("\"a\"")?;
-    for _ in 0..count {
-        text.push('#')?;
-    }
+    add_hashes(&mut text, count)?;
     Ok(text)
 }
 
+/// Whether the text is read as one string.
+fn is_string(alloc: Global, text: &str) -> Result<bool> {
+    let end = text.len();
+    let want = format!(in alloc; "Str{text}@0..{end}")?;
+    Ok(shown(alloc, text)?.as_str() == want.as_str())
+}
+
 #[test]
-fn any_number_of_hashes(rt: HostRuntime) -> Result<(), Fail> {
-    let alloc = rt.alloc();
+fn any_number_of_hashes(rt: HostRuntime) -> Result<()> {
     for count in [0, 1, 255, 256, 1000] {
-        let text = raw_string(alloc, count)?;
-        let (text, end) = (text.as_str(), text.len());
-        let found = described(alloc, read_tokens(alloc, text)?)?;
-        let expected = format!(in alloc; "Str{text}@0..{end}")?;
-        assert_eq!(rt; found.as_str(), expected.as_str(), "{count}");
+        let text = raw_string(rt.alloc(), count)?;
+        assert!(rt; is_string(rt.alloc(), text.as_str())?, "{count}");
     }
     Ok(())
 }
 
 #[test]
-fn reads(rt: HostRuntime) -> Result<(), Fail> {
+fn reads(rt: HostRuntime) -> Result<()> {
     are_read(&rt, rt.alloc(), READ)
 }
 
 #[test]
-fn refuses(rt: HostRuntime) -> Result<(), Fail> {
+fn refuses(rt: HostRuntime) -> Result<()> {
     are_refused(&rt, rt.alloc(), REFUSED)
 }

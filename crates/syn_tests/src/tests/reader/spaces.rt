@@ -1,6 +1,6 @@
 //! White space.
-use crate::reader::tests::support::{Read, Refused, are_read, are_refused};
-use std::test::Fail;
+use crate::tests::reader::support::{Read, Refused, are_read, are_refused};
+use syn::Result;
 
 const READ: &[Read] = &[
     ("", ""),
@@ -36,11 +36,11 @@ const REFUSED: &[Refused] = &[
 ];
 
 #[test]
-fn reads(rt: HostRuntime) -> Result<(), Fail> {
+fn reads(rt: HostRuntime) -> Result<()> {
     are_read(&rt, rt.alloc(), READ)
 }
 
 #[test]
-fn refuses(rt: HostRuntime) -> Result<(), Fail> {
+fn refuses(rt: HostRuntime) -> Result<()> {
     are_refused(&rt, rt.alloc(), REFUSED)
 }

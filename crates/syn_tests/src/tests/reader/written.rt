@@ -1,6 +1,8 @@
 //! The text of tokens that were read.
-use crate::reader::{read_tokens, token_text};
-use std::test::Fail;
+use crate::tests::support::assert_text_of;
+use std::alloc::Global;
+use syn::Result;
+use syn::reader::{read_tokens, token_text};
 
 /// Texts that are read, and their text as tokens, which is read as that text again.
 const SPACED: &[(&str, &str)] = &[
@@ -32,14 +34,23 @@ const SPACED: &[(&str, &str)] = &[
     ("a(//! b\n)", "a ( # ! [ doc = \" b\" ] )"),
 ];
 
+/// The text of the text's tokens.
+fn written(alloc: Global, text: &str) -> Result<String> {
+    token_text(&read_tokens(alloc, text)?)
+}
+
 #[test]
-fn writes(rt: HostRuntime) -> Result<(), Fail> {
-    let alloc = rt.alloc();
+fn writes(rt: HostRuntime) -> Result<()> {
     for (text, spaced) in SPACED {
-        let written = token_text(&read_tokens(alloc, text)?)?;
-        assert_eq!(rt; written.as_str(), *spaced, "of {text:?}");
-        let again = token_text(&read_tokens(alloc, written.as_str())?)?;
-        assert_eq!(rt; again.as_str(), *spaced, "of {spaced:?}");
+        assert_text_of(&rt, text, written(rt.alloc(), text)?.as_str(), spaced);
+    }
+    Ok(())
+}
+
+#[test]
+fn writes_again(rt: HostRuntime) -> Result<()> {
+    for (_, spaced) in SPACED {
+        assert_text_of(&rt, spaced, written(rt.alloc(), spaced)?.as_str(), spaced);
     }
     Ok(())
 }

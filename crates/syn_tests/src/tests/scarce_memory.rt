@@ -4,18 +4,18 @@
 //! Each does the same twice: one of both has to be right, the other may be refused for want of memory.
 ghost use Rattle.std.specs.Prelude.{None};
 
-use crate::canon::{canonical, same_form};
-use crate::data::FieldsUnnamed;
-use crate::derive::DeriveInput;
-use crate::parse::ParseBuffer;
-use crate::print::ToTokens;
-use crate::punctuated::Punctuated;
-use crate::reader::{read_tokens, token_text};
-use crate::restriction::Visibility;
 use crate::tests::support::{fault, parsed, refused_at, reprinted, span};
-use crate::token::{Ident, LitKind, Literal, TokenStream, TokenTree};
-use crate::{Result, TryClone};
 use std::alloc::Global;
+use syn::canon::{canonical, same_form};
+use syn::data::FieldsUnnamed;
+use syn::derive::DeriveInput;
+use syn::parse::ParseBuffer;
+use syn::print::ToTokens;
+use syn::punctuated::Punctuated;
+use syn::reader::{read_tokens, token_text};
+use syn::restriction::Visibility;
+use syn::token::{Ident, LitKind, Literal, TokenStream, TokenTree};
+use syn::{Result, TryClone};
 
 const STRUCT: &str = "pub struct S(pub(in a::b) c, ::d::e,);";
 

@@ -1,8 +1,8 @@
 //! Doc comments, which are read as attributes.
-use crate::reader::read_tokens;
-use crate::reader::tests::support::{Read, Refused, are_read, are_refused, described};
-use std::alloc::{AllocError, Global};
-use std::test::Fail;
+use crate::tests::reader::support::{Read, Refused, are_read, are_refused, shown};
+use crate::tests::support::assert_text_of;
+use std::alloc::Global;
+use syn::Result;
 
 /// A text that is one doc comment and perhaps white space behind it, whether it is an inner one, the literal that the
 /// attribute holds, and where the comment ends.
@@ -112,7 +112,7 @@ const REFUSED: &[Refused] = &[
 ];
 
 /// The tokens of one doc comment from the beginning of the text up to `end`.
-fn doc_tokens(alloc: Global, inner: bool, literal: &str, end: usize) -> Result<String, AllocError> {
+fn doc_tokens(alloc: Global, inner: bool, literal: &str, end: usize) -> Result<String> {
     let at = format!(in alloc; "@0..{end}")?;
     let at = at.as_str();
     let mut out = format!(in alloc; "#{at}")?;
@@ -124,22 +124,20 @@ fn doc_tokens(alloc: Global, inner: bool, literal: &str, end: usize) -> Result<S
 }
 
 #[test]
-fn reads_alone(rt: HostRuntime) -> Result<(), Fail> {
-    let alloc = rt.alloc();
+fn reads_alone(rt: HostRuntime) -> Result<()> {
     for (text, inner, literal, end) in DOCS {
-        let found = described(alloc, read_tokens(alloc, text)?)?;
-        let expected = doc_tokens(alloc, *inner, literal, *end)?;
-        assert_eq!(rt; found.as_str(), expected.as_str(), "of {text:?}");
+        let want = doc_tokens(rt.alloc(), *inner, literal, *end)?;
+        assert_text_of(&rt, text, shown(rt.alloc(), text)?.as_str(), want.as_str());
     }
     Ok(())
 }
 
 #[test]
-fn reads(rt: HostRuntime) -> Result<(), Fail> {
+fn reads(rt: HostRuntime) -> Result<()> {
     are_read(&rt, rt.alloc(), READ)
 }
 
 #[test]
-fn refuses(rt: HostRuntime) -> Result<(), Fail> {
+fn refuses(rt: HostRuntime) -> Result<()> {
     are_refused(&rt, rt.alloc(), REFUSED)
 }

@@ -6,6 +6,7 @@ mod derive_inputs;
 mod fields;
 mod handmade;
 mod outline;
+mod reader;
 mod scarce_memory;
 mod support;
 mod visibilities;

@@ -1,0 +1,150 @@
+//! Structs.
+use crate::tests::support::{
+    are_left_behind, are_left_by_refused, are_refused, are_reprinted, are_shown, parsed, refused,
+    span,
+};
+use std::alloc::Global;
+use syn::data::Fields;
+use syn::derive::{Data, DeriveInput};
+use syn::lower::Generics;
+use syn::{Fault, Result};
+
+/// Structs, and their trees.
+const TREES: &[(&str, &str)] = &[
+    ("struct S;", "Inherited struct@0..6 S@7..8 Unit ;@8..9"),
+    (
+        " pub  struct S ;",
+        "Public pub@1..4 struct@6..12 S@13..14 Unit ;@15..16",
+    ),
+    (
+        "pub struct A(u8);",
+        "Public pub@0..3 struct@4..10 A@11..12 Unnamed (@12..13 Field Inherited Type Path u8@13..15 )@15..16 ;@16..17",
+    ),
+    (
+        "struct B(pub(crate) x::y, z,);",
+        "Inherited struct@0..6 B@7..8 Unnamed (@8..9 Field Restricted pub@9..12 (@12..13 Path crate@13..18 )@18..19 Type Path x@20..21 ::@21..22@22..23 y@23..24 ,@24..25 Field Inherited Type Path z@26..27 ,@27..28 )@28..29 ;@29..30",
+    ),
+    (
+        "pub(in a::b)struct union();",
+        "Restricted pub@0..3 (@3..4 in@4..6 Path a@7..8 ::@8..9@9..10 b@10..11 )@11..12 struct@12..18 union@19..24 Unnamed (@24..25 )@25..26 ;@26..27",
+    ),
+    (
+        "struct auto(default,safe);",
+        "Inherited struct@0..6 auto@7..11 Unnamed (@11..12 Field Inherited Type Path default@12..19 ,@19..20 Field Inherited Type Path safe@20..24 )@24..25 ;@25..26",
+    ),
+];
+
+#[test]
+fn trees(rt: HostRuntime) -> Result<()> {
+    are_shown::<DeriveInput>(&rt, rt.alloc(), TREES)
+}
+
+const PRINTS: &[(&str, &str)] = &[
+    ("struct S;", "struct S ;"),
+    ("struct S();", "struct S ( ) ;"),
+    ("pub struct A(u8);", "pub struct A ( u8 ) ;"),
+    (
+        "struct B(pub(crate) x::y, z,);",
+        "struct B ( pub ( crate ) x :: y , z , ) ;",
+    ),
+    (
+        "pub(in a::b)struct C(::d);",
+        "pub ( in a :: b ) struct C ( :: d ) ;",
+    ),
+];
+
+#[test]
+fn prints(rt: HostRuntime) -> Result<()> {
+    are_reprinted::<DeriveInput>(&rt, rt.alloc(), PRINTS)
+}
+
+const REFUSED: &[(&str, usize)] = &[
+    ("", 0),
+    ("pub", 3),
+    ("pub  ", 3),
+    ("struct", 6),
+    ("struct S", 8),
+    ("struct S() ", 10),
+    ("struct S(a)", 11),
+    ("struct struct;", 7),
+    ("struct _;", 7),
+    ("struct (a);", 7),
+    ("struct S<T>;", 8),
+    ("struct S where;", 9),
+    ("struct S {}", 9),
+    ("struct S [a];", 9),
+    ("struct S; x", 10),
+    ("struct S;;", 9),
+    ("struct S(a)(b);", 11),
+    ("struct S(a b);", 11),
+    ("struct S(,);", 9),
+    ("enum E {}", 0),
+    ("union U {}", 0),
+    ("pub pub struct S;", 4),
+    ("pub(crate)(crate) struct S;", 10),
+];
+
+#[test]
+fn refusals(rt: HostRuntime) -> Result<()> {
+    are_refused::<DeriveInput>(&rt, rt.alloc(), REFUSED)
+}
+
+/// The fault for which the whole text is refused.
+fn fault_of(alloc: Global, text: &str) -> Result<Fault> {
+    refused::<DeriveInput>(alloc, text)
+}
+
+const NO_DEFAULT: &str = "field default value is only supported in structs with named fields";
+
+#[test]
+fn faults(rt: HostRuntime) -> Result<()> {
+    for (text, place, said) in [
+        ("struct S {", span(9, 10), "unbalanced group"),
+        ("struct S; x", span(10, 11), "unexpected token"),
+        ("struct S(u8 = a);", span(14, 15), NO_DEFAULT),
+    ] {
+        let fault = fault_of(rt.alloc(), text)?;
+        assert_eq!(rt; (fault.span, fault.text), (place, said), "{text}");
+    }
+    Ok(())
+}
+
+const FRONTS: &[(&str, &str)] = &[
+    ("struct S; struct T;", "struct T ;"),
+    ("struct S(a);;", ";"),
+    ("struct S;;", ";"),
+];
+
+#[test]
+fn fronts(rt: HostRuntime) -> Result<()> {
+    are_left_behind::<DeriveInput>(&rt, rt.alloc(), FRONTS)
+}
+
+const NO_FRONTS: &[(&str, &str)] = &[
+    ("pub struct", "pub struct"),
+    ("pub struct S(a) x", "pub struct S ( a ) x"),
+    ("struct S(a, pub);", "struct S ( a , pub ) ;"),
+    ("pub(in) struct S;", "pub ( in ) struct S ;"),
+];
+
+#[test]
+fn no_fronts(rt: HostRuntime) -> Result<()> {
+    are_left_by_refused::<DeriveInput>(&rt, rt.alloc(), NO_FRONTS)
+}
+
+fn is_empty(generics: &Generics) -> bool {
+    generics.params.is_empty()
+        && generics.lt_token.is_none()
+        && generics.gt_token.is_none()
+        && generics.where_clause.is_none()
+}
+
+/// The parts that no text gives a struct yet, and its `;`.
+#[test]
+fn empty_parts(rt: HostRuntime) -> Result<()> {
+    let tree: DeriveInput = parsed(rt.alloc(), "struct S;")?;
+    assert!(rt; tree.attrs.is_empty() && is_empty(&tree.generics));
+    let Data::Struct(data) = &tree.shape;
+    assert!(rt; matches!(data.fields, Fields::Unit) && data.semi_token.is_some());
+    Ok(())
+}

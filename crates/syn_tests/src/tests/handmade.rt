@@ -1,0 +1,272 @@
+//! Prints of trees that no text gives: parts that are printed though the tree lacks them, and parts that aren't printed.
+use crate::tests::outline::outline;
+use crate::tests::support::{assert_text, parsed, print_shown, printed, span};
+use std::alloc::Global;
+use syn::Result;
+use syn::data::{Field, FieldModifiers, Fields};
+use syn::derive::{Data, DataStruct, DeriveInput};
+use syn::lower::{Generics, Path, PathArguments, PathSegment, Type, TypePath};
+use syn::print::ToTokens;
+use syn::punctuated::Punctuated;
+use syn::restriction::{VisRestricted, Visibility};
+use syn::token::{Colon, Comma, Gt, Ident, Lt, Paren, PathSep, Pub, Semi, Struct, TokenStream};
+
+fn segment(alloc: Global, text: &str) -> Result<PathSegment> {
+    Ok(PathSegment {
+        ident: Ident::new(alloc, text, span(0, 1))?,
+        arguments: PathArguments::None,
+    })
+}
+
+/// The path of one word.
+fn word_path(alloc: Global, text: &str) -> Result<Path> {
+    let mut segments = Punctuated::new(alloc);
+    segments.push_value(segment(alloc, text)?)?;
+    Ok(Path {
+        leading_colon: None,
+        segments,
+    })
+}
+
+/// A field of the type `ty`, at 0 to 1.
+fn field(alloc: Global, ident: Option<Ident>, colon_token: Option<Colon>) -> Result<Field> {
+    Ok(Field {
+        attrs: Vec::new(alloc),
+        vis: Visibility::Inherited,
+        modifiers: FieldModifiers {},
+        ident,
+        colon_token,
+        ty: Type::Path(TypePath {
+            qself: None,
+            path: word_path(alloc, "ty")?,
+        }),
+        default: None,
+    })
+}
+
+/// `struct S;`, at 0 to 1.
+fn unit_struct(alloc: Global, generics: Generics, semi_token: Option<Semi>) -> Result<DeriveInput> {
+    Ok(DeriveInput {
+        attrs: Vec::new(alloc),
+        vis: Visibility::Inherited,
+        ident: Ident::new(alloc, "S", span(0, 1))?,
+        generics,
+        shape: Data::Struct(DataStruct {
+            struct_token: Struct::new(span(0, 1)),
+            fields: Fields::Unit,
+            semi_token,
+        }),
+    })
+}
+
+/// What a field prints, with a name or none, and a colon or none.
+fn field_shown(alloc: Global, named: bool, colon: bool) -> Result<String> {
+    let ident = if named {
+        Some(Ident::new(alloc, "name", span(0, 1))?)
+    } else {
+        None
+    };
+    let colon_token = if colon {
+        Some(Colon::new([span(5, 6)]))
+    } else {
+        None
+    };
+    print_shown(alloc, &field(alloc, ident, colon_token)?)
+}
+
+#[test]
+fn field_names(rt: HostRuntime) -> Result<()> {
+    for (named, colon, want) in [
+        (false, false, "ty@0..1"),
+        (false, true, "ty@0..1"),
+        (true, false, "name@0..1 :@0..0 ty@0..1"),
+        (true, true, "name@0..1 :@5..6 ty@0..1"),
+    ] {
+        assert_text(&rt, field_shown(rt.alloc(), named, colon)?.as_str(), want);
+    }
+    Ok(())
+}
+
+/// What `struct S` prints with this `;`.
+fn struct_shown(alloc: Global, semi_token: Option<Semi>) -> Result<String> {
+    print_shown(
+        alloc,
+        &unit_struct(alloc, Generics::empty(alloc), semi_token)?,
+    )
+}
+
+#[test]
+fn absent_semicolon(rt: HostRuntime) -> Result<()> {
+    let none = struct_shown(rt.alloc(), None)?;
+    assert_text(&rt, none.as_str(), "struct@0..1 S@0..1 ;@0..0");
+    let some = struct_shown(rt.alloc(), Some(Semi::new([span(4, 5)])))?;
+    assert_text(&rt, some.as_str(), "struct@0..1 S@0..1 ;@4..5");
+    Ok(())
+}
+
+/// `<` and `>`, without parameters.
+fn signs(alloc: Global) -> Generics {
+    Generics {
+        lt_token: Some(Lt::new([span(1, 2)])),
+        params: Punctuated::new(alloc),
+        gt_token: Some(Gt::new([span(2, 3)])),
+        where_clause: None,
+    }
+}
+
+/// `<` and `>` without parameters aren't printed.
+#[test]
+fn empty_generics(rt: HostRuntime) -> Result<()> {
+    let tree = unit_struct(rt.alloc(), signs(rt.alloc()), None)?;
+    let want = "Inherited struct@0..1 S@0..1 <@1..2 >@2..3 Unit";
+    assert_text(&rt, outline(rt.alloc(), &tree)?.as_str(), want);
+    assert_text(&rt, printed(rt.alloc(), &tree)?.as_str(), "struct S ;");
+    Ok(())
+}
+
+/// A path without words.
+fn wordless(alloc: Global, leading_colon: Option<PathSep>) -> Path {
+    Path {
+        leading_colon,
+        segments: Punctuated::new(alloc),
+    }
+}
+
+#[test]
+fn no_segments(rt: HostRuntime) -> Result<()> {
+    let none = wordless(rt.alloc(), None);
+    assert_text(&rt, printed(rt.alloc(), &none)?.as_str(), "");
+    let sep = PathSep::new([span(0, 1), span(1, 2)]);
+    let colons = wordless(rt.alloc(), Some(sep));
+    assert_text(
+        &rt,
+        print_shown(rt.alloc(), &colons)?.as_str(),
+        ":+@0..1 :@1..2",
+    );
+    Ok(())
+}
+
+/// `a ::`
+fn open_ended(alloc: Global) -> Result<Path> {
+    let mut path = word_path(alloc, "a")?;
+    if path.segments.trailing_value().is_some() {
+        let sep = PathSep::new([span(1, 2), span(2, 3)]);
+        path.segments.push_punct(sep)?;
+    }
+    Ok(path)
+}
+
+/// A path that ends with `::` prints it.
+#[test]
+fn trailing_separator(rt: HostRuntime) -> Result<()> {
+    let path = open_ended(rt.alloc())?;
+    assert_text(
+        &rt,
+        print_shown(rt.alloc(), &path)?.as_str(),
+        "a@0..1 :+@1..2 :@2..3",
+    );
+    Ok(())
+}
+
+/// A word of a path, its arguments, and a path as a type print what they have.
+#[test]
+fn parts_of_paths(rt: HostRuntime) -> Result<()> {
+    let word = segment(rt.alloc(), "a")?;
+    assert_text(&rt, print_shown(rt.alloc(), &word)?.as_str(), "a@0..1");
+    assert_text(&rt, print_shown(rt.alloc(), &word.arguments)?.as_str(), "");
+    Ok(())
+}
+
+#[test]
+fn paths_as_types(rt: HostRuntime) -> Result<()> {
+    let ty: TypePath = parsed(rt.alloc(), "a::b")?;
+    let want = "a@0..1 :+@1..2 :@2..3 b@3..4";
+    assert_text(&rt, print_shown(rt.alloc(), &ty)?.as_str(), want);
+    Ok(())
+}
+
+/// `pub` and a path in parentheses, without `in`.
+fn restricted(alloc: Global) -> Result<VisRestricted> {
+    Ok(VisRestricted {
+        pub_token: Pub::default(),
+        paren_token: Paren::new(span(3, 4), span(8, 9)),
+        in_token: None,
+        path: Box::new(alloc, parsed(alloc, "a::b")?)?,
+    })
+}
+
+/// A restriction without `in` prints the path that it holds, whichever that is.
+#[test]
+fn restriction(rt: HostRuntime) -> Result<()> {
+    let restricted = restricted(rt.alloc())?;
+    assert_text(
+        &rt,
+        printed(rt.alloc(), &restricted)?.as_str(),
+        "pub ( a :: b )",
+    );
+    let vis = Visibility::Restricted(restricted);
+    let want = "pub@0..0 (@3..4 a@0..1 :+@1..2 :@2..3 b@3..4 )@8..9";
+    assert_text(&rt, print_shown(rt.alloc(), &vis)?.as_str(), want);
+    Ok(())
+}
+
+#[test]
+fn fields(rt: HostRuntime) -> Result<()> {
+    assert_text(&rt, printed(rt.alloc(), &Fields::Unit)?.as_str(), "");
+    let fields = Fields::Unnamed(parsed(rt.alloc(), "(pub a, b)")?);
+    assert_text(&rt, printed(rt.alloc(), &fields)?.as_str(), "( pub a , b )");
+    Ok(())
+}
+
+/// The fields of a struct, moved out of it; none where it has none.
+fn moved_out(tree: DeriveInput) -> Option<Punctuated<Field, Comma>> {
+    let DeriveInput { shape, .. } = tree;
+    let Data::Struct(data) = shape;
+    let DataStruct { fields, .. } = data;
+    match fields {
+        Fields::Unnamed(fields) => Some(fields.unnamed),
+        Fields::Unit => None,
+    }
+}
+
+/// The texts of the fields' prints, a `;` behind each.
+fn all_printed(alloc: Global, fields: Punctuated<Field, Comma>) -> Result<String> {
+    let mut out = String::new(alloc);
+    for field in fields {
+        out.push_str(printed(alloc, &field)?.as_str())?;
+        out.push(';')?;
+    }
+    Ok(out)
+}
+
+/// The fields of a struct, moved out of it, are what they were.
+#[test]
+fn moved(rt: HostRuntime) -> Result<()> {
+    let Some(fields) = moved_out(parsed(rt.alloc(), "struct S(pub a::b, c,);")?) else {
+        panic!(rt; "no fields");
+    };
+    assert_text(
+        &rt,
+        all_printed(rt.alloc(), fields)?.as_str(),
+        "pub a :: b;c;",
+    );
+    Ok(())
+}
+
+/// What a path, a struct and a visibility print, one behind the other.
+fn appended_prints(alloc: Global) -> Result<TokenStream> {
+    let mut tokens = TokenStream::new(alloc);
+    word_path(alloc, "a")?.to_tokens(&mut tokens)?;
+    unit_struct(alloc, Generics::empty(alloc), None)?.to_tokens(&mut tokens)?;
+    Visibility::Inherited.to_tokens(&mut tokens)?;
+    Ok(tokens)
+}
+
+/// A print goes behind what stands in the stream.
+#[test]
+fn appended(rt: HostRuntime) -> Result<()> {
+    let tokens = appended_prints(rt.alloc())?;
+    let want = "a@0..1 struct@0..1 S@0..1 ;@0..0";
+    assert_text(&rt, outline(rt.alloc(), &tokens)?.as_str(), want);
+    Ok(())
+}
