@@ -7,6 +7,7 @@ mod errors;
 mod leaves;
 mod lists;
 mod marks;
+mod prints;
 mod public;
 mod streams;
 mod support;

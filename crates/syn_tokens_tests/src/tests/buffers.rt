@@ -1,5 +1,5 @@
 //! Buffers: looking ahead, reading and parsing.
-use crate::tests::support::{assert_text, at, refused, tokens};
+use crate::tests::support::{at, refused, tokens};
 use std::alloc::Global;
 use syn_parse::buffer::ParseBuffer;
 use syn_parse::read::End;
@@ -41,47 +41,68 @@ fn is_name_read(input: &mut ParseBuffer<'_>, text: &str) -> Result<bool> {
     Ok(input.read::<Ident>()?.text() == text)
 }
 
+/// Whether `pub` is seen and nothing else, and read where it stands.
+fn is_word_read(stream: &TokenStream) -> Result<bool> {
+    let mut input = ParseBuffer::new(stream);
+    let seen = input.peek::<token::Pub>();
+    let is_other = input.peek::<token::Struct>() || input.peek::<Ident>();
+    let word: token::Pub = input.read()?;
+    Ok(seen && !is_other && word.span == at(0))
+}
+
 #[test]
 fn words(rt: HostRuntime) -> Result<()> {
-    let stream = sample(rt.alloc())?;
-    let mut input = ParseBuffer::new(&stream);
-    assert!(rt; input.peek::<token::Pub>() && !input.peek::<token::Struct>());
-    assert!(rt; !input.peek::<Ident>());
-    let word: token::Pub = input.read()?;
-    assert_eq!(rt; word.span, at(0));
+    assert!(rt; is_word_read(&sample(rt.alloc())?)?);
     Ok(())
+}
+
+/// Whether a `::` is seen, as the `:` that it begins with too, and read with its second character there.
+fn is_separator_read(input: &mut ParseBuffer<'_>, second: Span) -> Result<bool> {
+    let seen = input.peek::<token::PathSep>() && input.peek::<token::Colon>();
+    let sep: token::PathSep = input.read()?;
+    Ok(seen && sep.spans[1] == second)
+}
+
+/// Whether the name of the sample is seen and read, and the `::` behind it.
+fn is_path_read(stream: &TokenStream) -> Result<bool> {
+    let mut input = ParseBuffer::new(stream);
+    let _word: token::Pub = input.read()?;
+    let seen = input.peek::<Ident>();
+    let is_name = is_name_read(&mut input, "a")?;
+    Ok(seen && is_name && is_separator_read(&mut input, at(3))?)
 }
 
 #[test]
 fn names(rt: HostRuntime) -> Result<()> {
-    let stream = sample(rt.alloc())?;
-    let mut input = ParseBuffer::new(&stream);
-    let _word: token::Pub = input.read()?;
-    assert!(rt; input.peek::<Ident>() && is_name_read(&mut input, "a")?);
-    assert!(rt; input.peek::<token::PathSep>() && input.peek::<token::Colon>());
-    let sep: token::PathSep = input.read()?;
-    assert_eq!(rt; sep.spans[1], at(3));
+    assert!(rt; is_path_read(&sample(rt.alloc())?)?);
     Ok(())
 }
 
 /// Whether a lifetime is seen and read, with this name.
 fn is_lifetime_read(input: &mut ParseBuffer<'_>, name: &str) -> Result<bool> {
     let seen = input.peek::<Lifetime>();
-    Ok(input.read::<Lifetime>()?.ident.text() == name && seen)
+    let lifetime: Lifetime = input.read()?;
+    Ok(seen && lifetime.ident.text() == name)
 }
 
 /// Whether a literal is seen and read, with this text.
 fn is_literal_read(input: &mut ParseBuffer<'_>, text: &str) -> Result<bool> {
     let seen = input.peek::<Literal>();
-    Ok(input.read::<Literal>()?.text() == text && seen)
+    let literal: Literal = input.read()?;
+    Ok(seen && literal.text() == text)
+}
+
+/// Whether the lifetime of the sample is read, and the literal behind it.
+fn are_leaves_read(stream: &TokenStream) -> Result<bool> {
+    let mut input = ParseBuffer::new(stream);
+    skip_path(&mut input)?;
+    let is_lifetime = is_lifetime_read(&mut input, "b")?;
+    Ok(is_lifetime && is_literal_read(&mut input, "1")?)
 }
 
 #[test]
 fn lifetimes_and_literals(rt: HostRuntime) -> Result<()> {
-    let stream = sample(rt.alloc())?;
-    let mut input = ParseBuffer::new(&stream);
-    skip_path(&mut input)?;
-    assert!(rt; is_lifetime_read(&mut input, "b")? && is_literal_read(&mut input, "1")?);
+    assert!(rt; are_leaves_read(&sample(rt.alloc())?)?);
     Ok(())
 }
 
@@ -93,87 +114,120 @@ fn is_shift_seen(input: &ParseBuffer<'_>) -> bool {
         && !input.peek::<token::Le>()
 }
 
+/// Whether `<<=` is seen and read.
+fn is_shift_read(stream: &TokenStream) -> Result<bool> {
+    let mut input = ParseBuffer::new(stream);
+    let seen = is_shift_seen(&input);
+    let shift: token::ShlEq = input.read()?;
+    Ok(seen && shift.spans[2] == at(2))
+}
+
 #[test]
 fn marks(rt: HostRuntime) -> Result<()> {
-    let stream = tokens(rt.alloc(), "<<= a")?;
-    let mut input = ParseBuffer::new(&stream);
-    assert!(rt; is_shift_seen(&input));
-    let shift: token::ShlEq = input.read()?;
-    assert_eq!(rt; shift.spans[2], at(2));
+    assert!(rt; is_shift_read(&tokens(rt.alloc(), "<<= a")?)?);
     Ok(())
 }
 
-/// The buffer is before the group of the sample: whether its delimiters and its content are read.
-fn is_group_read(input: &mut ParseBuffer<'_>) -> Result<bool> {
-    let (paren, mut content) = input.read_group::<token::kind::Paren>()?;
+/// Whether a group in parentheses is seen, and none in braces.
+fn is_group_seen(input: &ParseBuffer<'_>) -> bool {
+    input.peek::<token::Paren>()
+        && !input.peek::<token::Brace>()
+        && input.peek_group::<token::kind::Paren>().is_some()
+}
+
+/// Whether one name stands there, and then the closing delimiter at 12.
+fn is_content_read(content: &mut ParseBuffer<'_>) -> Result<bool> {
     let inner: Option<Ident> = content.read()?;
-    let is_closed = content.span() == at(12) && content.read_end().is_ok();
-    Ok(paren.opening == at(10) && paren.closing == at(12) && inner.is_some() && is_closed)
+    content.read_end()?;
+    Ok(inner.is_some() && content.span() == at(12))
+}
+
+/// Whether the group of the sample is seen and read, with its delimiters and its content.
+fn is_group_read(stream: &TokenStream) -> Result<bool> {
+    let mut input = ParseBuffer::new(stream);
+    skip_to_group(&mut input)?;
+    let seen = is_group_seen(&input);
+    let (paren, mut content) = input.read_group::<token::kind::Paren>()?;
+    let is_there = paren.opening == at(10) && paren.closing == at(12);
+    Ok(seen && is_there && is_content_read(&mut content)?)
 }
 
 #[test]
 fn groups(rt: HostRuntime) -> Result<()> {
-    let stream = sample(rt.alloc())?;
-    let mut input = ParseBuffer::new(&stream);
-    skip_to_group(&mut input)?;
-    assert!(rt; input.peek::<token::Paren>() && !input.peek::<token::Brace>());
-    assert!(rt; input.peek_group::<token::kind::Paren>().is_some());
-    assert!(rt; is_group_read(&mut input)?);
+    assert!(rt; is_group_read(&sample(rt.alloc())?)?);
     Ok(())
+}
+
+/// Whether the end stands behind the group of the sample, behind the last byte.
+fn is_end_seen(stream: &TokenStream) -> Result<bool> {
+    let mut input = ParseBuffer::new(stream);
+    skip_to_group(&mut input)?;
+    let _group = input.read_group::<token::kind::Paren>()?;
+    Ok(input.peek::<End>() && input.is_empty() && input.span().start == 13)
 }
 
 #[test]
 fn ends(rt: HostRuntime) -> Result<()> {
-    let stream = sample(rt.alloc())?;
-    let mut input = ParseBuffer::new(&stream);
-    skip_to_group(&mut input)?;
-    let _group = input.read_group::<token::kind::Paren>()?;
-    assert!(rt; input.peek::<End>() && input.is_empty());
-    assert_eq!(rt; input.span().start, 13, "behind the last tree");
+    assert!(rt; is_end_seen(&sample(rt.alloc())?)?);
     Ok(())
+}
+
+fn are_trees_looked_past(stream: &TokenStream) -> bool {
+    let input = ParseBuffer::new(stream);
+    input.peek2::<Ident>() && input.peek3::<token::PathSep>()
+}
+
+/// A lifetime is one tree to look past.
+fn is_lifetime_looked_past(stream: &TokenStream) -> Result<bool> {
+    let mut input = ParseBuffer::new(stream);
+    skip_path(&mut input)?;
+    Ok(input.peek2::<Literal>() && input.peek3::<token::ShlEq>())
 }
 
 #[test]
 fn looking_past_trees(rt: HostRuntime) -> Result<()> {
-    let stream = sample(rt.alloc())?;
-    let mut input = ParseBuffer::new(&stream);
-    assert!(rt; input.peek2::<Ident>() && input.peek3::<token::PathSep>());
-    skip_path(&mut input)?;
-    assert!(rt; input.peek2::<Literal>(), "a lifetime is one");
-    assert!(rt; input.peek3::<token::ShlEq>());
+    assert!(rt; are_trees_looked_past(&sample(rt.alloc())?));
+    assert!(rt; is_lifetime_looked_past(&sample(rt.alloc())?)?);
     Ok(())
+}
+
+/// Whether a word that doesn't stand there is read as none, and one that does as itself.
+fn are_optional_read(stream: &TokenStream) -> Result<bool> {
+    let mut input = ParseBuffer::new(stream);
+    let none: Option<token::Struct> = input.read()?;
+    let some: Option<token::Pub> = input.read()?;
+    Ok(none.is_none() && some.is_some())
 }
 
 #[test]
 fn optional(rt: HostRuntime) -> Result<()> {
-    let stream = sample(rt.alloc())?;
-    let mut input = ParseBuffer::new(&stream);
-    let none: Option<token::Struct> = input.read()?;
-    assert!(rt; none.is_none());
-    let some: Option<token::Pub> = input.read()?;
-    assert!(rt; some.is_some());
+    assert!(rt; are_optional_read(&sample(rt.alloc())?)?);
     Ok(())
 }
 
-/// The text of the identifier that is read into a box.
-fn is_box_read(stream: &TokenStream, text: &str) -> Result<bool> {
-    let name: Box<Ident> = ParseBuffer::new(stream).read()?;
-    Ok(name.text() == text)
+/// The identifier that is read into a box.
+fn read_box(stream: &TokenStream) -> Result<Box<Ident>> {
+    Ok(ParseBuffer::new(stream).read()?)
 }
 
 #[test]
 fn boxed(rt: HostRuntime) -> Result<()> {
-    assert!(rt; is_box_read(&tokens(rt.alloc(), "a b")?, "a")?);
+    let name = read_box(&tokens(rt.alloc(), "a b")?)?;
+    assert!(rt; name.is("a"));
     Ok(())
+}
+
+/// Whether a `,` is refused behind `pub`, and the name there still read.
+fn is_refused_parse_left(stream: &TokenStream) -> Result<bool> {
+    let mut input = ParseBuffer::new(stream);
+    let _word: token::Pub = input.parse()?;
+    let is_refused = refused(&input.parse::<token::Comma>(), 1, "expected `,`");
+    Ok(is_refused && is_name_read(&mut input, "a")?)
 }
 
 #[test]
 fn refused_parses_stay(rt: HostRuntime) -> Result<()> {
-    let stream = sample(rt.alloc())?;
-    let mut input = ParseBuffer::new(&stream);
-    let _word: token::Pub = input.parse()?;
-    assert!(rt; refused(&input.parse::<token::Comma>(), 1, "expected `,`"));
-    assert!(rt; is_name_read(&mut input, "a")?);
+    assert!(rt; is_refused_parse_left(&sample(rt.alloc())?)?);
     Ok(())
 }
 
@@ -182,50 +236,69 @@ fn is_path_word(input: &mut ParseBuffer<'_>, text: &str) -> Result<bool> {
     Ok(input.read_path_word()?.text() == text)
 }
 
+/// Whether `super` and `a` are words of a path, and `struct` isn't.
+fn are_path_words(stream: &TokenStream) -> Result<bool> {
+    let mut input = ParseBuffer::new(stream);
+    let are_words = is_path_word(&mut input, "super")? && is_path_word(&mut input, "a")?;
+    Ok(are_words && input.read_path_word().is_err())
+}
+
 #[test]
 fn words_of_paths(rt: HostRuntime) -> Result<()> {
-    let stream = tokens(rt.alloc(), "super a struct")?;
-    let mut input = ParseBuffer::new(&stream);
-    assert!(rt; is_path_word(&mut input, "super")? && is_path_word(&mut input, "a")?);
-    assert!(rt; input.read_path_word().is_err());
+    assert!(rt; are_path_words(&tokens(rt.alloc(), "super a struct")?)?);
     Ok(())
+}
+
+/// The identifier at the front, keyword or not.
+fn read_any(stream: &TokenStream) -> Result<Ident> {
+    Ok(ParseBuffer::new(stream).read_identifier()?)
 }
 
 #[test]
 fn words_as_identifiers(rt: HostRuntime) -> Result<()> {
-    let stream = tokens(rt.alloc(), "struct")?;
-    let name = ParseBuffer::new(&stream).read_identifier()?;
-    assert_text(&rt, name.text(), "struct");
+    let name = read_any(&tokens(rt.alloc(), "struct")?)?;
+    assert!(rt; name.is("struct"));
     Ok(())
 }
 
-/// How many trees stand before the third one, and from there on.
-fn parts(stream: &TokenStream) -> Result<(usize, usize)> {
+/// How many trees stand before the third one.
+fn front(stream: &TokenStream) -> Result<usize> {
     let mut input = ParseBuffer::new(stream);
     let start = input.fork();
     let _word: token::Pub = input.read()?;
     let _name: Ident = input.read()?;
-    let front = start.between(&input)?.len();
-    let rest = input.rest()?.len();
-    Ok((front, if input.is_empty() { rest } else { 0 }))
+    Ok(start.between(&input)?.len())
+}
+
+/// How many trees stand behind the third one, where nothing is left then.
+fn rest(stream: &TokenStream) -> Result<Option<usize>> {
+    let mut input = ParseBuffer::new(stream);
+    skip_path(&mut input)?;
+    let count = input.rest()?.len();
+    Ok(if input.is_empty() { Some(count) } else { None })
 }
 
 #[test]
 fn parts_of_streams(rt: HostRuntime) -> Result<()> {
-    assert_eq!(rt; parts(&sample(rt.alloc())?)?, (2, 9));
+    assert_eq!(rt; front(&sample(rt.alloc())?)?, 2);
+    assert_eq!(rt; rest(&sample(rt.alloc())?)?, Some(7));
     Ok(())
+}
+
+/// Whether a buffer that is set back stands at the beginning again.
+fn is_set_back(stream: &TokenStream) -> Result<bool> {
+    let mut input = ParseBuffer::new(stream);
+    let start = input.fork();
+    skip_to_group(&mut input)?;
+    let was_there = is_group_seen(&input);
+    input.advance_to(&start);
+    let is_there = input.peek_group::<token::kind::Paren>().is_some();
+    Ok(was_there && !is_there && input.peek::<token::Pub>())
 }
 
 #[test]
 fn set_back(rt: HostRuntime) -> Result<()> {
-    let stream = sample(rt.alloc())?;
-    let mut input = ParseBuffer::new(&stream);
-    let start = input.fork();
-    skip_to_group(&mut input)?;
-    assert!(rt; input.peek_group::<token::kind::Paren>().is_some());
-    input.advance_to(&start);
-    assert!(rt; input.peek_group::<token::kind::Paren>().is_none());
-    assert!(rt; input.peek::<token::Pub>());
+    assert!(rt; is_set_back(&sample(rt.alloc())?)?);
     Ok(())
 }
 
@@ -238,14 +311,17 @@ fn printed(alloc: Global) -> Result<TokenStream> {
     Ok(out)
 }
 
-#[test]
-fn prints(rt: HostRuntime) -> Result<()> {
-    let out = printed(rt.alloc())?;
-    assert_eq!(rt; out.len(), 6);
-    let mut input = ParseBuffer::new(&out);
+/// Whether that is read again.
+fn is_read_again(out: &TokenStream) -> Result<bool> {
+    let mut input = ParseBuffer::new(out);
     let _word: token::SelfType = input.read()?;
     let _sep: token::PathSep = input.read()?;
     let _shift: token::ShrEq = input.read()?;
-    assert!(rt; input.is_empty());
+    Ok(out.len() == 6 && input.is_empty())
+}
+
+#[test]
+fn prints(rt: HostRuntime) -> Result<()> {
+    assert!(rt; is_read_again(&printed(rt.alloc())?)?);
     Ok(())
 }

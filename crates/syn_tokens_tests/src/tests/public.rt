@@ -4,7 +4,7 @@ use std::alloc::Global;
 use syn_parse::buffer::ParseBuffer;
 use syn_parse::ext::IdentExt;
 use syn_parse::parse::parse2;
-use syn_tokens::error::Result;
+use syn_tokens::error::{Error, Result};
 use syn_tokens::ident::Ident;
 use syn_tokens::punctuated::Punctuated;
 use syn_tokens::stream::TokenStream;
@@ -15,54 +15,70 @@ fn is_name(input: &mut ParseBuffer<'_>, text: &str) -> Result<bool> {
     Ok(input.parse::<Ident>()?.text() == text)
 }
 
+/// Whether another word is refused, and `pub` and the name behind it parsed, to the end.
+fn is_parsed(stream: &TokenStream) -> Result<bool> {
+    let mut input = ParseBuffer::new(stream);
+    let is_refused = refused(&input.parse::<Struct>(), 0, "expected `struct`");
+    let word = input.parse::<Pub>()?;
+    let is_name = is_name(&mut input, "a")?;
+    input.finish()?;
+    Ok(is_refused && word.span == at(0) && is_name)
+}
+
 #[test]
 fn parsed(rt: HostRuntime) -> Result<()> {
-    let stream = tokens(rt.alloc(), "pub a")?;
-    let mut input = ParseBuffer::new(&stream);
-    assert!(rt; refused(&input.parse::<Struct>(), 0, "expected `struct`"));
-    let word = input.parse::<Pub>()?;
-    assert_eq!(rt; word.span, at(0));
-    assert!(rt; is_name(&mut input, "a")? && input.finish().is_ok());
+    assert!(rt; is_parsed(&tokens(rt.alloc(), "pub a")?)?);
     Ok(())
+}
+
+/// Whether parentheses are no braces and no brackets, and nothing stands behind them.
+fn are_parentheses(stream: &TokenStream) -> Result<bool> {
+    let mut input = ParseBuffer::new(stream);
+    let are_no_braces = refused(&input.braced(), 0, "expected curly braces");
+    let are_no_brackets = refused(&input.bracketed(), 0, "expected square brackets");
+    let (signs, _) = input.parenthesized()?;
+    let are_there = signs.opening == at(0) && signs.closing == at(2);
+    let is_end = refused(&input.parenthesized(), 3, "expected parentheses");
+    Ok(are_no_braces && are_no_brackets && are_there && is_end)
 }
 
 #[test]
 fn no_braces_and_brackets(rt: HostRuntime) -> Result<()> {
-    let stream = tokens(rt.alloc(), "( a )")?;
-    let mut input = ParseBuffer::new(&stream);
-    assert!(rt; refused(&input.braced(), 0, "expected curly braces"));
-    assert!(rt; refused(&input.bracketed(), 0, "expected square brackets"));
-    let (signs, _) = input.parenthesized()?;
-    assert_eq!(rt; (signs.opening, signs.closing), (at(0), at(2)));
-    assert!(rt; refused(&input.parenthesized(), 3, "expected parentheses"));
+    assert!(rt; are_parentheses(&tokens(rt.alloc(), "( a )")?)?);
     Ok(())
+}
+
+/// Whether a name stands between the parentheses, and its end is refused before it alone.
+fn is_content_parsed(stream: &TokenStream) -> Result<bool> {
+    let (_, mut content) = ParseBuffer::new(stream).parenthesized()?;
+    let is_refused = refused(&content.finish(), 1, "unexpected token");
+    let is_name = is_name(&mut content, "a")?;
+    content.finish()?;
+    Ok(is_refused && is_name && tells(&content.error("no more"), 2, "no more"))
 }
 
 #[test]
 fn in_parentheses(rt: HostRuntime) -> Result<()> {
-    let stream = tokens(rt.alloc(), "( a )")?;
-    let (_, mut content) = ParseBuffer::new(&stream).parenthesized()?;
-    assert!(rt; refused(&content.finish(), 1, "unexpected token"));
-    assert!(rt; is_name(&mut content, "a")? && content.finish().is_ok());
-    assert!(rt; tells(&content.error("no more"), 2, "no more"));
+    assert!(rt; is_content_parsed(&tokens(rt.alloc(), "( a )")?)?);
     Ok(())
 }
 
-#[test]
-fn in_braces(rt: HostRuntime) -> Result<()> {
-    let stream = tokens(rt.alloc(), "{ }")?;
-    let (signs, content) = ParseBuffer::new(&stream).braced()?;
-    assert_eq!(rt; (signs.opening, signs.closing), (at(0), at(1)));
-    assert!(rt; content.is_empty());
-    Ok(())
+/// Whether there are braces at 0 and 1, with nothing between them.
+fn are_braces(stream: &TokenStream) -> Result<bool> {
+    let (signs, content) = ParseBuffer::new(stream).braced()?;
+    Ok(signs.opening == at(0) && signs.closing == at(1) && content.is_empty())
+}
+
+/// Whether there are brackets at 0 and 1, with nothing between them.
+fn are_brackets(stream: &TokenStream) -> Result<bool> {
+    let (signs, content) = ParseBuffer::new(stream).bracketed()?;
+    Ok(signs.opening == at(0) && signs.closing == at(1) && content.is_empty())
 }
 
 #[test]
-fn in_brackets(rt: HostRuntime) -> Result<()> {
-    let stream = tokens(rt.alloc(), "[ ]")?;
-    let (signs, content) = ParseBuffer::new(&stream).bracketed()?;
-    assert_eq!(rt; (signs.opening, signs.closing), (at(0), at(1)));
-    assert!(rt; content.is_empty());
+fn braces_and_brackets(rt: HostRuntime) -> Result<()> {
+    assert!(rt; are_braces(&tokens(rt.alloc(), "{ }")?)?);
+    assert!(rt; are_brackets(&tokens(rt.alloc(), "[ ]")?)?);
     Ok(())
 }
 
@@ -85,24 +101,45 @@ fn no_whole_streams(rt: HostRuntime) {
     assert!(rt; refused(&whole(rt.alloc(), "pub"), 0, "expected identifier"));
 }
 
+/// The error where more is looked for than there is room for, and one that is there.
+fn looked_for_much(input: &ParseBuffer<'_>) -> Option<Error> {
+    let mut lookahead = input.lookahead1();
+    let seen = lookahead.peek::<Struct>();
+    let is_there = lookahead.peek::<Pub>();
+    let seen = seen || lookahead.peek::<Enum>() || lookahead.peek::<Ident>();
+    let seen = seen || lookahead.peek::<Comma>() || lookahead.peek::<PathSep>();
+    if seen || !is_there {
+        return None;
+    }
+    Some(lookahead.error())
+}
+
+/// The texts of the faults of an error, in order, a `;` behind each; the first byte of one elsewhere than at 0.
+fn texts(alloc: Global, error: &Error) -> Result<String> {
+    let mut out = String::new(alloc);
+    for fault in error.faults() {
+        if fault.span != at(0) {
+            return Err(Error::new(fault.span, "elsewhere"));
+        }
+        out.push_str(fault.text)?;
+        out.push(';')?;
+    }
+    Ok(out)
+}
+
+/// What is told where more is looked for than there is room for.
+fn told(alloc: Global, text: &str) -> Result<String> {
+    let stream = tokens(alloc, text)?;
+    match looked_for_much(&ParseBuffer::new(&stream)) {
+        Some(error) => texts(alloc, &error),
+        None => Ok(String::new(alloc)),
+    }
+}
+
 #[test]
 fn looked_for(rt: HostRuntime) -> Result<()> {
-    let stream = tokens(rt.alloc(), "pub a")?;
-    let mut lookahead = ParseBuffer::new(&stream).lookahead1();
-    assert!(rt; !lookahead.peek::<Struct>() && lookahead.peek::<Pub>());
-    assert!(rt; !lookahead.peek::<Enum>() && !lookahead.peek::<Ident>());
-    assert!(rt; !lookahead.peek::<Comma>() && !lookahead.peek::<PathSep>());
-    let error = lookahead.error();
-    let texts = [
-        "expected `struct`",
-        "expected `enum`",
-        "expected identifier",
-        "expected `,`",
-    ];
-    assert_eq!(rt; error.faults().len(), 4);
-    for (fault, text) in error.faults().iter().zip(texts) {
-        assert_eq!(rt; (fault.span, fault.text), (at(0), text));
-    }
+    let want = "expected `struct`;expected `enum`;expected identifier;expected `,`;";
+    assert_text(&rt, told(rt.alloc(), "pub a")?.as_str(), want);
     Ok(())
 }
 
@@ -114,13 +151,17 @@ fn tells_next(input: &ParseBuffer<'_>, start: usize, text: &str) -> bool {
     !seen && tells(&nothing, start, text) && tells(&lookahead.error(), start, "expected `type`")
 }
 
+/// Whether that is so before a token, and at the end behind it.
+fn tells_all(stream: &TokenStream) -> Result<bool> {
+    let mut input = ParseBuffer::new(stream);
+    let is_told = tells_next(&input, 0, "unexpected token");
+    input.parse::<Pub>()?;
+    Ok(is_told && tells_next(&input, 1, "unexpected end of input"))
+}
+
 #[test]
 fn looked_for_nothing(rt: HostRuntime) -> Result<()> {
-    let stream = tokens(rt.alloc(), "pub")?;
-    let mut input = ParseBuffer::new(&stream);
-    assert!(rt; tells_next(&input, 0, "unexpected token"));
-    input.parse::<Pub>()?;
-    assert!(rt; tells_next(&input, 1, "unexpected end of input"));
+    assert!(rt; tells_all(&tokens(rt.alloc(), "pub")?)?);
     Ok(())
 }
 
@@ -158,18 +199,23 @@ fn no_lists_to_the_end(rt: HostRuntime) {
     }
 }
 
+/// Whether a list is refused at its last part, and put back.
+fn is_list_put_back(stream: &TokenStream) -> bool {
+    let mut input = ParseBuffer::new(stream);
+    let answer = input.parse_terminated::<Ident, Comma>();
+    refused(&answer, 2, "expected identifier") && input.span() == at(0)
+}
+
 #[test]
 fn refused_lists_stay(rt: HostRuntime) -> Result<()> {
-    let stream = tokens(rt.alloc(), "a , pub")?;
-    let mut input = ParseBuffer::new(&stream);
-    assert!(rt;
-        refused(
-            &input.parse_terminated::<Ident, Comma>(),
-            2,
-            "expected identifier"
-        )
-    );
-    assert_eq!(rt; input.span(), at(0), "put back");
+    assert!(rt; is_list_put_back(&tokens(rt.alloc(), "a , pub")?));
+    Ok(())
+}
+
+/// Past `pub` and a name.
+fn skip_both(input: &mut ParseBuffer<'_>) -> Result<()> {
+    input.parse::<Pub>()?;
+    input.parse::<Ident>()?;
     Ok(())
 }
 
@@ -177,31 +223,37 @@ fn refused_lists_stay(rt: HostRuntime) -> Result<()> {
 fn structure(input: &mut ParseBuffer<'_>) -> Result<Ident> {
     let word = input.parse::<Option<Struct>>()?;
     if word.is_none() {
-        input.parse::<Pub>()?;
-        input.parse::<Ident>()?;
+        skip_both(input)?;
         return Err(input.error("too late"));
     }
     input.parse()
 }
 
+/// Whether the function reads the name, and is refused behind it, and the buffer put back.
+fn is_called(stream: &TokenStream) -> Result<bool> {
+    let mut input = ParseBuffer::new(stream);
+    let is_name = input.call(structure)?.is("a");
+    let is_refused = input.span() == at(2) && refused(&input.call(structure), 4, "too late");
+    Ok(is_name && is_refused && input.span() == at(2))
+}
+
 #[test]
 fn called(rt: HostRuntime) -> Result<()> {
-    let stream = tokens(rt.alloc(), "struct a pub b")?;
-    let mut input = ParseBuffer::new(&stream);
-    assert_text(&rt, input.call(structure)?.text(), "a");
-    assert_eq!(rt; input.span(), at(2));
-    assert!(rt; refused(&input.call(structure), 4, "too late"));
-    assert_eq!(rt; input.span(), at(2), "put back");
+    assert!(rt; is_called(&tokens(rt.alloc(), "struct a pub b")?)?);
     Ok(())
+}
+
+/// Whether closures read the word and the name.
+fn are_closures_called(stream: &TokenStream) -> Result<bool> {
+    let mut input = ParseBuffer::new(stream);
+    let word = input.call(|input| input.parse::<Pub>())?;
+    let name = input.call(|input| input.parse::<Ident>())?;
+    Ok(word.span == at(0) && name.is("b"))
 }
 
 #[test]
 fn called_closures(rt: HostRuntime) -> Result<()> {
-    let stream = tokens(rt.alloc(), "pub b")?;
-    let mut input = ParseBuffer::new(&stream);
-    let word = input.call(|input| input.parse::<Pub>())?;
-    assert_eq!(rt; word.span, at(0));
-    assert_text(&rt, input.call(|input| input.parse::<Ident>())?.text(), "b");
+    assert!(rt; are_closures_called(&tokens(rt.alloc(), "pub b")?)?);
     Ok(())
 }
 
@@ -210,15 +262,21 @@ fn is_any(input: &mut ParseBuffer<'_>, text: &str) -> Result<bool> {
     Ok(Ident::parse_any(input)?.text() == text)
 }
 
+/// Whether the three words are read, and the `,` behind them isn't.
+fn are_any(stream: &TokenStream) -> Result<bool> {
+    let mut input = ParseBuffer::new(stream);
+    for text in ["struct", "_", "a"] {
+        if !is_any(&mut input, text)? {
+            return Ok(false);
+        }
+    }
+    let is_refused = refused(&Ident::parse_any(&mut input), 3, "expected identifier");
+    Ok(is_refused && input.span() == at(3))
+}
+
 #[test]
 fn any_identifiers(rt: HostRuntime) -> Result<()> {
-    let stream = tokens(rt.alloc(), "struct _ a ,")?;
-    let mut input = ParseBuffer::new(&stream);
-    for text in ["struct", "_", "a"] {
-        assert!(rt; is_any(&mut input, text)?, "{text}");
-    }
-    assert!(rt; refused(&Ident::parse_any(&mut input), 3, "expected identifier"));
-    assert_eq!(rt; input.span(), at(3), "nothing is read");
+    assert!(rt; are_any(&tokens(rt.alloc(), "struct _ a ,")?)?);
     Ok(())
 }
 
@@ -239,30 +297,34 @@ fn is_at_close(input: &mut ParseBuffer<'_>) -> bool {
         && input.finish().is_ok()
 }
 
-#[test]
-fn ends_of_groups(rt: HostRuntime) -> Result<()> {
-    let stream = tokens(rt.alloc(), "( a )")?;
-    let (_, mut content) = ParseBuffer::new(&stream).parenthesized()?;
+/// Whether a buffer that is read to the end of a group stands there, one that is advanced to it, and a fork of that.
+fn are_at_close(stream: &TokenStream) -> Result<bool> {
+    let (_, mut content) = ParseBuffer::new(stream).parenthesized()?;
     let mut ahead = content.fork();
     ahead.parse::<Ident>()?;
-    assert!(rt; is_at_close(&mut ahead), "read to the end");
+    let is_read = is_at_close(&mut ahead);
     content.advance_to(&ahead);
-    assert!(rt; is_at_close(&mut content), "behind advance_to");
-    assert!(rt; is_at_close(&mut content.fork()), "behind fork");
+    Ok(is_read && is_at_close(&mut content) && is_at_close(&mut content.fork()))
+}
+
+#[test]
+fn ends_of_groups(rt: HostRuntime) -> Result<()> {
+    assert!(rt; are_at_close(&tokens(rt.alloc(), "( a )")?)?);
     Ok(())
+}
+
+/// Whether a buffer that ended behind the group ends with it where it is advanced to its end.
+fn is_advanced_to_close(stream: &TokenStream) -> Result<bool> {
+    let mut input = ParseBuffer::new(stream);
+    let (_, mut content) = input.parenthesized()?;
+    content.parse::<Ident>()?;
+    let was_behind = input.span().start == 3;
+    input.advance_to(&content);
+    Ok(was_behind && is_at_close(&mut input))
 }
 
 #[test]
 fn ends_of_other_buffers(rt: HostRuntime) -> Result<()> {
-    let stream = tokens(rt.alloc(), "( a )")?;
-    let mut input = ParseBuffer::new(&stream);
-    let (_, mut content) = input.parenthesized()?;
-    content.parse::<Ident>()?;
-    assert_eq!(rt; input.span().start, 3, "the stream ends behind the group");
-    input.advance_to(&content);
-    assert!(rt;
-        is_at_close(&mut input),
-        "from a buffer that ended elsewhere"
-    );
+    assert!(rt; is_advanced_to_close(&tokens(rt.alloc(), "( a )")?)?);
     Ok(())
 }

@@ -6,6 +6,7 @@ use syn_parse::read::refusal::Refusal;
 use syn_parse::read::{End, Peek};
 use syn_tokens::error::Result;
 use syn_tokens::ident::Ident;
+use syn_tokens::lifetime::Lifetime;
 use syn_tokens::literal::{LitKind, Literal};
 use syn_tokens::punctuated::Punctuated;
 use syn_tokens::span::Span;
@@ -150,6 +151,26 @@ fn are_lists_copied(alloc: Global) -> Result<bool> {
 #[test]
 fn lists(rt: HostRuntime) -> Result<()> {
     assert!(rt; are_lists_copied(rt.alloc())?);
+    Ok(())
+}
+
+/// Whether two lifetimes with these names are equal, though they stand elsewhere.
+fn are_equal_lifetimes(alloc: Global, left: &str, right: &str) -> Result<bool> {
+    let left = Lifetime {
+        apostrophe: HERE,
+        ident: name(alloc, left)?,
+    };
+    let right = Lifetime {
+        apostrophe: BEHIND,
+        ident: name(alloc, right)?,
+    };
+    Ok(left == right)
+}
+
+#[test]
+fn lifetimes(rt: HostRuntime) -> Result<()> {
+    assert!(rt; are_equal_lifetimes(rt.alloc(), "a", "a")?);
+    assert!(rt; !are_equal_lifetimes(rt.alloc(), "a", "b")?);
     Ok(())
 }
 
