@@ -13,6 +13,7 @@ import try_edits
 from editlib import rooms
 from editlib.cores import Cores
 from editlib.edits import Source, Unfit, edits_of, packs, read, with_clauses
+from editlib import rooms
 from editlib.functions import block_of, functions_of, types_of
 from editlib.refusals import answer_of, clause_of
 
@@ -373,6 +374,18 @@ class Program(InCrate):
             self.edit("a", clause, "old:         2", "new:         4")
             with self.subTest(clause), self.program("--check") as (said, ended):
                 self.assertEqual(ended, status, said)
+
+    def test_a_copy_apart_has_the_sources_and_nothing_that_was_kept(self):
+        (self.top / "crates.txt").write_text("low:\n")
+        (self.crate / "out").mkdir()
+        with rooms.apart(self.top) as copy:
+            self.assertEqual((copy / "crates/low/src/lib.rt").read_text(), SOURCE)
+            self.assertFalse((copy / "crates/low/out").exists())
+            self.assertEqual(copy.name, self.top.name)
+        self.assertFalse(copy.exists())
+        self.edit("a", "clause: value", "old:         2", "new:         4")
+        with self.program("--check", "--apart") as (said, ended):
+            self.assertEqual((said, ended), ("1 edits, 0 wrong\n", 0))
 
     @contextlib.contextmanager
     def program(self, *words):

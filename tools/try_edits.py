@@ -5,6 +5,7 @@
     tools/try_edits.py --check              only whether each edit can be applied and names what it breaks; proves nothing
     tools/try_edits.py --record [CRATE ..]  also writes the clause into the edits that name none
     --said FOLDER                           keeps what the prover said of each pack in a file there
+    --apart                                 in a copy of the repository without what earlier checks kept, so that `rt ci` can run beside
 
 An edit is a file of lines:
 
@@ -31,10 +32,12 @@ can't be applied.
 """
 
 import argparse
+import resource
 import subprocess
 import sys
 import time
 from concurrent.futures import ThreadPoolExecutor
+from contextlib import nullcontext
 from pathlib import Path
 
 from editlib import rooms
@@ -51,7 +54,7 @@ class Trial:
     """The edits of one crate, and what became of them."""
 
     def __init__(self, crate, lower, names, cores, folder=None):
-        self.crate, self.cores, self.folder = crate, cores, folder
+        self.top, self.crate, self.cores, self.folder = crate.parent.parent, crate, cores, folder
         self.source, self.edits, self.unfit = edits_of(crate, lower, names)
         self.refused, self.wrong = {}, [f"{path.stem}: can't be applied: {why}" for path, why in self.unfit]
 
@@ -77,7 +80,7 @@ class Trial:
 
     def try_pack(self, pack):
         """The edits of the pack that are not refused."""
-        with self.cores.taken(1) as jobs, rooms.room(TOP, self.crate.name, pack.texts) as folder:
+        with self.cores.taken(1) as jobs, rooms.room(self.top, self.crate.name, pack.texts) as folder:
             start = time.monotonic()
             said = checked(folder, jobs).stdout
         if self.folder:
@@ -163,9 +166,9 @@ def unnamed(trial):
                 yield f"{edit.name}: {name} is no clause of {', '.join(sorted(edit.functions))} ({', '.join(known)})"
 
 
-def trials_of(options):
+def trials_of(options, top):
     """The crates that have edits, lowest first."""
-    uses, cores, folder = rooms.listed(TOP)[1], Cores(), TOP / "crates"
+    uses, cores, folder = rooms.listed(top)[1], Cores(2 if options.apart else 1), top / "crates"
     lower = {name: [folder / it for it in rooms.below(name, uses)] for name in uses}
     names = [options.crate] if options.crate else sorted(uses, key=lambda name: len(lower[name]))
     has_edits = [name for name in names if [*(folder / name).glob("edits/*"), *(folder / name).glob("must-fail/*")]]
@@ -179,8 +182,17 @@ def main():
     parser.add_argument("--check", action="store_true")
     parser.add_argument("--record", action="store_true")
     parser.add_argument("--said", type=Path)
+    parser.add_argument("--apart", action="store_true")
     options = parser.parse_args()
-    start, trials = time.monotonic(), trials_of(options)
+    if options.apart and options.record:
+        parser.error("--record writes into the repository, and --apart works in a copy")
+    with rooms.apart(TOP) if options.apart else nullcontext(TOP) as top:
+        sys.exit(tell(options, trials_of(options, top)))
+
+
+def tell(options, trials):
+    """Tries the edits, and tells what is wrong with them; 1 where that is anything."""
+    start = time.monotonic()
     for trial in trials:
         trial.wrong += [] if options.record else unnamed(trial)
     if not options.check:
@@ -191,8 +203,10 @@ def main():
     number = sum(len(trial.edits) + len(trial.unfit) for trial in trials)
     refused = sum(len(trial.refused) for trial in trials)
     print(*wrong, sep="\n", end="\n" if wrong else "")
-    print(f"{number} edits, {len(wrong)} wrong" if options.check else f"{refused} of {number} refused, {len(wrong)} wrong, {time.monotonic() - start:.0f} s")
-    sys.exit(1 if wrong else 0)
+    used = resource.getrusage(resource.RUSAGE_CHILDREN)
+    times = f"{time.monotonic() - start:.0f} s, {used.ru_utime + used.ru_stime:.0f} s of processors"
+    print(f"{number} edits, {len(wrong)} wrong" if options.check else f"{refused} of {number} refused, {len(wrong)} wrong, {times}")
+    return 1 if wrong else 0
 
 
 def tried(trials):

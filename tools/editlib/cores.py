@@ -19,11 +19,12 @@ def available():
 
 
 class Cores:
-    """So many checks run side by side as there are processors, and memory for. RT_JOBS says another number."""
+    """So many checks run side by side as there are processors, and memory for, of which others may take their share. RT_JOBS says
+    another number."""
 
-    def __init__(self):
-        said = os.environ.get("RT_JOBS", "")
-        self.number = int(said) if said.isdigit() and int(said) else max(1, min(len(os.sched_getaffinity(0)), available() // NEED))
+    def __init__(self, shares=1):
+        said, room = os.environ.get("RT_JOBS", ""), available() // (NEED * shares)
+        self.number = int(said) if said.isdigit() and int(said) else max(1, min(len(os.sched_getaffinity(0)), room))
         self.free, self.changed, self.urgent = self.number, Condition(), 0
 
     @contextmanager

@@ -10,6 +10,7 @@ import shutil
 import subprocess
 import tempfile
 from contextlib import contextmanager
+from pathlib import Path
 
 # what a crate above needs of a library, and what the checked crate needs of its own
 SOURCES, OF_LIBRARY, OF_CRATE = ("src", "specs", "proofs"), "out/rlib", "out/incremental"
@@ -38,6 +39,16 @@ def linked(source, target):
         os.link(source, target)
     except OSError:
         shutil.copyfile(source, target)
+
+
+@contextmanager
+def apart(top):
+    """A copy of the repository's sources, without what was kept, as a folder that is there until the block ends."""
+    with tempfile.TemporaryDirectory(prefix="edits-") as folder:
+        copy = Path(folder) / top.name
+        shutil.copytree(top, copy, ignore=shutil.ignore_patterns("out", ".git"), symlinks=True)
+        subprocess.run(["git", "init", "-q", copy], check=True)
+        yield copy
 
 
 @contextmanager
