@@ -23,6 +23,17 @@ fn alike<T: Canonical + Drop>(alloc: Global, left: &str, right: &str) -> Result<
     same_form::<T>(read_tokens(alloc, left)?, read_tokens(alloc, right)?)
 }
 
+/// Fails where the text hasn't this canonical print.
+fn assert_canonical<T: Canonical + Drop>(
+    rt: &impl Abort,
+    alloc: Global,
+    text: &str,
+    want: &str,
+) -> Result<()> {
+    assert_text_of(rt, text, canonical_text::<T>(alloc, text)?.as_str(), want);
+    Ok(())
+}
+
 /// Fails where one of the texts hasn't this canonical print, or that print not itself.
 fn are_canonical<T: Canonical + Drop>(
     rt: &impl Abort,
@@ -30,8 +41,8 @@ fn are_canonical<T: Canonical + Drop>(
     rows: &[(&str, &str)],
 ) -> Result<()> {
     for (text, want) in rows {
-        assert_text_of(rt, text, canonical_text::<T>(alloc, text)?.as_str(), want);
-        assert_text_of(rt, want, canonical_text::<T>(alloc, want)?.as_str(), want);
+        assert_canonical::<T>(rt, alloc, text, want)?;
+        assert_canonical::<T>(rt, alloc, want, want)?;
     }
     Ok(())
 }
@@ -140,7 +151,19 @@ fn forms_without_spacing(rt: HostRuntime) -> Result<()> {
     Ok(())
 }
 
-/// Fails where the forms of two texts, in either order, are not the same, or are where they aren't wanted to be.
+/// Fails where the forms of two texts are not the same, or are where they aren't wanted to be.
+fn assert_alike<T: Canonical + Drop>(
+    rt: &impl Abort,
+    alloc: Global,
+    want: bool,
+    texts: (&str, &str),
+) -> Result<()> {
+    let (left, right) = texts;
+    assert_eq!(rt; alike::<T>(alloc, left, right)?, want, "{left:?} {right:?}");
+    Ok(())
+}
+
+/// Fails where that is so of one of the pairs, in either order.
 fn are_alike<T: Canonical + Drop>(
     rt: &impl Abort,
     alloc: Global,
@@ -148,8 +171,8 @@ fn are_alike<T: Canonical + Drop>(
     rows: &[(&str, &str)],
 ) -> Result<()> {
     for (left, right) in rows {
-        assert_eq!(rt; alike::<T>(alloc, left, right)?, want, "{left:?} {right:?}");
-        assert_eq!(rt; alike::<T>(alloc, right, left)?, want, "{right:?} {left:?}");
+        assert_alike::<T>(rt, alloc, want, (left, right))?;
+        assert_alike::<T>(rt, alloc, want, (right, left))?;
     }
     Ok(())
 }

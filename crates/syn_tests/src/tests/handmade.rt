@@ -114,13 +114,26 @@ fn signs(alloc: Global) -> Generics {
     }
 }
 
+/// `struct S`, with these signs.
+fn signed(alloc: Global) -> Result<DeriveInput> {
+    unit_struct(alloc, signs(alloc), None)
+}
+
+/// What shows it, and what it prints.
+fn signed_shown(alloc: Global) -> Result<String> {
+    Ok(outline(alloc, &signed(alloc)?)?)
+}
+
+fn signed_printed(alloc: Global) -> Result<String> {
+    printed(alloc, &signed(alloc)?)
+}
+
 /// `<` and `>` without parameters aren't printed.
 #[test]
 fn empty_generics(rt: HostRuntime) -> Result<()> {
-    let tree = unit_struct(rt.alloc(), signs(rt.alloc()), None)?;
     let want = "Inherited struct@0..1 S@0..1 <@1..2 >@2..3 Unit";
-    assert_text(&rt, outline(rt.alloc(), &tree)?.as_str(), want);
-    assert_text(&rt, printed(rt.alloc(), &tree)?.as_str(), "struct S ;");
+    assert_text(&rt, signed_shown(rt.alloc())?.as_str(), want);
+    assert_text(&rt, signed_printed(rt.alloc())?.as_str(), "struct S ;");
     Ok(())
 }
 
@@ -132,17 +145,17 @@ fn wordless(alloc: Global, leading_colon: Option<PathSep>) -> Path {
     }
 }
 
+/// What it prints.
+fn wordless_shown(alloc: Global, leading_colon: Option<PathSep>) -> Result<String> {
+    print_shown(alloc, &wordless(alloc, leading_colon))
+}
+
 #[test]
 fn no_segments(rt: HostRuntime) -> Result<()> {
-    let none = wordless(rt.alloc(), None);
-    assert_text(&rt, printed(rt.alloc(), &none)?.as_str(), "");
     let sep = PathSep::new([span(0, 1), span(1, 2)]);
-    let colons = wordless(rt.alloc(), Some(sep));
-    assert_text(
-        &rt,
-        print_shown(rt.alloc(), &colons)?.as_str(),
-        ":+@0..1 :@1..2",
-    );
+    assert_text(&rt, wordless_shown(rt.alloc(), None)?.as_str(), "");
+    let colons = wordless_shown(rt.alloc(), Some(sep))?;
+    assert_text(&rt, colons.as_str(), ":+@0..1 :@1..2");
     Ok(())
 }
 
@@ -229,14 +242,27 @@ fn moved_out(tree: DeriveInput) -> Option<Punctuated<Field, Comma>> {
     }
 }
 
+/// Adds the text of what the field prints, and a `;`.
+fn add_printed(out: &mut String, alloc: Global, field: &Field) -> Result<()> {
+    out.push_str(printed(alloc, field)?.as_str())?;
+    out.push(';')?;
+    Ok(())
+}
+
+/// The text with that of a field behind it, where neither was refused.
+fn with_printed(alloc: Global, text: Result<String>, field: &Field) -> Result<String> {
+    let mut out = text?;
+    add_printed(&mut out, alloc, field)?;
+    Ok(out)
+}
+
 /// The texts of the fields' prints, a `;` behind each.
 fn all_printed(alloc: Global, fields: Punctuated<Field, Comma>) -> Result<String> {
-    let mut out = String::new(alloc);
+    let mut out = Ok(String::new(alloc));
     for field in fields {
-        out.push_str(printed(alloc, &field)?.as_str())?;
-        out.push(';')?;
+        out = with_printed(alloc, out, &field);
     }
-    Ok(out)
+    out
 }
 
 /// The fields of a struct, moved out of it, are what they were.
@@ -253,11 +279,20 @@ fn moved(rt: HostRuntime) -> Result<()> {
     Ok(())
 }
 
+fn add_path(tokens: &mut TokenStream) -> Result<()> {
+    word_path(tokens.alloc(), "a")?.to_tokens(tokens)
+}
+
+fn add_struct(tokens: &mut TokenStream) -> Result<()> {
+    let alloc = tokens.alloc();
+    unit_struct(alloc, Generics::empty(alloc), None)?.to_tokens(tokens)
+}
+
 /// What a path, a struct and a visibility print, one behind the other.
 fn appended_prints(alloc: Global) -> Result<TokenStream> {
     let mut tokens = TokenStream::new(alloc);
-    word_path(alloc, "a")?.to_tokens(&mut tokens)?;
-    unit_struct(alloc, Generics::empty(alloc), None)?.to_tokens(&mut tokens)?;
+    add_path(&mut tokens)?;
+    add_struct(&mut tokens)?;
     Visibility::Inherited.to_tokens(&mut tokens)?;
     Ok(tokens)
 }

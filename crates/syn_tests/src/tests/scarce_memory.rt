@@ -223,17 +223,21 @@ fn lists(rt: HostRuntime) {
     assert!(rt; are_right(list_keeps(rt.alloc()), list_keeps(rt.alloc())));
 }
 
-fn is_made(alloc: Global) -> Result<bool> {
+fn is_ident_made(alloc: Global) -> Result<bool> {
     let ident = Ident::new(alloc, "r#a", span(0, 1))?;
+    Ok(ident.try_clone(alloc)? == ident && ident.text() == "r#a")
+}
+
+fn is_literal_made(alloc: Global) -> Result<bool> {
     let literal = Literal::new(alloc, LitKind::Char, "'a'", span(0, 1))?;
-    let are_copied = ident.try_clone(alloc)? == ident && literal.try_clone(alloc)? == literal;
-    Ok(are_copied && ident.text() == "r#a" && literal.text() == "'a'")
+    Ok(literal.try_clone(alloc)? == literal && literal.text() == "'a'")
 }
 
 /// A text that is no identifier is refused by a fault, whatever memory there is.
 #[test]
 fn leaves(rt: HostRuntime) {
-    assert!(rt; are_right(is_made(rt.alloc()), is_made(rt.alloc())));
+    assert!(rt; are_right(is_ident_made(rt.alloc()), is_ident_made(rt.alloc())));
+    assert!(rt; are_right(is_literal_made(rt.alloc()), is_literal_made(rt.alloc())));
     for text in ["", "1a", "a-b", "r#"] {
         assert!(rt;
             Ident::new(rt.alloc(), text, span(0, 1)).is_err_and(|e| !e.is_memory()),
