@@ -1,45 +1,14 @@
 //! The trees of a stream, gone through by their iterator.
+use crate::tests::support::tokens;
 use std::alloc::Global;
 use std::test::Fail;
-use syn_tokens::delimiter::Delimiter;
-use syn_tokens::ident::Ident;
-use syn_tokens::literal::{LitKind, Literal};
-use syn_tokens::punct::{Punct, Spacing};
-use syn_tokens::span::Span;
 use syn_tokens::stream::TokenStream;
 use syn_tokens::stream::cursor::TokenTreeRef;
 use syn_tokens::stream::iter::Iter;
-use syn_tokens::stream::tree::{Group, TokenTree};
 
-const fn at(start: usize) -> Span {
-    Span {
-        start,
-        end: usize::MAX,
-    }
-}
-
-/// `a (1 [ ]) ' b`
-fn sample(alloc: Global) -> Result<TokenStream, Fail> {
-    let mut inner = TokenStream::new(alloc);
-    let one = Literal::new(alloc, LitKind::Int, "1", at(2))?;
-    inner.push(TokenTree::Literal(one))?;
-    inner.push(TokenTree::Group(Group {
-        delimiter: Delimiter::Bracket,
-        stream: TokenStream::new(alloc),
-        opening: at(3),
-        closing: at(4),
-    }))?;
-    let mut all = TokenStream::new(alloc);
-    all.push(TokenTree::Ident(Ident::new(alloc, "a", at(0))?))?;
-    all.push(TokenTree::Group(Group {
-        delimiter: Delimiter::Paren,
-        stream: inner,
-        opening: at(1),
-        closing: at(5),
-    }))?;
-    all.push(TokenTree::Punct(Punct::new('\'', Spacing::Joint, at(6))))?;
-    all.push(TokenTree::Ident(Ident::new(alloc, "b", at(7))?))?;
-    Ok(all)
+/// `a (1 [ ]) ' b`, one byte each.
+fn sample(alloc: Global) -> syn_tokens::error::Result<TokenStream> {
+    tokens(alloc, "a ( 1 [ ] ) ' b")
 }
 
 /// What a tree is, in a few characters.
