@@ -26,7 +26,10 @@ from grammarlib.tokens import DELIMITER_TEXTS, Group, Ident, Literal, Punct, rea
 
 HERE = Path(__file__).resolve().parent
 # the oracle's name of a kind, and the rule that reads it
-KINDS = {'derive': 'derive_input', 'visibility': 'visibility', 'fields-unnamed': 'fields_unnamed', 'unnamed-field': 'unnamed_field'}
+KINDS = {
+    'derive': 'derive_input', 'visibility': 'visibility', 'fields-unnamed': 'fields_unnamed', 'unnamed-field': 'unnamed_field',
+    'fields-named': 'fields_named', 'variant': 'variant', 'named-field': 'named_field', 'item-struct': 'structure',
+    'item-enum': 'enumeration', 'item-union': 'union_item', 'type': 'type'}
 SHOWN = 20
 
 

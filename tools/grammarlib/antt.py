@@ -185,11 +185,14 @@ def pattern_list(words, where):
 
 
 class Evaluator:
-    """Evaluates expressions by the definitions of some files. A name that nothing defines is a Fault."""
+    """Evaluates expressions by the definitions of some files. A name that nothing defines is a Fault.
 
-    def __init__(self, definitions, constructors):
+    `rules` are names too, but not in patterns: forms that have a name call rules."""
+
+    def __init__(self, definitions, constructors, rules=()):
         self.definitions = definitions
         self.constructors = constructors | {'true', 'false'}
+        self.rules = set(rules)
         self.memo = {}
         self.known = {
             'nat_eq': lambda a, b: ('true',) if a == b else ('false',),
@@ -229,7 +232,7 @@ class Evaluator:
                 constant = definition.clauses and not definition.clauses[0].patterns
                 self.memo[name] = self.evaluate(definition.clauses[0].body, {}, where) if constant else ('function', name)
             return self.memo[name]
-        if name in self.constructors:
+        if name in self.constructors or name in self.rules:
             return (name,)
         if name in self.known:
             return ('function', name)

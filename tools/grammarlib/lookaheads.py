@@ -36,6 +36,7 @@ class Lookaheads:
         self.keywords = list(source.value('keywords'))
         self.contextual = list(source.value('contextual'))
         self.long_marks = list(source.value('long_marks'))
+        self.lifetime_mark = source.value('lifetime_mark')
         self.all_facts = [(n,) for n in source.facts]
         self.at_generics = source.looks['at_generics']
         self.at_parameter = source.looks['at_parameter']
@@ -122,6 +123,8 @@ class Lookaheads:
             for mark in self.long_marks:
                 if text.startswith(mark):
                     return ('Punctuation', mark)
+        if terminal[0] in ('Name', 'Word') and character == self.lifetime_mark[0]:
+            return ('Punctuation', self.lifetime_mark)
         return ('Punctuation', character)
 
     def punctuation_lookahead(self, character, joint, lookahead):
@@ -147,7 +150,7 @@ class Lookaheads:
         return self.terminals_of[kind]
 
     def beginning(self, text):
-        return [('Punctuation', m) for m in self.long_marks if m.startswith(text)]
+        return [('Punctuation', m) for m in [self.lifetime_mark] + self.long_marks if m.startswith(text)]
 
     def mark_first_set(self, text):
         """The terminals that a mark may be seen with, by what stands behind it."""

@@ -160,7 +160,7 @@ class Reader:
             return ends == (kind == 'trailing_brace')
         if kind in ('has', 'has_no'):
             return has_part(test[1], tree) == (kind == 'has')
-        return sum(t == Ident('where') for t in trees) < 2
+        return wheres(tree) < 2
 
     def read_generics_before(self, form, here):
         x, y, behind = form[1:]
@@ -258,6 +258,18 @@ def has_part(rule, tree):
     if kind == 'both':
         return has_part(rule, tree[1]) or has_part(rule, tree[2])
     return kind == 'group' and has_part(rule, tree[2])
+
+
+def wheres(tree):
+    """How often the word `where` stands in it, not counting lifetimes, groups, lists in `< >` and what is never printed."""
+    kind = tree[0]
+    if kind == 'token':
+        return int(tree[1] == Ident('where'))
+    if kind == 'both':
+        return wheres(tree[1]) + wheres(tree[2])
+    if kind == 'case' or (kind == 'vanishing' and not tree[1]):
+        return wheres(tree[2])
+    return 0
 
 
 def bare(tree):

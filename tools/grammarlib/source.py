@@ -28,7 +28,7 @@ class Source:
         clauses = definitions['table'].clauses
         self.rules = [self.rule_of(clause) for clause in clauses]
         self.refuse_doubles(clauses)
-        self.evaluator = antt.Evaluator(definitions, constructors)
+        self.evaluator = antt.Evaluator(definitions, constructors, self.rules)
         self.comments = {k: c.comment for k, c in zip(self.rules, clauses)}
         self.lines = {k: c.line for k, c in zip(self.rules, clauses)}
         self.table = {k: self.form(c) for k, c in zip(self.rules, clauses)}

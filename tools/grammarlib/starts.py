@@ -72,7 +72,7 @@ class Starts:
         if kind == 'rest_after':
             return lookaheads.mark_first_set(form[1])
         if kind == 'lifetime':
-            return [('Punctuation', "'")]
+            return [('Punctuation', lookaheads.lifetime_mark)]
         if kind == '&':
             return self.first_set(form[1]) + (self.first_set(form[2]) if self.nullable(form[1]) else [])
         if kind == 'when':

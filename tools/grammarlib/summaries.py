@@ -96,7 +96,7 @@ class Summaries:
         return summary
 
     def lifetime_summary(self, form, told):
-        return Summary([('Punctuation', "'")])
+        return Summary([('Punctuation', self.lookaheads.lifetime_mark)])
 
     def when_summary(self, form, told):
         asked = told or mentions_fact(form[1])

@@ -2,11 +2,20 @@
 -- What each rule reads is what its form reads.
 use Rattle.std.specs.Prelude.{◌≡◌}
 use Rattle.syn_grammar.specs.Tokens.{Stream}
-use Rattle.syn_grammar.specs.Rules.{module_path, module_words, visibility, restriction, type_path, type, unnamed_field, unnamed_fields, fields_unnamed, structure_body, structure, derive_input}
+use Rattle.syn_grammar.specs.Rules.{attributes, meta, meta_value, module_path, module_words, visibility, restriction, type_path, type_words, type_arguments, more_type_words, return_type, generic_arguments, generic_argument, qualified_path, type, types, expression, generics, lifetime_parameter, lifetimes, parameter_bounds, bound, trait_bound, bound_lifetimes, lifetime_parameters, where_clause, predicates, predicate, predicate_bounds, fields_named, named_fields, named_field, nameless_type, unnamed_field, unnamed_fields, fields_unnamed, variant, variants, structure, structure_rest, structure_body, enumeration, enumeration_rest, union_item, union_item_rest, derive_input, plain_type_path, plain_type, plain_unnamed_field, plain_unnamed_fields, plain_fields_unnamed, plain_structure_body, plain_structure, plain_derive_input}
 use Rattle.syn_grammar.specs.Grammar.{Node}
 use Rattle.syn_grammar.specs.Table.{table}
 use Rattle.syn_grammar.specs.Run.{wrap, parse_rule, parse_form}
 use Rattle.syn_grammar.proofs.Run.{parse_rule_is}
+
+pub attributes_is : (ts : Stream) → parse_rule attributes ts ≡ wrap Node (parse_form (table attributes) ts)
+attributes_is = parse_rule_is attributes
+
+pub meta_is : (ts : Stream) → parse_rule meta ts ≡ wrap Node (parse_form (table meta) ts)
+meta_is = parse_rule_is meta
+
+pub meta_value_is : (ts : Stream) → parse_rule meta_value ts ≡ wrap Node (parse_form (table meta_value) ts)
+meta_value_is = parse_rule_is meta_value
 
 pub module_path_is : (ts : Stream) → parse_rule module_path ts ≡ wrap Node (parse_form (table module_path) ts)
 module_path_is = parse_rule_is module_path
@@ -23,8 +32,83 @@ restriction_is = parse_rule_is restriction
 pub type_path_is : (ts : Stream) → parse_rule type_path ts ≡ wrap Node (parse_form (table type_path) ts)
 type_path_is = parse_rule_is type_path
 
+pub type_words_is : (ts : Stream) → parse_rule type_words ts ≡ wrap Node (parse_form (table type_words) ts)
+type_words_is = parse_rule_is type_words
+
+pub type_arguments_is : (ts : Stream) → parse_rule type_arguments ts ≡ wrap Node (parse_form (table type_arguments) ts)
+type_arguments_is = parse_rule_is type_arguments
+
+pub more_type_words_is : (ts : Stream) → parse_rule more_type_words ts ≡ wrap Node (parse_form (table more_type_words) ts)
+more_type_words_is = parse_rule_is more_type_words
+
+pub return_type_is : (ts : Stream) → parse_rule return_type ts ≡ wrap Node (parse_form (table return_type) ts)
+return_type_is = parse_rule_is return_type
+
+pub generic_arguments_is : (ts : Stream) → parse_rule generic_arguments ts ≡ wrap Node (parse_form (table generic_arguments) ts)
+generic_arguments_is = parse_rule_is generic_arguments
+
+pub generic_argument_is : (ts : Stream) → parse_rule generic_argument ts ≡ wrap Node (parse_form (table generic_argument) ts)
+generic_argument_is = parse_rule_is generic_argument
+
+pub qualified_path_is : (ts : Stream) → parse_rule qualified_path ts ≡ wrap Node (parse_form (table qualified_path) ts)
+qualified_path_is = parse_rule_is qualified_path
+
 pub type_is : (ts : Stream) → parse_rule type ts ≡ wrap Node (parse_form (table type) ts)
 type_is = parse_rule_is type
+
+pub types_is : (ts : Stream) → parse_rule types ts ≡ wrap Node (parse_form (table types) ts)
+types_is = parse_rule_is types
+
+pub expression_is : (ts : Stream) → parse_rule expression ts ≡ wrap Node (parse_form (table expression) ts)
+expression_is = parse_rule_is expression
+
+pub generics_is : (ts : Stream) → parse_rule generics ts ≡ wrap Node (parse_form (table generics) ts)
+generics_is = parse_rule_is generics
+
+pub lifetime_parameter_is : (ts : Stream) → parse_rule lifetime_parameter ts ≡ wrap Node (parse_form (table lifetime_parameter) ts)
+lifetime_parameter_is = parse_rule_is lifetime_parameter
+
+pub lifetimes_is : (ts : Stream) → parse_rule lifetimes ts ≡ wrap Node (parse_form (table lifetimes) ts)
+lifetimes_is = parse_rule_is lifetimes
+
+pub parameter_bounds_is : (ts : Stream) → parse_rule parameter_bounds ts ≡ wrap Node (parse_form (table parameter_bounds) ts)
+parameter_bounds_is = parse_rule_is parameter_bounds
+
+pub bound_is : (ts : Stream) → parse_rule bound ts ≡ wrap Node (parse_form (table bound) ts)
+bound_is = parse_rule_is bound
+
+pub trait_bound_is : (ts : Stream) → parse_rule trait_bound ts ≡ wrap Node (parse_form (table trait_bound) ts)
+trait_bound_is = parse_rule_is trait_bound
+
+pub bound_lifetimes_is : (ts : Stream) → parse_rule bound_lifetimes ts ≡ wrap Node (parse_form (table bound_lifetimes) ts)
+bound_lifetimes_is = parse_rule_is bound_lifetimes
+
+pub lifetime_parameters_is : (ts : Stream) → parse_rule lifetime_parameters ts ≡ wrap Node (parse_form (table lifetime_parameters) ts)
+lifetime_parameters_is = parse_rule_is lifetime_parameters
+
+pub where_clause_is : (ts : Stream) → parse_rule where_clause ts ≡ wrap Node (parse_form (table where_clause) ts)
+where_clause_is = parse_rule_is where_clause
+
+pub predicates_is : (ts : Stream) → parse_rule predicates ts ≡ wrap Node (parse_form (table predicates) ts)
+predicates_is = parse_rule_is predicates
+
+pub predicate_is : (ts : Stream) → parse_rule predicate ts ≡ wrap Node (parse_form (table predicate) ts)
+predicate_is = parse_rule_is predicate
+
+pub predicate_bounds_is : (ts : Stream) → parse_rule predicate_bounds ts ≡ wrap Node (parse_form (table predicate_bounds) ts)
+predicate_bounds_is = parse_rule_is predicate_bounds
+
+pub fields_named_is : (ts : Stream) → parse_rule fields_named ts ≡ wrap Node (parse_form (table fields_named) ts)
+fields_named_is = parse_rule_is fields_named
+
+pub named_fields_is : (ts : Stream) → parse_rule named_fields ts ≡ wrap Node (parse_form (table named_fields) ts)
+named_fields_is = parse_rule_is named_fields
+
+pub named_field_is : (ts : Stream) → parse_rule named_field ts ≡ wrap Node (parse_form (table named_field) ts)
+named_field_is = parse_rule_is named_field
+
+pub nameless_type_is : (ts : Stream) → parse_rule nameless_type ts ≡ wrap Node (parse_form (table nameless_type) ts)
+nameless_type_is = parse_rule_is nameless_type
 
 pub unnamed_field_is : (ts : Stream) → parse_rule unnamed_field ts ≡ wrap Node (parse_form (table unnamed_field) ts)
 unnamed_field_is = parse_rule_is unnamed_field
@@ -35,11 +119,56 @@ unnamed_fields_is = parse_rule_is unnamed_fields
 pub fields_unnamed_is : (ts : Stream) → parse_rule fields_unnamed ts ≡ wrap Node (parse_form (table fields_unnamed) ts)
 fields_unnamed_is = parse_rule_is fields_unnamed
 
-pub structure_body_is : (ts : Stream) → parse_rule structure_body ts ≡ wrap Node (parse_form (table structure_body) ts)
-structure_body_is = parse_rule_is structure_body
+pub variant_is : (ts : Stream) → parse_rule variant ts ≡ wrap Node (parse_form (table variant) ts)
+variant_is = parse_rule_is variant
+
+pub variants_is : (ts : Stream) → parse_rule variants ts ≡ wrap Node (parse_form (table variants) ts)
+variants_is = parse_rule_is variants
 
 pub structure_is : (ts : Stream) → parse_rule structure ts ≡ wrap Node (parse_form (table structure) ts)
 structure_is = parse_rule_is structure
 
+pub structure_rest_is : (ts : Stream) → parse_rule structure_rest ts ≡ wrap Node (parse_form (table structure_rest) ts)
+structure_rest_is = parse_rule_is structure_rest
+
+pub structure_body_is : (ts : Stream) → parse_rule structure_body ts ≡ wrap Node (parse_form (table structure_body) ts)
+structure_body_is = parse_rule_is structure_body
+
+pub enumeration_is : (ts : Stream) → parse_rule enumeration ts ≡ wrap Node (parse_form (table enumeration) ts)
+enumeration_is = parse_rule_is enumeration
+
+pub enumeration_rest_is : (ts : Stream) → parse_rule enumeration_rest ts ≡ wrap Node (parse_form (table enumeration_rest) ts)
+enumeration_rest_is = parse_rule_is enumeration_rest
+
+pub union_item_is : (ts : Stream) → parse_rule union_item ts ≡ wrap Node (parse_form (table union_item) ts)
+union_item_is = parse_rule_is union_item
+
+pub union_item_rest_is : (ts : Stream) → parse_rule union_item_rest ts ≡ wrap Node (parse_form (table union_item_rest) ts)
+union_item_rest_is = parse_rule_is union_item_rest
+
 pub derive_input_is : (ts : Stream) → parse_rule derive_input ts ≡ wrap Node (parse_form (table derive_input) ts)
 derive_input_is = parse_rule_is derive_input
+
+pub plain_type_path_is : (ts : Stream) → parse_rule plain_type_path ts ≡ wrap Node (parse_form (table plain_type_path) ts)
+plain_type_path_is = parse_rule_is plain_type_path
+
+pub plain_type_is : (ts : Stream) → parse_rule plain_type ts ≡ wrap Node (parse_form (table plain_type) ts)
+plain_type_is = parse_rule_is plain_type
+
+pub plain_unnamed_field_is : (ts : Stream) → parse_rule plain_unnamed_field ts ≡ wrap Node (parse_form (table plain_unnamed_field) ts)
+plain_unnamed_field_is = parse_rule_is plain_unnamed_field
+
+pub plain_unnamed_fields_is : (ts : Stream) → parse_rule plain_unnamed_fields ts ≡ wrap Node (parse_form (table plain_unnamed_fields) ts)
+plain_unnamed_fields_is = parse_rule_is plain_unnamed_fields
+
+pub plain_fields_unnamed_is : (ts : Stream) → parse_rule plain_fields_unnamed ts ≡ wrap Node (parse_form (table plain_fields_unnamed) ts)
+plain_fields_unnamed_is = parse_rule_is plain_fields_unnamed
+
+pub plain_structure_body_is : (ts : Stream) → parse_rule plain_structure_body ts ≡ wrap Node (parse_form (table plain_structure_body) ts)
+plain_structure_body_is = parse_rule_is plain_structure_body
+
+pub plain_structure_is : (ts : Stream) → parse_rule plain_structure ts ≡ wrap Node (parse_form (table plain_structure) ts)
+plain_structure_is = parse_rule_is plain_structure
+
+pub plain_derive_input_is : (ts : Stream) → parse_rule plain_derive_input ts ≡ wrap Node (parse_form (table plain_derive_input) ts)
+plain_derive_input_is = parse_rule_is plain_derive_input

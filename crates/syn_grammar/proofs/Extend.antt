@@ -1,13 +1,12 @@
 -- What was read is read again, as the same tree, before another rest with the same lookahead; closed forms before any rest.
 use Rattle.std.proofs.Common.{◌≡◌, ℕ, Bool, true, false, List, [], ◌∷◌, refl, sym, ap, ◌∙◌, subst, true≢false, ◌⊎◌, inl, inr}
-use Rattle.syn_grammar.specs.Words.{long_marks}
 use Rattle.syn_grammar.specs.Tokens.{Stream, end, leaf, ident, punct, group, ◌⧺◌, and, or, Terminal, Punctuation, mem, answers, asked, lookahead, stands, char_terminal, punctuation_facts, punctuation_lookahead, Look, Lookahead, lookahead_with, is_ended}
 use Rattle.syn_grammar.specs.Rules.{Rule}
 use Rattle.syn_grammar.specs.RuleNumbers.{same_rule}
 use Rattle.syn_grammar.specs.Grammar.{Syntax, Nothing, Token, Mark, Lifetime, Both, Left, Right, Node, Vanishing, Group, Raw, Rest, Case, Captured, Unshown, Impl, Done, Last, More, Order, Such, Spelled, DerivesPrefix, Grammar, empty, token, mark, lifetime, ◌&◌, when◌then◌else◌, vanishing, inside, raw, rest_after, either, one_of, rule, such, captured, unshown, supplied, generics_before, opt_generics, row, ordered, choose, among, at_unnamed, at_row_end, at_row_comma, Shaped, shaped}
 use Rattle.syn_grammar.proofs.RuleLemmas.{same_rule_eq}
 use Rattle.syn_grammar.proofs.Sets.{or_split, and_left, and_right, same_terminal_eq}
-use Rattle.syn_grammar.proofs.FirstSets.{beginning, char_start}
+use Rattle.syn_grammar.proofs.FirstSets.{beginning, long_signs, char_start}
 use Rattle.syn_grammar.proofs.Streams.{append_append, append_end, same_before, lookahead_same, lookahead_end, spelled_alone, quiet, silent_fact}
 
 module _ (table : Rule → Grammar) where
@@ -141,7 +140,7 @@ module _ (said : Rule → Bool) where
 
   -- its last token looks the same whatever follows: `;`, or a group
   abbrev pub closes : Grammar → Bool
-  closes (mark b (c ∷ [])) = and (none_of (beginning c long_marks)) (quiet (Punctuation (c ∷ [])))
+  closes (mark b (c ∷ [])) = and (none_of (beginning c long_signs)) (quiet (Punctuation (c ∷ [])))
   closes (inside d g) = true
   closes (raw d) = true
   closes (g & h) = closes h
@@ -168,8 +167,8 @@ module _ (said : Rule → Bool) where
         go (inl q) ih = ap said (same_rule_eq k l q) ∙ and_left (said l) _ w
         go (inr q) ih = ih q (and_right (said l) _ w)
 
-    lone_terminal : (c : ℕ) (j : Bool) (f : Terminal) → none_of (beginning c long_marks) ≡ true → char_terminal c j f ≡ Punctuation (c ∷ [])
-    lone_terminal c j f w = go (beginning c long_marks) w (char_start c j f)
+    lone_terminal : (c : ℕ) (j : Bool) (f : Terminal) → none_of (beginning c long_signs) ≡ true → char_terminal c j f ≡ Punctuation (c ∷ [])
+    lone_terminal c j f w = go (beginning c long_signs) w (char_start c j f)
       where
         go : (l : List Terminal) → none_of l ≡ true → mem (char_terminal c j f) (Punctuation (c ∷ []) ∷ l) ≡ true → char_terminal c j f ≡ Punctuation (c ∷ [])
         go [] w h = same_terminal_eq (char_terminal c j f) (Punctuation (c ∷ [])) (only _ h)
@@ -179,9 +178,9 @@ module _ (said : Rule → Bool) where
             only false e = e
         go (x ∷ l) w h = absurd (true≢false (sym w))
 
-    lone_lookahead : (c : ℕ) (j : Bool) (f : Lookahead) → and (none_of (beginning c long_marks)) (quiet (Punctuation (c ∷ []))) ≡ true → punctuation_lookahead c j f ≡ lookahead_with (Punctuation (c ∷ [])) []
+    lone_lookahead : (c : ℕ) (j : Bool) (f : Lookahead) → and (none_of (beginning c long_signs)) (quiet (Punctuation (c ∷ []))) ≡ true → punctuation_lookahead c j f ≡ lookahead_with (Punctuation (c ∷ [])) []
     lone_lookahead c j f w =
-        ap (λ z. lookahead_with z (punctuation_facts c z f)) (lone_terminal c j f.terminal (and_left (none_of (beginning c long_marks)) _ w)) ∙ ap (lookahead_with (Punctuation (c ∷ []))) (silent_fact (asked (Punctuation (c ∷ []))) f (and_right (none_of (beginning c long_marks)) _ w))
+        ap (λ z. lookahead_with z (punctuation_facts c z f)) (lone_terminal c j f.terminal (and_left (none_of (beginning c long_signs)) _ w)) ∙ ap (lookahead_with (Punctuation (c ∷ []))) (silent_fact (asked (Punctuation (c ∷ []))) f (and_right (none_of (beginning c long_signs)) _ w))
 
     pub alone : (g : Grammar) (s : Syntax) (ts r : Stream) → closes g ≡ true → DerivesPrefix table g s ts r → Alone g s ts r
     alone (mark b (p ∷ [])) (Mark (x ∷ [])) ts r w (e, h) =

@@ -1,8 +1,8 @@
 -- What a form may begin with.
 use Rattle.std.proofs.Common.{◌≡◌, ℕ, Bool, true, false, List, [], ◌∷◌, ◌++◌, nat_eq, refl, sym, ap, ◌∙◌, ap₂, subst, true≢false, ◌⊎◌, inl, inr, map}
 use Rattle.std.proofs.lemmas.Bool.{eqb-true, eq-eqb}
-use Rattle.syn_grammar.specs.Words.{Text, long_marks, keywords, contextual, colon, comma, less, apostrophe}
-use Rattle.syn_grammar.specs.Tokens.{Span, Delimiter, Stream, leaf, punct, ident, lookahead_with, punctuation_lookahead, facts_for, asked, Name, Word, one_of_texts, same_text, is_name, or, and, no, pick, begins_text, Terminal, Punctuation, Delimited, same_terminal, mem, Look, Lookahead, answers, lookahead, longest, join, char_terminal}
+use Rattle.syn_grammar.specs.Words.{Text, long_marks, lifetime_mark, keywords, contextual, colon, comma, less}
+use Rattle.syn_grammar.specs.Tokens.{Span, Delimiter, Stream, leaf, punct, ident, lookahead_with, punctuation_lookahead, facts_for, asked, Name, Word, one_of_texts, same_text, is_name, or, and, no, pick, begins_text, Terminal, Punctuation, Delimited, same_terminal, mem, Look, Lookahead, answers, lookahead, longest, before_identifier, join, char_terminal}
 use Rattle.syn_grammar.specs.Rules.{Rule}
 use Rattle.syn_grammar.specs.RuleNumbers.{same_rule}
 use Rattle.syn_grammar.specs.Grammar.{Syntax, Nothing, Token, Mark, Lifetime, Both, Left, Right, Node, Vanishing, Group, Raw, Rest, Case, Captured, Unshown, Impl, Done, Last, More, Order, Such, chars, Spelled, DerivesPrefix, name, terminals, Grammar, empty, token, mark, lifetime, ◌&◌, when◌then◌else◌, vanishing, inside, raw, rest_after, either, one_of, rule, such, captured, unshown, supplied, generics_before, row, ordered, choose, among, suits, Shaped, shaped}
@@ -14,8 +14,12 @@ abbrev pub beginning : ℕ → List Text → List Terminal
 beginning c [] = []
 beginning c (m ∷ l) = pick (begins_text (c ∷ []) m) (Punctuation m ∷ beginning c l) (beginning c l)
 
+-- the marks of more than one character that a sign may be seen as, and a lifetime
+abbrev pub long_signs : List Text
+long_signs = lifetime_mark ∷ long_marks
+
 abbrev pub starts : ℕ → List Terminal
-starts c = Punctuation (c ∷ []) ∷ beginning c long_marks
+starts c = Punctuation (c ∷ []) ∷ beginning c long_signs
 
 abbrev pub mark_first_set : Text → List Terminal
 mark_first_set [] = []
@@ -28,30 +32,40 @@ full_marks [] = true
 full_marks ([] ∷ l) = false
 full_marks ((x ∷ m) ∷ l) = full_marks l
 
+-- it is among more of them, too
+skip : (c : ℕ) (m : Text) (ms : List Text) (v : Bool) (f : Terminal) → mem f (Punctuation (c ∷ []) ∷ beginning c ms) ≡ true → mem f (Punctuation (c ∷ []) ∷ pick v (Punctuation m ∷ beginning c ms) (beginning c ms)) ≡ true
+skip c m ms false f e = e
+skip c m ms true f e = place (or_split (same_terminal f (Punctuation (c ∷ []))) (mem f (beginning c ms)) e)
+  where
+    place : (same_terminal f (Punctuation (c ∷ [])) ≡ true) ⊎ (mem f (beginning c ms) ≡ true) → mem f (Punctuation (c ∷ []) ∷ Punctuation m ∷ beginning c ms) ≡ true
+    place (inl q) = or_left (same_terminal f (Punctuation (c ∷ []))) _ q
+    place (inr q) = or_right (same_terminal f (Punctuation (c ∷ []))) _ (or_right (same_terminal f (Punctuation m)) _ q)
+
 longest_mem : (c : ℕ) (ms : List Text) (l : Text) → full_marks ms ≡ true → mem (Punctuation (longest ms (c ∷ l) (c ∷ []))) (Punctuation (c ∷ []) ∷ beginning c ms) ≡ true
 longest_mem c [] l w = mem_here (Punctuation (c ∷ [])) []
 longest_mem c ([] ∷ ms) l w = absurd (true≢false (sym w))
 longest_mem c ((x ∷ m) ∷ ms) l w = go (and (nat_eq x c) (begins_text m l)) refl (longest_mem c ms l w)
   where
-    skip : (v : Bool) (f : Terminal) → mem f (Punctuation (c ∷ []) ∷ beginning c ms) ≡ true → mem f (Punctuation (c ∷ []) ∷ pick v (Punctuation (x ∷ m) ∷ beginning c ms) (beginning c ms)) ≡ true
-    skip false f e = e
-    skip true f e = place (or_split (same_terminal f (Punctuation (c ∷ []))) (mem f (beginning c ms)) e)
-      where
-        place : (same_terminal f (Punctuation (c ∷ [])) ≡ true) ⊎ (mem f (beginning c ms) ≡ true) → mem f (Punctuation (c ∷ []) ∷ Punctuation (x ∷ m) ∷ beginning c ms) ≡ true
-        place (inl q) = or_left (same_terminal f (Punctuation (c ∷ []))) _ q
-        place (inr q) = or_right (same_terminal f (Punctuation (c ∷ []))) _ (or_right (same_terminal f (Punctuation (x ∷ m))) _ q)
-
     go : (v : Bool) → and (nat_eq x c) (begins_text m l) ≡ v → mem (Punctuation (longest ms (c ∷ l) (c ∷ []))) (Punctuation (c ∷ []) ∷ beginning c ms) ≡ true →
         mem (Punctuation (pick v (x ∷ m) (longest ms (c ∷ l) (c ∷ [])))) (Punctuation (c ∷ []) ∷ beginning c ((x ∷ m) ∷ ms)) ≡ true
     go true e ih =
         let q : c ≡ x = sym (eqb-true x c (and_left (nat_eq x c) _ e)) in
         or_right (same_terminal (Punctuation (x ∷ m)) (Punctuation (c ∷ []))) _ (subst (λ v. mem (Punctuation (x ∷ m)) (pick (and v true) (Punctuation (x ∷ m) ∷ beginning c ms) (beginning c ms)) ≡ true) (sym (eq-eqb c x q)) (mem_here (Punctuation (x ∷ m)) (beginning c ms)))
-    go false e ih = skip (begins_text (c ∷ []) (x ∷ m)) (Punctuation (longest ms (c ∷ l) (c ∷ []))) ih
+    go false e ih = skip c (x ∷ m) ms (begins_text (c ∷ []) (x ∷ m)) (Punctuation (longest ms (c ∷ l) (c ∷ []))) ih
+
+identifier_start : (c : ℕ) → mem (before_identifier c) (starts c) ≡ true
+identifier_start c = go (nat_eq c 39)
+  where
+    go : (v : Bool) → mem (Punctuation (pick v lifetime_mark (c ∷ []))) (Punctuation (c ∷ []) ∷ pick (and v true) (Punctuation lifetime_mark ∷ beginning c long_marks) (beginning c long_marks)) ≡ true
+    go true = or_right (same_terminal (Punctuation lifetime_mark) (Punctuation (c ∷ []))) _ (mem_here (Punctuation lifetime_mark) (beginning c long_marks))
+    go false = mem_here (Punctuation (c ∷ [])) (beginning c long_marks)
 
 pub char_start : (c : ℕ) (j : Bool) (f : Terminal) → mem (char_terminal c j f) (starts c) ≡ true
-char_start c false f = mem_here (Punctuation (c ∷ [])) (beginning c long_marks)
-char_start c true (Punctuation l) = longest_mem c long_marks l refl
-char_start c true _ = mem_here (Punctuation (c ∷ [])) (beginning c long_marks)
+char_start c false f = mem_here (Punctuation (c ∷ [])) (beginning c long_signs)
+char_start c true (Punctuation l) = skip c lifetime_mark long_marks (begins_text (c ∷ []) lifetime_mark) (Punctuation (longest long_marks (c ∷ l) (c ∷ []))) (longest_mem c long_marks l refl)
+char_start c true Name = identifier_start c
+char_start c true (Word x) = identifier_start c
+char_start c true _ = mem_here (Punctuation (c ∷ [])) (beginning c long_signs)
 
 pub mem_map : (f : Terminal → Terminal) (a : Terminal) (l : List Terminal) → mem a l ≡ true → mem (f a) (map f l) ≡ true
 mem_map f a [] e = absurd (true≢false (sym e))
@@ -86,11 +100,11 @@ mem_keep f c l h e = mem_those f.terminal (may c) l (may_of c f h) e
 pub mem_leave : (f : Lookahead) (c : Look) (l : List Terminal) → answers c f ≡ false → mem f.terminal l ≡ true → mem f.terminal (leave c l) ≡ true
 mem_leave f c l h e = mem_those f.terminal (λ f. no (must c f)) l (must_not_of c f h) e
 
--- a lifetime's lookahead is its sign, whatever follows
-pub lifetime_lookahead : (sp : Span) (x : Text) (sq : Span) (r : Stream) → lookahead (punct 39 true sp (leaf (ident x) sq r)) ≡ lookahead_with (Punctuation apostrophe) []
+-- a lifetime's lookahead is the same, whatever its identifier and what follows
+pub lifetime_lookahead : (sp : Span) (x : Text) (sq : Span) (r : Stream) → lookahead (punct 39 true sp (leaf (ident x) sq r)) ≡ lookahead_with (Punctuation lifetime_mark) []
 lifetime_lookahead sp x sq r = go (one_of_texts x (keywords ++ contextual))
   where
-    go : (b : Bool) → punctuation_lookahead 39 true (lookahead_with (pick b (Word x) Name) (facts_for (asked (pick b (Word x) Name)) (lookahead r))) ≡ lookahead_with (Punctuation apostrophe) []
+    go : (b : Bool) → punctuation_lookahead 39 true (lookahead_with (pick b (Word x) Name) (facts_for (asked (pick b (Word x) Name)) (lookahead r))) ≡ lookahead_with (Punctuation lifetime_mark) []
     go true = refl
     go false = refl
 
@@ -139,7 +153,7 @@ module _ (said : Rule → Start) where
   first_set empty = []
   first_set (token b k) = terminals k
   first_set (mark b cs) = mark_first_set cs
-  first_set lifetime = Punctuation apostrophe ∷ []
+  first_set lifetime = Punctuation lifetime_mark ∷ []
   first_set (g & h) = first_set g ++ pick (nullable g) (first_set h) []
   first_set (when c then g else h) = keep c (first_set g) ++ leave c (first_set h)
   first_set (vanishing b c g) = keep c (first_set g) ++ []
@@ -194,7 +208,7 @@ module _ (said : Rule → Start) where
     begins empty Nothing ts r h = inr (refl, h)
     begins (token b k) (Token x sp) ts r h = inl (ap (λ t. mem (lookahead t).terminal (terminals k)) h.1 ∙ and_right (suits k x) _ h.0)
     begins (mark b cs) (Mark xs) ts r h = inl (ap (λ l. mem (lookahead ts).terminal (mark_first_set l)) (sym h.0) ∙ mark_head xs ts r h.1)
-    begins lifetime (Lifetime sp x sq) ts r h = inl (ap (λ t. mem (lookahead t).terminal (Punctuation apostrophe ∷ [])) h ∙ ap (λ z. mem z.terminal (Punctuation apostrophe ∷ [])) (lifetime_lookahead sp x sq r))
+    begins lifetime (Lifetime sp x sq) ts r h = inl (ap (λ t. mem (lookahead t).terminal (Punctuation lifetime_mark ∷ [])) h ∙ ap (λ z. mem z.terminal (Punctuation lifetime_mark ∷ [])) (lifetime_lookahead sp x sq r))
     begins (g & h) (Both s t) ts r (m, a, b) = go (begins g s ts m a) (begins h t m r b)
       where
         go : Begins g ts m → Begins h m r → Begins (g & h) ts r

@@ -1,11 +1,11 @@
 -- What stands next is told by what can be taken there.
 use Rattle.std.proofs.Common.{◌≡◌, ℕ, Bool, true, false, List, [], ◌∷◌, ◌++◌, map, nat_eq, Option, Some, None, ◌⊎◌, inl, inr, refl, sym, ap, ap₂, ◌∙◌, subst, true≢false}
 use Rattle.std.proofs.lemmas.Bool.{eqb-true, eq-eqb}
-use Rattle.syn_grammar.specs.Words.{Text, keywords, contextual, long_marks}
-use Rattle.syn_grammar.specs.Tokens.{Span, Delimiter, LitKind, kind_number, Leaf, ident, literal, Stream, end, leaf, punct, group, and, or, no, pick, same_text, one_of_texts, begins_text, Terminal, Name, Word, Punctuation, Literal, mem, is_ended, is_group, is_name, is_word, is_literal, starts_mark, leaf_terminal, char_terminal, longest, Look, ended, at_name, at_word, at_mark, at_literal, at_group, ◌or_else◌, ◌and_also◌, ◌but_not◌, lookahead}
-use Rattle.syn_grammar.specs.Grammar.{name, word, literal_of, terminals, Token}
-use Rattle.syn_grammar.specs.Take.{only, is_end, lookahead_at, sees, take_token, Chars, add_char, take_chars, marked, take_mark, take_group, same_delimiter, taken}
-use Rattle.syn_grammar.proofs.Sets.{and_left, and_right, or_split, same_text_eq}
+use Rattle.syn_grammar.specs.Words.{Text, keywords, contextual, long_marks, lifetime_mark}
+use Rattle.syn_grammar.specs.Tokens.{Span, Delimiter, LitKind, kind_number, Leaf, ident, literal, Stream, end, leaf, punct, group, and, or, no, pick, same_text, one_of_texts, begins_text, Terminal, Name, Word, Punctuation, Literal, mem, is_ended, is_group, is_name, is_word, is_literal, starts_mark, leaf_terminal, before_identifier, join, char_terminal, longest, Look, ended, at_name, at_word, at_mark, at_literal, at_group, at_lifetime, ◌or_else◌, ◌and_also◌, ◌but_not◌, lookahead}
+use Rattle.syn_grammar.specs.Grammar.{name, word, literal_of, terminals, Token, Lifetime}
+use Rattle.syn_grammar.specs.Take.{only, is_end, lookahead_at, sees, take_token, Chars, add_char, take_chars, marked, take_mark, take_lifetime, take_group, same_delimiter, taken}
+use Rattle.syn_grammar.proofs.Sets.{and_left, and_right, no_true, or_split, same_text_eq}
 use Rattle.syn_grammar.proofs.Streams.{lookahead_end}
 use Rattle.syn_grammar.proofs.Takes.{TreeAndRest}
 
@@ -208,25 +208,54 @@ first_of_longest c d ((x ∷ m) ∷ ms) y w = go (first_of_longest c d ms y w) (
     go ih true e = and_true (nat_eq c x) ∙ ap (nat_eq c) (eqb-true x d (and_left (nat_eq x d) _ e))
     go ih false e = ih
 
+one_before : (c d : ℕ) → starts_mark (c ∷ []) (before_identifier d) ≡ nat_eq c d
+one_before c d = go (nat_eq d 39) refl
+  where
+    go : (v : Bool) → nat_eq d 39 ≡ v → begins_text (c ∷ []) (pick v lifetime_mark (d ∷ [])) ≡ nat_eq c d
+    go true e = and_true (nat_eq c 39) ∙ ap (nat_eq c) (sym (eqb-true d 39 e))
+    go false e = and_true (nat_eq c d)
+
 one_char : (c d : ℕ) (j : Bool) (f : Terminal) → starts_mark (c ∷ []) (char_terminal d j f) ≡ nat_eq c d
 one_char c d false f = and_true (nat_eq c d)
 one_char c d true (Punctuation l) = first_of_longest c d long_marks l refl
+one_char c d true Name = one_before c d
+one_char c d true (Word x) = one_before c d
 one_char c d true _ = and_true (nat_eq c d)
+
+and_off : (b : Bool) → and b false ≡ false
+and_off true = refl
+and_off false = refl
+
+-- a mark of the list isn't how a lifetime is seen
+unlike_lifetime : (c e : ℕ) (l : Text) → reaches (c ∷ e ∷ l) long_marks ≡ true → begins_text (c ∷ e ∷ l) lifetime_mark ≡ false
+unlike_lifetime c e l w = go (begins_text (c ∷ e ∷ l) lifetime_mark) refl
+  where
+    begun : (l : Text) → begins_text l [] ≡ true → l ≡ []
+    begun [] h = refl
+    begun (x ∷ l) h = absurd (true≢false (sym h))
+
+    go : (v : Bool) → begins_text (c ∷ e ∷ l) lifetime_mark ≡ v → v ≡ false
+    go false h = refl
+    go true h =
+        let t = and_right (nat_eq c 39) _ h in
+        let m : c ∷ e ∷ l ≡ lifetime_mark = ap₂ ◌∷◌ (eqb-true c 39 (and_left (nat_eq c 39) _ h)) (ap₂ ◌∷◌ (eqb-true e 97 (and_left (nat_eq e 97) _ t)) (begun l (and_right (nat_eq e 97) _ t))) in
+        absurd (true≢false (sym w ∙ ap (λ x. reaches x long_marks) m))
+
+more_before : (c e d : ℕ) (l : Text) → reaches (c ∷ e ∷ l) long_marks ≡ true → starts_mark (c ∷ e ∷ l) (before_identifier d) ≡ and (nat_eq c d) false
+more_before c e d l w = go (nat_eq d 39)
+  where
+    go : (v : Bool) → begins_text (c ∷ e ∷ l) (pick v lifetime_mark (d ∷ [])) ≡ and (nat_eq c d) false
+    go true = unlike_lifetime c e l w ∙ sym (and_off (nat_eq c d))
+    go false = refl
 
 -- of more: the first character is joined to the rest of the mark
 more_chars : (c e d : ℕ) (l : Text) (j : Bool) (f : Terminal) → reaches (c ∷ e ∷ l) long_marks ≡ true → starts_mark (c ∷ e ∷ l) (char_terminal d j f) ≡ and j (and (nat_eq c d) (starts_mark (e ∷ l) f))
 more_chars c e d l false f w = and_off (nat_eq c d)
-  where
-    and_off : (b : Bool) → and b false ≡ false
-    and_off true = refl
-    and_off false = refl
 more_chars c e d l true (Punctuation y) w =
     same_truth (begins_text (c ∷ e ∷ l) (longest long_marks (d ∷ y) (d ∷ []))) (and (nat_eq c d) (begins_text (e ∷ l) y))
-    (longest_is (c ∷ e ∷ l) long_marks (d ∷ y) (d ∷ []) (off (nat_eq c d))) (longest_begins (c ∷ e ∷ l) long_marks (d ∷ y) (d ∷ []) w)
-  where
-    off : (b : Bool) → and b false ≡ false
-    off true = refl
-    off false = refl
+    (longest_is (c ∷ e ∷ l) long_marks (d ∷ y) (d ∷ []) (and_off (nat_eq c d))) (longest_begins (c ∷ e ∷ l) long_marks (d ∷ y) (d ∷ []) w)
+more_chars c e d l true Name w = more_before c e d l w
+more_chars c e d l true (Word x) w = more_before c e d l w
 more_chars c e d l true _ w = refl
 
 taken_more : (d : ℕ) (sp : Span) (o : Chars) → taken (add_char d sp o) ≡ taken o
@@ -267,3 +296,38 @@ sees_mark cs w ts = sees_chars cs w ts ∙ of_marked (take_chars cs ts)
 
 pub sees_one : (c : ℕ) (ts : Stream) → sees (at_mark (c ∷ [])) ts ≡ taken (take_mark (c ∷ []) ts)
 sees_one c ts = sees_mark (c ∷ []) refl ts
+
+-- ---- of a lifetime
+abbrev none_begins : Text → List Text → Bool
+none_begins m [] = true
+none_begins m (x ∷ ms) = and (no (begins_text m x)) (none_begins m ms)
+
+longest_off : (m : Text) (ms : List Text) (t one : Text) → none_begins m ms ≡ true → begins_text m one ≡ false → begins_text m (longest ms t one) ≡ false
+longest_off m [] t one w e = e
+longest_off m (x ∷ ms) t one w e = go (begins_text x t) (longest_off m ms t one (and_right (no (begins_text m x)) _ w) e)
+  where
+    go : (b : Bool) → begins_text m (longest ms t one) ≡ false → begins_text m (pick b x (longest ms t one)) ≡ false
+    go true ih = no_true (begins_text m x) (and_left (no (begins_text m x)) _ w)
+    go false ih = ih
+
+-- a lifetime stands next where it can be taken: its `'` is joined to an identifier
+pub sees_lifetime : (ts : Stream) → sees at_lifetime ts ≡ taken (take_lifetime ts)
+unfolding sees lookahead_at take_lifetime
+sees_lifetime end = refl
+sees_lifetime (leaf x sp m) = leaf_mark lifetime_mark x
+sees_lifetime (group d o q i m) = refl
+sees_lifetime (punct c false sp m) = and_off (nat_eq 39 c)
+sees_lifetime (punct c true sp end) = and_off (nat_eq 39 c)
+sees_lifetime (punct c true sp (group d o q i m)) = and_off (nat_eq 39 c)
+sees_lifetime (punct c true sp (leaf (literal k x) sq m)) = and_off (nat_eq 39 c)
+sees_lifetime (punct c true sp (punct d j sq m)) =
+    not_punctuation (λ f. starts_mark lifetime_mark (join c f)) (λ l. longest_off lifetime_mark long_marks (c ∷ l) (c ∷ []) refl (and_off (nat_eq 39 c))) d j (lookahead m).terminal
+sees_lifetime (punct c true sp (leaf (ident x) sq m)) = go (one_of_texts x (keywords ++ contextual))
+  where
+    joined : (v : Bool) → nat_eq c 39 ≡ v → begins_text lifetime_mark (pick v lifetime_mark (c ∷ [])) ≡ taken {A = TreeAndRest} (only v (Some (Lifetime sp x sq, m)))
+    joined true e = refl
+    joined false e = and_off (nat_eq 39 c)
+
+    go : (b : Bool) → starts_mark lifetime_mark (join c (pick b (Word x) Name)) ≡ taken {A = TreeAndRest} (only (nat_eq c 39) (Some (Lifetime sp x sq, m)))
+    go true = joined (nat_eq c 39) refl
+    go false = joined (nat_eq c 39) refl

@@ -1,8 +1,8 @@
 -- How tokens and marks print: the lookahead that a token or a mark is seen with, and what it tells of what stands behind it.
-use Rattle.std.proofs.Common.{◌≡◌, ℕ, Bool, true, false, List, [], ◌∷◌, ◌++◌, refl, sym, ap, ◌∙◌, ap₂, subst, true≢false, ◌⊎◌, inl, inr}
-use Rattle.std.proofs.lemmas.Bool.{eq-eqb}
-use Rattle.syn_grammar.specs.Words.{Text}
-use Rattle.syn_grammar.specs.Tokens.{Span, Stream, or, and, no, pick, Terminal, Ended, Name, Word, Punctuation, Literal, Delimited, Lookahead, lookahead_with, Fact, same_fact, fact_number, has_fact, same_terminal, mem, Look, ended, at_name, at_word, at_mark, at_literal, at_group, ahead, ◌or_else◌, ◌and_also◌, ◌but_not◌, answers, Asked, facts_for, asked, join, char_terminal, lone_facts, punctuation_facts, punctuation_lookahead, lookahead}
+use Rattle.std.proofs.Common.{◌≡◌, ℕ, Bool, true, false, List, [], ◌∷◌, ◌++◌, nat_eq, refl, sym, ap, ◌∙◌, ap₂, subst, true≢false, ◌⊎◌, inl, inr}
+use Rattle.std.proofs.lemmas.Bool.{eqb-true, eq-eqb}
+use Rattle.syn_grammar.specs.Words.{Text, lifetime_mark}
+use Rattle.syn_grammar.specs.Tokens.{Span, Stream, or, and, no, pick, Terminal, Ended, Name, Word, Punctuation, Literal, Delimited, Lookahead, lookahead_with, Fact, same_fact, fact_number, has_fact, same_terminal, mem, Look, ended, at_name, at_word, at_mark, at_literal, at_group, ahead, ◌or_else◌, ◌and_also◌, ◌but_not◌, answers, Asked, facts_for, asked, before_identifier, join, char_terminal, lone_facts, punctuation_facts, punctuation_lookahead, lookahead}
 use Rattle.syn_grammar.specs.Grammar.{chars, spell, Spelled}
 use Rattle.syn_grammar.proofs.Sets.{or_left, or_split, and_left, and_right, true_or_false, mem_here, those, mem_those, same_terminal_eq, same_fact_eq, or_right}
 use Rattle.syn_grammar.proofs.Streams.{quiet, silent_fact}
@@ -153,13 +153,21 @@ told_facts (x ∷ y ∷ []) ts r f h q e A =
     go false g B = same_facts_for g B
     go true g B = at g.terminal refl
       where
+        -- a `'` asks nothing of what stands behind it
+        identifier : (g : Lookahead) → Agree (ahead_looks (asked (Punctuation (y.0 ∷ [])))) g f → lone_facts (before_identifier y.0) (punctuation_facts y.0 (before_identifier y.0) g) ≡ facts_for (asked (Punctuation (y.0 ∷ []))) f
+        identifier g B = of_punctuation (nat_eq y.0 39) refl
+          where
+            of_punctuation : (v : Bool) → nat_eq y.0 39 ≡ v → lone_facts (Punctuation (pick v lifetime_mark (y.0 ∷ []))) (punctuation_facts y.0 (Punctuation (pick v lifetime_mark (y.0 ∷ []))) g) ≡ facts_for (asked (Punctuation (y.0 ∷ []))) f
+            of_punctuation true i = ap (λ c. facts_for (asked (Punctuation (c ∷ []))) f) (sym (eqb-true y.0 39 i))
+            of_punctuation false i = same_facts_for g B
+
         at : (a : Terminal) → g.terminal ≡ a → lone_facts (join y.0 a) (punctuation_facts y.0 (join y.0 a) g) ≡ facts_for (asked (Punctuation (y.0 ∷ []))) f
         at (Punctuation l) i =
             let z : facts_for (asked (Punctuation (y.0 ∷ []))) g ≡ [] = ap (facts_for (asked (Punctuation (y.0 ∷ [])))) (ap (λ v. lookahead_with v g.facts) i) ∙ deaf_fact (asked (Punctuation (y.0 ∷ []))) l g.facts (and_right (same_terminal (mark_terminal (x.0 ∷ y.0 ∷ [])) (Punctuation (x.0 ∷ y.0 ∷ []))) _ q) in
             lone_still (join y.0 (Punctuation l)) y.0 g z ∙ sym z ∙ same_facts_for g B
         at Ended i = same_facts_for g B
-        at Name i = same_facts_for g B
-        at (Word l) i = same_facts_for g B
+        at Name i = identifier g B
+        at (Word l) i = identifier g B
         at (Literal k) i = same_facts_for g B
         at (Delimited d) i = same_facts_for g B
 told_facts (x ∷ y ∷ z ∷ l) ts r f h q e A = absurd (true≢false (sym q))

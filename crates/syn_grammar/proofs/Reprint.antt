@@ -1,6 +1,6 @@
 -- What is printed is read again, for every table whose summaries hold and whose forms are `fine`.
 use Rattle.std.proofs.Common.{◌≡◌, ℕ, Bool, true, false, List, [], ◌∷◌, ◌++◌, refl, sym, ap, ◌∙◌, ap₂, subst, true≢false, ◌⊎◌, inl, inr}
-use Rattle.syn_grammar.specs.Words.{colon, comma, less, greater, apostrophe}
+use Rattle.syn_grammar.specs.Words.{colon, comma, less, greater, lifetime_mark}
 use Rattle.syn_grammar.specs.Tokens.{Span, Stream, end, leaf, punct, group, ◌⧺◌, or, and, no, pick, Terminal, Ended, Punctuation, Delimited, Lookahead, lookahead_with, same_terminal, mem, Look, ended, at_mark, ◌or_else◌, answers, starts_mark, is_name, is_ended, asked, asked_inside, leaf_terminal, punctuation_lookahead, lookahead, stands, at_generics, at_parameter, Before_parameter, call_site}
 use Rattle.syn_grammar.specs.Rules.{Rule}
 use Rattle.syn_grammar.specs.Grammar.{Syntax, Nothing, Token, Mark, Lifetime, Both, Left, Right, Node, Vanishing, Group, Raw, Rest, Case, Captured, Done, Last, More, Order, Such, chars, spell, Spelled, DerivesPrefix, terminals, suits, Grammar, empty, token, mark, lifetime, ◌&◌, when◌then◌else◌, vanishing, inside, raw, rest_after, either, one_of, rule, such, captured, row, ordered, choose, among, at_row_end, bare, show, behind, sort, print, renew, name, supplied, at_unnamed, underscore, Unshown, Impl, unshown, generics_before, opt_generics, no_generics, Shaped, shaped, led_part, led}
@@ -24,7 +24,7 @@ module _ (said : Bool → Rule → Summary) (heard : Rule → Bool) (starts : Ru
   summary a (token k x) = token_summary (pick a k []) (terminals x)
   summary a (mark b cs) = mark_summary (and a b) cs []
   summary a (rest_after cs) = inner_summary true cs (ended ∷ [])
-  summary a lifetime = record { stays = Punctuation apostrophe ∷ []; moves = []; nullable = false; gone = []; ends = []; halts = []; shuns = [] }
+  summary a lifetime = record { stays = Punctuation lifetime_mark ∷ []; moves = []; nullable = false; gone = []; ends = []; halts = []; shuns = [] }
   summary a (g & h) = seq_summary (never_follow starts [] h) (summary a g) (summary (heeds a (summary a g)) h)
   summary a (when c then g else h) = when_summary c (summary (or a (mentions c)) g) (summary (or a (mentions c)) h)
   summary a (vanishing b c g) = vanishing_summary b c (summary (or a (mentions c)) g)
@@ -258,7 +258,7 @@ module _ (said : Bool → Rule → Summary) (heard : Rule → Bool) (starts : Ru
           ((h.0, spell_spelled xs ts r r' h.1), marked (and j b) cs [] xs ts r r' (lookahead r) (lookahead r') h.0 h.1 (agree_left (pick (and j b) (ahead_looks (last_asked cs)) []) [] (lookahead r) (lookahead r') R.alike_ends))
       again j lifetime (Lifetime sp x sq) ts r r' w h R = (
         refl,
-        alike (ap (λ z. mem z.terminal (Punctuation apostrophe ∷ [])) (ap lookahead h ∙ lifetime_lookahead sp x sq r)) (ap lookahead h ∙ lifetime_lookahead sp x sq r ∙ sym (lifetime_lookahead sp x sq r')),
+        alike (ap (λ z. mem z.terminal (Punctuation lifetime_mark ∷ [])) (ap lookahead h ∙ lifetime_lookahead sp x sq r)) (ap lookahead h ∙ lifetime_lookahead sp x sq r ∙ sym (lifetime_lookahead sp x sq r')),
       )
       again j (rest_after cs) (Rest xs i) ts r r' w (e, d, n, f) R =
           let z = lookahead_end r' (sym R.alike_ends.0 ∙ ap (λ v. is_ended (lookahead v).terminal) f) in

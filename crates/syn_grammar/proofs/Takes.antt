@@ -3,7 +3,7 @@
 use Rattle.std.proofs.Common.{◌≡◌, ℕ, ◌+◌, ◌-◌, ◌<◌, ◌≤◌, Bool, true, false, List, [], ◌∷◌, ◌++◌, nat_eq, Option, Some, None, refl, sym, ap, ◌∙◌, subst, true≢false, arith}
 use Rattle.std.specs.Prelude.{nat_lt}
 use Rattle.std.proofs.lemmas.Bool.{eqb-true, eq-eqb, ltb-true, lt-ltb}
-use Rattle.syn_grammar.specs.Words.{Text, keywords, contextual, apostrophe}
+use Rattle.syn_grammar.specs.Words.{Text, keywords, contextual, lifetime_mark}
 use Rattle.syn_grammar.specs.Tokens.{Span, Delimiter, delimiter_number, Leaf, ident, literal, Stream, end, leaf, punct, group, ◌⧺◌, weight, no, pick, one_of_texts, Name, Word, Punctuation, Delimited, join, mem, Look, answers, lookahead, stands, visible}
 use Rattle.syn_grammar.specs.Grammar.{Kind, terminals, suits, fits, underscore, Syntax, Token, Mark, Lifetime, chars, Spelled, some_tree}
 use Rattle.syn_grammar.specs.Take.{only, left, is_end, lookahead_at, sees, take_token, take_lifetime, Chars, add_char, take_chars, marked, take_mark, Opened, same_delimiter, take_group, length, first, before, leaf_span, first_span}
@@ -256,18 +256,18 @@ mark_begins cs ts x e = go (take_chars cs ts) refl e
     go None h e = absurd (cc e)
     go (Some p) h e = let c = chars_told cs ts p h in ap (λ l. mem (lookahead ts).terminal (mark_first_set l)) (sym c.0) ∙ mark_head p.0 ts p.1 c.1
 
-lifetime_terminal : (sp : Span) (y : Text) (sq : Span) (r : Stream) → (lookahead (punct 39 true sp (leaf (ident y) sq r))).terminal ≡ Punctuation apostrophe
+lifetime_terminal : (sp : Span) (y : Text) (sq : Span) (r : Stream) → (lookahead (punct 39 true sp (leaf (ident y) sq r))).terminal ≡ Punctuation lifetime_mark
 lifetime_terminal sp y sq r = go (one_of_texts y (keywords ++ contextual))
   where
-    go : (b : Bool) → join 39 (pick b (Word y) Name) ≡ Punctuation apostrophe
+    go : (b : Bool) → join 39 (pick b (Word y) Name) ≡ Punctuation lifetime_mark
     go true = refl
     go false = refl
 
-pub lifetime_begins : (ts : Stream) (x : TreeAndRest) → take_lifetime ts ≡ Some x → mem (lookahead_at ts).terminal (Punctuation apostrophe ∷ []) ≡ true
+pub lifetime_begins : (ts : Stream) (x : TreeAndRest) → take_lifetime ts ≡ Some x → mem (lookahead_at ts).terminal (Punctuation lifetime_mark ∷ []) ≡ true
 unfolding take_lifetime lookahead_at
 lifetime_begins (punct c true sp (leaf (ident y) sq r)) x e =
-    ap (λ n. mem (lookahead (punct n true sp (leaf (ident y) sq r))).terminal (Punctuation apostrophe ∷ [])) (eqb-true c 39 (inv_only (nat_eq c 39) _ x e).0)
-    ∙ ap (λ z. mem z (Punctuation apostrophe ∷ [])) (lifetime_terminal sp y sq r)
+    ap (λ n. mem (lookahead (punct n true sp (leaf (ident y) sq r))).terminal (Punctuation lifetime_mark ∷ [])) (eqb-true c 39 (inv_only (nat_eq c 39) _ x e).0)
+    ∙ ap (λ z. mem z (Punctuation lifetime_mark ∷ [])) (lifetime_terminal sp y sq r)
 lifetime_begins (punct c true sp (leaf (literal k y) sq r)) x e = absurd (cc e)
 lifetime_begins (punct c true sp end) x e = absurd (cc e)
 lifetime_begins (punct c true sp (punct c' j' sq m)) x e = absurd (cc e)

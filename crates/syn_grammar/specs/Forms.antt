@@ -1,8 +1,8 @@
 -- SHORT NAMES FOR FORMS, in which the table is written.
 use Rattle.std.specs.Prelude.{false, true, [], ◌∷◌}
 use Rattle.syn_grammar.specs.Words.{Text}
-use Rattle.syn_grammar.specs.Tokens.{Fact, every_fact}
-use Rattle.syn_grammar.specs.Grammar.{Kind, Grammar, token, mark, one_of}
+use Rattle.syn_grammar.specs.Tokens.{Fact, every_fact, at_word}
+use Rattle.syn_grammar.specs.Grammar.{Kind, word, Grammar, empty, token, mark, when◌then◌else◌, one_of}
 
 -- One token, of whose lookahead no form may ask a fact.
 abbrev pub plainly : Kind → Grammar
@@ -27,3 +27,7 @@ asking_punctuation x = mark true x
 -- Nothing at all is read, not even no tokens: a reading that comes here is refused.
 abbrev pub never : Grammar
 never = one_of []
+
+-- A word where it stands next, of whose lookahead no form may ask a fact.
+abbrev pub optional : Text → Grammar
+optional x = when at_word x then plainly (word x) else empty

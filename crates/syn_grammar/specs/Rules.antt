@@ -1,15 +1,58 @@
 -- Written by tools/grammar.py from specs/Table.antt; edits are lost.
 -- The rules of the written grammar, by name.
 pub data Rule : Type 0 where
+  attributes : Rule
+  meta : Rule
+  meta_value : Rule
   module_path : Rule
   module_words : Rule
   visibility : Rule
   restriction : Rule
   type_path : Rule
+  type_words : Rule
+  type_arguments : Rule
+  more_type_words : Rule
+  return_type : Rule
+  generic_arguments : Rule
+  generic_argument : Rule
+  qualified_path : Rule
   type : Rule
+  types : Rule
+  expression : Rule
+  generics : Rule
+  lifetime_parameter : Rule
+  lifetimes : Rule
+  parameter_bounds : Rule
+  bound : Rule
+  trait_bound : Rule
+  bound_lifetimes : Rule
+  lifetime_parameters : Rule
+  where_clause : Rule
+  predicates : Rule
+  predicate : Rule
+  predicate_bounds : Rule
+  fields_named : Rule
+  named_fields : Rule
+  named_field : Rule
+  nameless_type : Rule
   unnamed_field : Rule
   unnamed_fields : Rule
   fields_unnamed : Rule
-  structure_body : Rule
+  variant : Rule
+  variants : Rule
   structure : Rule
+  structure_rest : Rule
+  structure_body : Rule
+  enumeration : Rule
+  enumeration_rest : Rule
+  union_item : Rule
+  union_item_rest : Rule
   derive_input : Rule
+  plain_type_path : Rule
+  plain_type : Rule
+  plain_unnamed_field : Rule
+  plain_unnamed_fields : Rule
+  plain_fields_unnamed : Rule
+  plain_structure_body : Rule
+  plain_structure : Rule
+  plain_derive_input : Rule

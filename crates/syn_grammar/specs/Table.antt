@@ -3,18 +3,26 @@
 -- This file is the source: it is written by hand, and tools/grammar.py reads it, checks it, keeps the `use` lines below
 -- and writes the files that tell the rules by name and what the proofs need to know of each. docs/GRAMMAR.md says how to read it.
 -- A comment directly above a look or a rule says it in words.
-use Rattle.std.specs.Prelude.{[], ◌∷◌}
-use Rattle.syn_grammar.specs.Words.{w_crate, w_in, w_pub, w_Self_type, w_self, w_struct, w_super, comma, semicolon, equals, colons}
-use Rattle.syn_grammar.specs.Tokens.{Paren, Lone_word, Begins_in, Look, ended, at_word, at_mark, at_group, ahead, ◌or_else◌, ◌and_also◌}
-use Rattle.syn_grammar.specs.Rules.{Rule, module_path, module_words, visibility, restriction, type_path, type, unnamed_field, unnamed_fields, fields_unnamed, structure_body, structure, derive_input}
-use Rattle.syn_grammar.specs.Grammar.{name, word, name_or, Grammar, empty, ◌&◌, when◌then◌else◌, inside, one_of, rule, unshown}
-use Rattle.syn_grammar.specs.Forms.{plainly, asking, punctuation, asking_punctuation, never}
+use Rattle.std.specs.Prelude.{true, false, [], ◌∷◌}
+use Rattle.syn_grammar.specs.Words.{w_underscore, w_as, w_const, w_crate, w_enum, w_false, w_for, w_in, w_mut, w_pub, w_Self_type, w_self, w_struct, w_super, w_true, w_unsafe, w_where, w_union, comma, semicolon, colon, equals, plus, star, less, greater, pound, ampersand, question, exclamation, colons, arrow, less_equals}
+use Rattle.syn_grammar.specs.Tokens.{Paren, Brace, Bracket, Str, ByteStr, CStr, Byte, Char, Int, Float, Before_equals, Before_end, Lone_word, Begins_in, Before_brace, Look, ended, at_name, at_word, at_mark, at_literal, at_group, ahead, ◌or_else◌, ◌and_also◌, ◌but_not◌, at_lifetime}
+use Rattle.syn_grammar.specs.Rules.{Rule, attributes, meta, meta_value, module_path, module_words, visibility, restriction, type_path, type_words, type_arguments, more_type_words, return_type, generic_arguments, generic_argument, qualified_path, type, types, expression, generics, lifetime_parameter, lifetimes, parameter_bounds, bound, trait_bound, bound_lifetimes, lifetime_parameters, where_clause, predicates, predicate, predicate_bounds, fields_named, named_fields, named_field, nameless_type, unnamed_field, unnamed_fields, fields_unnamed, variant, variants, structure, structure_rest, structure_body, enumeration, enumeration_rest, union_item, union_item_rest, derive_input, plain_type_path, plain_type, plain_unnamed_field, plain_unnamed_fields, plain_fields_unnamed, plain_structure_body, plain_structure, plain_derive_input}
+use Rattle.syn_grammar.specs.Grammar.{name, word, name_or, any_literal, Grammar, empty, token, lifetime, ◌&◌, when◌then◌else◌, vanishing, inside, raw, rest_after, one_of, rule, captured, unshown, ordered}
+use Rattle.syn_grammar.specs.Forms.{plainly, telling, asking, punctuation, asking_punctuation, never, optional}
 
 -- LOOKS: conditions on what stands next
 
 -- The mark `::` stands next.
 abbrev pub at_colons : Look
 at_colons = at_mark colons
+
+-- The character `:` stands next, alone or as the beginning of a longer mark.
+abbrev pub at_colon : Look
+at_colon = at_mark colon
+
+-- The character `:` stands next, and not `::`.
+abbrev pub at_lone_colon : Look
+at_lone_colon = at_mark colon but_not at_mark colons
 
 -- The character `=` stands next, alone or as the beginning of a longer mark.
 abbrev pub at_equals : Look
@@ -24,17 +32,122 @@ at_equals = at_mark equals
 abbrev pub at_comma : Look
 at_comma = at_mark comma
 
+-- A semicolon stands next.
+abbrev pub at_semicolon : Look
+at_semicolon = at_mark semicolon
+
+-- The character `#` stands next.
+abbrev pub at_pound : Look
+at_pound = at_mark pound
+
+-- The character `+` stands next.
+abbrev pub at_plus : Look
+at_plus = at_mark plus
+
+-- The character `<` stands next, alone or as the beginning of a longer mark.
+abbrev pub at_less : Look
+at_less = at_mark less
+
+-- The character `<` stands next, and not `<=`.
+abbrev pub at_less_only : Look
+at_less_only = at_mark less but_not at_mark less_equals
+
+-- The character `>` stands next.
+abbrev pub at_greater : Look
+at_greater = at_mark greater
+
+-- The character `&` stands next.
+abbrev pub at_ampersand : Look
+at_ampersand = at_mark ampersand
+
+-- The character `*` stands next.
+abbrev pub at_star : Look
+at_star = at_mark star
+
+-- The character `!` stands next.
+abbrev pub at_exclamation : Look
+at_exclamation = at_mark exclamation
+
+-- The character `?` stands next.
+abbrev pub at_question : Look
+at_question = at_mark question
+
+-- The mark `->` stands next.
+abbrev pub at_arrow : Look
+at_arrow = at_mark arrow
+
 -- A group in parentheses stands next.
 abbrev pub at_paren : Look
 at_paren = at_group Paren
+
+-- A group in braces stands next.
+abbrev pub at_brace : Look
+at_brace = at_group Brace
+
+-- A group in brackets stands next.
+abbrev pub at_bracket : Look
+at_bracket = at_group Bracket
+
+-- A literal of any kind stands next.
+abbrev pub at_any_literal : Look
+at_any_literal = at_literal Str or_else at_literal ByteStr or_else at_literal CStr or_else at_literal Byte or_else at_literal Char or_else at_literal Int or_else at_literal Float
 
 -- A group in parentheses stands next whose content is `crate`, `self` or `super` alone, or begins with `in`.
 abbrev pub at_restriction : Look
 at_restriction = at_paren and_also (ahead Lone_word or_else ahead Begins_in)
 
+-- An identifier that isn't a keyword, or `Self`, stands next: a word of a path behind which arguments may stand.
+abbrev pub at_named_word : Look
+at_named_word = at_name or_else at_word w_Self_type
+
+-- A type that is kept as tokens stands next: `struct`, or `union` with a group in braces behind it.
+abbrev pub at_nameless_fields : Look
+at_nameless_fields = at_word w_struct or_else at_word w_union and_also ahead Before_brace
+
+-- An identifier stands next, and `=` behind it.
+abbrev pub at_association : Look
+at_association = at_name and_also ahead Before_equals
+
+-- What ends the bounds of a parameter stands next: `,`, `>` or `=`.
+abbrev pub at_parameter_end : Look
+at_parameter_end = at_comma or_else at_greater or_else at_equals
+
+-- What ends a where clause or the bounds of its predicates stands next: the end, a group in braces, `,`, `;`, `=` or a `:` that isn't `::`.
+abbrev pub at_predicate_end : Look
+at_predicate_end = ended or_else at_brace or_else at_comma or_else at_semicolon or_else at_equals or_else at_lone_colon
+
+-- FORMS that stand in several rules
+
+-- A parameter of generics that isn't a lifetime: attributes; and `const`, a name, a type and perhaps a default, or a name with
+-- bounds behind a colon and perhaps a default. Without bounds the colon isn't printed.
+abbrev pub parameter : Grammar
+parameter =
+    rule attributes
+    & (when at_word w_const then plainly (word w_const) & plainly name & punctuation colon & rule type & (when at_equals then punctuation equals & rule expression else empty)
+    else plainly name & vanishing false at_colon (punctuation colon & rule parameter_bounds) & (when at_equals then punctuation equals & rule type else empty))
+
 -- RULES
 
 abbrev pub table : Rule → Grammar
+--
+-- Outer attributes: as long as `#` stands next, `#` and a group in brackets with an attribute's meta. Then what is never printed:
+-- inner attributes that a tree made by hand holds at a node that has no place for them.
+table attributes =
+    when at_pound then punctuation pound & inside Bracket (rule meta) & rule attributes
+    else unshown
+--
+-- The meta of an attribute: `unsafe` or a path in module style, and its value.
+table meta =
+    (when at_word w_unsafe then plainly (word w_unsafe) else rule module_path)
+    & rule meta_value
+--
+-- The value of an attribute: a group of any content, `=` and all that is left, or nothing.
+table meta_value =
+    when at_paren then raw Paren
+    else when at_brace then raw Brace
+    else when at_bracket then raw Bracket
+    else when at_equals then rest_after equals
+    else empty
 --
 -- A path in module style: `::` where it stands next, and then the words of the path.
 table module_path =
@@ -57,50 +170,285 @@ table visibility =
 -- What the parentheses of a visibility hold: `in` where it stands next, and a path in module style.
 -- (A visibility asks for it only before `in`, or where `crate`, `self` or `super` stands alone.)
 table restriction =
-    (when at_word w_in then plainly (word w_in) else empty)
+    optional w_in
     & rule module_path
 --
--- A path in a type: one in module style, since no generic arguments are read yet.
+-- A path in a type: `::` where it stands next, and then its words with their arguments.
 table type_path =
-    rule module_path
+    (when at_colons then punctuation colons else empty)
+    & rule type_words
 --
--- A type: a path.
+-- The words of a path in a type: an identifier or `Self`, and what may follow it; or `self`, `super` or `crate`, and more words behind `::`.
+table type_words =
+    when at_named_word then token (Before_equals ∷ Before_brace ∷ []) (name_or (w_Self_type ∷ [])) & rule type_arguments
+    else (when at_word w_self then telling Before_end (word w_self) else when at_word w_super then telling Before_end (word w_super) else telling Before_end (word w_crate))
+    & (when at_colons then punctuation colons & rule type_words else empty)
+--
+-- What may follow a word of a path in a type: arguments in `< >`, with `::` before them or without it; types in parentheses and a
+-- return type; and more words behind `::`.
+table type_arguments =
+    when at_less_only then rule generic_arguments & rule more_type_words
+    else when at_paren then inside Paren (rule types) & rule return_type & rule more_type_words
+    else when at_colons then punctuation colons & (when at_less then rule generic_arguments & rule more_type_words else rule type_words)
+    else empty
+--
+-- More words of a path in a type, where `::` stands next.
+table more_type_words =
+    when at_colons then punctuation colons & rule type_words else empty
+--
+-- A return type: `->` and a type, or nothing.
+table return_type =
+    when at_arrow then punctuation arrow & rule type else empty
+--
+-- Generic arguments in `< >`: lifetimes and others in any order. Lifetimes are printed first.
+table generic_arguments =
+    ordered lifetime (rule generic_argument)
+--
+-- A generic argument that isn't a lifetime: a name, `=` and a type; a literal; or a type.
+table generic_argument =
+    when at_association then telling Before_equals name & punctuation equals & rule type
+    else when at_word w_true then plainly (word w_true)
+    else when at_word w_false then plainly (word w_false)
+    else when at_any_literal then plainly any_literal
+    else rule type
+--
+-- A qualified path in a type: a type in `< >`, with `as` and a path or without them; then `::` and words.
+table qualified_path =
+    punctuation less
+    & rule type
+    & (when at_word w_as then plainly (word w_as) & rule type_path else empty)
+    & punctuation greater
+    & punctuation colons
+    & rule type_words
+--
+-- A type: a qualified path, a reference, a pointer, a tuple or a type in parentheses, a slice or an array, the never type, or a path.
 table type =
-    rule type_path
+    when at_less then rule qualified_path
+    else when at_ampersand then punctuation ampersand & (when at_lifetime then lifetime else empty) & optional w_mut & rule type
+    else when at_star then punctuation star & (when at_word w_const then plainly (word w_const) else plainly (word w_mut)) & rule type
+    else when at_paren then inside Paren (rule types)
+    else when at_bracket then inside Bracket (rule type & (when at_semicolon then punctuation semicolon & rule expression else empty))
+    else when at_exclamation then punctuation exclamation
+    else rule type_path
 --
--- A field without a name: a visibility and a type. A `=` behind it is refused.
+-- Types, separated by commas; the last comma may stand or not.
+table types =
+    when ended then empty
+    else rule type & (when at_comma then punctuation comma & rule types else empty)
+--
+-- An expression: a literal, `true` or `false`.
+table expression =
+    when at_word w_true then plainly (word w_true)
+    else when at_word w_false then plainly (word w_false)
+    else plainly any_literal
+--
+-- Generics where `<` stands next: lifetime parameters and others in any order. Lifetimes are printed first; without parameters nothing is printed.
+table generics =
+    vanishing false at_less (ordered (rule lifetime_parameter) parameter)
+--
+-- A lifetime parameter: attributes, a lifetime, and bounds behind a colon. Without bounds the colon isn't printed.
+table lifetime_parameter =
+    rule attributes
+    & lifetime
+    & vanishing false at_colon (punctuation colon & rule lifetimes)
+--
+-- Lifetimes, joined by `+`; they may be none, and may end with `+`.
+table lifetimes =
+    when at_lifetime then lifetime & (when at_plus then punctuation plus & rule lifetimes else empty)
+    else empty
+--
+-- The bounds of a parameter, joined by `+`; they may be none, and may end with `+`.
+table parameter_bounds =
+    when at_parameter_end then empty
+    else rule bound & (when at_plus then punctuation plus & rule parameter_bounds else empty)
+--
+-- A bound: a lifetime, or a trait, alone or in parentheses.
+table bound =
+    when at_lifetime then lifetime
+    else when at_paren then inside Paren (rule trait_bound)
+    else rule trait_bound
+--
+-- A trait as a bound: `?` or not, `for` with lifetimes or not, and a path.
+table trait_bound =
+    (when at_question then punctuation question else empty)
+    & (when at_word w_for then plainly (word w_for) & rule bound_lifetimes else empty)
+    & rule type_path
+--
+-- The lifetimes behind `for`: lifetime parameters in `< >`.
+table bound_lifetimes =
+    punctuation less
+    & rule lifetime_parameters
+    & punctuation greater
+--
+-- Lifetime parameters up to `>`, separated by commas; the last comma may stand or not.
+table lifetime_parameters =
+    when at_greater then empty
+    else rule lifetime_parameter & (when at_comma then punctuation comma & rule lifetime_parameters else empty)
+--
+-- A where clause where `where` stands next. Without predicates nothing is printed.
+table where_clause =
+    vanishing false (at_word w_where) (plainly (word w_where) & rule predicates)
+--
+-- The predicates of a where clause, separated by commas; the last comma may stand or not.
+table predicates =
+    when at_predicate_end then empty
+    else rule predicate & (when at_comma then punctuation comma & rule predicates else empty)
+--
+-- A predicate: a lifetime or a type, the type with `for` and lifetimes before it or without them; then a colon and bounds.
+table predicate =
+    when at_lifetime then lifetime & punctuation colon & rule lifetimes
+    else (when at_word w_for then plainly (word w_for) & rule bound_lifetimes else empty) & rule type & punctuation colon & rule predicate_bounds
+--
+-- The bounds of a predicate, joined by `+`; they may be none, and may end with `+`.
+table predicate_bounds =
+    when at_predicate_end then empty
+    else rule bound & (when at_plus then punctuation plus & rule predicate_bounds else empty)
+--
+-- Fields with names, in braces.
+table fields_named =
+    inside Brace (rule named_fields)
+--
+-- Fields with names, separated by commas; the last comma may stand or not.
+table named_fields =
+    when ended then empty
+    else rule named_field & (when at_comma then punctuation comma & rule named_fields else empty)
+--
+-- A field with a name: attributes, a visibility, a name or `_`, a colon and a type; and a default value behind `=`.
+table named_field =
+    rule attributes
+    & rule visibility
+    & (when at_word w_underscore then plainly (word w_underscore) & punctuation colon & rule nameless_type else plainly name & punctuation colon & rule type)
+    & (when at_equals then punctuation equals & rule expression else empty)
+--
+-- The type of a field that is named `_`: `struct` or `union` with fields in braces, kept as tokens; or a type.
+table nameless_type =
+    when at_nameless_fields then captured ((when at_word w_struct then plainly (word w_struct) else plainly (word w_union)) & rule fields_named)
+    else rule type
+--
+-- A field without a name: attributes, a visibility and a type. A `=` behind it is refused.
 -- A colon that a tree made by hand holds is not printed.
 table unnamed_field =
-    rule visibility
+    rule attributes
+    & rule visibility
     & unshown
     & rule type
     & (when at_equals then never else empty)
 --
 -- Fields without names: none, or one and, behind a comma, the others. The last comma may stand or not.
 table unnamed_fields =
-    when ended
-    then empty
+    when ended then empty
     else rule unnamed_field & (when at_comma then punctuation comma & rule unnamed_fields else empty)
 --
 -- The fields of a tuple struct, in parentheses.
 table fields_unnamed =
     inside Paren (rule unnamed_fields)
 --
--- What follows a struct's name: its fields in parentheses and `;`, or `;` alone.
+-- A variant of an enum: attributes, a visibility, which is never printed, a name, fields in braces, in parentheses or none;
+-- and a value behind `=`.
+table variant =
+    rule attributes
+    & vanishing true (at_word w_pub) (rule visibility)
+    & plainly name
+    & (when at_brace then rule fields_named else when at_paren then rule fields_unnamed else empty)
+    & (when at_equals then punctuation equals & rule expression else empty)
+--
+-- Variants, separated by commas; the last comma may stand or not.
+table variants =
+    when ended then empty
+    else rule variant & (when at_comma then punctuation comma & rule variants else empty)
+--
+-- A struct: attributes, and what stands behind them.
+table structure =
+    rule attributes
+    & rule structure_rest
+--
+-- A struct behind its attributes: a visibility, `struct`, a name, generics and a body.
+table structure_rest =
+    rule visibility
+    & plainly (word w_struct)
+    & plainly name
+    & rule generics
+    & rule structure_body
+--
+-- What follows a struct's generics: fields in parentheses, a where clause and `;`; or a where clause, and then fields in braces
+-- or `;` alone. A semicolon behind braces that a tree made by hand holds is not printed.
 table structure_body =
+    when at_paren then rule fields_unnamed & rule where_clause & punctuation semicolon
+    else rule where_clause & (when at_brace then unshown & rule fields_named else punctuation semicolon)
+--
+-- An enum: attributes, and what stands behind them.
+table enumeration =
+    rule attributes
+    & rule enumeration_rest
+--
+-- An enum behind its attributes: a visibility, `enum`, a name, generics, a where clause, and its variants in braces.
+table enumeration_rest =
+    rule visibility
+    & plainly (word w_enum)
+    & plainly name
+    & rule generics
+    & rule where_clause
+    & inside Brace (rule variants)
+--
+-- A union: attributes, and what stands behind them.
+table union_item =
+    rule attributes
+    & rule union_item_rest
+--
+-- A union behind its attributes: a visibility, `union`, a name, generics, a where clause, and its fields in braces.
+table union_item_rest =
+    rule visibility
+    & plainly (word w_union)
+    & plainly name
+    & rule generics
+    & rule where_clause
+    & rule fields_named
+--
+-- The input of a derive: a struct, an enum or a union.
+table derive_input =
+    one_of (structure ∷ enumeration ∷ union_item ∷ [])
+--
+-- A path in a type: one in module style, since no generic arguments are read yet.
+table plain_type_path =
+    rule module_path
+--
+-- A type: a path.
+table plain_type =
+    rule plain_type_path
+--
+-- A field without a name: a visibility and a type. A `=` behind it is refused.
+-- A colon that a tree made by hand holds is not printed.
+table plain_unnamed_field =
+    rule visibility
+    & unshown
+    & rule plain_type
+    & (when at_equals then never else empty)
+--
+-- Fields without names: none, or one and, behind a comma, the others. The last comma may stand or not.
+table plain_unnamed_fields =
+    when ended
+    then empty
+    else rule plain_unnamed_field & (when at_comma then punctuation comma & rule plain_unnamed_fields else empty)
+--
+-- The fields of a tuple struct, in parentheses.
+table plain_fields_unnamed =
+    inside Paren (rule plain_unnamed_fields)
+--
+-- What follows a struct's name: its fields in parentheses and `;`, or `;` alone.
+table plain_structure_body =
     when at_paren
-    then rule fields_unnamed & punctuation semicolon
+    then rule plain_fields_unnamed & punctuation semicolon
     else punctuation semicolon
 --
 -- A struct: a visibility, `struct`, a name and a body.
 -- Generics that a tree made by hand holds are not printed.
-table structure =
+table plain_structure =
     rule visibility
     & plainly (word w_struct)
     & plainly name
     & unshown
-    & rule structure_body
+    & rule plain_structure_body
 --
 -- The input of a derive: a struct.
-table derive_input =
-    one_of (structure ∷ [])
+table plain_derive_input =
+    one_of (plain_structure ∷ [])

@@ -1,6 +1,6 @@
 -- TOKEN STREAMS, what stands at the front of one, and looks: the conditions of the lookahead.
 use Rattle.std.specs.Prelude.{ℕ, suc, ◌+◌, Bool, true, false, List, [], ◌∷◌, ◌++◌, nat_eq}
-use Rattle.syn_grammar.specs.Words.{Text, keywords, contextual, w_const, w_crate, w_self, w_Self_type, w_super, w_in, w_mut, w_as, w_try, w_static, w_async, w_unsafe, w_extern, w_fn, w_move, w_union, w_auto, w_default, w_trait, w_impl, bar, equals, exclamation, not_equals, colon, colons, apostrophe, less, less_equals, less_less, greater, pound, long_marks}
+use Rattle.syn_grammar.specs.Words.{Text, keywords, contextual, w_const, w_crate, w_self, w_Self_type, w_super, w_in, w_mut, w_as, w_try, w_static, w_async, w_unsafe, w_extern, w_fn, w_move, w_union, w_auto, w_default, w_trait, w_impl, bar, equals, exclamation, not_equals, colon, colons, lifetime_mark, less, less_equals, less_less, greater, pound, long_marks}
 
 -- where a token stands in the text, in bytes: from its first byte to the one behind its last
 pub record Span : Type 0 where
@@ -104,7 +104,7 @@ pub data Terminal : Type 0 where
   Ended : Terminal  -- there is none
   Name : Terminal  -- an identifier whose text no rule asks for
   Word : Text → Terminal  -- an identifier whose text some rule asks for
-  Punctuation : Text → Terminal  -- a punctuation character: the longest mark that begins there
+  Punctuation : Text → Terminal  -- a punctuation character: the longest mark that begins there; of a lifetime `lifetime_mark`
   Literal : LitKind → Terminal
   Delimited : Delimiter → Terminal  -- a group
 
@@ -127,12 +127,13 @@ pub data Fact : Type 0 where
   Bang_group : Fact  -- the same with a group in parentheses or brackets
   Lone_word : Fact  -- a group in parentheses: its content is `crate`, `self` or `super` alone
   Begins_in : Fact  -- a group in parentheses: its content begins with `in`
+  Before_brace : Fact  -- `union`: a group in braces follows it
 
 -- every fact
 abbrev pub every_fact : List Fact
 every_fact =
     Before_equals ∷ Before_end ∷ Before_colons ∷ Before_paren ∷ Before_less ∷ Before_bang ∷ Before_type_rest ∷ Before_own_self
-    ∷ Before_parameter ∷ Begins_item ∷ Not_item ∷ Bang_brace ∷ Bang_name ∷ Bang_group ∷ Lone_word ∷ Begins_in ∷ []
+    ∷ Before_parameter ∷ Begins_item ∷ Not_item ∷ Bang_brace ∷ Bang_name ∷ Bang_group ∷ Lone_word ∷ Begins_in ∷ Before_brace ∷ []
 
 -- The lookahead of a stream.
 pub record Lookahead : Type 0 where
@@ -174,6 +175,7 @@ fact_number Bang_name = 12
 fact_number Bang_group = 13
 fact_number Lone_word = 14
 fact_number Begins_in = 15
+fact_number Before_brace = 16
 
 abbrev pub same_fact : Fact → Fact → Bool
 same_fact a b = nat_eq (fact_number a) (fact_number b)
@@ -254,9 +256,13 @@ answers (a but_not b) f = and (answers a f) (no (answers b f))
 abbrev pub Asked : Type 0
 Asked = List (Look × Fact)
 
+-- a lifetime stands next: a `'` that is joined to an identifier
+abbrev pub at_lifetime : Look
+at_lifetime = at_mark lifetime_mark
+
 -- a parameter of generics stands next: `#`, a lifetime, `const`, or an identifier that no type goes on from
 abbrev pub at_parameter : Look
-at_parameter = at_mark pound or_else at_mark apostrophe or_else at_word w_const or_else at_name but_not ahead Before_type_rest
+at_parameter = at_mark pound or_else at_lifetime or_else at_word w_const or_else at_name but_not ahead Before_type_rest
 
 -- generics stand next, in a place where a type may stand too: `<` (and not `<=` or `<<`) and then `>` or a parameter
 abbrev pub at_generics : Look
@@ -292,7 +298,7 @@ asked_by_word x = pick (one_of_texts x (w_crate ∷ w_self ∷ w_super ∷ [])) 
     (pick (same_text x w_async) ((at_word w_unsafe or_else at_word w_extern or_else at_word w_fn, Begins_item) ∷ [])
     (pick (same_text x w_const) ((at_group Brace or_else at_word w_static or_else at_word w_move or_else at_mark bar or_else at_word w_async but_not ahead Begins_item, Not_item) ∷ [])
     (pick (same_text x w_unsafe) ((at_group Brace, Not_item) ∷ [])
-    (pick (same_text x w_union) ((at_name, Begins_item) ∷ asked_by_name)
+    (pick (same_text x w_union) ((at_name, Begins_item) ∷ (at_group Brace, Before_brace) ∷ asked_by_name)
     (pick (same_text x w_auto) ((at_word w_trait, Begins_item) ∷ asked_by_name)
     (pick (same_text x w_default) ((at_word w_unsafe or_else at_word w_impl, Begins_item) ∷ asked_by_name)
     (pick (one_of_texts x contextual) asked_by_name []))))))))))
@@ -331,9 +337,15 @@ abbrev pub longest : List Text → Text → Text → Text
 longest [] x one = one
 longest (m ∷ l) x one = pick (begins_text m x) m (longest l x one)
 
--- the longest mark that a Joint character begins before this terminal
+-- the terminal of a character that is joined to an identifier: a `'` begins a lifetime
+abbrev pub before_identifier : ℕ → Terminal
+before_identifier c = Punctuation (pick (nat_eq c 39) lifetime_mark (c ∷ []))
+
+-- the longest mark that a Joint character begins before this terminal, or a lifetime
 abbrev pub join : ℕ → Terminal → Terminal
 join c (Punctuation l) = Punctuation (longest long_marks (c ∷ l) (c ∷ []))
+join c Name = before_identifier c
+join c (Word x) = before_identifier c
 join c _ = Punctuation (c ∷ [])
 
 -- the terminal of a punctuation character before this terminal
