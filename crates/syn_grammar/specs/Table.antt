@@ -40,7 +40,7 @@ at_semicolon = at_mark semicolon
 abbrev pub at_pound : Look
 at_pound = at_mark pound
 
--- The character `+` stands next.
+-- The character `+` stands next, alone or as the beginning of a longer mark.
 abbrev pub at_plus : Look
 at_plus = at_mark plus
 
@@ -52,19 +52,19 @@ at_less = at_mark less
 abbrev pub at_less_only : Look
 at_less_only = at_mark less but_not at_mark less_equals
 
--- The character `>` stands next.
+-- The character `>` stands next, alone or as the beginning of a longer mark.
 abbrev pub at_greater : Look
 at_greater = at_mark greater
 
--- The character `&` stands next.
+-- The character `&` stands next, alone or as the beginning of a longer mark.
 abbrev pub at_ampersand : Look
 at_ampersand = at_mark ampersand
 
--- The character `*` stands next.
+-- The character `*` stands next, alone or as the beginning of a longer mark.
 abbrev pub at_star : Look
 at_star = at_mark star
 
--- The character `!` stands next.
+-- The character `!` stands next, alone or as the beginning of a longer mark.
 abbrev pub at_exclamation : Look
 at_exclamation = at_mark exclamation
 
@@ -118,8 +118,8 @@ at_predicate_end = ended or_else at_brace or_else at_comma or_else at_semicolon 
 
 -- FORMS that stand in several rules
 
--- A parameter of generics that isn't a lifetime: attributes; and `const`, a name, a type and perhaps a default, or a name with
--- bounds behind a colon and perhaps a default. Without bounds the colon isn't printed.
+-- A parameter of generics that isn't a lifetime: attributes; and `const`, a name, a colon, a type and perhaps a literal behind `=`,
+-- or a name, perhaps bounds behind a colon, and perhaps a type behind `=`. Without bounds the colon isn't printed.
 abbrev pub parameter : Grammar
 parameter =
     rule attributes
@@ -130,18 +130,18 @@ parameter =
 
 abbrev pub table : Rule → Grammar
 --
--- Outer attributes: as long as `#` stands next, `#` and a group in brackets with an attribute's meta. Then what is never printed:
--- inner attributes that a tree made by hand holds at a node that has no place for them.
+-- Outer attributes: as long as `#` stands next, `#` and a group in brackets with an attribute's meta.
+-- Inner attributes that a tree made by hand holds at a node without a place for them are not printed.
 table attributes =
     when at_pound then punctuation pound & inside Bracket (rule meta) & rule attributes
     else unshown
 --
--- The meta of an attribute: `unsafe` or a path in module style, and its value.
+-- The meta of an attribute: a path in module style or `unsafe`, and its value.
 table meta =
     (when at_word w_unsafe then plainly (word w_unsafe) else rule module_path)
     & rule meta_value
 --
--- The value of an attribute: a group of any content, `=` and all that is left, or nothing.
+-- The value of an attribute: a group of any content; or `=` and all that is left, one token tree at least; or nothing.
 table meta_value =
     when at_paren then raw Paren
     else when at_brace then raw Brace
@@ -178,21 +178,22 @@ table type_path =
     (when at_colons then punctuation colons else empty)
     & rule type_words
 --
--- The words of a path in a type: an identifier or `Self`, and what may follow it; or `self`, `super` or `crate`, and more words behind `::`.
+-- The words of a path in a type: an identifier that isn't a keyword, or `Self`, and what may follow it;
+-- or `self`, `super` or `crate`, and where `::` stands next, that mark and more words.
 table type_words =
     when at_named_word then token (Before_equals ∷ Before_brace ∷ []) (name_or (w_Self_type ∷ [])) & rule type_arguments
     else (when at_word w_self then telling Before_end (word w_self) else when at_word w_super then telling Before_end (word w_super) else telling Before_end (word w_crate))
     & (when at_colons then punctuation colons & rule type_words else empty)
 --
--- What may follow a word of a path in a type: arguments in `< >`, with `::` before them or without it; types in parentheses and a
--- return type; and more words behind `::`.
+-- What may follow an identifier or `Self` in a type's path: arguments in `< >`, with `::` before them or without it, or types in
+-- parentheses and a return type; and where `::` stands next, that mark and more words.
 table type_arguments =
     when at_less_only then rule generic_arguments & rule more_type_words
     else when at_paren then inside Paren (rule types) & rule return_type & rule more_type_words
     else when at_colons then punctuation colons & (when at_less then rule generic_arguments & rule more_type_words else rule type_words)
     else empty
 --
--- More words of a path in a type, where `::` stands next.
+-- More words of a path in a type: where `::` stands next, that mark and the words.
 table more_type_words =
     when at_colons then punctuation colons & rule type_words else empty
 --
@@ -200,11 +201,12 @@ table more_type_words =
 table return_type =
     when at_arrow then punctuation arrow & rule type else empty
 --
--- Generic arguments in `< >`: lifetimes and others in any order. Lifetimes are printed first.
+-- Generic arguments in `< >`: lifetimes and others in any order, separated by commas; the last comma may stand or not.
+-- Lifetimes are printed first.
 table generic_arguments =
     ordered lifetime (rule generic_argument)
 --
--- A generic argument that isn't a lifetime: a name, `=` and a type; a literal; or a type.
+-- A generic argument that isn't a lifetime: a name, `=` and a type, where `=` follows the name; a literal, `true` or `false`; or a type.
 table generic_argument =
     when at_association then telling Before_equals name & punctuation equals & rule type
     else when at_word w_true then plainly (word w_true)
@@ -212,7 +214,7 @@ table generic_argument =
     else when at_any_literal then plainly any_literal
     else rule type
 --
--- A qualified path in a type: a type in `< >`, with `as` and a path or without them; then `::` and words.
+-- A qualified path in a type: a type in `< >`, with `as` and a path behind it or without them; then `::` and words.
 table qualified_path =
     punctuation less
     & rule type
@@ -221,7 +223,8 @@ table qualified_path =
     & punctuation colons
     & rule type_words
 --
--- A type: a qualified path, a reference, a pointer, a tuple or a type in parentheses, a slice or an array, the never type, or a path.
+-- A type: a qualified path; a reference, perhaps with a lifetime and `mut`; a pointer, `const` or `mut`; a tuple or a type in
+-- parentheses; a slice, or an array with a literal as its length; the never type; or a path.
 table type =
     when at_less then rule qualified_path
     else when at_ampersand then punctuation ampersand & (when at_lifetime then lifetime else empty) & optional w_mut & rule type
@@ -236,17 +239,18 @@ table types =
     when ended then empty
     else rule type & (when at_comma then punctuation comma & rule types else empty)
 --
--- An expression: a literal, `true` or `false`.
+-- An expression, as far as any is read yet: a literal, `true` or `false`.
 table expression =
     when at_word w_true then plainly (word w_true)
     else when at_word w_false then plainly (word w_false)
     else plainly any_literal
 --
--- Generics where `<` stands next: lifetime parameters and others in any order. Lifetimes are printed first; without parameters nothing is printed.
+-- Generics where `<` stands next: lifetime parameters and others in any order, separated by commas; the last comma may stand or not.
+-- Lifetimes are printed first; without parameters nothing is printed.
 table generics =
     vanishing false at_less (ordered (rule lifetime_parameter) parameter)
 --
--- A lifetime parameter: attributes, a lifetime, and bounds behind a colon. Without bounds the colon isn't printed.
+-- A lifetime parameter: attributes, a lifetime, and perhaps lifetimes behind a colon. Without these the colon isn't printed.
 table lifetime_parameter =
     rule attributes
     & lifetime
@@ -257,7 +261,7 @@ table lifetimes =
     when at_lifetime then lifetime & (when at_plus then punctuation plus & rule lifetimes else empty)
     else empty
 --
--- The bounds of a parameter, joined by `+`; they may be none, and may end with `+`.
+-- The bounds of a parameter, joined by `+`, up to what ends them at the start or behind a `+`; they may be none, and may end with `+`.
 table parameter_bounds =
     when at_parameter_end then empty
     else rule bound & (when at_plus then punctuation plus & rule parameter_bounds else empty)
@@ -268,7 +272,7 @@ table bound =
     else when at_paren then inside Paren (rule trait_bound)
     else rule trait_bound
 --
--- A trait as a bound: `?` or not, `for` with lifetimes or not, and a path.
+-- A trait as a bound: perhaps `?`, perhaps `for` and lifetimes, and a path.
 table trait_bound =
     (when at_question then punctuation question else empty)
     & (when at_word w_for then plainly (word w_for) & rule bound_lifetimes else empty)
@@ -289,17 +293,18 @@ table lifetime_parameters =
 table where_clause =
     vanishing false (at_word w_where) (plainly (word w_where) & rule predicates)
 --
--- The predicates of a where clause, separated by commas; the last comma may stand or not.
+-- The predicates of a where clause, separated by commas, up to what ends them at the start or behind a comma; the last comma may
+-- stand or not.
 table predicates =
     when at_predicate_end then empty
     else rule predicate & (when at_comma then punctuation comma & rule predicates else empty)
 --
--- A predicate: a lifetime or a type, the type with `for` and lifetimes before it or without them; then a colon and bounds.
+-- A predicate: a lifetime, a colon and lifetimes; or a type, with `for` and lifetimes before it or without them, a colon and bounds.
 table predicate =
     when at_lifetime then lifetime & punctuation colon & rule lifetimes
     else (when at_word w_for then plainly (word w_for) & rule bound_lifetimes else empty) & rule type & punctuation colon & rule predicate_bounds
 --
--- The bounds of a predicate, joined by `+`; they may be none, and may end with `+`.
+-- The bounds of a predicate, joined by `+`, up to what ends them at the start or behind a `+`; they may be none, and may end with `+`.
 table predicate_bounds =
     when at_predicate_end then empty
     else rule bound & (when at_plus then punctuation plus & rule predicate_bounds else empty)
@@ -313,14 +318,14 @@ table named_fields =
     when ended then empty
     else rule named_field & (when at_comma then punctuation comma & rule named_fields else empty)
 --
--- A field with a name: attributes, a visibility, a name or `_`, a colon and a type; and a default value behind `=`.
+-- A field with a name: attributes, a visibility, a name or `_`, a colon and a type; and perhaps a default value behind `=`.
 table named_field =
     rule attributes
     & rule visibility
     & (when at_word w_underscore then plainly (word w_underscore) & punctuation colon & rule nameless_type else plainly name & punctuation colon & rule type)
     & (when at_equals then punctuation equals & rule expression else empty)
 --
--- The type of a field that is named `_`: `struct` or `union` with fields in braces, kept as tokens; or a type.
+-- The type of a field that is named `_`: `struct`, or `union` where braces follow it, with fields in braces, kept as tokens; or a type.
 table nameless_type =
     when at_nameless_fields then captured ((when at_word w_struct then plainly (word w_struct) else plainly (word w_union)) & rule fields_named)
     else rule type
@@ -344,7 +349,7 @@ table fields_unnamed =
     inside Paren (rule unnamed_fields)
 --
 -- A variant of an enum: attributes, a visibility, which is never printed, a name, fields in braces, in parentheses or none;
--- and a value behind `=`.
+-- and perhaps a value behind `=`.
 table variant =
     rule attributes
     & vanishing true (at_word w_pub) (rule visibility)
@@ -408,39 +413,40 @@ table union_item_rest =
 table derive_input =
     one_of (structure ∷ enumeration ∷ union_item ∷ [])
 --
--- A path in a type: one in module style, since no generic arguments are read yet.
+-- A path in a type, as it is read until whole types are trees: a path in module style.
 table plain_type_path =
     rule module_path
 --
--- A type: a path.
+-- A type, as it is read until whole types are trees: a path.
 table plain_type =
     rule plain_type_path
 --
--- A field without a name: a visibility and a type. A `=` behind it is refused.
--- A colon that a tree made by hand holds is not printed.
+-- A field without a name, as it is read until attributes and whole types are trees: a visibility and a type. A `=` behind it is
+-- refused. A colon that a tree made by hand holds is not printed.
 table plain_unnamed_field =
     rule visibility
     & unshown
     & rule plain_type
     & (when at_equals then never else empty)
 --
--- Fields without names: none, or one and, behind a comma, the others. The last comma may stand or not.
+-- Fields without names, each as it is read today: none, or one and, behind a comma, the others. The last comma may stand or not.
 table plain_unnamed_fields =
     when ended
     then empty
     else rule plain_unnamed_field & (when at_comma then punctuation comma & rule plain_unnamed_fields else empty)
 --
--- The fields of a tuple struct, in parentheses.
+-- The fields of a tuple struct, each as it is read today, in parentheses.
 table plain_fields_unnamed =
     inside Paren (rule plain_unnamed_fields)
 --
--- What follows a struct's name: its fields in parentheses and `;`, or `;` alone.
+-- What follows a struct's name, as it is read until where clauses and fields with names are trees: its fields in parentheses and `;`,
+-- or `;` alone.
 table plain_structure_body =
     when at_paren
     then rule plain_fields_unnamed & punctuation semicolon
     else punctuation semicolon
 --
--- A struct: a visibility, `struct`, a name and a body.
+-- A struct, as it is read until attributes and generics are trees: a visibility, `struct`, a name and a body.
 -- Generics that a tree made by hand holds are not printed.
 table plain_structure =
     rule visibility
@@ -449,6 +455,6 @@ table plain_structure =
     & unshown
     & rule plain_structure_body
 --
--- The input of a derive: a struct.
+-- The input of a derive, as it is read until enums and unions are trees: a struct.
 table plain_derive_input =
     one_of (plain_structure ∷ [])
