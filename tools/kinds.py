@@ -34,9 +34,9 @@ from kindslib.views import endings, plain_views
 
 # the program's word, the type, the rule that reads it
 KINDS = [
-    ("derive", "DeriveInput", "derive_input"),
+    ("derive", "DeriveInput", "plain_derive_input"),
     ("visibility", "Visibility", "visibility"),
-    ("fields-unnamed", "FieldsUnnamed", "fields_unnamed"),
+    ("fields-unnamed", "FieldsUnnamed", "plain_fields_unnamed"),
 ]
 
 # lists with one value at least, which end with one

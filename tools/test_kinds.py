@@ -5,6 +5,7 @@ import tempfile
 import unittest
 from pathlib import Path
 
+from kindslib.grammar import HEAD, rows
 from kindslib.impls import comparisons, copies, prints
 from kindslib.lists import comma_lists, list_rules
 from kindslib.program import kind_enum, kind_specs
@@ -42,6 +43,33 @@ pub enum Choice {
     Whole(Box<Thing>),
     Nothing,
 }
+"""
+READING = """
+impl Read for Thing {
+    ghost form = { of (rule rules.thing) };
+}
+"""
+TABLE = """--
+-- A thing.
+table thing =
+    plainly name
+--
+-- Things.
+table things =
+    when ended
+    then empty
+    else rule thing & (when at_comma then punctuation comma & rule things else empty)
+--
+-- Unread.
+table unread =
+    when ended then empty
+    else rule other & (when at_comma then punctuation comma & rule unread else empty)
+--
+-- Things that end otherwise.
+table others =
+    when at_brace
+    then empty
+    else rule thing & (when at_comma then punctuation comma & rule others else empty)
 """
 SPECS = """abbrev pub syntax_of_Choice : Choice-m.the_data → Syntax
 """
@@ -105,31 +133,34 @@ class Kinds(unittest.TestCase):
         with self.assertRaises(Fault):
             endings(self.crate(specs=""))
 
-    def test_comma_lists_are_found_in_the_table(self):
-        source = self.crate(TYPES + """
-impl Read for Thing {
-    ghost form = { of (rule rules.thing) };
-}
-""")
+    def crate_with_table(self):
+        """A crate that reads a rule of the table, and the table."""
+        source = self.crate(TYPES + READING)
         table = self.top / "Table.antt"
-        table.write_text("""--
--- Things.
-table things =
-    when ended
-    then empty
-    else rule thing & (when at_comma then punctuation comma & rule things else empty)
---
--- Things that end otherwise.
-table others =
-    when at_brace
-    then empty
-    else rule thing & (when at_comma then punctuation comma & rule others else empty)
-""")
-        self.assertEqual(list_rules(table), [("things", "thing", "Things.")])
+        table.write_text(TABLE)
+        return source, table
+
+    def test_comma_lists_are_found_in_the_table(self):
+        source, table = self.crate_with_table()
+        self.assertEqual(list_rules(table), [("things", "thing", "Things."), ("unread", "other", "Unread.")])
         files = comma_lists(source, table)
         self.assertIn("punctuated_list::<End, Comma, _, _>(input, |next| next.read())\n", files[self.top / "src/comma_lists.rt"])
         self.assertIn("things_list = record { is = things_is }\n", files[self.top / "proofs/CommaLists.antt"])
         self.assertIn(self.top / "proofs/comma_lists/things/Answers.antt", files)
+        self.assertNotIn("unread", files[self.top / "src/comma_lists.rt"])
+
+    def test_the_page_says_what_reads_each_rule(self):
+        source, table = self.crate_with_table()
+        page = self.top / "PAGE.md"
+        page.write_text(f"Before.\n\n{HEAD}| `old` | Old. | `Old` |\n\nBehind.\n")
+        text = rows(source, table, page)
+        self.assertTrue(text.startswith(f"Before.\n\n{HEAD}| `thing` | A thing. | `Thing` |\n"))
+        self.assertIn("| `things` | Things. | `things` of `comma_lists.rt` |\n", text)
+        self.assertIn("| `unread` | Unread. | not read yet |\n", text)
+        self.assertTrue(text.endswith("| `others` | Things that end otherwise. | not read yet |\n\nBehind.\n"))
+        page.write_text("No table.\n")
+        with self.assertRaises(Fault):
+            rows(source, table, page)
 
     def test_the_kinds_of_the_program(self):
         kinds = [("fields-unnamed", "FieldsUnnamed", "fields_unnamed")]

@@ -1,9 +1,10 @@
-"""The table of rules in docs/GRAMMAR.md: each rule in the words that stand above it, and what reads it."""
+"""The table of rules in docs/GRAMMAR.md: each rule in the words that stand above it, and what reads it, if anything does yet."""
 import re
 
-from .lists import list_rules
+from .lists import read_lists
 from .source import Fault
 
+UNREAD = "not read yet"
 HEAD = "| rule | in words | Rust |\n|---|---|---|\n"
 RULE = re.compile(r"^--\n((?:-- [^\n]*\n)+)table (\w+) =$", re.M)
 READ = re.compile(r"^impl Read for (\w+) \{\n    ghost form = \{ of \(rule rules\.(\w+)\) \};", re.M)
@@ -29,7 +30,7 @@ def readers(source, lists):
 
 def rows(source, table, page):
     """The page with its table of rules."""
-    lists = [name for name, _, _ in list_rules(table)]
+    lists = [name for name, _, _ in read_lists(source, table)[0]]
     text, found = page.read_text(), readers(source, lists)
     if HEAD not in text:
         raise Fault(f"{page} has no table of rules")
@@ -38,5 +39,5 @@ def rows(source, table, page):
     lines = ""
     for words, rule in RULE.findall(table.read_text()):
         sentence = " ".join(line[3:] for line in words.splitlines())
-        lines += f"| `{rule}` | {sentence} | {', '.join(found.get(rule, []))} |\n"
+        lines += f"| `{rule}` | {sentence} | {', '.join(found.get(rule, [UNREAD]))} |\n"
     return before + HEAD + lines + after

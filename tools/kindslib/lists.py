@@ -84,10 +84,15 @@ use Rattle.syn_parse.specs.Listing.{{IsList}}
 {body}"""
 
 
-def comma_lists(source, table):
-    """src/comma_lists.rt, proofs/CommaLists.antt and an answer for each function; a rule whose elements nothing reads is left out."""
+def read_lists(source, table):
+    """The rules that are comma lists, but for those whose elements nothing reads; and what reads the elements of each rule."""
     known = readers(source)
-    lists = [(name, element, words) for name, element, words in list_rules(table) if element in known]
+    return [(name, element, words) for name, element, words in list_rules(table) if element in known], known
+
+
+def comma_lists(source, table):
+    """src/comma_lists.rt, proofs/CommaLists.antt and an answer for each function."""
+    lists, known = read_lists(source, table)
     views = {}
     uses = {"syn_tokens::token": ["Comma"]}
     needs = [("syn_parse::buffer", "ParseBuffer"), ("syn_parse::read::lists", "punctuated_list"), ("syn_tokens::punctuated", "Punctuated"), ("syn_parse::read", "End"), ("syn_parse::read::refusal", "Parsed")]

@@ -2,7 +2,7 @@
 use Rattle.std.specs.Prelude.{Bool, false, [], ◌∷◌, codes}
 use Rattle.syn_grammar.specs.Words.{Text, w_if, colon, comma, semicolon}
 use Rattle.syn_grammar.specs.Tokens.{Paren, literal, begins_text, at_word}
-use Rattle.syn_grammar.specs.Rules.{module_path, type}
+use Rattle.syn_grammar.specs.Rules.{module_path, plain_type}
 use Rattle.syn_grammar.specs.Grammar.{token, name, word, any_literal, rule, Syntax, Token}
 use Rattle.syn_parse.specs.Form.{Condition, by, Form, of, keyword, punctuation, ◌followed_by◌, in_group, list, optional, such_that}
 
@@ -20,7 +20,7 @@ path_form = such_that is_path (of (token [] any_literal))
 
 -- `name: Type`
 abbrev pub parameter_form : Form
-parameter_form = of (token [] name) followed_by punctuation colon followed_by of (rule type)
+parameter_form = of (token [] name) followed_by punctuation colon followed_by of (rule plain_type)
 
 -- in parentheses, parameters with commas between them
 abbrev pub parameters_form : Form

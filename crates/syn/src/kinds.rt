@@ -10,7 +10,7 @@ use syn_tree::derive::DeriveInput;
 use syn_tree::restriction::Visibility;
 
 impl Canonical for DeriveInput {
-    ghost rule = { rules.derive_input };
+    ghost rule = { rules.plain_derive_input };
 
     ghost reads_rule = { refl };
 }
@@ -22,7 +22,7 @@ impl Canonical for Visibility {
 }
 
 impl Canonical for FieldsUnnamed {
-    ghost rule = { rules.fields_unnamed };
+    ghost rule = { rules.plain_fields_unnamed };
 
     ghost reads_rule = { refl };
 }

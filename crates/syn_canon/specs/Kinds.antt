@@ -18,6 +18,6 @@ NoKind word = (kind : Kind) → word ≡ word_of kind → ⊥
 
 -- the rule of the grammar by which a kind is read
 abbrev pub rule_of : Kind → Rule
-rule_of Derive = rules.derive_input
+rule_of Derive = rules.plain_derive_input
 rule_of Visibility = rules.visibility
-rule_of FieldsUnnamed = rules.fields_unnamed
+rule_of FieldsUnnamed = rules.plain_fields_unnamed

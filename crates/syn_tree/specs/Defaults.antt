@@ -1,7 +1,7 @@
 -- Defaults of fields without names, which are refused.
 use Rattle.std.specs.Prelude.{◌≡◌, ℕ, true, List, Some, codes, Result, Ok, Err}
 use Rattle.syn_grammar.specs.Tokens.{Stream}
-use Rattle.syn_grammar.specs.Rules.{visibility, type}
+use Rattle.syn_grammar.specs.Rules.{visibility, plain_type}
 use Rattle.syn_grammar.specs.Grammar.{Syntax}
 use Rattle.syn_grammar.specs.Take.{sees}
 use Rattle.syn_grammar.specs.Run.{parse_rule}
@@ -15,7 +15,7 @@ pub record HasDefault (ts default : Stream) : Type 0 where
   pub ty : Syntax
   pub behind_type : Stream
   pub reads_vis : parse_rule visibility ts ≡ Some (vis, behind_vis)
-  pub reads_type : parse_rule type behind_vis ≡ Some (ty, behind_type)
+  pub reads_type : parse_rule plain_type behind_vis ≡ Some (ty, behind_type)
   pub equals : sees at_equals behind_type ≡ true
   pub is : default ≡ past behind_type
 

@@ -1,6 +1,6 @@
 -- WHAT SYNTAX THE INPUT OF A DERIVE STANDS FOR, one level at a time, every field.
 use Rattle.syn_grammar.specs.Words.{semicolon}
-use Rattle.syn_grammar.specs.Rules.{structure}
+use Rattle.syn_grammar.specs.Rules.{plain_structure}
 use Rattle.syn_grammar.specs.Grammar.{Syntax, Nothing, Both, Left, Right, Node, Case, Unshown}
 use Rattle.syn_tokens.specs.Leaves.{maybe, syntax_of_ident}
 use Rattle.syn_tokens.specs.Idents.{IdentValue}
@@ -40,4 +40,4 @@ abbrev pub structure_syntax : Visibility-m.the_data × IdentValue × DataStruct 
 structure_syntax p = Node (structure_parts (syntax_of_Visibility p.0) (syntax_of_ident p.1) Nothing (syntax_of_DataStruct p.2))
 
 abbrev pub view_DeriveInput : DeriveInput-in.Inside → Syntax
-view_DeriveInput a = Node (Case structure (structure_parts (syntax_of_Visibility a.vis) (syntax_of_ident a.ident) a.generics (syntax_of_Data a.shape)))
+view_DeriveInput a = Node (Case plain_structure (structure_parts (syntax_of_Visibility a.vis) (syntax_of_ident a.ident) a.generics (syntax_of_Data a.shape)))

@@ -14,9 +14,10 @@ use syn_parse::read::refusal::Parsed;
 use syn_tokens::punctuated::Punctuated;
 use syn_tokens::token::Comma;
 
-/// Fields without names: none, or one and, behind a comma, the others. The last comma may stand or not.
-pub(crate) fn unnamed_fields(input: &mut ParseBuffer<'_>) -> Parsed<Punctuated<Field, Comma>>
-    ensures reads { Computes IsSyntax (λ l. list_of itself comma_syntax l.pairs l.last) (parse_rule rules.unnamed_fields input.old) result input.new }
+/// Fields without names, each as it is read today: none, or one and, behind a comma, the others. The last comma may
+/// stand or not.
+pub(crate) fn plain_unnamed_fields(input: &mut ParseBuffer<'_>) -> Parsed<Punctuated<Field, Comma>>
+    ensures reads { Computes IsSyntax (λ l. list_of itself comma_syntax l.pairs l.last) (parse_rule rules.plain_unnamed_fields input.old) result input.new }
     ensures moved { Kept input.old result input.new }
 {
     punctuated_list::<End, Comma, _, _>(input, |next| Field::read_unnamed(next))

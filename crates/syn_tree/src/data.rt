@@ -10,7 +10,7 @@ ghost use Rattle.syn_tree.specs.Data.{field_name};
 ghost use Rattle.syn_parse.specs.Nexts.{RefusedNext, HasFaultNext};
 ghost use Rattle.syn_tree.specs.Defaults.{RefusesDefault};
 
-use crate::comma_lists::unnamed_fields;
+use crate::comma_lists::plain_unnamed_fields;
 use crate::lower::{Attribute, Expr, Type};
 use crate::restriction::Visibility;
 use std::alloc::AllocError;
@@ -65,8 +65,8 @@ impl Field {
     /// at the token behind it, as fields without names have no defaults.
     #[tactic(auto, using(syn_parse::proofs::Refused::refused_by_syntax))]
     pub fn parse_unnamed(input: &mut ParseBuffer<'_>) -> Result<Field>
-        ensures outcome { Outcome IsSyntaxError itself (rule rules.unnamed_field) input.old result input.new }
-        ensures reads { Computes IsSyntaxError itself (parse_rule rules.unnamed_field input.old) result input.new }
+        ensures outcome { Outcome IsSyntaxError itself (rule rules.plain_unnamed_field) input.old result input.new }
+        ensures reads { Computes IsSyntaxError itself (parse_rule rules.plain_unnamed_field input.old) result input.new }
         ensures default { RefusesDefault input.old IsSyntaxError HasFaultNext result }
         ensures unchanged { OnErr result (input.new ≡ input.old) }
         ensures moved { Moved input.old result input.new }
@@ -78,9 +78,9 @@ impl Field {
     }
 
     /// A visibility and a type, which no `=` may follow.
-    #[tactic(auto, using(syn_grammar::proofs::Each::unnamed_field_is))]
+    #[tactic(auto, using(syn_grammar::proofs::Each::plain_unnamed_field_is))]
     pub(crate) fn read_unnamed(input: &mut ParseBuffer<'_>) -> Parsed<Field>
-        ensures parses { Parses IsSyntax itself rules.unnamed_field input.old result input.new }
+        ensures parses { Parses IsSyntax itself rules.plain_unnamed_field input.old result input.new }
         ensures default { RefusesDefault input.old IsSyntax RefusedNext result }
     {
         let field = Field {
@@ -103,14 +103,14 @@ impl Field {
 
 /// Fields in parentheses.
 impl Read for FieldsUnnamed {
-    ghost form = { of (rule rules.fields_unnamed) };
+    ghost form = { of (rule rules.plain_fields_unnamed) };
 
-    ghost meaning = { meaning_of_rule rules.fields_unnamed };
+    ghost meaning = { meaning_of_rule rules.plain_fields_unnamed };
 
-    #[tactic(auto, using(syn_grammar::proofs::Each::fields_unnamed_is), unfolding(syn_grammar::specs::Take::is_end))]
+    #[tactic(auto, using(syn_grammar::proofs::Each::plain_fields_unnamed_is), unfolding(syn_grammar::specs::Take::is_end))]
     fn read(input: &mut ParseBuffer<'_>) -> Parsed<FieldsUnnamed> {
         let (paren_token, mut content) = input.read_group::<kind::Paren>()?;
-        let unnamed = unnamed_fields(&mut content)?;
+        let unnamed = plain_unnamed_fields(&mut content)?;
         content.read_end()?;
         Ok(FieldsUnnamed {
             paren_token,

@@ -42,11 +42,11 @@ pub struct DataStruct {
 
 /// A struct.
 impl Read for DeriveInput {
-    ghost form = { of (rule rules.derive_input) };
+    ghost form = { of (rule rules.plain_derive_input) };
 
-    ghost meaning = { meaning_of_rule rules.derive_input };
+    ghost meaning = { meaning_of_rule rules.plain_derive_input };
 
-    #[tactic(auto, using(syn_grammar::proofs::Each::derive_input_is))]
+    #[tactic(auto, using(syn_grammar::proofs::Each::plain_derive_input_is))]
     fn read(input: &mut ParseBuffer<'_>) -> Parsed<DeriveInput> {
         let (vis, ident, data) = structure(input)?;
         Ok(DeriveInput {
@@ -60,9 +60,9 @@ impl Read for DeriveInput {
 }
 
 /// A visibility, `struct`, a name and what stands behind it.
-#[tactic(auto, using(syn_grammar::proofs::Each::structure_is))]
+#[tactic(auto, using(syn_grammar::proofs::Each::plain_structure_is))]
 fn structure(input: &mut ParseBuffer<'_>) -> Parsed<(Visibility, Ident, DataStruct)>
-    ensures reads { Computes IsSyntax structure_syntax (parse_rule rules.structure input.old) result input.new }
+    ensures reads { Computes IsSyntax structure_syntax (parse_rule rules.plain_structure input.old) result input.new }
     ensures moved { Moved input.old result input.new }
 {
     let vis = input.read()?;
@@ -81,9 +81,9 @@ fn structure(input: &mut ParseBuffer<'_>) -> Parsed<(Visibility, Ident, DataStru
 }
 
 /// Fields in parentheses or none, and `;`.
-#[tactic(auto, using(syn_grammar::proofs::Each::structure_body_is))]
+#[tactic(auto, using(syn_grammar::proofs::Each::plain_structure_body_is))]
 fn structure_body(input: &mut ParseBuffer<'_>) -> Parsed<(Fields, Semi)>
-    ensures reads { Computes IsSyntax body_syntax (parse_rule rules.structure_body input.old) result input.new }
+    ensures reads { Computes IsSyntax body_syntax (parse_rule rules.plain_structure_body input.old) result input.new }
     ensures moved { Moved input.old result input.new }
 {
     if input.peek::<Paren>() {

@@ -25,11 +25,11 @@ pub struct TypePath {
 pub enum QSelf {}
 
 impl Read for TypePath {
-    ghost form = { of (rule rules.type_path) };
+    ghost form = { of (rule rules.plain_type_path) };
 
-    ghost meaning = { meaning_of_rule rules.type_path };
+    ghost meaning = { meaning_of_rule rules.plain_type_path };
 
-    #[tactic(auto, using(syn_grammar::proofs::Each::type_path_is))]
+    #[tactic(auto, using(syn_grammar::proofs::Each::plain_type_path_is))]
     fn read(input: &mut ParseBuffer<'_>) -> Parsed<TypePath> {
         Ok(TypePath {
             qself: None,
@@ -39,11 +39,11 @@ impl Read for TypePath {
 }
 
 impl Read for Type {
-    ghost form = { of (rule rules.type) };
+    ghost form = { of (rule rules.plain_type) };
 
-    ghost meaning = { meaning_of_rule rules.type };
+    ghost meaning = { meaning_of_rule rules.plain_type };
 
-    #[tactic(auto, using(syn_grammar::proofs::Each::type_is))]
+    #[tactic(auto, using(syn_grammar::proofs::Each::plain_type_is))]
     fn read(input: &mut ParseBuffer<'_>) -> Parsed<Type> {
         Ok(Type::Path(input.read()?))
     }
