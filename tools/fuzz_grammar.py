@@ -4,9 +4,13 @@
     tools/fuzz_grammar.py --oracle FOLDER [--stage N] [--count N] [--seed N]
 
 The repository holds no oracle. Give the folder of one by --oracle, or in the environment variable ORACLE; without it nothing is compared,
-and the status is 2. It must have oracle.py (with KINDS, parse2, parse_prefix, flat, SynErr and the token classes) and gen.py (random sentences of its own).
+and the status is 2. It must have oracle.py (with KINDS, parse2, parse_prefix, flat, SynErr, the token classes, and a function for each
+part below) and gen.py (random sentences of its own).
 
-Random token trees, from sentences of the table and of the oracle's own, unchanged and changed, are read by the table in force
+A stage says how far the oracle builds the grammar. The rules of what is read today are compared at stage 1, those of whole derive inputs
+at stage 2.
+
+Random token trees, from sentences of the table and of the oracle's own, unchanged and changed, are read by the table
 (by a reader in Python of specs/Table.antt) and by the oracle. They must agree whether the whole is read, on its print, token by token
 with spacing; and whether a beginning is read, on its print and on how many trees are left. The worked examples (tools/examples.txt)
 of rules that the oracle knows are compared as well. Prints each difference, and a summary; ends with 1 where something differs."""
@@ -25,12 +29,78 @@ from grammarlib.source import Source
 from grammarlib.tokens import DELIMITER_TEXTS, Group, Ident, Literal, Punct, read_text, shown, stream
 
 HERE = Path(__file__).resolve().parent
-# the oracle's name of a kind, and the rule that reads it
+CRATE = HERE.parent / 'crates' / 'syn_grammar'
+# of each stage, the oracle's name of a kind, and the rule that reads it
 KINDS = {
-    'derive': 'derive_input', 'visibility': 'visibility', 'fields-unnamed': 'fields_unnamed', 'unnamed-field': 'unnamed_field',
-    'fields-named': 'fields_named', 'variant': 'variant', 'named-field': 'named_field', 'item-struct': 'structure',
-    'item-enum': 'enumeration', 'item-union': 'union_item', 'type': 'type'}
+    1: {'derive': 'plain_derive_input', 'visibility': 'visibility', 'fields-unnamed': 'plain_fields_unnamed',
+        'unnamed-field': 'plain_unnamed_field', 'type': 'plain_type'},
+    2: {'derive': 'derive_input', 'visibility': 'visibility', 'fields-unnamed': 'fields_unnamed', 'unnamed-field': 'unnamed_field',
+        'fields-named': 'fields_named', 'variant': 'variant', 'named-field': 'named_field', 'item-struct': 'structure',
+        'item-enum': 'enumeration', 'item-union': 'union_item', 'type': 'type', 'expr': 'expression'},
+}
+# of each stage, the rules of parts, which the oracle reads by a function and not by a kind
+PARTS = {
+    1: ['module_path', 'plain_type_path', 'plain_unnamed_fields'],
+    2: ['attributes', 'meta', 'module_path', 'type_path', 'type_words', 'return_type', 'generic_arguments', 'generic_argument',
+        'qualified_path', 'types', 'generics', 'lifetime_parameter', 'lifetimes', 'parameter_bounds', 'bound', 'trait_bound',
+        'where_clause', 'predicate', 'predicate_bounds', 'named_fields', 'unnamed_fields', 'variants', 'structure_rest',
+        'enumeration_rest', 'union_item_rest'],
+}
+# parts that the oracle reads to the end of a group alone: of these no beginnings are compared
+TO_THE_END = ['meta', 'types', 'named_fields', 'unnamed_fields', 'plain_unnamed_fields', 'variants']
 SHOWN = 20
+
+
+def part_readers(o):
+    """How the oracle `o` reads parts, by their rules: functions of its cursor."""
+    path = lambda style: lambda c: o.p_path(c, style)
+    members = lambda read: lambda c: o.commas(c, read)
+    bounds = lambda end: lambda c: o.p_bounds(c, end)
+    bare = lambda read: lambda c: read(c, [])
+    return {
+        'attributes': o.p_outer, 'meta': o.p_meta, 'module_path': path('mod'), 'type_path': path('type'), 'plain_type_path': path('type'),
+        'type_words': lambda c: words_of(o, c), 'return_type': o.p_return_type, 'generic_arguments': lambda c: o.p_angle(c, None),
+        'generic_argument': lambda c: argument_of(o, c), 'qualified_path': lambda c: qualified_of(o, c), 'types': members(o.p_type),
+        'generics': o.p_generics, 'lifetime_parameter': o.p_lifetime_param, 'lifetimes': o.p_lifetimes,
+        'parameter_bounds': bounds(o.end_param), 'bound': o.p_bound, 'trait_bound': o.p_trait_bound,
+        'where_clause': lambda c: where_of(o, c), 'predicate': o.p_predicate, 'predicate_bounds': bounds(o.end_where),
+        'named_fields': members(o.p_named_field), 'unnamed_fields': members(o.p_unnamed_field),
+        'plain_unnamed_fields': members(o.p_unnamed_field), 'variants': members(o.p_variant),
+        'structure_rest': bare(o.p_struct), 'enumeration_rest': bare(o.p_enum), 'union_item_rest': bare(o.p_union)}
+
+
+def words_of(o, c):
+    words = o.Pun()
+    o.p_segments(c, 'type', words)
+    return words
+
+
+def argument_of(o, c):
+    """A generic argument that isn't a lifetime."""
+    if c.lifetime():
+        raise c.err()
+    return o.p_generic_arg(c)
+
+
+def qualified_of(o, c):
+    before, path = o.p_qpath(c, 'type')
+    return o.N('TypePath', qself=before, path=path)
+
+
+def where_of(o, c):
+    """A where clause, as it is printed."""
+    clause = o.p_where(c)
+    return [clause.where, clause.predicates] if clause and clause.predicates else []
+
+
+# sentences of parts by the oracle's generator; of the others the table alone makes sentences
+PART_SENTENCES = {
+    'attributes': lambda g, d: g.oa(1, 0.5), 'meta': lambda g, d: g.meta(d), 'module_path': lambda g, d: g.modpath(d),
+    'type_path': lambda g, d: g.path(d, 'type'), 'generic_arguments': lambda g, d: g.gargs(d),
+    'qualified_path': lambda g, d: g.qpath(d, 'type'), 'generics': lambda g, d: g.gen(d, 0.95),
+    'lifetime_parameter': lambda g, d: g.ltparam(d), 'lifetimes': lambda g, d: g.lifetimes(), 'parameter_bounds': lambda g, d: g.bounds(d),
+    'bound': lambda g, d: g.bound(d), 'where_clause': lambda g, d: g.where(d, 0.95), 'predicate': lambda g, d: g.pred(d),
+    'predicate_bounds': lambda g, d: g.bounds(d)}
 
 
 class Oracle:
@@ -41,6 +111,8 @@ class Oracle:
         oracle.STAGE = stage
         self.o, self.own = oracle, gen
         self.delimiters = {DELIMITER_TEXTS[d][0]: d for d in ('Paren', 'Brace', 'Bracket')}
+        readers = part_readers(oracle)
+        oracle.API_KINDS.update({rule: (readers[rule], stage) for rule in PARTS[stage]})
 
     def to(self, trees):
         o = self.o
@@ -72,7 +144,9 @@ class Oracle:
             return None
 
     def sentence(self, generator, kind):
-        return self.back(generator.trees(generator.atoms(kind, generator.r.randint(0, 2)), 0.1))
+        depth = generator.r.randint(0, 2)
+        atoms = PART_SENTENCES[kind](generator, depth) if kind in PART_SENTENCES else generator.atoms(kind, depth)
+        return self.back(generator.trees(atoms, 0.1))
 
 
 class Table:
@@ -91,9 +165,15 @@ class Table:
             return None
 
 
+def pairs(stage):
+    """The kinds and parts of a stage, each with its rule."""
+    return list(KINDS[stage].items()) + [(rule, rule) for rule in PARTS[stage]]
+
+
 def random_trees(sentences, oracle, generator, rule, kind):
     r = sentences.random
-    if r.random() < 0.25:
+    is_known = kind in PART_SENTENCES or kind != rule
+    if (is_known or kind == 'visibility') and r.random() < 0.25:
         trees = oracle.sentence(generator, kind)
     else:
         trees = sentences.sentence(rule, r.choice([3, 5, 7, 9]))
@@ -112,7 +192,9 @@ class Comparison:
     def of(self, kind, rule, trees):
         self.inputs += 1
         mine, theirs = self.table.whole(rule, trees), self.oracle.whole(kind, trees)
-        first, second = self.table.beginning(rule, trees), self.oracle.beginning(kind, trees)
+        first = second = None
+        if kind not in TO_THE_END:
+            first, second = self.table.beginning(rule, trees), self.oracle.beginning(kind, trees)
         self.accepted += theirs is not None
         self.begun += second is not None
         if mine == theirs and first == second:
@@ -128,7 +210,7 @@ def compare(options):
     source = Source(options.crate)
     lookaheads = Lookaheads(source)
     oracle = Oracle(options.oracle, options.stage)
-    kinds = [(k, r) for k, r in KINDS.items() if r in source.table]
+    kinds = pairs(options.stage)
     found = Comparison(Table(Reader(lookaheads, source.table)), oracle)
     for example in parse(HERE / 'examples.txt', source.rules):
         for kind in [k for k, rule in kinds if rule == example.rule]:
@@ -158,10 +240,10 @@ def without_oracle(message):
 def main():
     parser = argparse.ArgumentParser(description=__doc__, formatter_class=argparse.RawDescriptionHelpFormatter)
     parser.add_argument('--oracle', type=Path, default=os.environ.get('ORACLE') and Path(os.environ['ORACLE']))
-    parser.add_argument('--stage', type=int, default=1, help='how far the oracle builds the grammar')
+    parser.add_argument('--stage', type=int, default=1, choices=sorted(KINDS), help='how far the oracle builds the grammar')
     parser.add_argument('--count', type=int, default=20000)
     parser.add_argument('--seed', type=int, default=1)
-    parser.add_argument('--crate', type=Path, default=HERE.parent / 'crates' / 'syn_grammar')
+    parser.add_argument('--crate', type=Path, default=CRATE)
     options = parser.parse_args()
     if not options.oracle:
         without_oracle('nothing was compared: the repository holds no oracle; give the folder of one by --oracle FOLDER or in ORACLE')

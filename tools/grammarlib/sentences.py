@@ -3,6 +3,7 @@ from .lookaheads import EMPTY, NEVER
 from .tokens import Group, Ident, Literal, Punct
 
 NAMES = ['a', 'b', 'T', 'x', 'union', 'auto', 'foo']
+LIFETIMES = ['a', 'a', 'b', 'static', '_', 'where', 'mut', 'r#in']  # an identifier of any text
 LITERALS = {'Int': ['0', '1', '01', '7u8'], 'Float': ['1.5'], 'Char': ["'c'"], 'Byte': ["b'x'"],
             'Str': ['"s"'], 'ByteStr': ['b"x"'], 'CStr': ['c"x"']}
 STRAY = (
@@ -62,7 +63,7 @@ class Sentences:
         if kind == 'mark':
             return self.mark(form[2])
         if kind == 'lifetime':
-            return [Punct("'", True), Ident(r.choice('ab'))]
+            return [Punct("'", True), Ident(r.choice(LIFETIMES))]
         if kind == 'raw':
             return [Group(form[1][0], (r.choice(STRAY),))]
         return self.mark(form[1]) + [r.choice(STRAY)]

@@ -1,0 +1,141 @@
+#!/usr/bin/env python3
+"""Tests of tools/fuzz_grammar.py: what it compares, and what it says. Run it with no arguments."""
+import os
+import subprocess
+import sys
+import tempfile
+import unittest
+from pathlib import Path
+
+from fuzz_grammar import KINDS, PART_SENTENCES, PARTS, TO_THE_END, pairs
+from grammarlib.source import Source
+
+HERE = Path(__file__).resolve().parent
+CRATE = HERE.parent / 'crates' / 'syn_grammar'
+
+# an oracle that reads by the table itself, but for the kind WRONG, of which it reads nothing; its parts are what it is asked for
+ORACLE = '''
+from collections import namedtuple
+from pathlib import Path
+from fuzz_grammar import CRATE, Oracle, Table, pairs
+from grammarlib.lookaheads import Lookaheads
+from grammarlib.reader import Reader
+from grammarlib.source import Source
+
+Ident, Punct = namedtuple('Ident', 'text'), namedtuple('Punct', 'ch joint')
+Lit, Group = namedtuple('Lit', 'kind text'), namedtuple('Group', 'delim trees')
+API_KINDS = {}
+SOURCE = Source(CRATE)
+TABLE = Table(Reader(Lookaheads(SOURCE), SOURCE.table))
+
+
+class SynErr(Exception):
+    pass
+
+
+class Mirror(Oracle):
+    def __init__(self):
+        import oracle
+        self.o, self.delimiters = oracle, {'(': 'Paren', '{': 'Brace', '[': 'Bracket'}
+
+
+def __getattr__(name):
+    if name.startswith(('p_', 'end_')) or name in ('commas', 'Pun', 'N'):
+        return lambda *words: None
+    raise AttributeError(name)
+
+
+def parse_prefix(kind, trees):
+    trees = Mirror().back(trees)
+    found = TABLE.beginning(dict(pairs(STAGE))[kind], trees)
+    if found is None or kind == WRONG:
+        raise SynErr()
+    return found[0], trees[len(trees) - found[1]:]
+
+
+def parse2(kind, trees):
+    tree, rest = parse_prefix(kind, trees)
+    if rest:
+        raise SynErr()
+    return tree
+
+
+def flat(tree):
+    return Mirror().to(tree)
+'''
+GENERATOR = '''
+import random
+from oracle import Ident
+
+
+class G:
+    def __init__(self, seed, stage):
+        self.r = random.Random(seed)
+
+    def __getattr__(self, name):
+        return lambda *words: ['a', 'b']
+
+    def trees(self, atoms, loose):
+        return [Ident(text) for text in atoms]
+'''
+
+
+def fuzz(*words, **settings):
+    environment = {k: v for k, v in os.environ.items() if k != 'ORACLE'} | settings
+    found = subprocess.run([sys.executable, HERE / 'fuzz_grammar.py', *words], capture_output=True, text=True, env=environment)
+    return found.returncode, found.stdout, found.stderr
+
+
+class Fuzz(unittest.TestCase):
+    def oracle(self, wrong=None):
+        folder = tempfile.TemporaryDirectory()
+        self.addCleanup(folder.cleanup)
+        (Path(folder.name) / 'oracle.py').write_text(f'WRONG = {wrong!r}\n{ORACLE}')
+        (Path(folder.name) / 'gen.py').write_text(GENERATOR)
+        return folder.name
+
+    def test_each_stage_names_rules_of_the_table(self):
+        rules = Source(CRATE).rules
+        self.assertEqual(list(KINDS), list(PARTS))
+        for stage in KINDS:
+            found = [rule for _, rule in pairs(stage)]
+            self.assertEqual([rule for rule in found if rule not in rules], [])
+            self.assertEqual(len(found), len(set(found)))
+        today = {rule for _, rule in pairs(1)} - {rule for _, rule in pairs(2)}
+        self.assertTrue(all(rule.startswith('plain_') for rule in today))
+        self.assertFalse(any(rule.startswith('plain_') for _, rule in pairs(2)))
+        parts = PARTS[1] + PARTS[2]
+        self.assertLessEqual({*TO_THE_END, *PART_SENTENCES}, set(parts))
+
+    def test_what_agrees(self):
+        for stage in ('1', '2'):
+            status, said, faults = fuzz('--oracle', self.oracle(), '--stage', stage, '--count', '60')
+            self.assertEqual((status, faults), (0, ''), said)
+            self.assertIn(' worked examples and 60 inputs, ', said)
+            self.assertRegex(said, rf' 0 differ \(\d+ s, seed 1, stage {stage}\)')
+
+    def test_a_difference(self):
+        status, said, _ = fuzz('--oracle', self.oracle('visibility'), '--count', '1')
+        self.assertEqual(status, 1)
+        self.assertIn("DIFFERENT visibility: pub\n  whole: table [Ident(text='pub', ", said)
+        self.assertNotIn('DIFFERENT derive', said)
+
+    def test_the_rules_of_the_stage_are_compared(self):
+        differ = {}
+        for stage in ('1', '2'):
+            status, said, _ = fuzz('--oracle', self.oracle('type'), '--stage', stage, '--count', '1')
+            self.assertEqual(status, 1)
+            differ[stage] = "DIFFERENT type: &'a mut T\n" in said
+        self.assertEqual(differ, {'1': False, '2': True})
+
+    def test_without_an_oracle(self):
+        status, said, faults = fuzz()
+        self.assertEqual((status, said), (2, ''))
+        self.assertIn('nothing was compared', faults)
+        self.assertEqual(fuzz('--oracle', tempfile.gettempdir())[0], 2)
+        self.assertEqual(fuzz(ORACLE=tempfile.gettempdir())[0], 2)
+        self.assertEqual(fuzz('--oracle', self.oracle(), '--stage', '3')[0], 2)
+
+
+if __name__ == '__main__':
+    unittest.main()
