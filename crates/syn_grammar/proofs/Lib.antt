@@ -34,3 +34,5 @@ pub mod Shown
 pub mod Examples
 pub mod Shapes
 pub mod Same
+pub mod PlainValues
+pub mod Alone

@@ -17,18 +17,18 @@ use Rattle.syn_grammar.proofs.Takes.{sees_is, end_found}
 use Rattle.syn_grammar.proofs.Means.{told, found}
 
 -- nothing is computed where nothing is read
-computes_none : (g : Grammar) (ts : Stream) → visible ts ≡ true → NotDerived g ts → parse_form g ts ≡ None
-computes_none g ts v u = go (parse_form g ts) refl
+computes_none : (g : Grammar) (ts : Stream) → NotDerived g ts → parse_form g ts ≡ None
+computes_none g ts u = go (parse_form g ts) refl
   where
     go : (o : Out) → parse_form g ts ≡ o → o ≡ None
     go None e = refl
-    go (Some p) e = let t = told g ts p v e in absurd (u t.0 p.1 t.1)
+    go (Some p) e = let t = told g ts p e in absurd (u t.0 p.1 t.1)
 
 -- every form whose unions are apart means what is computed of it
 pub meaning_of : (g : Grammar) → sound table start_of g ≡ true → Meaning g
 meaning_of g w ts v = (
-  λ s r. (λ e. told g ts (s, r) v e, λ (t, a, f). found g t ts r v w a ∙ ap (λ z. Some (z, r)) f),
-  (λ e s r a. absurd (cc (sym e ∙ found g s ts r v w a)), computes_none g ts v),
+  λ s r. (λ e. told g ts (s, r) e, λ (t, a, f). found g t ts r w a ∙ ap (λ z. Some (z, r)) f),
+  (λ e s r a. absurd (cc (sym e ∙ found g s ts r w a)), computes_none g ts),
 )
 
 pub meaning_of_rule : (k : Rule) → Meaning (rule k)

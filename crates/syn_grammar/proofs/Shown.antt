@@ -35,7 +35,7 @@ computed k ts printed rest v h = subst (Said k ts) h (go (parse_rule k ts) refl)
     go : (o : Out) → parse_rule k ts ≡ o → Said k ts (printed_of o)
     go None e = tt
     go (Some p) e =
-        let t = parse_rule_told k ts p v e in
+        let t = parse_rule_told k ts p e in
         (t.0, t.1, ap plain (sym (print_value t.0) ∙ ap print t.2))
 
 -- nothing is read where nothing is computed

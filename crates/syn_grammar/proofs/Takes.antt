@@ -85,63 +85,63 @@ pub span_some : (ts r : Stream) (sp sq : Span) → first_span ts r ≡ Some sp �
 unfolding left
 span_some ts r sp sq e = let h = span_less ts r sp e in omega (arith, h)
 
--- ---- what they take, their forms read; on visible streams
-pub sees_is : (c : Look) (ts : Stream) → visible ts ≡ true → sees c ts ≡ stands c ts
+-- ---- what they take, their forms read
+pub sees_stands : (c : Look) (ts : Stream) → sees c ts ≡ stands c ts
 unfolding sees lookahead_at
-sees_is c ts v = refl
+sees_stands c ts = refl
 
-pub end_told : (ts : Stream) → visible ts ≡ true → is_end ts ≡ true → ts ≡ end
+pub end_is : (ts : Stream) → is_end ts ≡ true → ts ≡ end
 unfolding is_end
-end_told end v e = refl
-end_told (leaf x sp m) v e = absurd (true≢false (sym e))
-end_told (punct c j sp m) v e = absurd (true≢false (sym e))
-end_told (group d o c i m) v e = absurd (true≢false (sym e))
+end_is end e = refl
+end_is (leaf x sp m) e = absurd (true≢false (sym e))
+end_is (punct c j sp m) e = absurd (true≢false (sym e))
+end_is (group d o c i m) e = absurd (true≢false (sym e))
 
 pub end_found : is_end end ≡ true
 unfolding is_end
 end_found = refl
 
-pub tree_is : (ts : Stream) → visible ts ≡ true → no (is_end ts) ≡ some_tree ts
+pub tree_is : (ts : Stream) → no (is_end ts) ≡ some_tree ts
 unfolding is_end
-tree_is end v = refl
-tree_is (leaf x sp m) v = refl
-tree_is (punct c j sp m) v = refl
-tree_is (group d o c i m) v = refl
+tree_is end = refl
+tree_is (leaf x sp m) = refl
+tree_is (punct c j sp m) = refl
+tree_is (group d o c i m) = refl
 
-pub token_told : (k : Kind) (ts : Stream) (x : TreeAndRest) → visible ts ≡ true → take_token k ts ≡ Some x → (y : Leaf) × (sp : Span) × (x.0 ≡ Token y sp) × (fits k y ≡ true) × (ts ≡ leaf y sp x.1)
+pub token_told : (k : Kind) (ts : Stream) (x : TreeAndRest) → take_token k ts ≡ Some x → (y : Leaf) × (sp : Span) × (x.0 ≡ Token y sp) × (fits k y ≡ true) × (ts ≡ leaf y sp x.1)
 unfolding take_token
-token_told k end x v e = absurd (cc e)
-token_told k (leaf y sp r) x v e =
+token_told k end x e = absurd (cc e)
+token_told k (leaf y sp r) x e =
     let h = inv_only (fits k y) _ x e in
     let a : x.0 ≡ Token y sp = cc h.1 in
     let b : r ≡ x.1 = cc h.1 in
     (y, sp, a, h.0, ap (leaf y sp) b)
-token_told k (punct c j sp m) x v e = absurd (cc e)
-token_told k (group d o c i m) x v e = absurd (cc e)
+token_told k (punct c j sp m) x e = absurd (cc e)
+token_told k (group d o c i m) x e = absurd (cc e)
 
-pub token_found : (k : Kind) (y : Leaf) (sp : Span) (ts r : Stream) → visible ts ≡ true → fits k y ≡ true → ts ≡ leaf y sp r → take_token k ts ≡ Some (Token y sp, r)
+pub token_found : (k : Kind) (y : Leaf) (sp : Span) (ts r : Stream) → fits k y ≡ true → ts ≡ leaf y sp r → take_token k ts ≡ Some (Token y sp, r)
 unfolding take_token
-token_found k y sp ts r v h e = ap (take_token k) e ∙ ap (λ b. only b (Some (Token y sp, r))) h
+token_found k y sp ts r h e = ap (take_token k) e ∙ ap (λ b. only b (Some (Token y sp, r))) h
 
-pub lifetime_told : (ts : Stream) (x : TreeAndRest) → visible ts ≡ true → take_lifetime ts ≡ Some x → (sp : Span) × (y : Text) × (sq : Span) × (x.0 ≡ Lifetime sp y sq) × (ts ≡ punct 39 true sp (leaf (ident y) sq x.1))
+pub lifetime_told : (ts : Stream) (x : TreeAndRest) → take_lifetime ts ≡ Some x → (sp : Span) × (y : Text) × (sq : Span) × (x.0 ≡ Lifetime sp y sq) × (ts ≡ punct 39 true sp (leaf (ident y) sq x.1))
 unfolding take_lifetime
-lifetime_told (punct c true sp (leaf (ident y) sq r)) x v e =
+lifetime_told (punct c true sp (leaf (ident y) sq r)) x e =
     let h = inv_only (nat_eq c 39) _ x e in
     let a : x.0 ≡ Lifetime sp y sq = cc h.1 in
     let b : r ≡ x.1 = cc h.1 in
     (sp, y, sq, a, ap (λ n. punct n true sp (leaf (ident y) sq r)) (eqb-true c 39 h.0) ∙ ap (λ m. punct 39 true sp (leaf (ident y) sq m)) b)
-lifetime_told (punct c true sp (leaf (literal k y) sq r)) x v e = absurd (cc e)
-lifetime_told (punct c true sp end) x v e = absurd (cc e)
-lifetime_told (punct c true sp (punct c' j' sq m)) x v e = absurd (cc e)
-lifetime_told (punct c true sp (group d o q i m)) x v e = absurd (cc e)
-lifetime_told (punct c false sp m) x v e = absurd (cc e)
-lifetime_told end x v e = absurd (cc e)
-lifetime_told (leaf y sp m) x v e = absurd (cc e)
-lifetime_told (group d o c i m) x v e = absurd (cc e)
+lifetime_told (punct c true sp (leaf (literal k y) sq r)) x e = absurd (cc e)
+lifetime_told (punct c true sp end) x e = absurd (cc e)
+lifetime_told (punct c true sp (punct c' j' sq m)) x e = absurd (cc e)
+lifetime_told (punct c true sp (group d o q i m)) x e = absurd (cc e)
+lifetime_told (punct c false sp m) x e = absurd (cc e)
+lifetime_told end x e = absurd (cc e)
+lifetime_told (leaf y sp m) x e = absurd (cc e)
+lifetime_told (group d o c i m) x e = absurd (cc e)
 
-pub lifetime_found : (sp : Span) (y : Text) (sq : Span) (ts r : Stream) → visible ts ≡ true → ts ≡ punct 39 true sp (leaf (ident y) sq r) → take_lifetime ts ≡ Some (Lifetime sp y sq, r)
+pub lifetime_found : (sp : Span) (y : Text) (sq : Span) (ts r : Stream) → ts ≡ punct 39 true sp (leaf (ident y) sq r) → take_lifetime ts ≡ Some (Lifetime sp y sq, r)
 unfolding take_lifetime
-lifetime_found sp y sq ts r v e = ap take_lifetime e
+lifetime_found sp y sq ts r e = ap take_lifetime e
 
 -- a mark that stands in front of what is left
 abbrev Marked : Text → Stream → Spelling → Type 0
@@ -166,9 +166,9 @@ chars_told (c ∷ f ∷ l) (punct d true sp r) x e =
     more (Some p) h q u e = let a : ◌≡◌ {A = Spelling} ((d, sp) ∷ p.0, p.1) x = cc e in subst (Marked (c ∷ f ∷ l) (punct d true sp r)) a (longer c f l d sp r p q (u p h))
 chars_told _ _ x e = absurd (cc e)
 
-pub mark_told : (cs : Text) (ts : Stream) (x : TreeAndRest) → visible ts ≡ true → take_mark cs ts ≡ Some x → (xs : List (ℕ × Span)) × (x.0 ≡ Mark xs) × (chars xs ≡ cs) × Spelled xs ts x.1
+pub mark_told : (cs : Text) (ts : Stream) (x : TreeAndRest) → take_mark cs ts ≡ Some x → (xs : List (ℕ × Span)) × (x.0 ≡ Mark xs) × (chars xs ≡ cs) × Spelled xs ts x.1
 unfolding take_mark
-mark_told cs ts x v e = go (take_chars cs ts) refl e
+mark_told cs ts x e = go (take_chars cs ts) refl e
   where
     go : (o : Chars) → take_chars cs ts ≡ o → marked o ≡ Some x → (xs : List (ℕ × Span)) × (x.0 ≡ Mark xs) × (chars xs ≡ cs) × Spelled xs ts x.1
     go None h e = absurd (cc e)
@@ -184,23 +184,23 @@ chars_found (x ∷ []) ts r h = ap (take_chars (x.0 ∷ [])) h.1 ∙ ap (λ b. o
 chars_found (x ∷ y ∷ l) ts r h = ap (take_chars (x.0 ∷ y.0 ∷ chars l)) h.1 ∙ ap (λ b. only b (add_char x.0 x.1 (take_chars (chars (y ∷ l)) h.0))) (eq-eqb x.0 x.0 refl)
     ∙ ap (add_char x.0 x.1) (chars_found (y ∷ l) h.0 r h.2)
 
-pub mark_found : (xs : List (ℕ × Span)) (cs : Text) (ts r : Stream) → visible ts ≡ true → chars xs ≡ cs → Spelled xs ts r → take_mark cs ts ≡ Some (Mark xs, r)
+pub mark_found : (xs : List (ℕ × Span)) (cs : Text) (ts r : Stream) → chars xs ≡ cs → Spelled xs ts r → take_mark cs ts ≡ Some (Mark xs, r)
 unfolding take_mark
-mark_found xs cs ts r v e h = ap (λ l. marked (take_chars l ts)) (sym e) ∙ ap marked (chars_found xs ts r h)
+mark_found xs cs ts r e h = ap (λ l. marked (take_chars l ts)) (sym e) ∙ ap marked (chars_found xs ts r h)
 
-pub group_told : (d : Delimiter) (ts : Stream) (g : Opened) → visible ts ≡ true → take_group d ts ≡ Some g → ts ≡ group d g.opening g.closing g.content g.rest
+pub group_taken : (d : Delimiter) (ts : Stream) (g : Opened) → take_group d ts ≡ Some g → ts ≡ group d g.opening g.closing g.content g.rest
 unfolding take_group
-group_told d end g v e = absurd (cc e)
-group_told d (leaf x sp m) g v e = absurd (cc e)
-group_told d (punct c j sp m) g v e = absurd (cc e)
-group_told d (group d' o c i r) g v e =
+group_taken d end g e = absurd (cc e)
+group_taken d (leaf x sp m) g e = absurd (cc e)
+group_taken d (punct c j sp m) g e = absurd (cc e)
+group_taken d (group d' o c i r) g e =
     let h = inv_only (same_delimiter d d') _ g e in
     let a : record { opening = o; closing = c; content = i; rest = r } ≡ g = cc h.1 in
     ap (λ v. group v o c i r) (sym (same_delimiter_eq d d' h.0)) ∙ ap (λ g. group d g.opening g.closing g.content g.rest) a
 
-pub group_found : (d : Delimiter) (o c : Span) (i ts r : Stream) → visible ts ≡ true → ts ≡ group d o c i r → take_group d ts ≡ Some (record { opening = o; closing = c; content = i; rest = r })
+pub group_takes : (d : Delimiter) (o c : Span) (i ts r : Stream) → ts ≡ group d o c i r → take_group d ts ≡ Some (record { opening = o; closing = c; content = i; rest = r })
 unfolding take_group
-group_found d o c i ts r v e = ap (take_group d) e ∙ ap (λ b. only b (Some (record { opening = o; closing = c; content = i; rest = r }))) (eq-eqb (delimiter_number d) (delimiter_number d) refl)
+group_takes d o c i ts r e = ap (take_group d) e ∙ ap (λ b. only b (Some (record { opening = o; closing = c; content = i; rest = r }))) (eq-eqb (delimiter_number d) (delimiter_number d) refl)
 
 -- ---- what stood before a rest
 length_append : (a b : Stream) → length (a ⧺ b) ≡ length a + length b
@@ -215,26 +215,39 @@ first_append (leaf x sp m) b = ap (leaf x sp) (first_append m b)
 first_append (punct c j sp m) b = ap (punct c j sp) (first_append m b)
 first_append (group d o c i m) b = ap (group d o c i) (first_append m b)
 
-pub before_is : (ts c r : Stream) → visible ts ≡ true → ts ≡ c ⧺ r → before ts r ≡ c
+pub before_is : (ts c r : Stream) → ts ≡ c ⧺ r → before ts r ≡ c
 unfolding before
-before_is ts c r v e =
+before_is ts c r e =
     let n : length (c ⧺ r) - length r ≡ length c = let l = length_append c r in omega arith in
     ap (λ t. first (length t - length r) t) e ∙ ap (λ n. first n (c ⧺ r)) n ∙ first_append c r
 
-pub span_told : (ts c r : Stream) (sp : Span) → visible ts ≡ true → ts ≡ c ⧺ r → first_span ts r ≡ Some sp → (x : Leaf) × (d : Stream) × (ts ≡ leaf x sp (d ⧺ r))
+pub span_told : (ts c r : Stream) (sp : Span) → ts ≡ c ⧺ r → first_span ts r ≡ Some sp → (x : Leaf) × (d : Stream) × (ts ≡ leaf x sp (d ⧺ r))
 unfolding first_span
-span_told ts end r sp v e f = absurd (less_than_itself (left r) (subst (λ z. left r < left z) e (ltb-true (left r) (left ts) (inv_only (nat_lt (left r) (left ts)) (leaf_span ts) sp f).0)))
-span_told ts (leaf x sq d) r sp v e f =
+span_told ts end r sp e f = absurd (less_than_itself (left r) (subst (λ z. left r < left z) e (ltb-true (left r) (left ts) (inv_only (nat_lt (left r) (left ts)) (leaf_span ts) sp f).0)))
+span_told ts (leaf x sq d) r sp e f =
     let a : sq ≡ sp = cc (sym (ap leaf_span e) ∙ (inv_only (nat_lt (left r) (left ts)) (leaf_span ts) sp f).1) in
     (x, d, e ∙ ap (λ z. leaf x z (d ⧺ r)) a)
-span_told ts (punct c j sq d) r sp v e f = absurd (cc (sym (ap leaf_span e) ∙ (inv_only (nat_lt (left r) (left ts)) (leaf_span ts) sp f).1))
-span_told ts (group g o c i d) r sp v e f = absurd (cc (sym (ap leaf_span e) ∙ (inv_only (nat_lt (left r) (left ts)) (leaf_span ts) sp f).1))
+span_told ts (punct c j sq d) r sp e f = absurd (cc (sym (ap leaf_span e) ∙ (inv_only (nat_lt (left r) (left ts)) (leaf_span ts) sp f).1))
+span_told ts (group g o c i d) r sp e f = absurd (cc (sym (ap leaf_span e) ∙ (inv_only (nat_lt (left r) (left ts)) (leaf_span ts) sp f).1))
 
-pub span_found : (x : Leaf) (sp : Span) (ts d r : Stream) → visible ts ≡ true → ts ≡ leaf x sp (d ⧺ r) → first_span ts r ≡ Some sp
+pub span_found : (x : Leaf) (sp : Span) (ts d r : Stream) → ts ≡ leaf x sp (d ⧺ r) → first_span ts r ≡ Some sp
 unfolding first_span left
-span_found x sp ts d r v e =
+span_found x sp ts d r e =
     let h : weight r < weight (leaf x sp (d ⧺ r)) = let w = weight_append d r in omega (arith, w) in
     ap (λ z. only (nat_lt (weight r) (weight z)) (leaf_span z)) e ∙ ap (λ b. only b (Some sp)) (lt-ltb (weight r) (weight (leaf x sp (d ⧺ r))) h)
+
+-- ---- the same where the stream is said to be visible, as callers are
+pub sees_is : (c : Look) (ts : Stream) → visible ts ≡ true → sees c ts ≡ stands c ts
+sees_is c ts v = sees_stands c ts
+
+pub end_told : (ts : Stream) → visible ts ≡ true → is_end ts ≡ true → ts ≡ end
+end_told ts v e = end_is ts e
+
+pub group_told : (d : Delimiter) (ts : Stream) (g : Opened) → visible ts ≡ true → take_group d ts ≡ Some g → ts ≡ group d g.opening g.closing g.content g.rest
+group_told d ts g v e = group_taken d ts g e
+
+pub group_found : (d : Delimiter) (o c : Span) (i ts r : Stream) → visible ts ≡ true → ts ≡ group d o c i r → take_group d ts ≡ Some (record { opening = o; closing = c; content = i; rest = r })
+group_found d o c i ts r v e = group_takes d o c i ts r e
 
 -- ---- what stands in front of what is taken
 pub sees_answers : (c : Look) (ts : Stream) → sees c ts ≡ answers c (lookahead_at ts)

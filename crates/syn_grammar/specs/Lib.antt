@@ -17,3 +17,4 @@ pub mod Promises
 pub mod Computed
 pub mod Turns
 pub mod Same
+pub mod Alone

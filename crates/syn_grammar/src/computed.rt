@@ -2,6 +2,7 @@
 //! Their statements stand in specs/Computed.antt.
 
 ghost use Rattle.syn_grammar.specs.Computed.{ParseMeans, ParseForms, ParseRows, ParseOnward, ValuePrints, OneValue, CapturedIsSome};
+ghost use Rattle.syn_grammar.specs.Alone.{ReadAlone, ValuesForgetSpans};
 
 /// The computed reading answers exactly what the grammar derives: a value and a rest where a tree is
 /// read of which the value holds this, and nothing where no tree is read. Holds of every visible
@@ -41,4 +42,16 @@ pub fn one_value()
 /// of every form and every token stream.
 pub fn captured_is_some()
     ensures some_derivation { CapturedIsSome }
+{}
+
+/// What a rule that passes the test `reads_alone` reads in front of a rest it reads alone, as the same
+/// value, with nothing left. Every rule that ends by itself passes. Holds of every token stream.
+pub fn read_alone()
+    ensures read_alone { ReadAlone }
+{}
+
+/// Of token streams that are equal but for their spans (in bytes), a rule reads values that are equal
+/// but for their spans. Holds of every token stream.
+pub fn values_forget_spans()
+    ensures like_values { ValuesForgetSpans }
 {}
