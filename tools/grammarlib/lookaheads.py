@@ -164,16 +164,18 @@ class Lookaheads:
 
     # HOW A LOOK IS ANSWERED IN SOURCE AND PRINT
 
-    def deaf(self, look):
-        """No lookahead that begins with a mark meets the look."""
+    def deaf(self, character, look):
+        """No mark that meets the look goes on a mark from this character."""
         kind = look[0]
-        if kind in ('at_mark', 'ahead'):
+        if kind == 'at_mark':
+            return not any(mark.startswith(character + look[1][0]) for mark in self.long_marks)
+        if kind == 'ahead':
             return False
         if kind == 'or_else':
-            return self.deaf(look[1]) and self.deaf(look[2])
+            return self.deaf(character, look[1]) and self.deaf(character, look[2])
         if kind == 'and_also':
-            return self.deaf(look[1]) or self.deaf(look[2])
-        return self.deaf(look[1]) if kind == 'but_not' else True
+            return self.deaf(character, look[1]) or self.deaf(character, look[2])
+        return self.deaf(character, look[1]) if kind == 'but_not' else True
 
     def decided(self, look, a, b):
         return (self.must(look, a) and self.must(look, b)) or not (self.may(look, a) or self.may(look, b))

@@ -135,7 +135,7 @@ class Summaries:
         lookaheads, terminal = self.lookaheads, self.lookaheads.mark_terminal(text)
         last = lookaheads.asked(('Punctuation', text[-1])) if len(text) <= 2 else []
         quiet = not any(lookaheads.asked(('Punctuation', c)) for c in text)
-        tells = len(text) == 1 or (len(text) == 2 and terminal == ('Punctuation', text) and all(lookaheads.deaf(c) for c, _ in last))
+        tells = len(text) == 1 or (len(text) == 2 and terminal == ('Punctuation', text) and all(lookaheads.deaf(text[-1], c) for c, _ in last))
         steady = quiet or (asking and tells)
         return Summary([terminal] if steady else [], [(f, terminal, ()) for f in lookaheads.mark_first_set(text) if f != terminal or not steady],
                      ends=[c for c, _ in last] if asking else [])

@@ -2,7 +2,7 @@
 -- What each rule reads is what its form reads.
 use Rattle.std.specs.Prelude.{◌≡◌}
 use Rattle.syn_grammar.specs.Tokens.{Stream}
-use Rattle.syn_grammar.specs.Rules.{attributes, meta, meta_value, module_path, module_words, visibility, restriction, type_path, type_words, type_arguments, more_type_words, return_type, generic_arguments, generic_argument, qualified_path, type, types, expression, generics, lifetime_parameter, lifetimes, parameter_bounds, bound, trait_bound, bound_lifetimes, lifetime_parameters, where_clause, predicates, predicate, predicate_bounds, fields_named, named_fields, named_field, nameless_type, unnamed_field, unnamed_fields, fields_unnamed, variant, variants, structure, structure_rest, structure_body, enumeration, enumeration_rest, union_item, union_item_rest, derive_input, plain_type_path, plain_type, plain_unnamed_field, plain_unnamed_fields, plain_fields_unnamed, plain_structure_body, plain_structure, plain_derive_input}
+use Rattle.syn_grammar.specs.Rules.{attributes, meta, unsafe_path, unsafe_word, meta_value, module_path, module_words, visibility, restriction, type_path, type_words, type_arguments, return_type, generic_arguments, generic_argument, qualified_path, type, types, expression, generics, lifetime_parameter, lifetimes, parameter_bounds, bound, trait_bound, bound_lifetimes, lifetime_parameters, where_clause, predicates, predicate, predicate_bounds, fields_named, named_fields, named_field, nameless_fields, unnamed_field, unnamed_fields, fields_unnamed, variant, variants, structure, structure_rest, structure_body, enumeration, enumeration_rest, union_item, union_item_rest, derive_input, plain_type_path, plain_type, plain_unnamed_field, plain_unnamed_fields, plain_fields_unnamed, plain_structure_body, plain_structure, plain_derive_input}
 use Rattle.syn_grammar.specs.Grammar.{Node}
 use Rattle.syn_grammar.specs.Table.{table}
 use Rattle.syn_grammar.specs.Run.{wrap, parse_rule, parse_form}
@@ -13,6 +13,12 @@ attributes_is = parse_rule_is attributes
 
 pub meta_is : (ts : Stream) → parse_rule meta ts ≡ wrap Node (parse_form (table meta) ts)
 meta_is = parse_rule_is meta
+
+pub unsafe_path_is : (ts : Stream) → parse_rule unsafe_path ts ≡ wrap Node (parse_form (table unsafe_path) ts)
+unsafe_path_is = parse_rule_is unsafe_path
+
+pub unsafe_word_is : (ts : Stream) → parse_rule unsafe_word ts ≡ wrap Node (parse_form (table unsafe_word) ts)
+unsafe_word_is = parse_rule_is unsafe_word
 
 pub meta_value_is : (ts : Stream) → parse_rule meta_value ts ≡ wrap Node (parse_form (table meta_value) ts)
 meta_value_is = parse_rule_is meta_value
@@ -37,9 +43,6 @@ type_words_is = parse_rule_is type_words
 
 pub type_arguments_is : (ts : Stream) → parse_rule type_arguments ts ≡ wrap Node (parse_form (table type_arguments) ts)
 type_arguments_is = parse_rule_is type_arguments
-
-pub more_type_words_is : (ts : Stream) → parse_rule more_type_words ts ≡ wrap Node (parse_form (table more_type_words) ts)
-more_type_words_is = parse_rule_is more_type_words
 
 pub return_type_is : (ts : Stream) → parse_rule return_type ts ≡ wrap Node (parse_form (table return_type) ts)
 return_type_is = parse_rule_is return_type
@@ -107,8 +110,8 @@ named_fields_is = parse_rule_is named_fields
 pub named_field_is : (ts : Stream) → parse_rule named_field ts ≡ wrap Node (parse_form (table named_field) ts)
 named_field_is = parse_rule_is named_field
 
-pub nameless_type_is : (ts : Stream) → parse_rule nameless_type ts ≡ wrap Node (parse_form (table nameless_type) ts)
-nameless_type_is = parse_rule_is nameless_type
+pub nameless_fields_is : (ts : Stream) → parse_rule nameless_fields ts ≡ wrap Node (parse_form (table nameless_fields) ts)
+nameless_fields_is = parse_rule_is nameless_fields
 
 pub unnamed_field_is : (ts : Stream) → parse_rule unnamed_field ts ≡ wrap Node (parse_form (table unnamed_field) ts)
 unnamed_field_is = parse_rule_is unnamed_field

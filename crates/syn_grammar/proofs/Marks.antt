@@ -1,8 +1,8 @@
 -- How tokens and marks print: the lookahead that a token or a mark is seen with, and what it tells of what stands behind it.
 use Rattle.std.proofs.Common.{◌≡◌, ℕ, Bool, true, false, List, [], ◌∷◌, ◌++◌, nat_eq, refl, sym, ap, ◌∙◌, ap₂, subst, true≢false, ◌⊎◌, inl, inr}
 use Rattle.std.proofs.lemmas.Bool.{eqb-true, eq-eqb}
-use Rattle.syn_grammar.specs.Words.{Text, lifetime_mark}
-use Rattle.syn_grammar.specs.Tokens.{Span, Stream, or, and, no, pick, Terminal, Ended, Name, Word, Punctuation, Literal, Delimited, Lookahead, lookahead_with, Fact, same_fact, fact_number, has_fact, same_terminal, mem, Look, ended, at_name, at_word, at_mark, at_literal, at_group, ahead, ◌or_else◌, ◌and_also◌, ◌but_not◌, answers, Asked, facts_for, asked, before_identifier, join, char_terminal, lone_facts, punctuation_facts, punctuation_lookahead, lookahead}
+use Rattle.syn_grammar.specs.Words.{Text, lifetime_mark, long_marks}
+use Rattle.syn_grammar.specs.Tokens.{Span, Stream, or, and, no, pick, Terminal, Ended, Name, Word, Punctuation, Literal, Delimited, Lookahead, lookahead_with, Fact, same_fact, fact_number, has_fact, same_terminal, mem, Look, ended, at_name, at_word, at_mark, at_literal, at_group, ahead, ◌or_else◌, ◌and_also◌, ◌but_not◌, answers, Asked, facts_for, asked, longest, begins_text, before_identifier, join, char_terminal, lone_facts, punctuation_facts, punctuation_lookahead, lookahead}
 use Rattle.syn_grammar.specs.Grammar.{chars, spell, Spelled}
 use Rattle.syn_grammar.proofs.Sets.{or_left, or_split, and_left, and_right, true_or_false, mem_here, those, mem_those, same_terminal_eq, same_fact_eq, or_right}
 use Rattle.syn_grammar.proofs.Streams.{quiet, silent_fact}
@@ -82,14 +82,24 @@ source_still (x ∷ y ∷ l) ts r h q e =
     ∙ lone_still (char_terminal y.0 j (lookahead m).terminal) y.0 (lookahead m) (silent_fact (asked (Punctuation (y.0 ∷ []))) (lookahead m) (and_left (quiet (Punctuation (y.0 ∷ []))) _ (and_right (quiet (Punctuation (x.0 ∷ []))) _ q))) in
     ap (λ t. (lookahead t).facts) h.1 ∙ still_facts x.0 (join x.0 (lookahead h.0).terminal) (lookahead h.0) (and_left (quiet (Punctuation (x.0 ∷ []))) _ q) n
 
--- it holds of no mark
-abbrev pub deaf : Look → Bool
-deaf (at_mark x) = false
-deaf (ahead n) = false
-deaf (a or_else b) = and (deaf a) (deaf b)
-deaf (a and_also b) = or (deaf a) (deaf b)
-deaf (a but_not b) = deaf a
-deaf _ = true
+-- this mark doesn't begin with these two characters
+abbrev pub begins_otherwise : ℕ → ℕ → Text → Bool
+begins_otherwise y d (c ∷ e ∷ l) = no (and (nat_eq c y) (nat_eq e d))
+begins_otherwise y d _ = false
+
+abbrev pub none_begins : ℕ → ℕ → List Text → Bool
+none_begins y d [] = true
+none_begins y d (m ∷ l) = and (begins_otherwise y d m) (none_begins y d l)
+
+-- no mark that it holds of goes on a mark from this character
+abbrev pub deaf : ℕ → Look → Bool
+deaf y (at_mark []) = false
+deaf y (at_mark (d ∷ x)) = none_begins y d long_marks
+deaf y (ahead n) = false
+deaf y (a or_else b) = and (deaf y a) (deaf y b)
+deaf y (a and_also b) = or (deaf y a) (deaf y b)
+deaf y (a but_not b) = deaf y a
+deaf y _ = true
 
 pub and_off_left : (a b : Bool) → a ≡ false → and a b ≡ false
 and_off_left true b e = absurd (true≢false e)
@@ -99,29 +109,62 @@ pub and_off_right : (a b : Bool) → b ≡ false → and a b ≡ false
 and_off_right true b e = e
 and_off_right false b e = refl
 
-deaf_off : (c : Look) (x : Text) (l : List Fact) → deaf c ≡ true → answers c (lookahead_with (Punctuation x) l) ≡ false
-deaf_off ended x l e = refl
-deaf_off at_name x l e = refl
-deaf_off (at_word y) x l e = refl
-deaf_off (at_mark y) x l e = absurd (true≢false (sym e))
-deaf_off (at_literal k) x l e = refl
-deaf_off (at_group d) x l e = refl
-deaf_off (ahead n) x l e = absurd (true≢false (sym e))
-deaf_off (a or_else b) x l e = ap₂ or (deaf_off a x l (and_left (deaf a) _ e)) (deaf_off b x l (and_right (deaf a) _ e))
-deaf_off (a and_also b) x l e = go (or_split (deaf a) (deaf b) e) (deaf_off a x l) (deaf_off b x l)
+-- no mark of this list begins with these two characters, so none is the longest there
+none_longest : (y d : ℕ) (l : Text) (ms : List Text) → none_begins y d ms ≡ true → longest ms (y ∷ d ∷ l) (y ∷ []) ≡ y ∷ []
+none_longest y d l [] w = refl
+none_longest y d l ([] ∷ ms) w = absurd (true≢false (sym w))
+none_longest y d l ((c ∷ []) ∷ ms) w = absurd (true≢false (sym w))
+none_longest y d l ((c ∷ e ∷ m) ∷ ms) w =
+    ap (λ v. pick v (c ∷ e ∷ m) (longest ms (y ∷ d ∷ l) (y ∷ []))) (go (nat_eq c y) (nat_eq e d) (and_left (no (and (nat_eq c y) (nat_eq e d))) _ w))
+    ∙ none_longest y d l ms (and_right (no (and (nat_eq c y) (nat_eq e d))) _ w)
   where
-    go : (deaf a ≡ true) ⊎ (deaf b ≡ true) → (deaf a ≡ true → answers a (lookahead_with (Punctuation x) l) ≡ false) → (deaf b ≡ true → answers b (lookahead_with (Punctuation x) l) ≡ false) → and (answers a (lookahead_with (Punctuation x) l)) (answers b (lookahead_with (Punctuation x) l)) ≡ false
-    go (inl q) f g = and_off_left _ _ (f q)
-    go (inr q) f g = and_off_right _ _ (g q)
-deaf_off (a but_not b) x l e = and_off_left _ _ (deaf_off a x l e)
+    go : (u v : Bool) → no (and u v) ≡ true → and u (and v (begins_text m l)) ≡ false
+    go true true e = absurd (true≢false (sym e))
+    go true false e = refl
+    go false v e = refl
 
-abbrev pub all_deaf : Asked → Bool
-all_deaf [] = true
-all_deaf (p ∷ l) = and (deaf p.0) (all_deaf l)
+-- where such a look holds of a mark, the character before it stays alone
+heard : (y : ℕ) (c : Look) (x : Text) (l : List Fact) → deaf y c ≡ true → answers c (lookahead_with (Punctuation x) l) ≡ true → longest long_marks (y ∷ x) (y ∷ []) ≡ y ∷ []
+heard y ended x l e h = absurd (true≢false (sym h))
+heard y at_name x l e h = absurd (true≢false (sym h))
+heard y (at_word w) x l e h = absurd (true≢false (sym h))
+heard y (at_mark []) x l e h = absurd (true≢false (sym e))
+heard y (at_mark (d ∷ m)) [] l e h = absurd (true≢false (sym h))
+heard y (at_mark (d ∷ m)) (c ∷ x) l e h = ap (λ i. longest long_marks (y ∷ i ∷ x) (y ∷ [])) (sym (eqb-true d c (and_left (nat_eq d c) _ h))) ∙ none_longest y d x long_marks e
+heard y (at_literal k) x l e h = absurd (true≢false (sym h))
+heard y (at_group d) x l e h = absurd (true≢false (sym h))
+heard y (ahead n) x l e h = absurd (true≢false (sym e))
+heard y (a or_else b) x l e h =
+    go (or_split (answers a (lookahead_with (Punctuation x) l)) (answers b (lookahead_with (Punctuation x) l)) h) (heard y a x l (and_left (deaf y a) _ e)) (heard y b x l (and_right (deaf y a) _ e))
+  where
+    go : (answers a (lookahead_with (Punctuation x) l) ≡ true) ⊎ (answers b (lookahead_with (Punctuation x) l) ≡ true)
+        → (answers a (lookahead_with (Punctuation x) l) ≡ true → longest long_marks (y ∷ x) (y ∷ []) ≡ y ∷ []) → (answers b (lookahead_with (Punctuation x) l) ≡ true → longest long_marks (y ∷ x) (y ∷ []) ≡ y ∷ [])
+        → longest long_marks (y ∷ x) (y ∷ []) ≡ y ∷ []
+    go (inl q) f g = f q
+    go (inr q) f g = g q
+heard y (a and_also b) x l e h =
+    go (or_split (deaf y a) (deaf y b) e) (λ q. heard y a x l q (and_left (answers a (lookahead_with (Punctuation x) l)) _ h)) (λ q. heard y b x l q (and_right (answers a (lookahead_with (Punctuation x) l)) _ h))
+  where
+    go : (deaf y a ≡ true) ⊎ (deaf y b ≡ true) → (deaf y a ≡ true → longest long_marks (y ∷ x) (y ∷ []) ≡ y ∷ []) → (deaf y b ≡ true → longest long_marks (y ∷ x) (y ∷ []) ≡ y ∷ [])
+        → longest long_marks (y ∷ x) (y ∷ []) ≡ y ∷ []
+    go (inl q) f g = f q
+    go (inr q) f g = g q
+heard y (a but_not b) x l e h = heard y a x l e (and_left (answers a (lookahead_with (Punctuation x) l)) _ h)
 
-deaf_fact : (a : Asked) (x : Text) (l : List Fact) → all_deaf a ≡ true → facts_for a (lookahead_with (Punctuation x) l) ≡ []
-deaf_fact [] x l e = refl
-deaf_fact (p ∷ a) x l e = ap (λ v. pick v (p.1 ∷ facts_for a (lookahead_with (Punctuation x) l)) (facts_for a (lookahead_with (Punctuation x) l))) (deaf_off p.0 x l (and_left (deaf p.0) _ e)) ∙ deaf_fact a x l (and_right (deaf p.0) _ e)
+abbrev pub all_deaf : ℕ → Asked → Bool
+all_deaf y [] = true
+all_deaf y (p ∷ l) = and (deaf y p.0) (all_deaf y l)
+
+-- of what is asked nothing holds of a mark, or the character before it stays alone
+heard_or_none : (y : ℕ) (a : Asked) (x : Text) (l : List Fact) → all_deaf y a ≡ true → (facts_for a (lookahead_with (Punctuation x) l) ≡ []) ⊎ (longest long_marks (y ∷ x) (y ∷ []) ≡ y ∷ [])
+heard_or_none y [] x l e = inl refl
+heard_or_none y (p ∷ a) x l e = go (answers p.0 (lookahead_with (Punctuation x) l)) refl (heard_or_none y a x l (and_right (deaf y p.0) _ e))
+  where
+    go : (v : Bool) → answers p.0 (lookahead_with (Punctuation x) l) ≡ v → (facts_for a (lookahead_with (Punctuation x) l) ≡ []) ⊎ (longest long_marks (y ∷ x) (y ∷ []) ≡ y ∷ [])
+        → (facts_for (p ∷ a) (lookahead_with (Punctuation x) l) ≡ []) ⊎ (longest long_marks (y ∷ x) (y ∷ []) ≡ y ∷ [])
+    go true i r = inr (heard y p.0 x l (and_left (deaf y p.0) _ e) i)
+    go false i (inr k) = inr k
+    go false i (inl k) = inl (ap (λ v. pick v (p.1 ∷ facts_for a (lookahead_with (Punctuation x) l)) (facts_for a (lookahead_with (Punctuation x) l))) i ∙ k)
 
 -- a mark of one character, or of two that is seen whole, tells what its last character asks
 abbrev pub last_asked : Text → Asked
@@ -131,7 +174,7 @@ last_asked _ = []
 
 abbrev pub told_mark : Text → Bool
 told_mark (c ∷ []) = true
-told_mark (c ∷ d ∷ []) = and (same_terminal (mark_terminal (c ∷ d ∷ [])) (Punctuation (c ∷ d ∷ []))) (all_deaf (asked (Punctuation (d ∷ []))))
+told_mark (c ∷ d ∷ []) = and (same_terminal (mark_terminal (c ∷ d ∷ [])) (Punctuation (c ∷ d ∷ []))) (all_deaf d (asked (Punctuation (d ∷ []))))
 told_mark _ = false
 
 told_facts : (xs : List (ℕ × Span)) (ts r : Stream) (f : Lookahead) → Spelled xs ts r → told_mark (chars xs) ≡ true → (lookahead ts).terminal ≡ mark_terminal (chars xs) →
@@ -162,9 +205,14 @@ told_facts (x ∷ y ∷ []) ts r f h q e A =
             of_punctuation false i = same_facts_for g B
 
         at : (a : Terminal) → g.terminal ≡ a → lone_facts (join y.0 a) (punctuation_facts y.0 (join y.0 a) g) ≡ facts_for (asked (Punctuation (y.0 ∷ []))) f
-        at (Punctuation l) i =
-            let z : facts_for (asked (Punctuation (y.0 ∷ []))) g ≡ [] = ap (facts_for (asked (Punctuation (y.0 ∷ [])))) (ap (λ v. lookahead_with v g.facts) i) ∙ deaf_fact (asked (Punctuation (y.0 ∷ []))) l g.facts (and_right (same_terminal (mark_terminal (x.0 ∷ y.0 ∷ [])) (Punctuation (x.0 ∷ y.0 ∷ []))) _ q) in
-            lone_still (join y.0 (Punctuation l)) y.0 g z ∙ sym z ∙ same_facts_for g B
+        at (Punctuation l) i = of_mark (heard_or_none y.0 (asked (Punctuation (y.0 ∷ []))) l g.facts (and_right (same_terminal (mark_terminal (x.0 ∷ y.0 ∷ [])) (Punctuation (x.0 ∷ y.0 ∷ []))) _ q))
+          where
+            of_mark : (facts_for (asked (Punctuation (y.0 ∷ []))) (lookahead_with (Punctuation l) g.facts) ≡ []) ⊎ (longest long_marks (y.0 ∷ l) (y.0 ∷ []) ≡ y.0 ∷ [])
+                → lone_facts (join y.0 (Punctuation l)) (punctuation_facts y.0 (join y.0 (Punctuation l)) g) ≡ facts_for (asked (Punctuation (y.0 ∷ []))) f
+            of_mark (inl k) =
+                let z : facts_for (asked (Punctuation (y.0 ∷ []))) g ≡ [] = ap (facts_for (asked (Punctuation (y.0 ∷ [])))) (ap (λ v. lookahead_with v g.facts) i) ∙ k in
+                lone_still (join y.0 (Punctuation l)) y.0 g z ∙ sym z ∙ same_facts_for g B
+            of_mark (inr k) = ap (λ v. lone_facts (Punctuation v) (punctuation_facts y.0 (Punctuation v) g)) k ∙ same_facts_for g B
         at Ended i = same_facts_for g B
         at Name i = identifier g B
         at (Word l) i = identifier g B

@@ -1,7 +1,7 @@
 -- What a value holds of a tree without spans is what it holds of the tree, without spans.
 use Rattle.std.proofs.Common.{◌≡◌, Bool, true, false, refl, sym, ap, ap₂, ◌∙◌}
 use Rattle.syn_grammar.specs.Tokens.{Paren, Bracket, call_site}
-use Rattle.syn_grammar.specs.Shape.{Path, Binary, Assign, Cast, Macro, Shape, expr, bracketed, dotted, fields, choice, chain, leading, labelled, attributed, listed, lone, said, said_macro, a_local, an_item}
+use Rattle.syn_grammar.specs.Shape.{Path, Binary, Assign, Cast, Macro, Shape, expr, bracketed, dotted, fields, choice, chain, leading, labelled, attributed, listed, lone, said, said_macro, a_local, an_item, untagged}
 use Rattle.syn_grammar.specs.Grammar.{Syntax, Nothing, Mark, Both, Left, Right, Node, Vanishing, Case, Such, Group, Captured, Unshown, Impl, Last, More, Order, Shaped, plain_syntax, plain_mark}
 use Rattle.syn_grammar.specs.Values.{new, core, variant_of, member_variant, literal_of, onto, attributes_before, with_attributes, with_label, moved, sentence, alone, state, no_statements, listing, going_on, go_on, shape}
 use Rattle.syn_grammar.specs.Run.{value_of}
@@ -100,6 +100,8 @@ plain_shape attributed (Both a s) = state_plain a (core s) ∙ ap (state (plain_
 plain_shape listed (Both a s) = go_on_plain a (core s) ∙ ap (go_on (plain_syntax a)) (plain_core s)
 plain_shape lone (Both (Mark xs) l) = refl
 plain_shape lone (Both _ l) = refl
+plain_shape untagged (Left s) = refl
+plain_shape untagged (Right s) = refl
 plain_shape _ _ = refl
 
 pub value_plain : (s : Syntax) → plain_syntax (value_of s) ≡ value_of (plain_syntax s)

@@ -2,7 +2,7 @@
 -- How many rules may call one another before anything is read.
 use Rattle.std.proofs.Common.{◌≡◌, ℕ, true, refl}
 use Rattle.std.specs.Prelude.{nat_lt}
-use Rattle.syn_grammar.specs.Rules.{Rule, attributes, meta, meta_value, module_path, module_words, visibility, restriction, type_path, type_words, type_arguments, more_type_words, return_type, generic_arguments, generic_argument, qualified_path, type, types, expression, generics, lifetime_parameter, lifetimes, parameter_bounds, bound, trait_bound, bound_lifetimes, lifetime_parameters, where_clause, predicates, predicate, predicate_bounds, fields_named, named_fields, named_field, nameless_type, unnamed_field, unnamed_fields, fields_unnamed, variant, variants, structure, structure_rest, structure_body, enumeration, enumeration_rest, union_item, union_item_rest, derive_input, plain_type_path, plain_type, plain_unnamed_field, plain_unnamed_fields, plain_fields_unnamed, plain_structure_body, plain_structure, plain_derive_input}
+use Rattle.syn_grammar.specs.Rules.{Rule, attributes, meta, unsafe_path, unsafe_word, meta_value, module_path, module_words, visibility, restriction, type_path, type_words, type_arguments, return_type, generic_arguments, generic_argument, qualified_path, type, types, expression, generics, lifetime_parameter, lifetimes, parameter_bounds, bound, trait_bound, bound_lifetimes, lifetime_parameters, where_clause, predicates, predicate, predicate_bounds, fields_named, named_fields, named_field, nameless_fields, unnamed_field, unnamed_fields, fields_unnamed, variant, variants, structure, structure_rest, structure_body, enumeration, enumeration_rest, union_item, union_item_rest, derive_input, plain_type_path, plain_type, plain_unnamed_field, plain_unnamed_fields, plain_fields_unnamed, plain_structure_body, plain_structure, plain_derive_input}
 use Rattle.syn_grammar.specs.Table.{table}
 use Rattle.syn_grammar.proofs.Said.{start_of}
 use Rattle.syn_grammar.proofs.Low.{low}
@@ -11,6 +11,8 @@ use Rattle.syn_grammar.proofs.Low.{low}
 abbrev pub rank : Rule → ℕ
 rank attributes = 0
 rank meta = 2
+rank unsafe_path = 1
+rank unsafe_word = 0
 rank meta_value = 0
 rank module_path = 1
 rank module_words = 0
@@ -19,7 +21,6 @@ rank restriction = 2
 rank type_path = 1
 rank type_words = 0
 rank type_arguments = 1
-rank more_type_words = 0
 rank return_type = 0
 rank generic_arguments = 0
 rank generic_argument = 3
@@ -42,7 +43,7 @@ rank predicate_bounds = 4
 rank fields_named = 0
 rank named_fields = 2
 rank named_field = 1
-rank nameless_type = 3
+rank nameless_fields = 0
 rank unnamed_field = 3
 rank unnamed_fields = 4
 rank fields_unnamed = 0
@@ -69,6 +70,8 @@ rank plain_derive_input = 2
 pub ranks_low : (k : Rule) → nat_lt (rank k) 256 ≡ true
 ranks_low attributes = refl
 ranks_low meta = refl
+ranks_low unsafe_path = refl
+ranks_low unsafe_word = refl
 ranks_low meta_value = refl
 ranks_low module_path = refl
 ranks_low module_words = refl
@@ -77,7 +80,6 @@ ranks_low restriction = refl
 ranks_low type_path = refl
 ranks_low type_words = refl
 ranks_low type_arguments = refl
-ranks_low more_type_words = refl
 ranks_low return_type = refl
 ranks_low generic_arguments = refl
 ranks_low generic_argument = refl
@@ -100,7 +102,7 @@ ranks_low predicate_bounds = refl
 ranks_low fields_named = refl
 ranks_low named_fields = refl
 ranks_low named_field = refl
-ranks_low nameless_type = refl
+ranks_low nameless_fields = refl
 ranks_low unnamed_field = refl
 ranks_low unnamed_fields = refl
 ranks_low fields_unnamed = refl
@@ -127,6 +129,8 @@ ranks_low plain_derive_input = refl
 pub lookaheads_low : (k : Rule) → low start_of rank (rank k) (table k) ≡ true
 lookaheads_low attributes = refl
 lookaheads_low meta = refl
+lookaheads_low unsafe_path = refl
+lookaheads_low unsafe_word = refl
 lookaheads_low meta_value = refl
 lookaheads_low module_path = refl
 lookaheads_low module_words = refl
@@ -135,7 +139,6 @@ lookaheads_low restriction = refl
 lookaheads_low type_path = refl
 lookaheads_low type_words = refl
 lookaheads_low type_arguments = refl
-lookaheads_low more_type_words = refl
 lookaheads_low return_type = refl
 lookaheads_low generic_arguments = refl
 lookaheads_low generic_argument = refl
@@ -158,7 +161,7 @@ lookaheads_low predicate_bounds = refl
 lookaheads_low fields_named = refl
 lookaheads_low named_fields = refl
 lookaheads_low named_field = refl
-lookaheads_low nameless_type = refl
+lookaheads_low nameless_fields = refl
 lookaheads_low unnamed_field = refl
 lookaheads_low unnamed_fields = refl
 lookaheads_low fields_unnamed = refl

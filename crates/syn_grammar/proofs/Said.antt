@@ -2,9 +2,9 @@
 -- What the proofs say of each rule; the checker computes each line again.
 use Rattle.std.proofs.Common.{◌≡◌, Bool, true, false, [], ◌∷◌, refl, sym, true≢false}
 use Rattle.syn_grammar.specs.Words.{w_underscore, w_as, w_crate, w_enum, w_false, w_for, w_impl, w_in, w_pub, w_Self_type, w_self, w_struct, w_super, w_trait, w_true, w_unsafe, w_where, w_union, w_auto, w_default, w_safe, semicolon, equals, star, less, pound, ampersand, question, lifetime_mark, exclamation, colons, arrow, equal_equal, not_equals, less_less, less_equals, and_and, star_equals, ampersand_equals, less_less_equals}
-use Rattle.syn_grammar.specs.Tokens.{Paren, Brace, Bracket, Str, ByteStr, CStr, Byte, Char, Int, Float, Ended, Name, Word, Punctuation, Literal, Delimited, Before_equals, Before_end, Bang_brace, Bang_name, Bang_group, Before_brace, ended, at_name, at_word, ahead, ◌or_else◌, ◌and_also◌, ◌but_not◌, at_lifetime, at_path_rest}
-use Rattle.syn_grammar.specs.Rules.{Rule, attributes, meta, meta_value, module_path, module_words, visibility, restriction, type_path, type_words, type_arguments, more_type_words, return_type, generic_arguments, generic_argument, qualified_path, type, types, expression, generics, lifetime_parameter, lifetimes, parameter_bounds, bound, trait_bound, bound_lifetimes, lifetime_parameters, where_clause, predicates, predicate, predicate_bounds, fields_named, named_fields, named_field, nameless_type, unnamed_field, unnamed_fields, fields_unnamed, variant, variants, structure, structure_rest, structure_body, enumeration, enumeration_rest, union_item, union_item_rest, derive_input, plain_type_path, plain_type, plain_unnamed_field, plain_unnamed_fields, plain_fields_unnamed, plain_structure_body, plain_structure, plain_derive_input}
-use Rattle.syn_grammar.specs.Table.{at_colons, at_colon, at_equals, at_comma, at_pound, at_plus, at_less, at_less_only, at_greater, at_arrow, at_paren, at_brace, at_bracket, at_restriction, at_parameter_end, at_predicate_end, table}
+use Rattle.syn_grammar.specs.Tokens.{Paren, Brace, Bracket, Str, ByteStr, CStr, Byte, Char, Int, Float, Ended, Name, Word, Punctuation, Literal, Delimited, Before_equals, Bang_brace, Bang_name, Bang_group, ended, at_name, at_word, ahead, ◌or_else◌, ◌and_also◌, ◌but_not◌, at_lifetime, at_path_rest}
+use Rattle.syn_grammar.specs.Rules.{Rule, attributes, meta, unsafe_path, unsafe_word, meta_value, module_path, module_words, visibility, restriction, type_path, type_words, type_arguments, return_type, generic_arguments, generic_argument, qualified_path, type, types, expression, generics, lifetime_parameter, lifetimes, parameter_bounds, bound, trait_bound, bound_lifetimes, lifetime_parameters, where_clause, predicates, predicate, predicate_bounds, fields_named, named_fields, named_field, nameless_fields, unnamed_field, unnamed_fields, fields_unnamed, variant, variants, structure, structure_rest, structure_body, enumeration, enumeration_rest, union_item, union_item_rest, derive_input, plain_type_path, plain_type, plain_unnamed_field, plain_unnamed_fields, plain_fields_unnamed, plain_structure_body, plain_structure, plain_derive_input}
+use Rattle.syn_grammar.specs.Table.{at_colons, at_colon, at_equals, at_comma, at_pound, at_plus, at_less, at_less_only, at_greater, at_arrow, at_paren, at_brace, at_bracket, at_arguments, at_restriction, at_parameter_end, at_predicate_end, table}
 use Rattle.syn_grammar.proofs.FirstSets.{Start, IsSaid}
 use Rattle.syn_grammar.proofs.NeverFollow.{IsOff}
 use Rattle.syn_grammar.proofs.Extend.{closes}
@@ -17,6 +17,8 @@ use Rattle.syn_grammar.proofs.Reprint.{IsSummary}
 abbrev pub start_of : Rule → Start
 start_of attributes = record { first_set = Punctuation pound ∷ []; nullable = true; never_follow = at_pound ∷ [] }
 start_of meta = record { first_set = Word w_unsafe ∷ Name ∷ Punctuation colons ∷ Word w_Self_type ∷ Word w_auto ∷ Word w_crate ∷ Word w_default ∷ Word w_safe ∷ Word w_self ∷ Word w_super ∷ Word w_union ∷ []; nullable = false; never_follow = [] }
+start_of unsafe_path = record { first_set = Word w_unsafe ∷ []; nullable = false; never_follow = at_colons ∷ [] }
+start_of unsafe_word = record { first_set = Word w_unsafe ∷ []; nullable = false; never_follow = at_colons ∷ [] }
 start_of meta_value = record { first_set = Delimited Paren ∷ Delimited Brace ∷ Delimited Bracket ∷ Punctuation equals ∷ Punctuation (61 ∷ 62 ∷ []) ∷ Punctuation equal_equal ∷ []; nullable = true; never_follow = [] }
 start_of module_path = record { first_set = Punctuation colons ∷ Name ∷ Word w_Self_type ∷ Word w_auto ∷ Word w_crate ∷ Word w_default ∷ Word w_safe ∷ Word w_self ∷ Word w_super ∷ Word w_union ∷ []; nullable = false; never_follow = at_colons ∷ [] }
 start_of module_words = record { first_set = Name ∷ Word w_union ∷ Word w_auto ∷ Word w_default ∷ Word w_safe ∷ Word w_self ∷ Word w_Self_type ∷ Word w_super ∷ Word w_crate ∷ []; nullable = false; never_follow = at_colons ∷ [] }
@@ -24,11 +26,10 @@ start_of visibility = record { first_set = Word w_pub ∷ []; nullable = true; n
 start_of restriction = record { first_set = Word w_in ∷ Name ∷ Punctuation colons ∷ Word w_Self_type ∷ Word w_auto ∷ Word w_crate ∷ Word w_default ∷ Word w_safe ∷ Word w_self ∷ Word w_super ∷ Word w_union ∷ []; nullable = false; never_follow = at_colons ∷ [] }
 start_of type_path = record { first_set = Punctuation colons ∷ Name ∷ Word w_Self_type ∷ Word w_auto ∷ Word w_crate ∷ Word w_default ∷ Word w_safe ∷ Word w_self ∷ Word w_super ∷ Word w_union ∷ []; nullable = false; never_follow = at_colons ∷ [] }
 start_of type_words = record { first_set = Name ∷ Word w_union ∷ Word w_auto ∷ Word w_default ∷ Word w_safe ∷ Word w_Self_type ∷ Word w_self ∷ Word w_super ∷ Word w_crate ∷ []; nullable = false; never_follow = at_colons ∷ [] }
-start_of type_arguments = record { first_set = Punctuation less ∷ Punctuation less_less ∷ Punctuation less_less_equals ∷ Delimited Paren ∷ Punctuation colons ∷ []; nullable = true; never_follow = at_colons ∷ [] }
-start_of more_type_words = record { first_set = Punctuation colons ∷ []; nullable = true; never_follow = at_colons ∷ [] }
+start_of type_arguments = record { first_set = Delimited Paren ∷ Punctuation colons ∷ Punctuation less ∷ Punctuation less_less ∷ Punctuation less_less_equals ∷ Punctuation less_equals ∷ []; nullable = false; never_follow = [] }
 start_of return_type = record { first_set = Punctuation arrow ∷ []; nullable = true; never_follow = [] }
 start_of generic_arguments = record { first_set = Punctuation less ∷ Punctuation less_less_equals ∷ Punctuation less_equals ∷ Punctuation less_less ∷ []; nullable = false; never_follow = [] }
-start_of generic_argument = record { first_set = Name ∷ Word w_union ∷ Word w_auto ∷ Word w_default ∷ Word w_safe ∷ Word w_true ∷ Word w_false ∷ Literal Str ∷ Literal ByteStr ∷ Literal CStr ∷ Literal Byte ∷ Literal Char ∷ Literal Int ∷ Literal Float ∷ Delimited Bracket ∷ Delimited Paren ∷ Punctuation exclamation ∷ Punctuation not_equals ∷ Punctuation ampersand ∷ Punctuation and_and ∷ Punctuation ampersand_equals ∷ Punctuation star ∷ Punctuation star_equals ∷ Punctuation colons ∷ Punctuation less ∷ Punctuation less_less ∷ Punctuation less_less_equals ∷ Punctuation less_equals ∷ Word w_Self_type ∷ Word w_crate ∷ Word w_self ∷ Word w_super ∷ []; nullable = false; never_follow = [] }
+start_of generic_argument = record { first_set = Name ∷ Word w_union ∷ Word w_auto ∷ Word w_default ∷ Word w_safe ∷ Literal Byte ∷ Literal ByteStr ∷ Literal CStr ∷ Literal Char ∷ Literal Float ∷ Literal Int ∷ Literal Str ∷ Word w_false ∷ Word w_true ∷ Delimited Bracket ∷ Delimited Paren ∷ Punctuation exclamation ∷ Punctuation not_equals ∷ Punctuation ampersand ∷ Punctuation and_and ∷ Punctuation ampersand_equals ∷ Punctuation star ∷ Punctuation star_equals ∷ Punctuation colons ∷ Punctuation less ∷ Punctuation less_less ∷ Punctuation less_less_equals ∷ Punctuation less_equals ∷ Word w_Self_type ∷ Word w_crate ∷ Word w_self ∷ Word w_super ∷ []; nullable = false; never_follow = [] }
 start_of qualified_path = record { first_set = Punctuation less ∷ Punctuation less_less_equals ∷ Punctuation less_equals ∷ Punctuation less_less ∷ []; nullable = false; never_follow = at_colons ∷ [] }
 start_of type = record { first_set = Punctuation less ∷ Punctuation less_less ∷ Punctuation less_less_equals ∷ Punctuation less_equals ∷ Punctuation ampersand ∷ Punctuation and_and ∷ Punctuation ampersand_equals ∷ Punctuation star ∷ Punctuation star_equals ∷ Delimited Paren ∷ Delimited Bracket ∷ Punctuation exclamation ∷ Punctuation not_equals ∷ Name ∷ Punctuation colons ∷ Word w_Self_type ∷ Word w_auto ∷ Word w_crate ∷ Word w_default ∷ Word w_safe ∷ Word w_self ∷ Word w_super ∷ Word w_union ∷ []; nullable = false; never_follow = [] }
 start_of types = record { first_set = Delimited Bracket ∷ Delimited Paren ∷ Name ∷ Punctuation exclamation ∷ Punctuation not_equals ∷ Punctuation ampersand ∷ Punctuation and_and ∷ Punctuation ampersand_equals ∷ Punctuation star ∷ Punctuation star_equals ∷ Punctuation colons ∷ Punctuation less ∷ Punctuation less_less ∷ Punctuation less_less_equals ∷ Punctuation less_equals ∷ Word w_Self_type ∷ Word w_auto ∷ Word w_crate ∷ Word w_default ∷ Word w_safe ∷ Word w_self ∷ Word w_super ∷ Word w_union ∷ []; nullable = true; never_follow = [] }
@@ -48,7 +49,7 @@ start_of predicate_bounds = record { first_set = Delimited Paren ∷ Name ∷ Pu
 start_of fields_named = record { first_set = Delimited Brace ∷ []; nullable = false; never_follow = [] }
 start_of named_fields = record { first_set = Name ∷ Punctuation pound ∷ Word w_underscore ∷ Word w_auto ∷ Word w_default ∷ Word w_pub ∷ Word w_safe ∷ Word w_union ∷ []; nullable = true; never_follow = [] }
 start_of named_field = record { first_set = Punctuation pound ∷ Word w_pub ∷ Word w_underscore ∷ Name ∷ Word w_union ∷ Word w_auto ∷ Word w_default ∷ Word w_safe ∷ []; nullable = false; never_follow = [] }
-start_of nameless_type = record { first_set = Word w_struct ∷ Word w_union ∷ Delimited Bracket ∷ Delimited Paren ∷ Name ∷ Punctuation exclamation ∷ Punctuation not_equals ∷ Punctuation ampersand ∷ Punctuation and_and ∷ Punctuation ampersand_equals ∷ Punctuation star ∷ Punctuation star_equals ∷ Punctuation colons ∷ Punctuation less ∷ Punctuation less_less ∷ Punctuation less_less_equals ∷ Punctuation less_equals ∷ Word w_Self_type ∷ Word w_auto ∷ Word w_crate ∷ Word w_default ∷ Word w_safe ∷ Word w_self ∷ Word w_super ∷ []; nullable = false; never_follow = [] }
+start_of nameless_fields = record { first_set = Word w_struct ∷ Word w_union ∷ []; nullable = false; never_follow = [] }
 start_of unnamed_field = record { first_set = Punctuation pound ∷ Word w_pub ∷ Delimited Bracket ∷ Delimited Paren ∷ Name ∷ Punctuation exclamation ∷ Punctuation not_equals ∷ Punctuation ampersand ∷ Punctuation and_and ∷ Punctuation ampersand_equals ∷ Punctuation star ∷ Punctuation star_equals ∷ Punctuation colons ∷ Punctuation less ∷ Punctuation less_less ∷ Punctuation less_less_equals ∷ Punctuation less_equals ∷ Word w_Self_type ∷ Word w_auto ∷ Word w_crate ∷ Word w_default ∷ Word w_safe ∷ Word w_self ∷ Word w_super ∷ Word w_union ∷ []; nullable = false; never_follow = at_equals ∷ [] }
 start_of unnamed_fields = record { first_set = Delimited Bracket ∷ Delimited Paren ∷ Name ∷ Punctuation exclamation ∷ Punctuation not_equals ∷ Punctuation pound ∷ Punctuation ampersand ∷ Punctuation and_and ∷ Punctuation ampersand_equals ∷ Punctuation star ∷ Punctuation star_equals ∷ Punctuation colons ∷ Punctuation less ∷ Punctuation less_less ∷ Punctuation less_less_equals ∷ Punctuation less_equals ∷ Word w_Self_type ∷ Word w_auto ∷ Word w_crate ∷ Word w_default ∷ Word w_pub ∷ Word w_safe ∷ Word w_self ∷ Word w_super ∷ Word w_union ∷ []; nullable = true; never_follow = [] }
 start_of fields_unnamed = record { first_set = Delimited Paren ∷ []; nullable = false; never_follow = [] }
@@ -75,6 +76,8 @@ start_of plain_derive_input = record { first_set = Word w_pub ∷ Word w_struct 
 abbrev pub closed_of : Rule → Bool
 closed_of attributes = false
 closed_of meta = false
+closed_of unsafe_path = false
+closed_of unsafe_word = false
 closed_of meta_value = false
 closed_of module_path = false
 closed_of module_words = false
@@ -83,7 +86,6 @@ closed_of restriction = false
 closed_of type_path = false
 closed_of type_words = false
 closed_of type_arguments = false
-closed_of more_type_words = false
 closed_of return_type = false
 closed_of generic_arguments = false
 closed_of generic_argument = false
@@ -106,7 +108,7 @@ closed_of predicate_bounds = false
 closed_of fields_named = true
 closed_of named_fields = false
 closed_of named_field = false
-closed_of nameless_type = false
+closed_of nameless_fields = true
 closed_of unnamed_field = false
 closed_of unnamed_fields = false
 closed_of fields_unnamed = true
@@ -133,6 +135,8 @@ closed_of plain_derive_input = true
 abbrev pub heard_of : Rule → Bool
 heard_of attributes = true
 heard_of meta = false
+heard_of unsafe_path = false
+heard_of unsafe_word = false
 heard_of meta_value = false
 heard_of module_path = true
 heard_of module_words = true
@@ -140,15 +144,14 @@ heard_of visibility = true
 heard_of restriction = true
 heard_of type_path = true
 heard_of type_words = true
-heard_of type_arguments = false
-heard_of more_type_words = false
+heard_of type_arguments = true
 heard_of return_type = false
-heard_of generic_arguments = false
+heard_of generic_arguments = true
 heard_of generic_argument = false
 heard_of qualified_path = true
 heard_of type = true
 heard_of types = true
-heard_of expression = false
+heard_of expression = true
 heard_of generics = false
 heard_of lifetime_parameter = false
 heard_of lifetimes = false
@@ -161,10 +164,10 @@ heard_of where_clause = false
 heard_of predicates = false
 heard_of predicate = false
 heard_of predicate_bounds = false
-heard_of fields_named = false
+heard_of fields_named = true
 heard_of named_fields = false
 heard_of named_field = false
-heard_of nameless_type = false
+heard_of nameless_fields = true
 heard_of unnamed_field = true
 heard_of unnamed_fields = true
 heard_of fields_unnamed = false
@@ -191,40 +194,41 @@ heard_of plain_derive_input = false
 abbrev pub summary_of : Bool → Rule → Summary
 summary_of false attributes = record { stays = []; moves = move (Punctuation pound) (Punctuation pound) [] ∷ []; nullable = true; gone = []; ends = []; halts = at_pound ∷ []; shuns = [] }
 summary_of false meta = record { stays = []; moves = move (Word w_unsafe) (Word w_unsafe) [] ∷ move (Punctuation colons) (Punctuation colons) [] ∷ move Name Name [] ∷ move (Word w_union) (Word w_union) [] ∷ move (Word w_auto) (Word w_auto) [] ∷ move (Word w_default) (Word w_default) [] ∷ move (Word w_safe) (Word w_safe) [] ∷ move (Word w_self) (Word w_self) [] ∷ move (Word w_Self_type) (Word w_Self_type) [] ∷ move (Word w_super) (Word w_super) [] ∷ move (Word w_crate) (Word w_crate) [] ∷ []; nullable = false; gone = []; ends = ended ∷ []; halts = at_equals ∷ at_bracket ∷ at_brace ∷ at_paren ∷ at_colons ∷ []; shuns = [] }
+summary_of false unsafe_path = record { stays = []; moves = move (Word w_unsafe) (Word w_unsafe) [] ∷ []; nullable = false; gone = []; ends = []; halts = at_colons ∷ []; shuns = [] }
+summary_of false unsafe_word = record { stays = []; moves = move (Word w_unsafe) (Word w_unsafe) [] ∷ []; nullable = false; gone = []; ends = []; halts = at_colons ∷ []; shuns = [] }
 summary_of false meta_value = record { stays = Delimited Paren ∷ Delimited Brace ∷ Delimited Bracket ∷ Punctuation equals ∷ []; moves = move (Punctuation (61 ∷ 62 ∷ [])) (Punctuation equals) [] ∷ move (Punctuation equal_equal) (Punctuation equals) [] ∷ []; nullable = true; gone = []; ends = ended ∷ []; halts = at_equals ∷ at_bracket ∷ at_brace ∷ at_paren ∷ []; shuns = [] }
 summary_of false module_path = record { stays = []; moves = move (Punctuation colons) (Punctuation colons) [] ∷ move Name Name [] ∷ move (Word w_union) (Word w_union) [] ∷ move (Word w_auto) (Word w_auto) [] ∷ move (Word w_default) (Word w_default) [] ∷ move (Word w_safe) (Word w_safe) [] ∷ move (Word w_self) (Word w_self) [] ∷ move (Word w_Self_type) (Word w_Self_type) [] ∷ move (Word w_super) (Word w_super) [] ∷ move (Word w_crate) (Word w_crate) [] ∷ []; nullable = false; gone = []; ends = []; halts = at_colons ∷ []; shuns = [] }
 summary_of false module_words = record { stays = []; moves = move Name Name [] ∷ move (Word w_union) (Word w_union) [] ∷ move (Word w_auto) (Word w_auto) [] ∷ move (Word w_default) (Word w_default) [] ∷ move (Word w_safe) (Word w_safe) [] ∷ move (Word w_self) (Word w_self) [] ∷ move (Word w_Self_type) (Word w_Self_type) [] ∷ move (Word w_super) (Word w_super) [] ∷ move (Word w_crate) (Word w_crate) [] ∷ []; nullable = false; gone = []; ends = []; halts = at_colons ∷ []; shuns = [] }
 summary_of false visibility = record { stays = Word w_pub ∷ []; moves = []; nullable = true; gone = []; ends = []; halts = at_restriction ∷ at_word w_pub ∷ []; shuns = [] }
 summary_of false restriction = record { stays = Word w_in ∷ []; moves = move (Punctuation colons) (Punctuation colons) [] ∷ move Name Name [] ∷ move (Word w_union) (Word w_union) [] ∷ move (Word w_auto) (Word w_auto) [] ∷ move (Word w_default) (Word w_default) [] ∷ move (Word w_safe) (Word w_safe) [] ∷ move (Word w_self) (Word w_self) [] ∷ move (Word w_Self_type) (Word w_Self_type) [] ∷ move (Word w_super) (Word w_super) [] ∷ move (Word w_crate) (Word w_crate) [] ∷ []; nullable = false; gone = []; ends = []; halts = at_colons ∷ []; shuns = [] }
-summary_of false type_path = record { stays = []; moves = move (Punctuation colons) (Punctuation colons) [] ∷ move Name Name [] ∷ move (Word w_union) (Word w_union) [] ∷ move (Word w_auto) (Word w_auto) [] ∷ move (Word w_default) (Word w_default) [] ∷ move (Word w_safe) (Word w_safe) [] ∷ move (Word w_Self_type) (Word w_Self_type) [] ∷ move (Word w_self) (Word w_self) [] ∷ move (Word w_super) (Word w_super) [] ∷ move (Word w_crate) (Word w_crate) [] ∷ []; nullable = false; gone = []; ends = []; halts = at_colons ∷ at_arrow ∷ at_paren ∷ at_less_only ∷ []; shuns = [] }
-summary_of false type_words = record { stays = []; moves = move Name Name [] ∷ move (Word w_union) (Word w_union) [] ∷ move (Word w_auto) (Word w_auto) [] ∷ move (Word w_default) (Word w_default) [] ∷ move (Word w_safe) (Word w_safe) [] ∷ move (Word w_Self_type) (Word w_Self_type) [] ∷ move (Word w_self) (Word w_self) [] ∷ move (Word w_super) (Word w_super) [] ∷ move (Word w_crate) (Word w_crate) [] ∷ []; nullable = false; gone = []; ends = []; halts = at_colons ∷ at_arrow ∷ at_paren ∷ at_less_only ∷ []; shuns = [] }
-summary_of false type_arguments = record { stays = Delimited Paren ∷ []; moves = move (Punctuation less) (Punctuation less) [] ∷ move (Punctuation less_less_equals) (Punctuation less) [] ∷ move (Punctuation less_less) (Punctuation less) [] ∷ move (Punctuation colons) (Punctuation colons) [] ∷ []; nullable = true; gone = []; ends = []; halts = at_colons ∷ at_paren ∷ at_less_only ∷ at_arrow ∷ []; shuns = [] }
-summary_of false more_type_words = record { stays = []; moves = move (Punctuation colons) (Punctuation colons) [] ∷ []; nullable = true; gone = []; ends = []; halts = at_colons ∷ at_arrow ∷ at_paren ∷ at_less_only ∷ []; shuns = [] }
-summary_of false return_type = record { stays = Punctuation arrow ∷ []; moves = []; nullable = true; gone = []; ends = []; halts = at_colons ∷ at_arrow ∷ at_paren ∷ at_less_only ∷ []; shuns = [] }
+summary_of false type_path = record { stays = []; moves = move (Punctuation colons) (Punctuation colons) [] ∷ move Name Name [] ∷ move (Word w_union) (Word w_union) [] ∷ move (Word w_auto) (Word w_auto) [] ∷ move (Word w_default) (Word w_default) [] ∷ move (Word w_safe) (Word w_safe) [] ∷ move (Word w_Self_type) (Word w_Self_type) [] ∷ move (Word w_self) (Word w_self) [] ∷ move (Word w_super) (Word w_super) [] ∷ move (Word w_crate) (Word w_crate) [] ∷ []; nullable = false; gone = []; ends = at_equals ∷ at_paren ∷ at_less ∷ ((at_colons or_else at_less_only or_else at_paren or_else at_word w_as) but_not at_colons) ∷ (at_colons but_not at_colons) ∷ ((at_path_rest and_also ahead Bang_brace) but_not at_colons) ∷ ((at_path_rest and_also ahead Bang_name) but_not at_colons) ∷ ((at_path_rest and_also ahead Bang_group) but_not at_colons) ∷ at_name ∷ at_brace ∷ at_word w_trait ∷ (at_word w_unsafe or_else at_word w_impl) ∷ ended ∷ []; halts = at_colons ∷ at_arguments ∷ at_arrow ∷ []; shuns = [] }
+summary_of false type_words = record { stays = []; moves = move Name Name [] ∷ move (Word w_union) (Word w_union) [] ∷ move (Word w_auto) (Word w_auto) [] ∷ move (Word w_default) (Word w_default) [] ∷ move (Word w_safe) (Word w_safe) [] ∷ move (Word w_Self_type) (Word w_Self_type) [] ∷ move (Word w_self) (Word w_self) [] ∷ move (Word w_super) (Word w_super) [] ∷ move (Word w_crate) (Word w_crate) [] ∷ []; nullable = false; gone = []; ends = at_equals ∷ at_paren ∷ at_less ∷ ((at_colons or_else at_less_only or_else at_paren or_else at_word w_as) but_not at_colons) ∷ (at_colons but_not at_colons) ∷ ((at_path_rest and_also ahead Bang_brace) but_not at_colons) ∷ ((at_path_rest and_also ahead Bang_name) but_not at_colons) ∷ ((at_path_rest and_also ahead Bang_group) but_not at_colons) ∷ at_name ∷ at_brace ∷ at_word w_trait ∷ (at_word w_unsafe or_else at_word w_impl) ∷ ended ∷ []; halts = at_colons ∷ at_arguments ∷ at_arrow ∷ []; shuns = [] }
+summary_of false type_arguments = record { stays = Delimited Paren ∷ []; moves = move (Punctuation colons) (Punctuation colons) [] ∷ move (Punctuation less) (Punctuation less) [] ∷ move (Punctuation less_less_equals) (Punctuation less) [] ∷ move (Punctuation less_equals) (Punctuation less) [] ∷ move (Punctuation less_less) (Punctuation less) [] ∷ []; nullable = false; gone = []; ends = at_equals ∷ at_paren ∷ at_less ∷ ((at_colons or_else at_less_only or_else at_paren or_else at_word w_as) but_not at_colons) ∷ (at_colons but_not at_colons) ∷ ((at_path_rest and_also ahead Bang_brace) but_not at_colons) ∷ ((at_path_rest and_also ahead Bang_name) but_not at_colons) ∷ ((at_path_rest and_also ahead Bang_group) but_not at_colons) ∷ at_name ∷ at_brace ∷ at_word w_trait ∷ (at_word w_unsafe or_else at_word w_impl) ∷ ended ∷ []; halts = at_colons ∷ at_arguments ∷ at_arrow ∷ []; shuns = [] }
+summary_of false return_type = record { stays = Punctuation arrow ∷ []; moves = []; nullable = true; gone = []; ends = at_equals ∷ at_paren ∷ at_less ∷ ((at_colons or_else at_less_only or_else at_paren or_else at_word w_as) but_not at_colons) ∷ (at_colons but_not at_colons) ∷ ((at_path_rest and_also ahead Bang_brace) but_not at_colons) ∷ ((at_path_rest and_also ahead Bang_name) but_not at_colons) ∷ ((at_path_rest and_also ahead Bang_group) but_not at_colons) ∷ at_name ∷ at_brace ∷ at_word w_trait ∷ (at_word w_unsafe or_else at_word w_impl) ∷ ended ∷ []; halts = at_colons ∷ at_arguments ∷ at_arrow ∷ []; shuns = [] }
 summary_of false generic_arguments = record { stays = []; moves = move (Punctuation less) (Punctuation less) [] ∷ move (Punctuation less_less_equals) (Punctuation less) [] ∷ move (Punctuation less_equals) (Punctuation less) [] ∷ move (Punctuation less_less) (Punctuation less) [] ∷ []; nullable = false; gone = []; ends = []; halts = []; shuns = [] }
-summary_of false generic_argument = record { stays = Word w_true ∷ Word w_false ∷ Literal Str ∷ Literal ByteStr ∷ Literal CStr ∷ Literal Byte ∷ Literal Char ∷ Literal Int ∷ Literal Float ∷ Punctuation ampersand ∷ Punctuation star ∷ Delimited Paren ∷ Delimited Bracket ∷ []; moves = move Name Name (Before_equals ∷ []) ∷ move (Word w_union) (Word w_union) (Before_equals ∷ []) ∷ move (Word w_auto) (Word w_auto) (Before_equals ∷ []) ∷ move (Word w_default) (Word w_default) (Before_equals ∷ []) ∷ move (Word w_safe) (Word w_safe) (Before_equals ∷ []) ∷ move (Punctuation less) (Punctuation less) [] ∷ move (Punctuation less_less_equals) (Punctuation less) [] ∷ move (Punctuation less_equals) (Punctuation less) [] ∷ move (Punctuation less_less) (Punctuation less) [] ∷ move (Punctuation and_and) (Punctuation ampersand) [] ∷ move (Punctuation ampersand_equals) (Punctuation ampersand) [] ∷ move (Punctuation star_equals) (Punctuation star) [] ∷ move (Punctuation exclamation) (Punctuation exclamation) [] ∷ move (Punctuation not_equals) (Punctuation exclamation) [] ∷ move (Punctuation colons) (Punctuation colons) [] ∷ move Name Name (Before_equals ∷ Before_brace ∷ []) ∷ move (Word w_union) (Word w_union) (Before_equals ∷ Before_brace ∷ []) ∷ move (Word w_auto) (Word w_auto) (Before_equals ∷ Before_brace ∷ []) ∷ move (Word w_default) (Word w_default) (Before_equals ∷ Before_brace ∷ []) ∷ move (Word w_safe) (Word w_safe) (Before_equals ∷ Before_brace ∷ []) ∷ move (Word w_Self_type) (Word w_Self_type) (Before_equals ∷ Before_brace ∷ []) ∷ move (Word w_self) (Word w_self) (Before_end ∷ []) ∷ move (Word w_super) (Word w_super) (Before_end ∷ []) ∷ move (Word w_crate) (Word w_crate) (Before_end ∷ []) ∷ []; nullable = false; gone = []; ends = at_equals ∷ at_brace ∷ ended ∷ []; halts = at_colons ∷ at_arrow ∷ at_paren ∷ at_less_only ∷ []; shuns = [] }
-summary_of false qualified_path = record { stays = []; moves = move (Punctuation less) (Punctuation less) [] ∷ move (Punctuation less_less_equals) (Punctuation less) [] ∷ move (Punctuation less_equals) (Punctuation less) [] ∷ move (Punctuation less_less) (Punctuation less) [] ∷ []; nullable = false; gone = []; ends = []; halts = at_colons ∷ at_arrow ∷ at_paren ∷ at_less_only ∷ []; shuns = [] }
-summary_of false type = record { stays = Punctuation ampersand ∷ Punctuation star ∷ Delimited Paren ∷ Delimited Bracket ∷ []; moves = move (Punctuation less) (Punctuation less) [] ∷ move (Punctuation less_less_equals) (Punctuation less) [] ∷ move (Punctuation less_equals) (Punctuation less) [] ∷ move (Punctuation less_less) (Punctuation less) [] ∷ move (Punctuation and_and) (Punctuation ampersand) [] ∷ move (Punctuation ampersand_equals) (Punctuation ampersand) [] ∷ move (Punctuation star_equals) (Punctuation star) [] ∷ move (Punctuation exclamation) (Punctuation exclamation) [] ∷ move (Punctuation not_equals) (Punctuation exclamation) [] ∷ move (Punctuation colons) (Punctuation colons) [] ∷ move Name Name [] ∷ move (Word w_union) (Word w_union) [] ∷ move (Word w_auto) (Word w_auto) [] ∷ move (Word w_default) (Word w_default) [] ∷ move (Word w_safe) (Word w_safe) [] ∷ move (Word w_Self_type) (Word w_Self_type) [] ∷ move (Word w_self) (Word w_self) [] ∷ move (Word w_super) (Word w_super) [] ∷ move (Word w_crate) (Word w_crate) [] ∷ []; nullable = false; gone = []; ends = []; halts = at_colons ∷ at_paren ∷ at_less_only ∷ at_arrow ∷ []; shuns = [] }
-summary_of false types = record { stays = Punctuation ampersand ∷ Punctuation star ∷ Delimited Paren ∷ Delimited Bracket ∷ []; moves = move (Punctuation less) (Punctuation less) [] ∷ move (Punctuation less_less_equals) (Punctuation less) [] ∷ move (Punctuation less_equals) (Punctuation less) [] ∷ move (Punctuation less_less) (Punctuation less) [] ∷ move (Punctuation and_and) (Punctuation ampersand) [] ∷ move (Punctuation ampersand_equals) (Punctuation ampersand) [] ∷ move (Punctuation star_equals) (Punctuation star) [] ∷ move (Punctuation exclamation) (Punctuation exclamation) [] ∷ move (Punctuation not_equals) (Punctuation exclamation) [] ∷ move (Punctuation colons) (Punctuation colons) [] ∷ move Name Name [] ∷ move (Word w_union) (Word w_union) [] ∷ move (Word w_auto) (Word w_auto) [] ∷ move (Word w_default) (Word w_default) [] ∷ move (Word w_safe) (Word w_safe) [] ∷ move (Word w_Self_type) (Word w_Self_type) [] ∷ move (Word w_self) (Word w_self) [] ∷ move (Word w_super) (Word w_super) [] ∷ move (Word w_crate) (Word w_crate) [] ∷ []; nullable = true; gone = []; ends = ended ∷ []; halts = at_comma ∷ at_colons ∷ at_paren ∷ at_less_only ∷ at_arrow ∷ []; shuns = [] }
+summary_of false generic_argument = record { stays = Word w_true ∷ Word w_false ∷ Literal Str ∷ Literal ByteStr ∷ Literal CStr ∷ Literal Byte ∷ Literal Char ∷ Literal Int ∷ Literal Float ∷ Punctuation ampersand ∷ Punctuation star ∷ Delimited Paren ∷ Delimited Bracket ∷ Name ∷ Word w_union ∷ Word w_auto ∷ Word w_default ∷ Word w_safe ∷ Word w_Self_type ∷ Word w_self ∷ Word w_super ∷ Word w_crate ∷ []; moves = move Name Name (Before_equals ∷ []) ∷ move (Word w_union) (Word w_union) (Before_equals ∷ []) ∷ move (Word w_auto) (Word w_auto) (Before_equals ∷ []) ∷ move (Word w_default) (Word w_default) (Before_equals ∷ []) ∷ move (Word w_safe) (Word w_safe) (Before_equals ∷ []) ∷ move (Punctuation less) (Punctuation less) [] ∷ move (Punctuation less_less_equals) (Punctuation less) [] ∷ move (Punctuation less_equals) (Punctuation less) [] ∷ move (Punctuation less_less) (Punctuation less) [] ∷ move (Punctuation and_and) (Punctuation ampersand) [] ∷ move (Punctuation ampersand_equals) (Punctuation ampersand) [] ∷ move (Punctuation star_equals) (Punctuation star) [] ∷ move (Punctuation exclamation) (Punctuation exclamation) [] ∷ move (Punctuation not_equals) (Punctuation exclamation) [] ∷ move (Punctuation colons) (Punctuation colons) [] ∷ []; nullable = false; gone = []; ends = at_equals ∷ at_paren ∷ at_less ∷ ((at_colons or_else at_less_only or_else at_paren or_else at_word w_as) but_not at_colons) ∷ (at_colons but_not at_colons) ∷ ((at_path_rest and_also ahead Bang_brace) but_not at_colons) ∷ ((at_path_rest and_also ahead Bang_name) but_not at_colons) ∷ ((at_path_rest and_also ahead Bang_group) but_not at_colons) ∷ at_name ∷ at_brace ∷ at_word w_trait ∷ (at_word w_unsafe or_else at_word w_impl) ∷ ended ∷ []; halts = at_colons ∷ at_arguments ∷ at_arrow ∷ []; shuns = [] }
+summary_of false qualified_path = record { stays = []; moves = move (Punctuation less) (Punctuation less) [] ∷ move (Punctuation less_less_equals) (Punctuation less) [] ∷ move (Punctuation less_equals) (Punctuation less) [] ∷ move (Punctuation less_less) (Punctuation less) [] ∷ []; nullable = false; gone = []; ends = at_equals ∷ at_paren ∷ at_less ∷ ((at_colons or_else at_less_only or_else at_paren or_else at_word w_as) but_not at_colons) ∷ (at_colons but_not at_colons) ∷ ((at_path_rest and_also ahead Bang_brace) but_not at_colons) ∷ ((at_path_rest and_also ahead Bang_name) but_not at_colons) ∷ ((at_path_rest and_also ahead Bang_group) but_not at_colons) ∷ at_name ∷ at_brace ∷ at_word w_trait ∷ (at_word w_unsafe or_else at_word w_impl) ∷ ended ∷ []; halts = at_colons ∷ at_arguments ∷ at_arrow ∷ []; shuns = [] }
+summary_of false type = record { stays = Punctuation ampersand ∷ Punctuation star ∷ Delimited Paren ∷ Delimited Bracket ∷ []; moves = move (Punctuation less) (Punctuation less) [] ∷ move (Punctuation less_less_equals) (Punctuation less) [] ∷ move (Punctuation less_equals) (Punctuation less) [] ∷ move (Punctuation less_less) (Punctuation less) [] ∷ move (Punctuation and_and) (Punctuation ampersand) [] ∷ move (Punctuation ampersand_equals) (Punctuation ampersand) [] ∷ move (Punctuation star_equals) (Punctuation star) [] ∷ move (Punctuation exclamation) (Punctuation exclamation) [] ∷ move (Punctuation not_equals) (Punctuation exclamation) [] ∷ move (Punctuation colons) (Punctuation colons) [] ∷ move Name Name [] ∷ move (Word w_union) (Word w_union) [] ∷ move (Word w_auto) (Word w_auto) [] ∷ move (Word w_default) (Word w_default) [] ∷ move (Word w_safe) (Word w_safe) [] ∷ move (Word w_Self_type) (Word w_Self_type) [] ∷ move (Word w_self) (Word w_self) [] ∷ move (Word w_super) (Word w_super) [] ∷ move (Word w_crate) (Word w_crate) [] ∷ []; nullable = false; gone = []; ends = at_equals ∷ at_paren ∷ at_less ∷ ((at_colons or_else at_less_only or_else at_paren or_else at_word w_as) but_not at_colons) ∷ (at_colons but_not at_colons) ∷ ((at_path_rest and_also ahead Bang_brace) but_not at_colons) ∷ ((at_path_rest and_also ahead Bang_name) but_not at_colons) ∷ ((at_path_rest and_also ahead Bang_group) but_not at_colons) ∷ at_name ∷ at_brace ∷ at_word w_trait ∷ (at_word w_unsafe or_else at_word w_impl) ∷ ended ∷ []; halts = at_colons ∷ at_arguments ∷ at_arrow ∷ []; shuns = [] }
+summary_of false types = record { stays = Punctuation ampersand ∷ Punctuation star ∷ Delimited Paren ∷ Delimited Bracket ∷ []; moves = move (Punctuation less) (Punctuation less) [] ∷ move (Punctuation less_less_equals) (Punctuation less) [] ∷ move (Punctuation less_equals) (Punctuation less) [] ∷ move (Punctuation less_less) (Punctuation less) [] ∷ move (Punctuation and_and) (Punctuation ampersand) [] ∷ move (Punctuation ampersand_equals) (Punctuation ampersand) [] ∷ move (Punctuation star_equals) (Punctuation star) [] ∷ move (Punctuation exclamation) (Punctuation exclamation) [] ∷ move (Punctuation not_equals) (Punctuation exclamation) [] ∷ move (Punctuation colons) (Punctuation colons) [] ∷ move Name Name [] ∷ move (Word w_union) (Word w_union) [] ∷ move (Word w_auto) (Word w_auto) [] ∷ move (Word w_default) (Word w_default) [] ∷ move (Word w_safe) (Word w_safe) [] ∷ move (Word w_Self_type) (Word w_Self_type) [] ∷ move (Word w_self) (Word w_self) [] ∷ move (Word w_super) (Word w_super) [] ∷ move (Word w_crate) (Word w_crate) [] ∷ []; nullable = true; gone = []; ends = ended ∷ at_equals ∷ at_paren ∷ at_less ∷ ((at_colons or_else at_less_only or_else at_paren or_else at_word w_as) but_not at_colons) ∷ (at_colons but_not at_colons) ∷ ((at_path_rest and_also ahead Bang_brace) but_not at_colons) ∷ ((at_path_rest and_also ahead Bang_name) but_not at_colons) ∷ ((at_path_rest and_also ahead Bang_group) but_not at_colons) ∷ at_name ∷ at_brace ∷ at_word w_trait ∷ (at_word w_unsafe or_else at_word w_impl) ∷ []; halts = at_comma ∷ at_colons ∷ at_arguments ∷ at_arrow ∷ []; shuns = [] }
 summary_of false expression = record { stays = Word w_true ∷ Word w_false ∷ Literal Str ∷ Literal ByteStr ∷ Literal CStr ∷ Literal Byte ∷ Literal Char ∷ Literal Int ∷ Literal Float ∷ []; moves = []; nullable = false; gone = []; ends = []; halts = []; shuns = [] }
 summary_of false generics = record { stays = []; moves = move (Punctuation less) (Punctuation less) [] ∷ move (Punctuation less_less_equals) (Punctuation less) [] ∷ move (Punctuation less_equals) (Punctuation less) [] ∷ move (Punctuation less_less) (Punctuation less) [] ∷ []; nullable = true; gone = Punctuation less ∷ Punctuation less_less_equals ∷ Punctuation less_equals ∷ Punctuation less_less ∷ []; ends = []; halts = at_less ∷ []; shuns = at_less ∷ [] }
 summary_of false lifetime_parameter = record { stays = Punctuation lifetime_mark ∷ []; moves = move (Punctuation pound) (Punctuation pound) [] ∷ []; nullable = false; gone = []; ends = []; halts = at_plus ∷ at_lifetime ∷ at_colon ∷ []; shuns = at_colon ∷ [] }
 summary_of false lifetimes = record { stays = Punctuation lifetime_mark ∷ []; moves = []; nullable = true; gone = []; ends = []; halts = at_plus ∷ at_lifetime ∷ []; shuns = [] }
-summary_of false parameter_bounds = record { stays = Punctuation lifetime_mark ∷ Delimited Paren ∷ Punctuation question ∷ Word w_for ∷ []; moves = move (Punctuation colons) (Punctuation colons) [] ∷ move Name Name [] ∷ move (Word w_union) (Word w_union) [] ∷ move (Word w_auto) (Word w_auto) [] ∷ move (Word w_default) (Word w_default) [] ∷ move (Word w_safe) (Word w_safe) [] ∷ move (Word w_Self_type) (Word w_Self_type) [] ∷ move (Word w_self) (Word w_self) [] ∷ move (Word w_super) (Word w_super) [] ∷ move (Word w_crate) (Word w_crate) [] ∷ []; nullable = true; gone = []; ends = at_parameter_end ∷ []; halts = at_plus ∷ at_colons ∷ at_paren ∷ at_less_only ∷ at_arrow ∷ []; shuns = [] }
-summary_of false bound = record { stays = Punctuation lifetime_mark ∷ Delimited Paren ∷ Punctuation question ∷ Word w_for ∷ []; moves = move (Punctuation colons) (Punctuation colons) [] ∷ move Name Name [] ∷ move (Word w_union) (Word w_union) [] ∷ move (Word w_auto) (Word w_auto) [] ∷ move (Word w_default) (Word w_default) [] ∷ move (Word w_safe) (Word w_safe) [] ∷ move (Word w_Self_type) (Word w_Self_type) [] ∷ move (Word w_self) (Word w_self) [] ∷ move (Word w_super) (Word w_super) [] ∷ move (Word w_crate) (Word w_crate) [] ∷ []; nullable = false; gone = []; ends = []; halts = at_colons ∷ at_arrow ∷ at_paren ∷ at_less_only ∷ []; shuns = [] }
-summary_of false trait_bound = record { stays = Punctuation question ∷ Word w_for ∷ []; moves = move (Punctuation colons) (Punctuation colons) [] ∷ move Name Name [] ∷ move (Word w_union) (Word w_union) [] ∷ move (Word w_auto) (Word w_auto) [] ∷ move (Word w_default) (Word w_default) [] ∷ move (Word w_safe) (Word w_safe) [] ∷ move (Word w_Self_type) (Word w_Self_type) [] ∷ move (Word w_self) (Word w_self) [] ∷ move (Word w_super) (Word w_super) [] ∷ move (Word w_crate) (Word w_crate) [] ∷ []; nullable = false; gone = []; ends = []; halts = at_colons ∷ at_paren ∷ at_less_only ∷ at_arrow ∷ []; shuns = [] }
+summary_of false parameter_bounds = record { stays = Punctuation lifetime_mark ∷ Delimited Paren ∷ Punctuation question ∷ Word w_for ∷ []; moves = move (Punctuation colons) (Punctuation colons) [] ∷ move Name Name [] ∷ move (Word w_union) (Word w_union) [] ∷ move (Word w_auto) (Word w_auto) [] ∷ move (Word w_default) (Word w_default) [] ∷ move (Word w_safe) (Word w_safe) [] ∷ move (Word w_Self_type) (Word w_Self_type) [] ∷ move (Word w_self) (Word w_self) [] ∷ move (Word w_super) (Word w_super) [] ∷ move (Word w_crate) (Word w_crate) [] ∷ []; nullable = true; gone = []; ends = at_parameter_end ∷ at_equals ∷ at_paren ∷ at_less ∷ ((at_colons or_else at_less_only or_else at_paren or_else at_word w_as) but_not at_colons) ∷ (at_colons but_not at_colons) ∷ ((at_path_rest and_also ahead Bang_brace) but_not at_colons) ∷ ((at_path_rest and_also ahead Bang_name) but_not at_colons) ∷ ((at_path_rest and_also ahead Bang_group) but_not at_colons) ∷ at_name ∷ at_brace ∷ at_word w_trait ∷ (at_word w_unsafe or_else at_word w_impl) ∷ ended ∷ []; halts = at_plus ∷ at_colons ∷ at_arguments ∷ at_arrow ∷ []; shuns = [] }
+summary_of false bound = record { stays = Punctuation lifetime_mark ∷ Delimited Paren ∷ Punctuation question ∷ Word w_for ∷ []; moves = move (Punctuation colons) (Punctuation colons) [] ∷ move Name Name [] ∷ move (Word w_union) (Word w_union) [] ∷ move (Word w_auto) (Word w_auto) [] ∷ move (Word w_default) (Word w_default) [] ∷ move (Word w_safe) (Word w_safe) [] ∷ move (Word w_Self_type) (Word w_Self_type) [] ∷ move (Word w_self) (Word w_self) [] ∷ move (Word w_super) (Word w_super) [] ∷ move (Word w_crate) (Word w_crate) [] ∷ []; nullable = false; gone = []; ends = at_equals ∷ at_paren ∷ at_less ∷ ((at_colons or_else at_less_only or_else at_paren or_else at_word w_as) but_not at_colons) ∷ (at_colons but_not at_colons) ∷ ((at_path_rest and_also ahead Bang_brace) but_not at_colons) ∷ ((at_path_rest and_also ahead Bang_name) but_not at_colons) ∷ ((at_path_rest and_also ahead Bang_group) but_not at_colons) ∷ at_name ∷ at_brace ∷ at_word w_trait ∷ (at_word w_unsafe or_else at_word w_impl) ∷ ended ∷ []; halts = at_colons ∷ at_arguments ∷ at_arrow ∷ []; shuns = [] }
+summary_of false trait_bound = record { stays = Punctuation question ∷ Word w_for ∷ []; moves = move (Punctuation colons) (Punctuation colons) [] ∷ move Name Name [] ∷ move (Word w_union) (Word w_union) [] ∷ move (Word w_auto) (Word w_auto) [] ∷ move (Word w_default) (Word w_default) [] ∷ move (Word w_safe) (Word w_safe) [] ∷ move (Word w_Self_type) (Word w_Self_type) [] ∷ move (Word w_self) (Word w_self) [] ∷ move (Word w_super) (Word w_super) [] ∷ move (Word w_crate) (Word w_crate) [] ∷ []; nullable = false; gone = []; ends = at_equals ∷ at_paren ∷ at_less ∷ ((at_colons or_else at_less_only or_else at_paren or_else at_word w_as) but_not at_colons) ∷ (at_colons but_not at_colons) ∷ ((at_path_rest and_also ahead Bang_brace) but_not at_colons) ∷ ((at_path_rest and_also ahead Bang_name) but_not at_colons) ∷ ((at_path_rest and_also ahead Bang_group) but_not at_colons) ∷ at_name ∷ at_brace ∷ at_word w_trait ∷ (at_word w_unsafe or_else at_word w_impl) ∷ ended ∷ []; halts = at_colons ∷ at_arguments ∷ at_arrow ∷ []; shuns = [] }
 summary_of false bound_lifetimes = record { stays = []; moves = move (Punctuation less) (Punctuation less) [] ∷ move (Punctuation less_less_equals) (Punctuation less) [] ∷ move (Punctuation less_equals) (Punctuation less) [] ∷ move (Punctuation less_less) (Punctuation less) [] ∷ []; nullable = false; gone = []; ends = []; halts = []; shuns = [] }
 summary_of false lifetime_parameters = record { stays = Punctuation lifetime_mark ∷ []; moves = move (Punctuation pound) (Punctuation pound) [] ∷ []; nullable = true; gone = []; ends = at_greater ∷ []; halts = at_comma ∷ at_colon ∷ at_plus ∷ at_lifetime ∷ []; shuns = at_colon ∷ [] }
-summary_of false where_clause = record { stays = Word w_where ∷ []; moves = []; nullable = true; gone = Word w_where ∷ []; ends = at_predicate_end ∷ []; halts = at_comma ∷ at_plus ∷ at_lifetime ∷ at_colons ∷ at_paren ∷ at_less_only ∷ at_arrow ∷ at_word w_where ∷ []; shuns = at_word w_where ∷ [] }
-summary_of false predicates = record { stays = Punctuation lifetime_mark ∷ Word w_for ∷ Punctuation ampersand ∷ Punctuation star ∷ Delimited Paren ∷ Delimited Bracket ∷ []; moves = move (Punctuation less) (Punctuation less) [] ∷ move (Punctuation less_less_equals) (Punctuation less) [] ∷ move (Punctuation less_equals) (Punctuation less) [] ∷ move (Punctuation less_less) (Punctuation less) [] ∷ move (Punctuation and_and) (Punctuation ampersand) [] ∷ move (Punctuation ampersand_equals) (Punctuation ampersand) [] ∷ move (Punctuation star_equals) (Punctuation star) [] ∷ move (Punctuation exclamation) (Punctuation exclamation) [] ∷ move (Punctuation not_equals) (Punctuation exclamation) [] ∷ move (Punctuation colons) (Punctuation colons) [] ∷ move Name Name [] ∷ move (Word w_union) (Word w_union) [] ∷ move (Word w_auto) (Word w_auto) [] ∷ move (Word w_default) (Word w_default) [] ∷ move (Word w_safe) (Word w_safe) [] ∷ move (Word w_Self_type) (Word w_Self_type) [] ∷ move (Word w_self) (Word w_self) [] ∷ move (Word w_super) (Word w_super) [] ∷ move (Word w_crate) (Word w_crate) [] ∷ []; nullable = true; gone = []; ends = at_predicate_end ∷ []; halts = at_comma ∷ at_plus ∷ at_lifetime ∷ at_colons ∷ at_paren ∷ at_less_only ∷ at_arrow ∷ []; shuns = [] }
-summary_of false predicate = record { stays = Punctuation lifetime_mark ∷ Word w_for ∷ Punctuation ampersand ∷ Punctuation star ∷ Delimited Paren ∷ Delimited Bracket ∷ []; moves = move (Punctuation less) (Punctuation less) [] ∷ move (Punctuation less_less_equals) (Punctuation less) [] ∷ move (Punctuation less_equals) (Punctuation less) [] ∷ move (Punctuation less_less) (Punctuation less) [] ∷ move (Punctuation and_and) (Punctuation ampersand) [] ∷ move (Punctuation ampersand_equals) (Punctuation ampersand) [] ∷ move (Punctuation star_equals) (Punctuation star) [] ∷ move (Punctuation exclamation) (Punctuation exclamation) [] ∷ move (Punctuation not_equals) (Punctuation exclamation) [] ∷ move (Punctuation colons) (Punctuation colons) [] ∷ move Name Name [] ∷ move (Word w_union) (Word w_union) [] ∷ move (Word w_auto) (Word w_auto) [] ∷ move (Word w_default) (Word w_default) [] ∷ move (Word w_safe) (Word w_safe) [] ∷ move (Word w_Self_type) (Word w_Self_type) [] ∷ move (Word w_self) (Word w_self) [] ∷ move (Word w_super) (Word w_super) [] ∷ move (Word w_crate) (Word w_crate) [] ∷ []; nullable = false; gone = []; ends = at_predicate_end ∷ []; halts = at_plus ∷ at_lifetime ∷ at_colons ∷ at_paren ∷ at_less_only ∷ at_arrow ∷ []; shuns = [] }
-summary_of false predicate_bounds = record { stays = Punctuation lifetime_mark ∷ Delimited Paren ∷ Punctuation question ∷ Word w_for ∷ []; moves = move (Punctuation colons) (Punctuation colons) [] ∷ move Name Name [] ∷ move (Word w_union) (Word w_union) [] ∷ move (Word w_auto) (Word w_auto) [] ∷ move (Word w_default) (Word w_default) [] ∷ move (Word w_safe) (Word w_safe) [] ∷ move (Word w_Self_type) (Word w_Self_type) [] ∷ move (Word w_self) (Word w_self) [] ∷ move (Word w_super) (Word w_super) [] ∷ move (Word w_crate) (Word w_crate) [] ∷ []; nullable = true; gone = []; ends = at_predicate_end ∷ []; halts = at_plus ∷ at_colons ∷ at_paren ∷ at_less_only ∷ at_arrow ∷ []; shuns = [] }
+summary_of false where_clause = record { stays = Word w_where ∷ []; moves = []; nullable = true; gone = Word w_where ∷ []; ends = at_predicate_end ∷ at_equals ∷ at_paren ∷ at_less ∷ ((at_colons or_else at_less_only or_else at_paren or_else at_word w_as) but_not at_colons) ∷ (at_colons but_not at_colons) ∷ ((at_path_rest and_also ahead Bang_brace) but_not at_colons) ∷ ((at_path_rest and_also ahead Bang_name) but_not at_colons) ∷ ((at_path_rest and_also ahead Bang_group) but_not at_colons) ∷ at_name ∷ at_brace ∷ at_word w_trait ∷ (at_word w_unsafe or_else at_word w_impl) ∷ ended ∷ []; halts = at_comma ∷ at_plus ∷ at_lifetime ∷ at_colons ∷ at_arguments ∷ at_arrow ∷ at_word w_where ∷ []; shuns = at_word w_where ∷ [] }
+summary_of false predicates = record { stays = Punctuation lifetime_mark ∷ Word w_for ∷ Punctuation ampersand ∷ Punctuation star ∷ Delimited Paren ∷ Delimited Bracket ∷ []; moves = move (Punctuation less) (Punctuation less) [] ∷ move (Punctuation less_less_equals) (Punctuation less) [] ∷ move (Punctuation less_equals) (Punctuation less) [] ∷ move (Punctuation less_less) (Punctuation less) [] ∷ move (Punctuation and_and) (Punctuation ampersand) [] ∷ move (Punctuation ampersand_equals) (Punctuation ampersand) [] ∷ move (Punctuation star_equals) (Punctuation star) [] ∷ move (Punctuation exclamation) (Punctuation exclamation) [] ∷ move (Punctuation not_equals) (Punctuation exclamation) [] ∷ move (Punctuation colons) (Punctuation colons) [] ∷ move Name Name [] ∷ move (Word w_union) (Word w_union) [] ∷ move (Word w_auto) (Word w_auto) [] ∷ move (Word w_default) (Word w_default) [] ∷ move (Word w_safe) (Word w_safe) [] ∷ move (Word w_Self_type) (Word w_Self_type) [] ∷ move (Word w_self) (Word w_self) [] ∷ move (Word w_super) (Word w_super) [] ∷ move (Word w_crate) (Word w_crate) [] ∷ []; nullable = true; gone = []; ends = at_predicate_end ∷ at_equals ∷ at_paren ∷ at_less ∷ ((at_colons or_else at_less_only or_else at_paren or_else at_word w_as) but_not at_colons) ∷ (at_colons but_not at_colons) ∷ ((at_path_rest and_also ahead Bang_brace) but_not at_colons) ∷ ((at_path_rest and_also ahead Bang_name) but_not at_colons) ∷ ((at_path_rest and_also ahead Bang_group) but_not at_colons) ∷ at_name ∷ at_brace ∷ at_word w_trait ∷ (at_word w_unsafe or_else at_word w_impl) ∷ ended ∷ []; halts = at_comma ∷ at_plus ∷ at_lifetime ∷ at_colons ∷ at_arguments ∷ at_arrow ∷ []; shuns = [] }
+summary_of false predicate = record { stays = Punctuation lifetime_mark ∷ Word w_for ∷ Punctuation ampersand ∷ Punctuation star ∷ Delimited Paren ∷ Delimited Bracket ∷ []; moves = move (Punctuation less) (Punctuation less) [] ∷ move (Punctuation less_less_equals) (Punctuation less) [] ∷ move (Punctuation less_equals) (Punctuation less) [] ∷ move (Punctuation less_less) (Punctuation less) [] ∷ move (Punctuation and_and) (Punctuation ampersand) [] ∷ move (Punctuation ampersand_equals) (Punctuation ampersand) [] ∷ move (Punctuation star_equals) (Punctuation star) [] ∷ move (Punctuation exclamation) (Punctuation exclamation) [] ∷ move (Punctuation not_equals) (Punctuation exclamation) [] ∷ move (Punctuation colons) (Punctuation colons) [] ∷ move Name Name [] ∷ move (Word w_union) (Word w_union) [] ∷ move (Word w_auto) (Word w_auto) [] ∷ move (Word w_default) (Word w_default) [] ∷ move (Word w_safe) (Word w_safe) [] ∷ move (Word w_Self_type) (Word w_Self_type) [] ∷ move (Word w_self) (Word w_self) [] ∷ move (Word w_super) (Word w_super) [] ∷ move (Word w_crate) (Word w_crate) [] ∷ []; nullable = false; gone = []; ends = at_predicate_end ∷ at_equals ∷ at_paren ∷ at_less ∷ ((at_colons or_else at_less_only or_else at_paren or_else at_word w_as) but_not at_colons) ∷ (at_colons but_not at_colons) ∷ ((at_path_rest and_also ahead Bang_brace) but_not at_colons) ∷ ((at_path_rest and_also ahead Bang_name) but_not at_colons) ∷ ((at_path_rest and_also ahead Bang_group) but_not at_colons) ∷ at_name ∷ at_brace ∷ at_word w_trait ∷ (at_word w_unsafe or_else at_word w_impl) ∷ ended ∷ []; halts = at_plus ∷ at_lifetime ∷ at_colons ∷ at_arguments ∷ at_arrow ∷ []; shuns = [] }
+summary_of false predicate_bounds = record { stays = Punctuation lifetime_mark ∷ Delimited Paren ∷ Punctuation question ∷ Word w_for ∷ []; moves = move (Punctuation colons) (Punctuation colons) [] ∷ move Name Name [] ∷ move (Word w_union) (Word w_union) [] ∷ move (Word w_auto) (Word w_auto) [] ∷ move (Word w_default) (Word w_default) [] ∷ move (Word w_safe) (Word w_safe) [] ∷ move (Word w_Self_type) (Word w_Self_type) [] ∷ move (Word w_self) (Word w_self) [] ∷ move (Word w_super) (Word w_super) [] ∷ move (Word w_crate) (Word w_crate) [] ∷ []; nullable = true; gone = []; ends = at_predicate_end ∷ at_equals ∷ at_paren ∷ at_less ∷ ((at_colons or_else at_less_only or_else at_paren or_else at_word w_as) but_not at_colons) ∷ (at_colons but_not at_colons) ∷ ((at_path_rest and_also ahead Bang_brace) but_not at_colons) ∷ ((at_path_rest and_also ahead Bang_name) but_not at_colons) ∷ ((at_path_rest and_also ahead Bang_group) but_not at_colons) ∷ at_name ∷ at_brace ∷ at_word w_trait ∷ (at_word w_unsafe or_else at_word w_impl) ∷ ended ∷ []; halts = at_plus ∷ at_colons ∷ at_arguments ∷ at_arrow ∷ []; shuns = [] }
 summary_of false fields_named = record { stays = Delimited Brace ∷ []; moves = []; nullable = false; gone = []; ends = []; halts = []; shuns = [] }
-summary_of false named_fields = record { stays = Word w_pub ∷ Word w_underscore ∷ []; moves = move (Punctuation pound) (Punctuation pound) [] ∷ move Name Name [] ∷ move (Word w_union) (Word w_union) [] ∷ move (Word w_auto) (Word w_auto) [] ∷ move (Word w_default) (Word w_default) [] ∷ move (Word w_safe) (Word w_safe) [] ∷ []; nullable = true; gone = []; ends = ended ∷ at_equals ∷ at_brace ∷ []; halts = at_comma ∷ at_equals ∷ at_colons ∷ at_paren ∷ at_less_only ∷ at_arrow ∷ []; shuns = [] }
-summary_of false named_field = record { stays = Word w_pub ∷ Word w_underscore ∷ []; moves = move (Punctuation pound) (Punctuation pound) [] ∷ move Name Name [] ∷ move (Word w_union) (Word w_union) [] ∷ move (Word w_auto) (Word w_auto) [] ∷ move (Word w_default) (Word w_default) [] ∷ move (Word w_safe) (Word w_safe) [] ∷ []; nullable = false; gone = []; ends = at_equals ∷ at_brace ∷ ended ∷ []; halts = at_equals ∷ at_colons ∷ at_arrow ∷ at_paren ∷ at_less_only ∷ []; shuns = [] }
-summary_of false nameless_type = record { stays = Word w_struct ∷ Word w_union ∷ Punctuation ampersand ∷ Punctuation star ∷ Delimited Paren ∷ Delimited Bracket ∷ []; moves = move (Punctuation less) (Punctuation less) [] ∷ move (Punctuation less_less_equals) (Punctuation less) [] ∷ move (Punctuation less_equals) (Punctuation less) [] ∷ move (Punctuation less_less) (Punctuation less) [] ∷ move (Punctuation and_and) (Punctuation ampersand) [] ∷ move (Punctuation ampersand_equals) (Punctuation ampersand) [] ∷ move (Punctuation star_equals) (Punctuation star) [] ∷ move (Punctuation exclamation) (Punctuation exclamation) [] ∷ move (Punctuation not_equals) (Punctuation exclamation) [] ∷ move (Punctuation colons) (Punctuation colons) [] ∷ move Name Name (Before_equals ∷ Before_brace ∷ []) ∷ move (Word w_union) (Word w_union) (Before_equals ∷ Before_brace ∷ []) ∷ move (Word w_auto) (Word w_auto) (Before_equals ∷ Before_brace ∷ []) ∷ move (Word w_default) (Word w_default) (Before_equals ∷ Before_brace ∷ []) ∷ move (Word w_safe) (Word w_safe) (Before_equals ∷ Before_brace ∷ []) ∷ move (Word w_Self_type) (Word w_Self_type) (Before_equals ∷ Before_brace ∷ []) ∷ move (Word w_self) (Word w_self) (Before_end ∷ []) ∷ move (Word w_super) (Word w_super) (Before_end ∷ []) ∷ move (Word w_crate) (Word w_crate) (Before_end ∷ []) ∷ []; nullable = false; gone = []; ends = at_equals ∷ at_brace ∷ ended ∷ []; halts = at_colons ∷ at_arrow ∷ at_paren ∷ at_less_only ∷ []; shuns = [] }
-summary_of false unnamed_field = record { stays = Word w_pub ∷ Punctuation ampersand ∷ Punctuation star ∷ Delimited Paren ∷ Delimited Bracket ∷ []; moves = move (Punctuation pound) (Punctuation pound) [] ∷ move (Punctuation less) (Punctuation less) [] ∷ move (Punctuation less_less_equals) (Punctuation less) [] ∷ move (Punctuation less_equals) (Punctuation less) [] ∷ move (Punctuation less_less) (Punctuation less) [] ∷ move (Punctuation and_and) (Punctuation ampersand) [] ∷ move (Punctuation ampersand_equals) (Punctuation ampersand) [] ∷ move (Punctuation star_equals) (Punctuation star) [] ∷ move (Punctuation exclamation) (Punctuation exclamation) [] ∷ move (Punctuation not_equals) (Punctuation exclamation) [] ∷ move (Punctuation colons) (Punctuation colons) [] ∷ move Name Name (Before_equals ∷ Before_brace ∷ []) ∷ move (Word w_union) (Word w_union) (Before_equals ∷ Before_brace ∷ []) ∷ move (Word w_auto) (Word w_auto) (Before_equals ∷ Before_brace ∷ []) ∷ move (Word w_default) (Word w_default) (Before_equals ∷ Before_brace ∷ []) ∷ move (Word w_safe) (Word w_safe) (Before_equals ∷ Before_brace ∷ []) ∷ move (Word w_Self_type) (Word w_Self_type) (Before_equals ∷ Before_brace ∷ []) ∷ move (Word w_self) (Word w_self) (Before_end ∷ []) ∷ move (Word w_super) (Word w_super) (Before_end ∷ []) ∷ move (Word w_crate) (Word w_crate) (Before_end ∷ []) ∷ []; nullable = false; gone = []; ends = (at_equals but_not at_equals) ∷ at_brace ∷ ended ∷ []; halts = at_equals ∷ at_colons ∷ at_arrow ∷ at_paren ∷ at_less_only ∷ []; shuns = [] }
-summary_of false unnamed_fields = record { stays = Word w_pub ∷ Punctuation ampersand ∷ Punctuation star ∷ Delimited Paren ∷ Delimited Bracket ∷ []; moves = move (Punctuation pound) (Punctuation pound) [] ∷ move (Punctuation less) (Punctuation less) [] ∷ move (Punctuation less_less_equals) (Punctuation less) [] ∷ move (Punctuation less_equals) (Punctuation less) [] ∷ move (Punctuation less_less) (Punctuation less) [] ∷ move (Punctuation and_and) (Punctuation ampersand) [] ∷ move (Punctuation ampersand_equals) (Punctuation ampersand) [] ∷ move (Punctuation star_equals) (Punctuation star) [] ∷ move (Punctuation exclamation) (Punctuation exclamation) [] ∷ move (Punctuation not_equals) (Punctuation exclamation) [] ∷ move (Punctuation colons) (Punctuation colons) [] ∷ move Name Name (Before_equals ∷ Before_brace ∷ []) ∷ move (Word w_union) (Word w_union) (Before_equals ∷ Before_brace ∷ []) ∷ move (Word w_auto) (Word w_auto) (Before_equals ∷ Before_brace ∷ []) ∷ move (Word w_default) (Word w_default) (Before_equals ∷ Before_brace ∷ []) ∷ move (Word w_safe) (Word w_safe) (Before_equals ∷ Before_brace ∷ []) ∷ move (Word w_Self_type) (Word w_Self_type) (Before_equals ∷ Before_brace ∷ []) ∷ move (Word w_self) (Word w_self) (Before_end ∷ []) ∷ move (Word w_super) (Word w_super) (Before_end ∷ []) ∷ move (Word w_crate) (Word w_crate) (Before_end ∷ []) ∷ []; nullable = true; gone = []; ends = ended ∷ (at_equals but_not at_equals) ∷ at_brace ∷ []; halts = at_comma ∷ at_equals ∷ at_colons ∷ at_paren ∷ at_less_only ∷ at_arrow ∷ []; shuns = [] }
+summary_of false named_fields = record { stays = Word w_pub ∷ Word w_underscore ∷ []; moves = move (Punctuation pound) (Punctuation pound) [] ∷ move Name Name [] ∷ move (Word w_union) (Word w_union) [] ∷ move (Word w_auto) (Word w_auto) [] ∷ move (Word w_default) (Word w_default) [] ∷ move (Word w_safe) (Word w_safe) [] ∷ []; nullable = true; gone = []; ends = ended ∷ at_equals ∷ at_paren ∷ at_less ∷ ((at_colons or_else at_less_only or_else at_paren or_else at_word w_as) but_not at_colons) ∷ (at_colons but_not at_colons) ∷ ((at_path_rest and_also ahead Bang_brace) but_not at_colons) ∷ ((at_path_rest and_also ahead Bang_name) but_not at_colons) ∷ ((at_path_rest and_also ahead Bang_group) but_not at_colons) ∷ at_name ∷ at_brace ∷ at_word w_trait ∷ (at_word w_unsafe or_else at_word w_impl) ∷ []; halts = at_comma ∷ at_equals ∷ at_colons ∷ at_arguments ∷ at_arrow ∷ []; shuns = [] }
+summary_of false named_field = record { stays = Word w_pub ∷ Word w_underscore ∷ []; moves = move (Punctuation pound) (Punctuation pound) [] ∷ move Name Name [] ∷ move (Word w_union) (Word w_union) [] ∷ move (Word w_auto) (Word w_auto) [] ∷ move (Word w_default) (Word w_default) [] ∷ move (Word w_safe) (Word w_safe) [] ∷ []; nullable = false; gone = []; ends = at_equals ∷ at_paren ∷ at_less ∷ ((at_colons or_else at_less_only or_else at_paren or_else at_word w_as) but_not at_colons) ∷ (at_colons but_not at_colons) ∷ ((at_path_rest and_also ahead Bang_brace) but_not at_colons) ∷ ((at_path_rest and_also ahead Bang_name) but_not at_colons) ∷ ((at_path_rest and_also ahead Bang_group) but_not at_colons) ∷ at_name ∷ at_brace ∷ at_word w_trait ∷ (at_word w_unsafe or_else at_word w_impl) ∷ ended ∷ []; halts = at_equals ∷ at_colons ∷ at_arguments ∷ at_arrow ∷ []; shuns = [] }
+summary_of false nameless_fields = record { stays = Word w_struct ∷ Word w_union ∷ []; moves = []; nullable = false; gone = []; ends = []; halts = []; shuns = [] }
+summary_of false unnamed_field = record { stays = Word w_pub ∷ Punctuation ampersand ∷ Punctuation star ∷ Delimited Paren ∷ Delimited Bracket ∷ Name ∷ Word w_union ∷ Word w_auto ∷ Word w_default ∷ Word w_safe ∷ Word w_Self_type ∷ Word w_self ∷ Word w_super ∷ Word w_crate ∷ []; moves = move (Punctuation pound) (Punctuation pound) [] ∷ move (Punctuation less) (Punctuation less) [] ∷ move (Punctuation less_less_equals) (Punctuation less) [] ∷ move (Punctuation less_equals) (Punctuation less) [] ∷ move (Punctuation less_less) (Punctuation less) [] ∷ move (Punctuation and_and) (Punctuation ampersand) [] ∷ move (Punctuation ampersand_equals) (Punctuation ampersand) [] ∷ move (Punctuation star_equals) (Punctuation star) [] ∷ move (Punctuation exclamation) (Punctuation exclamation) [] ∷ move (Punctuation not_equals) (Punctuation exclamation) [] ∷ move (Punctuation colons) (Punctuation colons) [] ∷ []; nullable = false; gone = []; ends = (at_equals but_not at_equals) ∷ at_paren ∷ at_less ∷ ((at_colons or_else at_less_only or_else at_paren or_else at_word w_as) but_not at_colons) ∷ (at_colons but_not at_colons) ∷ ((at_path_rest and_also ahead Bang_brace) but_not at_colons) ∷ ((at_path_rest and_also ahead Bang_name) but_not at_colons) ∷ ((at_path_rest and_also ahead Bang_group) but_not at_colons) ∷ at_name ∷ at_brace ∷ at_word w_trait ∷ (at_word w_unsafe or_else at_word w_impl) ∷ ended ∷ []; halts = at_equals ∷ at_colons ∷ at_arguments ∷ at_arrow ∷ []; shuns = [] }
+summary_of false unnamed_fields = record { stays = Word w_pub ∷ Punctuation ampersand ∷ Punctuation star ∷ Delimited Paren ∷ Delimited Bracket ∷ Name ∷ Word w_union ∷ Word w_auto ∷ Word w_default ∷ Word w_safe ∷ Word w_Self_type ∷ Word w_self ∷ Word w_super ∷ Word w_crate ∷ []; moves = move (Punctuation pound) (Punctuation pound) [] ∷ move (Punctuation less) (Punctuation less) [] ∷ move (Punctuation less_less_equals) (Punctuation less) [] ∷ move (Punctuation less_equals) (Punctuation less) [] ∷ move (Punctuation less_less) (Punctuation less) [] ∷ move (Punctuation and_and) (Punctuation ampersand) [] ∷ move (Punctuation ampersand_equals) (Punctuation ampersand) [] ∷ move (Punctuation star_equals) (Punctuation star) [] ∷ move (Punctuation exclamation) (Punctuation exclamation) [] ∷ move (Punctuation not_equals) (Punctuation exclamation) [] ∷ move (Punctuation colons) (Punctuation colons) [] ∷ []; nullable = true; gone = []; ends = ended ∷ (at_equals but_not at_equals) ∷ at_paren ∷ at_less ∷ ((at_colons or_else at_less_only or_else at_paren or_else at_word w_as) but_not at_colons) ∷ (at_colons but_not at_colons) ∷ ((at_path_rest and_also ahead Bang_brace) but_not at_colons) ∷ ((at_path_rest and_also ahead Bang_name) but_not at_colons) ∷ ((at_path_rest and_also ahead Bang_group) but_not at_colons) ∷ at_name ∷ at_brace ∷ at_word w_trait ∷ (at_word w_unsafe or_else at_word w_impl) ∷ []; halts = at_comma ∷ at_equals ∷ at_colons ∷ at_arguments ∷ at_arrow ∷ []; shuns = [] }
 summary_of false fields_unnamed = record { stays = Delimited Paren ∷ []; moves = []; nullable = false; gone = []; ends = []; halts = []; shuns = [] }
 summary_of false variant = record { stays = []; moves = move (Punctuation pound) (Punctuation pound) [] ∷ move Name Name [] ∷ move (Word w_union) (Word w_union) [] ∷ move (Word w_auto) (Word w_auto) [] ∷ move (Word w_default) (Word w_default) [] ∷ move (Word w_safe) (Word w_safe) [] ∷ move (Word w_pub) Name [] ∷ move (Word w_pub) (Word w_union) [] ∷ move (Word w_pub) (Word w_auto) [] ∷ move (Word w_pub) (Word w_default) [] ∷ move (Word w_pub) (Word w_safe) [] ∷ []; nullable = false; gone = []; ends = []; halts = at_equals ∷ at_paren ∷ at_brace ∷ []; shuns = [] }
 summary_of false variants = record { stays = []; moves = move (Punctuation pound) (Punctuation pound) [] ∷ move Name Name [] ∷ move (Word w_union) (Word w_union) [] ∷ move (Word w_auto) (Word w_auto) [] ∷ move (Word w_default) (Word w_default) [] ∷ move (Word w_safe) (Word w_safe) [] ∷ move (Word w_pub) Name [] ∷ move (Word w_pub) (Word w_union) [] ∷ move (Word w_pub) (Word w_auto) [] ∷ move (Word w_pub) (Word w_default) [] ∷ move (Word w_pub) (Word w_safe) [] ∷ []; nullable = true; gone = []; ends = ended ∷ []; halts = at_comma ∷ at_equals ∷ at_paren ∷ at_brace ∷ []; shuns = [] }
@@ -246,40 +250,41 @@ summary_of false plain_structure = record { stays = Word w_pub ∷ Word w_struct
 summary_of false plain_derive_input = record { stays = Word w_pub ∷ Word w_struct ∷ []; moves = []; nullable = false; gone = []; ends = []; halts = []; shuns = [] }
 summary_of true attributes = record { stays = []; moves = move (Punctuation pound) (Punctuation pound) [] ∷ []; nullable = true; gone = []; ends = []; halts = at_pound ∷ []; shuns = [] }
 summary_of true meta = record { stays = []; moves = []; nullable = false; gone = []; ends = []; halts = []; shuns = [] }
+summary_of true unsafe_path = record { stays = []; moves = []; nullable = false; gone = []; ends = []; halts = []; shuns = [] }
+summary_of true unsafe_word = record { stays = []; moves = []; nullable = false; gone = []; ends = []; halts = []; shuns = [] }
 summary_of true meta_value = record { stays = []; moves = []; nullable = false; gone = []; ends = []; halts = []; shuns = [] }
 summary_of true module_path = record { stays = Punctuation colons ∷ Name ∷ Word w_union ∷ Word w_auto ∷ Word w_default ∷ Word w_safe ∷ Word w_self ∷ Word w_Self_type ∷ Word w_super ∷ Word w_crate ∷ []; moves = []; nullable = false; gone = []; ends = at_equals ∷ at_paren ∷ at_less ∷ ((at_colons or_else at_less_only or_else at_paren or_else at_word w_as) but_not at_colons) ∷ (at_colons but_not at_colons) ∷ ((at_path_rest and_also ahead Bang_brace) but_not at_colons) ∷ ((at_path_rest and_also ahead Bang_name) but_not at_colons) ∷ ((at_path_rest and_also ahead Bang_group) but_not at_colons) ∷ at_name ∷ at_brace ∷ at_word w_trait ∷ (at_word w_unsafe or_else at_word w_impl) ∷ ended ∷ []; halts = at_colons ∷ []; shuns = [] }
 summary_of true module_words = record { stays = Name ∷ Word w_union ∷ Word w_auto ∷ Word w_default ∷ Word w_safe ∷ Word w_self ∷ Word w_Self_type ∷ Word w_super ∷ Word w_crate ∷ []; moves = []; nullable = false; gone = []; ends = at_equals ∷ at_paren ∷ at_less ∷ ((at_colons or_else at_less_only or_else at_paren or_else at_word w_as) but_not at_colons) ∷ (at_colons but_not at_colons) ∷ ((at_path_rest and_also ahead Bang_brace) but_not at_colons) ∷ ((at_path_rest and_also ahead Bang_name) but_not at_colons) ∷ ((at_path_rest and_also ahead Bang_group) but_not at_colons) ∷ at_name ∷ at_brace ∷ at_word w_trait ∷ (at_word w_unsafe or_else at_word w_impl) ∷ ended ∷ []; halts = at_colons ∷ []; shuns = [] }
 summary_of true visibility = record { stays = Word w_pub ∷ []; moves = []; nullable = true; gone = []; ends = []; halts = at_restriction ∷ at_word w_pub ∷ []; shuns = [] }
 summary_of true restriction = record { stays = Word w_in ∷ Punctuation colons ∷ Name ∷ Word w_union ∷ Word w_auto ∷ Word w_default ∷ Word w_safe ∷ Word w_self ∷ Word w_Self_type ∷ Word w_super ∷ Word w_crate ∷ []; moves = []; nullable = false; gone = []; ends = at_equals ∷ at_paren ∷ at_less ∷ ((at_colons or_else at_less_only or_else at_paren or_else at_word w_as) but_not at_colons) ∷ (at_colons but_not at_colons) ∷ ((at_path_rest and_also ahead Bang_brace) but_not at_colons) ∷ ((at_path_rest and_also ahead Bang_name) but_not at_colons) ∷ ((at_path_rest and_also ahead Bang_group) but_not at_colons) ∷ at_name ∷ at_brace ∷ at_word w_trait ∷ (at_word w_unsafe or_else at_word w_impl) ∷ ended ∷ []; halts = at_colons ∷ []; shuns = [] }
-summary_of true type_path = record { stays = []; moves = move (Punctuation colons) (Punctuation colons) [] ∷ move Name Name (Before_equals ∷ Before_brace ∷ []) ∷ move (Word w_union) (Word w_union) (Before_equals ∷ Before_brace ∷ []) ∷ move (Word w_auto) (Word w_auto) (Before_equals ∷ Before_brace ∷ []) ∷ move (Word w_default) (Word w_default) (Before_equals ∷ Before_brace ∷ []) ∷ move (Word w_safe) (Word w_safe) (Before_equals ∷ Before_brace ∷ []) ∷ move (Word w_Self_type) (Word w_Self_type) (Before_equals ∷ Before_brace ∷ []) ∷ move (Word w_self) (Word w_self) (Before_end ∷ []) ∷ move (Word w_super) (Word w_super) (Before_end ∷ []) ∷ move (Word w_crate) (Word w_crate) (Before_end ∷ []) ∷ []; nullable = false; gone = []; ends = at_equals ∷ at_brace ∷ ended ∷ []; halts = at_colons ∷ at_arrow ∷ at_paren ∷ at_less_only ∷ []; shuns = [] }
-summary_of true type_words = record { stays = []; moves = move Name Name (Before_equals ∷ Before_brace ∷ []) ∷ move (Word w_union) (Word w_union) (Before_equals ∷ Before_brace ∷ []) ∷ move (Word w_auto) (Word w_auto) (Before_equals ∷ Before_brace ∷ []) ∷ move (Word w_default) (Word w_default) (Before_equals ∷ Before_brace ∷ []) ∷ move (Word w_safe) (Word w_safe) (Before_equals ∷ Before_brace ∷ []) ∷ move (Word w_Self_type) (Word w_Self_type) (Before_equals ∷ Before_brace ∷ []) ∷ move (Word w_self) (Word w_self) (Before_end ∷ []) ∷ move (Word w_super) (Word w_super) (Before_end ∷ []) ∷ move (Word w_crate) (Word w_crate) (Before_end ∷ []) ∷ []; nullable = false; gone = []; ends = at_equals ∷ at_brace ∷ ended ∷ []; halts = at_colons ∷ at_arrow ∷ at_paren ∷ at_less_only ∷ []; shuns = [] }
-summary_of true type_arguments = record { stays = []; moves = []; nullable = false; gone = []; ends = []; halts = []; shuns = [] }
-summary_of true more_type_words = record { stays = []; moves = []; nullable = false; gone = []; ends = []; halts = []; shuns = [] }
+summary_of true type_path = record { stays = Name ∷ Word w_union ∷ Word w_auto ∷ Word w_default ∷ Word w_safe ∷ Word w_Self_type ∷ Word w_self ∷ Word w_super ∷ Word w_crate ∷ []; moves = move (Punctuation colons) (Punctuation colons) [] ∷ []; nullable = false; gone = []; ends = at_equals ∷ at_paren ∷ at_less ∷ ((at_colons or_else at_less_only or_else at_paren or_else at_word w_as) but_not at_colons) ∷ (at_colons but_not at_colons) ∷ ((at_path_rest and_also ahead Bang_brace) but_not at_colons) ∷ ((at_path_rest and_also ahead Bang_name) but_not at_colons) ∷ ((at_path_rest and_also ahead Bang_group) but_not at_colons) ∷ at_name ∷ at_brace ∷ at_word w_trait ∷ (at_word w_unsafe or_else at_word w_impl) ∷ ended ∷ []; halts = at_colons ∷ at_arguments ∷ at_arrow ∷ []; shuns = [] }
+summary_of true type_words = record { stays = Name ∷ Word w_union ∷ Word w_auto ∷ Word w_default ∷ Word w_safe ∷ Word w_Self_type ∷ Word w_self ∷ Word w_super ∷ Word w_crate ∷ []; moves = []; nullable = false; gone = []; ends = at_equals ∷ at_paren ∷ at_less ∷ ((at_colons or_else at_less_only or_else at_paren or_else at_word w_as) but_not at_colons) ∷ (at_colons but_not at_colons) ∷ ((at_path_rest and_also ahead Bang_brace) but_not at_colons) ∷ ((at_path_rest and_also ahead Bang_name) but_not at_colons) ∷ ((at_path_rest and_also ahead Bang_group) but_not at_colons) ∷ at_name ∷ at_brace ∷ at_word w_trait ∷ (at_word w_unsafe or_else at_word w_impl) ∷ ended ∷ []; halts = at_colons ∷ at_arguments ∷ at_arrow ∷ []; shuns = [] }
+summary_of true type_arguments = record { stays = Delimited Paren ∷ Punctuation colons ∷ []; moves = move (Punctuation less) (Punctuation less) [] ∷ move (Punctuation less_less_equals) (Punctuation less) [] ∷ move (Punctuation less_equals) (Punctuation less) [] ∷ move (Punctuation less_less) (Punctuation less) [] ∷ []; nullable = false; gone = []; ends = at_equals ∷ at_paren ∷ at_less ∷ ((at_colons or_else at_less_only or_else at_paren or_else at_word w_as) but_not at_colons) ∷ (at_colons but_not at_colons) ∷ ((at_path_rest and_also ahead Bang_brace) but_not at_colons) ∷ ((at_path_rest and_also ahead Bang_name) but_not at_colons) ∷ ((at_path_rest and_also ahead Bang_group) but_not at_colons) ∷ at_name ∷ at_brace ∷ at_word w_trait ∷ (at_word w_unsafe or_else at_word w_impl) ∷ ended ∷ []; halts = at_colons ∷ at_arguments ∷ at_arrow ∷ []; shuns = [] }
 summary_of true return_type = record { stays = []; moves = []; nullable = false; gone = []; ends = []; halts = []; shuns = [] }
-summary_of true generic_arguments = record { stays = []; moves = []; nullable = false; gone = []; ends = []; halts = []; shuns = [] }
+summary_of true generic_arguments = record { stays = []; moves = move (Punctuation less) (Punctuation less) [] ∷ move (Punctuation less_less_equals) (Punctuation less) [] ∷ move (Punctuation less_equals) (Punctuation less) [] ∷ move (Punctuation less_less) (Punctuation less) [] ∷ []; nullable = false; gone = []; ends = []; halts = []; shuns = [] }
 summary_of true generic_argument = record { stays = []; moves = []; nullable = false; gone = []; ends = []; halts = []; shuns = [] }
-summary_of true qualified_path = record { stays = []; moves = move (Punctuation less) (Punctuation less) [] ∷ move (Punctuation less_less_equals) (Punctuation less) [] ∷ move (Punctuation less_equals) (Punctuation less) [] ∷ move (Punctuation less_less) (Punctuation less) [] ∷ []; nullable = false; gone = []; ends = []; halts = at_colons ∷ at_arrow ∷ at_paren ∷ at_less_only ∷ []; shuns = [] }
-summary_of true type = record { stays = Punctuation ampersand ∷ Punctuation star ∷ Delimited Paren ∷ Delimited Bracket ∷ []; moves = move (Punctuation less) (Punctuation less) [] ∷ move (Punctuation less_less_equals) (Punctuation less) [] ∷ move (Punctuation less_equals) (Punctuation less) [] ∷ move (Punctuation less_less) (Punctuation less) [] ∷ move (Punctuation and_and) (Punctuation ampersand) [] ∷ move (Punctuation ampersand_equals) (Punctuation ampersand) [] ∷ move (Punctuation star_equals) (Punctuation star) [] ∷ move (Punctuation exclamation) (Punctuation exclamation) [] ∷ move (Punctuation not_equals) (Punctuation exclamation) [] ∷ move (Punctuation colons) (Punctuation colons) [] ∷ move Name Name (Before_equals ∷ Before_brace ∷ []) ∷ move (Word w_union) (Word w_union) (Before_equals ∷ Before_brace ∷ []) ∷ move (Word w_auto) (Word w_auto) (Before_equals ∷ Before_brace ∷ []) ∷ move (Word w_default) (Word w_default) (Before_equals ∷ Before_brace ∷ []) ∷ move (Word w_safe) (Word w_safe) (Before_equals ∷ Before_brace ∷ []) ∷ move (Word w_Self_type) (Word w_Self_type) (Before_equals ∷ Before_brace ∷ []) ∷ move (Word w_self) (Word w_self) (Before_end ∷ []) ∷ move (Word w_super) (Word w_super) (Before_end ∷ []) ∷ move (Word w_crate) (Word w_crate) (Before_end ∷ []) ∷ []; nullable = false; gone = []; ends = at_equals ∷ at_brace ∷ ended ∷ []; halts = at_colons ∷ at_paren ∷ at_less_only ∷ at_arrow ∷ []; shuns = [] }
-summary_of true types = record { stays = Punctuation ampersand ∷ Punctuation star ∷ Delimited Paren ∷ Delimited Bracket ∷ []; moves = move (Punctuation less) (Punctuation less) [] ∷ move (Punctuation less_less_equals) (Punctuation less) [] ∷ move (Punctuation less_equals) (Punctuation less) [] ∷ move (Punctuation less_less) (Punctuation less) [] ∷ move (Punctuation and_and) (Punctuation ampersand) [] ∷ move (Punctuation ampersand_equals) (Punctuation ampersand) [] ∷ move (Punctuation star_equals) (Punctuation star) [] ∷ move (Punctuation exclamation) (Punctuation exclamation) [] ∷ move (Punctuation not_equals) (Punctuation exclamation) [] ∷ move (Punctuation colons) (Punctuation colons) [] ∷ move Name Name (Before_equals ∷ Before_brace ∷ []) ∷ move (Word w_union) (Word w_union) (Before_equals ∷ Before_brace ∷ []) ∷ move (Word w_auto) (Word w_auto) (Before_equals ∷ Before_brace ∷ []) ∷ move (Word w_default) (Word w_default) (Before_equals ∷ Before_brace ∷ []) ∷ move (Word w_safe) (Word w_safe) (Before_equals ∷ Before_brace ∷ []) ∷ move (Word w_Self_type) (Word w_Self_type) (Before_equals ∷ Before_brace ∷ []) ∷ move (Word w_self) (Word w_self) (Before_end ∷ []) ∷ move (Word w_super) (Word w_super) (Before_end ∷ []) ∷ move (Word w_crate) (Word w_crate) (Before_end ∷ []) ∷ []; nullable = true; gone = []; ends = ended ∷ at_equals ∷ at_brace ∷ []; halts = at_comma ∷ at_colons ∷ at_paren ∷ at_less_only ∷ at_arrow ∷ []; shuns = [] }
-summary_of true expression = record { stays = []; moves = []; nullable = false; gone = []; ends = []; halts = []; shuns = [] }
+summary_of true qualified_path = record { stays = []; moves = move (Punctuation less) (Punctuation less) [] ∷ move (Punctuation less_less_equals) (Punctuation less) [] ∷ move (Punctuation less_equals) (Punctuation less) [] ∷ move (Punctuation less_less) (Punctuation less) [] ∷ []; nullable = false; gone = []; ends = at_equals ∷ at_paren ∷ at_less ∷ ((at_colons or_else at_less_only or_else at_paren or_else at_word w_as) but_not at_colons) ∷ (at_colons but_not at_colons) ∷ ((at_path_rest and_also ahead Bang_brace) but_not at_colons) ∷ ((at_path_rest and_also ahead Bang_name) but_not at_colons) ∷ ((at_path_rest and_also ahead Bang_group) but_not at_colons) ∷ at_name ∷ at_brace ∷ at_word w_trait ∷ (at_word w_unsafe or_else at_word w_impl) ∷ ended ∷ []; halts = at_colons ∷ at_arguments ∷ at_arrow ∷ []; shuns = [] }
+summary_of true type = record { stays = Punctuation ampersand ∷ Punctuation star ∷ Delimited Paren ∷ Delimited Bracket ∷ Name ∷ Word w_union ∷ Word w_auto ∷ Word w_default ∷ Word w_safe ∷ Word w_Self_type ∷ Word w_self ∷ Word w_super ∷ Word w_crate ∷ []; moves = move (Punctuation less) (Punctuation less) [] ∷ move (Punctuation less_less_equals) (Punctuation less) [] ∷ move (Punctuation less_equals) (Punctuation less) [] ∷ move (Punctuation less_less) (Punctuation less) [] ∷ move (Punctuation and_and) (Punctuation ampersand) [] ∷ move (Punctuation ampersand_equals) (Punctuation ampersand) [] ∷ move (Punctuation star_equals) (Punctuation star) [] ∷ move (Punctuation exclamation) (Punctuation exclamation) [] ∷ move (Punctuation not_equals) (Punctuation exclamation) [] ∷ move (Punctuation colons) (Punctuation colons) [] ∷ []; nullable = false; gone = []; ends = at_equals ∷ at_paren ∷ at_less ∷ ((at_colons or_else at_less_only or_else at_paren or_else at_word w_as) but_not at_colons) ∷ (at_colons but_not at_colons) ∷ ((at_path_rest and_also ahead Bang_brace) but_not at_colons) ∷ ((at_path_rest and_also ahead Bang_name) but_not at_colons) ∷ ((at_path_rest and_also ahead Bang_group) but_not at_colons) ∷ at_name ∷ at_brace ∷ at_word w_trait ∷ (at_word w_unsafe or_else at_word w_impl) ∷ ended ∷ []; halts = at_colons ∷ at_arguments ∷ at_arrow ∷ []; shuns = [] }
+summary_of true types = record { stays = Punctuation ampersand ∷ Punctuation star ∷ Delimited Paren ∷ Delimited Bracket ∷ Name ∷ Word w_union ∷ Word w_auto ∷ Word w_default ∷ Word w_safe ∷ Word w_Self_type ∷ Word w_self ∷ Word w_super ∷ Word w_crate ∷ []; moves = move (Punctuation less) (Punctuation less) [] ∷ move (Punctuation less_less_equals) (Punctuation less) [] ∷ move (Punctuation less_equals) (Punctuation less) [] ∷ move (Punctuation less_less) (Punctuation less) [] ∷ move (Punctuation and_and) (Punctuation ampersand) [] ∷ move (Punctuation ampersand_equals) (Punctuation ampersand) [] ∷ move (Punctuation star_equals) (Punctuation star) [] ∷ move (Punctuation exclamation) (Punctuation exclamation) [] ∷ move (Punctuation not_equals) (Punctuation exclamation) [] ∷ move (Punctuation colons) (Punctuation colons) [] ∷ []; nullable = true; gone = []; ends = ended ∷ at_equals ∷ at_paren ∷ at_less ∷ ((at_colons or_else at_less_only or_else at_paren or_else at_word w_as) but_not at_colons) ∷ (at_colons but_not at_colons) ∷ ((at_path_rest and_also ahead Bang_brace) but_not at_colons) ∷ ((at_path_rest and_also ahead Bang_name) but_not at_colons) ∷ ((at_path_rest and_also ahead Bang_group) but_not at_colons) ∷ at_name ∷ at_brace ∷ at_word w_trait ∷ (at_word w_unsafe or_else at_word w_impl) ∷ []; halts = at_comma ∷ at_colons ∷ at_arguments ∷ at_arrow ∷ []; shuns = [] }
+summary_of true expression = record { stays = Word w_true ∷ Word w_false ∷ Literal Str ∷ Literal ByteStr ∷ Literal CStr ∷ Literal Byte ∷ Literal Char ∷ Literal Int ∷ Literal Float ∷ []; moves = []; nullable = false; gone = []; ends = []; halts = []; shuns = [] }
 summary_of true generics = record { stays = []; moves = []; nullable = false; gone = []; ends = []; halts = []; shuns = [] }
 summary_of true lifetime_parameter = record { stays = []; moves = []; nullable = false; gone = []; ends = []; halts = []; shuns = [] }
 summary_of true lifetimes = record { stays = []; moves = []; nullable = false; gone = []; ends = []; halts = []; shuns = [] }
 summary_of true parameter_bounds = record { stays = []; moves = []; nullable = false; gone = []; ends = []; halts = []; shuns = [] }
 summary_of true bound = record { stays = []; moves = []; nullable = false; gone = []; ends = []; halts = []; shuns = [] }
-summary_of true trait_bound = record { stays = Punctuation question ∷ Word w_for ∷ []; moves = move (Punctuation colons) (Punctuation colons) [] ∷ move Name Name (Before_equals ∷ Before_brace ∷ []) ∷ move (Word w_union) (Word w_union) (Before_equals ∷ Before_brace ∷ []) ∷ move (Word w_auto) (Word w_auto) (Before_equals ∷ Before_brace ∷ []) ∷ move (Word w_default) (Word w_default) (Before_equals ∷ Before_brace ∷ []) ∷ move (Word w_safe) (Word w_safe) (Before_equals ∷ Before_brace ∷ []) ∷ move (Word w_Self_type) (Word w_Self_type) (Before_equals ∷ Before_brace ∷ []) ∷ move (Word w_self) (Word w_self) (Before_end ∷ []) ∷ move (Word w_super) (Word w_super) (Before_end ∷ []) ∷ move (Word w_crate) (Word w_crate) (Before_end ∷ []) ∷ []; nullable = false; gone = []; ends = at_equals ∷ at_brace ∷ ended ∷ []; halts = at_colons ∷ at_paren ∷ at_less_only ∷ at_arrow ∷ []; shuns = [] }
+summary_of true trait_bound = record { stays = Punctuation question ∷ Word w_for ∷ Name ∷ Word w_union ∷ Word w_auto ∷ Word w_default ∷ Word w_safe ∷ Word w_Self_type ∷ Word w_self ∷ Word w_super ∷ Word w_crate ∷ []; moves = move (Punctuation colons) (Punctuation colons) [] ∷ []; nullable = false; gone = []; ends = at_equals ∷ at_paren ∷ at_less ∷ ((at_colons or_else at_less_only or_else at_paren or_else at_word w_as) but_not at_colons) ∷ (at_colons but_not at_colons) ∷ ((at_path_rest and_also ahead Bang_brace) but_not at_colons) ∷ ((at_path_rest and_also ahead Bang_name) but_not at_colons) ∷ ((at_path_rest and_also ahead Bang_group) but_not at_colons) ∷ at_name ∷ at_brace ∷ at_word w_trait ∷ (at_word w_unsafe or_else at_word w_impl) ∷ ended ∷ []; halts = at_colons ∷ at_arguments ∷ at_arrow ∷ []; shuns = [] }
 summary_of true bound_lifetimes = record { stays = []; moves = []; nullable = false; gone = []; ends = []; halts = []; shuns = [] }
 summary_of true lifetime_parameters = record { stays = []; moves = []; nullable = false; gone = []; ends = []; halts = []; shuns = [] }
 summary_of true where_clause = record { stays = []; moves = []; nullable = false; gone = []; ends = []; halts = []; shuns = [] }
 summary_of true predicates = record { stays = []; moves = []; nullable = false; gone = []; ends = []; halts = []; shuns = [] }
 summary_of true predicate = record { stays = []; moves = []; nullable = false; gone = []; ends = []; halts = []; shuns = [] }
 summary_of true predicate_bounds = record { stays = []; moves = []; nullable = false; gone = []; ends = []; halts = []; shuns = [] }
-summary_of true fields_named = record { stays = []; moves = []; nullable = false; gone = []; ends = []; halts = []; shuns = [] }
+summary_of true fields_named = record { stays = Delimited Brace ∷ []; moves = []; nullable = false; gone = []; ends = []; halts = []; shuns = [] }
 summary_of true named_fields = record { stays = []; moves = []; nullable = false; gone = []; ends = []; halts = []; shuns = [] }
 summary_of true named_field = record { stays = []; moves = []; nullable = false; gone = []; ends = []; halts = []; shuns = [] }
-summary_of true nameless_type = record { stays = []; moves = []; nullable = false; gone = []; ends = []; halts = []; shuns = [] }
-summary_of true unnamed_field = record { stays = Word w_pub ∷ Punctuation ampersand ∷ Punctuation star ∷ Delimited Paren ∷ Delimited Bracket ∷ []; moves = move (Punctuation pound) (Punctuation pound) [] ∷ move (Punctuation less) (Punctuation less) [] ∷ move (Punctuation less_less_equals) (Punctuation less) [] ∷ move (Punctuation less_equals) (Punctuation less) [] ∷ move (Punctuation less_less) (Punctuation less) [] ∷ move (Punctuation and_and) (Punctuation ampersand) [] ∷ move (Punctuation ampersand_equals) (Punctuation ampersand) [] ∷ move (Punctuation star_equals) (Punctuation star) [] ∷ move (Punctuation exclamation) (Punctuation exclamation) [] ∷ move (Punctuation not_equals) (Punctuation exclamation) [] ∷ move (Punctuation colons) (Punctuation colons) [] ∷ move Name Name (Before_equals ∷ Before_brace ∷ []) ∷ move (Word w_union) (Word w_union) (Before_equals ∷ Before_brace ∷ []) ∷ move (Word w_auto) (Word w_auto) (Before_equals ∷ Before_brace ∷ []) ∷ move (Word w_default) (Word w_default) (Before_equals ∷ Before_brace ∷ []) ∷ move (Word w_safe) (Word w_safe) (Before_equals ∷ Before_brace ∷ []) ∷ move (Word w_Self_type) (Word w_Self_type) (Before_equals ∷ Before_brace ∷ []) ∷ move (Word w_self) (Word w_self) (Before_end ∷ []) ∷ move (Word w_super) (Word w_super) (Before_end ∷ []) ∷ move (Word w_crate) (Word w_crate) (Before_end ∷ []) ∷ []; nullable = false; gone = []; ends = (at_equals but_not at_equals) ∷ at_brace ∷ ended ∷ []; halts = at_equals ∷ at_colons ∷ at_arrow ∷ at_paren ∷ at_less_only ∷ []; shuns = [] }
-summary_of true unnamed_fields = record { stays = Word w_pub ∷ Punctuation ampersand ∷ Punctuation star ∷ Delimited Paren ∷ Delimited Bracket ∷ []; moves = move (Punctuation pound) (Punctuation pound) [] ∷ move (Punctuation less) (Punctuation less) [] ∷ move (Punctuation less_less_equals) (Punctuation less) [] ∷ move (Punctuation less_equals) (Punctuation less) [] ∷ move (Punctuation less_less) (Punctuation less) [] ∷ move (Punctuation and_and) (Punctuation ampersand) [] ∷ move (Punctuation ampersand_equals) (Punctuation ampersand) [] ∷ move (Punctuation star_equals) (Punctuation star) [] ∷ move (Punctuation exclamation) (Punctuation exclamation) [] ∷ move (Punctuation not_equals) (Punctuation exclamation) [] ∷ move (Punctuation colons) (Punctuation colons) [] ∷ move Name Name (Before_equals ∷ Before_brace ∷ []) ∷ move (Word w_union) (Word w_union) (Before_equals ∷ Before_brace ∷ []) ∷ move (Word w_auto) (Word w_auto) (Before_equals ∷ Before_brace ∷ []) ∷ move (Word w_default) (Word w_default) (Before_equals ∷ Before_brace ∷ []) ∷ move (Word w_safe) (Word w_safe) (Before_equals ∷ Before_brace ∷ []) ∷ move (Word w_Self_type) (Word w_Self_type) (Before_equals ∷ Before_brace ∷ []) ∷ move (Word w_self) (Word w_self) (Before_end ∷ []) ∷ move (Word w_super) (Word w_super) (Before_end ∷ []) ∷ move (Word w_crate) (Word w_crate) (Before_end ∷ []) ∷ []; nullable = true; gone = []; ends = ended ∷ (at_equals but_not at_equals) ∷ at_brace ∷ []; halts = at_comma ∷ at_equals ∷ at_colons ∷ at_paren ∷ at_less_only ∷ at_arrow ∷ []; shuns = [] }
+summary_of true nameless_fields = record { stays = Word w_struct ∷ Word w_union ∷ []; moves = []; nullable = false; gone = []; ends = []; halts = []; shuns = [] }
+summary_of true unnamed_field = record { stays = Word w_pub ∷ Punctuation ampersand ∷ Punctuation star ∷ Delimited Paren ∷ Delimited Bracket ∷ Name ∷ Word w_union ∷ Word w_auto ∷ Word w_default ∷ Word w_safe ∷ Word w_Self_type ∷ Word w_self ∷ Word w_super ∷ Word w_crate ∷ []; moves = move (Punctuation pound) (Punctuation pound) [] ∷ move (Punctuation less) (Punctuation less) [] ∷ move (Punctuation less_less_equals) (Punctuation less) [] ∷ move (Punctuation less_equals) (Punctuation less) [] ∷ move (Punctuation less_less) (Punctuation less) [] ∷ move (Punctuation and_and) (Punctuation ampersand) [] ∷ move (Punctuation ampersand_equals) (Punctuation ampersand) [] ∷ move (Punctuation star_equals) (Punctuation star) [] ∷ move (Punctuation exclamation) (Punctuation exclamation) [] ∷ move (Punctuation not_equals) (Punctuation exclamation) [] ∷ move (Punctuation colons) (Punctuation colons) [] ∷ []; nullable = false; gone = []; ends = (at_equals but_not at_equals) ∷ at_paren ∷ at_less ∷ ((at_colons or_else at_less_only or_else at_paren or_else at_word w_as) but_not at_colons) ∷ (at_colons but_not at_colons) ∷ ((at_path_rest and_also ahead Bang_brace) but_not at_colons) ∷ ((at_path_rest and_also ahead Bang_name) but_not at_colons) ∷ ((at_path_rest and_also ahead Bang_group) but_not at_colons) ∷ at_name ∷ at_brace ∷ at_word w_trait ∷ (at_word w_unsafe or_else at_word w_impl) ∷ ended ∷ []; halts = at_equals ∷ at_colons ∷ at_arguments ∷ at_arrow ∷ []; shuns = [] }
+summary_of true unnamed_fields = record { stays = Word w_pub ∷ Punctuation ampersand ∷ Punctuation star ∷ Delimited Paren ∷ Delimited Bracket ∷ Name ∷ Word w_union ∷ Word w_auto ∷ Word w_default ∷ Word w_safe ∷ Word w_Self_type ∷ Word w_self ∷ Word w_super ∷ Word w_crate ∷ []; moves = move (Punctuation pound) (Punctuation pound) [] ∷ move (Punctuation less) (Punctuation less) [] ∷ move (Punctuation less_less_equals) (Punctuation less) [] ∷ move (Punctuation less_equals) (Punctuation less) [] ∷ move (Punctuation less_less) (Punctuation less) [] ∷ move (Punctuation and_and) (Punctuation ampersand) [] ∷ move (Punctuation ampersand_equals) (Punctuation ampersand) [] ∷ move (Punctuation star_equals) (Punctuation star) [] ∷ move (Punctuation exclamation) (Punctuation exclamation) [] ∷ move (Punctuation not_equals) (Punctuation exclamation) [] ∷ move (Punctuation colons) (Punctuation colons) [] ∷ []; nullable = true; gone = []; ends = ended ∷ (at_equals but_not at_equals) ∷ at_paren ∷ at_less ∷ ((at_colons or_else at_less_only or_else at_paren or_else at_word w_as) but_not at_colons) ∷ (at_colons but_not at_colons) ∷ ((at_path_rest and_also ahead Bang_brace) but_not at_colons) ∷ ((at_path_rest and_also ahead Bang_name) but_not at_colons) ∷ ((at_path_rest and_also ahead Bang_group) but_not at_colons) ∷ at_name ∷ at_brace ∷ at_word w_trait ∷ (at_word w_unsafe or_else at_word w_impl) ∷ []; halts = at_comma ∷ at_equals ∷ at_colons ∷ at_arguments ∷ at_arrow ∷ []; shuns = [] }
 summary_of true fields_unnamed = record { stays = []; moves = []; nullable = false; gone = []; ends = []; halts = []; shuns = [] }
 summary_of true variant = record { stays = []; moves = []; nullable = false; gone = []; ends = []; halts = []; shuns = [] }
 summary_of true variants = record { stays = []; moves = []; nullable = false; gone = []; ends = []; halts = []; shuns = [] }
@@ -304,6 +309,8 @@ summary_of true plain_derive_input = record { stays = []; moves = []; nullable =
 pub starts_hold : IsSaid start_of table
 starts_hold attributes = (refl, λ e. refl)
 starts_hold meta = (refl, λ e. e)
+starts_hold unsafe_path = (refl, λ e. e)
+starts_hold unsafe_word = (refl, λ e. e)
 starts_hold meta_value = (refl, λ e. refl)
 starts_hold module_path = (refl, λ e. e)
 starts_hold module_words = (refl, λ e. e)
@@ -311,8 +318,7 @@ starts_hold visibility = (refl, λ e. refl)
 starts_hold restriction = (refl, λ e. e)
 starts_hold type_path = (refl, λ e. e)
 starts_hold type_words = (refl, λ e. e)
-starts_hold type_arguments = (refl, λ e. refl)
-starts_hold more_type_words = (refl, λ e. refl)
+starts_hold type_arguments = (refl, λ e. e)
 starts_hold return_type = (refl, λ e. refl)
 starts_hold generic_arguments = (refl, λ e. e)
 starts_hold generic_argument = (refl, λ e. e)
@@ -335,7 +341,7 @@ starts_hold predicate_bounds = (refl, λ e. refl)
 starts_hold fields_named = (refl, λ e. e)
 starts_hold named_fields = (refl, λ e. refl)
 starts_hold named_field = (refl, λ e. e)
-starts_hold nameless_type = (refl, λ e. e)
+starts_hold nameless_fields = (refl, λ e. e)
 starts_hold unnamed_field = (refl, λ e. e)
 starts_hold unnamed_fields = (refl, λ e. refl)
 starts_hold fields_unnamed = (refl, λ e. e)
@@ -362,6 +368,8 @@ starts_hold plain_derive_input = (refl, λ e. e)
 pub never_follow_hold : IsOff start_of table
 never_follow_hold attributes = refl
 never_follow_hold meta = refl
+never_follow_hold unsafe_path = refl
+never_follow_hold unsafe_word = refl
 never_follow_hold meta_value = refl
 never_follow_hold module_path = refl
 never_follow_hold module_words = refl
@@ -370,7 +378,6 @@ never_follow_hold restriction = refl
 never_follow_hold type_path = refl
 never_follow_hold type_words = refl
 never_follow_hold type_arguments = refl
-never_follow_hold more_type_words = refl
 never_follow_hold return_type = refl
 never_follow_hold generic_arguments = refl
 never_follow_hold generic_argument = refl
@@ -393,7 +400,7 @@ never_follow_hold predicate_bounds = refl
 never_follow_hold fields_named = refl
 never_follow_hold named_fields = refl
 never_follow_hold named_field = refl
-never_follow_hold nameless_type = refl
+never_follow_hold nameless_fields = refl
 never_follow_hold unnamed_field = refl
 never_follow_hold unnamed_fields = refl
 never_follow_hold fields_unnamed = refl
@@ -420,6 +427,8 @@ never_follow_hold plain_derive_input = refl
 pub closed_hold : (k : Rule) → closed_of k ≡ true → closes closed_of (table k) ≡ true
 closed_hold attributes e = absurd (true≢false (sym e))
 closed_hold meta e = absurd (true≢false (sym e))
+closed_hold unsafe_path e = absurd (true≢false (sym e))
+closed_hold unsafe_word e = absurd (true≢false (sym e))
 closed_hold meta_value e = absurd (true≢false (sym e))
 closed_hold module_path e = absurd (true≢false (sym e))
 closed_hold module_words e = absurd (true≢false (sym e))
@@ -428,7 +437,6 @@ closed_hold restriction e = absurd (true≢false (sym e))
 closed_hold type_path e = absurd (true≢false (sym e))
 closed_hold type_words e = absurd (true≢false (sym e))
 closed_hold type_arguments e = absurd (true≢false (sym e))
-closed_hold more_type_words e = absurd (true≢false (sym e))
 closed_hold return_type e = absurd (true≢false (sym e))
 closed_hold generic_arguments e = absurd (true≢false (sym e))
 closed_hold generic_argument e = absurd (true≢false (sym e))
@@ -451,7 +459,7 @@ closed_hold predicate_bounds e = absurd (true≢false (sym e))
 closed_hold fields_named e = refl
 closed_hold named_fields e = absurd (true≢false (sym e))
 closed_hold named_field e = absurd (true≢false (sym e))
-closed_hold nameless_type e = absurd (true≢false (sym e))
+closed_hold nameless_fields e = refl
 closed_hold unnamed_field e = absurd (true≢false (sym e))
 closed_hold unnamed_fields e = absurd (true≢false (sym e))
 closed_hold fields_unnamed e = refl
@@ -478,6 +486,8 @@ closed_hold plain_derive_input e = refl
 pub unions_hold : (k : Rule) → sound table start_of (table k) ≡ true
 unions_hold attributes = refl
 unions_hold meta = refl
+unions_hold unsafe_path = refl
+unions_hold unsafe_word = refl
 unions_hold meta_value = refl
 unions_hold module_path = refl
 unions_hold module_words = refl
@@ -486,7 +496,6 @@ unions_hold restriction = refl
 unions_hold type_path = refl
 unions_hold type_words = refl
 unions_hold type_arguments = refl
-unions_hold more_type_words = refl
 unions_hold return_type = refl
 unions_hold generic_arguments = refl
 unions_hold generic_argument = refl
@@ -509,7 +518,7 @@ unions_hold predicate_bounds = refl
 unions_hold fields_named = refl
 unions_hold named_fields = refl
 unions_hold named_field = refl
-unions_hold nameless_type = refl
+unions_hold nameless_fields = refl
 unions_hold unnamed_field = refl
 unions_hold unnamed_fields = refl
 unions_hold fields_unnamed = refl
@@ -536,6 +545,8 @@ unions_hold plain_derive_input = refl
 pub summaries_hold : IsSummary summary_of heard_of start_of closed_of table
 summaries_hold false attributes e = (refl, refl)
 summaries_hold false meta e = (refl, refl)
+summaries_hold false unsafe_path e = (refl, refl)
+summaries_hold false unsafe_word e = (refl, refl)
 summaries_hold false meta_value e = (refl, refl)
 summaries_hold false module_path e = (refl, refl)
 summaries_hold false module_words e = (refl, refl)
@@ -544,7 +555,6 @@ summaries_hold false restriction e = (refl, refl)
 summaries_hold false type_path e = (refl, refl)
 summaries_hold false type_words e = (refl, refl)
 summaries_hold false type_arguments e = (refl, refl)
-summaries_hold false more_type_words e = (refl, refl)
 summaries_hold false return_type e = (refl, refl)
 summaries_hold false generic_arguments e = (refl, refl)
 summaries_hold false generic_argument e = (refl, refl)
@@ -567,7 +577,7 @@ summaries_hold false predicate_bounds e = (refl, refl)
 summaries_hold false fields_named e = (refl, refl)
 summaries_hold false named_fields e = (refl, refl)
 summaries_hold false named_field e = (refl, refl)
-summaries_hold false nameless_type e = (refl, refl)
+summaries_hold false nameless_fields e = (refl, refl)
 summaries_hold false unnamed_field e = (refl, refl)
 summaries_hold false unnamed_fields e = (refl, refl)
 summaries_hold false fields_unnamed e = (refl, refl)
@@ -591,6 +601,8 @@ summaries_hold false plain_structure e = (refl, refl)
 summaries_hold false plain_derive_input e = (refl, refl)
 summaries_hold true attributes e = (refl, refl)
 summaries_hold true meta e = absurd (true≢false (sym e))
+summaries_hold true unsafe_path e = absurd (true≢false (sym e))
+summaries_hold true unsafe_word e = absurd (true≢false (sym e))
 summaries_hold true meta_value e = absurd (true≢false (sym e))
 summaries_hold true module_path e = (refl, refl)
 summaries_hold true module_words e = (refl, refl)
@@ -598,15 +610,14 @@ summaries_hold true visibility e = (refl, refl)
 summaries_hold true restriction e = (refl, refl)
 summaries_hold true type_path e = (refl, refl)
 summaries_hold true type_words e = (refl, refl)
-summaries_hold true type_arguments e = absurd (true≢false (sym e))
-summaries_hold true more_type_words e = absurd (true≢false (sym e))
+summaries_hold true type_arguments e = (refl, refl)
 summaries_hold true return_type e = absurd (true≢false (sym e))
-summaries_hold true generic_arguments e = absurd (true≢false (sym e))
+summaries_hold true generic_arguments e = (refl, refl)
 summaries_hold true generic_argument e = absurd (true≢false (sym e))
 summaries_hold true qualified_path e = (refl, refl)
 summaries_hold true type e = (refl, refl)
 summaries_hold true types e = (refl, refl)
-summaries_hold true expression e = absurd (true≢false (sym e))
+summaries_hold true expression e = (refl, refl)
 summaries_hold true generics e = absurd (true≢false (sym e))
 summaries_hold true lifetime_parameter e = absurd (true≢false (sym e))
 summaries_hold true lifetimes e = absurd (true≢false (sym e))
@@ -619,10 +630,10 @@ summaries_hold true where_clause e = absurd (true≢false (sym e))
 summaries_hold true predicates e = absurd (true≢false (sym e))
 summaries_hold true predicate e = absurd (true≢false (sym e))
 summaries_hold true predicate_bounds e = absurd (true≢false (sym e))
-summaries_hold true fields_named e = absurd (true≢false (sym e))
+summaries_hold true fields_named e = (refl, refl)
 summaries_hold true named_fields e = absurd (true≢false (sym e))
 summaries_hold true named_field e = absurd (true≢false (sym e))
-summaries_hold true nameless_type e = absurd (true≢false (sym e))
+summaries_hold true nameless_fields e = (refl, refl)
 summaries_hold true unnamed_field e = (refl, refl)
 summaries_hold true unnamed_fields e = (refl, refl)
 summaries_hold true fields_unnamed e = absurd (true≢false (sym e))
@@ -649,6 +660,8 @@ summaries_hold true plain_derive_input e = absurd (true≢false (sym e))
 pub ends_hold : (k : Rule) → clear (summary_of false k).shuns Ended ≡ true
 ends_hold attributes = refl
 ends_hold meta = refl
+ends_hold unsafe_path = refl
+ends_hold unsafe_word = refl
 ends_hold meta_value = refl
 ends_hold module_path = refl
 ends_hold module_words = refl
@@ -657,7 +670,6 @@ ends_hold restriction = refl
 ends_hold type_path = refl
 ends_hold type_words = refl
 ends_hold type_arguments = refl
-ends_hold more_type_words = refl
 ends_hold return_type = refl
 ends_hold generic_arguments = refl
 ends_hold generic_argument = refl
@@ -680,7 +692,7 @@ ends_hold predicate_bounds = refl
 ends_hold fields_named = refl
 ends_hold named_fields = refl
 ends_hold named_field = refl
-ends_hold nameless_type = refl
+ends_hold nameless_fields = refl
 ends_hold unnamed_field = refl
 ends_hold unnamed_fields = refl
 ends_hold fields_unnamed = refl

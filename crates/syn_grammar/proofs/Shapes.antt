@@ -1,9 +1,9 @@
 -- What is summed over a tree's parts in their order doesn't see how values are built.
 use Rattle.std.proofs.Common.{◌≡◌, ℕ, Bool, true, false, List, refl, sym, ap, ap₂, ◌∙◌}
 use Rattle.syn_grammar.specs.Tokens.{Span, Stream, end, ◌⧺◌, and, pick, Paren, Bracket}
-use Rattle.syn_grammar.specs.Shape.{Variant, Path, Struct, Binary, Assign, Cast, Verbatim, Macro, Shape, expr, operand, bracketed, behind_it, operator, dotted, fields, choice, chain, leading, labelled, attributed, listed, lone, said, said_macro, a_local, an_item}
+use Rattle.syn_grammar.specs.Shape.{Variant, Path, Struct, Binary, Assign, Cast, Verbatim, Macro, Shape, expr, operand, bracketed, behind_it, operator, dotted, fields, choice, chain, leading, labelled, attributed, listed, lone, said, said_macro, a_local, an_item, untagged}
 use Rattle.syn_grammar.specs.Grammar.{Syntax, Nothing, Mark, Both, Left, Right, Node, Case, Such, Group, Raw, Captured, Shaped, More, vacant, ends_brace, show, sort, behind, renew}
-use Rattle.syn_grammar.specs.Values.{no_attributes, new, core, variant_of, member_variant, literal_of, onto, chained, attributes_before, with_attributes, led, with_label, label, moved, sentence, alone, state, stated, no_statements, listing, going_on, go_on, in_list, separated, shape}
+use Rattle.syn_grammar.specs.Values.{no_attributes, new, core, variant_of, member_variant, literal_of, onto, chained, attributes_before, with_attributes, led, with_label, label, moved, sentence, alone, state, stated, no_statements, listing, going_on, go_on, in_list, separated, untag, shape}
 use Rattle.syn_grammar.proofs.Streams.{append_end, append_append}
 
 pub record IsSum (M : Type 0) (op : M → M → M) (m : Syntax → M) : Type 0 where
@@ -183,6 +183,11 @@ module _ {M : Type 0} {op : M → M → M} {m : Syntax → M} (law : IsSum M op 
       (law.shaped said (Both n (Left (Mark xs))) ∙ law.both n (Left (Mark xs)) ∙ ap₂ op (law.shaped (expr Verbatim) (Captured Nothing end)) (law.left (Mark xs)) ∙ law.no_tokens xs) refl
   separated_sum s = law.shaped lone s
 
+  untag_sum : (s : Syntax) → m (untag s) ≡ m s
+  untag_sum (Left s) = law.shaped untagged s ∙ sym (law.left s)
+  untag_sum (Right s) = law.shaped untagged s ∙ sym (law.right s)
+  untag_sum s = law.shaped untagged s
+
   pub sum_shape : (j : Shape) (s : Syntax) → m (shape j s) ≡ m s
   sum_shape (operand v) s = new_sum v s
   sum_shape bracketed s = new_sum (variant_of s) s
@@ -193,6 +198,7 @@ module _ {M : Type 0} {op : M → M → M} {m : Syntax → M} (law : IsSum M op 
   sum_shape attributed s = stated_sum s
   sum_shape listed s = in_list_sum s
   sum_shape lone s = separated_sum s
+  sum_shape untagged s = untag_sum s
   sum_shape j s = law.shaped j s
 
 -- tokens
@@ -365,6 +371,8 @@ renew_shape attributed (Both a s) = state_renew a (core s) ∙ ap (state (renew 
 renew_shape listed (Both a s) = go_on_renew a (core s) ∙ ap (go_on (renew a)) (renew_core s)
 renew_shape lone (Both (Mark xs) l) = refl
 renew_shape lone (Both _ l) = refl
+renew_shape untagged (Left s) = refl
+renew_shape untagged (Right s) = refl
 renew_shape _ _ = refl
 
 -- ---- a shape's value is a shape
@@ -451,6 +459,9 @@ is_shaped listed (Both a s) = go_on_shaped a (core s)
 is_shaped listed s = (listed, s, refl)
 is_shaped lone (Both (Mark xs) l) = (_, _, refl)
 is_shaped lone s = (lone, s, refl)
+is_shaped untagged (Left s) = (untagged, s, refl)
+is_shaped untagged (Right s) = (untagged, s, refl)
+is_shaped untagged s = (untagged, s, refl)
 is_shaped j s = (j, s, refl)
 
 -- no row's sorting looks into it

@@ -1,70 +1,71 @@
 -- Written by tools/grammar.py from specs/Table.antt; edits are lost.
 -- Rules are told apart by their numbers.
 use Rattle.std.specs.Prelude.{◌≡◌, ℕ, zero, suc, Bool, List, [], ◌∷◌, nat_eq, refl}
-use Rattle.syn_grammar.specs.Rules.{Rule, attributes, meta, meta_value, module_path, module_words, visibility, restriction, type_path, type_words, type_arguments, more_type_words, return_type, generic_arguments, generic_argument, qualified_path, type, types, expression, generics, lifetime_parameter, lifetimes, parameter_bounds, bound, trait_bound, bound_lifetimes, lifetime_parameters, where_clause, predicates, predicate, predicate_bounds, fields_named, named_fields, named_field, nameless_type, unnamed_field, unnamed_fields, fields_unnamed, variant, variants, structure, structure_rest, structure_body, enumeration, enumeration_rest, union_item, union_item_rest, derive_input, plain_type_path, plain_type, plain_unnamed_field, plain_unnamed_fields, plain_fields_unnamed, plain_structure_body, plain_structure, plain_derive_input}
+use Rattle.syn_grammar.specs.Rules.{Rule, attributes, meta, unsafe_path, unsafe_word, meta_value, module_path, module_words, visibility, restriction, type_path, type_words, type_arguments, return_type, generic_arguments, generic_argument, qualified_path, type, types, expression, generics, lifetime_parameter, lifetimes, parameter_bounds, bound, trait_bound, bound_lifetimes, lifetime_parameters, where_clause, predicates, predicate, predicate_bounds, fields_named, named_fields, named_field, nameless_fields, unnamed_field, unnamed_fields, fields_unnamed, variant, variants, structure, structure_rest, structure_body, enumeration, enumeration_rest, union_item, union_item_rest, derive_input, plain_type_path, plain_type, plain_unnamed_field, plain_unnamed_fields, plain_fields_unnamed, plain_structure_body, plain_structure, plain_derive_input}
 
 abbrev pub place : Rule → ℕ
 place attributes = 0
 place meta = 1
-place meta_value = 2
-place module_path = 3
-place module_words = 4
-place visibility = 5
-place restriction = 6
-place type_path = 7
-place type_words = 8
-place type_arguments = 9
-place more_type_words = 10
-place return_type = 11
-place generic_arguments = 12
-place generic_argument = 13
-place qualified_path = 14
-place type = 15
-place types = 16
-place expression = 17
-place generics = 18
-place lifetime_parameter = 19
-place lifetimes = 20
-place parameter_bounds = 21
-place bound = 22
-place trait_bound = 23
-place bound_lifetimes = 24
-place lifetime_parameters = 25
-place where_clause = 26
-place predicates = 27
-place predicate = 28
-place predicate_bounds = 29
-place fields_named = 30
-place named_fields = 31
-place named_field = 32
-place nameless_type = 33
-place unnamed_field = 34
-place unnamed_fields = 35
-place fields_unnamed = 36
-place variant = 37
-place variants = 38
-place structure = 39
-place structure_rest = 40
-place structure_body = 41
-place enumeration = 42
-place enumeration_rest = 43
-place union_item = 44
-place union_item_rest = 45
-place derive_input = 46
-place plain_type_path = 47
-place plain_type = 48
-place plain_unnamed_field = 49
-place plain_unnamed_fields = 50
-place plain_fields_unnamed = 51
-place plain_structure_body = 52
-place plain_structure = 53
-place plain_derive_input = 54
+place unsafe_path = 2
+place unsafe_word = 3
+place meta_value = 4
+place module_path = 5
+place module_words = 6
+place visibility = 7
+place restriction = 8
+place type_path = 9
+place type_words = 10
+place type_arguments = 11
+place return_type = 12
+place generic_arguments = 13
+place generic_argument = 14
+place qualified_path = 15
+place type = 16
+place types = 17
+place expression = 18
+place generics = 19
+place lifetime_parameter = 20
+place lifetimes = 21
+place parameter_bounds = 22
+place bound = 23
+place trait_bound = 24
+place bound_lifetimes = 25
+place lifetime_parameters = 26
+place where_clause = 27
+place predicates = 28
+place predicate = 29
+place predicate_bounds = 30
+place fields_named = 31
+place named_fields = 32
+place named_field = 33
+place nameless_fields = 34
+place unnamed_field = 35
+place unnamed_fields = 36
+place fields_unnamed = 37
+place variant = 38
+place variants = 39
+place structure = 40
+place structure_rest = 41
+place structure_body = 42
+place enumeration = 43
+place enumeration_rest = 44
+place union_item = 45
+place union_item_rest = 46
+place derive_input = 47
+place plain_type_path = 48
+place plain_type = 49
+place plain_unnamed_field = 50
+place plain_unnamed_fields = 51
+place plain_fields_unnamed = 52
+place plain_structure_body = 53
+place plain_structure = 54
+place plain_derive_input = 55
 
 abbrev pub same_rule : Rule → Rule → Bool
 same_rule a b = nat_eq (place a) (place b)
 
 abbrev pub rules : List Rule
-rules = attributes ∷ meta ∷ meta_value ∷ module_path ∷ module_words ∷ visibility ∷ restriction ∷ type_path ∷ type_words ∷ type_arguments ∷ more_type_words ∷ return_type ∷ generic_arguments ∷ generic_argument ∷ qualified_path ∷ type ∷ types ∷ expression ∷ generics ∷ lifetime_parameter ∷ lifetimes ∷ parameter_bounds ∷ bound ∷ trait_bound ∷ bound_lifetimes ∷ lifetime_parameters ∷ where_clause ∷ predicates ∷ predicate ∷ predicate_bounds ∷ fields_named ∷ named_fields ∷ named_field ∷ nameless_type ∷ unnamed_field ∷ unnamed_fields ∷ fields_unnamed ∷ variant ∷ variants ∷ structure ∷ structure_rest ∷ structure_body ∷ enumeration ∷ enumeration_rest ∷ union_item ∷ union_item_rest ∷ derive_input ∷ plain_type_path ∷ plain_type ∷ plain_unnamed_field ∷ plain_unnamed_fields ∷ plain_fields_unnamed ∷ plain_structure_body ∷ plain_structure ∷ plain_derive_input ∷ []
+rules = attributes ∷ meta ∷ unsafe_path ∷ unsafe_word ∷ meta_value ∷ module_path ∷ module_words ∷ visibility ∷ restriction ∷ type_path ∷ type_words ∷ type_arguments ∷ return_type ∷ generic_arguments ∷ generic_argument ∷ qualified_path ∷ type ∷ types ∷ expression ∷ generics ∷ lifetime_parameter ∷ lifetimes ∷ parameter_bounds ∷ bound ∷ trait_bound ∷ bound_lifetimes ∷ lifetime_parameters ∷ where_clause ∷ predicates ∷ predicate ∷ predicate_bounds ∷ fields_named ∷ named_fields ∷ named_field ∷ nameless_fields ∷ unnamed_field ∷ unnamed_fields ∷ fields_unnamed ∷ variant ∷ variants ∷ structure ∷ structure_rest ∷ structure_body ∷ enumeration ∷ enumeration_rest ∷ union_item ∷ union_item_rest ∷ derive_input ∷ plain_type_path ∷ plain_type ∷ plain_unnamed_field ∷ plain_unnamed_fields ∷ plain_fields_unnamed ∷ plain_structure_body ∷ plain_structure ∷ plain_derive_input ∷ []
 
 abbrev pub at_place : List Rule → ℕ → Rule
 at_place [] n = attributes
@@ -75,6 +76,8 @@ at_place (x ∷ l) (suc n) = at_place l n
 pub back : (k : Rule) → at_place rules (place k) ≡ k
 back attributes = refl
 back meta = refl
+back unsafe_path = refl
+back unsafe_word = refl
 back meta_value = refl
 back module_path = refl
 back module_words = refl
@@ -83,7 +86,6 @@ back restriction = refl
 back type_path = refl
 back type_words = refl
 back type_arguments = refl
-back more_type_words = refl
 back return_type = refl
 back generic_arguments = refl
 back generic_argument = refl
@@ -106,7 +108,7 @@ back predicate_bounds = refl
 back fields_named = refl
 back named_fields = refl
 back named_field = refl
-back nameless_type = refl
+back nameless_fields = refl
 back unnamed_field = refl
 back unnamed_fields = refl
 back fields_unnamed = refl

@@ -3,6 +3,8 @@
 pub data Rule : Type 0 where
   attributes : Rule
   meta : Rule
+  unsafe_path : Rule
+  unsafe_word : Rule
   meta_value : Rule
   module_path : Rule
   module_words : Rule
@@ -11,7 +13,6 @@ pub data Rule : Type 0 where
   type_path : Rule
   type_words : Rule
   type_arguments : Rule
-  more_type_words : Rule
   return_type : Rule
   generic_arguments : Rule
   generic_argument : Rule
@@ -34,7 +35,7 @@ pub data Rule : Type 0 where
   fields_named : Rule
   named_fields : Rule
   named_field : Rule
-  nameless_type : Rule
+  nameless_fields : Rule
   unnamed_field : Rule
   unnamed_fields : Rule
   fields_unnamed : Rule

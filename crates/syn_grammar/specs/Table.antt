@@ -5,9 +5,10 @@
 -- A comment directly above a look or a rule says it in words.
 use Rattle.std.specs.Prelude.{true, false, [], ◌∷◌}
 use Rattle.syn_grammar.specs.Words.{w_underscore, w_as, w_const, w_crate, w_enum, w_false, w_for, w_in, w_mut, w_pub, w_Self_type, w_self, w_struct, w_super, w_true, w_unsafe, w_where, w_union, comma, semicolon, colon, equals, plus, star, less, greater, pound, ampersand, question, exclamation, colons, arrow, less_equals}
-use Rattle.syn_grammar.specs.Tokens.{Paren, Brace, Bracket, Str, ByteStr, CStr, Byte, Char, Int, Float, Before_equals, Before_end, Lone_word, Begins_in, Before_brace, Look, ended, at_name, at_word, at_mark, at_literal, at_group, ahead, ◌or_else◌, ◌and_also◌, ◌but_not◌, at_lifetime}
-use Rattle.syn_grammar.specs.Rules.{Rule, attributes, meta, meta_value, module_path, module_words, visibility, restriction, type_path, type_words, type_arguments, more_type_words, return_type, generic_arguments, generic_argument, qualified_path, type, types, expression, generics, lifetime_parameter, lifetimes, parameter_bounds, bound, trait_bound, bound_lifetimes, lifetime_parameters, where_clause, predicates, predicate, predicate_bounds, fields_named, named_fields, named_field, nameless_type, unnamed_field, unnamed_fields, fields_unnamed, variant, variants, structure, structure_rest, structure_body, enumeration, enumeration_rest, union_item, union_item_rest, derive_input, plain_type_path, plain_type, plain_unnamed_field, plain_unnamed_fields, plain_fields_unnamed, plain_structure_body, plain_structure, plain_derive_input}
-use Rattle.syn_grammar.specs.Grammar.{name, word, name_or, any_literal, Grammar, empty, token, lifetime, ◌&◌, when◌then◌else◌, vanishing, inside, raw, rest_after, one_of, rule, captured, unshown, ordered}
+use Rattle.syn_grammar.specs.Tokens.{Paren, Brace, Bracket, Str, ByteStr, CStr, Byte, Char, Int, Float, Before_equals, Before_less, Lone_word, Begins_in, Before_brace, Look, ended, at_name, at_word, at_mark, at_literal, at_group, ahead, ◌or_else◌, ◌and_also◌, ◌but_not◌, at_lifetime}
+use Rattle.syn_grammar.specs.Rules.{Rule, attributes, meta, unsafe_path, unsafe_word, meta_value, module_path, module_words, visibility, restriction, type_path, type_words, type_arguments, return_type, generic_arguments, generic_argument, qualified_path, type, types, expression, generics, lifetime_parameter, lifetimes, parameter_bounds, bound, trait_bound, bound_lifetimes, lifetime_parameters, where_clause, predicates, predicate, predicate_bounds, fields_named, named_fields, named_field, nameless_fields, unnamed_field, unnamed_fields, fields_unnamed, variant, variants, structure, structure_rest, structure_body, enumeration, enumeration_rest, union_item, union_item_rest, derive_input, plain_type_path, plain_type, plain_unnamed_field, plain_unnamed_fields, plain_fields_unnamed, plain_structure_body, plain_structure, plain_derive_input}
+use Rattle.syn_grammar.specs.Shape.{untagged}
+use Rattle.syn_grammar.specs.Grammar.{name, word, name_or, any_literal, Grammar, empty, lifetime, ◌&◌, when◌then◌else◌, vanishing, inside, raw, rest_after, one_of, rule, shaped, captured, unshown, ordered}
 use Rattle.syn_grammar.specs.Forms.{plainly, telling, asking, punctuation, asking_punctuation, never, optional}
 
 -- LOOKS: conditions on what stands next
@@ -92,6 +93,14 @@ at_bracket = at_group Bracket
 abbrev pub at_any_literal : Look
 at_any_literal = at_literal Str or_else at_literal ByteStr or_else at_literal CStr or_else at_literal Byte or_else at_literal Char or_else at_literal Int or_else at_literal Float
 
+-- What an expression may begin with, as far as any is read yet: a literal, `true` or `false`.
+abbrev pub at_expression : Look
+at_expression = at_word w_true or_else at_word w_false or_else at_any_literal
+
+-- Arguments of a word in a type's path stand next: `<` and not `<=`, a group in parentheses, or `::` with `<` behind it.
+abbrev pub at_arguments : Look
+at_arguments = at_less_only or_else at_paren or_else (at_colons and_also ahead Before_less)
+
 -- A group in parentheses stands next whose content is `crate`, `self` or `super` alone, or begins with `in`.
 abbrev pub at_restriction : Look
 at_restriction = at_paren and_also (ahead Lone_word or_else ahead Begins_in)
@@ -118,6 +127,14 @@ at_predicate_end = ended or_else at_brace or_else at_comma or_else at_semicolon 
 
 -- FORMS that stand in several rules
 
+-- The type of a field that is named `_`: `struct`, or `union` where braces follow it, with fields in braces; or a type.
+abbrev pub nameless_type : Grammar
+nameless_type = shaped untagged (when at_nameless_fields then rule nameless_fields else rule type)
+
+-- No arguments behind a word of a path.
+abbrev pub no_arguments : Grammar
+no_arguments = shaped untagged empty
+
 -- A parameter of generics that isn't a lifetime: attributes; and `const`, a name, a colon, a type and perhaps a literal behind `=`,
 -- or a name, perhaps bounds behind a colon, and perhaps a type behind `=`. Without bounds the colon isn't printed.
 abbrev pub parameter : Grammar
@@ -133,13 +150,23 @@ abbrev pub table : Rule → Grammar
 -- Outer attributes: as long as `#` stands next, `#` and a group in brackets with an attribute's meta.
 -- Inner attributes that a tree made by hand holds at a node without a place for them are not printed.
 table attributes =
-    when at_pound then punctuation pound & inside Bracket (rule meta) & rule attributes
+    when at_pound then (punctuation pound & inside Bracket (rule meta)) & rule attributes
     else unshown
 --
 -- The meta of an attribute: a path in module style or `unsafe`, and its value.
 table meta =
-    (when at_word w_unsafe then plainly (word w_unsafe) else rule module_path)
+    shaped untagged (when at_word w_unsafe then rule unsafe_path else rule module_path)
     & rule meta_value
+--
+-- The word `unsafe` as a path of one word. (A meta asks for it only where `unsafe` stands next.)
+table unsafe_path =
+    (when at_colons then never else empty)
+    & rule unsafe_word
+--
+-- The word `unsafe`, which no `::` follows.
+table unsafe_word =
+    shaped untagged (plainly (word w_unsafe) & no_arguments)
+    & (when at_colons then never else empty)
 --
 -- The value of an attribute: a group of any content; or `=` and all that is left, one token tree at least; or nothing.
 table meta_value =
@@ -157,7 +184,7 @@ table module_path =
 -- The words of a path: an identifier that isn't a keyword, `self`, `Self`, `super` or `crate`;
 -- and where `::` stands next, that mark and the words that follow.
 table module_words =
-    asking (name_or (w_self ∷ w_Self_type ∷ w_super ∷ w_crate ∷ []))
+    shaped untagged (asking (name_or (w_self ∷ w_Self_type ∷ w_super ∷ w_crate ∷ [])) & no_arguments)
     & (when at_colons then asking_punctuation colons & rule module_words else empty)
 --
 -- A visibility: `pub` with its restriction in parentheses, `pub` alone, or nothing. Parentheses belong to it
@@ -178,24 +205,18 @@ table type_path =
     (when at_colons then punctuation colons else empty)
     & rule type_words
 --
--- The words of a path in a type: an identifier that isn't a keyword, or `Self`, and what may follow it;
--- or `self`, `super` or `crate`, and where `::` stands next, that mark and more words.
+-- The words of a path in a type: each an identifier that isn't a keyword, or `Self`, with its arguments where they stand next;
+-- or `self`, `super` or `crate`; and where `::` stands next, that mark and more words.
 table type_words =
-    when at_named_word then token (Before_equals ∷ Before_brace ∷ []) (name_or (w_Self_type ∷ [])) & rule type_arguments
-    else (when at_word w_self then telling Before_end (word w_self) else when at_word w_super then telling Before_end (word w_super) else telling Before_end (word w_crate))
-    & (when at_colons then punctuation colons & rule type_words else empty)
+    shaped untagged (when at_named_word then asking (name_or (w_Self_type ∷ [])) & shaped untagged (when at_arguments then rule type_arguments else empty)
+    else asking (name_or (w_self ∷ w_super ∷ w_crate ∷ [])) & no_arguments)
+    & (when at_colons then asking_punctuation colons & rule type_words else empty)
 --
--- What may follow an identifier or `Self` in a type's path: arguments in `< >`, with `::` before them or without it, or types in
--- parentheses and a return type; and where `::` stands next, that mark and more words.
+-- The arguments of a word in a type's path: types in parentheses and a return type; or generic arguments in `< >`, with `::` before them
+-- or without it. (A path asks for them only where they stand next.)
 table type_arguments =
-    when at_less_only then rule generic_arguments & rule more_type_words
-    else when at_paren then inside Paren (rule types) & rule return_type & rule more_type_words
-    else when at_colons then punctuation colons & (when at_less then rule generic_arguments & rule more_type_words else rule type_words)
-    else empty
---
--- More words of a path in a type: where `::` stands next, that mark and the words.
-table more_type_words =
-    when at_colons then punctuation colons & rule type_words else empty
+    when at_paren then inside Paren (rule types) & rule return_type
+    else (when at_colons then asking_punctuation colons else empty) & rule generic_arguments
 --
 -- A return type: `->` and a type, or nothing.
 table return_type =
@@ -209,9 +230,7 @@ table generic_arguments =
 -- A generic argument that isn't a lifetime: a name, `=` and a type, where `=` follows the name; a literal, `true` or `false`; or a type.
 table generic_argument =
     when at_association then telling Before_equals name & punctuation equals & rule type
-    else when at_word w_true then plainly (word w_true)
-    else when at_word w_false then plainly (word w_false)
-    else when at_any_literal then plainly any_literal
+    else when at_expression then rule expression
     else rule type
 --
 -- A qualified path in a type: a type in `< >`, with `as` and a path behind it or without them; then `::` and words.
@@ -322,13 +341,13 @@ table named_fields =
 table named_field =
     rule attributes
     & rule visibility
-    & (when at_word w_underscore then plainly (word w_underscore) & punctuation colon & rule nameless_type else plainly name & punctuation colon & rule type)
+    & shaped untagged (when at_word w_underscore then plainly (word w_underscore) & punctuation colon & nameless_type else plainly name & punctuation colon & rule type)
     & (when at_equals then punctuation equals & rule expression else empty)
 --
--- The type of a field that is named `_`: `struct`, or `union` where braces follow it, with fields in braces, kept as tokens; or a type.
-table nameless_type =
-    when at_nameless_fields then captured ((when at_word w_struct then plainly (word w_struct) else plainly (word w_union)) & rule fields_named)
-    else rule type
+-- The fields of a field that is named `_`: `struct` or `union` and fields in braces, kept as tokens.
+-- (A field asks for them only before `struct`, or where braces follow `union`.)
+table nameless_fields =
+    captured ((when at_word w_struct then plainly (word w_struct) else plainly (word w_union)) & rule fields_named)
 --
 -- A field without a name: attributes, a visibility and a type. A `=` behind it is refused.
 -- A colon that a tree made by hand holds is not printed.

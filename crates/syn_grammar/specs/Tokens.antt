@@ -115,7 +115,7 @@ pub data Fact : Type 0 where
   Before_end : Fact  -- `crate`, `self` or `super`: nothing follows it
   Before_colons : Fact  -- a word of a path: `::` follows it
   Before_paren : Fact  -- an identifier: a group in parentheses follows it
-  Before_less : Fact  -- an identifier: `<` follows it
+  Before_less : Fact  -- an identifier or `::`: `<` follows it
   Before_bang : Fact  -- `#`: `!` follows it
   Before_type_rest : Fact  -- an identifier: what may go on a type follows it (`::`, `<`, arguments in parentheses, or `as`)
   Before_own_self : Fact  -- `mut`: `self` follows it, and no `::` behind that
@@ -306,7 +306,7 @@ asked_by_word x = pick (one_of_texts x (w_crate ∷ w_self ∷ w_super ∷ [])) 
 -- what a mark asks by its last character
 abbrev pub asked_by_mark : Text → Asked
 asked_by_mark x = pick (same_text x exclamation) ((at_group Brace, Bang_brace) ∷ (at_name or_else at_word w_try, Bang_name) ∷ (at_group Paren or_else at_group Bracket, Bang_group) ∷ [])
-    (pick (same_text x colon) (asked_of_path at_path_word)
+    (pick (same_text x colon) ((at_mark less, Before_less) ∷ asked_of_path at_path_word)
     (pick (same_text x pound) ((at_mark exclamation, Before_bang) ∷ [])
     (pick (same_text x less) ((at_mark greater or_else at_parameter, Before_parameter) ∷ []) [])))
 

@@ -3,7 +3,7 @@
 -- An expression is `Shaped (expr variant) (Both attributes fields)`. What stands left of an operator, of a call's arguments and the like is a field, so chains nest to the left.
 use Rattle.std.specs.Prelude.{Bool, true, false}
 use Rattle.syn_grammar.specs.Tokens.{end, Paren, Bracket}
-use Rattle.syn_grammar.specs.Shape.{Variant, Path, Struct, Binary, Assign, Cast, Verbatim, Field, MethodCall, Parens, Tuple, Array, Repeat, Macro, Shape, expr, operand, bracketed, behind_it, operator, dotted, fields, choice, chain, leading, labelled, attributed, listed, lone, said, said_macro, a_local, an_item}
+use Rattle.syn_grammar.specs.Shape.{Variant, Path, Struct, Binary, Assign, Cast, Verbatim, Field, MethodCall, Parens, Tuple, Array, Repeat, Macro, Shape, expr, operand, bracketed, behind_it, operator, dotted, fields, choice, chain, leading, labelled, attributed, listed, lone, said, said_macro, a_local, an_item, untagged}
 use Rattle.syn_grammar.specs.Grammar.{Syntax, Nothing, Mark, Both, Left, Right, Node, Group, Captured, Shaped}
 
 -- what is read where no attribute stands
@@ -146,6 +146,12 @@ abbrev pub separated : Syntax → Syntax
 separated (Both (Mark xs) l) = listing (Shaped said (Both (Shaped (expr Verbatim) (Captured Nothing end)) (Left (Mark xs)))) l
 separated s = Shaped lone s
 
+-- one of two, without saying which
+abbrev pub untag : Syntax → Syntax
+untag (Left s) = Shaped untagged s
+untag (Right s) = Shaped untagged s
+untag s = Shaped untagged s
+
 abbrev pub shape : Shape → Syntax → Syntax
 shape (operand v) s = new v s
 shape bracketed s = new (variant_of s) s
@@ -156,4 +162,5 @@ shape labelled s = label s
 shape attributed s = stated s
 shape listed s = in_list s
 shape lone s = separated s
+shape untagged s = untag s
 shape j s = Shaped j s
