@@ -1,7 +1,7 @@
 //! Identifiers, words, literals and lifetimes.
 ghost use Rattle.std.specs.Prelude.{◌≡◌, ◌∷◌, [], true, IfErr, codes};
 ghost use Rattle.syn_grammar.specs.Words.{w_self, w_Self_type, w_super, w_crate};
-ghost use Rattle.syn_grammar.specs.Tokens.{at_name, at_word, at_mark, at_literal, at_group, one_of_texts};
+ghost use Rattle.syn_grammar.specs.Tokens.{at_lifetime, at_name, at_word, at_mark, at_literal, at_group, one_of_texts};
 ghost use Rattle.syn_grammar.specs.Grammar.{name, identifier, word, name_or, any_literal, literal_of};
 ghost use Rattle.syn_grammar.specs.Take.{sees, take_token, take_lifetime};
 ghost use Rattle.syn_grammar.specs.Promises.{Computes, Takes};
@@ -120,6 +120,17 @@ impl<'a> ParseBuffer<'a> {
         };
         self.tokens = rest;
         Ok((apostrophe.span, ident.to_ident()?))
+    }
+
+    /// Whether a lifetime stands next.
+    #[tactic(auto, using(syn_grammar::proofs::Looks::sees_lifetime), unfolding(syn_grammar::specs::Take::take_lifetime))]
+    pub(crate) fn is_at_lifetime(&self) -> bool
+        ensures { result ≡ sees at_lifetime self.now }
+    {
+        match split_lifetime(&self.tokens) {
+            Some(_) => true,
+            None => false,
+        }
     }
 
     /// Whether an identifier stands next that is no keyword.

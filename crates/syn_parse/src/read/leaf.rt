@@ -1,7 +1,6 @@
 //! Identifiers, literals and lifetimes, as rules read them.
 ghost use Rattle.std.specs.Prelude.{[], codes, refl};
-ghost use Rattle.syn_grammar.specs.Words.{apostrophe};
-ghost use Rattle.syn_grammar.specs.Tokens.{at_mark, at_name};
+ghost use Rattle.syn_grammar.specs.Tokens.{at_lifetime, at_name};
 ghost use Rattle.syn_grammar.specs.Grammar.{any_literal, lifetime, name, token};
 ghost use Rattle.syn_parse.specs.Form.{by, of};
 ghost use Rattle.syn_parse.specs.Meanings.{meaning_of};
@@ -64,14 +63,14 @@ impl Peek for Literal {
     }
 }
 
-/// A lifetime is looked for by its `'`.
+/// A lifetime is looked for by its `'` and the identifier that it is joined to.
 impl Peek for Lifetime {
-    ghost look = { by (at_mark apostrophe) };
+    ghost look = { by at_lifetime };
 
     ghost fault = { codes "expected lifetime" };
 
     fn peek(input: &ParseBuffer<'_>) -> bool {
-        input.is_at_mark1('\'')
+        input.is_at_lifetime()
     }
 
     fn expected() -> &'static str {

@@ -1,6 +1,7 @@
 //! Paths.
 ghost use Rattle.syn_grammar.specs.Rules as rules;
-ghost use Rattle.syn_tree.specs.Parsing.{of, rule, name_or, meaning_of_rule, parse_rule, take_token, path_words, Computes, Moved, itself, IsSyntax, joined_of};
+ghost use Rattle.syn_tree.specs.Parsing.{of, rule, meaning_of_rule, parse_rule, parse_form, Computes, Moved, itself, IsSyntax, joined_of};
+ghost use Rattle.syn_tree.specs.Lower.{segment_form};
 ghost use Rattle.syn_tokens.specs.Kinds.{path_sep_syntax};
 
 use syn_parse::buffer::ParseBuffer;
@@ -56,7 +57,7 @@ fn segments(input: &mut ParseBuffer<'_>) -> Parsed<Punctuated<PathSegment, PathS
 
 /// An identifier, `self`, `Self`, `super` or `crate`.
 fn segment(input: &mut ParseBuffer<'_>) -> Parsed<PathSegment>
-    ensures reads { Computes IsSyntax itself (take_token (name_or path_words) input.old) result input.new }
+    ensures reads { Computes IsSyntax itself (parse_form segment_form input.old) result input.new }
     ensures moved { Moved input.old result input.new }
 {
     Ok(PathSegment {
