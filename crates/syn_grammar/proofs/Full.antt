@@ -1,9 +1,8 @@
 -- FULL FORMS: what they read, they print in its order, but for what is never printed. Of each form there is a full one that reads the same tokens.
-use Rattle.std.proofs.Common.{◌≡◌, ℕ, Bool, true, false, List, [], ◌∷◌, Some, refl, sym, ap, ap₂, ◌∙◌, subst, true≢false, ◌⊎◌, inl, inr}
-use Rattle.syn_grammar.specs.Words.{colon}
-use Rattle.syn_grammar.specs.Tokens.{Span, Stream, end, leaf, punct, group, ◌⧺◌, and, at_generics, stands, Fact}
+use Rattle.std.proofs.Common.{◌≡◌, ℕ, Bool, true, false, List, refl, sym, ap, ap₂, ◌∙◌, subst, true≢false, inl, inr}
+use Rattle.syn_grammar.specs.Tokens.{Span, Stream, end, punct, ◌⧺◌, and, at_generics, Fact}
 use Rattle.syn_grammar.specs.Rules.{Rule}
-use Rattle.syn_grammar.specs.Grammar.{Syntax, Nothing, Token, Mark, Lifetime, Both, Left, Right, Node, Vanishing, Group, Raw, Rest, Case, Such, Shaped, Captured, Unshown, Impl, Done, Last, More, Order, chars, spell, Spelled, Test, holds, Grammar, empty, token, mark, lifetime, ◌&◌, when◌then◌else◌, vanishing, inside, raw, rest_after, either, one_of, rule, such, shaped, captured, unshown, supplied, generics_before, opt_generics, row, ordered, choose, at_unnamed, underscore, DerivesPrefix, show, sort, renew}
+use Rattle.syn_grammar.specs.Grammar.{Syntax, Nothing, Token, Mark, Lifetime, Both, Left, Right, Node, Vanishing, Group, Raw, Rest, Case, Such, Shaped, Captured, Unshown, Impl, Done, Last, More, Order, spell, holds, Grammar, empty, token, mark, lifetime, ◌&◌, when◌then◌else◌, vanishing, inside, raw, rest_after, either, one_of, rule, such, shaped, captured, unshown, supplied, generics_before, opt_generics, row, ordered, underscore, DerivesPrefix, show, sort, renew}
 use Rattle.syn_grammar.specs.Table.{table}
 use Rattle.syn_grammar.specs.Values.{shape}
 use Rattle.syn_grammar.specs.Run.{value_of}
