@@ -2,9 +2,11 @@
 import re
 
 from .antt_text import COMMON, CRATE, PRELUDE, Writer, argument, exports, use_lines
+from .lookaheads import ENDED
 from .ranks import HIGHEST
 from .summaries import Summary
 
+SEPARATORS = ',;'
 MARK = '-- Written by tools/grammar.py from specs/Table.antt; edits are lost.'
 
 
@@ -24,6 +26,7 @@ class Files:
         return {
             'specs/Rules.antt': self.rules_file(),
             'specs/RuleNumbers.antt': self.numbers_file(),
+            'specs/StandsAlone.antt': self.stands_alone_file(),
             'specs/Table.antt': self.table_file(),
             'proofs/Said.antt': self.said_file(),
             'proofs/Ranks.antt': self.ranks_file(),
@@ -61,6 +64,32 @@ class Files:
                 + self.lines(lambda k: f'back {k} = refl'))
         modules = [('Rattle.std.specs.Prelude', PRELUDE)] + self.specs('Rules')
         return self.file('Rules are told apart by their numbers.', modules, body)
+
+    def stands_alone(self, rule):
+        """It asks nothing of what follows it that the end might answer otherwise."""
+        summary, may = self.said[rule, False], self.starts.lookaheads.may
+        return not summary.ends and not any(may(look, ENDED) for look in summary.halts + summary.shuns)
+
+    def stands_before(self, rule, mark):
+        """What it asks of what follows it, the end answers as this mark does."""
+        summary, lookaheads = self.said[rule, False], self.starts.lookaheads
+        same = lambda a: (all(lookaheads.agree(look, a, ENDED, ()) for look in summary.ends)
+                          and all(lookaheads.stays_off(look, a, ENDED, ()) for look in summary.halts))
+        return all(map(same, lookaheads.mark_first_set(mark))) and not any(lookaheads.may(look, ENDED) for look in summary.shuns)
+
+    def stands_before_line(self, rule):
+        marks = [self.writer.text(mark) for mark in SEPARATORS if self.stands_before(rule, mark)]
+        return f'stands_before {rule} = {self.writer.list(marks)}'
+
+    def stands_alone_file(self):
+        body = '\n'.join([
+            self.block('it asks nothing of what follows it that the end may answer otherwise',
+                       'abbrev pub stands_alone : Rule → Bool', lambda k: f'stands_alone {k} = {truth(self.stands_alone(k))}'),
+            self.block('what it asks of what follows it, the end answers as these marks do (of `,` and `;`)',
+                       'abbrev pub stands_before : Rule → List Text', self.stands_before_line),
+        ])
+        modules = [('Rattle.std.specs.Prelude', PRELUDE)] + self.specs('Words', 'Rules')
+        return self.file('Of which rules what was read in front of a rest is read where nothing follows; the proofs compute each line again.', modules, body)
 
     def table_file(self):
         """The table as it stands, with the `use` lines that it needs."""

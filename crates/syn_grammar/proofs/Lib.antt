@@ -36,3 +36,5 @@ pub mod Shapes
 pub mod Same
 pub mod PlainValues
 pub mod Alone
+pub mod Full
+pub mod Shows

@@ -17,4 +17,5 @@ pub mod Promises
 pub mod Computed
 pub mod Turns
 pub mod Same
+pub mod StandsAlone
 pub mod Alone

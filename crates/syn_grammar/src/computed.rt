@@ -2,7 +2,7 @@
 //! Their statements stand in specs/Computed.antt.
 
 ghost use Rattle.syn_grammar.specs.Computed.{ParseMeans, ParseForms, ParseRows, ParseOnward, ValuePrints, OneValue, CapturedIsSome};
-ghost use Rattle.syn_grammar.specs.Alone.{ReadAlone, ValuesForgetSpans};
+ghost use Rattle.syn_grammar.specs.Alone.{ReadAlone, ValuesForgetSpans, ShowIsRead, ShowStandsAlone, ShowStandsBefore, SameShow};
 
 /// The computed reading answers exactly what the grammar derives: a value and a rest where a tree is
 /// read of which the value holds this, and nothing where no tree is read. Holds of every visible
@@ -54,4 +54,29 @@ pub fn read_alone()
 /// but for their spans. Holds of every token stream.
 pub fn values_forget_spans()
     ensures like_values { ValuesForgetSpans }
+{}
+
+/// Of what a rule reads as a whole, the tokens that are shown (in their order, nothing left out) are
+/// read as a whole, as the same value with the same spans. Holds of every token stream.
+pub fn show_is_read()
+    ensures as_the_same { ShowIsRead }
+{}
+
+/// What a rule that stands alone (`stands_alone`: it asks nothing of what follows that the end might
+/// answer otherwise) reads in front of a rest, shown, is read as a whole, as the same value with the
+/// same spans. Holds of every token stream.
+pub fn show_stands_alone()
+    ensures as_the_same { ShowStandsAlone }
+{}
+
+/// What a rule reads in front of a mark of `stands_before` (before which it stands as before the end),
+/// shown, is read as a whole, as the same value with the same spans. Holds of every token stream.
+pub fn show_stands_before()
+    ensures as_the_same { ShowStandsBefore }
+{}
+
+/// Of two token streams that a rule reads as a whole, the values are equal, spans (in bytes) aside,
+/// exactly where the tokens that are shown of them are. Holds of every token stream.
+pub fn same_show()
+    ensures exactly { SameShow }
 {}

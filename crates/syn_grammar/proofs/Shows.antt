@@ -1,0 +1,147 @@
+-- What is shown of a value is read again as the same value.
+use Rattle.std.proofs.Common.{◌≡◌, Bool, true, false, List, [], ◌∷◌, Some, None, refl, sym, ap, ◌∙◌, subst, true≢false, ◌⊎◌, inl, inr}
+use Rattle.syn_grammar.specs.Words.{Text}
+use Rattle.syn_grammar.specs.Tokens.{Stream, end, ◌⧺◌, and, or, no, same_text, one_of_texts, mem, Ended, Look, at_mark, Lookahead, lookahead}
+use Rattle.syn_grammar.specs.Rules.{Rule}
+use Rattle.syn_grammar.specs.Grammar.{Syntax, DerivesPrefix, rule, show, renew}
+use Rattle.syn_grammar.specs.Table.{table}
+use Rattle.syn_grammar.specs.Take.{Out, sees, take_mark, taken}
+use Rattle.syn_grammar.specs.Run.{parse_rule, value_of}
+use Rattle.syn_grammar.specs.StandsAlone.{stands_alone, stands_before}
+use Rattle.syn_grammar.specs.Alone.{ShowIsRead, ShowStandsAlone, ShowStandsBefore, SameShow}
+use Rattle.syn_grammar.proofs.Sets.{or_split, and_left, and_right, every, every_at, subset, same_text_eq}
+use Rattle.syn_grammar.proofs.Plain.{show_plain}
+use Rattle.syn_grammar.proofs.Streams.{append_end}
+use Rattle.syn_grammar.proofs.FirstSets.{first_set, mark_first_set, mark_head, nullable, IsSaid}
+use Rattle.syn_grammar.proofs.NeverFollow.{never_follow, IsOff}
+use Rattle.syn_grammar.proofs.Again.{move, sub_looks, clear, clear_sound, Agree, agree, agree_sound, stay_off, stay_off_of, stay_off_sound}
+use Rattle.syn_grammar.proofs.Summaries.{Summary, keeps, covers, Ready, ready, at_end}
+use Rattle.syn_grammar.proofs.Extend.{closes}
+use Rattle.syn_grammar.proofs.Reprint.{summary, fine, IsSummary, again}
+use Rattle.syn_grammar.proofs.Said.{start_of, summary_of, heard_of, closed_of, ends_hold}
+use Rattle.syn_grammar.proofs.Takes.{mark_told}
+use Rattle.syn_grammar.proofs.Looks.{known_mark, sees_mark}
+use Rattle.syn_grammar.proofs.Means.{parse_rule_told, parse_rule_found}
+use Rattle.syn_grammar.proofs.Alone.{of_every_rule, implies, by_implied, like_values}
+use Rattle.syn_grammar.proofs.Full.{full_table, full_tree, full_read, full_back, show_full, captures_close}
+
+-- ---- what is said of the rules holds of their full forms
+abbrev starts_well : Rule → Bool
+starts_well k = and (subset (first_set start_of (full_table k)) (start_of k).first_set) (implies (nullable start_of (full_table k)) (start_of k).nullable)
+
+full_starts : IsSaid start_of full_table
+full_starts k =
+    let w = of_every_rule starts_well refl refl k in
+    (and_left (subset (first_set start_of (full_table k)) (start_of k).first_set) _ w, by_implied (nullable start_of (full_table k)) (start_of k).nullable (and_right (subset (first_set start_of (full_table k)) (start_of k).first_set) _ w))
+
+full_never_follow : IsOff start_of full_table
+full_never_follow k = of_every_rule (λ k. sub_looks (start_of k).never_follow (never_follow start_of [] (full_table k))) refl refl k
+
+full_closed : (k : Rule) → closed_of k ≡ true → closes closed_of (full_table k) ≡ true
+full_closed k = by_implied (closed_of k) _ (of_every_rule (λ k. implies (closed_of k) (closes closed_of (full_table k))) refl refl k)
+
+abbrev summed_up : Bool → Rule → Bool
+summed_up a k = implies (or (no a) (heard_of k)) (and (covers (summary_of a k) (summary summary_of heard_of start_of closed_of a (full_table k))) (fine summary_of heard_of start_of closed_of a (full_table k)))
+
+both_of : (a b : Bool) → and a b ≡ true → (a ≡ true) × (b ≡ true)
+both_of a b e = (and_left a b e, and_right a b e)
+
+full_summaries : IsSummary summary_of heard_of start_of closed_of full_table
+full_summaries false k h = both_of (covers (summary_of false k) _) _ (by_implied true _ (of_every_rule (summed_up false) refl refl k) refl)
+full_summaries true k h = both_of (covers (summary_of true k) _) _ (by_implied (heard_of k) _ (of_every_rule (summed_up true) refl refl k) h)
+
+captures_hold : (k : Rule) → captures_close (table k) ≡ true
+captures_hold k = of_every_rule (λ k. captures_close (table k)) refl refl k
+
+-- ---- before a lookahead that changes nothing, what is shown is derived, as a tree of the same value
+shown_again : (k : Rule) (s : Syntax) (ts r r' : Stream) → DerivesPrefix table (rule k) s ts r → Ready (summary_of false k) (lookahead r) (lookahead r') →
+    (u : Syntax) × DerivesPrefix table (rule k) u (show (value_of s) ⧺ r') r' × (value_of u ≡ value_of s)
+shown_again k s ts r r' d R =
+    let x = again summary_of heard_of start_of closed_of full_table full_summaries full_starts full_never_follow full_closed false (rule k) (full_tree s) ts r r' refl (full_read (rule k) s ts r d) R in
+    let y = subst (λ z. DerivesPrefix full_table (rule k) (renew (full_tree s)) (z ⧺ r') r') (show_full s) x.0 in
+    full_back captures_hold (rule k) s ts r (show (value_of s) ⧺ r') r' refl d y
+
+-- so it is computed at the end, where that changes nothing
+shown_alone : (k : Rule) (ts : Stream) (s : Syntax) (r : Stream) → parse_rule k ts ≡ Some (s, r) → Ready (summary_of false k) (lookahead r) (lookahead end) → parse_rule k (show s) ≡ Some (s, end)
+shown_alone k ts s r e R =
+    let (t, a, h) = parse_rule_told k ts (s, r) e in
+    let (u, d, i) = shown_again k t ts r end a R in
+    let b : DerivesPrefix table (rule k) u (show s) end = subst (λ z. DerivesPrefix table (rule k) u z end) (append_end (show (value_of t)) ∙ ap show h) d in
+    parse_rule_found k (show s) u end b ∙ ap (λ z. Some (z, end)) (i ∙ h)
+
+pub show_is_read : ShowIsRead
+show_is_read k ts s e = shown_alone k ts s end e (at_end (summary_of false k) (ends_hold k))
+
+-- ---- before the end, whatever stood behind
+abbrev no_looks : List Look → Bool
+no_looks [] = true
+no_looks (c ∷ A) = false
+
+none_agree : (A : List Look) (a b : Lookahead) → no_looks A ≡ true → Agree A a b
+none_agree [] a b e = tt
+none_agree (c ∷ A) a b e = absurd (true≢false (sym e))
+
+-- a form with this summary asks nothing of what follows that the end might answer otherwise
+abbrev cut_well : Summary → Bool
+cut_well p = and (no_looks p.ends) (and (clear p.halts Ended) (clear p.shuns Ended))
+
+ready_at_end : (p : Summary) (a : Lookahead) → cut_well p ≡ true → Ready p a (lookahead end)
+ready_at_end p a w =
+    let v = and_right (no_looks p.ends) _ w in
+    ready p a (lookahead end) (none_agree p.ends a (lookahead end) (and_left (no_looks p.ends) _ w))
+    (stay_off_of p.halts a (lookahead end) (clear_sound p.halts (lookahead end) (and_left (clear p.halts Ended) _ v)))
+    (clear_sound p.shuns (lookahead end) (and_right (clear p.halts Ended) _ v))
+
+cut_holds : (k : Rule) → stands_alone k ≡ true → cut_well (summary_of false k) ≡ true
+cut_holds k = by_implied (stands_alone k) _ (of_every_rule (λ k. implies (stands_alone k) (cut_well (summary_of false k))) refl refl k)
+
+pub show_stands_alone : ShowStandsAlone
+show_stands_alone k w ts s r e = shown_alone k ts s r e (ready_at_end (summary_of false k) (lookahead r) (cut_holds k w))
+
+-- ---- and before a mark
+-- a form with this summary stands before the end as before this mark
+abbrev ends_as : Summary → Text → Bool
+ends_as p m = and (known_mark m) (every (λ f. keeps p (move f Ended [])) (mark_first_set m))
+
+ready_before : (p : Summary) (m : Text) (a : Lookahead) → ends_as p m ≡ true → mem a.terminal (mark_first_set m) ≡ true → Ready p a (lookahead end)
+ready_before p m a w e =
+    let v = every_at (λ f. keeps p (move f Ended [])) a.terminal (mark_first_set m) (and_right (known_mark m) _ w) e in
+    let n = move a.terminal Ended [] in
+    let x = and_right (agree p.ends n) _ v in
+    ready p a (lookahead end) (agree_sound a (lookahead end) [] tt p.ends (and_left (agree p.ends n) _ v))
+    (stay_off_sound a (lookahead end) [] tt p.halts (and_left (stay_off p.halts n) _ x)) (clear_sound p.shuns (lookahead end) (and_right (stay_off p.halts n) _ x))
+
+mark_stands : (m : Text) (r : Stream) → known_mark m ≡ true → sees (at_mark m) r ≡ true → mem (lookahead r).terminal (mark_first_set m) ≡ true
+mark_stands m r w e = go (take_mark m r) refl (sym (sees_mark m w r) ∙ e)
+  where
+    go : (o : Out) → take_mark m r ≡ o → taken o ≡ true → mem (lookahead r).terminal (mark_first_set m) ≡ true
+    go None f e = absurd (true≢false (sym e))
+    go (Some x) f e =
+        let (xs, i, q, h) = mark_told m r x f in
+        ap (λ l. mem (lookahead r).terminal (mark_first_set l)) (sym q) ∙ mark_head xs r x.1 h
+
+abbrev every_text : (Text → Bool) → List Text → Bool
+every_text p [] = true
+every_text p (m ∷ l) = and (p m) (every_text p l)
+
+text_at : (p : Text → Bool) (m : Text) (l : List Text) → every_text p l ≡ true → one_of_texts m l ≡ true → p m ≡ true
+text_at p m [] w e = absurd (true≢false (sym e))
+text_at p m (x ∷ l) w e = go (or_split (same_text m x) (one_of_texts m l) e) (text_at p m l)
+  where
+    go : (same_text m x ≡ true) ⊎ (one_of_texts m l ≡ true) → (every_text p l ≡ true → one_of_texts m l ≡ true → p m ≡ true) → p m ≡ true
+    go (inl q) ih = ap p (same_text_eq m x q) ∙ and_left (p x) _ w
+    go (inr q) ih = ih (and_right (p x) _ w) q
+
+marks_hold : (k : Rule) → every_text (ends_as (summary_of false k)) (stands_before k) ≡ true
+marks_hold k = of_every_rule (λ k. every_text (ends_as (summary_of false k)) (stands_before k)) refl refl k
+
+pub show_stands_before : ShowStandsBefore
+show_stands_before k m w ts s r e f =
+    let v = text_at (ends_as (summary_of false k)) m (stands_before k) (marks_hold k) w in
+    shown_alone k ts s r e (ready_before (summary_of false k) m (lookahead r) v (mark_stands m r (and_left (known_mark m) _ v) f))
+
+pub same_show : SameShow
+same_show k a b s t e f = (
+  λ p. like_values k (show s) (show t) s t p (show_is_read k a s e) (show_is_read k b t f),
+  λ p. sym (show_plain s) ∙ ap show p ∙ show_plain t,
+)
