@@ -46,9 +46,9 @@ attribute_empty : NotDerived (rule attributes)
 unfolding left is_end lookahead_at sees take_token take_lifetime take_mark take_group before rows_for rows run parse_rule
 attribute_empty = not_read attributes _ refl refl
 
--- `#[a a]`: nothing is read
+-- `#[a b]`: nothing is read
 attribute_two_words : NotDerived (rule attributes)
-    (punct 35 false (at 0 1) (group Bracket (at 1 2) (at 5 6) (leaf (ident (97 ∷ [])) (at 2 3) (leaf (ident (97 ∷ [])) (at 4 5) end)) end))
+    (punct 35 false (at 0 1) (group Bracket (at 1 2) (at 5 6) (leaf (ident (97 ∷ [])) (at 2 3) (leaf (ident (98 ∷ [])) (at 4 5) end)) end))
 unfolding left is_end lookahead_at sees take_token take_lifetime take_mark take_group before rows_for rows run parse_rule
 attribute_two_words = not_read attributes _ refl refl
 
@@ -60,9 +60,9 @@ attribute_leaves_brackets : DerivesAs attributes
 unfolding left is_end lookahead_at sees take_token take_lifetime take_mark take_group before rows_for rows run parse_rule
 attribute_leaves_brackets = computed attributes _ _ _ refl refl
 
--- `##[a] [a]`: nothing is read
+-- `##[a] [b]`: nothing is read
 attribute_two_pounds : NotDerived (rule attributes)
-    (punct 35 true (at 0 1) (punct 35 false (at 1 2) (group Bracket (at 2 3) (at 4 5) (leaf (ident (97 ∷ [])) (at 3 4) end) (group Bracket (at 6 7) (at 8 9) (leaf (ident (97 ∷ [])) (at 7 8) end) end))))
+    (punct 35 true (at 0 1) (punct 35 false (at 1 2) (group Bracket (at 2 3) (at 4 5) (leaf (ident (97 ∷ [])) (at 3 4) end) (group Bracket (at 6 7) (at 8 9) (leaf (ident (98 ∷ [])) (at 7 8) end) end))))
 unfolding left is_end lookahead_at sees take_token take_lifetime take_mark take_group before rows_for rows run parse_rule
 attribute_two_pounds = not_read attributes _ refl refl
 

@@ -25,9 +25,9 @@ braces_brackets : NotDerived (rule fields_named)
 unfolding left is_end lookahead_at sees take_token take_lifetime take_mark take_group before rows_for rows run parse_rule
 braces_brackets = not_read fields_named _ refl refl
 
--- `{ a: a a: () }`: nothing is read
+-- `{ a: b c: d }`: nothing is read
 braces_no_comma : NotDerived (rule fields_named)
-    (group Brace (at 0 1) (at 13 14) (leaf (ident (97 ∷ [])) (at 2 3) (punct 58 false (at 3 4) (leaf (ident (97 ∷ [])) (at 5 6) (leaf (ident (97 ∷ [])) (at 7 8) (punct 58 false (at 8 9) (group Paren (at 10 11) (at 11 12) end end)))))) end)
+    (group Brace (at 0 1) (at 12 13) (leaf (ident (97 ∷ [])) (at 2 3) (punct 58 false (at 3 4) (leaf (ident (98 ∷ [])) (at 5 6) (leaf (ident (99 ∷ [])) (at 7 8) (punct 58 false (at 8 9) (leaf (ident (100 ∷ [])) (at 10 11) end)))))) end)
 unfolding left is_end lookahead_at sees take_token take_lifetime take_mark take_group before rows_for rows run parse_rule
 braces_no_comma = not_read fields_named _ refl refl
 
@@ -53,39 +53,39 @@ named_list_two : DerivesAs named_fields
 unfolding left is_end lookahead_at sees take_token take_lifetime take_mark take_group before rows_for rows run parse_rule
 named_list_two = computed named_fields _ _ _ refl refl
 
--- `a: a a` prints `a : a` and leaves `a`
+-- `a: b c` prints `a : b` and leaves `c`
 named_list_leaves_word : DerivesAs named_fields
-    (leaf (ident (97 ∷ [])) (at 0 1) (punct 58 false (at 1 2) (leaf (ident (97 ∷ [])) (at 3 4) (leaf (ident (97 ∷ [])) (at 5 6) end))))
-    (leaf (ident (97 ∷ [])) call_site (punct 58 false call_site (leaf (ident (97 ∷ [])) call_site end)))
-    (leaf (ident (97 ∷ [])) (at 5 6) end)
+    (leaf (ident (97 ∷ [])) (at 0 1) (punct 58 false (at 1 2) (leaf (ident (98 ∷ [])) (at 3 4) (leaf (ident (99 ∷ [])) (at 5 6) end))))
+    (leaf (ident (97 ∷ [])) call_site (punct 58 false call_site (leaf (ident (98 ∷ [])) call_site end)))
+    (leaf (ident (99 ∷ [])) (at 5 6) end)
 unfolding left is_end lookahead_at sees take_token take_lifetime take_mark take_group before rows_for rows run parse_rule
 named_list_leaves_word = computed named_fields _ _ _ refl refl
 
--- `a: a` prints `a : a`
+-- `a: b` prints `a : b`
 named_list_one : DerivesAs named_fields
-    (leaf (ident (97 ∷ [])) (at 0 1) (punct 58 false (at 1 2) (leaf (ident (97 ∷ [])) (at 3 4) end)))
-    (leaf (ident (97 ∷ [])) call_site (punct 58 false call_site (leaf (ident (97 ∷ [])) call_site end)))
+    (leaf (ident (97 ∷ [])) (at 0 1) (punct 58 false (at 1 2) (leaf (ident (98 ∷ [])) (at 3 4) end)))
+    (leaf (ident (97 ∷ [])) call_site (punct 58 false call_site (leaf (ident (98 ∷ [])) call_site end)))
     (end)
 unfolding left is_end lookahead_at sees take_token take_lifetime take_mark take_group before rows_for rows run parse_rule
 named_list_one = computed named_fields _ _ _ refl refl
 
--- `, a: a a: a`: nothing is read
+-- `, a: b c: d`: nothing is read
 named_list_comma_first : NotDerived (rule named_fields)
-    (punct 44 false (at 0 1) (leaf (ident (97 ∷ [])) (at 2 3) (punct 58 false (at 3 4) (leaf (ident (97 ∷ [])) (at 5 6) (leaf (ident (97 ∷ [])) (at 7 8) (punct 58 false (at 8 9) (leaf (ident (97 ∷ [])) (at 10 11) end)))))))
+    (punct 44 false (at 0 1) (leaf (ident (97 ∷ [])) (at 2 3) (punct 58 false (at 3 4) (leaf (ident (98 ∷ [])) (at 5 6) (leaf (ident (99 ∷ [])) (at 7 8) (punct 58 false (at 8 9) (leaf (ident (100 ∷ [])) (at 10 11) end)))))))
 unfolding left is_end lookahead_at sees take_token take_lifetime take_mark take_group before rows_for rows run parse_rule
 named_list_comma_first = not_read named_fields _ refl refl
 
--- `a: a, _: a[]` prints `a : a , _ : a` and leaves `[]`
+-- `a: b, _: c[]` prints `a : b , _ : c` and leaves `[]`
 named_list_leaves_brackets : DerivesAs named_fields
-    (leaf (ident (97 ∷ [])) (at 0 1) (punct 58 false (at 1 2) (leaf (ident (97 ∷ [])) (at 3 4) (punct 44 false (at 4 5) (leaf (ident w_underscore) (at 6 7) (punct 58 false (at 7 8) (leaf (ident (97 ∷ [])) (at 9 10) (group Bracket (at 10 11) (at 11 12) end end))))))))
-    (leaf (ident (97 ∷ [])) call_site (punct 58 false call_site (leaf (ident (97 ∷ [])) call_site (punct 44 false call_site (leaf (ident w_underscore) call_site (punct 58 false call_site (leaf (ident (97 ∷ [])) call_site end)))))))
+    (leaf (ident (97 ∷ [])) (at 0 1) (punct 58 false (at 1 2) (leaf (ident (98 ∷ [])) (at 3 4) (punct 44 false (at 4 5) (leaf (ident w_underscore) (at 6 7) (punct 58 false (at 7 8) (leaf (ident (99 ∷ [])) (at 9 10) (group Bracket (at 10 11) (at 11 12) end end))))))))
+    (leaf (ident (97 ∷ [])) call_site (punct 58 false call_site (leaf (ident (98 ∷ [])) call_site (punct 44 false call_site (leaf (ident w_underscore) call_site (punct 58 false call_site (leaf (ident (99 ∷ [])) call_site end)))))))
     (group Bracket (at 10 11) (at 11 12) end end)
 unfolding left is_end lookahead_at sees take_token take_lifetime take_mark take_group before rows_for rows run parse_rule
 named_list_leaves_brackets = computed named_fields _ _ _ refl refl
 
--- `a: (),, _: ()`: nothing is read
+-- `a: b,, c: d`: nothing is read
 named_list_two_commas : NotDerived (rule named_fields)
-    (leaf (ident (97 ∷ [])) (at 0 1) (punct 58 false (at 1 2) (group Paren (at 3 4) (at 4 5) end (punct 44 true (at 5 6) (punct 44 false (at 6 7) (leaf (ident w_underscore) (at 8 9) (punct 58 false (at 9 10) (group Paren (at 11 12) (at 12 13) end end))))))))
+    (leaf (ident (97 ∷ [])) (at 0 1) (punct 58 false (at 1 2) (leaf (ident (98 ∷ [])) (at 3 4) (punct 44 true (at 4 5) (punct 44 false (at 5 6) (leaf (ident (99 ∷ [])) (at 7 8) (punct 58 false (at 8 9) (leaf (ident (100 ∷ [])) (at 10 11) end))))))))
 unfolding left is_end lookahead_at sees take_token take_lifetime take_mark take_group before rows_for rows run parse_rule
 named_list_two_commas = not_read named_fields _ refl refl
 
@@ -181,11 +181,11 @@ named_default_first : NotDerived (rule named_field)
 unfolding left is_end lookahead_at sees take_token take_lifetime take_mark take_group before rows_for rows run parse_rule
 named_default_first = not_read named_field _ refl refl
 
--- `a: () a` prints `a : ( )` and leaves `a`
+-- `a: b c` prints `a : b` and leaves `c`
 named_leaves_type : DerivesAs named_field
-    (leaf (ident (97 ∷ [])) (at 0 1) (punct 58 false (at 1 2) (group Paren (at 3 4) (at 4 5) end (leaf (ident (97 ∷ [])) (at 6 7) end))))
-    (leaf (ident (97 ∷ [])) call_site (punct 58 false call_site (group Paren call_site call_site end end)))
-    (leaf (ident (97 ∷ [])) (at 6 7) end)
+    (leaf (ident (97 ∷ [])) (at 0 1) (punct 58 false (at 1 2) (leaf (ident (98 ∷ [])) (at 3 4) (leaf (ident (99 ∷ [])) (at 5 6) end))))
+    (leaf (ident (97 ∷ [])) call_site (punct 58 false call_site (leaf (ident (98 ∷ [])) call_site end)))
+    (leaf (ident (99 ∷ [])) (at 5 6) end)
 unfolding left is_end lookahead_at sees take_token take_lifetime take_mark take_group before rows_for rows run parse_rule
 named_leaves_type = computed named_field _ _ _ refl refl
 
@@ -201,15 +201,15 @@ named_keyword : NotDerived (rule named_field)
 unfolding left is_end lookahead_at sees take_token take_lifetime take_mark take_group before rows_for rows run parse_rule
 named_keyword = not_read named_field _ refl refl
 
--- `a: a == true`: nothing is read
+-- `a: b == true`: nothing is read
 named_equals_twice : NotDerived (rule named_field)
-    (leaf (ident (97 ∷ [])) (at 0 1) (punct 58 false (at 1 2) (leaf (ident (97 ∷ [])) (at 3 4) (punct 61 true (at 5 6) (punct 61 false (at 6 7) (leaf (ident w_true) (at 8 12) end))))))
+    (leaf (ident (97 ∷ [])) (at 0 1) (punct 58 false (at 1 2) (leaf (ident (98 ∷ [])) (at 3 4) (punct 61 true (at 5 6) (punct 61 false (at 6 7) (leaf (ident w_true) (at 8 12) end))))))
 unfolding left is_end lookahead_at sees take_token take_lifetime take_mark take_group before rows_for rows run parse_rule
 named_equals_twice = not_read named_field _ refl refl
 
--- `a a: a`: nothing is read
+-- `a b: c`: nothing is read
 named_two_names : NotDerived (rule named_field)
-    (leaf (ident (97 ∷ [])) (at 0 1) (leaf (ident (97 ∷ [])) (at 2 3) (punct 58 false (at 3 4) (leaf (ident (97 ∷ [])) (at 5 6) end))))
+    (leaf (ident (97 ∷ [])) (at 0 1) (leaf (ident (98 ∷ [])) (at 2 3) (punct 58 false (at 3 4) (leaf (ident (99 ∷ [])) (at 5 6) end))))
 unfolding left is_end lookahead_at sees take_token take_lifetime take_mark take_group before rows_for rows run parse_rule
 named_two_names = not_read named_field _ refl refl
 
@@ -227,43 +227,43 @@ named_underscore_leaves_pound : DerivesAs named_field
 unfolding left is_end lookahead_at sees take_token take_lifetime take_mark take_group before rows_for rows run parse_rule
 named_underscore_leaves_pound = computed named_field _ _ _ refl refl
 
--- `_ a: a`: nothing is read
+-- `_ a: b`: nothing is read
 named_underscore_name : NotDerived (rule named_field)
-    (leaf (ident w_underscore) (at 0 1) (leaf (ident (97 ∷ [])) (at 2 3) (punct 58 false (at 3 4) (leaf (ident (97 ∷ [])) (at 5 6) end))))
+    (leaf (ident w_underscore) (at 0 1) (leaf (ident (97 ∷ [])) (at 2 3) (punct 58 false (at 3 4) (leaf (ident (98 ∷ [])) (at 5 6) end))))
 unfolding left is_end lookahead_at sees take_token take_lifetime take_mark take_group before rows_for rows run parse_rule
 named_underscore_name = not_read named_field _ refl refl
 
--- `: a: a`: nothing is read
+-- `: a: b`: nothing is read
 named_colon_first : NotDerived (rule named_field)
-    (punct 58 false (at 0 1) (leaf (ident (97 ∷ [])) (at 2 3) (punct 58 false (at 3 4) (leaf (ident (97 ∷ [])) (at 5 6) end))))
+    (punct 58 false (at 0 1) (leaf (ident (97 ∷ [])) (at 2 3) (punct 58 false (at 3 4) (leaf (ident (98 ∷ [])) (at 5 6) end))))
 unfolding left is_end lookahead_at sees take_token take_lifetime take_mark take_group before rows_for rows run parse_rule
 named_colon_first = not_read named_field _ refl refl
 
--- `pub #[a] a: ()`: nothing is read
+-- `pub #[a] b: c`: nothing is read
 named_attribute_behind_pub : NotDerived (rule named_field)
-    (leaf (ident w_pub) (at 0 3) (punct 35 false (at 4 5) (group Bracket (at 5 6) (at 7 8) (leaf (ident (97 ∷ [])) (at 6 7) end) (leaf (ident (97 ∷ [])) (at 9 10) (punct 58 false (at 10 11) (group Paren (at 12 13) (at 13 14) end end))))))
+    (leaf (ident w_pub) (at 0 3) (punct 35 false (at 4 5) (group Bracket (at 5 6) (at 7 8) (leaf (ident (97 ∷ [])) (at 6 7) end) (leaf (ident (98 ∷ [])) (at 9 10) (punct 58 false (at 10 11) (leaf (ident (99 ∷ [])) (at 12 13) end))))))
 unfolding left is_end lookahead_at sees take_token take_lifetime take_mark take_group before rows_for rows run parse_rule
 named_attribute_behind_pub = not_read named_field _ refl refl
 
--- `a: a pub` prints `a : a` and leaves `pub`
+-- `a: b pub` prints `a : b` and leaves `pub`
 named_leaves_pub : DerivesAs named_field
-    (leaf (ident (97 ∷ [])) (at 0 1) (punct 58 false (at 1 2) (leaf (ident (97 ∷ [])) (at 3 4) (leaf (ident w_pub) (at 5 8) end))))
-    (leaf (ident (97 ∷ [])) call_site (punct 58 false call_site (leaf (ident (97 ∷ [])) call_site end)))
+    (leaf (ident (97 ∷ [])) (at 0 1) (punct 58 false (at 1 2) (leaf (ident (98 ∷ [])) (at 3 4) (leaf (ident w_pub) (at 5 8) end))))
+    (leaf (ident (97 ∷ [])) call_site (punct 58 false call_site (leaf (ident (98 ∷ [])) call_site end)))
     (leaf (ident w_pub) (at 5 8) end)
 unfolding left is_end lookahead_at sees take_token take_lifetime take_mark take_group before rows_for rows run parse_rule
 named_leaves_pub = computed named_field _ _ _ refl refl
 
--- `a: () = true =` prints `a : ( ) = true` and leaves `=`
+-- `a: b = true =` prints `a : b = true` and leaves `=`
 named_default_leaves_equals : DerivesAs named_field
-    (leaf (ident (97 ∷ [])) (at 0 1) (punct 58 false (at 1 2) (group Paren (at 3 4) (at 4 5) end (punct 61 false (at 6 7) (leaf (ident w_true) (at 8 12) (punct 61 false (at 13 14) end))))))
-    (leaf (ident (97 ∷ [])) call_site (punct 58 false call_site (group Paren call_site call_site end (punct 61 false call_site (leaf (ident w_true) call_site end)))))
-    (punct 61 false (at 13 14) end)
+    (leaf (ident (97 ∷ [])) (at 0 1) (punct 58 false (at 1 2) (leaf (ident (98 ∷ [])) (at 3 4) (punct 61 false (at 5 6) (leaf (ident w_true) (at 7 11) (punct 61 false (at 12 13) end))))))
+    (leaf (ident (97 ∷ [])) call_site (punct 58 false call_site (leaf (ident (98 ∷ [])) call_site (punct 61 false call_site (leaf (ident w_true) call_site end)))))
+    (punct 61 false (at 12 13) end)
 unfolding left is_end lookahead_at sees take_token take_lifetime take_mark take_group before rows_for rows run parse_rule
 named_default_leaves_equals = computed named_field _ _ _ refl refl
 
--- `a = a`: nothing is read
+-- `a = b`: nothing is read
 named_equals_for_colon : NotDerived (rule named_field)
-    (leaf (ident (97 ∷ [])) (at 0 1) (punct 61 false (at 2 3) (leaf (ident (97 ∷ [])) (at 4 5) end)))
+    (leaf (ident (97 ∷ [])) (at 0 1) (punct 61 false (at 2 3) (leaf (ident (98 ∷ [])) (at 4 5) end)))
 unfolding left is_end lookahead_at sees take_token take_lifetime take_mark take_group before rows_for rows run parse_rule
 named_equals_for_colon = not_read named_field _ refl refl
 
@@ -293,11 +293,11 @@ named_underscore_twice : NotDerived (rule named_field)
 unfolding left is_end lookahead_at sees take_token take_lifetime take_mark take_group before rows_for rows run parse_rule
 named_underscore_twice = not_read named_field _ refl refl
 
--- `a: ():` prints `a : ( )` and leaves `:`
+-- `a: b:` prints `a : b` and leaves `:`
 named_leaves_colon : DerivesAs named_field
-    (leaf (ident (97 ∷ [])) (at 0 1) (punct 58 false (at 1 2) (group Paren (at 3 4) (at 4 5) end (punct 58 false (at 5 6) end))))
-    (leaf (ident (97 ∷ [])) call_site (punct 58 false call_site (group Paren call_site call_site end end)))
-    (punct 58 false (at 5 6) end)
+    (leaf (ident (97 ∷ [])) (at 0 1) (punct 58 false (at 1 2) (leaf (ident (98 ∷ [])) (at 3 4) (punct 58 false (at 4 5) end))))
+    (leaf (ident (97 ∷ [])) call_site (punct 58 false call_site (leaf (ident (98 ∷ [])) call_site end)))
+    (punct 58 false (at 4 5) end)
 unfolding left is_end lookahead_at sees take_token take_lifetime take_mark take_group before rows_for rows run parse_rule
 named_leaves_colon = computed named_field _ _ _ refl refl
 
@@ -315,10 +315,10 @@ named_safe : DerivesAs named_field
 unfolding left is_end lookahead_at sees take_token take_lifetime take_mark take_group before rows_for rows run parse_rule
 named_safe = computed named_field _ _ _ refl refl
 
--- `auto: !` prints `auto : !`
+-- `auto: a` prints `auto : a`
 named_auto : DerivesAs named_field
-    (leaf (ident w_auto) (at 0 4) (punct 58 false (at 4 5) (punct 33 false (at 6 7) end)))
-    (leaf (ident w_auto) call_site (punct 58 false call_site (punct 33 false call_site end)))
+    (leaf (ident w_auto) (at 0 4) (punct 58 false (at 4 5) (leaf (ident (97 ∷ [])) (at 6 7) end)))
+    (leaf (ident w_auto) call_site (punct 58 false call_site (leaf (ident (97 ∷ [])) call_site end)))
     (end)
 unfolding left is_end lookahead_at sees take_token take_lifetime take_mark take_group before rows_for rows run parse_rule
 named_auto = computed named_field _ _ _ refl refl
@@ -337,9 +337,9 @@ named_union : DerivesAs named_field
 unfolding left is_end lookahead_at sees take_token take_lifetime take_mark take_group before rows_for rows run parse_rule
 named_union = computed named_field _ _ _ refl refl
 
--- `super: !`: nothing is read
+-- `super: a`: nothing is read
 named_super : NotDerived (rule named_field)
-    (leaf (ident w_super) (at 0 5) (punct 58 false (at 5 6) (punct 33 false (at 7 8) end)))
+    (leaf (ident w_super) (at 0 5) (punct 58 false (at 5 6) (leaf (ident (97 ∷ [])) (at 7 8) end)))
 unfolding left is_end lookahead_at sees take_token take_lifetime take_mark take_group before rows_for rows run parse_rule
 named_super = not_read named_field _ refl refl
 
@@ -349,9 +349,9 @@ named_crate : NotDerived (rule named_field)
 unfolding left is_end lookahead_at sees take_token take_lifetime take_mark take_group before rows_for rows run parse_rule
 named_crate = not_read named_field _ refl refl
 
--- `pub pub a: a`: nothing is read
+-- `pub pub a: b`: nothing is read
 named_two_public : NotDerived (rule named_field)
-    (leaf (ident w_pub) (at 0 3) (leaf (ident w_pub) (at 4 7) (leaf (ident (97 ∷ [])) (at 8 9) (punct 58 false (at 9 10) (leaf (ident (97 ∷ [])) (at 11 12) end)))))
+    (leaf (ident w_pub) (at 0 3) (leaf (ident w_pub) (at 4 7) (leaf (ident (97 ∷ [])) (at 8 9) (punct 58 false (at 9 10) (leaf (ident (98 ∷ [])) (at 11 12) end)))))
 unfolding left is_end lookahead_at sees take_token take_lifetime take_mark take_group before rows_for rows run parse_rule
 named_two_public = not_read named_field _ refl refl
 
@@ -387,11 +387,11 @@ nameless_struct : DerivesAs nameless_type
 unfolding left is_end lookahead_at sees take_token take_lifetime take_mark take_group before rows_for rows run parse_rule
 nameless_struct = computed nameless_type _ _ _ refl refl
 
--- `a a` prints `a` and leaves `a`
+-- `a b` prints `a` and leaves `b`
 nameless_leaves_word : DerivesAs nameless_type
-    (leaf (ident (97 ∷ [])) (at 0 1) (leaf (ident (97 ∷ [])) (at 2 3) end))
+    (leaf (ident (97 ∷ [])) (at 0 1) (leaf (ident (98 ∷ [])) (at 2 3) end))
     (leaf (ident (97 ∷ [])) call_site end)
-    (leaf (ident (97 ∷ [])) (at 2 3) end)
+    (leaf (ident (98 ∷ [])) (at 2 3) end)
 unfolding left is_end lookahead_at sees take_token take_lifetime take_mark take_group before rows_for rows run parse_rule
 nameless_leaves_word = computed nameless_type _ _ _ refl refl
 
@@ -519,9 +519,9 @@ field_leaves_pound : DerivesAs unnamed_field
 unfolding left is_end lookahead_at sees take_token take_lifetime take_mark take_group before rows_for rows run parse_rule
 field_leaves_pound = computed unnamed_field _ _ _ refl refl
 
--- `pub #[a] a`: nothing is read
+-- `pub #[a] b`: nothing is read
 field_attribute_behind_pub : NotDerived (rule unnamed_field)
-    (leaf (ident w_pub) (at 0 3) (punct 35 false (at 4 5) (group Bracket (at 5 6) (at 7 8) (leaf (ident (97 ∷ [])) (at 6 7) end) (leaf (ident (97 ∷ [])) (at 9 10) end))))
+    (leaf (ident w_pub) (at 0 3) (punct 35 false (at 4 5) (group Bracket (at 5 6) (at 7 8) (leaf (ident (97 ∷ [])) (at 6 7) end) (leaf (ident (98 ∷ [])) (at 9 10) end))))
 unfolding left is_end lookahead_at sees take_token take_lifetime take_mark take_group before rows_for rows run parse_rule
 field_attribute_behind_pub = not_read unnamed_field _ refl refl
 
@@ -533,10 +533,10 @@ field_leaves_public : DerivesAs unnamed_field
 unfolding left is_end lookahead_at sees take_token take_lifetime take_mark take_group before rows_for rows run parse_rule
 field_leaves_public = computed unnamed_field _ _ _ refl refl
 
--- `#[a] a` prints `# [ a ] a`
+-- `#[a] b` prints `# [ a ] b`
 field_attribute : DerivesAs unnamed_field
-    (punct 35 false (at 0 1) (group Bracket (at 1 2) (at 3 4) (leaf (ident (97 ∷ [])) (at 2 3) end) (leaf (ident (97 ∷ [])) (at 5 6) end)))
-    (punct 35 false call_site (group Bracket call_site call_site (leaf (ident (97 ∷ [])) call_site end) (leaf (ident (97 ∷ [])) call_site end)))
+    (punct 35 false (at 0 1) (group Bracket (at 1 2) (at 3 4) (leaf (ident (97 ∷ [])) (at 2 3) end) (leaf (ident (98 ∷ [])) (at 5 6) end)))
+    (punct 35 false call_site (group Bracket call_site call_site (leaf (ident (97 ∷ [])) call_site end) (leaf (ident (98 ∷ [])) call_site end)))
     (end)
 unfolding left is_end lookahead_at sees take_token take_lifetime take_mark take_group before rows_for rows run parse_rule
 field_attribute = computed unnamed_field _ _ _ refl refl
@@ -597,16 +597,16 @@ list_semicolon : DerivesAs unnamed_fields
 unfolding left is_end lookahead_at sees take_token take_lifetime take_mark take_group before rows_for rows run parse_rule
 list_semicolon = computed unnamed_fields _ _ _ refl refl
 
--- `, a a`: nothing is read
+-- `, a b`: nothing is read
 list_comma_first : NotDerived (rule unnamed_fields)
-    (punct 44 false (at 0 1) (leaf (ident (97 ∷ [])) (at 2 3) (leaf (ident (97 ∷ [])) (at 4 5) end)))
+    (punct 44 false (at 0 1) (leaf (ident (97 ∷ [])) (at 2 3) (leaf (ident (98 ∷ [])) (at 4 5) end)))
 unfolding left is_end lookahead_at sees take_token take_lifetime take_mark take_group before rows_for rows run parse_rule
 list_comma_first = not_read unnamed_fields _ refl refl
 
--- `a, ! +` prints `a , !` and leaves `+`
+-- `a, b +` prints `a , b` and leaves `+`
 list_leaves_plus : DerivesAs unnamed_fields
-    (leaf (ident (97 ∷ [])) (at 0 1) (punct 44 false (at 1 2) (punct 33 false (at 3 4) (punct 43 false (at 5 6) end))))
-    (leaf (ident (97 ∷ [])) call_site (punct 44 false call_site (punct 33 false call_site end)))
+    (leaf (ident (97 ∷ [])) (at 0 1) (punct 44 false (at 1 2) (leaf (ident (98 ∷ [])) (at 3 4) (punct 43 false (at 5 6) end))))
+    (leaf (ident (97 ∷ [])) call_site (punct 44 false call_site (leaf (ident (98 ∷ [])) call_site end)))
     (punct 43 false (at 5 6) end)
 unfolding left is_end lookahead_at sees take_token take_lifetime take_mark take_group before rows_for rows run parse_rule
 list_leaves_plus = computed unnamed_fields _ _ _ refl refl
@@ -659,9 +659,9 @@ fields_brackets : NotDerived (rule fields_unnamed)
 unfolding left is_end lookahead_at sees take_token take_lifetime take_mark take_group before rows_for rows run parse_rule
 fields_brackets = not_read fields_unnamed _ refl refl
 
--- `(<()>::super<a>::a)`: nothing is read
+-- `(a b)`: nothing is read
 fields_two_types : NotDerived (rule fields_unnamed)
-    (group Paren (at 0 1) (at 18 19) (punct 60 false (at 1 2) (group Paren (at 2 3) (at 3 4) end (punct 62 true (at 4 5) (punct 58 true (at 5 6) (punct 58 false (at 6 7) (leaf (ident w_super) (at 7 12) (punct 60 false (at 12 13) (leaf (ident (97 ∷ [])) (at 13 14) (punct 62 true (at 14 15) (punct 58 true (at 15 16) (punct 58 false (at 16 17) (leaf (ident (97 ∷ [])) (at 17 18) end)))))))))))) end)
+    (group Paren (at 0 1) (at 4 5) (leaf (ident (97 ∷ [])) (at 1 2) (leaf (ident (98 ∷ [])) (at 3 4) end)) end)
 unfolding left is_end lookahead_at sees take_token take_lifetime take_mark take_group before rows_for rows run parse_rule
 fields_two_types = not_read fields_unnamed _ refl refl
 
@@ -695,11 +695,11 @@ variant_leaves_braces : DerivesAs variant
 unfolding left is_end lookahead_at sees take_token take_lifetime take_mark take_group before rows_for rows run parse_rule
 variant_leaves_braces = computed variant _ _ _ refl refl
 
--- `a a` prints `a` and leaves `a`
+-- `a b` prints `a` and leaves `b`
 variant_leaves_name : DerivesAs variant
-    (leaf (ident (97 ∷ [])) (at 0 1) (leaf (ident (97 ∷ [])) (at 2 3) end))
+    (leaf (ident (97 ∷ [])) (at 0 1) (leaf (ident (98 ∷ [])) (at 2 3) end))
     (leaf (ident (97 ∷ [])) call_site end)
-    (leaf (ident (97 ∷ [])) (at 2 3) end)
+    (leaf (ident (98 ∷ [])) (at 2 3) end)
 unfolding left is_end lookahead_at sees take_token take_lifetime take_mark take_group before rows_for rows run parse_rule
 variant_leaves_name = computed variant _ _ _ refl refl
 
@@ -787,9 +787,9 @@ variant_number : NotDerived (rule variant)
 unfolding left is_end lookahead_at sees take_token take_lifetime take_mark take_group before rows_for rows run parse_rule
 variant_number = not_read variant _ refl refl
 
--- `pub #[a] a`: nothing is read
+-- `pub #[a] b`: nothing is read
 variant_attribute_behind_pub : NotDerived (rule variant)
-    (leaf (ident w_pub) (at 0 3) (punct 35 false (at 4 5) (group Bracket (at 5 6) (at 7 8) (leaf (ident (97 ∷ [])) (at 6 7) end) (leaf (ident (97 ∷ [])) (at 9 10) end))))
+    (leaf (ident w_pub) (at 0 3) (punct 35 false (at 4 5) (group Bracket (at 5 6) (at 7 8) (leaf (ident (97 ∷ [])) (at 6 7) end) (leaf (ident (98 ∷ [])) (at 9 10) end))))
 unfolding left is_end lookahead_at sees take_token take_lifetime take_mark take_group before rows_for rows run parse_rule
 variant_attribute_behind_pub = not_read variant _ refl refl
 
@@ -857,11 +857,11 @@ variants_three : DerivesAs variants
 unfolding left is_end lookahead_at sees take_token take_lifetime take_mark take_group before rows_for rows run parse_rule
 variants_three = computed variants _ _ _ refl refl
 
--- `a, a a` prints `a , a` and leaves `a`
+-- `a, b c` prints `a , b` and leaves `c`
 variants_leave_name : DerivesAs variants
-    (leaf (ident (97 ∷ [])) (at 0 1) (punct 44 false (at 1 2) (leaf (ident (97 ∷ [])) (at 3 4) (leaf (ident (97 ∷ [])) (at 5 6) end))))
-    (leaf (ident (97 ∷ [])) call_site (punct 44 false call_site (leaf (ident (97 ∷ [])) call_site end)))
-    (leaf (ident (97 ∷ [])) (at 5 6) end)
+    (leaf (ident (97 ∷ [])) (at 0 1) (punct 44 false (at 1 2) (leaf (ident (98 ∷ [])) (at 3 4) (leaf (ident (99 ∷ [])) (at 5 6) end))))
+    (leaf (ident (97 ∷ [])) call_site (punct 44 false call_site (leaf (ident (98 ∷ [])) call_site end)))
+    (leaf (ident (99 ∷ [])) (at 5 6) end)
 unfolding left is_end lookahead_at sees take_token take_lifetime take_mark take_group before rows_for rows run parse_rule
 variants_leave_name = computed variants _ _ _ refl refl
 
@@ -887,8 +887,8 @@ variants_last_comma : DerivesAs variants
 unfolding left is_end lookahead_at sees take_token take_lifetime take_mark take_group before rows_for rows run parse_rule
 variants_last_comma = computed variants _ _ _ refl refl
 
--- `, a a`: nothing is read
+-- `, a b`: nothing is read
 variants_comma_first : NotDerived (rule variants)
-    (punct 44 false (at 0 1) (leaf (ident (97 ∷ [])) (at 2 3) (leaf (ident (97 ∷ [])) (at 4 5) end)))
+    (punct 44 false (at 0 1) (leaf (ident (97 ∷ [])) (at 2 3) (leaf (ident (98 ∷ [])) (at 4 5) end)))
 unfolding left is_end lookahead_at sees take_token take_lifetime take_mark take_group before rows_for rows run parse_rule
 variants_comma_first = not_read variants _ refl refl

@@ -1,7 +1,7 @@
 -- Written by tools/grammar.py from specs/Table.antt; edits are lost.
 -- Worked examples of generics, bounds and where clauses, from tools/examples.txt: what each rule reads, prints and refuses. The checker computes each.
 use Rattle.std.proofs.Common.{true, false, [], ◌∷◌, refl}
-use Rattle.syn_grammar.specs.Words.{w_underscore, w_const, w_crate, w_false, w_fn, w_for, w_in, w_Self_type, w_self, w_super, w_true, w_where, w_union, w_auto, w_default, w_safe}
+use Rattle.syn_grammar.specs.Words.{w_underscore, w_const, w_crate, w_fn, w_for, w_in, w_Self_type, w_self, w_super, w_where, w_union, w_auto, w_default, w_safe}
 use Rattle.syn_grammar.specs.Tokens.{call_site, Paren, Brace, Bracket, Int, ident, literal, end, leaf, punct, group}
 use Rattle.syn_grammar.specs.Rules.{generics, lifetime_parameter, lifetimes, parameter_bounds, bound, trait_bound, bound_lifetimes, lifetime_parameters, where_clause, predicates, predicate, predicate_bounds}
 use Rattle.syn_grammar.specs.Grammar.{rule}
@@ -55,9 +55,9 @@ generics_no_comma : NotDerived (rule generics)
 unfolding left is_end lookahead_at sees take_token take_lifetime take_mark take_group before rows_for rows run parse_rule
 generics_no_comma = not_read generics _ refl refl
 
--- `<a == a>`: nothing is read
+-- `<a == b>`: nothing is read
 generics_equals_twice : NotDerived (rule generics)
-    (punct 60 false (at 0 1) (leaf (ident (97 ∷ [])) (at 1 2) (punct 61 true (at 3 4) (punct 61 false (at 4 5) (leaf (ident (97 ∷ [])) (at 6 7) (punct 62 false (at 7 8) end))))))
+    (punct 60 false (at 0 1) (leaf (ident (97 ∷ [])) (at 1 2) (punct 61 true (at 3 4) (punct 61 false (at 4 5) (leaf (ident (98 ∷ [])) (at 6 7) (punct 62 false (at 7 8) end))))))
 unfolding left is_end lookahead_at sees take_token take_lifetime take_mark take_group before rows_for rows run parse_rule
 generics_equals_twice = not_read generics _ refl refl
 
@@ -67,11 +67,11 @@ generics_underscore : NotDerived (rule generics)
 unfolding left is_end lookahead_at sees take_token take_lifetime take_mark take_group before rows_for rows run parse_rule
 generics_underscore = not_read generics _ refl refl
 
--- `<> <` prints `` and leaves `<`
+-- `<><` prints `` and leaves `<`
 generics_leave_less : DerivesAs generics
-    (punct 60 true (at 0 1) (punct 62 false (at 1 2) (punct 60 false (at 3 4) end)))
+    (punct 60 true (at 0 1) (punct 62 true (at 1 2) (punct 60 false (at 2 3) end)))
     (end)
-    (punct 60 false (at 3 4) end)
+    (punct 60 false (at 2 3) end)
 unfolding left is_end lookahead_at sees take_token take_lifetime take_mark take_group before rows_for rows run parse_rule
 generics_leave_less = computed generics _ _ _ refl refl
 
@@ -81,9 +81,9 @@ generics_comma_alone : NotDerived (rule generics)
 unfolding left is_end lookahead_at sees take_token take_lifetime take_mark take_group before rows_for rows run parse_rule
 generics_comma_alone = not_read generics _ refl refl
 
--- `<const a: a a>`: nothing is read
+-- `<const a: b c>`: nothing is read
 generics_const_two_types : NotDerived (rule generics)
-    (punct 60 false (at 0 1) (leaf (ident w_const) (at 1 6) (leaf (ident (97 ∷ [])) (at 7 8) (punct 58 false (at 8 9) (leaf (ident (97 ∷ [])) (at 10 11) (leaf (ident (97 ∷ [])) (at 12 13) (punct 62 false (at 13 14) end)))))))
+    (punct 60 false (at 0 1) (leaf (ident w_const) (at 1 6) (leaf (ident (97 ∷ [])) (at 7 8) (punct 58 false (at 8 9) (leaf (ident (98 ∷ [])) (at 10 11) (leaf (ident (99 ∷ [])) (at 12 13) (punct 62 false (at 13 14) end)))))))
 unfolding left is_end lookahead_at sees take_token take_lifetime take_mark take_group before rows_for rows run parse_rule
 generics_const_two_types = not_read generics _ refl refl
 
@@ -107,13 +107,13 @@ generics_two_defaults : NotDerived (rule generics)
 unfolding left is_end lookahead_at sees take_token take_lifetime take_mark take_group before rows_for rows run parse_rule
 generics_two_defaults = not_read generics _ refl refl
 
--- `<const a: <!>::a,>` prints `< const a : < ! > :: a , >`
-generics_const_qualified : DerivesAs generics
-    (punct 60 false (at 0 1) (leaf (ident w_const) (at 1 6) (leaf (ident (97 ∷ [])) (at 7 8) (punct 58 false (at 8 9) (punct 60 true (at 10 11) (punct 33 true (at 11 12) (punct 62 true (at 12 13) (punct 58 true (at 13 14) (punct 58 false (at 14 15) (leaf (ident (97 ∷ [])) (at 15 16) (punct 44 true (at 16 17) (punct 62 false (at 17 18) end))))))))))))
-    (punct 60 false call_site (leaf (ident w_const) call_site (leaf (ident (97 ∷ [])) call_site (punct 58 false call_site (punct 60 false call_site (punct 33 false call_site (punct 62 false call_site (punct 58 true call_site (punct 58 false call_site (leaf (ident (97 ∷ [])) call_site (punct 44 false call_site (punct 62 false call_site end))))))))))))
+-- `<const a: &b,>` prints `< const a : & b , >`
+generics_const_reference : DerivesAs generics
+    (punct 60 false (at 0 1) (leaf (ident w_const) (at 1 6) (leaf (ident (97 ∷ [])) (at 7 8) (punct 58 false (at 8 9) (punct 38 false (at 10 11) (leaf (ident (98 ∷ [])) (at 11 12) (punct 44 true (at 12 13) (punct 62 false (at 13 14) end))))))))
+    (punct 60 false call_site (leaf (ident w_const) call_site (leaf (ident (97 ∷ [])) call_site (punct 58 false call_site (punct 38 false call_site (leaf (ident (98 ∷ [])) call_site (punct 44 false call_site (punct 62 false call_site end))))))))
     (end)
 unfolding left is_end lookahead_at sees take_token take_lifetime take_mark take_group before rows_for rows run parse_rule
-generics_const_qualified = computed generics _ _ _ refl refl
+generics_const_reference = computed generics _ _ _ refl refl
 
 -- `<1>`: nothing is read
 generics_number : NotDerived (rule generics)
@@ -127,27 +127,27 @@ generics_const_keyword : NotDerived (rule generics)
 unfolding left is_end lookahead_at sees take_token take_lifetime take_mark take_group before rows_for rows run parse_rule
 generics_const_keyword = not_read generics _ refl refl
 
--- `<const a a: a>`: nothing is read
+-- `<const a b: c>`: nothing is read
 generics_const_two_names : NotDerived (rule generics)
-    (punct 60 false (at 0 1) (leaf (ident w_const) (at 1 6) (leaf (ident (97 ∷ [])) (at 7 8) (leaf (ident (97 ∷ [])) (at 9 10) (punct 58 false (at 10 11) (leaf (ident (97 ∷ [])) (at 12 13) (punct 62 false (at 13 14) end)))))))
+    (punct 60 false (at 0 1) (leaf (ident w_const) (at 1 6) (leaf (ident (97 ∷ [])) (at 7 8) (leaf (ident (98 ∷ [])) (at 9 10) (punct 58 false (at 10 11) (leaf (ident (99 ∷ [])) (at 12 13) (punct 62 false (at 13 14) end)))))))
 unfolding left is_end lookahead_at sees take_token take_lifetime take_mark take_group before rows_for rows run parse_rule
 generics_const_two_names = not_read generics _ refl refl
 
--- `<const a: ():>`: nothing is read
+-- `<const a: b:>`: nothing is read
 generics_const_colon_behind : NotDerived (rule generics)
-    (punct 60 false (at 0 1) (leaf (ident w_const) (at 1 6) (leaf (ident (97 ∷ [])) (at 7 8) (punct 58 false (at 8 9) (group Paren (at 10 11) (at 11 12) end (punct 58 true (at 12 13) (punct 62 false (at 13 14) end)))))))
+    (punct 60 false (at 0 1) (leaf (ident w_const) (at 1 6) (leaf (ident (97 ∷ [])) (at 7 8) (punct 58 false (at 8 9) (leaf (ident (98 ∷ [])) (at 10 11) (punct 58 true (at 11 12) (punct 62 false (at 12 13) end)))))))
 unfolding left is_end lookahead_at sees take_token take_lifetime take_mark take_group before rows_for rows run parse_rule
 generics_const_colon_behind = not_read generics _ refl refl
 
--- `< = a a>`: nothing is read
+-- `< = a b>`: nothing is read
 generics_default_first : NotDerived (rule generics)
-    (punct 60 false (at 0 1) (punct 61 false (at 2 3) (leaf (ident (97 ∷ [])) (at 4 5) (leaf (ident (97 ∷ [])) (at 6 7) (punct 62 false (at 7 8) end)))))
+    (punct 60 false (at 0 1) (punct 61 false (at 2 3) (leaf (ident (97 ∷ [])) (at 4 5) (leaf (ident (98 ∷ [])) (at 6 7) (punct 62 false (at 7 8) end)))))
 unfolding left is_end lookahead_at sees take_token take_lifetime take_mark take_group before rows_for rows run parse_rule
 generics_default_first = not_read generics _ refl refl
 
--- `<'a 'a>`: nothing is read
+-- `<'a 'b>`: nothing is read
 generics_two_lifetimes_no_comma : NotDerived (rule generics)
-    (punct 60 true (at 0 1) (punct 39 true (at 1 2) (leaf (ident (97 ∷ [])) (at 2 3) (punct 39 true (at 4 5) (leaf (ident (97 ∷ [])) (at 5 6) (punct 62 false (at 6 7) end))))))
+    (punct 60 true (at 0 1) (punct 39 true (at 1 2) (leaf (ident (97 ∷ [])) (at 2 3) (punct 39 true (at 4 5) (leaf (ident (98 ∷ [])) (at 5 6) (punct 62 false (at 6 7) end))))))
 unfolding left is_end lookahead_at sees take_token take_lifetime take_mark take_group before rows_for rows run parse_rule
 generics_two_lifetimes_no_comma = not_read generics _ refl refl
 
@@ -169,21 +169,21 @@ generics_named_in : NotDerived (rule generics)
 unfolding left is_end lookahead_at sees take_token take_lifetime take_mark take_group before rows_for rows run parse_rule
 generics_named_in = not_read generics _ refl refl
 
--- `<a #[a]>`: nothing is read
+-- `<a #[b]>`: nothing is read
 generics_attribute_behind : NotDerived (rule generics)
-    (punct 60 false (at 0 1) (leaf (ident (97 ∷ [])) (at 1 2) (punct 35 false (at 3 4) (group Bracket (at 4 5) (at 6 7) (leaf (ident (97 ∷ [])) (at 5 6) end) (punct 62 false (at 7 8) end)))))
+    (punct 60 false (at 0 1) (leaf (ident (97 ∷ [])) (at 1 2) (punct 35 false (at 3 4) (group Bracket (at 4 5) (at 6 7) (leaf (ident (98 ∷ [])) (at 5 6) end) (punct 62 false (at 7 8) end)))))
 unfolding left is_end lookahead_at sees take_token take_lifetime take_mark take_group before rows_for rows run parse_rule
 generics_attribute_behind = not_read generics _ refl refl
 
--- `<: b a>`: nothing is read
+-- `<: a b>`: nothing is read
 generics_bounds_first : NotDerived (rule generics)
-    (punct 60 true (at 0 1) (punct 58 false (at 1 2) (leaf (ident (98 ∷ [])) (at 3 4) (leaf (ident (97 ∷ [])) (at 5 6) (punct 62 false (at 6 7) end)))))
+    (punct 60 true (at 0 1) (punct 58 false (at 1 2) (leaf (ident (97 ∷ [])) (at 3 4) (leaf (ident (98 ∷ [])) (at 5 6) (punct 62 false (at 6 7) end)))))
 unfolding left is_end lookahead_at sees take_token take_lifetime take_mark take_group before rows_for rows run parse_rule
 generics_bounds_first = not_read generics _ refl refl
 
--- `<const a: <!>::a const>`: nothing is read
+-- `<const a: b const>`: nothing is read
 generics_const_behind : NotDerived (rule generics)
-    (punct 60 false (at 0 1) (leaf (ident w_const) (at 1 6) (leaf (ident (97 ∷ [])) (at 7 8) (punct 58 false (at 8 9) (punct 60 true (at 10 11) (punct 33 true (at 11 12) (punct 62 true (at 12 13) (punct 58 true (at 13 14) (punct 58 false (at 14 15) (leaf (ident (97 ∷ [])) (at 15 16) (leaf (ident w_const) (at 17 22) (punct 62 false (at 22 23) end))))))))))))
+    (punct 60 false (at 0 1) (leaf (ident w_const) (at 1 6) (leaf (ident (97 ∷ [])) (at 7 8) (punct 58 false (at 8 9) (leaf (ident (98 ∷ [])) (at 10 11) (leaf (ident w_const) (at 12 17) (punct 62 false (at 17 18) end)))))))
 unfolding left is_end lookahead_at sees take_token take_lifetime take_mark take_group before rows_for rows run parse_rule
 generics_const_behind = not_read generics _ refl refl
 
@@ -281,57 +281,57 @@ generics_const_number : NotDerived (rule generics)
 unfolding left is_end lookahead_at sees take_token take_lifetime take_mark take_group before rows_for rows run parse_rule
 generics_const_number = not_read generics _ refl refl
 
--- `<const: a: a>`: nothing is read
+-- `<const: a: b>`: nothing is read
 generics_const_colon_first : NotDerived (rule generics)
-    (punct 60 false (at 0 1) (leaf (ident w_const) (at 1 6) (punct 58 false (at 6 7) (leaf (ident (97 ∷ [])) (at 8 9) (punct 58 false (at 9 10) (leaf (ident (97 ∷ [])) (at 11 12) (punct 62 false (at 12 13) end)))))))
+    (punct 60 false (at 0 1) (leaf (ident w_const) (at 1 6) (punct 58 false (at 6 7) (leaf (ident (97 ∷ [])) (at 8 9) (punct 58 false (at 9 10) (leaf (ident (98 ∷ [])) (at 11 12) (punct 62 false (at 12 13) end)))))))
 unfolding left is_end lookahead_at sees take_token take_lifetime take_mark take_group before rows_for rows run parse_rule
 generics_const_colon_first = not_read generics _ refl refl
 
--- `<const a::a>`: nothing is read
+-- `<const a::b>`: nothing is read
 generics_const_colons : NotDerived (rule generics)
-    (punct 60 false (at 0 1) (leaf (ident w_const) (at 1 6) (leaf (ident (97 ∷ [])) (at 7 8) (punct 58 true (at 8 9) (punct 58 false (at 9 10) (leaf (ident (97 ∷ [])) (at 10 11) (punct 62 false (at 11 12) end)))))))
+    (punct 60 false (at 0 1) (leaf (ident w_const) (at 1 6) (leaf (ident (97 ∷ [])) (at 7 8) (punct 58 true (at 8 9) (punct 58 false (at 9 10) (leaf (ident (98 ∷ [])) (at 10 11) (punct 62 false (at 11 12) end)))))))
 unfolding left is_end lookahead_at sees take_token take_lifetime take_mark take_group before rows_for rows run parse_rule
 generics_const_colons = not_read generics _ refl refl
 
--- `<const _: ()>`: nothing is read
+-- `<const _: a>`: nothing is read
 generics_const_underscore : NotDerived (rule generics)
-    (punct 60 false (at 0 1) (leaf (ident w_const) (at 1 6) (leaf (ident w_underscore) (at 7 8) (punct 58 false (at 8 9) (group Paren (at 10 11) (at 11 12) end (punct 62 false (at 12 13) end))))))
+    (punct 60 false (at 0 1) (leaf (ident w_const) (at 1 6) (leaf (ident w_underscore) (at 7 8) (punct 58 false (at 8 9) (leaf (ident (97 ∷ [])) (at 10 11) (punct 62 false (at 11 12) end))))))
 unfolding left is_end lookahead_at sees take_token take_lifetime take_mark take_group before rows_for rows run parse_rule
 generics_const_underscore = not_read generics _ refl refl
 
--- `<const a a::a>`: nothing is read
+-- `<const a b::c>`: nothing is read
 generics_const_no_colon : NotDerived (rule generics)
-    (punct 60 false (at 0 1) (leaf (ident w_const) (at 1 6) (leaf (ident (97 ∷ [])) (at 7 8) (leaf (ident (97 ∷ [])) (at 9 10) (punct 58 true (at 10 11) (punct 58 false (at 11 12) (leaf (ident (97 ∷ [])) (at 12 13) (punct 62 false (at 13 14) end))))))))
+    (punct 60 false (at 0 1) (leaf (ident w_const) (at 1 6) (leaf (ident (97 ∷ [])) (at 7 8) (leaf (ident (98 ∷ [])) (at 9 10) (punct 58 true (at 10 11) (punct 58 false (at 11 12) (leaf (ident (99 ∷ [])) (at 12 13) (punct 62 false (at 13 14) end))))))))
 unfolding left is_end lookahead_at sees take_token take_lifetime take_mark take_group before rows_for rows run parse_rule
 generics_const_no_colon = not_read generics _ refl refl
 
--- `<const = 1 a: a>`: nothing is read
+-- `<const = 1 a: b>`: nothing is read
 generics_const_default_first : NotDerived (rule generics)
-    (punct 60 false (at 0 1) (leaf (ident w_const) (at 1 6) (punct 61 false (at 7 8) (leaf (literal Int (49 ∷ [])) (at 9 10) (leaf (ident (97 ∷ [])) (at 11 12) (punct 58 false (at 12 13) (leaf (ident (97 ∷ [])) (at 14 15) (punct 62 false (at 15 16) end))))))))
+    (punct 60 false (at 0 1) (leaf (ident w_const) (at 1 6) (punct 61 false (at 7 8) (leaf (literal Int (49 ∷ [])) (at 9 10) (leaf (ident (97 ∷ [])) (at 11 12) (punct 58 false (at 12 13) (leaf (ident (98 ∷ [])) (at 14 15) (punct 62 false (at 15 16) end))))))))
 unfolding left is_end lookahead_at sees take_token take_lifetime take_mark take_group before rows_for rows run parse_rule
 generics_const_default_first = not_read generics _ refl refl
 
--- `<const a = 1: ()>`: nothing is read
+-- `<const a = 1: b>`: nothing is read
 generics_const_default_before_colon : NotDerived (rule generics)
-    (punct 60 false (at 0 1) (leaf (ident w_const) (at 1 6) (leaf (ident (97 ∷ [])) (at 7 8) (punct 61 false (at 9 10) (leaf (literal Int (49 ∷ [])) (at 11 12) (punct 58 false (at 12 13) (group Paren (at 14 15) (at 15 16) end (punct 62 false (at 16 17) end))))))))
+    (punct 60 false (at 0 1) (leaf (ident w_const) (at 1 6) (leaf (ident (97 ∷ [])) (at 7 8) (punct 61 false (at 9 10) (leaf (literal Int (49 ∷ [])) (at 11 12) (punct 58 false (at 12 13) (leaf (ident (98 ∷ [])) (at 14 15) (punct 62 false (at 15 16) end))))))))
 unfolding left is_end lookahead_at sees take_token take_lifetime take_mark take_group before rows_for rows run parse_rule
 generics_const_default_before_colon = not_read generics _ refl refl
 
--- `<const const: ()>`: nothing is read
+-- `<const const: a>`: nothing is read
 generics_const_named_const : NotDerived (rule generics)
-    (punct 60 false (at 0 1) (leaf (ident w_const) (at 1 6) (leaf (ident w_const) (at 7 12) (punct 58 false (at 12 13) (group Paren (at 14 15) (at 15 16) end (punct 62 false (at 16 17) end))))))
+    (punct 60 false (at 0 1) (leaf (ident w_const) (at 1 6) (leaf (ident w_const) (at 7 12) (punct 58 false (at 12 13) (leaf (ident (97 ∷ [])) (at 14 15) (punct 62 false (at 15 16) end))))))
 unfolding left is_end lookahead_at sees take_token take_lifetime take_mark take_group before rows_for rows run parse_rule
 generics_const_named_const = not_read generics _ refl refl
 
--- `<const const a: !>`: nothing is read
+-- `<const const a: b>`: nothing is read
 generics_const_twice : NotDerived (rule generics)
-    (punct 60 false (at 0 1) (leaf (ident w_const) (at 1 6) (leaf (ident w_const) (at 7 12) (leaf (ident (97 ∷ [])) (at 13 14) (punct 58 false (at 14 15) (punct 33 true (at 16 17) (punct 62 false (at 17 18) end)))))))
+    (punct 60 false (at 0 1) (leaf (ident w_const) (at 1 6) (leaf (ident w_const) (at 7 12) (leaf (ident (97 ∷ [])) (at 13 14) (punct 58 false (at 14 15) (leaf (ident (98 ∷ [])) (at 16 17) (punct 62 false (at 17 18) end)))))))
 unfolding left is_end lookahead_at sees take_token take_lifetime take_mark take_group before rows_for rows run parse_rule
 generics_const_twice = not_read generics _ refl refl
 
--- `<const a const: a>`: nothing is read
+-- `<const a const: b>`: nothing is read
 generics_const_behind_name : NotDerived (rule generics)
-    (punct 60 false (at 0 1) (leaf (ident w_const) (at 1 6) (leaf (ident (97 ∷ [])) (at 7 8) (leaf (ident w_const) (at 9 14) (punct 58 false (at 14 15) (leaf (ident (97 ∷ [])) (at 16 17) (punct 62 false (at 17 18) end)))))))
+    (punct 60 false (at 0 1) (leaf (ident w_const) (at 1 6) (leaf (ident (97 ∷ [])) (at 7 8) (leaf (ident w_const) (at 9 14) (punct 58 false (at 14 15) (leaf (ident (98 ∷ [])) (at 16 17) (punct 62 false (at 17 18) end)))))))
 unfolding left is_end lookahead_at sees take_token take_lifetime take_mark take_group before rows_for rows run parse_rule
 generics_const_behind_name = not_read generics _ refl refl
 
@@ -363,9 +363,9 @@ generics_const_two_values : NotDerived (rule generics)
 unfolding left is_end lookahead_at sees take_token take_lifetime take_mark take_group before rows_for rows run parse_rule
 generics_const_two_values = not_read generics _ refl refl
 
--- `<const a: = false a>`: nothing is read
+-- `<const a: = 1 b>`: nothing is read
 generics_const_default_before_type : NotDerived (rule generics)
-    (punct 60 false (at 0 1) (leaf (ident w_const) (at 1 6) (leaf (ident (97 ∷ [])) (at 7 8) (punct 58 false (at 8 9) (punct 61 false (at 10 11) (leaf (ident w_false) (at 12 17) (leaf (ident (97 ∷ [])) (at 18 19) (punct 62 false (at 19 20) end))))))))
+    (punct 60 false (at 0 1) (leaf (ident w_const) (at 1 6) (leaf (ident (97 ∷ [])) (at 7 8) (punct 58 false (at 8 9) (punct 61 false (at 10 11) (leaf (literal Int (49 ∷ [])) (at 12 13) (leaf (ident (98 ∷ [])) (at 14 15) (punct 62 false (at 15 16) end))))))))
 unfolding left is_end lookahead_at sees take_token take_lifetime take_mark take_group before rows_for rows run parse_rule
 generics_const_default_before_type = not_read generics _ refl refl
 
@@ -383,9 +383,9 @@ generics_const_union : DerivesAs generics
 unfolding left is_end lookahead_at sees take_token take_lifetime take_mark take_group before rows_for rows run parse_rule
 generics_const_union = computed generics _ _ _ refl refl
 
--- `<const self: ()>`: nothing is read
+-- `<const self: a>`: nothing is read
 generics_const_self : NotDerived (rule generics)
-    (punct 60 false (at 0 1) (leaf (ident w_const) (at 1 6) (leaf (ident w_self) (at 7 11) (punct 58 false (at 11 12) (group Paren (at 13 14) (at 14 15) end (punct 62 false (at 15 16) end))))))
+    (punct 60 false (at 0 1) (leaf (ident w_const) (at 1 6) (leaf (ident w_self) (at 7 11) (punct 58 false (at 11 12) (leaf (ident (97 ∷ [])) (at 13 14) (punct 62 false (at 14 15) end))))))
 unfolding left is_end lookahead_at sees take_token take_lifetime take_mark take_group before rows_for rows run parse_rule
 generics_const_self = not_read generics _ refl refl
 
@@ -395,15 +395,15 @@ generics_const_crate : NotDerived (rule generics)
 unfolding left is_end lookahead_at sees take_token take_lifetime take_mark take_group before rows_for rows run parse_rule
 generics_const_crate = not_read generics _ refl refl
 
--- `<const a: a = 1 = true>`: nothing is read
+-- `<const a: b = 1 = 2>`: nothing is read
 generics_const_two_defaults : NotDerived (rule generics)
-    (punct 60 false (at 0 1) (leaf (ident w_const) (at 1 6) (leaf (ident (97 ∷ [])) (at 7 8) (punct 58 false (at 8 9) (leaf (ident (97 ∷ [])) (at 10 11) (punct 61 false (at 12 13) (leaf (literal Int (49 ∷ [])) (at 14 15) (punct 61 false (at 16 17) (leaf (ident w_true) (at 18 22) (punct 62 false (at 22 23) end))))))))))
+    (punct 60 false (at 0 1) (leaf (ident w_const) (at 1 6) (leaf (ident (97 ∷ [])) (at 7 8) (punct 58 false (at 8 9) (leaf (ident (98 ∷ [])) (at 10 11) (punct 61 false (at 12 13) (leaf (literal Int (49 ∷ [])) (at 14 15) (punct 61 false (at 16 17) (leaf (literal Int (50 ∷ [])) (at 18 19) (punct 62 false (at 19 20) end))))))))))
 unfolding left is_end lookahead_at sees take_token take_lifetime take_mark take_group before rows_for rows run parse_rule
 generics_const_two_defaults = not_read generics _ refl refl
 
--- `<const super: ()>`: nothing is read
+-- `<const super: a>`: nothing is read
 generics_const_super : NotDerived (rule generics)
-    (punct 60 false (at 0 1) (leaf (ident w_const) (at 1 6) (leaf (ident w_super) (at 7 12) (punct 58 false (at 12 13) (group Paren (at 14 15) (at 15 16) end (punct 62 false (at 16 17) end))))))
+    (punct 60 false (at 0 1) (leaf (ident w_const) (at 1 6) (leaf (ident w_super) (at 7 12) (punct 58 false (at 12 13) (leaf (ident (97 ∷ [])) (at 14 15) (punct 62 false (at 15 16) end))))))
 unfolding left is_end lookahead_at sees take_token take_lifetime take_mark take_group before rows_for rows run parse_rule
 generics_const_super = not_read generics _ refl refl
 
@@ -427,15 +427,15 @@ generics_const_named_default : DerivesAs generics
 unfolding left is_end lookahead_at sees take_token take_lifetime take_mark take_group before rows_for rows run parse_rule
 generics_const_named_default = computed generics _ _ _ refl refl
 
--- `<const a: (), super>`: nothing is read
+-- `<super>`: nothing is read
 generics_super : NotDerived (rule generics)
-    (punct 60 false (at 0 1) (leaf (ident w_const) (at 1 6) (leaf (ident (97 ∷ [])) (at 7 8) (punct 58 false (at 8 9) (group Paren (at 10 11) (at 11 12) end (punct 44 false (at 12 13) (leaf (ident w_super) (at 14 19) (punct 62 false (at 19 20) end))))))))
+    (punct 60 false (at 0 1) (leaf (ident w_super) (at 1 6) (punct 62 false (at 6 7) end)))
 unfolding left is_end lookahead_at sees take_token take_lifetime take_mark take_group before rows_for rows run parse_rule
 generics_super = not_read generics _ refl refl
 
--- `<const a: <<()>::a>::a =,>`: nothing is read
+-- `<const a: b =, c>`: nothing is read
 generics_const_default_nothing : NotDerived (rule generics)
-    (punct 60 false (at 0 1) (leaf (ident w_const) (at 1 6) (leaf (ident (97 ∷ [])) (at 7 8) (punct 58 false (at 8 9) (punct 60 true (at 10 11) (punct 60 false (at 11 12) (group Paren (at 12 13) (at 13 14) end (punct 62 true (at 14 15) (punct 58 true (at 15 16) (punct 58 false (at 16 17) (leaf (ident (97 ∷ [])) (at 17 18) (punct 62 true (at 18 19) (punct 58 true (at 19 20) (punct 58 false (at 20 21) (leaf (ident (97 ∷ [])) (at 21 22) (punct 61 true (at 23 24) (punct 44 true (at 24 25) (punct 62 false (at 25 26) end))))))))))))))))))
+    (punct 60 false (at 0 1) (leaf (ident w_const) (at 1 6) (leaf (ident (97 ∷ [])) (at 7 8) (punct 58 false (at 8 9) (leaf (ident (98 ∷ [])) (at 10 11) (punct 61 true (at 12 13) (punct 44 false (at 13 14) (leaf (ident (99 ∷ [])) (at 15 16) (punct 62 false (at 16 17) end)))))))))
 unfolding left is_end lookahead_at sees take_token take_lifetime take_mark take_group before rows_for rows run parse_rule
 generics_const_default_nothing = not_read generics _ refl refl
 
@@ -455,9 +455,9 @@ lifetime_colons : DerivesAs lifetime_parameter
 unfolding left is_end lookahead_at sees take_token take_lifetime take_mark take_group before rows_for rows run parse_rule
 lifetime_colons = computed lifetime_parameter _ _ _ refl refl
 
--- `: 'a 'a`: nothing is read
+-- `: 'a 'b`: nothing is read
 lifetime_bounds_first : NotDerived (rule lifetime_parameter)
-    (punct 58 false (at 0 1) (punct 39 true (at 2 3) (leaf (ident (97 ∷ [])) (at 3 4) (punct 39 true (at 5 6) (leaf (ident (97 ∷ [])) (at 6 7) end)))))
+    (punct 58 false (at 0 1) (punct 39 true (at 2 3) (leaf (ident (97 ∷ [])) (at 3 4) (punct 39 true (at 5 6) (leaf (ident (98 ∷ [])) (at 6 7) end)))))
 unfolding left is_end lookahead_at sees take_token take_lifetime take_mark take_group before rows_for rows run parse_rule
 lifetime_bounds_first = not_read lifetime_parameter _ refl refl
 
@@ -469,11 +469,11 @@ lifetime_leaves_pound : DerivesAs lifetime_parameter
 unfolding left is_end lookahead_at sees take_token take_lifetime take_mark take_group before rows_for rows run parse_rule
 lifetime_leaves_pound = computed lifetime_parameter _ _ _ refl refl
 
--- `'a 'a` prints `'a` and leaves `'a`
+-- `'a 'b` prints `'a` and leaves `'b`
 lifetime_leaves_lifetime : DerivesAs lifetime_parameter
-    (punct 39 true (at 0 1) (leaf (ident (97 ∷ [])) (at 1 2) (punct 39 true (at 3 4) (leaf (ident (97 ∷ [])) (at 4 5) end))))
+    (punct 39 true (at 0 1) (leaf (ident (97 ∷ [])) (at 1 2) (punct 39 true (at 3 4) (leaf (ident (98 ∷ [])) (at 4 5) end))))
     (punct 39 true call_site (leaf (ident (97 ∷ [])) call_site end))
-    (punct 39 true (at 3 4) (leaf (ident (97 ∷ [])) (at 4 5) end))
+    (punct 39 true (at 3 4) (leaf (ident (98 ∷ [])) (at 4 5) end))
 unfolding left is_end lookahead_at sees take_token take_lifetime take_mark take_group before rows_for rows run parse_rule
 lifetime_leaves_lifetime = computed lifetime_parameter _ _ _ refl refl
 
@@ -485,19 +485,19 @@ lifetime_leaves_equals : DerivesAs lifetime_parameter
 unfolding left is_end lookahead_at sees take_token take_lifetime take_mark take_group before rows_for rows run parse_rule
 lifetime_leaves_equals = computed lifetime_parameter _ _ _ refl refl
 
--- `#[a] 'a` prints `# [ a ] 'a`
+-- `#[a] 'b` prints `# [ a ] 'b`
 lifetime_attribute : DerivesAs lifetime_parameter
-    (punct 35 false (at 0 1) (group Bracket (at 1 2) (at 3 4) (leaf (ident (97 ∷ [])) (at 2 3) end) (punct 39 true (at 5 6) (leaf (ident (97 ∷ [])) (at 6 7) end))))
-    (punct 35 false call_site (group Bracket call_site call_site (leaf (ident (97 ∷ [])) call_site end) (punct 39 true call_site (leaf (ident (97 ∷ [])) call_site end))))
+    (punct 35 false (at 0 1) (group Bracket (at 1 2) (at 3 4) (leaf (ident (97 ∷ [])) (at 2 3) end) (punct 39 true (at 5 6) (leaf (ident (98 ∷ [])) (at 6 7) end))))
+    (punct 35 false call_site (group Bracket call_site call_site (leaf (ident (97 ∷ [])) call_site end) (punct 39 true call_site (leaf (ident (98 ∷ [])) call_site end))))
     (end)
 unfolding left is_end lookahead_at sees take_token take_lifetime take_mark take_group before rows_for rows run parse_rule
 lifetime_attribute = computed lifetime_parameter _ _ _ refl refl
 
--- `'a: 'a 'a` prints `'a : 'a` and leaves `'a`
+-- `'a: 'b 'c` prints `'a : 'b` and leaves `'c`
 lifetime_bound_leaves_lifetime : DerivesAs lifetime_parameter
-    (punct 39 true (at 0 1) (leaf (ident (97 ∷ [])) (at 1 2) (punct 58 false (at 2 3) (punct 39 true (at 4 5) (leaf (ident (97 ∷ [])) (at 5 6) (punct 39 true (at 7 8) (leaf (ident (97 ∷ [])) (at 8 9) end)))))))
-    (punct 39 true call_site (leaf (ident (97 ∷ [])) call_site (punct 58 false call_site (punct 39 true call_site (leaf (ident (97 ∷ [])) call_site end)))))
-    (punct 39 true (at 7 8) (leaf (ident (97 ∷ [])) (at 8 9) end))
+    (punct 39 true (at 0 1) (leaf (ident (97 ∷ [])) (at 1 2) (punct 58 false (at 2 3) (punct 39 true (at 4 5) (leaf (ident (98 ∷ [])) (at 5 6) (punct 39 true (at 7 8) (leaf (ident (99 ∷ [])) (at 8 9) end)))))))
+    (punct 39 true call_site (leaf (ident (97 ∷ [])) call_site (punct 58 false call_site (punct 39 true call_site (leaf (ident (98 ∷ [])) call_site end)))))
+    (punct 39 true (at 7 8) (leaf (ident (99 ∷ [])) (at 8 9) end))
 unfolding left is_end lookahead_at sees take_token take_lifetime take_mark take_group before rows_for rows run parse_rule
 lifetime_bound_leaves_lifetime = computed lifetime_parameter _ _ _ refl refl
 
@@ -517,11 +517,11 @@ lifetimes_two_plus : DerivesAs lifetimes
 unfolding left is_end lookahead_at sees take_token take_lifetime take_mark take_group before rows_for rows run parse_rule
 lifetimes_two_plus = computed lifetimes _ _ _ refl refl
 
--- `'a + 'a 'a` prints `'a + 'a` and leaves `'a`
+-- `'a + 'b 'c` prints `'a + 'b` and leaves `'c`
 lifetimes_leave_lifetime : DerivesAs lifetimes
-    (punct 39 true (at 0 1) (leaf (ident (97 ∷ [])) (at 1 2) (punct 43 false (at 3 4) (punct 39 true (at 5 6) (leaf (ident (97 ∷ [])) (at 6 7) (punct 39 true (at 8 9) (leaf (ident (97 ∷ [])) (at 9 10) end)))))))
-    (punct 39 true call_site (leaf (ident (97 ∷ [])) call_site (punct 43 false call_site (punct 39 true call_site (leaf (ident (97 ∷ [])) call_site end)))))
-    (punct 39 true (at 8 9) (leaf (ident (97 ∷ [])) (at 9 10) end))
+    (punct 39 true (at 0 1) (leaf (ident (97 ∷ [])) (at 1 2) (punct 43 false (at 3 4) (punct 39 true (at 5 6) (leaf (ident (98 ∷ [])) (at 6 7) (punct 39 true (at 8 9) (leaf (ident (99 ∷ [])) (at 9 10) end)))))))
+    (punct 39 true call_site (leaf (ident (97 ∷ [])) call_site (punct 43 false call_site (punct 39 true call_site (leaf (ident (98 ∷ [])) call_site end)))))
+    (punct 39 true (at 8 9) (leaf (ident (99 ∷ [])) (at 9 10) end))
 unfolding left is_end lookahead_at sees take_token take_lifetime take_mark take_group before rows_for rows run parse_rule
 lifetimes_leave_lifetime = computed lifetimes _ _ _ refl refl
 
@@ -609,9 +609,9 @@ bounds_leave_comma : DerivesAs parameter_bounds
 unfolding left is_end lookahead_at sees take_token take_lifetime take_mark take_group before rows_for rows run parse_rule
 bounds_leave_comma = computed parameter_bounds _ _ _ refl refl
 
--- `+ a a`: nothing is read
+-- `+ a b`: nothing is read
 bounds_plus_first : NotDerived (rule parameter_bounds)
-    (punct 43 false (at 0 1) (leaf (ident (97 ∷ [])) (at 2 3) (leaf (ident (97 ∷ [])) (at 4 5) end)))
+    (punct 43 false (at 0 1) (leaf (ident (97 ∷ [])) (at 2 3) (leaf (ident (98 ∷ [])) (at 4 5) end)))
 unfolding left is_end lookahead_at sees take_token take_lifetime take_mark take_group before rows_for rows run parse_rule
 bounds_plus_first = not_read parameter_bounds _ refl refl
 
@@ -637,11 +637,11 @@ bound_leaves_parentheses : DerivesAs bound
 unfolding left is_end lookahead_at sees take_token take_lifetime take_mark take_group before rows_for rows run parse_rule
 bound_leaves_parentheses = computed bound _ _ _ refl refl
 
--- `'a 'a` prints `'a` and leaves `'a`
+-- `'a 'b` prints `'a` and leaves `'b`
 bound_leaves_lifetime : DerivesAs bound
-    (punct 39 true (at 0 1) (leaf (ident (97 ∷ [])) (at 1 2) (punct 39 true (at 3 4) (leaf (ident (97 ∷ [])) (at 4 5) end))))
+    (punct 39 true (at 0 1) (leaf (ident (97 ∷ [])) (at 1 2) (punct 39 true (at 3 4) (leaf (ident (98 ∷ [])) (at 4 5) end))))
     (punct 39 true call_site (leaf (ident (97 ∷ [])) call_site end))
-    (punct 39 true (at 3 4) (leaf (ident (97 ∷ [])) (at 4 5) end))
+    (punct 39 true (at 3 4) (leaf (ident (98 ∷ [])) (at 4 5) end))
 unfolding left is_end lookahead_at sees take_token take_lifetime take_mark take_group before rows_for rows run parse_rule
 bound_leaves_lifetime = computed bound _ _ _ refl refl
 
@@ -651,9 +651,9 @@ bound_empty_parentheses : NotDerived (rule bound)
 unfolding left is_end lookahead_at sees take_token take_lifetime take_mark take_group before rows_for rows run parse_rule
 bound_empty_parentheses = not_read bound _ refl refl
 
--- `(a a)`: nothing is read
+-- `(a b)`: nothing is read
 bound_two_words : NotDerived (rule bound)
-    (group Paren (at 0 1) (at 4 5) (leaf (ident (97 ∷ [])) (at 1 2) (leaf (ident (97 ∷ [])) (at 3 4) end)) end)
+    (group Paren (at 0 1) (at 4 5) (leaf (ident (97 ∷ [])) (at 1 2) (leaf (ident (98 ∷ [])) (at 3 4) end)) end)
 unfolding left is_end lookahead_at sees take_token take_lifetime take_mark take_group before rows_for rows run parse_rule
 bound_two_words = not_read bound _ refl refl
 
@@ -693,11 +693,11 @@ trait_maybe_for : DerivesAs trait_bound
 unfolding left is_end lookahead_at sees take_token take_lifetime take_mark take_group before rows_for rows run parse_rule
 trait_maybe_for = computed trait_bound _ _ _ refl refl
 
--- `a a` prints `a` and leaves `a`
+-- `a b` prints `a` and leaves `b`
 trait_leaves_word : DerivesAs trait_bound
-    (leaf (ident (97 ∷ [])) (at 0 1) (leaf (ident (97 ∷ [])) (at 2 3) end))
+    (leaf (ident (97 ∷ [])) (at 0 1) (leaf (ident (98 ∷ [])) (at 2 3) end))
     (leaf (ident (97 ∷ [])) call_site end)
-    (leaf (ident (97 ∷ [])) (at 2 3) end)
+    (leaf (ident (98 ∷ [])) (at 2 3) end)
 unfolding left is_end lookahead_at sees take_token take_lifetime take_mark take_group before rows_for rows run parse_rule
 trait_leaves_word = computed trait_bound _ _ _ refl refl
 
@@ -795,9 +795,9 @@ for_two_less : NotDerived (rule bound_lifetimes)
 unfolding left is_end lookahead_at sees take_token take_lifetime take_mark take_group before rows_for rows run parse_rule
 for_two_less = not_read bound_lifetimes _ refl refl
 
--- `<'a 'a>`: nothing is read
+-- `<'a 'b>`: nothing is read
 for_no_comma : NotDerived (rule bound_lifetimes)
-    (punct 60 true (at 0 1) (punct 39 true (at 1 2) (leaf (ident (97 ∷ [])) (at 2 3) (punct 39 true (at 4 5) (leaf (ident (97 ∷ [])) (at 5 6) (punct 62 false (at 6 7) end))))))
+    (punct 60 true (at 0 1) (punct 39 true (at 1 2) (leaf (ident (97 ∷ [])) (at 2 3) (punct 39 true (at 4 5) (leaf (ident (98 ∷ [])) (at 5 6) (punct 62 false (at 6 7) end))))))
 unfolding left is_end lookahead_at sees take_token take_lifetime take_mark take_group before rows_for rows run parse_rule
 for_no_comma = not_read bound_lifetimes _ refl refl
 
@@ -831,10 +831,10 @@ for_list_leaves_pound : DerivesAs lifetime_parameters
 unfolding left is_end lookahead_at sees take_token take_lifetime take_mark take_group before rows_for rows run parse_rule
 for_list_leaves_pound = computed lifetime_parameters _ _ _ refl refl
 
--- `'a, 'a` prints `'a , 'a`
+-- `'a, 'b` prints `'a , 'b`
 for_list_unclosed : DerivesAs lifetime_parameters
-    (punct 39 true (at 0 1) (leaf (ident (97 ∷ [])) (at 1 2) (punct 44 false (at 2 3) (punct 39 true (at 4 5) (leaf (ident (97 ∷ [])) (at 5 6) end)))))
-    (punct 39 true call_site (leaf (ident (97 ∷ [])) call_site (punct 44 false call_site (punct 39 true call_site (leaf (ident (97 ∷ [])) call_site end)))))
+    (punct 39 true (at 0 1) (leaf (ident (97 ∷ [])) (at 1 2) (punct 44 false (at 2 3) (punct 39 true (at 4 5) (leaf (ident (98 ∷ [])) (at 5 6) end)))))
+    (punct 39 true call_site (leaf (ident (97 ∷ [])) call_site (punct 44 false call_site (punct 39 true call_site (leaf (ident (98 ∷ [])) call_site end)))))
     (end)
 unfolding left is_end lookahead_at sees take_token take_lifetime take_mark take_group before rows_for rows run parse_rule
 for_list_unclosed = computed lifetime_parameters _ _ _ refl refl
@@ -847,15 +847,15 @@ for_list_semicolon : DerivesAs lifetime_parameters
 unfolding left is_end lookahead_at sees take_token take_lifetime take_mark take_group before rows_for rows run parse_rule
 for_list_semicolon = computed lifetime_parameters _ _ _ refl refl
 
--- `, 'a 'a`: nothing is read
+-- `, 'a 'b`: nothing is read
 for_list_comma_first : NotDerived (rule lifetime_parameters)
-    (punct 44 false (at 0 1) (punct 39 true (at 2 3) (leaf (ident (97 ∷ [])) (at 3 4) (punct 39 true (at 5 6) (leaf (ident (97 ∷ [])) (at 6 7) end)))))
+    (punct 44 false (at 0 1) (punct 39 true (at 2 3) (leaf (ident (97 ∷ [])) (at 3 4) (punct 39 true (at 5 6) (leaf (ident (98 ∷ [])) (at 6 7) end)))))
 unfolding left is_end lookahead_at sees take_token take_lifetime take_mark take_group before rows_for rows run parse_rule
 for_list_comma_first = not_read lifetime_parameters _ refl refl
 
--- `'a,, 'a`: nothing is read
+-- `'a,, 'b`: nothing is read
 for_list_two_commas : NotDerived (rule lifetime_parameters)
-    (punct 39 true (at 0 1) (leaf (ident (97 ∷ [])) (at 1 2) (punct 44 true (at 2 3) (punct 44 false (at 3 4) (punct 39 true (at 5 6) (leaf (ident (97 ∷ [])) (at 6 7) end))))))
+    (punct 39 true (at 0 1) (leaf (ident (97 ∷ [])) (at 1 2) (punct 44 true (at 2 3) (punct 44 false (at 3 4) (punct 39 true (at 5 6) (leaf (ident (98 ∷ [])) (at 6 7) end))))))
 unfolding left is_end lookahead_at sees take_token take_lifetime take_mark take_group before rows_for rows run parse_rule
 for_list_two_commas = not_read lifetime_parameters _ refl refl
 
@@ -959,11 +959,11 @@ predicates_colon : DerivesAs predicates
 unfolding left is_end lookahead_at sees take_token take_lifetime take_mark take_group before rows_for rows run parse_rule
 predicates_colon = computed predicates _ _ _ refl refl
 
--- `():, a: r a` prints `( ) : , a : r` and leaves `a`
+-- `():, a: b c` prints `( ) : , a : b` and leaves `c`
 predicates_leave_word : DerivesAs predicates
-    (group Paren (at 0 1) (at 1 2) end (punct 58 true (at 2 3) (punct 44 false (at 3 4) (leaf (ident (97 ∷ [])) (at 5 6) (punct 58 false (at 6 7) (leaf (ident (114 ∷ [])) (at 8 9) (leaf (ident (97 ∷ [])) (at 10 11) end)))))))
-    (group Paren call_site call_site end (punct 58 false call_site (punct 44 false call_site (leaf (ident (97 ∷ [])) call_site (punct 58 false call_site (leaf (ident (114 ∷ [])) call_site end))))))
-    (leaf (ident (97 ∷ [])) (at 10 11) end)
+    (group Paren (at 0 1) (at 1 2) end (punct 58 true (at 2 3) (punct 44 false (at 3 4) (leaf (ident (97 ∷ [])) (at 5 6) (punct 58 false (at 6 7) (leaf (ident (98 ∷ [])) (at 8 9) (leaf (ident (99 ∷ [])) (at 10 11) end)))))))
+    (group Paren call_site call_site end (punct 58 false call_site (punct 44 false call_site (leaf (ident (97 ∷ [])) call_site (punct 58 false call_site (leaf (ident (98 ∷ [])) call_site end))))))
+    (leaf (ident (99 ∷ [])) (at 10 11) end)
 unfolding left is_end lookahead_at sees take_token take_lifetime take_mark take_group before rows_for rows run parse_rule
 predicates_leave_word = computed predicates _ _ _ refl refl
 
@@ -1011,11 +1011,11 @@ predicates_slice : DerivesAs predicates
 unfolding left is_end lookahead_at sees take_token take_lifetime take_mark take_group before rows_for rows run parse_rule
 predicates_slice = computed predicates _ _ _ refl refl
 
--- `<!>::a:;` prints `< ! > :: a :` and leaves `;`
+-- `a: ; b:` prints `a :` and leaves `; b:`
 predicates_leave_semicolon : DerivesAs predicates
-    (punct 60 true (at 0 1) (punct 33 true (at 1 2) (punct 62 true (at 2 3) (punct 58 true (at 3 4) (punct 58 false (at 4 5) (leaf (ident (97 ∷ [])) (at 5 6) (punct 58 true (at 6 7) (punct 59 false (at 7 8) end))))))))
-    (punct 60 false call_site (punct 33 false call_site (punct 62 false call_site (punct 58 true call_site (punct 58 false call_site (leaf (ident (97 ∷ [])) call_site (punct 58 false call_site end)))))))
-    (punct 59 false (at 7 8) end)
+    (leaf (ident (97 ∷ [])) (at 0 1) (punct 58 false (at 1 2) (punct 59 false (at 3 4) (leaf (ident (98 ∷ [])) (at 5 6) (punct 58 false (at 6 7) end)))))
+    (leaf (ident (97 ∷ [])) call_site (punct 58 false call_site end))
+    (punct 59 false (at 3 4) (leaf (ident (98 ∷ [])) (at 5 6) (punct 58 false (at 6 7) end)))
 unfolding left is_end lookahead_at sees take_token take_lifetime take_mark take_group before rows_for rows run parse_rule
 predicates_leave_semicolon = computed predicates _ _ _ refl refl
 
@@ -1043,25 +1043,25 @@ predicate_type_colons : DerivesAs predicate
 unfolding left is_end lookahead_at sees take_token take_lifetime take_mark take_group before rows_for rows run parse_rule
 predicate_type_colons = computed predicate _ _ _ refl refl
 
--- `a: 'a()` prints `a : 'a` and leaves `()`
-predicate_leaves_parentheses : DerivesAs predicate
-    (leaf (ident (97 ∷ [])) (at 0 1) (punct 58 false (at 1 2) (punct 39 true (at 3 4) (leaf (ident (97 ∷ [])) (at 4 5) (group Paren (at 5 6) (at 6 7) end end)))))
-    (leaf (ident (97 ∷ [])) call_site (punct 58 false call_site (punct 39 true call_site (leaf (ident (97 ∷ [])) call_site end))))
-    (group Paren (at 5 6) (at 6 7) end end)
+-- `a: 'b c` prints `a : 'b` and leaves `c`
+predicate_bound_leaves_word : DerivesAs predicate
+    (leaf (ident (97 ∷ [])) (at 0 1) (punct 58 false (at 1 2) (punct 39 true (at 3 4) (leaf (ident (98 ∷ [])) (at 4 5) (leaf (ident (99 ∷ [])) (at 6 7) end)))))
+    (leaf (ident (97 ∷ [])) call_site (punct 58 false call_site (punct 39 true call_site (leaf (ident (98 ∷ [])) call_site end))))
+    (leaf (ident (99 ∷ [])) (at 6 7) end)
 unfolding left is_end lookahead_at sees take_token take_lifetime take_mark take_group before rows_for rows run parse_rule
-predicate_leaves_parentheses = computed predicate _ _ _ refl refl
+predicate_bound_leaves_word = computed predicate _ _ _ refl refl
 
--- `'a 'a:`: nothing is read
+-- `'a 'b:`: nothing is read
 predicate_two_lifetimes : NotDerived (rule predicate)
-    (punct 39 true (at 0 1) (leaf (ident (97 ∷ [])) (at 1 2) (punct 39 true (at 3 4) (leaf (ident (97 ∷ [])) (at 4 5) (punct 58 false (at 5 6) end)))))
+    (punct 39 true (at 0 1) (leaf (ident (97 ∷ [])) (at 1 2) (punct 39 true (at 3 4) (leaf (ident (98 ∷ [])) (at 4 5) (punct 58 false (at 5 6) end)))))
 unfolding left is_end lookahead_at sees take_token take_lifetime take_mark take_group before rows_for rows run parse_rule
 predicate_two_lifetimes = not_read predicate _ refl refl
 
--- `:`: nothing is read
-predicate_nothing_before_colon : NotDerived (rule predicate)
-    (punct 58 false (at 0 1) end)
+-- `: a`: nothing is read
+predicate_no_type : NotDerived (rule predicate)
+    (punct 58 false (at 0 1) (leaf (ident (97 ∷ [])) (at 2 3) end))
 unfolding left is_end lookahead_at sees take_token take_lifetime take_mark take_group before rows_for rows run parse_rule
-predicate_nothing_before_colon = not_read predicate _ refl refl
+predicate_no_type = not_read predicate _ refl refl
 
 -- `a =`: nothing is read
 predicate_no_colon : NotDerived (rule predicate)
@@ -1069,31 +1069,31 @@ predicate_no_colon : NotDerived (rule predicate)
 unfolding left is_end lookahead_at sees take_token take_lifetime take_mark take_group before rows_for rows run parse_rule
 predicate_no_colon = not_read predicate _ refl refl
 
--- `'b: 'b 'a` prints `'b : 'b` and leaves `'a`
+-- `'a: 'b 'c` prints `'a : 'b` and leaves `'c`
 predicate_bound_leaves_lifetime : DerivesAs predicate
-    (punct 39 true (at 0 1) (leaf (ident (98 ∷ [])) (at 1 2) (punct 58 false (at 2 3) (punct 39 true (at 4 5) (leaf (ident (98 ∷ [])) (at 5 6) (punct 39 true (at 7 8) (leaf (ident (97 ∷ [])) (at 8 9) end)))))))
-    (punct 39 true call_site (leaf (ident (98 ∷ [])) call_site (punct 58 false call_site (punct 39 true call_site (leaf (ident (98 ∷ [])) call_site end)))))
-    (punct 39 true (at 7 8) (leaf (ident (97 ∷ [])) (at 8 9) end))
+    (punct 39 true (at 0 1) (leaf (ident (97 ∷ [])) (at 1 2) (punct 58 false (at 2 3) (punct 39 true (at 4 5) (leaf (ident (98 ∷ [])) (at 5 6) (punct 39 true (at 7 8) (leaf (ident (99 ∷ [])) (at 8 9) end)))))))
+    (punct 39 true call_site (leaf (ident (97 ∷ [])) call_site (punct 58 false call_site (punct 39 true call_site (leaf (ident (98 ∷ [])) call_site end)))))
+    (punct 39 true (at 7 8) (leaf (ident (99 ∷ [])) (at 8 9) end))
 unfolding left is_end lookahead_at sees take_token take_lifetime take_mark take_group before rows_for rows run parse_rule
 predicate_bound_leaves_lifetime = computed predicate _ _ _ refl refl
 
--- `(): a for` prints `( ) : a` and leaves `for`
+-- `a: b for` prints `a : b` and leaves `for`
 predicate_leaves_for : DerivesAs predicate
-    (group Paren (at 0 1) (at 1 2) end (punct 58 false (at 2 3) (leaf (ident (97 ∷ [])) (at 4 5) (leaf (ident w_for) (at 6 9) end))))
-    (group Paren call_site call_site end (punct 58 false call_site (leaf (ident (97 ∷ [])) call_site end)))
-    (leaf (ident w_for) (at 6 9) end)
+    (leaf (ident (97 ∷ [])) (at 0 1) (punct 58 false (at 1 2) (leaf (ident (98 ∷ [])) (at 3 4) (leaf (ident w_for) (at 5 8) end))))
+    (leaf (ident (97 ∷ [])) call_site (punct 58 false call_site (leaf (ident (98 ∷ [])) call_site end)))
+    (leaf (ident w_for) (at 5 8) end)
 unfolding left is_end lookahead_at sees take_token take_lifetime take_mark take_group before rows_for rows run parse_rule
 predicate_leaves_for = computed predicate _ _ _ refl refl
 
--- `: <()>::a:`: nothing is read
+-- `: a:`: nothing is read
 predicate_colon_first : NotDerived (rule predicate)
-    (punct 58 false (at 0 1) (punct 60 false (at 2 3) (group Paren (at 3 4) (at 4 5) end (punct 62 true (at 5 6) (punct 58 true (at 6 7) (punct 58 false (at 7 8) (leaf (ident (97 ∷ [])) (at 8 9) (punct 58 false (at 9 10) end))))))))
+    (punct 58 false (at 0 1) (leaf (ident (97 ∷ [])) (at 2 3) (punct 58 false (at 3 4) end)))
 unfolding left is_end lookahead_at sees take_token take_lifetime take_mark take_group before rows_for rows run parse_rule
 predicate_colon_first = not_read predicate _ refl refl
 
--- `for ():`: nothing is read
+-- `for a:`: nothing is read
 predicate_for_without_list : NotDerived (rule predicate)
-    (leaf (ident w_for) (at 0 3) (group Paren (at 4 5) (at 5 6) end (punct 58 false (at 6 7) end)))
+    (leaf (ident w_for) (at 0 3) (leaf (ident (97 ∷ [])) (at 4 5) (punct 58 false (at 5 6) end)))
 unfolding left is_end lookahead_at sees take_token take_lifetime take_mark take_group before rows_for rows run parse_rule
 predicate_for_without_list = not_read predicate _ refl refl
 
@@ -1103,9 +1103,9 @@ predicate_for_behind_colon : NotDerived (rule predicate)
 unfolding left is_end lookahead_at sees take_token take_lifetime take_mark take_group before rows_for rows run parse_rule
 predicate_for_behind_colon = not_read predicate _ refl refl
 
--- `!for<>:`: nothing is read
+-- `a for<>:`: nothing is read
 predicate_for_behind_type : NotDerived (rule predicate)
-    (punct 33 false (at 0 1) (leaf (ident w_for) (at 1 4) (punct 60 true (at 4 5) (punct 62 true (at 5 6) (punct 58 false (at 6 7) end)))))
+    (leaf (ident (97 ∷ [])) (at 0 1) (leaf (ident w_for) (at 2 5) (punct 60 true (at 5 6) (punct 62 true (at 6 7) (punct 58 false (at 7 8) end)))))
 unfolding left is_end lookahead_at sees take_token take_lifetime take_mark take_group before rows_for rows run parse_rule
 predicate_for_behind_type = not_read predicate _ refl refl
 
@@ -1121,15 +1121,15 @@ predicate_for_behind_list : NotDerived (rule predicate)
 unfolding left is_end lookahead_at sees take_token take_lifetime take_mark take_group before rows_for rows run parse_rule
 predicate_for_behind_list = not_read predicate _ refl refl
 
--- `for for<> !:`: nothing is read
+-- `for for<> a:`: nothing is read
 predicate_for_for : NotDerived (rule predicate)
-    (leaf (ident w_for) (at 0 3) (leaf (ident w_for) (at 4 7) (punct 60 true (at 7 8) (punct 62 false (at 8 9) (punct 33 true (at 10 11) (punct 58 false (at 11 12) end))))))
+    (leaf (ident w_for) (at 0 3) (leaf (ident w_for) (at 4 7) (punct 60 true (at 7 8) (punct 62 false (at 8 9) (leaf (ident (97 ∷ [])) (at 10 11) (punct 58 false (at 11 12) end))))))
 unfolding left is_end lookahead_at sees take_token take_lifetime take_mark take_group before rows_for rows run parse_rule
 predicate_for_for = not_read predicate _ refl refl
 
--- `for<>(), ():`: nothing is read
+-- `a, b:`: nothing is read
 predicate_two_types : NotDerived (rule predicate)
-    (leaf (ident w_for) (at 0 3) (punct 60 true (at 3 4) (punct 62 false (at 4 5) (group Paren (at 5 6) (at 6 7) end (punct 44 false (at 7 8) (group Paren (at 9 10) (at 10 11) end (punct 58 false (at 11 12) end)))))))
+    (leaf (ident (97 ∷ [])) (at 0 1) (punct 44 false (at 1 2) (leaf (ident (98 ∷ [])) (at 3 4) (punct 58 false (at 4 5) end))))
 unfolding left is_end lookahead_at sees take_token take_lifetime take_mark take_group before rows_for rows run parse_rule
 predicate_two_types = not_read predicate _ refl refl
 
@@ -1163,11 +1163,11 @@ predicate_bounds_colon : DerivesAs predicate_bounds
 unfolding left is_end lookahead_at sees take_token take_lifetime take_mark take_group before rows_for rows run parse_rule
 predicate_bounds_colon = computed predicate_bounds _ _ _ refl refl
 
--- `a + a a` prints `a + a` and leaves `a`
+-- `a + b c` prints `a + b` and leaves `c`
 predicate_bounds_leave_word : DerivesAs predicate_bounds
-    (leaf (ident (97 ∷ [])) (at 0 1) (punct 43 false (at 2 3) (leaf (ident (97 ∷ [])) (at 4 5) (leaf (ident (97 ∷ [])) (at 6 7) end))))
-    (leaf (ident (97 ∷ [])) call_site (punct 43 false call_site (leaf (ident (97 ∷ [])) call_site end)))
-    (leaf (ident (97 ∷ [])) (at 6 7) end)
+    (leaf (ident (97 ∷ [])) (at 0 1) (punct 43 false (at 2 3) (leaf (ident (98 ∷ [])) (at 4 5) (leaf (ident (99 ∷ [])) (at 6 7) end))))
+    (leaf (ident (97 ∷ [])) call_site (punct 43 false call_site (leaf (ident (98 ∷ [])) call_site end)))
+    (leaf (ident (99 ∷ [])) (at 6 7) end)
 unfolding left is_end lookahead_at sees take_token take_lifetime take_mark take_group before rows_for rows run parse_rule
 predicate_bounds_leave_word = computed predicate_bounds _ _ _ refl refl
 
@@ -1237,8 +1237,8 @@ predicate_bounds_colons : NotDerived (rule predicate_bounds)
 unfolding left is_end lookahead_at sees take_token take_lifetime take_mark take_group before rows_for rows run parse_rule
 predicate_bounds_colons = not_read predicate_bounds _ refl refl
 
--- `+ a a`: nothing is read
+-- `+ a b`: nothing is read
 predicate_bounds_plus_first : NotDerived (rule predicate_bounds)
-    (punct 43 false (at 0 1) (leaf (ident (97 ∷ [])) (at 2 3) (leaf (ident (97 ∷ [])) (at 4 5) end)))
+    (punct 43 false (at 0 1) (leaf (ident (97 ∷ [])) (at 2 3) (leaf (ident (98 ∷ [])) (at 4 5) end)))
 unfolding left is_end lookahead_at sees take_token take_lifetime take_mark take_group before rows_for rows run parse_rule
 predicate_bounds_plus_first = not_read predicate_bounds _ refl refl

@@ -131,9 +131,9 @@ struct_rest_leaves_semicolon : DerivesAs structure_rest
 unfolding left is_end lookahead_at sees take_token take_lifetime take_mark take_group before rows_for rows run parse_rule
 struct_rest_leaves_semicolon = computed structure_rest _ _ _ refl refl
 
--- `struct a a;`: nothing is read
+-- `struct a b;`: nothing is read
 struct_rest_two_names : NotDerived (rule structure_rest)
-    (leaf (ident w_struct) (at 0 6) (leaf (ident (97 ∷ [])) (at 7 8) (leaf (ident (97 ∷ [])) (at 9 10) (punct 59 false (at 10 11) end))))
+    (leaf (ident w_struct) (at 0 6) (leaf (ident (97 ∷ [])) (at 7 8) (leaf (ident (98 ∷ [])) (at 9 10) (punct 59 false (at 10 11) end))))
 unfolding left is_end lookahead_at sees take_token take_lifetime take_mark take_group before rows_for rows run parse_rule
 struct_rest_two_names = not_read structure_rest _ refl refl
 
@@ -155,9 +155,9 @@ struct_rest_body_before_name : NotDerived (rule structure_rest)
 unfolding left is_end lookahead_at sees take_token take_lifetime take_mark take_group before rows_for rows run parse_rule
 struct_rest_body_before_name = not_read structure_rest _ refl refl
 
--- `a struct a;`: nothing is read
+-- `a struct b;`: nothing is read
 struct_rest_name_first : NotDerived (rule structure_rest)
-    (leaf (ident (97 ∷ [])) (at 0 1) (leaf (ident w_struct) (at 2 8) (leaf (ident (97 ∷ [])) (at 9 10) (punct 59 false (at 10 11) end))))
+    (leaf (ident (97 ∷ [])) (at 0 1) (leaf (ident w_struct) (at 2 8) (leaf (ident (98 ∷ [])) (at 9 10) (punct 59 false (at 10 11) end))))
 unfolding left is_end lookahead_at sees take_token take_lifetime take_mark take_group before rows_for rows run parse_rule
 struct_rest_name_first = not_read structure_rest _ refl refl
 
@@ -167,9 +167,9 @@ struct_rest_body_first : NotDerived (rule structure_rest)
 unfolding left is_end lookahead_at sees take_token take_lifetime take_mark take_group before rows_for rows run parse_rule
 struct_rest_body_first = not_read structure_rest _ refl refl
 
--- `a a;`: nothing is read
+-- `a b;`: nothing is read
 struct_rest_other_word : NotDerived (rule structure_rest)
-    (leaf (ident (97 ∷ [])) (at 0 1) (leaf (ident (97 ∷ [])) (at 2 3) (punct 59 false (at 3 4) end)))
+    (leaf (ident (97 ∷ [])) (at 0 1) (leaf (ident (98 ∷ [])) (at 2 3) (punct 59 false (at 3 4) end)))
 unfolding left is_end lookahead_at sees take_token take_lifetime take_mark take_group before rows_for rows run parse_rule
 struct_rest_other_word = not_read structure_rest _ refl refl
 
@@ -197,11 +197,11 @@ struct_rest_keyword : NotDerived (rule structure_rest)
 unfolding left is_end lookahead_at sees take_token take_lifetime take_mark take_group before rows_for rows run parse_rule
 struct_rest_keyword = not_read structure_rest _ refl refl
 
--- `struct a; a` prints `struct a ;` and leaves `a`
+-- `struct a; b` prints `struct a ;` and leaves `b`
 struct_rest_leaves_name : DerivesAs structure_rest
-    (leaf (ident w_struct) (at 0 6) (leaf (ident (97 ∷ [])) (at 7 8) (punct 59 false (at 8 9) (leaf (ident (97 ∷ [])) (at 10 11) end))))
+    (leaf (ident w_struct) (at 0 6) (leaf (ident (97 ∷ [])) (at 7 8) (punct 59 false (at 8 9) (leaf (ident (98 ∷ [])) (at 10 11) end))))
     (leaf (ident w_struct) call_site (leaf (ident (97 ∷ [])) call_site (punct 59 false call_site end)))
-    (leaf (ident (97 ∷ [])) (at 10 11) end)
+    (leaf (ident (98 ∷ [])) (at 10 11) end)
 unfolding left is_end lookahead_at sees take_token take_lifetime take_mark take_group before rows_for rows run parse_rule
 struct_rest_leaves_name = computed structure_rest _ _ _ refl refl
 
@@ -213,9 +213,9 @@ struct_rest_leaves_less : DerivesAs structure_rest
 unfolding left is_end lookahead_at sees take_token take_lifetime take_mark take_group before rows_for rows run parse_rule
 struct_rest_leaves_less = computed structure_rest _ _ _ refl refl
 
--- `struct 0 {}`: nothing is read
+-- `struct 1;`: nothing is read
 struct_rest_number : NotDerived (rule structure_rest)
-    (leaf (ident w_struct) (at 0 6) (leaf (literal Int (48 ∷ [])) (at 7 8) (group Brace (at 9 10) (at 10 11) end end)))
+    (leaf (ident w_struct) (at 0 6) (leaf (literal Int (49 ∷ [])) (at 7 8) (punct 59 false (at 8 9) end)))
 unfolding left is_end lookahead_at sees take_token take_lifetime take_mark take_group before rows_for rows run parse_rule
 struct_rest_number = not_read structure_rest _ refl refl
 
@@ -225,9 +225,9 @@ struct_rest_generics_before_name : NotDerived (rule structure_rest)
 unfolding left is_end lookahead_at sees take_token take_lifetime take_mark take_group before rows_for rows run parse_rule
 struct_rest_generics_before_name = not_read structure_rest _ refl refl
 
--- `struct pub a {}`: nothing is read
+-- `struct pub a;`: nothing is read
 struct_rest_public_name : NotDerived (rule structure_rest)
-    (leaf (ident w_struct) (at 0 6) (leaf (ident w_pub) (at 7 10) (leaf (ident (97 ∷ [])) (at 11 12) (group Brace (at 13 14) (at 14 15) end end))))
+    (leaf (ident w_struct) (at 0 6) (leaf (ident w_pub) (at 7 10) (leaf (ident (97 ∷ [])) (at 11 12) (punct 59 false (at 12 13) end))))
 unfolding left is_end lookahead_at sees take_token take_lifetime take_mark take_group before rows_for rows run parse_rule
 struct_rest_public_name = not_read structure_rest _ refl refl
 
@@ -237,11 +237,11 @@ struct_rest_generics_twice : NotDerived (rule structure_rest)
 unfolding left is_end lookahead_at sees take_token take_lifetime take_mark take_group before rows_for rows run parse_rule
 struct_rest_generics_twice = not_read structure_rest _ refl refl
 
--- `struct a {} pub` prints `struct a { }` and leaves `pub`
+-- `struct a; pub` prints `struct a ;` and leaves `pub`
 struct_rest_leaves_public : DerivesAs structure_rest
-    (leaf (ident w_struct) (at 0 6) (leaf (ident (97 ∷ [])) (at 7 8) (group Brace (at 9 10) (at 10 11) end (leaf (ident w_pub) (at 12 15) end))))
-    (leaf (ident w_struct) call_site (leaf (ident (97 ∷ [])) call_site (group Brace call_site call_site end end)))
-    (leaf (ident w_pub) (at 12 15) end)
+    (leaf (ident w_struct) (at 0 6) (leaf (ident (97 ∷ [])) (at 7 8) (punct 59 false (at 8 9) (leaf (ident w_pub) (at 10 13) end))))
+    (leaf (ident w_struct) call_site (leaf (ident (97 ∷ [])) call_site (punct 59 false call_site end)))
+    (leaf (ident w_pub) (at 10 13) end)
 unfolding left is_end lookahead_at sees take_token take_lifetime take_mark take_group before rows_for rows run parse_rule
 struct_rest_leaves_public = computed structure_rest _ _ _ refl refl
 
@@ -417,10 +417,10 @@ body_unit_leaves_where : DerivesAs structure_body
 unfolding left is_end lookahead_at sees take_token take_lifetime take_mark take_group before rows_for rows run parse_rule
 body_unit_leaves_where = computed structure_body _ _ _ refl refl
 
--- `(#[a] ());` prints `( # [ a ] ( ) ) ;`
+-- `(#[a] b);` prints `( # [ a ] b ) ;`
 body_tuple_attribute : DerivesAs structure_body
-    (group Paren (at 0 1) (at 8 9) (punct 35 false (at 1 2) (group Bracket (at 2 3) (at 4 5) (leaf (ident (97 ∷ [])) (at 3 4) end) (group Paren (at 6 7) (at 7 8) end end))) (punct 59 false (at 9 10) end))
-    (group Paren call_site call_site (punct 35 false call_site (group Bracket call_site call_site (leaf (ident (97 ∷ [])) call_site end) (group Paren call_site call_site end end))) (punct 59 false call_site end))
+    (group Paren (at 0 1) (at 7 8) (punct 35 false (at 1 2) (group Bracket (at 2 3) (at 4 5) (leaf (ident (97 ∷ [])) (at 3 4) end) (leaf (ident (98 ∷ [])) (at 6 7) end))) (punct 59 false (at 8 9) end))
+    (group Paren call_site call_site (punct 35 false call_site (group Bracket call_site call_site (leaf (ident (97 ∷ [])) call_site end) (leaf (ident (98 ∷ [])) call_site end))) (punct 59 false call_site end))
     (end)
 unfolding left is_end lookahead_at sees take_token take_lifetime take_mark take_group before rows_for rows run parse_rule
 body_tuple_attribute = computed structure_body _ _ _ refl refl
@@ -439,9 +439,9 @@ body_where_inside_where : NotDerived (rule structure_body)
 unfolding left is_end lookahead_at sees take_token take_lifetime take_mark take_group before rows_for rows run parse_rule
 body_where_inside_where = not_read structure_body _ refl refl
 
--- `where a: b where a: b;`: nothing is read
+-- `where a: b where c: d;`: nothing is read
 body_two_where : NotDerived (rule structure_body)
-    (leaf (ident w_where) (at 0 5) (leaf (ident (97 ∷ [])) (at 6 7) (punct 58 false (at 7 8) (leaf (ident (98 ∷ [])) (at 9 10) (leaf (ident w_where) (at 11 16) (leaf (ident (97 ∷ [])) (at 17 18) (punct 58 false (at 18 19) (leaf (ident (98 ∷ [])) (at 20 21) (punct 59 false (at 21 22) end)))))))))
+    (leaf (ident w_where) (at 0 5) (leaf (ident (97 ∷ [])) (at 6 7) (punct 58 false (at 7 8) (leaf (ident (98 ∷ [])) (at 9 10) (leaf (ident w_where) (at 11 16) (leaf (ident (99 ∷ [])) (at 17 18) (punct 58 false (at 18 19) (leaf (ident (100 ∷ [])) (at 20 21) (punct 59 false (at 21 22) end)))))))))
 unfolding left is_end lookahead_at sees take_token take_lifetime take_mark take_group before rows_for rows run parse_rule
 body_two_where = not_read structure_body _ refl refl
 
@@ -505,23 +505,23 @@ enum_rest_generic : DerivesAs enumeration_rest
 unfolding left is_end lookahead_at sees take_token take_lifetime take_mark take_group before rows_for rows run parse_rule
 enum_rest_generic = computed enumeration_rest _ _ _ refl refl
 
--- `enum a {} a` prints `enum a { }` and leaves `a`
+-- `enum a {} b` prints `enum a { }` and leaves `b`
 enum_rest_leaves_name : DerivesAs enumeration_rest
-    (leaf (ident w_enum) (at 0 4) (leaf (ident (97 ∷ [])) (at 5 6) (group Brace (at 7 8) (at 8 9) end (leaf (ident (97 ∷ [])) (at 10 11) end))))
+    (leaf (ident w_enum) (at 0 4) (leaf (ident (97 ∷ [])) (at 5 6) (group Brace (at 7 8) (at 8 9) end (leaf (ident (98 ∷ [])) (at 10 11) end))))
     (leaf (ident w_enum) call_site (leaf (ident (97 ∷ [])) call_site (group Brace call_site call_site end end)))
-    (leaf (ident (97 ∷ [])) (at 10 11) end)
+    (leaf (ident (98 ∷ [])) (at 10 11) end)
 unfolding left is_end lookahead_at sees take_token take_lifetime take_mark take_group before rows_for rows run parse_rule
 enum_rest_leaves_name = computed enumeration_rest _ _ _ refl refl
 
--- `enum a a {}`: nothing is read
+-- `enum a b {}`: nothing is read
 enum_rest_two_names : NotDerived (rule enumeration_rest)
-    (leaf (ident w_enum) (at 0 4) (leaf (ident (97 ∷ [])) (at 5 6) (leaf (ident (97 ∷ [])) (at 7 8) (group Brace (at 9 10) (at 10 11) end end))))
+    (leaf (ident w_enum) (at 0 4) (leaf (ident (97 ∷ [])) (at 5 6) (leaf (ident (98 ∷ [])) (at 7 8) (group Brace (at 9 10) (at 10 11) end end))))
 unfolding left is_end lookahead_at sees take_token take_lifetime take_mark take_group before rows_for rows run parse_rule
 enum_rest_two_names = not_read enumeration_rest _ refl refl
 
--- `enum a { a a }`: nothing is read
+-- `enum a { b c }`: nothing is read
 enum_rest_no_comma : NotDerived (rule enumeration_rest)
-    (leaf (ident w_enum) (at 0 4) (leaf (ident (97 ∷ [])) (at 5 6) (group Brace (at 7 8) (at 13 14) (leaf (ident (97 ∷ [])) (at 9 10) (leaf (ident (97 ∷ [])) (at 11 12) end)) end)))
+    (leaf (ident w_enum) (at 0 4) (leaf (ident (97 ∷ [])) (at 5 6) (group Brace (at 7 8) (at 13 14) (leaf (ident (98 ∷ [])) (at 9 10) (leaf (ident (99 ∷ [])) (at 11 12) end)) end)))
 unfolding left is_end lookahead_at sees take_token take_lifetime take_mark take_group before rows_for rows run parse_rule
 enum_rest_no_comma = not_read enumeration_rest _ refl refl
 
@@ -543,9 +543,9 @@ enum_rest_underscore : NotDerived (rule enumeration_rest)
 unfolding left is_end lookahead_at sees take_token take_lifetime take_mark take_group before rows_for rows run parse_rule
 enum_rest_underscore = not_read enumeration_rest _ refl refl
 
--- `a enum a {}`: nothing is read
+-- `a enum b {}`: nothing is read
 enum_rest_name_first : NotDerived (rule enumeration_rest)
-    (leaf (ident (97 ∷ [])) (at 0 1) (leaf (ident w_enum) (at 2 6) (leaf (ident (97 ∷ [])) (at 7 8) (group Brace (at 9 10) (at 10 11) end end))))
+    (leaf (ident (97 ∷ [])) (at 0 1) (leaf (ident w_enum) (at 2 6) (leaf (ident (98 ∷ [])) (at 7 8) (group Brace (at 9 10) (at 10 11) end end))))
 unfolding left is_end lookahead_at sees take_token take_lifetime take_mark take_group before rows_for rows run parse_rule
 enum_rest_name_first = not_read enumeration_rest _ refl refl
 
@@ -587,15 +587,15 @@ enum_rest_public : DerivesAs enumeration_rest
 unfolding left is_end lookahead_at sees take_token take_lifetime take_mark take_group before rows_for rows run parse_rule
 enum_rest_public = computed enumeration_rest _ _ _ refl refl
 
--- `a a {}`: nothing is read
+-- `a b {}`: nothing is read
 enum_rest_other_word : NotDerived (rule enumeration_rest)
-    (leaf (ident (97 ∷ [])) (at 0 1) (leaf (ident (97 ∷ [])) (at 2 3) (group Brace (at 4 5) (at 5 6) end end)))
+    (leaf (ident (97 ∷ [])) (at 0 1) (leaf (ident (98 ∷ [])) (at 2 3) (group Brace (at 4 5) (at 5 6) end end)))
 unfolding left is_end lookahead_at sees take_token take_lifetime take_mark take_group before rows_for rows run parse_rule
 enum_rest_other_word = not_read enumeration_rest _ refl refl
 
--- `where 'a: enum a {}`: nothing is read
+-- `where 'a: enum b {}`: nothing is read
 enum_rest_where_first : NotDerived (rule enumeration_rest)
-    (leaf (ident w_where) (at 0 5) (punct 39 true (at 6 7) (leaf (ident (97 ∷ [])) (at 7 8) (punct 58 false (at 8 9) (leaf (ident w_enum) (at 10 14) (leaf (ident (97 ∷ [])) (at 15 16) (group Brace (at 17 18) (at 18 19) end end)))))))
+    (leaf (ident w_where) (at 0 5) (punct 39 true (at 6 7) (leaf (ident (97 ∷ [])) (at 7 8) (punct 58 false (at 8 9) (leaf (ident w_enum) (at 10 14) (leaf (ident (98 ∷ [])) (at 15 16) (group Brace (at 17 18) (at 18 19) end end)))))))
 unfolding left is_end lookahead_at sees take_token take_lifetime take_mark take_group before rows_for rows run parse_rule
 enum_rest_where_first = not_read enumeration_rest _ refl refl
 
@@ -625,9 +625,9 @@ enum_rest_leaves_less : DerivesAs enumeration_rest
 unfolding left is_end lookahead_at sees take_token take_lifetime take_mark take_group before rows_for rows run parse_rule
 enum_rest_leaves_less = computed enumeration_rest _ _ _ refl refl
 
--- `enum a where 'a: where {}`: nothing is read
+-- `enum a where 'b: where {}`: nothing is read
 enum_rest_where_twice : NotDerived (rule enumeration_rest)
-    (leaf (ident w_enum) (at 0 4) (leaf (ident (97 ∷ [])) (at 5 6) (leaf (ident w_where) (at 7 12) (punct 39 true (at 13 14) (leaf (ident (97 ∷ [])) (at 14 15) (punct 58 false (at 15 16) (leaf (ident w_where) (at 17 22) (group Brace (at 23 24) (at 24 25) end end))))))))
+    (leaf (ident w_enum) (at 0 4) (leaf (ident (97 ∷ [])) (at 5 6) (leaf (ident w_where) (at 7 12) (punct 39 true (at 13 14) (leaf (ident (98 ∷ [])) (at 14 15) (punct 58 false (at 15 16) (leaf (ident w_where) (at 17 22) (group Brace (at 23 24) (at 24 25) end end))))))))
 unfolding left is_end lookahead_at sees take_token take_lifetime take_mark take_group before rows_for rows run parse_rule
 enum_rest_where_twice = not_read enumeration_rest _ refl refl
 
@@ -755,9 +755,9 @@ enum_rest_default : DerivesAs enumeration_rest
 unfolding left is_end lookahead_at sees take_token take_lifetime take_mark take_group before rows_for rows run parse_rule
 enum_rest_default = computed enumeration_rest _ _ _ refl refl
 
--- `enum where 'a: a {}`: nothing is read
+-- `enum where 'a: b {}`: nothing is read
 enum_rest_where_before_name : NotDerived (rule enumeration_rest)
-    (leaf (ident w_enum) (at 0 4) (leaf (ident w_where) (at 5 10) (punct 39 true (at 11 12) (leaf (ident (97 ∷ [])) (at 12 13) (punct 58 false (at 13 14) (leaf (ident (97 ∷ [])) (at 15 16) (group Brace (at 17 18) (at 18 19) end end)))))))
+    (leaf (ident w_enum) (at 0 4) (leaf (ident w_where) (at 5 10) (punct 39 true (at 11 12) (leaf (ident (97 ∷ [])) (at 12 13) (punct 58 false (at 13 14) (leaf (ident (98 ∷ [])) (at 15 16) (group Brace (at 17 18) (at 18 19) end end)))))))
 unfolding left is_end lookahead_at sees take_token take_lifetime take_mark take_group before rows_for rows run parse_rule
 enum_rest_where_before_name = not_read enumeration_rest _ refl refl
 
@@ -871,9 +871,9 @@ union_rest_generics_first : NotDerived (rule union_item_rest)
 unfolding left is_end lookahead_at sees take_token take_lifetime take_mark take_group before rows_for rows run parse_rule
 union_rest_generics_first = not_read union_item_rest _ refl refl
 
--- `a a {}`: nothing is read
+-- `a b {}`: nothing is read
 union_rest_other_word : NotDerived (rule union_item_rest)
-    (leaf (ident (97 ∷ [])) (at 0 1) (leaf (ident (97 ∷ [])) (at 2 3) (group Brace (at 4 5) (at 5 6) end end)))
+    (leaf (ident (97 ∷ [])) (at 0 1) (leaf (ident (98 ∷ [])) (at 2 3) (group Brace (at 4 5) (at 5 6) end end)))
 unfolding left is_end lookahead_at sees take_token take_lifetime take_mark take_group before rows_for rows run parse_rule
 union_rest_other_word = not_read union_item_rest _ refl refl
 
@@ -891,15 +891,15 @@ union_rest_leaves_union : DerivesAs union_item_rest
 unfolding left is_end lookahead_at sees take_token take_lifetime take_mark take_group before rows_for rows run parse_rule
 union_rest_leaves_union = computed union_item_rest _ _ _ refl refl
 
--- `where 'a: union a {}`: nothing is read
+-- `where 'a: union b {}`: nothing is read
 union_rest_where_first : NotDerived (rule union_item_rest)
-    (leaf (ident w_where) (at 0 5) (punct 39 true (at 6 7) (leaf (ident (97 ∷ [])) (at 7 8) (punct 58 false (at 8 9) (leaf (ident w_union) (at 10 15) (leaf (ident (97 ∷ [])) (at 16 17) (group Brace (at 18 19) (at 19 20) end end)))))))
+    (leaf (ident w_where) (at 0 5) (punct 39 true (at 6 7) (leaf (ident (97 ∷ [])) (at 7 8) (punct 58 false (at 8 9) (leaf (ident w_union) (at 10 15) (leaf (ident (98 ∷ [])) (at 16 17) (group Brace (at 18 19) (at 19 20) end end)))))))
 unfolding left is_end lookahead_at sees take_token take_lifetime take_mark take_group before rows_for rows run parse_rule
 union_rest_where_first = not_read union_item_rest _ refl refl
 
--- `union a where 'a: where {}`: nothing is read
+-- `union a where 'b: where {}`: nothing is read
 union_rest_where_twice : NotDerived (rule union_item_rest)
-    (leaf (ident w_union) (at 0 5) (leaf (ident (97 ∷ [])) (at 6 7) (leaf (ident w_where) (at 8 13) (punct 39 true (at 14 15) (leaf (ident (97 ∷ [])) (at 15 16) (punct 58 false (at 16 17) (leaf (ident w_where) (at 18 23) (group Brace (at 24 25) (at 25 26) end end))))))))
+    (leaf (ident w_union) (at 0 5) (leaf (ident (97 ∷ [])) (at 6 7) (leaf (ident w_where) (at 8 13) (punct 39 true (at 14 15) (leaf (ident (98 ∷ [])) (at 15 16) (punct 58 false (at 16 17) (leaf (ident w_where) (at 18 23) (group Brace (at 24 25) (at 25 26) end end))))))))
 unfolding left is_end lookahead_at sees take_token take_lifetime take_mark take_group before rows_for rows run parse_rule
 union_rest_where_twice = not_read union_item_rest _ refl refl
 
@@ -1013,9 +1013,9 @@ union_rest_two_public : NotDerived (rule union_item_rest)
 unfolding left is_end lookahead_at sees take_token take_lifetime take_mark take_group before rows_for rows run parse_rule
 union_rest_two_public = not_read union_item_rest _ refl refl
 
--- `union where 'a: a {}`: nothing is read
+-- `union where 'a: b {}`: nothing is read
 union_rest_where_before_name : NotDerived (rule union_item_rest)
-    (leaf (ident w_union) (at 0 5) (leaf (ident w_where) (at 6 11) (punct 39 true (at 12 13) (leaf (ident (97 ∷ [])) (at 13 14) (punct 58 false (at 14 15) (leaf (ident (97 ∷ [])) (at 16 17) (group Brace (at 18 19) (at 19 20) end end)))))))
+    (leaf (ident w_union) (at 0 5) (leaf (ident w_where) (at 6 11) (punct 39 true (at 12 13) (leaf (ident (97 ∷ [])) (at 13 14) (punct 58 false (at 14 15) (leaf (ident (98 ∷ [])) (at 16 17) (group Brace (at 18 19) (at 19 20) end end)))))))
 unfolding left is_end lookahead_at sees take_token take_lifetime take_mark take_group before rows_for rows run parse_rule
 union_rest_where_before_name = not_read union_item_rest _ refl refl
 

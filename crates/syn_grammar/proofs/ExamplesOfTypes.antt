@@ -1,7 +1,7 @@
 -- Written by tools/grammar.py from specs/Table.antt; edits are lost.
 -- Worked examples of types, their paths and expressions, from tools/examples.txt: what each rule reads, prints and refuses. The checker computes each.
 use Rattle.std.proofs.Common.{true, false, [], ◌∷◌, refl}
-use Rattle.syn_grammar.specs.Words.{w_as, w_const, w_crate, w_false, w_mut, w_Self_type, w_self, w_super, w_true, w_use, w_union, w_auto, w_default, w_safe}
+use Rattle.syn_grammar.specs.Words.{w_as, w_const, w_crate, w_false, w_fn, w_mut, w_Self_type, w_self, w_super, w_true, w_union, w_auto, w_default, w_safe}
 use Rattle.syn_grammar.specs.Tokens.{call_site, Paren, Brace, Bracket, Str, ByteStr, CStr, Byte, Char, Int, Float, ident, literal, end, leaf, punct, group}
 use Rattle.syn_grammar.specs.Rules.{type_path, type_words, type_arguments, more_type_words, return_type, generic_arguments, generic_argument, qualified_path, type, types, expression}
 use Rattle.syn_grammar.specs.Grammar.{rule}
@@ -58,17 +58,17 @@ type_path_self_list : DerivesAs type_path
 unfolding left is_end lookahead_at sees take_token take_lifetime take_mark take_group before rows_for rows run parse_rule
 type_path_self_list = computed type_path _ _ _ refl refl
 
--- `:::: a`: nothing is read
+-- `::::a`: nothing is read
 type_path_rooted_twice : NotDerived (rule type_path)
-    (punct 58 true (at 0 1) (punct 58 true (at 1 2) (punct 58 true (at 2 3) (punct 58 false (at 3 4) (leaf (ident (97 ∷ [])) (at 5 6) end)))))
+    (punct 58 true (at 0 1) (punct 58 true (at 1 2) (punct 58 true (at 2 3) (punct 58 false (at 3 4) (leaf (ident (97 ∷ [])) (at 4 5) end)))))
 unfolding left is_end lookahead_at sees take_token take_lifetime take_mark take_group before rows_for rows run parse_rule
 type_path_rooted_twice = not_read type_path _ refl refl
 
--- `a a` prints `a` and leaves `a`
+-- `a b` prints `a` and leaves `b`
 type_path_leaves_word : DerivesAs type_path
-    (leaf (ident (97 ∷ [])) (at 0 1) (leaf (ident (97 ∷ [])) (at 2 3) end))
+    (leaf (ident (97 ∷ [])) (at 0 1) (leaf (ident (98 ∷ [])) (at 2 3) end))
     (leaf (ident (97 ∷ [])) call_site end)
-    (leaf (ident (97 ∷ [])) (at 2 3) end)
+    (leaf (ident (98 ∷ [])) (at 2 3) end)
 unfolding left is_end lookahead_at sees take_token take_lifetime take_mark take_group before rows_for rows run parse_rule
 type_path_leaves_word = computed type_path _ _ _ refl refl
 
@@ -92,17 +92,17 @@ type_words_item : DerivesAs type_words
 unfolding left is_end lookahead_at sees take_token take_lifetime take_mark take_group before rows_for rows run parse_rule
 type_words_item = computed type_words _ _ _ refl refl
 
--- `crate::a a` prints `crate :: a` and leaves `a`
+-- `crate::a b` prints `crate :: a` and leaves `b`
 type_words_crate : DerivesAs type_words
-    (leaf (ident w_crate) (at 0 5) (punct 58 true (at 5 6) (punct 58 false (at 6 7) (leaf (ident (97 ∷ [])) (at 7 8) (leaf (ident (97 ∷ [])) (at 9 10) end)))))
+    (leaf (ident w_crate) (at 0 5) (punct 58 true (at 5 6) (punct 58 false (at 6 7) (leaf (ident (97 ∷ [])) (at 7 8) (leaf (ident (98 ∷ [])) (at 9 10) end)))))
     (leaf (ident w_crate) call_site (punct 58 true call_site (punct 58 false call_site (leaf (ident (97 ∷ [])) call_site end))))
-    (leaf (ident (97 ∷ [])) (at 9 10) end)
+    (leaf (ident (98 ∷ [])) (at 9 10) end)
 unfolding left is_end lookahead_at sees take_token take_lifetime take_mark take_group before rows_for rows run parse_rule
 type_words_crate = computed type_words _ _ _ refl refl
 
--- `use`: nothing is read
+-- `fn`: nothing is read
 type_words_keyword : NotDerived (rule type_words)
-    (leaf (ident w_use) (at 0 3) end)
+    (leaf (ident w_fn) (at 0 2) end)
 unfolding left is_end lookahead_at sees take_token take_lifetime take_mark take_group before rows_for rows run parse_rule
 type_words_keyword = not_read type_words _ refl refl
 
@@ -130,17 +130,17 @@ type_words_self_type : DerivesAs type_words
 unfolding left is_end lookahead_at sees take_token take_lifetime take_mark take_group before rows_for rows run parse_rule
 type_words_self_type = computed type_words _ _ _ refl refl
 
--- `self:::: a`: nothing is read
+-- `self::::a`: nothing is read
 type_words_colons_twice : NotDerived (rule type_words)
-    (leaf (ident w_self) (at 0 4) (punct 58 true (at 4 5) (punct 58 true (at 5 6) (punct 58 true (at 6 7) (punct 58 false (at 7 8) (leaf (ident (97 ∷ [])) (at 9 10) end))))))
+    (leaf (ident w_self) (at 0 4) (punct 58 true (at 4 5) (punct 58 true (at 5 6) (punct 58 true (at 6 7) (punct 58 false (at 7 8) (leaf (ident (97 ∷ [])) (at 8 9) end))))))
 unfolding left is_end lookahead_at sees take_token take_lifetime take_mark take_group before rows_for rows run parse_rule
 type_words_colons_twice = not_read type_words _ refl refl
 
--- `a<> <` prints `a < >` and leaves `<`
+-- `a<><` prints `a < >` and leaves `<`
 type_words_leave_less : DerivesAs type_words
-    (leaf (ident (97 ∷ [])) (at 0 1) (punct 60 true (at 1 2) (punct 62 false (at 2 3) (punct 60 false (at 4 5) end))))
+    (leaf (ident (97 ∷ [])) (at 0 1) (punct 60 true (at 1 2) (punct 62 true (at 2 3) (punct 60 false (at 3 4) end))))
     (leaf (ident (97 ∷ [])) call_site (punct 60 false call_site (punct 62 false call_site end)))
-    (punct 60 false (at 4 5) end)
+    (punct 60 false (at 3 4) end)
 unfolding left is_end lookahead_at sees take_token take_lifetime take_mark take_group before rows_for rows run parse_rule
 type_words_leave_less = computed type_words _ _ _ refl refl
 
@@ -230,11 +230,11 @@ type_arguments_leave_parentheses : DerivesAs type_arguments
 unfolding left is_end lookahead_at sees take_token take_lifetime take_mark take_group before rows_for rows run parse_rule
 type_arguments_leave_parentheses = computed type_arguments _ _ _ refl refl
 
--- `::a a` prints `:: a` and leaves `a`
+-- `::a b` prints `:: a` and leaves `b`
 type_arguments_path_leaves_word : DerivesAs type_arguments
-    (punct 58 true (at 0 1) (punct 58 false (at 1 2) (leaf (ident (97 ∷ [])) (at 2 3) (leaf (ident (97 ∷ [])) (at 4 5) end))))
+    (punct 58 true (at 0 1) (punct 58 false (at 1 2) (leaf (ident (97 ∷ [])) (at 2 3) (leaf (ident (98 ∷ [])) (at 4 5) end))))
     (punct 58 true call_site (punct 58 false call_site (leaf (ident (97 ∷ [])) call_site end)))
-    (leaf (ident (97 ∷ [])) (at 4 5) end)
+    (leaf (ident (98 ∷ [])) (at 4 5) end)
 unfolding left is_end lookahead_at sees take_token take_lifetime take_mark take_group before rows_for rows run parse_rule
 type_arguments_path_leaves_word = computed type_arguments _ _ _ refl refl
 
@@ -246,11 +246,11 @@ type_arguments_leave_less : DerivesAs type_arguments
 unfolding left is_end lookahead_at sees take_token take_lifetime take_mark take_group before rows_for rows run parse_rule
 type_arguments_leave_less = computed type_arguments _ _ _ refl refl
 
--- `()::a ->` prints `( ) :: a` and leaves `->`
+-- `()::a -> b` prints `( ) :: a` and leaves `-> b`
 type_arguments_parentheses_leave_arrow : DerivesAs type_arguments
-    (group Paren (at 0 1) (at 1 2) end (punct 58 true (at 2 3) (punct 58 false (at 3 4) (leaf (ident (97 ∷ [])) (at 4 5) (punct 45 true (at 6 7) (punct 62 false (at 7 8) end))))))
+    (group Paren (at 0 1) (at 1 2) end (punct 58 true (at 2 3) (punct 58 false (at 3 4) (leaf (ident (97 ∷ [])) (at 4 5) (punct 45 true (at 6 7) (punct 62 false (at 7 8) (leaf (ident (98 ∷ [])) (at 9 10) end)))))))
     (group Paren call_site call_site end (punct 58 true call_site (punct 58 false call_site (leaf (ident (97 ∷ [])) call_site end))))
-    (punct 45 true (at 6 7) (punct 62 false (at 7 8) end))
+    (punct 45 true (at 6 7) (punct 62 false (at 7 8) (leaf (ident (98 ∷ [])) (at 9 10) end)))
 unfolding left is_end lookahead_at sees take_token take_lifetime take_mark take_group before rows_for rows run parse_rule
 type_arguments_parentheses_leave_arrow = computed type_arguments _ _ _ refl refl
 
@@ -262,9 +262,9 @@ type_arguments_one_colon : DerivesAs type_arguments
 unfolding left is_end lookahead_at sees take_token take_lifetime take_mark take_group before rows_for rows run parse_rule
 type_arguments_one_colon = computed type_arguments _ _ _ refl refl
 
--- `:::: <>`: nothing is read
+-- `::::a`: nothing is read
 type_arguments_colons_twice : NotDerived (rule type_arguments)
-    (punct 58 true (at 0 1) (punct 58 true (at 1 2) (punct 58 true (at 2 3) (punct 58 false (at 3 4) (punct 60 true (at 5 6) (punct 62 false (at 6 7) end))))))
+    (punct 58 true (at 0 1) (punct 58 true (at 1 2) (punct 58 true (at 2 3) (punct 58 false (at 3 4) (leaf (ident (97 ∷ [])) (at 4 5) end)))))
 unfolding left is_end lookahead_at sees take_token take_lifetime take_mark take_group before rows_for rows run parse_rule
 type_arguments_colons_twice = not_read type_arguments _ refl refl
 
@@ -292,11 +292,11 @@ type_arguments_leave_comma : DerivesAs type_arguments
 unfolding left is_end lookahead_at sees take_token take_lifetime take_mark take_group before rows_for rows run parse_rule
 type_arguments_leave_comma = computed type_arguments _ _ _ refl refl
 
--- `::<a> <a>` prints `:: < a >` and leaves `<a>`
+-- `::<a><b>` prints `:: < a >` and leaves `<b>`
 type_arguments_turbofish_twice : DerivesAs type_arguments
-    (punct 58 true (at 0 1) (punct 58 true (at 1 2) (punct 60 false (at 2 3) (leaf (ident (97 ∷ [])) (at 3 4) (punct 62 false (at 4 5) (punct 60 false (at 6 7) (leaf (ident (97 ∷ [])) (at 7 8) (punct 62 false (at 8 9) end))))))))
+    (punct 58 true (at 0 1) (punct 58 true (at 1 2) (punct 60 false (at 2 3) (leaf (ident (97 ∷ [])) (at 3 4) (punct 62 true (at 4 5) (punct 60 false (at 5 6) (leaf (ident (98 ∷ [])) (at 6 7) (punct 62 false (at 7 8) end))))))))
     (punct 58 true call_site (punct 58 false call_site (punct 60 false call_site (leaf (ident (97 ∷ [])) call_site (punct 62 false call_site end)))))
-    (punct 60 false (at 6 7) (leaf (ident (97 ∷ [])) (at 7 8) (punct 62 false (at 8 9) end)))
+    (punct 60 false (at 5 6) (leaf (ident (98 ∷ [])) (at 6 7) (punct 62 false (at 7 8) end)))
 unfolding left is_end lookahead_at sees take_token take_lifetime take_mark take_group before rows_for rows run parse_rule
 type_arguments_turbofish_twice = computed type_arguments _ _ _ refl refl
 
@@ -324,17 +324,17 @@ type_arguments_dot : DerivesAs type_arguments
 unfolding left is_end lookahead_at sees take_token take_lifetime take_mark take_group before rows_for rows run parse_rule
 type_arguments_dot = computed type_arguments _ _ _ refl refl
 
--- `() -> <!>::a ->` prints `( ) -> < ! > :: a` and leaves `->`
+-- `() -> a -> b` prints `( ) -> a` and leaves `-> b`
 type_arguments_return_leaves_arrow : DerivesAs type_arguments
-    (group Paren (at 0 1) (at 1 2) end (punct 45 true (at 3 4) (punct 62 false (at 4 5) (punct 60 true (at 6 7) (punct 33 true (at 7 8) (punct 62 true (at 8 9) (punct 58 true (at 9 10) (punct 58 false (at 10 11) (leaf (ident (97 ∷ [])) (at 11 12) (punct 45 true (at 13 14) (punct 62 false (at 14 15) end)))))))))))
-    (group Paren call_site call_site end (punct 45 true call_site (punct 62 false call_site (punct 60 false call_site (punct 33 false call_site (punct 62 false call_site (punct 58 true call_site (punct 58 false call_site (leaf (ident (97 ∷ [])) call_site end)))))))))
-    (punct 45 true (at 13 14) (punct 62 false (at 14 15) end))
+    (group Paren (at 0 1) (at 1 2) end (punct 45 true (at 3 4) (punct 62 false (at 4 5) (leaf (ident (97 ∷ [])) (at 6 7) (punct 45 true (at 8 9) (punct 62 false (at 9 10) (leaf (ident (98 ∷ [])) (at 11 12) end)))))))
+    (group Paren call_site call_site end (punct 45 true call_site (punct 62 false call_site (leaf (ident (97 ∷ [])) call_site end))))
+    (punct 45 true (at 8 9) (punct 62 false (at 9 10) (leaf (ident (98 ∷ [])) (at 11 12) end)))
 unfolding left is_end lookahead_at sees take_token take_lifetime take_mark take_group before rows_for rows run parse_rule
 type_arguments_return_leaves_arrow = computed type_arguments _ _ _ refl refl
 
--- `(<<a>::a>::a a)`: nothing is read
+-- `(a b)`: nothing is read
 type_arguments_no_comma : NotDerived (rule type_arguments)
-    (group Paren (at 0 1) (at 14 15) (punct 60 true (at 1 2) (punct 60 false (at 2 3) (leaf (ident (97 ∷ [])) (at 3 4) (punct 62 true (at 4 5) (punct 58 true (at 5 6) (punct 58 false (at 6 7) (leaf (ident (97 ∷ [])) (at 7 8) (punct 62 true (at 8 9) (punct 58 true (at 9 10) (punct 58 false (at 10 11) (leaf (ident (97 ∷ [])) (at 11 12) (leaf (ident (97 ∷ [])) (at 13 14) end)))))))))))) end)
+    (group Paren (at 0 1) (at 4 5) (leaf (ident (97 ∷ [])) (at 1 2) (leaf (ident (98 ∷ [])) (at 3 4) end)) end)
 unfolding left is_end lookahead_at sees take_token take_lifetime take_mark take_group before rows_for rows run parse_rule
 type_arguments_no_comma = not_read type_arguments _ refl refl
 
@@ -354,17 +354,17 @@ more_words_one_colon : DerivesAs more_type_words
 unfolding left is_end lookahead_at sees take_token take_lifetime take_mark take_group before rows_for rows run parse_rule
 more_words_one_colon = computed more_type_words _ _ _ refl refl
 
--- `:::: a`: nothing is read
+-- `::::a`: nothing is read
 more_words_colons_twice : NotDerived (rule more_type_words)
-    (punct 58 true (at 0 1) (punct 58 true (at 1 2) (punct 58 true (at 2 3) (punct 58 false (at 3 4) (leaf (ident (97 ∷ [])) (at 5 6) end)))))
+    (punct 58 true (at 0 1) (punct 58 true (at 1 2) (punct 58 true (at 2 3) (punct 58 false (at 3 4) (leaf (ident (97 ∷ [])) (at 4 5) end)))))
 unfolding left is_end lookahead_at sees take_token take_lifetime take_mark take_group before rows_for rows run parse_rule
 more_words_colons_twice = not_read more_type_words _ refl refl
 
--- `::a a` prints `:: a` and leaves `a`
+-- `::a b` prints `:: a` and leaves `b`
 more_words_leave_word : DerivesAs more_type_words
-    (punct 58 true (at 0 1) (punct 58 false (at 1 2) (leaf (ident (97 ∷ [])) (at 2 3) (leaf (ident (97 ∷ [])) (at 4 5) end))))
+    (punct 58 true (at 0 1) (punct 58 false (at 1 2) (leaf (ident (97 ∷ [])) (at 2 3) (leaf (ident (98 ∷ [])) (at 4 5) end))))
     (punct 58 true call_site (punct 58 false call_site (leaf (ident (97 ∷ [])) call_site end)))
-    (leaf (ident (97 ∷ [])) (at 4 5) end)
+    (leaf (ident (98 ∷ [])) (at 4 5) end)
 unfolding left is_end lookahead_at sees take_token take_lifetime take_mark take_group before rows_for rows run parse_rule
 more_words_leave_word = computed more_type_words _ _ _ refl refl
 
@@ -480,11 +480,11 @@ arguments_nothing : NotDerived (rule generic_arguments)
 unfolding left is_end lookahead_at sees take_token take_lifetime take_mark take_group before rows_for rows run parse_rule
 arguments_nothing = not_read generic_arguments _ refl refl
 
--- `<> <` prints `< >` and leaves `<`
+-- `<><` prints `< >` and leaves `<`
 arguments_leave_less : DerivesAs generic_arguments
-    (punct 60 true (at 0 1) (punct 62 false (at 1 2) (punct 60 false (at 3 4) end)))
+    (punct 60 true (at 0 1) (punct 62 true (at 1 2) (punct 60 false (at 2 3) end)))
     (punct 60 false call_site (punct 62 false call_site end))
-    (punct 60 false (at 3 4) end)
+    (punct 60 false (at 2 3) end)
 unfolding left is_end lookahead_at sees take_token take_lifetime take_mark take_group before rows_for rows run parse_rule
 arguments_leave_less = computed generic_arguments _ _ _ refl refl
 
@@ -494,9 +494,9 @@ arguments_comma_alone : NotDerived (rule generic_arguments)
 unfolding left is_end lookahead_at sees take_token take_lifetime take_mark take_group before rows_for rows run parse_rule
 arguments_comma_alone = not_read generic_arguments _ refl refl
 
--- `<'a 'a>`: nothing is read
+-- `<'a 'b>`: nothing is read
 arguments_lifetimes_no_comma : NotDerived (rule generic_arguments)
-    (punct 60 true (at 0 1) (punct 39 true (at 1 2) (leaf (ident (97 ∷ [])) (at 2 3) (punct 39 true (at 4 5) (leaf (ident (97 ∷ [])) (at 5 6) (punct 62 false (at 6 7) end))))))
+    (punct 60 true (at 0 1) (punct 39 true (at 1 2) (leaf (ident (97 ∷ [])) (at 2 3) (punct 39 true (at 4 5) (leaf (ident (98 ∷ [])) (at 5 6) (punct 62 false (at 6 7) end))))))
 unfolding left is_end lookahead_at sees take_token take_lifetime take_mark take_group before rows_for rows run parse_rule
 arguments_lifetimes_no_comma = not_read generic_arguments _ refl refl
 
@@ -522,17 +522,17 @@ argument_nothing : NotDerived (rule generic_argument)
 unfolding left is_end lookahead_at sees take_token take_lifetime take_mark take_group before rows_for rows run parse_rule
 argument_nothing = not_read generic_argument _ refl refl
 
--- `a a` prints `a` and leaves `a`
+-- `a b` prints `a` and leaves `b`
 argument_leaves_word : DerivesAs generic_argument
-    (leaf (ident (97 ∷ [])) (at 0 1) (leaf (ident (97 ∷ [])) (at 2 3) end))
+    (leaf (ident (97 ∷ [])) (at 0 1) (leaf (ident (98 ∷ [])) (at 2 3) end))
     (leaf (ident (97 ∷ [])) call_site end)
-    (leaf (ident (97 ∷ [])) (at 2 3) end)
+    (leaf (ident (98 ∷ [])) (at 2 3) end)
 unfolding left is_end lookahead_at sees take_token take_lifetime take_mark take_group before rows_for rows run parse_rule
 argument_leaves_word = computed generic_argument _ _ _ refl refl
 
--- `a == a`: nothing is read
+-- `a == b`: nothing is read
 argument_equals_twice : NotDerived (rule generic_argument)
-    (leaf (ident (97 ∷ [])) (at 0 1) (punct 61 true (at 2 3) (punct 61 false (at 3 4) (leaf (ident (97 ∷ [])) (at 5 6) end))))
+    (leaf (ident (97 ∷ [])) (at 0 1) (punct 61 true (at 2 3) (punct 61 false (at 3 4) (leaf (ident (98 ∷ [])) (at 5 6) end))))
 unfolding left is_end lookahead_at sees take_token take_lifetime take_mark take_group before rows_for rows run parse_rule
 argument_equals_twice = not_read generic_argument _ refl refl
 
@@ -542,10 +542,10 @@ argument_open : NotDerived (rule generic_argument)
 unfolding left is_end lookahead_at sees take_token take_lifetime take_mark take_group before rows_for rows run parse_rule
 argument_open = not_read generic_argument _ refl refl
 
--- `a = ! =` prints `a = !` and leaves `=`
+-- `a = b =` prints `a = b` and leaves `=`
 argument_item_leaves_equals : DerivesAs generic_argument
-    (leaf (ident (97 ∷ [])) (at 0 1) (punct 61 false (at 2 3) (punct 33 false (at 4 5) (punct 61 false (at 6 7) end))))
-    (leaf (ident (97 ∷ [])) call_site (punct 61 false call_site (punct 33 false call_site end)))
+    (leaf (ident (97 ∷ [])) (at 0 1) (punct 61 false (at 2 3) (leaf (ident (98 ∷ [])) (at 4 5) (punct 61 false (at 6 7) end))))
+    (leaf (ident (97 ∷ [])) call_site (punct 61 false call_site (leaf (ident (98 ∷ [])) call_site end)))
     (punct 61 false (at 6 7) end)
 unfolding left is_end lookahead_at sees take_token take_lifetime take_mark take_group before rows_for rows run parse_rule
 argument_item_leaves_equals = computed generic_argument _ _ _ refl refl
@@ -564,11 +564,11 @@ argument_item_without_type : NotDerived (rule generic_argument)
 unfolding left is_end lookahead_at sees take_token take_lifetime take_mark take_group before rows_for rows run parse_rule
 argument_item_without_type = not_read generic_argument _ refl refl
 
--- `a = <<()>::a>::a a` prints `a = < < ( ) > :: a > :: a` and leaves `a`
+-- `a = <<b>::c>::d e` prints `a = < < b > :: c > :: d` and leaves `e`
 argument_item_leaves_word : DerivesAs generic_argument
-    (leaf (ident (97 ∷ [])) (at 0 1) (punct 61 false (at 2 3) (punct 60 true (at 4 5) (punct 60 false (at 5 6) (group Paren (at 6 7) (at 7 8) end (punct 62 true (at 8 9) (punct 58 true (at 9 10) (punct 58 false (at 10 11) (leaf (ident (97 ∷ [])) (at 11 12) (punct 62 true (at 12 13) (punct 58 true (at 13 14) (punct 58 false (at 14 15) (leaf (ident (97 ∷ [])) (at 15 16) (leaf (ident (97 ∷ [])) (at 17 18) end))))))))))))))
-    (leaf (ident (97 ∷ [])) call_site (punct 61 false call_site (punct 60 false call_site (punct 60 false call_site (group Paren call_site call_site end (punct 62 false call_site (punct 58 true call_site (punct 58 false call_site (leaf (ident (97 ∷ [])) call_site (punct 62 false call_site (punct 58 true call_site (punct 58 false call_site (leaf (ident (97 ∷ [])) call_site end)))))))))))))
-    (leaf (ident (97 ∷ [])) (at 17 18) end)
+    (leaf (ident (97 ∷ [])) (at 0 1) (punct 61 false (at 2 3) (punct 60 true (at 4 5) (punct 60 false (at 5 6) (leaf (ident (98 ∷ [])) (at 6 7) (punct 62 true (at 7 8) (punct 58 true (at 8 9) (punct 58 false (at 9 10) (leaf (ident (99 ∷ [])) (at 10 11) (punct 62 true (at 11 12) (punct 58 true (at 12 13) (punct 58 false (at 13 14) (leaf (ident (100 ∷ [])) (at 14 15) (leaf (ident (101 ∷ [])) (at 16 17) end))))))))))))))
+    (leaf (ident (97 ∷ [])) call_site (punct 61 false call_site (punct 60 false call_site (punct 60 false call_site (leaf (ident (98 ∷ [])) call_site (punct 62 false call_site (punct 58 true call_site (punct 58 false call_site (leaf (ident (99 ∷ [])) call_site (punct 62 false call_site (punct 58 true call_site (punct 58 false call_site (leaf (ident (100 ∷ [])) call_site end)))))))))))))
+    (leaf (ident (101 ∷ [])) (at 16 17) end)
 unfolding left is_end lookahead_at sees take_token take_lifetime take_mark take_group before rows_for rows run parse_rule
 argument_item_leaves_word = computed generic_argument _ _ _ refl refl
 
@@ -676,29 +676,29 @@ qualified_iterator : DerivesAs qualified_path
 unfolding left is_end lookahead_at sees take_token take_lifetime take_mark take_group before rows_for rows run parse_rule
 qualified_iterator = computed qualified_path _ _ _ refl refl
 
--- `<()>::a a` prints `< ( ) > :: a` and leaves `a`
+-- `<a>::b c` prints `< a > :: b` and leaves `c`
 qualified_leaves_word : DerivesAs qualified_path
-    (punct 60 false (at 0 1) (group Paren (at 1 2) (at 2 3) end (punct 62 true (at 3 4) (punct 58 true (at 4 5) (punct 58 false (at 5 6) (leaf (ident (97 ∷ [])) (at 6 7) (leaf (ident (97 ∷ [])) (at 8 9) end)))))))
-    (punct 60 false call_site (group Paren call_site call_site end (punct 62 false call_site (punct 58 true call_site (punct 58 false call_site (leaf (ident (97 ∷ [])) call_site end))))))
-    (leaf (ident (97 ∷ [])) (at 8 9) end)
+    (punct 60 false (at 0 1) (leaf (ident (97 ∷ [])) (at 1 2) (punct 62 true (at 2 3) (punct 58 true (at 3 4) (punct 58 false (at 4 5) (leaf (ident (98 ∷ [])) (at 5 6) (leaf (ident (99 ∷ [])) (at 7 8) end)))))))
+    (punct 60 false call_site (leaf (ident (97 ∷ [])) call_site (punct 62 false call_site (punct 58 true call_site (punct 58 false call_site (leaf (ident (98 ∷ [])) call_site end))))))
+    (leaf (ident (99 ∷ [])) (at 7 8) end)
 unfolding left is_end lookahead_at sees take_token take_lifetime take_mark take_group before rows_for rows run parse_rule
 qualified_leaves_word = computed qualified_path _ _ _ refl refl
 
--- `<() a>::a`: nothing is read
+-- `<a b>::c`: nothing is read
 qualified_two_types : NotDerived (rule qualified_path)
-    (punct 60 false (at 0 1) (group Paren (at 1 2) (at 2 3) end (leaf (ident (97 ∷ [])) (at 4 5) (punct 62 true (at 5 6) (punct 58 true (at 6 7) (punct 58 false (at 7 8) (leaf (ident (97 ∷ [])) (at 8 9) end)))))))
+    (punct 60 false (at 0 1) (leaf (ident (97 ∷ [])) (at 1 2) (leaf (ident (98 ∷ [])) (at 3 4) (punct 62 true (at 4 5) (punct 58 true (at 5 6) (punct 58 false (at 6 7) (leaf (ident (99 ∷ [])) (at 7 8) end)))))))
 unfolding left is_end lookahead_at sees take_token take_lifetime take_mark take_group before rows_for rows run parse_rule
 qualified_two_types = not_read qualified_path _ refl refl
 
--- `<<a>::self<>::a`: nothing is read
+-- `<<a>::self<>::b`: nothing is read
 qualified_self_arguments : NotDerived (rule qualified_path)
-    (punct 60 true (at 0 1) (punct 60 false (at 1 2) (leaf (ident (97 ∷ [])) (at 2 3) (punct 62 true (at 3 4) (punct 58 true (at 4 5) (punct 58 false (at 5 6) (leaf (ident w_self) (at 6 10) (punct 60 true (at 10 11) (punct 62 true (at 11 12) (punct 58 true (at 12 13) (punct 58 false (at 13 14) (leaf (ident (97 ∷ [])) (at 14 15) end))))))))))))
+    (punct 60 true (at 0 1) (punct 60 false (at 1 2) (leaf (ident (97 ∷ [])) (at 2 3) (punct 62 true (at 3 4) (punct 58 true (at 4 5) (punct 58 false (at 5 6) (leaf (ident w_self) (at 6 10) (punct 60 true (at 10 11) (punct 62 true (at 11 12) (punct 58 true (at 12 13) (punct 58 false (at 13 14) (leaf (ident (98 ∷ [])) (at 14 15) end))))))))))))
 unfolding left is_end lookahead_at sees take_token take_lifetime take_mark take_group before rows_for rows run parse_rule
 qualified_self_arguments = not_read qualified_path _ refl refl
 
--- `<a>::> a`: nothing is read
+-- `<a>::> b`: nothing is read
 qualified_greater_behind_colons : NotDerived (rule qualified_path)
-    (punct 60 false (at 0 1) (leaf (ident (97 ∷ [])) (at 1 2) (punct 62 true (at 2 3) (punct 58 true (at 3 4) (punct 58 true (at 4 5) (punct 62 false (at 5 6) (leaf (ident (97 ∷ [])) (at 7 8) end)))))))
+    (punct 60 false (at 0 1) (leaf (ident (97 ∷ [])) (at 1 2) (punct 62 true (at 2 3) (punct 58 true (at 3 4) (punct 58 true (at 4 5) (punct 62 false (at 5 6) (leaf (ident (98 ∷ [])) (at 7 8) end)))))))
 unfolding left is_end lookahead_at sees take_token take_lifetime take_mark take_group before rows_for rows run parse_rule
 qualified_greater_behind_colons = not_read qualified_path _ refl refl
 
@@ -708,21 +708,21 @@ qualified_type_ends_with_colons : NotDerived (rule qualified_path)
 unfolding left is_end lookahead_at sees take_token take_lifetime take_mark take_group before rows_for rows run parse_rule
 qualified_type_ends_with_colons = not_read qualified_path _ refl refl
 
--- `<<!>::a>>::a`: nothing is read
+-- `<<a>::b>>::c`: nothing is read
 qualified_two_greater : NotDerived (rule qualified_path)
-    (punct 60 true (at 0 1) (punct 60 true (at 1 2) (punct 33 true (at 2 3) (punct 62 true (at 3 4) (punct 58 true (at 4 5) (punct 58 false (at 5 6) (leaf (ident (97 ∷ [])) (at 6 7) (punct 62 true (at 7 8) (punct 62 true (at 8 9) (punct 58 true (at 9 10) (punct 58 false (at 10 11) (leaf (ident (97 ∷ [])) (at 11 12) end))))))))))))
+    (punct 60 true (at 0 1) (punct 60 false (at 1 2) (leaf (ident (97 ∷ [])) (at 2 3) (punct 62 true (at 3 4) (punct 58 true (at 4 5) (punct 58 false (at 5 6) (leaf (ident (98 ∷ [])) (at 6 7) (punct 62 true (at 7 8) (punct 62 true (at 8 9) (punct 58 true (at 9 10) (punct 58 false (at 10 11) (leaf (ident (99 ∷ [])) (at 11 12) end))))))))))))
 unfolding left is_end lookahead_at sees take_token take_lifetime take_mark take_group before rows_for rows run parse_rule
 qualified_two_greater = not_read qualified_path _ refl refl
 
--- `<a> a`: nothing is read
+-- `<a> b`: nothing is read
 qualified_no_colons : NotDerived (rule qualified_path)
-    (punct 60 false (at 0 1) (leaf (ident (97 ∷ [])) (at 1 2) (punct 62 false (at 2 3) (leaf (ident (97 ∷ [])) (at 4 5) end))))
+    (punct 60 false (at 0 1) (leaf (ident (97 ∷ [])) (at 1 2) (punct 62 false (at 2 3) (leaf (ident (98 ∷ [])) (at 4 5) end))))
 unfolding left is_end lookahead_at sees take_token take_lifetime take_mark take_group before rows_for rows run parse_rule
 qualified_no_colons = not_read qualified_path _ refl refl
 
--- `a>::a`: nothing is read
+-- `a>::b`: nothing is read
 qualified_no_less : NotDerived (rule qualified_path)
-    (leaf (ident (97 ∷ [])) (at 0 1) (punct 62 true (at 1 2) (punct 58 true (at 2 3) (punct 58 false (at 3 4) (leaf (ident (97 ∷ [])) (at 4 5) end)))))
+    (leaf (ident (97 ∷ [])) (at 0 1) (punct 62 true (at 1 2) (punct 58 true (at 2 3) (punct 58 false (at 3 4) (leaf (ident (98 ∷ [])) (at 4 5) end)))))
 unfolding left is_end lookahead_at sees take_token take_lifetime take_mark take_group before rows_for rows run parse_rule
 qualified_no_less = not_read qualified_path _ refl refl
 
@@ -732,9 +732,9 @@ qualified_no_type : NotDerived (rule qualified_path)
 unfolding left is_end lookahead_at sees take_token take_lifetime take_mark take_group before rows_for rows run parse_rule
 qualified_no_type = not_read qualified_path _ refl refl
 
--- `<()>: a`: nothing is read
+-- `<a>: b`: nothing is read
 qualified_one_colon : NotDerived (rule qualified_path)
-    (punct 60 false (at 0 1) (group Paren (at 1 2) (at 2 3) end (punct 62 true (at 3 4) (punct 58 false (at 4 5) (leaf (ident (97 ∷ [])) (at 6 7) end)))))
+    (punct 60 false (at 0 1) (leaf (ident (97 ∷ [])) (at 1 2) (punct 62 true (at 2 3) (punct 58 false (at 3 4) (leaf (ident (98 ∷ [])) (at 5 6) end)))))
 unfolding left is_end lookahead_at sees take_token take_lifetime take_mark take_group before rows_for rows run parse_rule
 qualified_one_colon = not_read qualified_path _ refl refl
 
@@ -744,53 +744,53 @@ qualified_no_greater : NotDerived (rule qualified_path)
 unfolding left is_end lookahead_at sees take_token take_lifetime take_mark take_group before rows_for rows run parse_rule
 qualified_no_greater = not_read qualified_path _ refl refl
 
--- `> <a>::a`: nothing is read
+-- `><a>::b`: nothing is read
 qualified_greater_first : NotDerived (rule qualified_path)
-    (punct 62 false (at 0 1) (punct 60 false (at 2 3) (leaf (ident (97 ∷ [])) (at 3 4) (punct 62 true (at 4 5) (punct 58 true (at 5 6) (punct 58 false (at 6 7) (leaf (ident (97 ∷ [])) (at 7 8) end)))))))
+    (punct 62 true (at 0 1) (punct 60 false (at 1 2) (leaf (ident (97 ∷ [])) (at 2 3) (punct 62 true (at 3 4) (punct 58 true (at 4 5) (punct 58 false (at 5 6) (leaf (ident (98 ∷ [])) (at 6 7) end)))))))
 unfolding left is_end lookahead_at sees take_token take_lifetime take_mark take_group before rows_for rows run parse_rule
 qualified_greater_first = not_read qualified_path _ refl refl
 
--- `<a> <::a`: nothing is read
+-- `<a><::b`: nothing is read
 qualified_less_behind_greater : NotDerived (rule qualified_path)
-    (punct 60 false (at 0 1) (leaf (ident (97 ∷ [])) (at 1 2) (punct 62 false (at 2 3) (punct 60 true (at 4 5) (punct 58 true (at 5 6) (punct 58 false (at 6 7) (leaf (ident (97 ∷ [])) (at 7 8) end)))))))
+    (punct 60 false (at 0 1) (leaf (ident (97 ∷ [])) (at 1 2) (punct 62 true (at 2 3) (punct 60 true (at 3 4) (punct 58 true (at 4 5) (punct 58 false (at 5 6) (leaf (ident (98 ∷ [])) (at 6 7) end)))))))
 unfolding left is_end lookahead_at sees take_token take_lifetime take_mark take_group before rows_for rows run parse_rule
 qualified_less_behind_greater = not_read qualified_path _ refl refl
 
--- `<> a>::a`: nothing is read
+-- `<> a>::b`: nothing is read
 qualified_greater_before_type : NotDerived (rule qualified_path)
-    (punct 60 true (at 0 1) (punct 62 false (at 1 2) (leaf (ident (97 ∷ [])) (at 3 4) (punct 62 true (at 4 5) (punct 58 true (at 5 6) (punct 58 false (at 6 7) (leaf (ident (97 ∷ [])) (at 7 8) end)))))))
+    (punct 60 true (at 0 1) (punct 62 false (at 1 2) (leaf (ident (97 ∷ [])) (at 3 4) (punct 62 true (at 4 5) (punct 58 true (at 5 6) (punct 58 false (at 6 7) (leaf (ident (98 ∷ [])) (at 7 8) end)))))))
 unfolding left is_end lookahead_at sees take_token take_lifetime take_mark take_group before rows_for rows run parse_rule
 qualified_greater_before_type = not_read qualified_path _ refl refl
 
--- `<a>::a as` prints `< a > :: a` and leaves `as`
+-- `<a>::b as` prints `< a > :: b` and leaves `as`
 qualified_leaves_as : DerivesAs qualified_path
-    (punct 60 false (at 0 1) (leaf (ident (97 ∷ [])) (at 1 2) (punct 62 true (at 2 3) (punct 58 true (at 3 4) (punct 58 false (at 4 5) (leaf (ident (97 ∷ [])) (at 5 6) (leaf (ident w_as) (at 7 9) end)))))))
-    (punct 60 false call_site (leaf (ident (97 ∷ [])) call_site (punct 62 false call_site (punct 58 true call_site (punct 58 false call_site (leaf (ident (97 ∷ [])) call_site end))))))
+    (punct 60 false (at 0 1) (leaf (ident (97 ∷ [])) (at 1 2) (punct 62 true (at 2 3) (punct 58 true (at 3 4) (punct 58 false (at 4 5) (leaf (ident (98 ∷ [])) (at 5 6) (leaf (ident w_as) (at 7 9) end)))))))
+    (punct 60 false call_site (leaf (ident (97 ∷ [])) call_site (punct 62 false call_site (punct 58 true call_site (punct 58 false call_site (leaf (ident (98 ∷ [])) call_site end))))))
     (leaf (ident w_as) (at 7 9) end)
 unfolding left is_end lookahead_at sees take_token take_lifetime take_mark take_group before rows_for rows run parse_rule
 qualified_leaves_as = computed qualified_path _ _ _ refl refl
 
--- `<a>:::: a`: nothing is read
+-- `<a>::::b`: nothing is read
 qualified_colons_twice : NotDerived (rule qualified_path)
-    (punct 60 false (at 0 1) (leaf (ident (97 ∷ [])) (at 1 2) (punct 62 true (at 2 3) (punct 58 true (at 3 4) (punct 58 true (at 4 5) (punct 58 true (at 5 6) (punct 58 false (at 6 7) (leaf (ident (97 ∷ [])) (at 8 9) end))))))))
+    (punct 60 false (at 0 1) (leaf (ident (97 ∷ [])) (at 1 2) (punct 62 true (at 2 3) (punct 58 true (at 3 4) (punct 58 true (at 4 5) (punct 58 true (at 5 6) (punct 58 false (at 6 7) (leaf (ident (98 ∷ [])) (at 7 8) end))))))))
 unfolding left is_end lookahead_at sees take_token take_lifetime take_mark take_group before rows_for rows run parse_rule
 qualified_colons_twice = not_read qualified_path _ refl refl
 
--- `<!as>::a`: nothing is read
+-- `<a as>::b`: nothing is read
 qualified_as_nothing : NotDerived (rule qualified_path)
-    (punct 60 true (at 0 1) (punct 33 false (at 1 2) (leaf (ident w_as) (at 2 4) (punct 62 true (at 4 5) (punct 58 true (at 5 6) (punct 58 false (at 6 7) (leaf (ident (97 ∷ [])) (at 7 8) end)))))))
+    (punct 60 false (at 0 1) (leaf (ident (97 ∷ [])) (at 1 2) (leaf (ident w_as) (at 3 5) (punct 62 true (at 5 6) (punct 58 true (at 6 7) (punct 58 false (at 7 8) (leaf (ident (98 ∷ [])) (at 8 9) end)))))))
 unfolding left is_end lookahead_at sees take_token take_lifetime take_mark take_group before rows_for rows run parse_rule
 qualified_as_nothing = not_read qualified_path _ refl refl
 
--- `::<a>::a`: nothing is read
+-- `::<a>::b`: nothing is read
 qualified_colons_first : NotDerived (rule qualified_path)
-    (punct 58 true (at 0 1) (punct 58 true (at 1 2) (punct 60 false (at 2 3) (leaf (ident (97 ∷ [])) (at 3 4) (punct 62 true (at 4 5) (punct 58 true (at 5 6) (punct 58 false (at 6 7) (leaf (ident (97 ∷ [])) (at 7 8) end))))))))
+    (punct 58 true (at 0 1) (punct 58 true (at 1 2) (punct 60 false (at 2 3) (leaf (ident (97 ∷ [])) (at 3 4) (punct 62 true (at 4 5) (punct 58 true (at 5 6) (punct 58 false (at 6 7) (leaf (ident (98 ∷ [])) (at 7 8) end))))))))
 unfolding left is_end lookahead_at sees take_token take_lifetime take_mark take_group before rows_for rows run parse_rule
 qualified_colons_first = not_read qualified_path _ refl refl
 
--- `<as a !>::a`: nothing is read
+-- `<as a b>::c`: nothing is read
 qualified_as_first : NotDerived (rule qualified_path)
-    (punct 60 false (at 0 1) (leaf (ident w_as) (at 1 3) (leaf (ident (97 ∷ [])) (at 4 5) (punct 33 true (at 6 7) (punct 62 true (at 7 8) (punct 58 true (at 8 9) (punct 58 false (at 9 10) (leaf (ident (97 ∷ [])) (at 10 11) end))))))))
+    (punct 60 false (at 0 1) (leaf (ident w_as) (at 1 3) (leaf (ident (97 ∷ [])) (at 4 5) (leaf (ident (98 ∷ [])) (at 6 7) (punct 62 true (at 7 8) (punct 58 true (at 8 9) (punct 58 false (at 9 10) (leaf (ident (99 ∷ [])) (at 10 11) end))))))))
 unfolding left is_end lookahead_at sees take_token take_lifetime take_mark take_group before rows_for rows run parse_rule
 qualified_as_first = not_read qualified_path _ refl refl
 
@@ -800,9 +800,9 @@ qualified_colons_before_type : NotDerived (rule qualified_path)
 unfolding left is_end lookahead_at sees take_token take_lifetime take_mark take_group before rows_for rows run parse_rule
 qualified_colons_before_type = not_read qualified_path _ refl refl
 
--- `<()>::as a a`: nothing is read
+-- `<a>::as b c`: nothing is read
 qualified_as_behind_colons : NotDerived (rule qualified_path)
-    (punct 60 false (at 0 1) (group Paren (at 1 2) (at 2 3) end (punct 62 true (at 3 4) (punct 58 true (at 4 5) (punct 58 false (at 5 6) (leaf (ident w_as) (at 6 8) (leaf (ident (97 ∷ [])) (at 9 10) (leaf (ident (97 ∷ [])) (at 11 12) end))))))))
+    (punct 60 false (at 0 1) (leaf (ident (97 ∷ [])) (at 1 2) (punct 62 true (at 2 3) (punct 58 true (at 3 4) (punct 58 false (at 4 5) (leaf (ident w_as) (at 5 7) (leaf (ident (98 ∷ [])) (at 8 9) (leaf (ident (99 ∷ [])) (at 10 11) end))))))))
 unfolding left is_end lookahead_at sees take_token take_lifetime take_mark take_group before rows_for rows run parse_rule
 qualified_as_behind_colons = not_read qualified_path _ refl refl
 
@@ -812,65 +812,65 @@ qualified_two_types_comma : NotDerived (rule qualified_path)
 unfolding left is_end lookahead_at sees take_token take_lifetime take_mark take_group before rows_for rows run parse_rule
 qualified_two_types_comma = not_read qualified_path _ refl refl
 
--- `<!as a as>::a`: nothing is read
+-- `<a as b as>::c`: nothing is read
 qualified_as_behind_path : NotDerived (rule qualified_path)
-    (punct 60 true (at 0 1) (punct 33 false (at 1 2) (leaf (ident w_as) (at 2 4) (leaf (ident (97 ∷ [])) (at 5 6) (leaf (ident w_as) (at 7 9) (punct 62 true (at 9 10) (punct 58 true (at 10 11) (punct 58 false (at 11 12) (leaf (ident (97 ∷ [])) (at 12 13) end)))))))))
+    (punct 60 false (at 0 1) (leaf (ident (97 ∷ [])) (at 1 2) (leaf (ident w_as) (at 3 5) (leaf (ident (98 ∷ [])) (at 6 7) (leaf (ident w_as) (at 8 10) (punct 62 true (at 10 11) (punct 58 true (at 11 12) (punct 58 false (at 12 13) (leaf (ident (99 ∷ [])) (at 13 14) end)))))))))
 unfolding left is_end lookahead_at sees take_token take_lifetime take_mark take_group before rows_for rows run parse_rule
 qualified_as_behind_path = not_read qualified_path _ refl refl
 
--- `<a as a as a>::a`: nothing is read
+-- `<a as b as c>::d`: nothing is read
 qualified_as_twice : NotDerived (rule qualified_path)
-    (punct 60 false (at 0 1) (leaf (ident (97 ∷ [])) (at 1 2) (leaf (ident w_as) (at 3 5) (leaf (ident (97 ∷ [])) (at 6 7) (leaf (ident w_as) (at 8 10) (leaf (ident (97 ∷ [])) (at 11 12) (punct 62 true (at 12 13) (punct 58 true (at 13 14) (punct 58 false (at 14 15) (leaf (ident (97 ∷ [])) (at 15 16) end))))))))))
+    (punct 60 false (at 0 1) (leaf (ident (97 ∷ [])) (at 1 2) (leaf (ident w_as) (at 3 5) (leaf (ident (98 ∷ [])) (at 6 7) (leaf (ident w_as) (at 8 10) (leaf (ident (99 ∷ [])) (at 11 12) (punct 62 true (at 12 13) (punct 58 true (at 13 14) (punct 58 false (at 14 15) (leaf (ident (100 ∷ [])) (at 15 16) end))))))))))
 unfolding left is_end lookahead_at sees take_token take_lifetime take_mark take_group before rows_for rows run parse_rule
 qualified_as_twice = not_read qualified_path _ refl refl
 
--- `<<!>::a>::<a`: nothing is read
+-- `<<a>::b>::<c`: nothing is read
 qualified_less_behind_colons : NotDerived (rule qualified_path)
-    (punct 60 true (at 0 1) (punct 60 true (at 1 2) (punct 33 true (at 2 3) (punct 62 true (at 3 4) (punct 58 true (at 4 5) (punct 58 false (at 5 6) (leaf (ident (97 ∷ [])) (at 6 7) (punct 62 true (at 7 8) (punct 58 true (at 8 9) (punct 58 true (at 9 10) (punct 60 false (at 10 11) (leaf (ident (97 ∷ [])) (at 11 12) end))))))))))))
+    (punct 60 true (at 0 1) (punct 60 false (at 1 2) (leaf (ident (97 ∷ [])) (at 2 3) (punct 62 true (at 3 4) (punct 58 true (at 4 5) (punct 58 false (at 5 6) (leaf (ident (98 ∷ [])) (at 6 7) (punct 62 true (at 7 8) (punct 58 true (at 8 9) (punct 58 true (at 9 10) (punct 60 false (at 10 11) (leaf (ident (99 ∷ [])) (at 11 12) end))))))))))))
 unfolding left is_end lookahead_at sees take_token take_lifetime take_mark take_group before rows_for rows run parse_rule
 qualified_less_behind_colons = not_read qualified_path _ refl refl
 
--- `<()>.a`: nothing is read
+-- `<a>.b`: nothing is read
 qualified_dot : NotDerived (rule qualified_path)
-    (punct 60 false (at 0 1) (group Paren (at 1 2) (at 2 3) end (punct 62 true (at 3 4) (punct 46 false (at 4 5) (leaf (ident (97 ∷ [])) (at 5 6) end)))))
+    (punct 60 false (at 0 1) (leaf (ident (97 ∷ [])) (at 1 2) (punct 62 true (at 2 3) (punct 46 false (at 3 4) (leaf (ident (98 ∷ [])) (at 4 5) end)))))
 unfolding left is_end lookahead_at sees take_token take_lifetime take_mark take_group before rows_for rows run parse_rule
 qualified_dot = not_read qualified_path _ refl refl
 
--- `<() as::a>::a` prints `< ( ) as :: a > :: a`
+-- `<() as::a>::b` prints `< ( ) as :: a > :: b`
 qualified_as_rooted : DerivesAs qualified_path
-    (punct 60 false (at 0 1) (group Paren (at 1 2) (at 2 3) end (leaf (ident w_as) (at 4 6) (punct 58 true (at 6 7) (punct 58 false (at 7 8) (leaf (ident (97 ∷ [])) (at 8 9) (punct 62 true (at 9 10) (punct 58 true (at 10 11) (punct 58 false (at 11 12) (leaf (ident (97 ∷ [])) (at 12 13) end))))))))))
-    (punct 60 false call_site (group Paren call_site call_site end (leaf (ident w_as) call_site (punct 58 true call_site (punct 58 false call_site (leaf (ident (97 ∷ [])) call_site (punct 62 false call_site (punct 58 true call_site (punct 58 false call_site (leaf (ident (97 ∷ [])) call_site end))))))))))
+    (punct 60 false (at 0 1) (group Paren (at 1 2) (at 2 3) end (leaf (ident w_as) (at 4 6) (punct 58 true (at 6 7) (punct 58 false (at 7 8) (leaf (ident (97 ∷ [])) (at 8 9) (punct 62 true (at 9 10) (punct 58 true (at 10 11) (punct 58 false (at 11 12) (leaf (ident (98 ∷ [])) (at 12 13) end))))))))))
+    (punct 60 false call_site (group Paren call_site call_site end (leaf (ident w_as) call_site (punct 58 true call_site (punct 58 false call_site (leaf (ident (97 ∷ [])) call_site (punct 62 false call_site (punct 58 true call_site (punct 58 false call_site (leaf (ident (98 ∷ [])) call_site end))))))))))
     (end)
 unfolding left is_end lookahead_at sees take_token take_lifetime take_mark take_group before rows_for rows run parse_rule
 qualified_as_rooted = computed qualified_path _ _ _ refl refl
 
--- `<() as as a>::a`: nothing is read
+-- `<a as as b>::c`: nothing is read
 qualified_as_as : NotDerived (rule qualified_path)
-    (punct 60 false (at 0 1) (group Paren (at 1 2) (at 2 3) end (leaf (ident w_as) (at 4 6) (leaf (ident w_as) (at 7 9) (leaf (ident (97 ∷ [])) (at 10 11) (punct 62 true (at 11 12) (punct 58 true (at 12 13) (punct 58 false (at 13 14) (leaf (ident (97 ∷ [])) (at 14 15) end)))))))))
+    (punct 60 false (at 0 1) (leaf (ident (97 ∷ [])) (at 1 2) (leaf (ident w_as) (at 3 5) (leaf (ident w_as) (at 6 8) (leaf (ident (98 ∷ [])) (at 9 10) (punct 62 true (at 10 11) (punct 58 true (at 11 12) (punct 58 false (at 12 13) (leaf (ident (99 ∷ [])) (at 13 14) end)))))))))
 unfolding left is_end lookahead_at sees take_token take_lifetime take_mark take_group before rows_for rows run parse_rule
 qualified_as_as = not_read qualified_path _ refl refl
 
--- `self<!>::a`: nothing is read
+-- `self<a>::b`: nothing is read
 qualified_word_first : NotDerived (rule qualified_path)
-    (leaf (ident w_self) (at 0 4) (punct 60 true (at 4 5) (punct 33 true (at 5 6) (punct 62 true (at 6 7) (punct 58 true (at 7 8) (punct 58 false (at 8 9) (leaf (ident (97 ∷ [])) (at 9 10) end)))))))
+    (leaf (ident w_self) (at 0 4) (punct 60 false (at 4 5) (leaf (ident (97 ∷ [])) (at 5 6) (punct 62 true (at 6 7) (punct 58 true (at 7 8) (punct 58 false (at 8 9) (leaf (ident (98 ∷ [])) (at 9 10) end)))))))
 unfolding left is_end lookahead_at sees take_token take_lifetime take_mark take_group before rows_for rows run parse_rule
 qualified_word_first = not_read qualified_path _ refl refl
 
--- `<<a>::a a a>::a`: nothing is read
+-- `<a b c>::d`: nothing is read
 qualified_name_for_as : NotDerived (rule qualified_path)
-    (punct 60 true (at 0 1) (punct 60 false (at 1 2) (leaf (ident (97 ∷ [])) (at 2 3) (punct 62 true (at 3 4) (punct 58 true (at 4 5) (punct 58 false (at 5 6) (leaf (ident (97 ∷ [])) (at 6 7) (leaf (ident (97 ∷ [])) (at 8 9) (leaf (ident (97 ∷ [])) (at 10 11) (punct 62 true (at 11 12) (punct 58 true (at 12 13) (punct 58 false (at 13 14) (leaf (ident (97 ∷ [])) (at 14 15) end)))))))))))))
+    (punct 60 false (at 0 1) (leaf (ident (97 ∷ [])) (at 1 2) (leaf (ident (98 ∷ [])) (at 3 4) (leaf (ident (99 ∷ [])) (at 5 6) (punct 62 true (at 6 7) (punct 58 true (at 7 8) (punct 58 false (at 8 9) (leaf (ident (100 ∷ [])) (at 9 10) end))))))))
 unfolding left is_end lookahead_at sees take_token take_lifetime take_mark take_group before rows_for rows run parse_rule
 qualified_name_for_as = not_read qualified_path _ refl refl
 
--- `as self<a>::a`: nothing is read
+-- `as self<a>::b`: nothing is read
 qualified_as_before_less : NotDerived (rule qualified_path)
-    (leaf (ident w_as) (at 0 2) (leaf (ident w_self) (at 3 7) (punct 60 false (at 7 8) (leaf (ident (97 ∷ [])) (at 8 9) (punct 62 true (at 9 10) (punct 58 true (at 10 11) (punct 58 false (at 11 12) (leaf (ident (97 ∷ [])) (at 12 13) end))))))))
+    (leaf (ident w_as) (at 0 2) (leaf (ident w_self) (at 3 7) (punct 60 false (at 7 8) (leaf (ident (97 ∷ [])) (at 8 9) (punct 62 true (at 9 10) (punct 58 true (at 10 11) (punct 58 false (at 11 12) (leaf (ident (98 ∷ [])) (at 12 13) end))))))))
 unfolding left is_end lookahead_at sees take_token take_lifetime take_mark take_group before rows_for rows run parse_rule
 qualified_as_before_less = not_read qualified_path _ refl refl
 
--- `<<()>::a as a a>::a`: nothing is read
+-- `<a as b c>::d`: nothing is read
 qualified_two_paths : NotDerived (rule qualified_path)
-    (punct 60 true (at 0 1) (punct 60 false (at 1 2) (group Paren (at 2 3) (at 3 4) end (punct 62 true (at 4 5) (punct 58 true (at 5 6) (punct 58 false (at 6 7) (leaf (ident (97 ∷ [])) (at 7 8) (leaf (ident w_as) (at 9 11) (leaf (ident (97 ∷ [])) (at 12 13) (leaf (ident (97 ∷ [])) (at 14 15) (punct 62 true (at 15 16) (punct 58 true (at 16 17) (punct 58 false (at 17 18) (leaf (ident (97 ∷ [])) (at 18 19) end))))))))))))))
+    (punct 60 false (at 0 1) (leaf (ident (97 ∷ [])) (at 1 2) (leaf (ident w_as) (at 3 5) (leaf (ident (98 ∷ [])) (at 6 7) (leaf (ident (99 ∷ [])) (at 8 9) (punct 62 true (at 9 10) (punct 58 true (at 10 11) (punct 58 false (at 11 12) (leaf (ident (100 ∷ [])) (at 12 13) end)))))))))
 unfolding left is_end lookahead_at sees take_token take_lifetime take_mark take_group before rows_for rows run parse_rule
 qualified_two_paths = not_read qualified_path _ refl refl
 
@@ -962,9 +962,9 @@ type_qualified_alone : NotDerived (rule type)
 unfolding left is_end lookahead_at sees take_token take_lifetime take_mark take_group before rows_for rows run parse_rule
 type_qualified_alone = not_read type _ refl refl
 
--- `(a a)`: nothing is read
+-- `(a b)`: nothing is read
 type_no_comma : NotDerived (rule type)
-    (group Paren (at 0 1) (at 4 5) (leaf (ident (97 ∷ [])) (at 1 2) (leaf (ident (97 ∷ [])) (at 3 4) end)) end)
+    (group Paren (at 0 1) (at 4 5) (leaf (ident (97 ∷ [])) (at 1 2) (leaf (ident (98 ∷ [])) (at 3 4) end)) end)
 unfolding left is_end lookahead_at sees take_token take_lifetime take_mark take_group before rows_for rows run parse_rule
 type_no_comma = not_read type _ refl refl
 
@@ -974,17 +974,17 @@ type_empty_brackets : NotDerived (rule type)
 unfolding left is_end lookahead_at sees take_token take_lifetime take_mark take_group before rows_for rows run parse_rule
 type_empty_brackets = not_read type _ refl refl
 
--- `&'a 'a a`: nothing is read
+-- `&'a 'b c`: nothing is read
 type_two_lifetimes : NotDerived (rule type)
-    (punct 38 true (at 0 1) (punct 39 true (at 1 2) (leaf (ident (97 ∷ [])) (at 2 3) (punct 39 true (at 4 5) (leaf (ident (97 ∷ [])) (at 5 6) (leaf (ident (97 ∷ [])) (at 7 8) end))))))
+    (punct 38 true (at 0 1) (punct 39 true (at 1 2) (leaf (ident (97 ∷ [])) (at 2 3) (punct 39 true (at 4 5) (leaf (ident (98 ∷ [])) (at 5 6) (leaf (ident (99 ∷ [])) (at 7 8) end))))))
 unfolding left is_end lookahead_at sees take_token take_lifetime take_mark take_group before rows_for rows run parse_rule
 type_two_lifetimes = not_read type _ refl refl
 
--- `*mut <a>::a *` prints `* mut < a > :: a` and leaves `*`
+-- `*mut &a *` prints `* mut & a` and leaves `*`
 type_pointer_leaves_star : DerivesAs type
-    (punct 42 false (at 0 1) (leaf (ident w_mut) (at 1 4) (punct 60 false (at 5 6) (leaf (ident (97 ∷ [])) (at 6 7) (punct 62 true (at 7 8) (punct 58 true (at 8 9) (punct 58 false (at 9 10) (leaf (ident (97 ∷ [])) (at 10 11) (punct 42 false (at 12 13) end)))))))))
-    (punct 42 false call_site (leaf (ident w_mut) call_site (punct 60 false call_site (leaf (ident (97 ∷ [])) call_site (punct 62 false call_site (punct 58 true call_site (punct 58 false call_site (leaf (ident (97 ∷ [])) call_site end))))))))
-    (punct 42 false (at 12 13) end)
+    (punct 42 false (at 0 1) (leaf (ident w_mut) (at 1 4) (punct 38 false (at 5 6) (leaf (ident (97 ∷ [])) (at 6 7) (punct 42 false (at 8 9) end)))))
+    (punct 42 false call_site (leaf (ident w_mut) call_site (punct 38 false call_site (leaf (ident (97 ∷ [])) call_site end))))
+    (punct 42 false (at 8 9) end)
 unfolding left is_end lookahead_at sees take_token take_lifetime take_mark take_group before rows_for rows run parse_rule
 type_pointer_leaves_star = computed type _ _ _ refl refl
 
@@ -1008,23 +1008,23 @@ type_pointer_mut_twice : NotDerived (rule type)
 unfolding left is_end lookahead_at sees take_token take_lifetime take_mark take_group before rows_for rows run parse_rule
 type_pointer_mut_twice = not_read type _ refl refl
 
--- `&mut mut !`: nothing is read
+-- `&mut mut a`: nothing is read
 type_reference_mut_twice : NotDerived (rule type)
-    (punct 38 false (at 0 1) (leaf (ident w_mut) (at 1 4) (leaf (ident w_mut) (at 5 8) (punct 33 false (at 9 10) end))))
+    (punct 38 false (at 0 1) (leaf (ident w_mut) (at 1 4) (leaf (ident w_mut) (at 5 8) (leaf (ident (97 ∷ [])) (at 9 10) end))))
 unfolding left is_end lookahead_at sees take_token take_lifetime take_mark take_group before rows_for rows run parse_rule
 type_reference_mut_twice = not_read type _ refl refl
 
--- `[a &<!>::a]`: nothing is read
+-- `[a b]`: nothing is read
 type_slice_two_types : NotDerived (rule type)
-    (group Bracket (at 0 1) (at 10 11) (leaf (ident (97 ∷ [])) (at 1 2) (punct 38 true (at 3 4) (punct 60 true (at 4 5) (punct 33 true (at 5 6) (punct 62 true (at 6 7) (punct 58 true (at 7 8) (punct 58 false (at 8 9) (leaf (ident (97 ∷ [])) (at 9 10) end)))))))) end)
+    (group Bracket (at 0 1) (at 4 5) (leaf (ident (97 ∷ [])) (at 1 2) (leaf (ident (98 ∷ [])) (at 3 4) end)) end)
 unfolding left is_end lookahead_at sees take_token take_lifetime take_mark take_group before rows_for rows run parse_rule
 type_slice_two_types = not_read type _ refl refl
 
--- `&<!>::a &` prints `& < ! > :: a` and leaves `&`
+-- `&a &` prints `& a` and leaves `&`
 type_reference_leaves_ampersand : DerivesAs type
-    (punct 38 true (at 0 1) (punct 60 true (at 1 2) (punct 33 true (at 2 3) (punct 62 true (at 3 4) (punct 58 true (at 4 5) (punct 58 false (at 5 6) (leaf (ident (97 ∷ [])) (at 6 7) (punct 38 false (at 8 9) end))))))))
-    (punct 38 false call_site (punct 60 false call_site (punct 33 false call_site (punct 62 false call_site (punct 58 true call_site (punct 58 false call_site (leaf (ident (97 ∷ [])) call_site end)))))))
-    (punct 38 false (at 8 9) end)
+    (punct 38 false (at 0 1) (leaf (ident (97 ∷ [])) (at 1 2) (punct 38 false (at 3 4) end)))
+    (punct 38 false call_site (leaf (ident (97 ∷ [])) call_site end))
+    (punct 38 false (at 3 4) end)
 unfolding left is_end lookahead_at sees take_token take_lifetime take_mark take_group before rows_for rows run parse_rule
 type_reference_leaves_ampersand = computed type _ _ _ refl refl
 
@@ -1042,11 +1042,11 @@ type_never_leaves_never : DerivesAs type
 unfolding left is_end lookahead_at sees take_token take_lifetime take_mark take_group before rows_for rows run parse_rule
 type_never_leaves_never = computed type _ _ _ refl refl
 
--- `*a a`: nothing is read
-type_pointer_name : NotDerived (rule type)
-    (punct 42 false (at 0 1) (leaf (ident (97 ∷ [])) (at 1 2) (leaf (ident (97 ∷ [])) (at 3 4) end)))
+-- `*a b`: nothing is read
+type_pointer_no_word : NotDerived (rule type)
+    (punct 42 false (at 0 1) (leaf (ident (97 ∷ [])) (at 1 2) (leaf (ident (98 ∷ [])) (at 3 4) end)))
 unfolding left is_end lookahead_at sees take_token take_lifetime take_mark take_group before rows_for rows run parse_rule
-type_pointer_name = not_read type _ refl refl
+type_pointer_no_word = not_read type _ refl refl
 
 -- `[a;]`: nothing is read
 type_array_no_length : NotDerived (rule type)
@@ -1088,11 +1088,11 @@ type_reference_leaves_mut : DerivesAs type
 unfolding left is_end lookahead_at sees take_token take_lifetime take_mark take_group before rows_for rows run parse_rule
 type_reference_leaves_mut = computed type _ _ _ refl refl
 
--- `[a] [a]` prints `[ a ]` and leaves `[a]`
+-- `[a] [b]` prints `[ a ]` and leaves `[b]`
 type_leaves_brackets : DerivesAs type
-    (group Bracket (at 0 1) (at 2 3) (leaf (ident (97 ∷ [])) (at 1 2) end) (group Bracket (at 4 5) (at 6 7) (leaf (ident (97 ∷ [])) (at 5 6) end) end))
+    (group Bracket (at 0 1) (at 2 3) (leaf (ident (97 ∷ [])) (at 1 2) end) (group Bracket (at 4 5) (at 6 7) (leaf (ident (98 ∷ [])) (at 5 6) end) end))
     (group Bracket call_site call_site (leaf (ident (97 ∷ [])) call_site end) end)
-    (group Bracket (at 4 5) (at 6 7) (leaf (ident (97 ∷ [])) (at 5 6) end) end)
+    (group Bracket (at 4 5) (at 6 7) (leaf (ident (98 ∷ [])) (at 5 6) end) end)
 unfolding left is_end lookahead_at sees take_token take_lifetime take_mark take_group before rows_for rows run parse_rule
 type_leaves_brackets = computed type _ _ _ refl refl
 
@@ -1134,11 +1134,11 @@ type_reference_const : NotDerived (rule type)
 unfolding left is_end lookahead_at sees take_token take_lifetime take_mark take_group before rows_for rows run parse_rule
 type_reference_const = not_read type _ refl refl
 
--- `&<()>::a 'a` prints `& < ( ) > :: a` and leaves `'a`
+-- `&a 'b` prints `& a` and leaves `'b`
 type_reference_leaves_lifetime : DerivesAs type
-    (punct 38 true (at 0 1) (punct 60 false (at 1 2) (group Paren (at 2 3) (at 3 4) end (punct 62 true (at 4 5) (punct 58 true (at 5 6) (punct 58 false (at 6 7) (leaf (ident (97 ∷ [])) (at 7 8) (punct 39 true (at 9 10) (leaf (ident (97 ∷ [])) (at 10 11) end)))))))))
-    (punct 38 false call_site (punct 60 false call_site (group Paren call_site call_site end (punct 62 false call_site (punct 58 true call_site (punct 58 false call_site (leaf (ident (97 ∷ [])) call_site end)))))))
-    (punct 39 true (at 9 10) (leaf (ident (97 ∷ [])) (at 10 11) end))
+    (punct 38 false (at 0 1) (leaf (ident (97 ∷ [])) (at 1 2) (punct 39 true (at 3 4) (leaf (ident (98 ∷ [])) (at 4 5) end))))
+    (punct 38 false call_site (leaf (ident (97 ∷ [])) call_site end))
+    (punct 39 true (at 3 4) (leaf (ident (98 ∷ [])) (at 4 5) end))
 unfolding left is_end lookahead_at sees take_token take_lifetime take_mark take_group before rows_for rows run parse_rule
 type_reference_leaves_lifetime = computed type _ _ _ refl refl
 
@@ -1148,17 +1148,17 @@ type_pointer_inner_alone : NotDerived (rule type)
 unfolding left is_end lookahead_at sees take_token take_lifetime take_mark take_group before rows_for rows run parse_rule
 type_pointer_inner_alone = not_read type _ refl refl
 
--- `**const ()`: nothing is read
+-- `**const a`: nothing is read
 type_pointer_two_stars : NotDerived (rule type)
-    (punct 42 true (at 0 1) (punct 42 false (at 1 2) (leaf (ident w_const) (at 2 7) (group Paren (at 8 9) (at 9 10) end end))))
+    (punct 42 true (at 0 1) (punct 42 false (at 1 2) (leaf (ident w_const) (at 2 7) (leaf (ident (97 ∷ [])) (at 8 9) end))))
 unfolding left is_end lookahead_at sees take_token take_lifetime take_mark take_group before rows_for rows run parse_rule
 type_pointer_two_stars = not_read type _ refl refl
 
--- `<()>::crate<` prints `< ( ) > :: crate` and leaves `<`
+-- `<a>::self <b>::c` prints `< a > :: self` and leaves `<b>::c`
 type_qualified_leaves_less : DerivesAs type
-    (punct 60 false (at 0 1) (group Paren (at 1 2) (at 2 3) end (punct 62 true (at 3 4) (punct 58 true (at 4 5) (punct 58 false (at 5 6) (leaf (ident w_crate) (at 6 11) (punct 60 false (at 11 12) end)))))))
-    (punct 60 false call_site (group Paren call_site call_site end (punct 62 false call_site (punct 58 true call_site (punct 58 false call_site (leaf (ident w_crate) call_site end))))))
-    (punct 60 false (at 11 12) end)
+    (punct 60 false (at 0 1) (leaf (ident (97 ∷ [])) (at 1 2) (punct 62 true (at 2 3) (punct 58 true (at 3 4) (punct 58 false (at 4 5) (leaf (ident w_self) (at 5 9) (punct 60 false (at 10 11) (leaf (ident (98 ∷ [])) (at 11 12) (punct 62 true (at 12 13) (punct 58 true (at 13 14) (punct 58 false (at 14 15) (leaf (ident (99 ∷ [])) (at 15 16) end))))))))))))
+    (punct 60 false call_site (leaf (ident (97 ∷ [])) call_site (punct 62 false call_site (punct 58 true call_site (punct 58 false call_site (leaf (ident w_self) call_site end))))))
+    (punct 60 false (at 10 11) (leaf (ident (98 ∷ [])) (at 11 12) (punct 62 true (at 12 13) (punct 58 true (at 13 14) (punct 58 false (at 14 15) (leaf (ident (99 ∷ [])) (at 15 16) end))))))
 unfolding left is_end lookahead_at sees take_token take_lifetime take_mark take_group before rows_for rows run parse_rule
 type_qualified_leaves_less = computed type _ _ _ refl refl
 
@@ -1168,9 +1168,9 @@ type_pointer_const_twice : NotDerived (rule type)
 unfolding left is_end lookahead_at sees take_token take_lifetime take_mark take_group before rows_for rows run parse_rule
 type_pointer_const_twice = not_read type _ refl refl
 
--- `*<()>::a const a`: nothing is read
+-- `*a const b`: nothing is read
 type_pointer_const_behind : NotDerived (rule type)
-    (punct 42 true (at 0 1) (punct 60 false (at 1 2) (group Paren (at 2 3) (at 3 4) end (punct 62 true (at 4 5) (punct 58 true (at 5 6) (punct 58 false (at 6 7) (leaf (ident (97 ∷ [])) (at 7 8) (leaf (ident w_const) (at 9 14) (leaf (ident (97 ∷ [])) (at 15 16) end)))))))))
+    (punct 42 false (at 0 1) (leaf (ident (97 ∷ [])) (at 1 2) (leaf (ident w_const) (at 3 8) (leaf (ident (98 ∷ [])) (at 9 10) end))))
 unfolding left is_end lookahead_at sees take_token take_lifetime take_mark take_group before rows_for rows run parse_rule
 type_pointer_const_behind = not_read type _ refl refl
 
@@ -1190,9 +1190,9 @@ types_leave_less : DerivesAs types
 unfolding left is_end lookahead_at sees take_token take_lifetime take_mark take_group before rows_for rows run parse_rule
 types_leave_less = computed types _ _ _ refl refl
 
--- `, () a`: nothing is read
+-- `, a b`: nothing is read
 types_comma_first : NotDerived (rule types)
-    (punct 44 false (at 0 1) (group Paren (at 2 3) (at 3 4) end (leaf (ident (97 ∷ [])) (at 5 6) end)))
+    (punct 44 false (at 0 1) (leaf (ident (97 ∷ [])) (at 2 3) (leaf (ident (98 ∷ [])) (at 4 5) end)))
 unfolding left is_end lookahead_at sees take_token take_lifetime take_mark take_group before rows_for rows run parse_rule
 types_comma_first = not_read types _ refl refl
 
@@ -1204,17 +1204,17 @@ types_semicolon : DerivesAs types
 unfolding left is_end lookahead_at sees take_token take_lifetime take_mark take_group before rows_for rows run parse_rule
 types_semicolon = computed types _ _ _ refl refl
 
--- `(), a>` prints `( ) , a` and leaves `>`
+-- `a, b>` prints `a , b` and leaves `>`
 types_leave_greater : DerivesAs types
-    (group Paren (at 0 1) (at 1 2) end (punct 44 false (at 2 3) (leaf (ident (97 ∷ [])) (at 4 5) (punct 62 false (at 5 6) end))))
-    (group Paren call_site call_site end (punct 44 false call_site (leaf (ident (97 ∷ [])) call_site end)))
-    (punct 62 false (at 5 6) end)
+    (leaf (ident (97 ∷ [])) (at 0 1) (punct 44 false (at 1 2) (leaf (ident (98 ∷ [])) (at 3 4) (punct 62 false (at 4 5) end))))
+    (leaf (ident (97 ∷ [])) call_site (punct 44 false call_site (leaf (ident (98 ∷ [])) call_site end)))
+    (punct 62 false (at 4 5) end)
 unfolding left is_end lookahead_at sees take_token take_lifetime take_mark take_group before rows_for rows run parse_rule
 types_leave_greater = computed types _ _ _ refl refl
 
--- `<!>::a,,`: nothing is read
+-- `a,,`: nothing is read
 types_two_commas : NotDerived (rule types)
-    (punct 60 true (at 0 1) (punct 33 true (at 1 2) (punct 62 true (at 2 3) (punct 58 true (at 3 4) (punct 58 false (at 4 5) (leaf (ident (97 ∷ [])) (at 5 6) (punct 44 true (at 6 7) (punct 44 false (at 7 8) end))))))))
+    (leaf (ident (97 ∷ [])) (at 0 1) (punct 44 true (at 1 2) (punct 44 false (at 2 3) end)))
 unfolding left is_end lookahead_at sees take_token take_lifetime take_mark take_group before rows_for rows run parse_rule
 types_two_commas = not_read types _ refl refl
 
