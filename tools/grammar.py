@@ -36,12 +36,12 @@ def checked(source):
 
 
 def worked_examples(source):
-    """The file of the worked examples, and what they lack: of each rule one that is read, one that is refused, and its borders."""
+    """The files of the worked examples, and what they lack: of each rule one that is read, one that is refused, and its borders."""
     lookaheads, examples = Lookaheads(source), parse(HERE / 'examples.txt', source.rules)
-    text, bare = Theorems(source, lookaheads).file(examples)
+    files, bare = Theorems(source, lookaheads).files(examples)
     lacking = [f'`{rule}`: an example that is read, and one that is refused' for rule in bare]
     equivalent = read_equivalent(HERE / 'equivalent_mutants.txt')
-    return {'proofs/Examples.antt': text}, lacking + Borders(lookaheads, source.table, examples, equivalent).lacking()
+    return files, lacking + Borders(lookaheads, source.table, examples, equivalent).lacking()
 
 
 def tell_lacking(lacking):
@@ -93,13 +93,16 @@ def main():
     tell_unexplained(source)
     tell_lacking(lacking)
     stale = [p for p, text in files.items() if not (options.crate / p).exists() or (options.crate / p).read_text() != text]
+    others = [f'proofs/{p.name}' for p in sorted((options.crate / 'proofs').glob('Examples*.antt')) if f'proofs/{p.name}' not in files]
     if options.check:
-        if stale:
-            sys.exit('grammar: run tools/grammar.py; these files are not what it writes: ' + ', '.join(stale))
+        if stale or others:
+            sys.exit('grammar: run tools/grammar.py; these files are not what it writes: ' + ', '.join(stale + others))
         if lacking:
             sys.exit(f'grammar: {len(lacking)} things are lacking in the examples')
         print(f'grammar: {len(source.rules)} rules, all files as written')
         return
+    for path in others:
+        (options.crate / path).unlink()
     for path in stale:
         (options.crate / path).write_text(files[path])
     print(f'grammar: {len(source.rules)} rules; written: {", ".join(stale) or "nothing, all files stood so"}')

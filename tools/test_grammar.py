@@ -11,6 +11,7 @@ from grammarlib.complaints import EXPLAINED
 from grammarlib.examples import Theorems, parse
 from grammarlib.lookaheads import Lookaheads
 from grammarlib.source import Source
+from grammarlib.tokens import Ident, Literal, Punct, read_text
 
 HERE = Path(__file__).resolve().parent
 CRATE = HERE.parent / 'crates' / 'syn_grammar'
@@ -59,8 +60,10 @@ class Table(unittest.TestCase):
         source = Source(CRATE)
         files, complaints = checked(source)
         self.assertEqual(complaints, [])
-        files['proofs/Examples.antt'], lacking = Theorems(source, Lookaheads(source)).file(parse(HERE / 'examples.txt', source.rules))
+        examples, lacking = Theorems(source, Lookaheads(source)).files(parse(HERE / 'examples.txt', source.rules))
         self.assertEqual(lacking, [])
+        self.assertEqual(sorted(examples), sorted(f'proofs/{p.name}' for p in (CRATE / 'proofs').glob('Examples*.antt')))
+        files |= examples
         for path, text in files.items():
             self.assertEqual((CRATE / path).read_text(), text, path)
 
@@ -89,9 +92,33 @@ class Table(unittest.TestCase):
     def test_an_example_that_is_read_otherwise(self):
         source = Source(CRATE)
         path = self.folder / 'examples.txt'
-        path.write_text('wrong  visibility  pub(in)  => pub ( in )\n')
-        with self.assertRaises(Fault):
-            Theorems(source, Lookaheads(source)).file(parse(path, source.rules))
+        path.write_text('subject One: one\nwrong  visibility  pub(in)  => pub ( in )\n')
+        with self.assertRaises(Fault) as found:
+            Theorems(source, Lookaheads(source)).files(parse(path, source.rules))
+        self.assertIn('otherwise: wrong', str(found.exception))
+
+    def test_examples_stand_in_the_file_of_their_subject(self):
+        source = Source(CRATE)
+        path = self.folder / 'examples.txt'
+        path.write_text('subject One: a thing\npublic  visibility  pub  => pub\nsubject Two: others\narrow  return_type  =>a  => .. =>a\n')
+        examples = parse(path, source.rules)
+        self.assertEqual([(e.text, e.printed, e.rest) for e in examples], [('pub', 'pub', ''), ('=>a', '', '=>a')])
+        files, _ = Theorems(source, Lookaheads(source)).files(examples)
+        self.assertEqual(list(files), ['proofs/ExamplesOfOne.antt', 'proofs/ExamplesOfTwo.antt'])
+        self.assertIn('-- Worked examples of a thing, ', files['proofs/ExamplesOfOne.antt'])
+        self.assertIn('\npublic : DerivesAs', files['proofs/ExamplesOfOne.antt'])
+        self.assertNotIn('public', files['proofs/ExamplesOfTwo.antt'])
+        path.write_text('public  visibility  pub  => pub\n')
+        with self.assertRaises(Fault) as found:
+            parse(path, source.rules)
+        self.assertIn('no subject', str(found.exception))
+
+    def test_what_a_text_spells(self):
+        kinds = {'"s"': 'Str', 'b"s"': 'ByteStr', 'c"s"': 'CStr', "b'c'": 'Byte', "'c'": 'Char', '7u8': 'Int', '1.5': 'Float'}
+        for text, kind in kinds.items():
+            self.assertEqual(read_text(text), (Literal(kind, text),))
+        self.assertEqual(read_text("&'a b"), (Punct('&', True), Punct("'", True), Ident('a'), Ident('b')))
+        self.assertEqual(read_text('1.'), (Literal('Int', '1'), Punct('.', False)))
 
     def test_all_complaints_are_tested(self):
         # no form of today prints `_` as a name

@@ -21,8 +21,8 @@ COUNT = 120  # changes of the sample
 
 # wrong tables that break no law, each by one change of a line
 WRONG = {
-    'a keyword names a struct': ('    & plainly name\n', '    & plainly (name_or (w_crate ∷ []))\n'),
-    'two visibilities stand before a field': ('table unnamed_field =\n    rule visibility\n', 'table unnamed_field =\n    rule visibility\n    & rule visibility\n'),
+    'a keyword names a variant': ('    & plainly name\n', '    & plainly (name_or (w_crate ∷ []))\n'),
+    'two visibilities stand before a field': ('table plain_unnamed_field =\n    rule visibility\n', 'table plain_unnamed_field =\n    rule visibility\n    & rule visibility\n'),
     'a restriction stands twice': ('inside Paren (rule restriction)', 'inside Paren (rule restriction & (when at_word w_in then rule restriction else empty))'),
 }
 # a rule of forms that the table doesn't use today
@@ -58,12 +58,12 @@ class Mutations(unittest.TestCase):
         self.assertIn(f'{COUNT} changes of the table', said)
 
     def test_an_example_too_few(self):
-        kept = [line for line in (HERE / 'examples.txt').read_text().split('\n') if not line.startswith('struct_crate ')]
+        kept = [line for line in (HERE / 'examples.txt').read_text().split('\n') if not line.startswith('plain_struct_crate ')]
         path = self.folder / 'examples.txt'
         path.write_text('\n'.join(kept))
         status, said = mutate('--examples', path, '--find')
         self.assertEqual(status, 1)
-        self.assertIn('GETS THROUGH: structure: the name may also be `crate` (', said)
+        self.assertIn('GETS THROUGH: plain_structure: the name may also be `crate` (', said)
         self.assertEqual(said.count('GETS THROUGH:'), 1)
 
     def test_wrong_tables_are_told(self):
@@ -75,7 +75,7 @@ class Mutations(unittest.TestCase):
                 source = Source(self.folder)
                 self.assertEqual(checked(source)[1], [], 'a law refuses it already')
                 with self.assertRaises(Fault):
-                    Theorems(source, Lookaheads(source)).file(parse(HERE / 'examples.txt', source.rules))
+                    Theorems(source, Lookaheads(source)).files(parse(HERE / 'examples.txt', source.rules))
 
     def test_a_new_rule_wants_examples(self):
         self.table.write_text(self.table.read_text().rstrip() + '\n--\n-- New.\ntable new =\n    plainly (word w_pub) & punctuation comma\n')
@@ -83,10 +83,24 @@ class Mutations(unittest.TestCase):
         for change in ['`pub` may be left out', '`,` may stand again at the end', '`pub` may be any identifier']:
             self.assertIn(f'`new`: no example tells the table from one in which {change}', lacking)
 
+    def test_a_name_that_a_choice_has_seen_to(self):
+        self.table.write_text(self.table.read_text().rstrip() + '\n--\n-- New.\ntable new =\n    when at_name then plainly name & plainly name else punctuation comma\n')
+        lacking = self.borders().lacking()
+        self.assertEqual(sum('the name may be any identifier' in line for line in lacking), 1)
+        self.assertEqual(sum('the name may also be a literal' in line for line in lacking), 1)
+        self.assertEqual(sum('the name may not be `union`' in line for line in lacking), 2)
+
+    def test_each_change_has_words_of_its_own(self):
+        source = Source(CRATE)
+        mutants = Mutants(Lookaheads(source), source.table)
+        for rule in source.table:
+            changes = [m.change for m in mutants.of(rule)]
+            self.assertEqual(len(changes), len(set(changes)), rule)
+
     def test_listed_changes(self):
         listed = read_equivalent(HERE / 'equivalent_mutants.txt')
-        told = {**listed, ('structure', 'the name may also be `crate`'): 'wrongly'}
-        self.assertIn('but the example `struct_crate` tells it', '\n'.join(self.borders(told).lacking()))
+        told = {**listed, ('plain_structure', 'the name may also be `crate`'): 'wrongly'}
+        self.assertIn('but the example `plain_struct_crate` tells it', '\n'.join(self.borders(told).lacking()))
         unknown = {**listed, ('structure', 'it is blue'): 'wrongly'}
         self.assertIn('is no change of this rule', '\n'.join(self.borders(unknown).lacking()))
 

@@ -1,11 +1,14 @@
 """Worked examples as theorems: what a rule reads and prints, what it leaves, and what it refuses, computed by the checker.
 
-tools/examples.txt has one line an example:
+tools/examples.txt has one line for each subject, which names the file of the theorems behind it, and one line an example:
 
+    subject Name: words
     name    rule    text  =>  print             the whole text is read, and printed so
     name    rule    text  =>  print  ..  rest   the beginning is read, and this rest is left
     name    rule    text  =>  refused           the whole text isn't read (but perhaps a beginning of it)
     name    rule    text  =>  unread            no beginning of it is read either
+
+A mark `=>` or `..` in a text stands directly before what follows it.
 """
 import re
 from dataclasses import dataclass
@@ -19,8 +22,12 @@ from .write import MARK
 UNFOLD = 'left is_end lookahead_at sees take_token take_lifetime take_mark take_group before rows_for rows run parse_rule'
 
 
+SUBJECT = re.compile(r'subject ([A-Z]\w*): (.+)$')
+
+
 @dataclass
 class Example:
+    subject: tuple  # its name, and in words
     name: str
     rule: str
     text: str
@@ -30,15 +37,20 @@ class Example:
 
 
 def parse(path, rules):
-    found = []
+    found, subject = [], None
     for number, line in enumerate(path.read_text().split('\n'), 1):
         if not line.strip() or line.startswith('#'):
             continue
         where = f'{path.name}, line {number}'
-        parts = re.match(r'(\w+)\s+(\w+)(?:\s+(.*?))?\s+=>\s?(.*)$', line)
+        if begun := SUBJECT.match(line):
+            subject = begun.groups()
+            continue
+        parts = re.match(r'(\w+)\s+(\w+)(?:\s+(.*?))?\s+=>(?:\s(.*))?$', line)
         if not parts:
             raise Fault(f'{where}: an example is `name rule text => print`')
-        name, rule, text, answer = parts[1], parts[2], parts[3] or '', parts[4]
+        name, rule, text, answer = parts[1], parts[2], parts[3] or '', parts[4] or ''
+        if not subject:
+            raise Fault(f'{where}: no subject stands above the example')
         if rule not in rules:
             raise Fault(f'{where}: no rule is named `{rule}`')
         if name in rules:
@@ -46,10 +58,10 @@ def parse(path, rules):
         if any(e.name == name for e in found):
             raise Fault(f'{where}: the name `{name}` stands twice')
         if answer.strip() in ('refused', 'unread'):
-            found.append(Example(name, rule, text, unread=answer.strip() == 'unread'))
+            found.append(Example(subject, name, rule, text, unread=answer.strip() == 'unread'))
             continue
         printed, _, rest = f' {answer} '.partition(' .. ')
-        found.append(Example(name, rule, text, printed.strip(), rest.strip()))
+        found.append(Example(subject, name, rule, text, printed.strip(), rest.strip()))
     return found
 
 
@@ -107,21 +119,24 @@ class Theorems:
             comment += f' prints `{example.printed}`' + (f' and leaves `{example.rest}`' if example.rest else '')
         return f'{comment}\n{example.name} : {claim}\nunfolding {UNFOLD}\n{example.name} = {proof}\n'
 
-    def file(self, examples):
+    def files(self, examples):
+        """The file of each subject, and the rules without an example that is read and one that is refused."""
         wrong = [e.name for e in examples if not self.agree(e)]
         if wrong:
             raise Fault('examples.txt: the table reads these otherwise: ' + ', '.join(wrong))
         lacking = [k for k in self.source.rules if not any(e.rule == k and e.printed is not None for e in examples)
                    or not any(e.rule == k and e.printed is None for e in examples)]
-        body = '\n'.join(self.theorem(e) for e in examples)
-        return self.with_head(body), lacking
+        subjects = dict.fromkeys(e.subject for e in examples)
+        return {f'proofs/ExamplesOf{name}.antt': self.file(words, [e for e in examples if e.subject == (name, words)])
+                for name, words in subjects}, lacking
 
-    def with_head(self, body):
+    def file(self, words, examples):
+        body = '\n'.join(self.theorem(e) for e in examples)
         specs = lambda name: (f'{CRATE}.specs.{name}', exports(self.source.crate / 'specs' / f'{name}.antt'))
         modules = [
             ('Rattle.std.proofs.Common', COMMON), specs('Words'), specs('Tokens'),
             (f'{CRATE}.specs.Rules', ['Rule'] + self.source.rules), (f'{CRATE}.specs.Grammar', ['rule']),
             specs('Take'), specs('Run'), (f'{CRATE}.specs.Promises', ['Refused', 'NotDerived']),
             (f'{CRATE}.proofs.Means', ['not_derived']), (f'{CRATE}.proofs.Shown', ['at', 'DerivesAs', 'computed', 'not_read'])]
-        about = '-- Worked examples, from tools/examples.txt: what each rule reads, prints and refuses. The checker computes each.'
+        about = f'-- Worked examples of {words}, from tools/examples.txt: what each rule reads, prints and refuses. The checker computes each.'
         return f'{MARK}\n{about}\n' + use_lines(body, modules) + '\n' + body

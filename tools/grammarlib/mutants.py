@@ -4,6 +4,7 @@ What a change may be: a part left out, optional, twice, or again at another plac
 exchanged; a condition that asks for less or for something else; a word, a mark or a pair of delimiters that may also be another one;
 a name that may be a keyword; a group whose content isn't read to its end, or may be empty.
 """
+from collections import Counter
 from dataclasses import dataclass
 
 from .lookaheads import EMPTY, JOINED, NEVER, unique
@@ -128,10 +129,12 @@ class Mutants:
                                     for path, part in places(form) if part[0] in quiet))
 
     def distinct(self, rule, changes):
-        found = {}
+        found, said = {}, Counter()
         for change, new in changes:
             if new != self.table[rule] and new not in found:
-                found[new] = Mutant(rule, change, new)
+                said[change] += 1
+                place = f' (place {said[change]})' if said[change] > 1 else ''  # the same is changed at several places
+                found[new] = Mutant(rule, change + place, new)
         return list(found.values())
 
     def changes(self, form):
@@ -360,16 +363,26 @@ class Mutants:
             if part[0] != 'token' or part[2][0] not in ('name', 'name_or'):
                 continue
             known = part[2][1] if part[2][0] == 'name_or' else ()
-            yield f'{self.name(part)} may be any identifier', put(form, path, part[:2] + (('identifier',),))
+            comes = self.comes_there(form, path)
+            if any(comes(('Word', word)) for word in self.lookaheads.keywords if word not in known):
+                yield f'{self.name(part)} may be any identifier', put(form, path, part[:2] + (('identifier',),))
             for word in unique(KEYWORDS + words):
-                if word not in known:
+                if word not in known and word not in self.lookaheads.contextual and comes(('Word', word)):
                     yield f'{self.name(part)} may also be `{word}`', put(form, path, part[:2] + (('name_or', known + (word,)),))
             for word in known:
                 rest = tuple(w for w in known if w != word)
                 yield f'{self.name(part)} may not be `{word}`', put(form, path, part[:2] + (('name_or', rest) if rest else ('name',),))
             for word in self.lookaheads.contextual:
                 yield f'{self.name(part)} may not be `{word}`', put(form, path, ('when', ('at_word', word), NEVER, part))
-            yield f'{self.name(part)} may also be a literal', put(form, path, ('either', part, part[:2] + (('literal_of', (('Int',), ('Str',))),)))
+            if comes(('Literal', ('Int',))) or comes(('Literal', ('Str',))):
+                yield f'{self.name(part)} may also be a literal', put(form, path, ('either', part, part[:2] + (('literal_of', (('Int',), ('Str',))),)))
+
+    def comes_there(self, form, path):
+        """Whether a terminal may come to the token at this place: not where a choice in whose first way it stands first has seen to it."""
+        while path and path[-1] == 1 and [f for p, f in places(form) if p == path[:-1]][0][0] == '&':
+            path = path[:-1]
+        guard = self.guard(form, path)
+        return lambda terminal: guard is None or terminal in guard
 
     # SENTENCES
 

@@ -1,14 +1,14 @@
 """Token trees for the scripts: a reader of simple texts, and the text of a list of trees."""
 import re
 from dataclasses import dataclass, field
+from functools import partial
 
 OPENING = {'(': 'Paren', '{': 'Brace', '[': 'Bracket'}
 CLOSING = {')': '(', '}': '{', ']': '['}
 DELIMITER_TEXTS = {'Paren': '()', 'Brace': '{}', 'Bracket': '[]', 'None': ('', '')}
 MARKS = "~!@#$%^&*-=+|;:,<.>/?'"
 WORD = re.compile(r'[A-Za-z_]\w*')
-NUMBER = re.compile(r'\d\w*')
-STRING = re.compile(r'"[^"]*"')
+LITERALS = {'ByteStr': r'b"[^"]*"', 'CStr': r'c"[^"]*"', 'Str': r'"[^"]*"', 'Byte': r"b'[^']'", 'Char': r"'[^']'", 'Float': r'\d+\.\d\w*', 'Int': r'\d\w*'}
 
 NO_SPAN = (0, 0)
 
@@ -81,11 +81,11 @@ def shown(trees):
     return text.rstrip()
 
 
-LEAVES = [(WORD, Ident), (NUMBER, lambda text, span: Literal('Int', text, span)), (STRING, lambda text, span: Literal('Str', text, span))]
+LEAVES = [(re.compile(pattern), partial(Literal, kind)) for kind, pattern in LITERALS.items()] + [(WORD, Ident)]
 
 
 def read_text(text):
-    """The token trees of a text of words, numbers, strings, marks and groups. Spans are byte offsets."""
+    """The token trees of a text of words, simple literals, marks and groups. Spans are byte offsets."""
     trees, place = read_trees(text, 0, None)
     return trees
 

@@ -31,7 +31,13 @@ pub mod Begins
 pub mod Turns
 pub mod PrintedValues
 pub mod Shown
-pub mod Examples
+pub mod ExamplesOfAttributes
+mod ExamplesOfFields
+mod ExamplesOfGenerics
+mod ExamplesOfItems
+mod ExamplesOfPaths
+mod ExamplesOfPlain
+mod ExamplesOfTypes
 pub mod Shapes
 pub mod Same
 pub mod PlainValues

@@ -1,0 +1,183 @@
+-- Written by tools/grammar.py from specs/Table.antt; edits are lost.
+-- Worked examples of attributes, from tools/examples.txt: what each rule reads, prints and refuses. The checker computes each.
+use Rattle.std.proofs.Common.{true, false, [], ◌∷◌, refl}
+use Rattle.syn_grammar.specs.Words.{w_unsafe}
+use Rattle.syn_grammar.specs.Tokens.{call_site, Paren, Brace, Bracket, Str, Int, ident, literal, end, leaf, punct, group}
+use Rattle.syn_grammar.specs.Rules.{attributes, meta, meta_value}
+use Rattle.syn_grammar.specs.Grammar.{rule}
+use Rattle.syn_grammar.specs.Take.{left, is_end, lookahead_at, sees, take_token, take_lifetime, take_mark, take_group, before}
+use Rattle.syn_grammar.specs.Run.{rows_for, rows, run, parse_rule}
+use Rattle.syn_grammar.specs.Promises.{NotDerived}
+use Rattle.syn_grammar.proofs.Shown.{at, DerivesAs, computed, not_read}
+
+-- `#[a::b(x==y)] #[c]` prints `# [ a :: b ( x == y ) ] # [ c ]`
+attribute_list : DerivesAs attributes
+    (punct 35 false (at 0 1) (group Bracket (at 1 2) (at 12 13) (leaf (ident (97 ∷ [])) (at 2 3) (punct 58 true (at 3 4) (punct 58 false (at 4 5) (leaf (ident (98 ∷ [])) (at 5 6) (group Paren (at 6 7) (at 11 12) (leaf (ident (120 ∷ [])) (at 7 8) (punct 61 true (at 8 9) (punct 61 false (at 9 10) (leaf (ident (121 ∷ [])) (at 10 11) end)))) end))))) (punct 35 false (at 14 15) (group Bracket (at 15 16) (at 17 18) (leaf (ident (99 ∷ [])) (at 16 17) end) end))))
+    (punct 35 false call_site (group Bracket call_site call_site (leaf (ident (97 ∷ [])) call_site (punct 58 true call_site (punct 58 false call_site (leaf (ident (98 ∷ [])) call_site (group Paren call_site call_site (leaf (ident (120 ∷ [])) call_site (punct 61 true call_site (punct 61 false call_site (leaf (ident (121 ∷ [])) call_site end)))) end))))) (punct 35 false call_site (group Bracket call_site call_site (leaf (ident (99 ∷ [])) call_site end) end))))
+    (end)
+unfolding left is_end lookahead_at sees take_token take_lifetime take_mark take_group before rows_for rows run parse_rule
+attribute_list = computed attributes _ _ _ refl refl
+
+-- `a` prints `` and leaves `a`
+attribute_none : DerivesAs attributes
+    (leaf (ident (97 ∷ [])) (at 0 1) end)
+    (end)
+    (leaf (ident (97 ∷ [])) (at 0 1) end)
+unfolding left is_end lookahead_at sees take_token take_lifetime take_mark take_group before rows_for rows run parse_rule
+attribute_none = computed attributes _ _ _ refl refl
+
+-- `#![a]`: nothing is read
+attribute_inner : NotDerived (rule attributes)
+    (punct 35 true (at 0 1) (punct 33 false (at 1 2) (group Bracket (at 2 3) (at 4 5) (leaf (ident (97 ∷ [])) (at 3 4) end) end)))
+unfolding left is_end lookahead_at sees take_token take_lifetime take_mark take_group before rows_for rows run parse_rule
+attribute_inner = not_read attributes _ refl refl
+
+-- `#[a = 1] b` prints `# [ a = 1 ]` and leaves `b`
+attribute_leaves_name : DerivesAs attributes
+    (punct 35 false (at 0 1) (group Bracket (at 1 2) (at 7 8) (leaf (ident (97 ∷ [])) (at 2 3) (punct 61 false (at 4 5) (leaf (literal Int (49 ∷ [])) (at 6 7) end))) (leaf (ident (98 ∷ [])) (at 9 10) end)))
+    (punct 35 false call_site (group Bracket call_site call_site (leaf (ident (97 ∷ [])) call_site (punct 61 false call_site (leaf (literal Int (49 ∷ [])) call_site end))) end))
+    (leaf (ident (98 ∷ [])) (at 9 10) end)
+unfolding left is_end lookahead_at sees take_token take_lifetime take_mark take_group before rows_for rows run parse_rule
+attribute_leaves_name = computed attributes _ _ _ refl refl
+
+-- `#[]`: nothing is read
+attribute_empty : NotDerived (rule attributes)
+    (punct 35 false (at 0 1) (group Bracket (at 1 2) (at 2 3) end end))
+unfolding left is_end lookahead_at sees take_token take_lifetime take_mark take_group before rows_for rows run parse_rule
+attribute_empty = not_read attributes _ refl refl
+
+-- `#[a b]`: nothing is read
+attribute_two_words : NotDerived (rule attributes)
+    (punct 35 false (at 0 1) (group Bracket (at 1 2) (at 5 6) (leaf (ident (97 ∷ [])) (at 2 3) (leaf (ident (98 ∷ [])) (at 4 5) end)) end))
+unfolding left is_end lookahead_at sees take_token take_lifetime take_mark take_group before rows_for rows run parse_rule
+attribute_two_words = not_read attributes _ refl refl
+
+-- `#[a] []` prints `# [ a ]` and leaves `[]`
+attribute_leaves_brackets : DerivesAs attributes
+    (punct 35 false (at 0 1) (group Bracket (at 1 2) (at 3 4) (leaf (ident (97 ∷ [])) (at 2 3) end) (group Bracket (at 5 6) (at 6 7) end end)))
+    (punct 35 false call_site (group Bracket call_site call_site (leaf (ident (97 ∷ [])) call_site end) end))
+    (group Bracket (at 5 6) (at 6 7) end end)
+unfolding left is_end lookahead_at sees take_token take_lifetime take_mark take_group before rows_for rows run parse_rule
+attribute_leaves_brackets = computed attributes _ _ _ refl refl
+
+-- `##[a] [b]`: nothing is read
+attribute_two_pounds : NotDerived (rule attributes)
+    (punct 35 true (at 0 1) (punct 35 false (at 1 2) (group Bracket (at 2 3) (at 4 5) (leaf (ident (97 ∷ [])) (at 3 4) end) (group Bracket (at 6 7) (at 8 9) (leaf (ident (98 ∷ [])) (at 7 8) end) end))))
+unfolding left is_end lookahead_at sees take_token take_lifetime take_mark take_group before rows_for rows run parse_rule
+attribute_two_pounds = not_read attributes _ refl refl
+
+-- `#{ a }`: nothing is read
+attribute_braces : NotDerived (rule attributes)
+    (punct 35 false (at 0 1) (group Brace (at 1 2) (at 5 6) (leaf (ident (97 ∷ [])) (at 3 4) end) end))
+unfolding left is_end lookahead_at sees take_token take_lifetime take_mark take_group before rows_for rows run parse_rule
+attribute_braces = not_read attributes _ refl refl
+
+-- `#(a)`: nothing is read
+attribute_parentheses : NotDerived (rule attributes)
+    (punct 35 false (at 0 1) (group Paren (at 1 2) (at 3 4) (leaf (ident (97 ∷ [])) (at 2 3) end) end))
+unfolding left is_end lookahead_at sees take_token take_lifetime take_mark take_group before rows_for rows run parse_rule
+attribute_parentheses = not_read attributes _ refl refl
+
+-- `unsafe(a)` prints `unsafe ( a )`
+meta_unsafe : DerivesAs meta
+    (leaf (ident w_unsafe) (at 0 6) (group Paren (at 6 7) (at 8 9) (leaf (ident (97 ∷ [])) (at 7 8) end) end))
+    (leaf (ident w_unsafe) call_site (group Paren call_site call_site (leaf (ident (97 ∷ [])) call_site end) end))
+    (end)
+unfolding left is_end lookahead_at sees take_token take_lifetime take_mark take_group before rows_for rows run parse_rule
+meta_unsafe = computed meta _ _ _ refl refl
+
+-- `a == b` prints `a = = b`
+meta_value_joint : DerivesAs meta
+    (leaf (ident (97 ∷ [])) (at 0 1) (punct 61 true (at 2 3) (punct 61 false (at 3 4) (leaf (ident (98 ∷ [])) (at 5 6) end))))
+    (leaf (ident (97 ∷ [])) call_site (punct 61 false call_site (punct 61 false call_site (leaf (ident (98 ∷ [])) call_site end))))
+    (end)
+unfolding left is_end lookahead_at sees take_token take_lifetime take_mark take_group before rows_for rows run parse_rule
+meta_value_joint = computed meta _ _ _ refl refl
+
+-- `= b`: nothing is read
+meta_nothing : NotDerived (rule meta)
+    (punct 61 false (at 0 1) (leaf (ident (98 ∷ [])) (at 2 3) end))
+unfolding left is_end lookahead_at sees take_token take_lifetime take_mark take_group before rows_for rows run parse_rule
+meta_nothing = not_read meta _ refl refl
+
+-- `::a a` prints `:: a` and leaves `a`
+meta_leaves_word : DerivesAs meta
+    (punct 58 true (at 0 1) (punct 58 false (at 1 2) (leaf (ident (97 ∷ [])) (at 2 3) (leaf (ident (97 ∷ [])) (at 4 5) end))))
+    (punct 58 true call_site (punct 58 false call_site (leaf (ident (97 ∷ [])) call_site end)))
+    (leaf (ident (97 ∷ [])) (at 4 5) end)
+unfolding left is_end lookahead_at sees take_token take_lifetime take_mark take_group before rows_for rows run parse_rule
+meta_leaves_word = computed meta _ _ _ refl refl
+
+-- `{} a`: nothing is read
+meta_group_first : NotDerived (rule meta)
+    (group Brace (at 0 1) (at 1 2) end (leaf (ident (97 ∷ [])) (at 3 4) end))
+unfolding left is_end lookahead_at sees take_token take_lifetime take_mark take_group before rows_for rows run parse_rule
+meta_group_first = not_read meta _ refl refl
+
+-- `a::`: nothing is read
+meta_path_ends_with_colons : NotDerived (rule meta)
+    (leaf (ident (97 ∷ [])) (at 0 1) (punct 58 true (at 1 2) (punct 58 false (at 2 3) end)))
+unfolding left is_end lookahead_at sees take_token take_lifetime take_mark take_group before rows_for rows run parse_rule
+meta_path_ends_with_colons = not_read meta _ refl refl
+
+-- `a() ()` prints `a ( )` and leaves `()`
+meta_leaves_group : DerivesAs meta
+    (leaf (ident (97 ∷ [])) (at 0 1) (group Paren (at 1 2) (at 2 3) end (group Paren (at 4 5) (at 5 6) end end)))
+    (leaf (ident (97 ∷ [])) call_site (group Paren call_site call_site end end))
+    (group Paren (at 4 5) (at 5 6) end end)
+unfolding left is_end lookahead_at sees take_token take_lifetime take_mark take_group before rows_for rows run parse_rule
+meta_leaves_group = computed meta _ _ _ refl refl
+
+-- `unsafe unsafe` prints `unsafe` and leaves `unsafe`
+meta_unsafe_twice : DerivesAs meta
+    (leaf (ident w_unsafe) (at 0 6) (leaf (ident w_unsafe) (at 7 13) end))
+    (leaf (ident w_unsafe) call_site end)
+    (leaf (ident w_unsafe) (at 7 13) end)
+unfolding left is_end lookahead_at sees take_token take_lifetime take_mark take_group before rows_for rows run parse_rule
+meta_unsafe_twice = computed meta _ _ _ refl refl
+
+-- `=`: nothing is read
+meta_value_empty : NotDerived (rule meta_value)
+    (punct 61 false (at 0 1) end)
+unfolding left is_end lookahead_at sees take_token take_lifetime take_mark take_group before rows_for rows run parse_rule
+meta_value_empty = not_read meta_value _ refl refl
+
+-- `= "text"` prints `= "text"`
+value_text : DerivesAs meta_value
+    (punct 61 false (at 0 1) (leaf (literal Str (34 ∷ 116 ∷ 101 ∷ 120 ∷ 116 ∷ 34 ∷ [])) (at 2 8) end))
+    (punct 61 false call_site (leaf (literal Str (34 ∷ 116 ∷ 101 ∷ 120 ∷ 116 ∷ 34 ∷ [])) call_site end))
+    (end)
+unfolding left is_end lookahead_at sees take_token take_lifetime take_mark take_group before rows_for rows run parse_rule
+value_text = computed meta_value _ _ _ refl refl
+
+-- `[] []` prints `[ ]` and leaves `[]`
+value_leaves_brackets : DerivesAs meta_value
+    (group Bracket (at 0 1) (at 1 2) end (group Bracket (at 3 4) (at 4 5) end end))
+    (group Bracket call_site call_site end end)
+    (group Bracket (at 3 4) (at 4 5) end end)
+unfolding left is_end lookahead_at sees take_token take_lifetime take_mark take_group before rows_for rows run parse_rule
+value_leaves_brackets = computed meta_value _ _ _ refl refl
+
+-- `{} {}` prints `{ }` and leaves `{}`
+value_leaves_braces : DerivesAs meta_value
+    (group Brace (at 0 1) (at 1 2) end (group Brace (at 3 4) (at 4 5) end end))
+    (group Brace call_site call_site end end)
+    (group Brace (at 3 4) (at 4 5) end end)
+unfolding left is_end lookahead_at sees take_token take_lifetime take_mark take_group before rows_for rows run parse_rule
+value_leaves_braces = computed meta_value _ _ _ refl refl
+
+-- `() ()` prints `( )` and leaves `()`
+value_leaves_parentheses : DerivesAs meta_value
+    (group Paren (at 0 1) (at 1 2) end (group Paren (at 3 4) (at 4 5) end end))
+    (group Paren call_site call_site end end)
+    (group Paren (at 3 4) (at 4 5) end end)
+unfolding left is_end lookahead_at sees take_token take_lifetime take_mark take_group before rows_for rows run parse_rule
+value_leaves_parentheses = computed meta_value _ _ _ refl refl
+
+-- no tokens prints ``
+value_none : DerivesAs meta_value
+    (end)
+    (end)
+    (end)
+unfolding left is_end lookahead_at sees take_token take_lifetime take_mark take_group before rows_for rows run parse_rule
+value_none = computed meta_value _ _ _ refl refl
