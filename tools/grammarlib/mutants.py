@@ -34,6 +34,11 @@ def is_form(value):
     return isinstance(value, tuple) and bool(value) and isinstance(value[0], str) and value[0] not in LOOKS
 
 
+def reads_nothing(form):
+    """Nothing is ever read of it or printed."""
+    return form in (EMPTY, ('unshown',)) or (form[0] == 'shaped' and reads_nothing(form[2]))
+
+
 def children(form):
     """The places in a form at which other forms stand."""
     if form[0] in ('token', 'mark', 'rule', 'one_of', 'raw', 'rest_after', 'inside'):
@@ -148,7 +153,7 @@ class Mutants:
 
     def of_sequences(self, form):
         for path, found in sequences(form):
-            parts = [p for p in members(found) if p not in (EMPTY, ('unshown',))]
+            parts = [p for p in members(found) if not reads_nothing(p)]
             if not parts or parts == [NEVER]:
                 continue
             for change, new in self.of_members(parts, self.guard(form, path)):

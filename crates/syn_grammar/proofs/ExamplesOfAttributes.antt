@@ -1,9 +1,9 @@
 -- Written by tools/grammar.py from specs/Table.antt; edits are lost.
 -- Worked examples of attributes, from tools/examples.txt: what each rule reads, prints and refuses. The checker computes each.
 use Rattle.std.proofs.Common.{true, false, [], ◌∷◌, refl}
-use Rattle.syn_grammar.specs.Words.{w_unsafe}
+use Rattle.syn_grammar.specs.Words.{w_underscore, w_unsafe}
 use Rattle.syn_grammar.specs.Tokens.{call_site, Paren, Brace, Bracket, Str, Int, ident, literal, end, leaf, punct, group}
-use Rattle.syn_grammar.specs.Rules.{attributes, meta, meta_value}
+use Rattle.syn_grammar.specs.Rules.{attributes, meta, unsafe_path, unsafe_word, meta_value}
 use Rattle.syn_grammar.specs.Grammar.{rule}
 use Rattle.syn_grammar.specs.Take.{left, is_end, lookahead_at, sees, take_token, take_lifetime, take_mark, take_group, before}
 use Rattle.syn_grammar.specs.Run.{rows_for, rows, run, parse_rule}
@@ -135,6 +135,88 @@ meta_unsafe_twice : DerivesAs meta
     (leaf (ident w_unsafe) (at 7 13) end)
 unfolding left is_end lookahead_at sees take_token take_lifetime take_mark take_group before rows_for rows run parse_rule
 meta_unsafe_twice = computed meta _ _ _ refl refl
+
+-- `unsafe` prints `unsafe`
+unsafe_path_word : DerivesAs unsafe_path
+    (leaf (ident w_unsafe) (at 0 6) end)
+    (leaf (ident w_unsafe) call_site end)
+    (end)
+unfolding left is_end lookahead_at sees take_token take_lifetime take_mark take_group before rows_for rows run parse_rule
+unsafe_path_word = computed unsafe_path _ _ _ refl refl
+
+-- `::unsafe`: nothing is read
+unsafe_path_rooted : NotDerived (rule unsafe_path)
+    (punct 58 true (at 0 1) (punct 58 false (at 1 2) (leaf (ident w_unsafe) (at 2 8) end)))
+unfolding left is_end lookahead_at sees take_token take_lifetime take_mark take_group before rows_for rows run parse_rule
+unsafe_path_rooted = not_read unsafe_path _ refl refl
+
+-- no tokens: nothing is read
+unsafe_path_nothing : NotDerived (rule unsafe_path)
+    (end)
+unfolding left is_end lookahead_at sees take_token take_lifetime take_mark take_group before rows_for rows run parse_rule
+unsafe_path_nothing = not_read unsafe_path _ refl refl
+
+-- `unsafe unsafe` prints `unsafe` and leaves `unsafe`
+unsafe_path_leaves_word : DerivesAs unsafe_path
+    (leaf (ident w_unsafe) (at 0 6) (leaf (ident w_unsafe) (at 7 13) end))
+    (leaf (ident w_unsafe) call_site end)
+    (leaf (ident w_unsafe) (at 7 13) end)
+unfolding left is_end lookahead_at sees take_token take_lifetime take_mark take_group before rows_for rows run parse_rule
+unsafe_path_leaves_word = computed unsafe_path _ _ _ refl refl
+
+-- `:unsafe`: nothing is read
+unsafe_path_one_colon : NotDerived (rule unsafe_path)
+    (punct 58 false (at 0 1) (leaf (ident w_unsafe) (at 1 7) end))
+unfolding left is_end lookahead_at sees take_token take_lifetime take_mark take_group before rows_for rows run parse_rule
+unsafe_path_one_colon = not_read unsafe_path _ refl refl
+
+-- `unsafe` prints `unsafe`
+unsafe_word_alone : DerivesAs unsafe_word
+    (leaf (ident w_unsafe) (at 0 6) end)
+    (leaf (ident w_unsafe) call_site end)
+    (end)
+unfolding left is_end lookahead_at sees take_token take_lifetime take_mark take_group before rows_for rows run parse_rule
+unsafe_word_alone = computed unsafe_word _ _ _ refl refl
+
+-- `unsafe unsafe` prints `unsafe` and leaves `unsafe`
+unsafe_word_leaves_word : DerivesAs unsafe_word
+    (leaf (ident w_unsafe) (at 0 6) (leaf (ident w_unsafe) (at 7 13) end))
+    (leaf (ident w_unsafe) call_site end)
+    (leaf (ident w_unsafe) (at 7 13) end)
+unfolding left is_end lookahead_at sees take_token take_lifetime take_mark take_group before rows_for rows run parse_rule
+unsafe_word_leaves_word = computed unsafe_word _ _ _ refl refl
+
+-- `unsafe :` prints `unsafe` and leaves `:`
+unsafe_word_leaves_colon : DerivesAs unsafe_word
+    (leaf (ident w_unsafe) (at 0 6) (punct 58 false (at 7 8) end))
+    (leaf (ident w_unsafe) call_site end)
+    (punct 58 false (at 7 8) end)
+unfolding left is_end lookahead_at sees take_token take_lifetime take_mark take_group before rows_for rows run parse_rule
+unsafe_word_leaves_colon = computed unsafe_word _ _ _ refl refl
+
+-- `unsafe::a`: nothing is read
+unsafe_word_more : NotDerived (rule unsafe_word)
+    (leaf (ident w_unsafe) (at 0 6) (punct 58 true (at 6 7) (punct 58 false (at 7 8) (leaf (ident (97 ∷ [])) (at 8 9) end))))
+unfolding left is_end lookahead_at sees take_token take_lifetime take_mark take_group before rows_for rows run parse_rule
+unsafe_word_more = not_read unsafe_word _ refl refl
+
+-- `_`: nothing is read
+unsafe_word_other : NotDerived (rule unsafe_word)
+    (leaf (ident w_underscore) (at 0 1) end)
+unfolding left is_end lookahead_at sees take_token take_lifetime take_mark take_group before rows_for rows run parse_rule
+unsafe_word_other = not_read unsafe_word _ refl refl
+
+-- `a`: nothing is read
+unsafe_word_name : NotDerived (rule unsafe_word)
+    (leaf (ident (97 ∷ [])) (at 0 1) end)
+unfolding left is_end lookahead_at sees take_token take_lifetime take_mark take_group before rows_for rows run parse_rule
+unsafe_word_name = not_read unsafe_word _ refl refl
+
+-- no tokens: nothing is read
+unsafe_word_nothing : NotDerived (rule unsafe_word)
+    (end)
+unfolding left is_end lookahead_at sees take_token take_lifetime take_mark take_group before rows_for rows run parse_rule
+unsafe_word_nothing = not_read unsafe_word _ refl refl
 
 -- `=`: nothing is read
 meta_value_empty : NotDerived (rule meta_value)

@@ -3,7 +3,7 @@
 use Rattle.std.proofs.Common.{true, false, [], ◌∷◌, refl}
 use Rattle.syn_grammar.specs.Words.{w_underscore, w_crate, w_false, w_fn, w_in, w_pub, w_Self_type, w_self, w_struct, w_super, w_true, w_union, w_auto, w_default, w_safe}
 use Rattle.syn_grammar.specs.Tokens.{call_site, Paren, Brace, Bracket, Int, ident, literal, end, leaf, punct, group}
-use Rattle.syn_grammar.specs.Rules.{fields_named, named_fields, named_field, nameless_type, unnamed_field, unnamed_fields, fields_unnamed, variant, variants}
+use Rattle.syn_grammar.specs.Rules.{fields_named, named_fields, named_field, nameless_fields, unnamed_field, unnamed_fields, fields_unnamed, variant, variants}
 use Rattle.syn_grammar.specs.Grammar.{rule}
 use Rattle.syn_grammar.specs.Take.{left, is_end, lookahead_at, sees, take_token, take_lifetime, take_mark, take_group, before}
 use Rattle.syn_grammar.specs.Run.{rows_for, rows, run, parse_rule}
@@ -379,65 +379,125 @@ named_struct_default : DerivesAs named_field
 unfolding left is_end lookahead_at sees take_token take_lifetime take_mark take_group before rows_for rows run parse_rule
 named_struct_default = computed named_field _ _ _ refl refl
 
+-- `_: struct {} struct {}` prints `_ : struct { }` and leaves `struct {}`
+named_nameless_twice : DerivesAs named_field
+    (leaf (ident w_underscore) (at 0 1) (punct 58 false (at 1 2) (leaf (ident w_struct) (at 3 9) (group Brace (at 10 11) (at 11 12) end (leaf (ident w_struct) (at 13 19) (group Brace (at 20 21) (at 21 22) end end))))))
+    (leaf (ident w_underscore) call_site (punct 58 false call_site (leaf (ident w_struct) call_site (group Brace call_site call_site end end))))
+    (leaf (ident w_struct) (at 13 19) (group Brace (at 20 21) (at 21 22) end end))
+unfolding left is_end lookahead_at sees take_token take_lifetime take_mark take_group before rows_for rows run parse_rule
+named_nameless_twice = computed named_field _ _ _ refl refl
+
+-- `_:`: nothing is read
+named_underscore_nothing : NotDerived (rule named_field)
+    (leaf (ident w_underscore) (at 0 1) (punct 58 false (at 1 2) end))
+unfolding left is_end lookahead_at sees take_token take_lifetime take_mark take_group before rows_for rows run parse_rule
+named_underscore_nothing = not_read named_field _ refl refl
+
+-- `_: !` prints `_ : !`
+named_underscore_never : DerivesAs named_field
+    (leaf (ident w_underscore) (at 0 1) (punct 58 false (at 1 2) (punct 33 false (at 3 4) end)))
+    (leaf (ident w_underscore) call_site (punct 58 false call_site (punct 33 false call_site end)))
+    (end)
+unfolding left is_end lookahead_at sees take_token take_lifetime take_mark take_group before rows_for rows run parse_rule
+named_underscore_never = computed named_field _ _ _ refl refl
+
+-- `a: b c` prints `a : b` and leaves `c`
+named_leaves_second_type : DerivesAs named_field
+    (leaf (ident (97 ∷ [])) (at 0 1) (punct 58 false (at 1 2) (leaf (ident (98 ∷ [])) (at 3 4) (leaf (ident (99 ∷ [])) (at 5 6) end))))
+    (leaf (ident (97 ∷ [])) call_site (punct 58 false call_site (leaf (ident (98 ∷ [])) call_site end)))
+    (leaf (ident (99 ∷ [])) (at 5 6) end)
+unfolding left is_end lookahead_at sees take_token take_lifetime take_mark take_group before rows_for rows run parse_rule
+named_leaves_second_type = computed named_field _ _ _ refl refl
+
+-- `_: a b` prints `_ : a` and leaves `b`
+named_underscore_leaves_type : DerivesAs named_field
+    (leaf (ident w_underscore) (at 0 1) (punct 58 false (at 1 2) (leaf (ident (97 ∷ [])) (at 3 4) (leaf (ident (98 ∷ [])) (at 5 6) end))))
+    (leaf (ident w_underscore) call_site (punct 58 false call_site (leaf (ident (97 ∷ [])) call_site end)))
+    (leaf (ident (98 ∷ [])) (at 5 6) end)
+unfolding left is_end lookahead_at sees take_token take_lifetime take_mark take_group before rows_for rows run parse_rule
+named_underscore_leaves_type = computed named_field _ _ _ refl refl
+
 -- `struct { a: u8 }` prints `struct { a : u8 }`
-nameless_struct : DerivesAs nameless_type
+nameless_struct : DerivesAs nameless_fields
     (leaf (ident w_struct) (at 0 6) (group Brace (at 7 8) (at 15 16) (leaf (ident (97 ∷ [])) (at 9 10) (punct 58 false (at 10 11) (leaf (ident (117 ∷ 56 ∷ [])) (at 12 14) end))) end))
     (leaf (ident w_struct) call_site (group Brace call_site call_site (leaf (ident (97 ∷ [])) call_site (punct 58 false call_site (leaf (ident (117 ∷ 56 ∷ [])) call_site end))) end))
     (end)
 unfolding left is_end lookahead_at sees take_token take_lifetime take_mark take_group before rows_for rows run parse_rule
-nameless_struct = computed nameless_type _ _ _ refl refl
+nameless_struct = computed nameless_fields _ _ _ refl refl
 
--- `a b` prints `a` and leaves `b`
-nameless_leaves_word : DerivesAs nameless_type
-    (leaf (ident (97 ∷ [])) (at 0 1) (leaf (ident (98 ∷ [])) (at 2 3) end))
-    (leaf (ident (97 ∷ [])) call_site end)
-    (leaf (ident (98 ∷ [])) (at 2 3) end)
-unfolding left is_end lookahead_at sees take_token take_lifetime take_mark take_group before rows_for rows run parse_rule
-nameless_leaves_word = computed nameless_type _ _ _ refl refl
-
--- no tokens: nothing is read
-nameless_nothing : NotDerived (rule nameless_type)
+-- `union {}` prints `union { }`
+nameless_union : DerivesAs nameless_fields
+    (leaf (ident w_union) (at 0 5) (group Brace (at 6 7) (at 7 8) end end))
+    (leaf (ident w_union) call_site (group Brace call_site call_site end end))
     (end)
 unfolding left is_end lookahead_at sees take_token take_lifetime take_mark take_group before rows_for rows run parse_rule
-nameless_nothing = not_read nameless_type _ refl refl
+nameless_union = computed nameless_fields _ _ _ refl refl
+
+-- `struct {}` prints `struct { }`
+nameless_struct_empty : DerivesAs nameless_fields
+    (leaf (ident w_struct) (at 0 6) (group Brace (at 7 8) (at 8 9) end end))
+    (leaf (ident w_struct) call_site (group Brace call_site call_site end end))
+    (end)
+unfolding left is_end lookahead_at sees take_token take_lifetime take_mark take_group before rows_for rows run parse_rule
+nameless_struct_empty = computed nameless_fields _ _ _ refl refl
 
 -- `union {} union` prints `union { }` and leaves `union`
-nameless_union_leaves_union : DerivesAs nameless_type
+nameless_leaves_union : DerivesAs nameless_fields
     (leaf (ident w_union) (at 0 5) (group Brace (at 6 7) (at 7 8) end (leaf (ident w_union) (at 9 14) end)))
     (leaf (ident w_union) call_site (group Brace call_site call_site end end))
     (leaf (ident w_union) (at 9 14) end)
 unfolding left is_end lookahead_at sees take_token take_lifetime take_mark take_group before rows_for rows run parse_rule
-nameless_union_leaves_union = computed nameless_type _ _ _ refl refl
+nameless_leaves_union = computed nameless_fields _ _ _ refl refl
 
--- `union` prints `union`
-nameless_union_alone : DerivesAs nameless_type
-    (leaf (ident w_union) (at 0 5) end)
-    (leaf (ident w_union) call_site end)
-    (end)
+-- `{}`: nothing is read
+nameless_braces_alone : NotDerived (rule nameless_fields)
+    (group Brace (at 0 1) (at 1 2) end end)
 unfolding left is_end lookahead_at sees take_token take_lifetime take_mark take_group before rows_for rows run parse_rule
-nameless_union_alone = computed nameless_type _ _ _ refl refl
+nameless_braces_alone = not_read nameless_fields _ refl refl
 
--- `!` prints `!`
-nameless_never : DerivesAs nameless_type
-    (punct 33 false (at 0 1) end)
-    (punct 33 false call_site end)
-    (end)
+-- `union union {}`: nothing is read
+nameless_two_words : NotDerived (rule nameless_fields)
+    (leaf (ident w_union) (at 0 5) (leaf (ident w_union) (at 6 11) (group Brace (at 12 13) (at 13 14) end end)))
 unfolding left is_end lookahead_at sees take_token take_lifetime take_mark take_group before rows_for rows run parse_rule
-nameless_never = computed nameless_type _ _ _ refl refl
+nameless_two_words = not_read nameless_fields _ refl refl
+
+-- `{} union {}`: nothing is read
+nameless_braces_first : NotDerived (rule nameless_fields)
+    (group Brace (at 0 1) (at 1 2) end (leaf (ident w_union) (at 3 8) (group Brace (at 9 10) (at 10 11) end end)))
+unfolding left is_end lookahead_at sees take_token take_lifetime take_mark take_group before rows_for rows run parse_rule
+nameless_braces_first = not_read nameless_fields _ refl refl
 
 -- `struct struct {}`: nothing is read
-nameless_struct_twice : NotDerived (rule nameless_type)
+nameless_struct_twice : NotDerived (rule nameless_fields)
     (leaf (ident w_struct) (at 0 6) (leaf (ident w_struct) (at 7 13) (group Brace (at 14 15) (at 15 16) end end)))
 unfolding left is_end lookahead_at sees take_token take_lifetime take_mark take_group before rows_for rows run parse_rule
-nameless_struct_twice = not_read nameless_type _ refl refl
+nameless_struct_twice = not_read nameless_fields _ refl refl
+
+-- `_ {}`: nothing is read
+nameless_other_word : NotDerived (rule nameless_fields)
+    (leaf (ident w_underscore) (at 0 1) (group Brace (at 2 3) (at 3 4) end end))
+unfolding left is_end lookahead_at sees take_token take_lifetime take_mark take_group before rows_for rows run parse_rule
+nameless_other_word = not_read nameless_fields _ refl refl
+
+-- `a {}`: nothing is read
+nameless_name : NotDerived (rule nameless_fields)
+    (leaf (ident (97 ∷ [])) (at 0 1) (group Brace (at 2 3) (at 3 4) end end))
+unfolding left is_end lookahead_at sees take_token take_lifetime take_mark take_group before rows_for rows run parse_rule
+nameless_name = not_read nameless_fields _ refl refl
+
+-- no tokens: nothing is read
+nameless_nothing : NotDerived (rule nameless_fields)
+    (end)
+unfolding left is_end lookahead_at sees take_token take_lifetime take_mark take_group before rows_for rows run parse_rule
+nameless_nothing = not_read nameless_fields _ refl refl
 
 -- `struct {} {}` prints `struct { }` and leaves `{}`
-nameless_leaves_braces : DerivesAs nameless_type
+nameless_leaves_braces : DerivesAs nameless_fields
     (leaf (ident w_struct) (at 0 6) (group Brace (at 7 8) (at 8 9) end (group Brace (at 10 11) (at 11 12) end end)))
     (leaf (ident w_struct) call_site (group Brace call_site call_site end end))
     (group Brace (at 10 11) (at 11 12) end end)
 unfolding left is_end lookahead_at sees take_token take_lifetime take_mark take_group before rows_for rows run parse_rule
-nameless_leaves_braces = computed nameless_type _ _ _ refl refl
+nameless_leaves_braces = computed nameless_fields _ _ _ refl refl
 
 -- `u8` prints `u8`
 field_plain : DerivesAs unnamed_field

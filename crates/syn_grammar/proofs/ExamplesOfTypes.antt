@@ -1,9 +1,9 @@
 -- Written by tools/grammar.py from specs/Table.antt; edits are lost.
 -- Worked examples of types, their paths and expressions, from tools/examples.txt: what each rule reads, prints and refuses. The checker computes each.
 use Rattle.std.proofs.Common.{true, false, [], ◌∷◌, refl}
-use Rattle.syn_grammar.specs.Words.{w_as, w_const, w_crate, w_false, w_fn, w_mut, w_Self_type, w_self, w_super, w_true, w_union, w_auto, w_default, w_safe}
+use Rattle.syn_grammar.specs.Words.{w_underscore, w_as, w_const, w_crate, w_false, w_fn, w_mut, w_Self_type, w_self, w_super, w_true, w_union, w_auto, w_default, w_safe}
 use Rattle.syn_grammar.specs.Tokens.{call_site, Paren, Brace, Bracket, Str, ByteStr, CStr, Byte, Char, Int, Float, ident, literal, end, leaf, punct, group}
-use Rattle.syn_grammar.specs.Rules.{type_path, type_words, type_arguments, more_type_words, return_type, generic_arguments, generic_argument, qualified_path, type, types, expression}
+use Rattle.syn_grammar.specs.Rules.{type_path, type_words, type_arguments, return_type, generic_arguments, generic_argument, qualified_path, type, types, expression}
 use Rattle.syn_grammar.specs.Grammar.{rule}
 use Rattle.syn_grammar.specs.Take.{left, is_end, lookahead_at, sees, take_token, take_lifetime, take_mark, take_group, before}
 use Rattle.syn_grammar.specs.Run.{rows_for, rows, run, parse_rule}
@@ -214,11 +214,87 @@ type_words_leave_dot : DerivesAs type_words
 unfolding left is_end lookahead_at sees take_token take_lifetime take_mark take_group before rows_for rows run parse_rule
 type_words_leave_dot = computed type_words _ _ _ refl refl
 
--- `<T>::Item` prints `< T > :: Item`
+-- `a ()` prints `a ( )`
+type_words_parentheses : DerivesAs type_words
+    (leaf (ident (97 ∷ [])) (at 0 1) (group Paren (at 2 3) (at 3 4) end end))
+    (leaf (ident (97 ∷ [])) call_site (group Paren call_site call_site end end))
+    (end)
+unfolding left is_end lookahead_at sees take_token take_lifetime take_mark take_group before rows_for rows run parse_rule
+type_words_parentheses = computed type_words _ _ _ refl refl
+
+-- `b::<>::auto` prints `b :: < > :: auto`
+type_words_turbofish : DerivesAs type_words
+    (leaf (ident (98 ∷ [])) (at 0 1) (punct 58 true (at 1 2) (punct 58 true (at 2 3) (punct 60 true (at 3 4) (punct 62 true (at 4 5) (punct 58 true (at 5 6) (punct 58 false (at 6 7) (leaf (ident w_auto) (at 7 11) end))))))))
+    (leaf (ident (98 ∷ [])) call_site (punct 58 true call_site (punct 58 false call_site (punct 60 false call_site (punct 62 false call_site (punct 58 true call_site (punct 58 false call_site (leaf (ident w_auto) call_site end))))))))
+    (end)
+unfolding left is_end lookahead_at sees take_token take_lifetime take_mark take_group before rows_for rows run parse_rule
+type_words_turbofish = computed type_words _ _ _ refl refl
+
+-- `a {}` prints `a` and leaves `{}`
+type_words_leave_braces : DerivesAs type_words
+    (leaf (ident (97 ∷ [])) (at 0 1) (group Brace (at 2 3) (at 3 4) end end))
+    (leaf (ident (97 ∷ [])) call_site end)
+    (group Brace (at 2 3) (at 3 4) end end)
+unfolding left is_end lookahead_at sees take_token take_lifetime take_mark take_group before rows_for rows run parse_rule
+type_words_leave_braces = computed type_words _ _ _ refl refl
+
+-- `T []` prints `T` and leaves `[]`
+type_words_leave_brackets : DerivesAs type_words
+    (leaf (ident (84 ∷ [])) (at 0 1) (group Bracket (at 2 3) (at 3 4) end end))
+    (leaf (ident (84 ∷ [])) call_site end)
+    (group Bracket (at 2 3) (at 3 4) end end)
+unfolding left is_end lookahead_at sees take_token take_lifetime take_mark take_group before rows_for rows run parse_rule
+type_words_leave_brackets = computed type_words _ _ _ refl refl
+
+-- `T::b` prints `T :: b`
+type_words_two : DerivesAs type_words
+    (leaf (ident (84 ∷ [])) (at 0 1) (punct 58 true (at 1 2) (punct 58 false (at 2 3) (leaf (ident (98 ∷ [])) (at 3 4) end))))
+    (leaf (ident (84 ∷ [])) call_site (punct 58 true call_site (punct 58 false call_site (leaf (ident (98 ∷ [])) call_site end))))
+    (end)
+unfolding left is_end lookahead_at sees take_token take_lifetime take_mark take_group before rows_for rows run parse_rule
+type_words_two = computed type_words _ _ _ refl refl
+
+-- `_`: nothing is read
+type_words_underscore : NotDerived (rule type_words)
+    (leaf (ident w_underscore) (at 0 1) end)
+unfolding left is_end lookahead_at sees take_token take_lifetime take_mark take_group before rows_for rows run parse_rule
+type_words_underscore = not_read type_words _ refl refl
+
+-- `0`: nothing is read
+type_words_literal : NotDerived (rule type_words)
+    (leaf (literal Int (48 ∷ [])) (at 0 1) end)
+unfolding left is_end lookahead_at sees take_token take_lifetime take_mark take_group before rows_for rows run parse_rule
+type_words_literal = not_read type_words _ refl refl
+
+-- `a <= b` prints `a` and leaves `<= b`
+type_words_less_equals : DerivesAs type_words
+    (leaf (ident (97 ∷ [])) (at 0 1) (punct 60 true (at 2 3) (punct 61 false (at 3 4) (leaf (ident (98 ∷ [])) (at 5 6) end))))
+    (leaf (ident (97 ∷ [])) call_site end)
+    (punct 60 true (at 2 3) (punct 61 false (at 3 4) (leaf (ident (98 ∷ [])) (at 5 6) end)))
+unfolding left is_end lookahead_at sees take_token take_lifetime take_mark take_group before rows_for rows run parse_rule
+type_words_less_equals = computed type_words _ _ _ refl refl
+
+-- `a b<>` prints `a` and leaves `b<>`
+type_words_leave_other_word : DerivesAs type_words
+    (leaf (ident (97 ∷ [])) (at 0 1) (leaf (ident (98 ∷ [])) (at 2 3) (punct 60 true (at 3 4) (punct 62 false (at 4 5) end))))
+    (leaf (ident (97 ∷ [])) call_site end)
+    (leaf (ident (98 ∷ [])) (at 2 3) (punct 60 true (at 3 4) (punct 62 false (at 4 5) end)))
+unfolding left is_end lookahead_at sees take_token take_lifetime take_mark take_group before rows_for rows run parse_rule
+type_words_leave_other_word = computed type_words _ _ _ refl refl
+
+-- `a:<b>` prints `a` and leaves `:<b>`
+type_words_colon_less : DerivesAs type_words
+    (leaf (ident (97 ∷ [])) (at 0 1) (punct 58 true (at 1 2) (punct 60 false (at 2 3) (leaf (ident (98 ∷ [])) (at 3 4) (punct 62 false (at 4 5) end)))))
+    (leaf (ident (97 ∷ [])) call_site end)
+    (punct 58 true (at 1 2) (punct 60 false (at 2 3) (leaf (ident (98 ∷ [])) (at 3 4) (punct 62 false (at 4 5) end))))
+unfolding left is_end lookahead_at sees take_token take_lifetime take_mark take_group before rows_for rows run parse_rule
+type_words_colon_less = computed type_words _ _ _ refl refl
+
+-- `<T>::Item` prints `< T >` and leaves `::Item`
 type_arguments_item : DerivesAs type_arguments
     (punct 60 false (at 0 1) (leaf (ident (84 ∷ [])) (at 1 2) (punct 62 true (at 2 3) (punct 58 true (at 3 4) (punct 58 false (at 4 5) (leaf (ident (73 ∷ 116 ∷ 101 ∷ 109 ∷ [])) (at 5 9) end))))))
-    (punct 60 false call_site (leaf (ident (84 ∷ [])) call_site (punct 62 false call_site (punct 58 true call_site (punct 58 false call_site (leaf (ident (73 ∷ 116 ∷ 101 ∷ 109 ∷ [])) call_site end))))))
-    (end)
+    (punct 60 false call_site (leaf (ident (84 ∷ [])) call_site (punct 62 false call_site end)))
+    (punct 58 true (at 3 4) (punct 58 false (at 4 5) (leaf (ident (73 ∷ 116 ∷ 101 ∷ 109 ∷ [])) (at 5 9) end)))
 unfolding left is_end lookahead_at sees take_token take_lifetime take_mark take_group before rows_for rows run parse_rule
 type_arguments_item = computed type_arguments _ _ _ refl refl
 
@@ -230,13 +306,11 @@ type_arguments_leave_parentheses : DerivesAs type_arguments
 unfolding left is_end lookahead_at sees take_token take_lifetime take_mark take_group before rows_for rows run parse_rule
 type_arguments_leave_parentheses = computed type_arguments _ _ _ refl refl
 
--- `::a b` prints `:: a` and leaves `b`
-type_arguments_path_leaves_word : DerivesAs type_arguments
+-- `::a b`: nothing is read
+type_arguments_path : NotDerived (rule type_arguments)
     (punct 58 true (at 0 1) (punct 58 false (at 1 2) (leaf (ident (97 ∷ [])) (at 2 3) (leaf (ident (98 ∷ [])) (at 4 5) end))))
-    (punct 58 true call_site (punct 58 false call_site (leaf (ident (97 ∷ [])) call_site end)))
-    (leaf (ident (98 ∷ [])) (at 4 5) end)
 unfolding left is_end lookahead_at sees take_token take_lifetime take_mark take_group before rows_for rows run parse_rule
-type_arguments_path_leaves_word = computed type_arguments _ _ _ refl refl
+type_arguments_path = not_read type_arguments _ refl refl
 
 -- `<> <` prints `< >` and leaves `<`
 type_arguments_leave_less : DerivesAs type_arguments
@@ -246,21 +320,19 @@ type_arguments_leave_less : DerivesAs type_arguments
 unfolding left is_end lookahead_at sees take_token take_lifetime take_mark take_group before rows_for rows run parse_rule
 type_arguments_leave_less = computed type_arguments _ _ _ refl refl
 
--- `()::a -> b` prints `( ) :: a` and leaves `-> b`
+-- `()::a -> b` prints `( )` and leaves `::a -> b`
 type_arguments_parentheses_leave_arrow : DerivesAs type_arguments
     (group Paren (at 0 1) (at 1 2) end (punct 58 true (at 2 3) (punct 58 false (at 3 4) (leaf (ident (97 ∷ [])) (at 4 5) (punct 45 true (at 6 7) (punct 62 false (at 7 8) (leaf (ident (98 ∷ [])) (at 9 10) end)))))))
-    (group Paren call_site call_site end (punct 58 true call_site (punct 58 false call_site (leaf (ident (97 ∷ [])) call_site end))))
-    (punct 45 true (at 6 7) (punct 62 false (at 7 8) (leaf (ident (98 ∷ [])) (at 9 10) end)))
+    (group Paren call_site call_site end end)
+    (punct 58 true (at 2 3) (punct 58 false (at 3 4) (leaf (ident (97 ∷ [])) (at 4 5) (punct 45 true (at 6 7) (punct 62 false (at 7 8) (leaf (ident (98 ∷ [])) (at 9 10) end))))))
 unfolding left is_end lookahead_at sees take_token take_lifetime take_mark take_group before rows_for rows run parse_rule
 type_arguments_parentheses_leave_arrow = computed type_arguments _ _ _ refl refl
 
--- `:` prints `` and leaves `:`
-type_arguments_one_colon : DerivesAs type_arguments
-    (punct 58 false (at 0 1) end)
-    (end)
+-- `:`: nothing is read
+type_arguments_one_colon : NotDerived (rule type_arguments)
     (punct 58 false (at 0 1) end)
 unfolding left is_end lookahead_at sees take_token take_lifetime take_mark take_group before rows_for rows run parse_rule
-type_arguments_one_colon = computed type_arguments _ _ _ refl refl
+type_arguments_one_colon = not_read type_arguments _ refl refl
 
 -- `::::a`: nothing is read
 type_arguments_colons_twice : NotDerived (rule type_arguments)
@@ -268,21 +340,17 @@ type_arguments_colons_twice : NotDerived (rule type_arguments)
 unfolding left is_end lookahead_at sees take_token take_lifetime take_mark take_group before rows_for rows run parse_rule
 type_arguments_colons_twice = not_read type_arguments _ refl refl
 
--- `{}` prints `` and leaves `{}`
-type_arguments_braces : DerivesAs type_arguments
-    (group Brace (at 0 1) (at 1 2) end end)
-    (end)
+-- `{}`: nothing is read
+type_arguments_braces : NotDerived (rule type_arguments)
     (group Brace (at 0 1) (at 1 2) end end)
 unfolding left is_end lookahead_at sees take_token take_lifetime take_mark take_group before rows_for rows run parse_rule
-type_arguments_braces = computed type_arguments _ _ _ refl refl
+type_arguments_braces = not_read type_arguments _ refl refl
 
--- `[]` prints `` and leaves `[]`
-type_arguments_brackets : DerivesAs type_arguments
-    (group Bracket (at 0 1) (at 1 2) end end)
-    (end)
+-- `[]`: nothing is read
+type_arguments_brackets : NotDerived (rule type_arguments)
     (group Bracket (at 0 1) (at 1 2) end end)
 unfolding left is_end lookahead_at sees take_token take_lifetime take_mark take_group before rows_for rows run parse_rule
-type_arguments_brackets = computed type_arguments _ _ _ refl refl
+type_arguments_brackets = not_read type_arguments _ refl refl
 
 -- `(a),` prints `( a )` and leaves `,`
 type_arguments_leave_comma : DerivesAs type_arguments
@@ -300,29 +368,25 @@ type_arguments_turbofish_twice : DerivesAs type_arguments
 unfolding left is_end lookahead_at sees take_token take_lifetime take_mark take_group before rows_for rows run parse_rule
 type_arguments_turbofish_twice = computed type_arguments _ _ _ refl refl
 
--- `<=` prints `` and leaves `<=`
-type_arguments_less_equals : DerivesAs type_arguments
-    (punct 60 true (at 0 1) (punct 61 false (at 1 2) end))
-    (end)
+-- `<=`: nothing is read
+type_arguments_less_equals : NotDerived (rule type_arguments)
     (punct 60 true (at 0 1) (punct 61 false (at 1 2) end))
 unfolding left is_end lookahead_at sees take_token take_lifetime take_mark take_group before rows_for rows run parse_rule
-type_arguments_less_equals = computed type_arguments _ _ _ refl refl
+type_arguments_less_equals = not_read type_arguments _ refl refl
 
--- `::<a>::b` prints `:: < a > :: b`
+-- `::<a>::b` prints `:: < a >` and leaves `::b`
 type_arguments_turbofish_item : DerivesAs type_arguments
     (punct 58 true (at 0 1) (punct 58 true (at 1 2) (punct 60 false (at 2 3) (leaf (ident (97 ∷ [])) (at 3 4) (punct 62 true (at 4 5) (punct 58 true (at 5 6) (punct 58 false (at 6 7) (leaf (ident (98 ∷ [])) (at 7 8) end))))))))
-    (punct 58 true call_site (punct 58 false call_site (punct 60 false call_site (leaf (ident (97 ∷ [])) call_site (punct 62 false call_site (punct 58 true call_site (punct 58 false call_site (leaf (ident (98 ∷ [])) call_site end))))))))
-    (end)
+    (punct 58 true call_site (punct 58 false call_site (punct 60 false call_site (leaf (ident (97 ∷ [])) call_site (punct 62 false call_site end)))))
+    (punct 58 true (at 5 6) (punct 58 false (at 6 7) (leaf (ident (98 ∷ [])) (at 7 8) end)))
 unfolding left is_end lookahead_at sees take_token take_lifetime take_mark take_group before rows_for rows run parse_rule
 type_arguments_turbofish_item = computed type_arguments _ _ _ refl refl
 
--- `.` prints `` and leaves `.`
-type_arguments_dot : DerivesAs type_arguments
-    (punct 46 false (at 0 1) end)
-    (end)
+-- `.`: nothing is read
+type_arguments_dot : NotDerived (rule type_arguments)
     (punct 46 false (at 0 1) end)
 unfolding left is_end lookahead_at sees take_token take_lifetime take_mark take_group before rows_for rows run parse_rule
-type_arguments_dot = computed type_arguments _ _ _ refl refl
+type_arguments_dot = not_read type_arguments _ refl refl
 
 -- `() -> a -> b` prints `( ) -> a` and leaves `-> b`
 type_arguments_return_leaves_arrow : DerivesAs type_arguments
@@ -338,51 +402,35 @@ type_arguments_no_comma : NotDerived (rule type_arguments)
 unfolding left is_end lookahead_at sees take_token take_lifetime take_mark take_group before rows_for rows run parse_rule
 type_arguments_no_comma = not_read type_arguments _ refl refl
 
--- `::Item` prints `:: Item`
-more_words_item : DerivesAs more_type_words
-    (punct 58 true (at 0 1) (punct 58 false (at 1 2) (leaf (ident (73 ∷ 116 ∷ 101 ∷ 109 ∷ [])) (at 2 6) end)))
-    (punct 58 true call_site (punct 58 false call_site (leaf (ident (73 ∷ 116 ∷ 101 ∷ 109 ∷ [])) call_site end)))
+-- `::::<>`: nothing is read
+type_arguments_colons_before_less : NotDerived (rule type_arguments)
+    (punct 58 true (at 0 1) (punct 58 true (at 1 2) (punct 58 true (at 2 3) (punct 58 true (at 3 4) (punct 60 true (at 4 5) (punct 62 false (at 5 6) end))))))
+unfolding left is_end lookahead_at sees take_token take_lifetime take_mark take_group before rows_for rows run parse_rule
+type_arguments_colons_before_less = not_read type_arguments _ refl refl
+
+-- `:: ::<>`: nothing is read
+type_arguments_colons_before_turbofish : NotDerived (rule type_arguments)
+    (punct 58 true (at 0 1) (punct 58 false (at 1 2) (punct 58 true (at 3 4) (punct 58 true (at 4 5) (punct 60 true (at 5 6) (punct 62 false (at 6 7) end))))))
+unfolding left is_end lookahead_at sees take_token take_lifetime take_mark take_group before rows_for rows run parse_rule
+type_arguments_colons_before_turbofish = not_read type_arguments _ refl refl
+
+-- `.<>`: nothing is read
+type_arguments_dot_before_less : NotDerived (rule type_arguments)
+    (punct 46 true (at 0 1) (punct 60 true (at 1 2) (punct 62 false (at 2 3) end)))
+unfolding left is_end lookahead_at sees take_token take_lifetime take_mark take_group before rows_for rows run parse_rule
+type_arguments_dot_before_less = not_read type_arguments _ refl refl
+
+-- `:<>`: nothing is read
+type_arguments_colon_before_less : NotDerived (rule type_arguments)
+    (punct 58 true (at 0 1) (punct 60 true (at 1 2) (punct 62 false (at 2 3) end)))
+unfolding left is_end lookahead_at sees take_token take_lifetime take_mark take_group before rows_for rows run parse_rule
+type_arguments_colon_before_less = not_read type_arguments _ refl refl
+
+-- no tokens: nothing is read
+type_arguments_nothing : NotDerived (rule type_arguments)
     (end)
 unfolding left is_end lookahead_at sees take_token take_lifetime take_mark take_group before rows_for rows run parse_rule
-more_words_item = computed more_type_words _ _ _ refl refl
-
--- `:` prints `` and leaves `:`
-more_words_one_colon : DerivesAs more_type_words
-    (punct 58 false (at 0 1) end)
-    (end)
-    (punct 58 false (at 0 1) end)
-unfolding left is_end lookahead_at sees take_token take_lifetime take_mark take_group before rows_for rows run parse_rule
-more_words_one_colon = computed more_type_words _ _ _ refl refl
-
--- `::::a`: nothing is read
-more_words_colons_twice : NotDerived (rule more_type_words)
-    (punct 58 true (at 0 1) (punct 58 true (at 1 2) (punct 58 true (at 2 3) (punct 58 false (at 3 4) (leaf (ident (97 ∷ [])) (at 4 5) end)))))
-unfolding left is_end lookahead_at sees take_token take_lifetime take_mark take_group before rows_for rows run parse_rule
-more_words_colons_twice = not_read more_type_words _ refl refl
-
--- `::a b` prints `:: a` and leaves `b`
-more_words_leave_word : DerivesAs more_type_words
-    (punct 58 true (at 0 1) (punct 58 false (at 1 2) (leaf (ident (97 ∷ [])) (at 2 3) (leaf (ident (98 ∷ [])) (at 4 5) end))))
-    (punct 58 true call_site (punct 58 false call_site (leaf (ident (97 ∷ [])) call_site end)))
-    (leaf (ident (98 ∷ [])) (at 4 5) end)
-unfolding left is_end lookahead_at sees take_token take_lifetime take_mark take_group before rows_for rows run parse_rule
-more_words_leave_word = computed more_type_words _ _ _ refl refl
-
--- `::a<>` prints `:: a < >`
-more_words_arguments : DerivesAs more_type_words
-    (punct 58 true (at 0 1) (punct 58 false (at 1 2) (leaf (ident (97 ∷ [])) (at 2 3) (punct 60 true (at 3 4) (punct 62 false (at 4 5) end)))))
-    (punct 58 true call_site (punct 58 false call_site (leaf (ident (97 ∷ [])) call_site (punct 60 false call_site (punct 62 false call_site end)))))
-    (end)
-unfolding left is_end lookahead_at sees take_token take_lifetime take_mark take_group before rows_for rows run parse_rule
-more_words_arguments = computed more_type_words _ _ _ refl refl
-
--- `.` prints `` and leaves `.`
-more_words_dot : DerivesAs more_type_words
-    (punct 46 false (at 0 1) end)
-    (end)
-    (punct 46 false (at 0 1) end)
-unfolding left is_end lookahead_at sees take_token take_lifetime take_mark take_group before rows_for rows run parse_rule
-more_words_dot = computed more_type_words _ _ _ refl refl
+type_arguments_nothing = not_read type_arguments _ refl refl
 
 -- `-> T {}` prints `-> T` and leaves `{}`
 return_leaves_braces : DerivesAs return_type
