@@ -4,6 +4,21 @@ use Rattle.std.specs.Prelude.{Bool, true, false, List, [], ◌∷◌}
 use Rattle.syn_grammar.specs.Words.{Text, comma, semicolon}
 use Rattle.syn_grammar.specs.Rules.{Rule, module_path, module_words, visibility, restriction, type_path, type, unnamed_field, unnamed_fields, fields_unnamed, structure_body, structure, derive_input}
 
+-- what is shown of its value (all its tokens, in their order) is read as the same value
+abbrev pub reads_shown : Rule → Bool
+reads_shown module_path = true
+reads_shown module_words = true
+reads_shown visibility = true
+reads_shown restriction = true
+reads_shown type_path = true
+reads_shown type = true
+reads_shown unnamed_field = true
+reads_shown unnamed_fields = true
+reads_shown fields_unnamed = true
+reads_shown structure_body = true
+reads_shown structure = true
+reads_shown derive_input = true
+
 -- it asks nothing of what follows it that the end may answer otherwise
 abbrev pub stands_alone : Rule → Bool
 stands_alone module_path = true
