@@ -2,6 +2,7 @@
 import re
 
 from .antt_text import COMMON, CRATE, PRELUDE, Writer, argument, exports, use_lines
+from .full import reads_shown
 from .lookaheads import ENDED
 from .ranks import HIGHEST
 from .summaries import Summary
@@ -20,7 +21,7 @@ class Files:
     def __init__(self, source, starts, tests, rank):
         self.source, self.starts, self.said, self.rank = source, starts, tests.summaries.said, rank
         self.writer = Writer(source)
-        self.rules = source.rules
+        self.rules, self.shown = source.rules, reads_shown(tests)
 
     def all(self):
         return {
@@ -68,14 +69,14 @@ class Files:
     def stands_alone(self, rule):
         """It asks nothing of what follows it that the end might answer otherwise."""
         summary, may = self.said[rule, False], self.starts.lookaheads.may
-        return not summary.ends and not any(may(look, ENDED) for look in summary.halts + summary.shuns)
+        return rule in self.shown and not summary.ends and not any(may(look, ENDED) for look in summary.halts + summary.shuns)
 
     def stands_before(self, rule, mark):
         """What it asks of what follows it, the end answers as this mark does."""
         summary, lookaheads = self.said[rule, False], self.starts.lookaheads
         same = lambda a: (all(lookaheads.agree(look, a, ENDED, ()) for look in summary.ends)
                           and all(lookaheads.stays_off(look, a, ENDED, ()) for look in summary.halts))
-        return all(map(same, lookaheads.mark_first_set(mark))) and not any(lookaheads.may(look, ENDED) for look in summary.shuns)
+        return rule in self.shown and all(map(same, lookaheads.mark_first_set(mark))) and not any(lookaheads.may(look, ENDED) for look in summary.shuns)
 
     def stands_before_line(self, rule):
         marks = [self.writer.text(mark) for mark in SEPARATORS if self.stands_before(rule, mark)]
@@ -83,6 +84,8 @@ class Files:
 
     def stands_alone_file(self):
         body = '\n'.join([
+            self.block('what is shown of its value (all its tokens, in their order) is read as the same value',
+                       'abbrev pub reads_shown : Rule → Bool', lambda k: f'reads_shown {k} = {truth(k in self.shown)}'),
             self.block('it asks nothing of what follows it that the end may answer otherwise',
                        'abbrev pub stands_alone : Rule → Bool', lambda k: f'stands_alone {k} = {truth(self.stands_alone(k))}'),
             self.block('what it asks of what follows it, the end answers as these marks do (of `,` and `;`)',

@@ -81,7 +81,7 @@ false_true : false ≡ true → ⊥
 false_true e = true≢false (sym e)
 
 -- one of these rules
-one_said : (said : Rule → Bool) (k : Rule) (ks : List Rule) → among k ks ≡ true → all_of said ks ≡ true → said k ≡ true
+pub one_said : (said : Rule → Bool) (k : Rule) (ks : List Rule) → among k ks ≡ true → all_of said ks ≡ true → said k ≡ true
 one_said said k [] e w = absurd (true≢false (sym e))
 one_said said k (l ∷ ks) e w = go (or_split (same_rule k l) (among k ks) e) (one_said said k ks)
   where

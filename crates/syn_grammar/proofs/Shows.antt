@@ -7,7 +7,7 @@ use Rattle.syn_grammar.specs.Grammar.{Syntax, DerivesPrefix, rule, show, renew}
 use Rattle.syn_grammar.specs.Table.{table}
 use Rattle.syn_grammar.specs.Take.{Out, sees, take_mark, taken}
 use Rattle.syn_grammar.specs.Run.{parse_rule, value_of}
-use Rattle.syn_grammar.specs.StandsAlone.{stands_alone, stands_before}
+use Rattle.syn_grammar.specs.StandsAlone.{reads_shown, stands_alone, stands_before}
 use Rattle.syn_grammar.specs.Alone.{ShowIsRead, ShowStandsAlone, ShowStandsBefore, SameShow}
 use Rattle.syn_grammar.proofs.Sets.{or_split, and_left, and_right, every, every_at, subset, same_text_eq}
 use Rattle.syn_grammar.proofs.Plain.{show_plain}
@@ -23,7 +23,7 @@ use Rattle.syn_grammar.proofs.Takes.{mark_told}
 use Rattle.syn_grammar.proofs.Looks.{known_mark, sees_mark}
 use Rattle.syn_grammar.proofs.Means.{parse_rule_told, parse_rule_found}
 use Rattle.syn_grammar.proofs.Alone.{of_every_rule, implies, by_implied, like_values}
-use Rattle.syn_grammar.proofs.Full.{full_table, full_tree, full_read, full_back, show_full, captures_close}
+use Rattle.syn_grammar.proofs.Full.{full_table, full_tree, full_read, full_back, show_full, shown_well}
 
 -- ---- what is said of the rules holds of their full forms
 abbrev starts_well : Rule → Bool
@@ -50,27 +50,27 @@ full_summaries : IsSummary summary_of heard_of start_of closed_of full_table
 full_summaries false k h = both_of (covers (summary_of false k) _) _ (by_implied true _ (of_every_rule (summed_up false) refl refl k) refl)
 full_summaries true k h = both_of (covers (summary_of true k) _) _ (by_implied (heard_of k) _ (of_every_rule (summed_up true) refl refl k) h)
 
-captures_hold : (k : Rule) → captures_close (table k) ≡ true
-captures_hold k = of_every_rule (λ k. captures_close (table k)) refl refl k
+shown_hold : (k : Rule) → reads_shown k ≡ true → shown_well (table k) ≡ true
+shown_hold k = by_implied (reads_shown k) _ (of_every_rule (λ k. implies (reads_shown k) (shown_well (table k))) refl refl k)
 
 -- ---- before a lookahead that changes nothing, what is shown is derived, as a tree of the same value
-shown_again : (k : Rule) (s : Syntax) (ts r r' : Stream) → DerivesPrefix table (rule k) s ts r → Ready (summary_of false k) (lookahead r) (lookahead r') →
+shown_again : (k : Rule) (s : Syntax) (ts r r' : Stream) → reads_shown k ≡ true → DerivesPrefix table (rule k) s ts r → Ready (summary_of false k) (lookahead r) (lookahead r') →
     (u : Syntax) × DerivesPrefix table (rule k) u (show (value_of s) ⧺ r') r' × (value_of u ≡ value_of s)
-shown_again k s ts r r' d R =
-    let x = again summary_of heard_of start_of closed_of full_table full_summaries full_starts full_never_follow full_closed false (rule k) (full_tree s) ts r r' refl (full_read (rule k) s ts r d) R in
+shown_again k s ts r r' w d R =
+    let x = again summary_of heard_of start_of closed_of full_table full_summaries full_starts full_never_follow full_closed false (rule k) (full_tree s) ts r r' refl (full_read shown_hold (rule k) s ts r w d) R in
     let y = subst (λ z. DerivesPrefix full_table (rule k) (renew (full_tree s)) (z ⧺ r') r') (show_full s) x.0 in
-    full_back captures_hold (rule k) s ts r (show (value_of s) ⧺ r') r' refl d y
+    full_back shown_hold (rule k) s ts r (show (value_of s) ⧺ r') r' w d y
 
 -- so it is computed at the end, where that changes nothing
-shown_alone : (k : Rule) (ts : Stream) (s : Syntax) (r : Stream) → parse_rule k ts ≡ Some (s, r) → Ready (summary_of false k) (lookahead r) (lookahead end) → parse_rule k (show s) ≡ Some (s, end)
-shown_alone k ts s r e R =
+shown_alone : (k : Rule) (ts : Stream) (s : Syntax) (r : Stream) → reads_shown k ≡ true → parse_rule k ts ≡ Some (s, r) → Ready (summary_of false k) (lookahead r) (lookahead end) → parse_rule k (show s) ≡ Some (s, end)
+shown_alone k ts s r w e R =
     let (t, a, h) = parse_rule_told k ts (s, r) e in
-    let (u, d, i) = shown_again k t ts r end a R in
+    let (u, d, i) = shown_again k t ts r end w a R in
     let b : DerivesPrefix table (rule k) u (show s) end = subst (λ z. DerivesPrefix table (rule k) u z end) (append_end (show (value_of t)) ∙ ap show h) d in
     parse_rule_found k (show s) u end b ∙ ap (λ z. Some (z, end)) (i ∙ h)
 
 pub show_is_read : ShowIsRead
-show_is_read k ts s e = shown_alone k ts s end e (at_end (summary_of false k) (ends_hold k))
+show_is_read k w ts s e = shown_alone k ts s end w e (at_end (summary_of false k) (ends_hold k))
 
 -- ---- before the end, whatever stood behind
 abbrev no_looks : List Look → Bool
@@ -92,16 +92,21 @@ ready_at_end p a w =
     (stay_off_of p.halts a (lookahead end) (clear_sound p.halts (lookahead end) (and_left (clear p.halts Ended) _ v)))
     (clear_sound p.shuns (lookahead end) (and_right (clear p.halts Ended) _ v))
 
-cut_holds : (k : Rule) → stands_alone k ≡ true → cut_well (summary_of false k) ≡ true
-cut_holds k = by_implied (stands_alone k) _ (of_every_rule (λ k. implies (stands_alone k) (cut_well (summary_of false k))) refl refl k)
+cut_holds : (k : Rule) → stands_alone k ≡ true → and (reads_shown k) (cut_well (summary_of false k)) ≡ true
+cut_holds k = by_implied (stands_alone k) _ (of_every_rule (λ k. implies (stands_alone k) (and (reads_shown k) (cut_well (summary_of false k)))) refl refl k)
 
 pub show_stands_alone : ShowStandsAlone
-show_stands_alone k w ts s r e = shown_alone k ts s r e (ready_at_end (summary_of false k) (lookahead r) (cut_holds k w))
+show_stands_alone k w ts s r e =
+    let v = cut_holds k w in
+    shown_alone k ts s r (and_left (reads_shown k) _ v) e (ready_at_end (summary_of false k) (lookahead r) (and_right (reads_shown k) _ v))
 
 -- ---- and before a mark
 -- a form with this summary stands before the end as before this mark
 abbrev ends_as : Summary → Text → Bool
 ends_as p m = and (known_mark m) (every (λ f. keeps p (move f Ended [])) (mark_first_set m))
+
+abbrev shown_before : Rule → Text → Bool
+shown_before k m = and (reads_shown k) (ends_as (summary_of false k) m)
 
 ready_before : (p : Summary) (m : Text) (a : Lookahead) → ends_as p m ≡ true → mem a.terminal (mark_first_set m) ≡ true → Ready p a (lookahead end)
 ready_before p m a w e =
@@ -132,16 +137,17 @@ text_at p m (x ∷ l) w e = go (or_split (same_text m x) (one_of_texts m l) e) (
     go (inl q) ih = ap p (same_text_eq m x q) ∙ and_left (p x) _ w
     go (inr q) ih = ih (and_right (p x) _ w) q
 
-marks_hold : (k : Rule) → every_text (ends_as (summary_of false k)) (stands_before k) ≡ true
-marks_hold k = of_every_rule (λ k. every_text (ends_as (summary_of false k)) (stands_before k)) refl refl k
+marks_hold : (k : Rule) → every_text (shown_before k) (stands_before k) ≡ true
+marks_hold k = of_every_rule (λ k. every_text (shown_before k) (stands_before k)) refl refl k
 
 pub show_stands_before : ShowStandsBefore
 show_stands_before k m w ts s r e f =
-    let v = text_at (ends_as (summary_of false k)) m (stands_before k) (marks_hold k) w in
-    shown_alone k ts s r e (ready_before (summary_of false k) m (lookahead r) v (mark_stands m r (and_left (known_mark m) _ v) f))
+    let u = text_at (shown_before k) m (stands_before k) (marks_hold k) w in
+    let v = and_right (reads_shown k) _ u in
+    shown_alone k ts s r (and_left (reads_shown k) _ u) e (ready_before (summary_of false k) m (lookahead r) v (mark_stands m r (and_left (known_mark m) _ v) f))
 
 pub same_show : SameShow
-same_show k a b s t e f = (
-  λ p. like_values k (show s) (show t) s t p (show_is_read k a s e) (show_is_read k b t f),
+same_show k w a b s t e f = (
+  λ p. like_values k (show s) (show t) s t p (show_is_read k w a s e) (show_is_read k w b t f),
   λ p. sym (show_plain s) ∙ ap show p ∙ show_plain t,
 )

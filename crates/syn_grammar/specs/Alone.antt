@@ -3,7 +3,7 @@ use Rattle.std.specs.Prelude.{◌≡◌, ◌↔◌, ℕ, zero, suc, Bool, true, 
 use Rattle.syn_grammar.specs.Words.{Text, long_marks}
 use Rattle.syn_grammar.specs.Tokens.{Stream, end, plain, or, and, no, begins_text, one_of_texts, Punctuation, Asked, asked, Look, at_mark, ahead, ◌or_else◌, ◌and_also◌, ◌but_not◌, lookahead, answers}
 use Rattle.syn_grammar.specs.Rules.{Rule}
-use Rattle.syn_grammar.specs.StandsAlone.{stands_alone, stands_before}
+use Rattle.syn_grammar.specs.StandsAlone.{reads_shown, stands_alone, stands_before}
 use Rattle.syn_grammar.specs.Grammar.{Syntax, show, plain_syntax, Grammar, empty, token, mark, ◌&◌, when◌then◌else◌, inside, raw, either, one_of, rule, such, shaped, captured, unshown, generics_before}
 use Rattle.syn_grammar.specs.Table.{table}
 use Rattle.syn_grammar.specs.Take.{before, sees}
@@ -116,9 +116,9 @@ ValuesForgetSpans = (k : Rule) (a b : Stream) (s t : Syntax) → plain a ≡ pla
 
 -- WHAT IS SHOWN OF A VALUE: its tokens in their order, nothing left out and nothing sorted, each mark's last character Alone (`show`).
 
--- Of what a rule reads as a whole, the tokens that are shown are read as a whole, as the same value with the same spans.
+-- Of what such a rule (`reads_shown`) reads as a whole, the tokens that are shown are read as a whole, as the same value with the same spans.
 abbrev pub ShowIsRead : Type 0
-ShowIsRead = (k : Rule) (ts : Stream) (s : Syntax) → parse_rule k ts ≡ Some (s, end) → parse_rule k (show s) ≡ Some (s, end)
+ShowIsRead = (k : Rule) → reads_shown k ≡ true → (ts : Stream) (s : Syntax) → parse_rule k ts ≡ Some (s, end) → parse_rule k (show s) ≡ Some (s, end)
 
 -- And what a rule that stands alone reads in front of a rest, shown, is read as a whole, as the same value with the same spans.
 abbrev pub ShowStandsAlone : Type 0
@@ -128,6 +128,6 @@ ShowStandsAlone = (k : Rule) → stands_alone k ≡ true → (ts : Stream) (s : 
 abbrev pub ShowStandsBefore : Type 0
 ShowStandsBefore = (k : Rule) (m : Text) → one_of_texts m (stands_before k) ≡ true → (ts : Stream) (s : Syntax) (r : Stream) → parse_rule k ts ≡ Some (s, r) → sees (at_mark m) r ≡ true → parse_rule k (show s) ≡ Some (s, end)
 
--- Of two token streams that a rule reads as a whole, the values are equal, spans aside, exactly where the tokens that are shown are.
+-- Of two token streams that such a rule reads as a whole, the values are equal, spans aside, exactly where the tokens that are shown are.
 abbrev pub SameShow : Type 0
-SameShow = (k : Rule) (a b : Stream) (s t : Syntax) → parse_rule k a ≡ Some (s, end) → parse_rule k b ≡ Some (t, end) → (plain (show s) ≡ plain (show t)) ↔ (plain_syntax s ≡ plain_syntax t)
+SameShow = (k : Rule) → reads_shown k ≡ true → (a b : Stream) (s t : Syntax) → parse_rule k a ≡ Some (s, end) → parse_rule k b ≡ Some (t, end) → (plain (show s) ≡ plain (show t)) ↔ (plain_syntax s ≡ plain_syntax t)

@@ -4,6 +4,21 @@ use Rattle.std.specs.Prelude.{Bool, true, false, List, [], ◌∷◌}
 use Rattle.syn_grammar.specs.Words.{Text, comma, semicolon}
 use Rattle.syn_grammar.specs.Rules.{Rule, attributes, meta, unsafe_path, unsafe_word, meta_value, module_path, module_words, visibility, restriction, type_path, type_words, type_arguments, return_type, generic_arguments, generic_argument, qualified_path, type, types, expression, generics, lifetime_parameter, lifetimes, parameter_bounds, bound, trait_bound, bound_lifetimes, lifetime_parameters, where_clause, predicates, predicate, predicate_bounds, fields_named, named_fields, named_field, nameless_fields, unnamed_field, unnamed_fields, fields_unnamed, variant, variants, structure, structure_rest, structure_body, enumeration, enumeration_rest, union_item, union_item_rest, derive_input, plain_type_path, plain_type, plain_unnamed_field, plain_unnamed_fields, plain_fields_unnamed, plain_structure_body, plain_structure, plain_derive_input}
 
+-- what is shown of its value (all its tokens, in their order) is read as the same value
+abbrev pub reads_shown : Rule → Bool
+reads_shown module_path = true
+reads_shown module_words = true
+reads_shown visibility = true
+reads_shown restriction = true
+reads_shown type_path = true
+reads_shown type = true
+reads_shown unnamed_field = true
+reads_shown unnamed_fields = true
+reads_shown fields_unnamed = true
+reads_shown structure_body = true
+reads_shown structure = true
+reads_shown derive_input = true
+
 -- it asks nothing of what follows it that the end may answer otherwise
 abbrev pub stands_alone : Rule → Bool
 stands_alone attributes = true
