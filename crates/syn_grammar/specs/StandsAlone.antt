@@ -6,18 +6,62 @@ use Rattle.syn_grammar.specs.Rules.{Rule, attributes, meta, unsafe_path, unsafe_
 
 -- what is shown of its value (all its tokens, in their order) is read as the same value
 abbrev pub reads_shown : Rule → Bool
+reads_shown attributes = true
+reads_shown meta = true
+reads_shown unsafe_path = true
+reads_shown unsafe_word = true
+reads_shown meta_value = true
 reads_shown module_path = true
 reads_shown module_words = true
 reads_shown visibility = true
 reads_shown restriction = true
 reads_shown type_path = true
+reads_shown type_words = true
+reads_shown type_arguments = true
+reads_shown return_type = true
+reads_shown generic_arguments = true
+reads_shown generic_argument = true
+reads_shown qualified_path = true
 reads_shown type = true
+reads_shown types = true
+reads_shown expression = true
+reads_shown generics = true
+reads_shown lifetime_parameter = true
+reads_shown lifetimes = true
+reads_shown parameter_bounds = true
+reads_shown bound = true
+reads_shown trait_bound = true
+reads_shown bound_lifetimes = true
+reads_shown lifetime_parameters = true
+reads_shown where_clause = true
+reads_shown predicates = true
+reads_shown predicate = true
+reads_shown predicate_bounds = true
+reads_shown fields_named = true
+reads_shown named_fields = true
+reads_shown named_field = true
+reads_shown nameless_fields = true
 reads_shown unnamed_field = true
 reads_shown unnamed_fields = true
 reads_shown fields_unnamed = true
-reads_shown structure_body = true
+reads_shown variant = true
+reads_shown variants = true
 reads_shown structure = true
+reads_shown structure_rest = true
+reads_shown structure_body = true
+reads_shown enumeration = true
+reads_shown enumeration_rest = true
+reads_shown union_item = true
+reads_shown union_item_rest = true
 reads_shown derive_input = true
+reads_shown plain_type_path = true
+reads_shown plain_type = true
+reads_shown plain_unnamed_field = true
+reads_shown plain_unnamed_fields = true
+reads_shown plain_fields_unnamed = true
+reads_shown plain_structure_body = true
+reads_shown plain_structure = true
+reads_shown plain_derive_input = true
 
 -- it asks nothing of what follows it that the end may answer otherwise
 abbrev pub stands_alone : Rule → Bool
