@@ -1,5 +1,5 @@
 -- Written by tools/grammar.py from specs/Table.antt; edits are lost.
--- Of which rules what is shown is read again, and where what was read in front of a rest is read at the end; the proofs compute each line again.
+-- Of which rules what is shown is read again, and where what was read before a rest is read at the end; the proofs compute each line again.
 use Rattle.std.specs.Prelude.{Bool, true, false, List, [], ◌∷◌}
 use Rattle.syn_grammar.specs.Words.{Text, comma, semicolon}
 use Rattle.syn_grammar.specs.Rules.{Rule, module_path, module_words, visibility, restriction, type_path, type, unnamed_field, unnamed_fields, fields_unnamed, structure_body, structure, derive_input}
