@@ -40,7 +40,7 @@ def covers(summary, other):
     return all(set(getattr(other, n)) <= set(getattr(summary, n)) for n in lists) and summary.nullable >= other.nullable
 
 
-def passes(tests, rule):
+def is_read_again(tests, rule):
     """The full form of the rule prints what the rule's summaries say, and passes the tests."""
     form, said, found = full(tests.lookaheads, tests.table[rule]), tests.summaries.said, tests.found
     tests.found = []
@@ -54,7 +54,7 @@ def passes(tests, rule):
 
 def reads_shown(tests):
     """The rules of which what is shown is read: they pass, and so do all that they name."""
-    good = {rule for rule in tests.table if passes(tests, rule)}
+    good = {rule for rule in tests.table if is_read_again(tests, rule)}
     while True:
         fewer = {rule for rule in good if named(tests.table[rule]) <= good}
         if fewer == good:

@@ -92,7 +92,7 @@ class Files:
                        'abbrev pub stands_before : Rule → List Text', self.stands_before_line),
         ])
         modules = [('Rattle.std.specs.Prelude', PRELUDE)] + self.specs('Words', 'Rules')
-        return self.file('Of which rules what was read in front of a rest is read where nothing follows; the proofs compute each line again.', modules, body)
+        return self.file('Of which rules what is shown is read again, and where what was read before a rest is read at the end; the proofs compute each line again.', modules, body)
 
     def table_file(self):
         """The table as it stands, with the `use` lines that it needs."""

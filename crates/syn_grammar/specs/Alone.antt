@@ -26,7 +26,7 @@ abbrev pub asks_nothing : Asked → Bool
 asks_nothing [] = true
 asks_nothing (x ∷ l) = false
 
--- the form ends with a group, or with a mark of one character that begins no longer one: its last token looks the same whatever follows
+-- the form ends with a group, or with a mark of one character that begins no longer one and no lifetime: its last token looks the same whatever follows
 abbrev pub ends_apart : (Rule → Bool) → Grammar → Bool
 ends_apart said (mark b (c ∷ [])) = and (no (or (nat_eq c 39) (begins_longer c long_marks))) (asks_nothing (asked (Punctuation (c ∷ []))))
 ends_apart said (inside d g) = true
@@ -114,7 +114,7 @@ ReadAlone = (k : Rule) → reads_alone k ≡ true → (ts : Stream) (s : Syntax)
 abbrev pub ValuesForgetSpans : Type 0
 ValuesForgetSpans = (k : Rule) (a b : Stream) (s t : Syntax) → plain a ≡ plain b → parse_rule k a ≡ Some (s, end) → parse_rule k b ≡ Some (t, end) → plain_syntax s ≡ plain_syntax t
 
--- WHAT IS SHOWN OF A VALUE: its tokens in their order, nothing left out and nothing sorted, each mark's last character Alone (`show`).
+-- WHAT IS SHOWN OF A VALUE (`show`): its tokens in their order, no empty list left out and nothing sorted, each mark's last character Alone.
 
 -- Of what such a rule (`reads_shown`) reads as a whole, the tokens that are shown are read as a whole, as the same value with the same spans.
 abbrev pub ShowIsRead : Type 0

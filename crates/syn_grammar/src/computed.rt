@@ -56,8 +56,8 @@ pub fn values_forget_spans()
     ensures like_values { ValuesForgetSpans }
 {}
 
-/// Of what a rule reads as a whole, the tokens that are shown (in their order, nothing left out) are
-/// read as a whole, as the same value with the same spans. Holds of every token stream.
+/// Of what a rule of `reads_shown` reads as a whole, the tokens that are shown (in their order, no empty
+/// list left out) are read as a whole, as the same value with the same spans. Holds of every token stream.
 pub fn show_is_read()
     ensures as_the_same { ShowIsRead }
 {}
@@ -75,8 +75,8 @@ pub fn show_stands_before()
     ensures as_the_same { ShowStandsBefore }
 {}
 
-/// Of two token streams that a rule reads as a whole, the values are equal, spans (in bytes) aside,
-/// exactly where the tokens that are shown of them are. Holds of every token stream.
+/// Of two token streams that a rule of `reads_shown` reads as a whole, the values are equal, spans (in
+/// bytes) aside, exactly where the tokens that are shown of them are. Holds of every token stream.
 pub fn same_show()
     ensures exactly { SameShow }
 {}
