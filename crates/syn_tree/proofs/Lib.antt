@@ -1,3 +1,4 @@
+pub mod Attributes
 mod CommaLists
 pub mod Compared
 mod Defaults

@@ -1,3 +1,4 @@
+pub mod Attributes
 pub mod Data
 pub mod Derive
 pub mod Equality
