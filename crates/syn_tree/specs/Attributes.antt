@@ -1,8 +1,11 @@
 -- WHAT SYNTAX ATTRIBUTES STAND FOR, one level at a time, every field.
 use Rattle.std.specs.Prelude.{Bool, true, false, List, [], ◌∷◌}
-use Rattle.syn_grammar.specs.Tokens.{Stream, end, ◌⧺◌, Paren, Brace, Bracket, and, no, pick}
+use Rattle.syn_grammar.specs.Tokens.{Stream, end, ◌⧺◌, Paren, Brace, Bracket, and, no, pick, at_word}
+use Rattle.syn_grammar.specs.Words.{w_unsafe, pound, exclamation}
+use Rattle.syn_grammar.specs.Rules.{meta, module_path, unsafe_path}
 use Rattle.syn_grammar.specs.Shape.{untagged}
-use Rattle.syn_grammar.specs.Grammar.{print, Syntax, Nothing, Both, Left, Right, Node, Group, Raw, Rest, Shaped, Unshown}
+use Rattle.syn_grammar.specs.Grammar.{Grammar, ◌&◌, when◌then◌else◌, inside, rule, shaped, print, Syntax, Nothing, Both, Left, Right, Node, Group, Raw, Rest, Shaped, Unshown}
+use Rattle.syn_grammar.specs.Forms.{punctuation, asking_punctuation}
 use Rattle.syn_grammar.specs.Run.{marks_of}
 use Rattle.syn_tokens.specs.InOrder.{in_order}
 use Rattle.syn_tokens.specs.Kinds.{eq_syntax, not_syntax, pound_syntax}
@@ -76,21 +79,41 @@ is_group _ = false
 abbrev pub is_outer : Syntax → Bool
 is_outer a = is_group (second a)
 
+abbrev pub is_inner : Syntax → Bool
+is_inner a = no (is_outer a)
+
+-- of attributes in order, those for which the test holds
+module _ (test : Syntax → Bool) where
+  abbrev pub every : Syntax → Bool
+  every (Both a l) = and (test a) (every l)
+  every _ = true
+
+  abbrev pub shown_before : Syntax → Syntax → Syntax
+  shown_before unshown (Both a l) = pick (test a) (Node (Left (Both a (shown_before unshown l)))) (shown_before unshown l)
+  shown_before unshown _ = Node (Right (Unshown unshown))
+
+  abbrev pub listed : Syntax → Syntax
+  listed l = shown_before (pick (every l) Nothing l) l
+
 abbrev pub every_outer : Syntax → Bool
-every_outer (Both a l) = and (is_outer a) (every_outer l)
-every_outer _ = true
+every_outer = every is_outer
 
 abbrev pub outer_before : Syntax → Syntax → Syntax
-outer_before unshown (Both a l) = pick (is_outer a) (Node (Left (Both a (outer_before unshown l)))) (outer_before unshown l)
-outer_before unshown _ = Node (Right (Unshown unshown))
+outer_before = shown_before is_outer
 
 -- of attributes in order
 unfoldable pub outer_listed : Syntax → Syntax
-outer_listed l = outer_before (pick (every_outer l) Nothing l) l
+outer_listed = listed is_outer
+
+unfoldable pub inner_listed : Syntax → Syntax
+inner_listed = listed is_inner
 
 -- of a vector's items
 abbrev pub attributes_syntax : List Attribute → Syntax
 attributes_syntax l = outer_listed (in_order syntax_of_Attribute l)
+
+abbrev pub inner_attributes_syntax : List Attribute → Syntax
+inner_attributes_syntax l = inner_listed (in_order syntax_of_Attribute l)
 
 -- no attributes
 abbrev pub none_listed : Syntax
@@ -103,3 +126,14 @@ outer_part a = pick (is_outer (syntax_of_Attribute a)) (print (syntax_of_Attribu
 abbrev pub outer_row : List Attribute → Stream
 outer_row [] = end
 outer_row (a ∷ l) = outer_part a ⧺ outer_row l
+
+-- AS THEY ARE READ
+
+abbrev pub outer_form : Grammar
+outer_form = punctuation pound & inside Bracket (rule meta)
+
+abbrev pub inner_form : Grammar
+inner_form = asking_punctuation pound & punctuation exclamation & inside Bracket (rule meta)
+
+abbrev pub meta_path_form : Grammar
+meta_path_form = shaped untagged (when at_word w_unsafe then rule unsafe_path else rule module_path)

@@ -4,6 +4,7 @@ pub mod Derive
 pub mod Equality
 pub mod Looks
 pub mod Lower
+pub mod MetaValues
 pub mod Parsing
 pub mod Parts
 pub mod Plain

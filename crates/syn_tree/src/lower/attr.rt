@@ -8,6 +8,8 @@ ghost use Rattle.syn_tokens.specs.Spans.{at};
 ghost use Rattle.syn_tree.specs.Parsing.{parse_rule, Computes, IsSyntax};
 ghost use Rattle.syn_tree.specs.Attributes.{attributes_syntax, filled, none_listed, outer_part, outer_row, syntax_of_AttrStyle, syntax_of_MacroDelimiter};
 
+mod parsing;
+
 use crate::lower::Path;
 use std::alloc::AllocError;
 use syn_parse::buffer::ParseBuffer;
