@@ -43,7 +43,7 @@ KINDS = [
 JOINED = {("Path", "segments")}
 
 # what is printed by the tree that holds it, and not by itself
-UNPRINTED = {"Data", "DataStruct", "Generics"}
+UNPRINTED = {"AttrStyle", "Data", "DataStruct", "Generics", "MacroDelimiter"}
 
 CRATES = Path("crates")
 

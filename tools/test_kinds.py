@@ -96,6 +96,16 @@ class Kinds(unittest.TestCase):
         self.assertNotIn("attrs", same)
         self.assertNotIn("paren_token", same)
 
+    def test_attributes_are_a_list_of_their_own(self):
+        source = self.crate(TYPES.replace("attrs: Vec<Never>", "attrs: Vec<Attribute>"))
+        self.assertIn("            attrs: self.attrs.try_clone(alloc)?,\n", copies(source)[self.top / "src/copies/things.rt"])
+        same = comparisons(source)[self.top / "src/compare/things.rt"]
+        self.assertIn("    #[tactic(auto, using(crate::proofs::Attributes::same_attributes))]\n    fn is_same(&self, other: &Thing) -> bool {\n        self.attrs.is_same(&other.attrs)\n", same)
+        printed = prints(source, {"Choice"})[self.top / "src/prints/things.rt"]
+        self.assertIn("        print_outer(&self.attrs, out)?;\n        self.ident.print_in(out)?;\n", printed)
+        view = plain_views(source, set())[self.top / "specs/Plain.antt"]
+        self.assertIn("view_Thing a = Node (Both (attributes_syntax a.attrs.items) (Both (maybe syntax_of_ident a.ident)", view)
+
     def test_an_enum_goes_by_its_variants(self):
         source = self.crate()
         same = comparisons(source)[self.top / "src/compare/things.rt"]
@@ -161,6 +171,14 @@ class Kinds(unittest.TestCase):
         page.write_text("No table.\n")
         with self.assertRaises(Fault):
             rows(source, table, page)
+
+    def test_a_generic_function_is_named_as_what_reads_a_rule(self):
+        reading = "fn thing<T: Peek>(input: &mut ParseBuffer<'_>) -> Parsed<()>\n    ensures reads { parse_rule rules.thing }\n{\n}\n"
+        source = self.crate(TYPES + reading)
+        table, page = self.top / "Table.antt", self.top / "PAGE.md"
+        table.write_text(TABLE)
+        page.write_text(f"{HEAD}\nBehind.\n")
+        self.assertIn("| `thing` | A thing. | `thing` of `things.rt` |\n", rows(source, table, page))
 
     def test_the_kinds_of_the_program(self):
         kinds = [("fields-unnamed", "FieldsUnnamed", "fields_unnamed")]

@@ -8,7 +8,7 @@ UNREAD = "not read yet"
 HEAD = "| rule | in words | Rust |\n|---|---|---|\n"
 RULE = re.compile(r"^--\n((?:-- [^\n]*\n)+)table (\w+) =$", re.M)
 READ = re.compile(r"^impl Read for (\w+) \{\n    ghost form = \{ of \(rule rules\.(\w+)\) \};", re.M)
-FUNCTION = re.compile(r"^( *)(pub )?(?:pub\(crate\) )?fn (\w+)\(.*?\n\1\{", re.M | re.S)
+FUNCTION = re.compile(r"^( *)(pub )?(?:pub\(crate\) )?fn (\w+)(?:<[^(]*>)?\(.*?\n\1\{", re.M | re.S)
 
 
 def readers(source, lists):

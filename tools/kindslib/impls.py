@@ -1,5 +1,5 @@
 """Copies and comparisons: the same for every type, part by part."""
-from .source import DELIMITERS, Fault, wrapped
+from .source import ATTRIBUTES, DELIMITERS, Fault, wrapped
 from .views import syntax_of
 
 WRITTEN = "Written by tools/kinds.py; edits are lost."
@@ -145,8 +145,9 @@ def compare_enum(source, t):
 def compared_text(source, t):
     body = compare_enum(source, t) if t.is_enum else compare_struct(source, t)
     other = "other" if "other" in body else "_other"
+    tactic = "    #[tactic(auto, using(crate::proofs::Attributes::same_attributes))]\n" if t.has_attributes() else ""
     return f"""impl Compared for {t.name} {{
-    fn is_same(&self, {other}: &{t.name}) -> bool {{
+{tactic}    fn is_same(&self, {other}: &{t.name}) -> bool {{
 {body}    }}
 }}
 
@@ -195,6 +196,9 @@ def comparisons(source):
 
 def print_step(source, t, field, kind, uses):
     """How one field is printed."""
+    if kind == ATTRIBUTES:
+        uses.append(("crate::lower::attr", "print_outer"))
+        return f"print_outer(&self.{field}, out)"
     if kind.startswith("Punctuated<"):
         uses.append(("syn_tokens::print", "print_list"))
         return f"print_list(&self.{field}, out)"

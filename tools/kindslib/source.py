@@ -9,6 +9,7 @@ FIELD = re.compile(r"^    pub (\w+): (.+),$", re.M)
 VARIANT = re.compile(r"^    (\w+)(?:\((.*)\))?,$", re.M)
 USE = re.compile(r"^use (\w+)::([\w:]+)::(?:\{([^}]*)\}|(\w+));$", re.M)
 DELIMITERS = {"Paren", "Brace", "Bracket"}
+ATTRIBUTES = "Vec<Attribute>"
 
 
 class Fault(Exception):
@@ -31,6 +32,9 @@ class Type:
 
     def has_no_values(self):
         return self.is_enum and not self.variants
+
+    def has_attributes(self):
+        return any(kind == ATTRIBUTES for _, kind in self.fields)
 
     def has_one_value(self):
         """Nothing in it tells two of its values apart: no fields, or one variant without any."""

@@ -1,7 +1,7 @@
 """Models and views: what syntax each struct stands for."""
 import re
 
-from .source import DELIMITERS, MARK, Fault, snake
+from .source import ATTRIBUTES, DELIMITERS, MARK, Fault, snake
 
 SYNTAXES = {"Ident": "syntax_of_ident", "Literal": "syntax_of_literal"}
 
@@ -92,6 +92,8 @@ class PlainView:
 
     def of_field(self, t, field, kind):
         place = f"a.{field}"
+        if kind == ATTRIBUTES:
+            return f"{self.take('syn_tree.specs.Attributes', 'attributes_syntax')} {place}.items"
         outer = re.fullmatch(r"(Option|Box|Punctuated)<(.*)>", kind)
         if outer and outer[1] == "Box":
             function, place = self.function(t, outer[2]), f"{place}.value"

@@ -19,8 +19,8 @@ pub use syn_tokens::{error, print, punctuated};
 pub use syn_tree::data::{Field, FieldModifiers, Fields, FieldsUnnamed};
 pub use syn_tree::derive::{Data, DataStruct, DeriveInput};
 pub use syn_tree::lower::{
-    Attribute, Expr, GenericParam, Generics, Path, PathArguments, PathSegment, QSelf, Type,
-    TypePath, WhereClause,
+    AttrStyle, Attribute, Expr, GenericParam, Generics, MacroDelimiter, Meta, MetaList,
+    MetaNameValue, Path, PathArguments, PathSegment, QSelf, Type, TypePath, WhereClause,
 };
 pub use syn_tree::restriction::{VisRestricted, Visibility};
 pub use syn_tree::{data, derive, lower, restriction};

@@ -2,7 +2,7 @@
 -- What each rule reads is what its form reads.
 use Rattle.std.specs.Prelude.{◌≡◌}
 use Rattle.syn_grammar.specs.Tokens.{Stream}
-use Rattle.syn_grammar.specs.Rules.{attributes, meta, unsafe_path, unsafe_word, meta_value, module_path, module_words, visibility, restriction, type_path, type_words, type_arguments, return_type, generic_arguments, generic_argument, qualified_path, type, types, expression, generics, lifetime_parameter, lifetimes, parameter_bounds, bound, trait_bound, bound_lifetimes, lifetime_parameters, where_clause, predicates, predicate, predicate_bounds, fields_named, named_fields, named_field, nameless_fields, unnamed_field, unnamed_fields, fields_unnamed, variant, variants, structure, structure_rest, structure_body, enumeration, enumeration_rest, union_item, union_item_rest, derive_input, plain_type_path, plain_type, plain_unnamed_field, plain_unnamed_fields, plain_fields_unnamed, plain_structure_body, plain_structure, plain_derive_input}
+use Rattle.syn_grammar.specs.Rules.{attributes, inner_attributes, no_attributes, meta, unsafe_path, unsafe_word, meta_value, module_path, module_words, visibility, restriction, type_path, type_words, type_arguments, return_type, generic_arguments, generic_argument, qualified_path, type, types, expression, generics, lifetime_parameter, lifetimes, parameter_bounds, bound, trait_bound, bound_lifetimes, lifetime_parameters, where_clause, predicates, predicate, predicate_bounds, fields_named, named_fields, named_field, nameless_fields, unnamed_field, unnamed_fields, fields_unnamed, variant, variants, structure, structure_rest, structure_body, enumeration, enumeration_rest, union_item, union_item_rest, derive_input, plain_type_path, plain_type, plain_unnamed_field, plain_unnamed_fields, plain_fields_unnamed, plain_structure_body, plain_structure, plain_derive_input}
 use Rattle.syn_grammar.specs.Grammar.{Node}
 use Rattle.syn_grammar.specs.Table.{table}
 use Rattle.syn_grammar.specs.Run.{wrap, parse_rule, parse_form}
@@ -10,6 +10,12 @@ use Rattle.syn_grammar.proofs.Run.{parse_rule_is}
 
 pub attributes_is : (ts : Stream) → parse_rule attributes ts ≡ wrap Node (parse_form (table attributes) ts)
 attributes_is = parse_rule_is attributes
+
+pub inner_attributes_is : (ts : Stream) → parse_rule inner_attributes ts ≡ wrap Node (parse_form (table inner_attributes) ts)
+inner_attributes_is = parse_rule_is inner_attributes
+
+pub no_attributes_is : (ts : Stream) → parse_rule no_attributes ts ≡ wrap Node (parse_form (table no_attributes) ts)
+no_attributes_is = parse_rule_is no_attributes
 
 pub meta_is : (ts : Stream) → parse_rule meta ts ≡ wrap Node (parse_form (table meta) ts)
 meta_is = parse_rule_is meta

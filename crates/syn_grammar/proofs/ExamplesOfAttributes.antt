@@ -3,7 +3,7 @@
 use Rattle.std.proofs.Common.{true, false, [], ◌∷◌, refl}
 use Rattle.syn_grammar.specs.Words.{w_underscore, w_unsafe}
 use Rattle.syn_grammar.specs.Tokens.{call_site, Paren, Brace, Bracket, Str, Int, ident, literal, end, leaf, punct, group}
-use Rattle.syn_grammar.specs.Rules.{attributes, meta, unsafe_path, unsafe_word, meta_value}
+use Rattle.syn_grammar.specs.Rules.{attributes, inner_attributes, no_attributes, meta, unsafe_path, unsafe_word, meta_value}
 use Rattle.syn_grammar.specs.Grammar.{rule}
 use Rattle.syn_grammar.specs.Take.{left, is_end, lookahead_at, sees, take_token, take_lifetime, take_mark, take_group, before}
 use Rattle.syn_grammar.specs.Run.{rows_for, rows, run, parse_rule}
@@ -263,3 +263,249 @@ value_none : DerivesAs meta_value
     (end)
 unfolding left is_end lookahead_at sees take_token take_lifetime take_mark take_group before rows_for rows run parse_rule
 value_none = computed meta_value _ _ _ refl refl
+
+-- `#![a]` prints `# ! [ a ]`
+inner_one : DerivesAs inner_attributes
+    (punct 35 true (at 0 1) (punct 33 false (at 1 2) (group Bracket (at 2 3) (at 4 5) (leaf (ident (97 ∷ [])) (at 3 4) end) end)))
+    (punct 35 false call_site (punct 33 false call_site (group Bracket call_site call_site (leaf (ident (97 ∷ [])) call_site end) end)))
+    (end)
+unfolding left is_end lookahead_at sees take_token take_lifetime take_mark take_group before rows_for rows run parse_rule
+inner_one = computed inner_attributes _ _ _ refl refl
+
+-- `#![a] #![b(c)] #[d]` prints `# ! [ a ] # ! [ b ( c ) ]` and leaves `#[d]`
+inner_two : DerivesAs inner_attributes
+    (punct 35 true (at 0 1) (punct 33 false (at 1 2) (group Bracket (at 2 3) (at 4 5) (leaf (ident (97 ∷ [])) (at 3 4) end) (punct 35 true (at 6 7) (punct 33 false (at 7 8) (group Bracket (at 8 9) (at 13 14) (leaf (ident (98 ∷ [])) (at 9 10) (group Paren (at 10 11) (at 12 13) (leaf (ident (99 ∷ [])) (at 11 12) end) end)) (punct 35 false (at 15 16) (group Bracket (at 16 17) (at 18 19) (leaf (ident (100 ∷ [])) (at 17 18) end) end))))))))
+    (punct 35 false call_site (punct 33 false call_site (group Bracket call_site call_site (leaf (ident (97 ∷ [])) call_site end) (punct 35 false call_site (punct 33 false call_site (group Bracket call_site call_site (leaf (ident (98 ∷ [])) call_site (group Paren call_site call_site (leaf (ident (99 ∷ [])) call_site end) end)) end))))))
+    (punct 35 false (at 15 16) (group Bracket (at 16 17) (at 18 19) (leaf (ident (100 ∷ [])) (at 17 18) end) end))
+unfolding left is_end lookahead_at sees take_token take_lifetime take_mark take_group before rows_for rows run parse_rule
+inner_two = computed inner_attributes _ _ _ refl refl
+
+-- `#![a::b = c d]` prints `# ! [ a :: b = c d ]`
+inner_value : DerivesAs inner_attributes
+    (punct 35 true (at 0 1) (punct 33 false (at 1 2) (group Bracket (at 2 3) (at 13 14) (leaf (ident (97 ∷ [])) (at 3 4) (punct 58 true (at 4 5) (punct 58 false (at 5 6) (leaf (ident (98 ∷ [])) (at 6 7) (punct 61 false (at 8 9) (leaf (ident (99 ∷ [])) (at 10 11) (leaf (ident (100 ∷ [])) (at 12 13) end))))))) end)))
+    (punct 35 false call_site (punct 33 false call_site (group Bracket call_site call_site (leaf (ident (97 ∷ [])) call_site (punct 58 true call_site (punct 58 false call_site (leaf (ident (98 ∷ [])) call_site (punct 61 false call_site (leaf (ident (99 ∷ [])) call_site (leaf (ident (100 ∷ [])) call_site end))))))) end)))
+    (end)
+unfolding left is_end lookahead_at sees take_token take_lifetime take_mark take_group before rows_for rows run parse_rule
+inner_value = computed inner_attributes _ _ _ refl refl
+
+-- `#![unsafe(a)]` prints `# ! [ unsafe ( a ) ]`
+inner_unsafe : DerivesAs inner_attributes
+    (punct 35 true (at 0 1) (punct 33 false (at 1 2) (group Bracket (at 2 3) (at 12 13) (leaf (ident w_unsafe) (at 3 9) (group Paren (at 9 10) (at 11 12) (leaf (ident (97 ∷ [])) (at 10 11) end) end)) end)))
+    (punct 35 false call_site (punct 33 false call_site (group Bracket call_site call_site (leaf (ident w_unsafe) call_site (group Paren call_site call_site (leaf (ident (97 ∷ [])) call_site end) end)) end)))
+    (end)
+unfolding left is_end lookahead_at sees take_token take_lifetime take_mark take_group before rows_for rows run parse_rule
+inner_unsafe = computed inner_attributes _ _ _ refl refl
+
+-- no tokens prints ``
+inner_none : DerivesAs inner_attributes
+    (end)
+    (end)
+    (end)
+unfolding left is_end lookahead_at sees take_token take_lifetime take_mark take_group before rows_for rows run parse_rule
+inner_none = computed inner_attributes _ _ _ refl refl
+
+-- `a` prints `` and leaves `a`
+inner_leaves_name : DerivesAs inner_attributes
+    (leaf (ident (97 ∷ [])) (at 0 1) end)
+    (end)
+    (leaf (ident (97 ∷ [])) (at 0 1) end)
+unfolding left is_end lookahead_at sees take_token take_lifetime take_mark take_group before rows_for rows run parse_rule
+inner_leaves_name = computed inner_attributes _ _ _ refl refl
+
+-- `#[a]` prints `` and leaves `#[a]`
+inner_leaves_outer : DerivesAs inner_attributes
+    (punct 35 false (at 0 1) (group Bracket (at 1 2) (at 3 4) (leaf (ident (97 ∷ [])) (at 2 3) end) end))
+    (end)
+    (punct 35 false (at 0 1) (group Bracket (at 1 2) (at 3 4) (leaf (ident (97 ∷ [])) (at 2 3) end) end))
+unfolding left is_end lookahead_at sees take_token take_lifetime take_mark take_group before rows_for rows run parse_rule
+inner_leaves_outer = computed inner_attributes _ _ _ refl refl
+
+-- `#` prints `` and leaves `#`
+inner_leaves_pound : DerivesAs inner_attributes
+    (punct 35 false (at 0 1) end)
+    (end)
+    (punct 35 false (at 0 1) end)
+unfolding left is_end lookahead_at sees take_token take_lifetime take_mark take_group before rows_for rows run parse_rule
+inner_leaves_pound = computed inner_attributes _ _ _ refl refl
+
+-- `![a]` prints `` and leaves `![a]`
+inner_leaves_bang : DerivesAs inner_attributes
+    (punct 33 false (at 0 1) (group Bracket (at 1 2) (at 3 4) (leaf (ident (97 ∷ [])) (at 2 3) end) end))
+    (end)
+    (punct 33 false (at 0 1) (group Bracket (at 1 2) (at 3 4) (leaf (ident (97 ∷ [])) (at 2 3) end) end))
+unfolding left is_end lookahead_at sees take_token take_lifetime take_mark take_group before rows_for rows run parse_rule
+inner_leaves_bang = computed inner_attributes _ _ _ refl refl
+
+-- `a!{}` prints `` and leaves `a!{}`
+inner_leaves_macro : DerivesAs inner_attributes
+    (leaf (ident (97 ∷ [])) (at 0 1) (punct 33 false (at 1 2) (group Brace (at 2 3) (at 3 4) end end)))
+    (end)
+    (leaf (ident (97 ∷ [])) (at 0 1) (punct 33 false (at 1 2) (group Brace (at 2 3) (at 3 4) end end)))
+unfolding left is_end lookahead_at sees take_token take_lifetime take_mark take_group before rows_for rows run parse_rule
+inner_leaves_macro = computed inner_attributes _ _ _ refl refl
+
+-- `##![a]` prints `` and leaves `##![a]`
+inner_leaves_two_pounds : DerivesAs inner_attributes
+    (punct 35 true (at 0 1) (punct 35 true (at 1 2) (punct 33 false (at 2 3) (group Bracket (at 3 4) (at 5 6) (leaf (ident (97 ∷ [])) (at 4 5) end) end))))
+    (end)
+    (punct 35 true (at 0 1) (punct 35 true (at 1 2) (punct 33 false (at 2 3) (group Bracket (at 3 4) (at 5 6) (leaf (ident (97 ∷ [])) (at 4 5) end) end))))
+unfolding left is_end lookahead_at sees take_token take_lifetime take_mark take_group before rows_for rows run parse_rule
+inner_leaves_two_pounds = computed inner_attributes _ _ _ refl refl
+
+-- `[a]` prints `` and leaves `[a]`
+inner_leaves_group : DerivesAs inner_attributes
+    (group Bracket (at 0 1) (at 2 3) (leaf (ident (97 ∷ [])) (at 1 2) end) end)
+    (end)
+    (group Bracket (at 0 1) (at 2 3) (leaf (ident (97 ∷ [])) (at 1 2) end) end)
+unfolding left is_end lookahead_at sees take_token take_lifetime take_mark take_group before rows_for rows run parse_rule
+inner_leaves_group = computed inner_attributes _ _ _ refl refl
+
+-- `#![a]#` prints `# ! [ a ]` and leaves `#`
+inner_behind_pound : DerivesAs inner_attributes
+    (punct 35 true (at 0 1) (punct 33 false (at 1 2) (group Bracket (at 2 3) (at 4 5) (leaf (ident (97 ∷ [])) (at 3 4) end) (punct 35 false (at 5 6) end))))
+    (punct 35 false call_site (punct 33 false call_site (group Bracket call_site call_site (leaf (ident (97 ∷ [])) call_site end) end)))
+    (punct 35 false (at 5 6) end)
+unfolding left is_end lookahead_at sees take_token take_lifetime take_mark take_group before rows_for rows run parse_rule
+inner_behind_pound = computed inner_attributes _ _ _ refl refl
+
+-- `#![a]!` prints `# ! [ a ]` and leaves `!`
+inner_behind_bang : DerivesAs inner_attributes
+    (punct 35 true (at 0 1) (punct 33 false (at 1 2) (group Bracket (at 2 3) (at 4 5) (leaf (ident (97 ∷ [])) (at 3 4) end) (punct 33 false (at 5 6) end))))
+    (punct 35 false call_site (punct 33 false call_site (group Bracket call_site call_site (leaf (ident (97 ∷ [])) call_site end) end)))
+    (punct 33 false (at 5 6) end)
+unfolding left is_end lookahead_at sees take_token take_lifetime take_mark take_group before rows_for rows run parse_rule
+inner_behind_bang = computed inner_attributes _ _ _ refl refl
+
+-- `#![a][b]` prints `# ! [ a ]` and leaves `[b]`
+inner_behind_group : DerivesAs inner_attributes
+    (punct 35 true (at 0 1) (punct 33 false (at 1 2) (group Bracket (at 2 3) (at 4 5) (leaf (ident (97 ∷ [])) (at 3 4) end) (group Bracket (at 5 6) (at 7 8) (leaf (ident (98 ∷ [])) (at 6 7) end) end))))
+    (punct 35 false call_site (punct 33 false call_site (group Bracket call_site call_site (leaf (ident (97 ∷ [])) call_site end) end)))
+    (group Bracket (at 5 6) (at 7 8) (leaf (ident (98 ∷ [])) (at 6 7) end) end)
+unfolding left is_end lookahead_at sees take_token take_lifetime take_mark take_group before rows_for rows run parse_rule
+inner_behind_group = computed inner_attributes _ _ _ refl refl
+
+-- `#![a] b` prints `# ! [ a ]` and leaves `b`
+inner_behind_name : DerivesAs inner_attributes
+    (punct 35 true (at 0 1) (punct 33 false (at 1 2) (group Bracket (at 2 3) (at 4 5) (leaf (ident (97 ∷ [])) (at 3 4) end) (leaf (ident (98 ∷ [])) (at 6 7) end))))
+    (punct 35 false call_site (punct 33 false call_site (group Bracket call_site call_site (leaf (ident (97 ∷ [])) call_site end) end)))
+    (leaf (ident (98 ∷ [])) (at 6 7) end)
+unfolding left is_end lookahead_at sees take_token take_lifetime take_mark take_group before rows_for rows run parse_rule
+inner_behind_name = computed inner_attributes _ _ _ refl refl
+
+-- `#![a] #!`: nothing is read
+inner_behind_end : NotDerived (rule inner_attributes)
+    (punct 35 true (at 0 1) (punct 33 false (at 1 2) (group Bracket (at 2 3) (at 4 5) (leaf (ident (97 ∷ [])) (at 3 4) end) (punct 35 true (at 6 7) (punct 33 false (at 7 8) end)))))
+unfolding left is_end lookahead_at sees take_token take_lifetime take_mark take_group before rows_for rows run parse_rule
+inner_behind_end = not_read inner_attributes _ refl refl
+
+-- `#!![a]`: nothing is read
+inner_two_bangs : NotDerived (rule inner_attributes)
+    (punct 35 true (at 0 1) (punct 33 true (at 1 2) (punct 33 false (at 2 3) (group Bracket (at 3 4) (at 5 6) (leaf (ident (97 ∷ [])) (at 4 5) end) end))))
+unfolding left is_end lookahead_at sees take_token take_lifetime take_mark take_group before rows_for rows run parse_rule
+inner_two_bangs = not_read inner_attributes _ refl refl
+
+-- `#!`: nothing is read
+inner_no_group : NotDerived (rule inner_attributes)
+    (punct 35 true (at 0 1) (punct 33 false (at 1 2) end))
+unfolding left is_end lookahead_at sees take_token take_lifetime take_mark take_group before rows_for rows run parse_rule
+inner_no_group = not_read inner_attributes _ refl refl
+
+-- `#!a`: nothing is read
+inner_name_first : NotDerived (rule inner_attributes)
+    (punct 35 true (at 0 1) (punct 33 false (at 1 2) (leaf (ident (97 ∷ [])) (at 2 3) end)))
+unfolding left is_end lookahead_at sees take_token take_lifetime take_mark take_group before rows_for rows run parse_rule
+inner_name_first = not_read inner_attributes _ refl refl
+
+-- `#[a]!` prints `` and leaves `#[a]!`
+inner_group_first : DerivesAs inner_attributes
+    (punct 35 false (at 0 1) (group Bracket (at 1 2) (at 3 4) (leaf (ident (97 ∷ [])) (at 2 3) end) (punct 33 false (at 4 5) end)))
+    (end)
+    (punct 35 false (at 0 1) (group Bracket (at 1 2) (at 3 4) (leaf (ident (97 ∷ [])) (at 2 3) end) (punct 33 false (at 4 5) end)))
+unfolding left is_end lookahead_at sees take_token take_lifetime take_mark take_group before rows_for rows run parse_rule
+inner_group_first = computed inner_attributes _ _ _ refl refl
+
+-- `#![a] [b] #![c]` prints `# ! [ a ]` and leaves `[b] #![c]`
+inner_two_groups : DerivesAs inner_attributes
+    (punct 35 true (at 0 1) (punct 33 false (at 1 2) (group Bracket (at 2 3) (at 4 5) (leaf (ident (97 ∷ [])) (at 3 4) end) (group Bracket (at 6 7) (at 8 9) (leaf (ident (98 ∷ [])) (at 7 8) end) (punct 35 true (at 10 11) (punct 33 false (at 11 12) (group Bracket (at 12 13) (at 14 15) (leaf (ident (99 ∷ [])) (at 13 14) end) end)))))))
+    (punct 35 false call_site (punct 33 false call_site (group Bracket call_site call_site (leaf (ident (97 ∷ [])) call_site end) end)))
+    (group Bracket (at 6 7) (at 8 9) (leaf (ident (98 ∷ [])) (at 7 8) end) (punct 35 true (at 10 11) (punct 33 false (at 11 12) (group Bracket (at 12 13) (at 14 15) (leaf (ident (99 ∷ [])) (at 13 14) end) end))))
+unfolding left is_end lookahead_at sees take_token take_lifetime take_mark take_group before rows_for rows run parse_rule
+inner_two_groups = computed inner_attributes _ _ _ refl refl
+
+-- `#![]`: nothing is read
+inner_empty : NotDerived (rule inner_attributes)
+    (punct 35 true (at 0 1) (punct 33 false (at 1 2) (group Bracket (at 2 3) (at 3 4) end end)))
+unfolding left is_end lookahead_at sees take_token take_lifetime take_mark take_group before rows_for rows run parse_rule
+inner_empty = not_read inner_attributes _ refl refl
+
+-- `#![a b]`: nothing is read
+inner_two_paths : NotDerived (rule inner_attributes)
+    (punct 35 true (at 0 1) (punct 33 false (at 1 2) (group Bracket (at 2 3) (at 6 7) (leaf (ident (97 ∷ [])) (at 3 4) (leaf (ident (98 ∷ [])) (at 5 6) end)) end)))
+unfolding left is_end lookahead_at sees take_token take_lifetime take_mark take_group before rows_for rows run parse_rule
+inner_two_paths = not_read inner_attributes _ refl refl
+
+-- `#![= a]`: nothing is read
+inner_value_alone : NotDerived (rule inner_attributes)
+    (punct 35 true (at 0 1) (punct 33 false (at 1 2) (group Bracket (at 2 3) (at 6 7) (punct 61 false (at 3 4) (leaf (ident (97 ∷ [])) (at 5 6) end)) end)))
+unfolding left is_end lookahead_at sees take_token take_lifetime take_mark take_group before rows_for rows run parse_rule
+inner_value_alone = not_read inner_attributes _ refl refl
+
+-- `#![(a)]`: nothing is read
+inner_values : NotDerived (rule inner_attributes)
+    (punct 35 true (at 0 1) (punct 33 false (at 1 2) (group Bracket (at 2 3) (at 6 7) (group Paren (at 3 4) (at 5 6) (leaf (ident (97 ∷ [])) (at 4 5) end) end) end)))
+unfolding left is_end lookahead_at sees take_token take_lifetime take_mark take_group before rows_for rows run parse_rule
+inner_values = not_read inner_attributes _ refl refl
+
+-- `#![#![a]]`: nothing is read
+inner_in_inner : NotDerived (rule inner_attributes)
+    (punct 35 true (at 0 1) (punct 33 false (at 1 2) (group Bracket (at 2 3) (at 8 9) (punct 35 true (at 3 4) (punct 33 false (at 4 5) (group Bracket (at 5 6) (at 7 8) (leaf (ident (97 ∷ [])) (at 6 7) end) end))) end)))
+unfolding left is_end lookahead_at sees take_token take_lifetime take_mark take_group before rows_for rows run parse_rule
+inner_in_inner = not_read inner_attributes _ refl refl
+
+-- `#!(a)`: nothing is read
+inner_in_parentheses : NotDerived (rule inner_attributes)
+    (punct 35 true (at 0 1) (punct 33 false (at 1 2) (group Paren (at 2 3) (at 4 5) (leaf (ident (97 ∷ [])) (at 3 4) end) end)))
+unfolding left is_end lookahead_at sees take_token take_lifetime take_mark take_group before rows_for rows run parse_rule
+inner_in_parentheses = not_read inner_attributes _ refl refl
+
+-- `#!{a}`: nothing is read
+inner_in_braces : NotDerived (rule inner_attributes)
+    (punct 35 true (at 0 1) (punct 33 false (at 1 2) (group Brace (at 2 3) (at 4 5) (leaf (ident (97 ∷ [])) (at 3 4) end) end)))
+unfolding left is_end lookahead_at sees take_token take_lifetime take_mark take_group before rows_for rows run parse_rule
+inner_in_braces = not_read inner_attributes _ refl refl
+
+-- no tokens prints ``
+no_attributes_none : DerivesAs no_attributes
+    (end)
+    (end)
+    (end)
+unfolding left is_end lookahead_at sees take_token take_lifetime take_mark take_group before rows_for rows run parse_rule
+no_attributes_none = computed no_attributes _ _ _ refl refl
+
+-- `a` prints `` and leaves `a`
+no_attributes_leaves : DerivesAs no_attributes
+    (leaf (ident (97 ∷ [])) (at 0 1) end)
+    (end)
+    (leaf (ident (97 ∷ [])) (at 0 1) end)
+unfolding left is_end lookahead_at sees take_token take_lifetime take_mark take_group before rows_for rows run parse_rule
+no_attributes_leaves = computed no_attributes _ _ _ refl refl
+
+-- `#[a]`: nothing is read
+no_attributes_outer : NotDerived (rule no_attributes)
+    (punct 35 false (at 0 1) (group Bracket (at 1 2) (at 3 4) (leaf (ident (97 ∷ [])) (at 2 3) end) end))
+unfolding left is_end lookahead_at sees take_token take_lifetime take_mark take_group before rows_for rows run parse_rule
+no_attributes_outer = not_read no_attributes _ refl refl
+
+-- `#![a] b`: nothing is read
+no_attributes_inner : NotDerived (rule no_attributes)
+    (punct 35 true (at 0 1) (punct 33 false (at 1 2) (group Bracket (at 2 3) (at 4 5) (leaf (ident (97 ∷ [])) (at 3 4) end) (leaf (ident (98 ∷ [])) (at 6 7) end))))
+unfolding left is_end lookahead_at sees take_token take_lifetime take_mark take_group before rows_for rows run parse_rule
+no_attributes_inner = not_read no_attributes _ refl refl
+
+-- `a #[b]` prints `` and leaves `a #[b]`
+no_attributes_leaves_behind : DerivesAs no_attributes
+    (leaf (ident (97 ∷ [])) (at 0 1) (punct 35 false (at 2 3) (group Bracket (at 3 4) (at 5 6) (leaf (ident (98 ∷ [])) (at 4 5) end) end)))
+    (end)
+    (leaf (ident (97 ∷ [])) (at 0 1) (punct 35 false (at 2 3) (group Bracket (at 3 4) (at 5 6) (leaf (ident (98 ∷ [])) (at 4 5) end) end)))
+unfolding left is_end lookahead_at sees take_token take_lifetime take_mark take_group before rows_for rows run parse_rule
+no_attributes_leaves_behind = computed no_attributes _ _ _ refl refl

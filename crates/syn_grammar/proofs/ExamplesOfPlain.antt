@@ -862,3 +862,43 @@ plain_derive_semicolon : NotDerived (rule plain_derive_input)
     (punct 59 false (at 0 1) end)
 unfolding left is_end lookahead_at sees take_token take_lifetime take_mark take_group before rows_for rows run parse_rule
 plain_derive_semicolon = not_read plain_derive_input _ refl refl
+
+-- `#[a] b`: nothing is read
+plain_field_attribute : NotDerived (rule plain_unnamed_field)
+    (punct 35 false (at 0 1) (group Bracket (at 1 2) (at 3 4) (leaf (ident (97 ∷ [])) (at 2 3) end) (leaf (ident (98 ∷ [])) (at 5 6) end)))
+unfolding left is_end lookahead_at sees take_token take_lifetime take_mark take_group before rows_for rows run parse_rule
+plain_field_attribute = not_read plain_unnamed_field _ refl refl
+
+-- `pub #[a] b`: nothing is read
+plain_field_attribute_type : NotDerived (rule plain_unnamed_field)
+    (leaf (ident w_pub) (at 0 3) (punct 35 false (at 4 5) (group Bracket (at 5 6) (at 7 8) (leaf (ident (97 ∷ [])) (at 6 7) end) (leaf (ident (98 ∷ [])) (at 9 10) end))))
+unfolding left is_end lookahead_at sees take_token take_lifetime take_mark take_group before rows_for rows run parse_rule
+plain_field_attribute_type = not_read plain_unnamed_field _ refl refl
+
+-- `#[a] struct S;`: nothing is read
+plain_struct_attribute : NotDerived (rule plain_structure)
+    (punct 35 false (at 0 1) (group Bracket (at 1 2) (at 3 4) (leaf (ident (97 ∷ [])) (at 2 3) end) (leaf (ident w_struct) (at 5 11) (leaf (ident (83 ∷ [])) (at 12 13) (punct 59 false (at 13 14) end)))))
+unfolding left is_end lookahead_at sees take_token take_lifetime take_mark take_group before rows_for rows run parse_rule
+plain_struct_attribute = not_read plain_structure _ refl refl
+
+-- `pub #[a] struct S;`: nothing is read
+plain_struct_attribute_vis : NotDerived (rule plain_structure)
+    (leaf (ident w_pub) (at 0 3) (punct 35 false (at 4 5) (group Bracket (at 5 6) (at 7 8) (leaf (ident (97 ∷ [])) (at 6 7) end) (leaf (ident w_struct) (at 9 15) (leaf (ident (83 ∷ [])) (at 16 17) (punct 59 false (at 17 18) end))))))
+unfolding left is_end lookahead_at sees take_token take_lifetime take_mark take_group before rows_for rows run parse_rule
+plain_struct_attribute_vis = not_read plain_structure _ refl refl
+
+-- `a #[b]` prints `a` and leaves `#[b]`
+plain_field_leaves_attribute : DerivesAs plain_unnamed_field
+    (leaf (ident (97 ∷ [])) (at 0 1) (punct 35 false (at 2 3) (group Bracket (at 3 4) (at 5 6) (leaf (ident (98 ∷ [])) (at 4 5) end) end)))
+    (leaf (ident (97 ∷ [])) call_site end)
+    (punct 35 false (at 2 3) (group Bracket (at 3 4) (at 5 6) (leaf (ident (98 ∷ [])) (at 4 5) end) end))
+unfolding left is_end lookahead_at sees take_token take_lifetime take_mark take_group before rows_for rows run parse_rule
+plain_field_leaves_attribute = computed plain_unnamed_field _ _ _ refl refl
+
+-- `struct S; #[a]` prints `struct S ;` and leaves `#[a]`
+plain_struct_leaves_attribute : DerivesAs plain_structure
+    (leaf (ident w_struct) (at 0 6) (leaf (ident (83 ∷ [])) (at 7 8) (punct 59 false (at 8 9) (punct 35 false (at 10 11) (group Bracket (at 11 12) (at 13 14) (leaf (ident (97 ∷ [])) (at 12 13) end) end)))))
+    (leaf (ident w_struct) call_site (leaf (ident (83 ∷ [])) call_site (punct 59 false call_site end)))
+    (punct 35 false (at 10 11) (group Bracket (at 11 12) (at 13 14) (leaf (ident (97 ∷ [])) (at 12 13) end) end))
+unfolding left is_end lookahead_at sees take_token take_lifetime take_mark take_group before rows_for rows run parse_rule
+plain_struct_leaves_attribute = computed plain_structure _ _ _ refl refl

@@ -2,7 +2,7 @@
 -- How many rules may call one another before anything is read.
 use Rattle.std.proofs.Common.{◌≡◌, ℕ, true, refl}
 use Rattle.std.specs.Prelude.{nat_lt}
-use Rattle.syn_grammar.specs.Rules.{Rule, attributes, meta, unsafe_path, unsafe_word, meta_value, module_path, module_words, visibility, restriction, type_path, type_words, type_arguments, return_type, generic_arguments, generic_argument, qualified_path, type, types, expression, generics, lifetime_parameter, lifetimes, parameter_bounds, bound, trait_bound, bound_lifetimes, lifetime_parameters, where_clause, predicates, predicate, predicate_bounds, fields_named, named_fields, named_field, nameless_fields, unnamed_field, unnamed_fields, fields_unnamed, variant, variants, structure, structure_rest, structure_body, enumeration, enumeration_rest, union_item, union_item_rest, derive_input, plain_type_path, plain_type, plain_unnamed_field, plain_unnamed_fields, plain_fields_unnamed, plain_structure_body, plain_structure, plain_derive_input}
+use Rattle.syn_grammar.specs.Rules.{Rule, attributes, inner_attributes, no_attributes, meta, unsafe_path, unsafe_word, meta_value, module_path, module_words, visibility, restriction, type_path, type_words, type_arguments, return_type, generic_arguments, generic_argument, qualified_path, type, types, expression, generics, lifetime_parameter, lifetimes, parameter_bounds, bound, trait_bound, bound_lifetimes, lifetime_parameters, where_clause, predicates, predicate, predicate_bounds, fields_named, named_fields, named_field, nameless_fields, unnamed_field, unnamed_fields, fields_unnamed, variant, variants, structure, structure_rest, structure_body, enumeration, enumeration_rest, union_item, union_item_rest, derive_input, plain_type_path, plain_type, plain_unnamed_field, plain_unnamed_fields, plain_fields_unnamed, plain_structure_body, plain_structure, plain_derive_input}
 use Rattle.syn_grammar.specs.Table.{table}
 use Rattle.syn_grammar.proofs.Said.{start_of}
 use Rattle.syn_grammar.proofs.Low.{low}
@@ -10,6 +10,8 @@ use Rattle.syn_grammar.proofs.Low.{low}
 -- how many rules may be called, one by the other, before it reads a token
 abbrev pub rank : Rule → ℕ
 rank attributes = 0
+rank inner_attributes = 0
+rank no_attributes = 0
 rank meta = 2
 rank unsafe_path = 1
 rank unsafe_word = 0
@@ -69,6 +71,8 @@ rank plain_derive_input = 2
 -- not too many
 pub ranks_low : (k : Rule) → nat_lt (rank k) 256 ≡ true
 ranks_low attributes = refl
+ranks_low inner_attributes = refl
+ranks_low no_attributes = refl
 ranks_low meta = refl
 ranks_low unsafe_path = refl
 ranks_low unsafe_word = refl
@@ -128,6 +132,8 @@ ranks_low plain_derive_input = refl
 -- each of them has a lower rank, so no rule comes back to itself
 pub lookaheads_low : (k : Rule) → low start_of rank (rank k) (table k) ≡ true
 lookaheads_low attributes = refl
+lookaheads_low inner_attributes = refl
+lookaheads_low no_attributes = refl
 lookaheads_low meta = refl
 lookaheads_low unsafe_path = refl
 lookaheads_low unsafe_word = refl

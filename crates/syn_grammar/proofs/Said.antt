@@ -3,8 +3,8 @@
 use Rattle.std.proofs.Common.{◌≡◌, Bool, true, false, [], ◌∷◌, refl, sym, true≢false}
 use Rattle.syn_grammar.specs.Words.{w_underscore, w_as, w_crate, w_enum, w_false, w_for, w_impl, w_in, w_pub, w_Self_type, w_self, w_struct, w_super, w_trait, w_true, w_unsafe, w_where, w_union, w_auto, w_default, w_safe, semicolon, equals, star, less, pound, ampersand, question, lifetime_mark, exclamation, colons, arrow, equal_equal, not_equals, less_less, less_equals, and_and, star_equals, ampersand_equals, less_less_equals}
 use Rattle.syn_grammar.specs.Tokens.{Paren, Brace, Bracket, Str, ByteStr, CStr, Byte, Char, Int, Float, Ended, Name, Word, Punctuation, Literal, Delimited, Before_equals, Bang_brace, Bang_name, Bang_group, ended, at_name, at_word, ahead, ◌or_else◌, ◌and_also◌, ◌but_not◌, at_lifetime, at_path_rest}
-use Rattle.syn_grammar.specs.Rules.{Rule, attributes, meta, unsafe_path, unsafe_word, meta_value, module_path, module_words, visibility, restriction, type_path, type_words, type_arguments, return_type, generic_arguments, generic_argument, qualified_path, type, types, expression, generics, lifetime_parameter, lifetimes, parameter_bounds, bound, trait_bound, bound_lifetimes, lifetime_parameters, where_clause, predicates, predicate, predicate_bounds, fields_named, named_fields, named_field, nameless_fields, unnamed_field, unnamed_fields, fields_unnamed, variant, variants, structure, structure_rest, structure_body, enumeration, enumeration_rest, union_item, union_item_rest, derive_input, plain_type_path, plain_type, plain_unnamed_field, plain_unnamed_fields, plain_fields_unnamed, plain_structure_body, plain_structure, plain_derive_input}
-use Rattle.syn_grammar.specs.Table.{at_colons, at_colon, at_equals, at_comma, at_pound, at_plus, at_less, at_less_only, at_greater, at_arrow, at_paren, at_brace, at_bracket, at_arguments, at_restriction, at_parameter_end, at_predicate_end, table}
+use Rattle.syn_grammar.specs.Rules.{Rule, attributes, inner_attributes, no_attributes, meta, unsafe_path, unsafe_word, meta_value, module_path, module_words, visibility, restriction, type_path, type_words, type_arguments, return_type, generic_arguments, generic_argument, qualified_path, type, types, expression, generics, lifetime_parameter, lifetimes, parameter_bounds, bound, trait_bound, bound_lifetimes, lifetime_parameters, where_clause, predicates, predicate, predicate_bounds, fields_named, named_fields, named_field, nameless_fields, unnamed_field, unnamed_fields, fields_unnamed, variant, variants, structure, structure_rest, structure_body, enumeration, enumeration_rest, union_item, union_item_rest, derive_input, plain_type_path, plain_type, plain_unnamed_field, plain_unnamed_fields, plain_fields_unnamed, plain_structure_body, plain_structure, plain_derive_input}
+use Rattle.syn_grammar.specs.Table.{at_colons, at_colon, at_equals, at_comma, at_pound, at_inner_attribute, at_plus, at_less, at_less_only, at_greater, at_arrow, at_paren, at_brace, at_bracket, at_arguments, at_restriction, at_parameter_end, at_predicate_end, table}
 use Rattle.syn_grammar.proofs.FirstSets.{Start, IsSaid}
 use Rattle.syn_grammar.proofs.NeverFollow.{IsOff}
 use Rattle.syn_grammar.proofs.Extend.{closes}
@@ -16,6 +16,8 @@ use Rattle.syn_grammar.proofs.Reprint.{IsSummary}
 -- what each rule begins with, whether it may read nothing, and what never stands behind it
 abbrev pub start_of : Rule → Start
 start_of attributes = record { first_set = Punctuation pound ∷ []; nullable = true; never_follow = at_pound ∷ [] }
+start_of inner_attributes = record { first_set = Punctuation pound ∷ []; nullable = true; never_follow = at_inner_attribute ∷ [] }
+start_of no_attributes = record { first_set = []; nullable = true; never_follow = at_pound ∷ [] }
 start_of meta = record { first_set = Word w_unsafe ∷ Name ∷ Punctuation colons ∷ Word w_Self_type ∷ Word w_auto ∷ Word w_crate ∷ Word w_default ∷ Word w_safe ∷ Word w_self ∷ Word w_super ∷ Word w_union ∷ []; nullable = false; never_follow = [] }
 start_of unsafe_path = record { first_set = Word w_unsafe ∷ []; nullable = false; never_follow = at_colons ∷ [] }
 start_of unsafe_word = record { first_set = Word w_unsafe ∷ []; nullable = false; never_follow = at_colons ∷ [] }
@@ -75,6 +77,8 @@ start_of plain_derive_input = record { first_set = Word w_pub ∷ Word w_struct 
 -- it ends by itself
 abbrev pub closed_of : Rule → Bool
 closed_of attributes = false
+closed_of inner_attributes = false
+closed_of no_attributes = false
 closed_of meta = false
 closed_of unsafe_path = false
 closed_of unsafe_word = false
@@ -134,6 +138,8 @@ closed_of plain_derive_input = true
 -- somebody asks for the facts of its lookahead
 abbrev pub heard_of : Rule → Bool
 heard_of attributes = true
+heard_of inner_attributes = false
+heard_of no_attributes = true
 heard_of meta = false
 heard_of unsafe_path = false
 heard_of unsafe_word = false
@@ -193,6 +199,8 @@ heard_of plain_derive_input = false
 -- how its print may differ from what it read
 abbrev pub summary_of : Bool → Rule → Summary
 summary_of false attributes = record { stays = []; moves = move (Punctuation pound) (Punctuation pound) [] ∷ []; nullable = true; gone = []; ends = []; halts = at_pound ∷ []; shuns = [] }
+summary_of false inner_attributes = record { stays = Punctuation pound ∷ []; moves = []; nullable = true; gone = []; ends = []; halts = at_inner_attribute ∷ []; shuns = [] }
+summary_of false no_attributes = record { stays = []; moves = []; nullable = true; gone = []; ends = []; halts = at_pound ∷ []; shuns = [] }
 summary_of false meta = record { stays = []; moves = move (Word w_unsafe) (Word w_unsafe) [] ∷ move (Punctuation colons) (Punctuation colons) [] ∷ move Name Name [] ∷ move (Word w_union) (Word w_union) [] ∷ move (Word w_auto) (Word w_auto) [] ∷ move (Word w_default) (Word w_default) [] ∷ move (Word w_safe) (Word w_safe) [] ∷ move (Word w_self) (Word w_self) [] ∷ move (Word w_Self_type) (Word w_Self_type) [] ∷ move (Word w_super) (Word w_super) [] ∷ move (Word w_crate) (Word w_crate) [] ∷ []; nullable = false; gone = []; ends = ended ∷ []; halts = at_equals ∷ at_bracket ∷ at_brace ∷ at_paren ∷ at_colons ∷ []; shuns = [] }
 summary_of false unsafe_path = record { stays = []; moves = move (Word w_unsafe) (Word w_unsafe) [] ∷ []; nullable = false; gone = []; ends = []; halts = at_colons ∷ []; shuns = [] }
 summary_of false unsafe_word = record { stays = []; moves = move (Word w_unsafe) (Word w_unsafe) [] ∷ []; nullable = false; gone = []; ends = []; halts = at_colons ∷ []; shuns = [] }
@@ -249,6 +257,8 @@ summary_of false plain_structure_body = record { stays = Delimited Paren ∷ Pun
 summary_of false plain_structure = record { stays = Word w_pub ∷ Word w_struct ∷ []; moves = []; nullable = false; gone = []; ends = []; halts = []; shuns = [] }
 summary_of false plain_derive_input = record { stays = Word w_pub ∷ Word w_struct ∷ []; moves = []; nullable = false; gone = []; ends = []; halts = []; shuns = [] }
 summary_of true attributes = record { stays = []; moves = move (Punctuation pound) (Punctuation pound) [] ∷ []; nullable = true; gone = []; ends = []; halts = at_pound ∷ []; shuns = [] }
+summary_of true inner_attributes = record { stays = []; moves = []; nullable = false; gone = []; ends = []; halts = []; shuns = [] }
+summary_of true no_attributes = record { stays = []; moves = []; nullable = true; gone = []; ends = []; halts = at_pound ∷ []; shuns = [] }
 summary_of true meta = record { stays = []; moves = []; nullable = false; gone = []; ends = []; halts = []; shuns = [] }
 summary_of true unsafe_path = record { stays = []; moves = []; nullable = false; gone = []; ends = []; halts = []; shuns = [] }
 summary_of true unsafe_word = record { stays = []; moves = []; nullable = false; gone = []; ends = []; halts = []; shuns = [] }
@@ -308,6 +318,8 @@ summary_of true plain_derive_input = record { stays = []; moves = []; nullable =
 -- so it is
 pub starts_hold : IsSaid start_of table
 starts_hold attributes = (refl, λ e. refl)
+starts_hold inner_attributes = (refl, λ e. refl)
+starts_hold no_attributes = (refl, λ e. refl)
 starts_hold meta = (refl, λ e. e)
 starts_hold unsafe_path = (refl, λ e. e)
 starts_hold unsafe_word = (refl, λ e. e)
@@ -367,6 +379,8 @@ starts_hold plain_derive_input = (refl, λ e. e)
 -- nor do these
 pub never_follow_hold : IsOff start_of table
 never_follow_hold attributes = refl
+never_follow_hold inner_attributes = refl
+never_follow_hold no_attributes = refl
 never_follow_hold meta = refl
 never_follow_hold unsafe_path = refl
 never_follow_hold unsafe_word = refl
@@ -426,6 +440,8 @@ never_follow_hold plain_derive_input = refl
 -- nothing is asked behind it
 pub closed_hold : (k : Rule) → closed_of k ≡ true → closes closed_of (table k) ≡ true
 closed_hold attributes e = absurd (true≢false (sym e))
+closed_hold inner_attributes e = absurd (true≢false (sym e))
+closed_hold no_attributes e = absurd (true≢false (sym e))
 closed_hold meta e = absurd (true≢false (sym e))
 closed_hold unsafe_path e = absurd (true≢false (sym e))
 closed_hold unsafe_word e = absurd (true≢false (sym e))
@@ -485,6 +501,8 @@ closed_hold plain_derive_input e = refl
 -- no stream is read by two forms of a union
 pub unions_hold : (k : Rule) → sound table start_of (table k) ≡ true
 unions_hold attributes = refl
+unions_hold inner_attributes = refl
+unions_hold no_attributes = refl
 unions_hold meta = refl
 unions_hold unsafe_path = refl
 unions_hold unsafe_word = refl
@@ -544,6 +562,8 @@ unions_hold plain_derive_input = refl
 -- its summary covers what its form prints
 pub summaries_hold : IsSummary summary_of heard_of start_of closed_of table
 summaries_hold false attributes e = (refl, refl)
+summaries_hold false inner_attributes e = (refl, refl)
+summaries_hold false no_attributes e = (refl, refl)
 summaries_hold false meta e = (refl, refl)
 summaries_hold false unsafe_path e = (refl, refl)
 summaries_hold false unsafe_word e = (refl, refl)
@@ -600,6 +620,8 @@ summaries_hold false plain_structure_body e = (refl, refl)
 summaries_hold false plain_structure e = (refl, refl)
 summaries_hold false plain_derive_input e = (refl, refl)
 summaries_hold true attributes e = (refl, refl)
+summaries_hold true inner_attributes e = absurd (true≢false (sym e))
+summaries_hold true no_attributes e = (refl, refl)
 summaries_hold true meta e = absurd (true≢false (sym e))
 summaries_hold true unsafe_path e = absurd (true≢false (sym e))
 summaries_hold true unsafe_word e = absurd (true≢false (sym e))
@@ -659,6 +681,8 @@ summaries_hold true plain_derive_input e = absurd (true≢false (sym e))
 -- nothing that may not follow is the end
 pub ends_hold : (k : Rule) → clear (summary_of false k).shuns Ended ≡ true
 ends_hold attributes = refl
+ends_hold inner_attributes = refl
+ends_hold no_attributes = refl
 ends_hold meta = refl
 ends_hold unsafe_path = refl
 ends_hold unsafe_word = refl

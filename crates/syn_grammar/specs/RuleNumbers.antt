@@ -1,71 +1,73 @@
 -- Written by tools/grammar.py from specs/Table.antt; edits are lost.
 -- Rules are told apart by their numbers.
 use Rattle.std.specs.Prelude.{◌≡◌, ℕ, zero, suc, Bool, List, [], ◌∷◌, nat_eq, refl}
-use Rattle.syn_grammar.specs.Rules.{Rule, attributes, meta, unsafe_path, unsafe_word, meta_value, module_path, module_words, visibility, restriction, type_path, type_words, type_arguments, return_type, generic_arguments, generic_argument, qualified_path, type, types, expression, generics, lifetime_parameter, lifetimes, parameter_bounds, bound, trait_bound, bound_lifetimes, lifetime_parameters, where_clause, predicates, predicate, predicate_bounds, fields_named, named_fields, named_field, nameless_fields, unnamed_field, unnamed_fields, fields_unnamed, variant, variants, structure, structure_rest, structure_body, enumeration, enumeration_rest, union_item, union_item_rest, derive_input, plain_type_path, plain_type, plain_unnamed_field, plain_unnamed_fields, plain_fields_unnamed, plain_structure_body, plain_structure, plain_derive_input}
+use Rattle.syn_grammar.specs.Rules.{Rule, attributes, inner_attributes, no_attributes, meta, unsafe_path, unsafe_word, meta_value, module_path, module_words, visibility, restriction, type_path, type_words, type_arguments, return_type, generic_arguments, generic_argument, qualified_path, type, types, expression, generics, lifetime_parameter, lifetimes, parameter_bounds, bound, trait_bound, bound_lifetimes, lifetime_parameters, where_clause, predicates, predicate, predicate_bounds, fields_named, named_fields, named_field, nameless_fields, unnamed_field, unnamed_fields, fields_unnamed, variant, variants, structure, structure_rest, structure_body, enumeration, enumeration_rest, union_item, union_item_rest, derive_input, plain_type_path, plain_type, plain_unnamed_field, plain_unnamed_fields, plain_fields_unnamed, plain_structure_body, plain_structure, plain_derive_input}
 
 abbrev pub place : Rule → ℕ
 place attributes = 0
-place meta = 1
-place unsafe_path = 2
-place unsafe_word = 3
-place meta_value = 4
-place module_path = 5
-place module_words = 6
-place visibility = 7
-place restriction = 8
-place type_path = 9
-place type_words = 10
-place type_arguments = 11
-place return_type = 12
-place generic_arguments = 13
-place generic_argument = 14
-place qualified_path = 15
-place type = 16
-place types = 17
-place expression = 18
-place generics = 19
-place lifetime_parameter = 20
-place lifetimes = 21
-place parameter_bounds = 22
-place bound = 23
-place trait_bound = 24
-place bound_lifetimes = 25
-place lifetime_parameters = 26
-place where_clause = 27
-place predicates = 28
-place predicate = 29
-place predicate_bounds = 30
-place fields_named = 31
-place named_fields = 32
-place named_field = 33
-place nameless_fields = 34
-place unnamed_field = 35
-place unnamed_fields = 36
-place fields_unnamed = 37
-place variant = 38
-place variants = 39
-place structure = 40
-place structure_rest = 41
-place structure_body = 42
-place enumeration = 43
-place enumeration_rest = 44
-place union_item = 45
-place union_item_rest = 46
-place derive_input = 47
-place plain_type_path = 48
-place plain_type = 49
-place plain_unnamed_field = 50
-place plain_unnamed_fields = 51
-place plain_fields_unnamed = 52
-place plain_structure_body = 53
-place plain_structure = 54
-place plain_derive_input = 55
+place inner_attributes = 1
+place no_attributes = 2
+place meta = 3
+place unsafe_path = 4
+place unsafe_word = 5
+place meta_value = 6
+place module_path = 7
+place module_words = 8
+place visibility = 9
+place restriction = 10
+place type_path = 11
+place type_words = 12
+place type_arguments = 13
+place return_type = 14
+place generic_arguments = 15
+place generic_argument = 16
+place qualified_path = 17
+place type = 18
+place types = 19
+place expression = 20
+place generics = 21
+place lifetime_parameter = 22
+place lifetimes = 23
+place parameter_bounds = 24
+place bound = 25
+place trait_bound = 26
+place bound_lifetimes = 27
+place lifetime_parameters = 28
+place where_clause = 29
+place predicates = 30
+place predicate = 31
+place predicate_bounds = 32
+place fields_named = 33
+place named_fields = 34
+place named_field = 35
+place nameless_fields = 36
+place unnamed_field = 37
+place unnamed_fields = 38
+place fields_unnamed = 39
+place variant = 40
+place variants = 41
+place structure = 42
+place structure_rest = 43
+place structure_body = 44
+place enumeration = 45
+place enumeration_rest = 46
+place union_item = 47
+place union_item_rest = 48
+place derive_input = 49
+place plain_type_path = 50
+place plain_type = 51
+place plain_unnamed_field = 52
+place plain_unnamed_fields = 53
+place plain_fields_unnamed = 54
+place plain_structure_body = 55
+place plain_structure = 56
+place plain_derive_input = 57
 
 abbrev pub same_rule : Rule → Rule → Bool
 same_rule a b = nat_eq (place a) (place b)
 
 abbrev pub rules : List Rule
-rules = attributes ∷ meta ∷ unsafe_path ∷ unsafe_word ∷ meta_value ∷ module_path ∷ module_words ∷ visibility ∷ restriction ∷ type_path ∷ type_words ∷ type_arguments ∷ return_type ∷ generic_arguments ∷ generic_argument ∷ qualified_path ∷ type ∷ types ∷ expression ∷ generics ∷ lifetime_parameter ∷ lifetimes ∷ parameter_bounds ∷ bound ∷ trait_bound ∷ bound_lifetimes ∷ lifetime_parameters ∷ where_clause ∷ predicates ∷ predicate ∷ predicate_bounds ∷ fields_named ∷ named_fields ∷ named_field ∷ nameless_fields ∷ unnamed_field ∷ unnamed_fields ∷ fields_unnamed ∷ variant ∷ variants ∷ structure ∷ structure_rest ∷ structure_body ∷ enumeration ∷ enumeration_rest ∷ union_item ∷ union_item_rest ∷ derive_input ∷ plain_type_path ∷ plain_type ∷ plain_unnamed_field ∷ plain_unnamed_fields ∷ plain_fields_unnamed ∷ plain_structure_body ∷ plain_structure ∷ plain_derive_input ∷ []
+rules = attributes ∷ inner_attributes ∷ no_attributes ∷ meta ∷ unsafe_path ∷ unsafe_word ∷ meta_value ∷ module_path ∷ module_words ∷ visibility ∷ restriction ∷ type_path ∷ type_words ∷ type_arguments ∷ return_type ∷ generic_arguments ∷ generic_argument ∷ qualified_path ∷ type ∷ types ∷ expression ∷ generics ∷ lifetime_parameter ∷ lifetimes ∷ parameter_bounds ∷ bound ∷ trait_bound ∷ bound_lifetimes ∷ lifetime_parameters ∷ where_clause ∷ predicates ∷ predicate ∷ predicate_bounds ∷ fields_named ∷ named_fields ∷ named_field ∷ nameless_fields ∷ unnamed_field ∷ unnamed_fields ∷ fields_unnamed ∷ variant ∷ variants ∷ structure ∷ structure_rest ∷ structure_body ∷ enumeration ∷ enumeration_rest ∷ union_item ∷ union_item_rest ∷ derive_input ∷ plain_type_path ∷ plain_type ∷ plain_unnamed_field ∷ plain_unnamed_fields ∷ plain_fields_unnamed ∷ plain_structure_body ∷ plain_structure ∷ plain_derive_input ∷ []
 
 abbrev pub at_place : List Rule → ℕ → Rule
 at_place [] n = attributes
@@ -75,6 +77,8 @@ at_place (x ∷ l) (suc n) = at_place l n
 -- the rule of each number is the one that has it
 pub back : (k : Rule) → at_place rules (place k) ≡ k
 back attributes = refl
+back inner_attributes = refl
+back no_attributes = refl
 back meta = refl
 back unsafe_path = refl
 back unsafe_word = refl

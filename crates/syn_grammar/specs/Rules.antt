@@ -2,6 +2,8 @@
 -- The rules of the written grammar, by name.
 pub data Rule : Type 0 where
   attributes : Rule
+  inner_attributes : Rule
+  no_attributes : Rule
   meta : Rule
   unsafe_path : Rule
   unsafe_word : Rule

@@ -2,11 +2,13 @@
 -- Of which rules what is shown is read again, and where what was read before a rest is read at the end; the proofs compute each line again.
 use Rattle.std.specs.Prelude.{Bool, true, false, List, [], ◌∷◌}
 use Rattle.syn_grammar.specs.Words.{Text, comma, semicolon}
-use Rattle.syn_grammar.specs.Rules.{Rule, attributes, meta, unsafe_path, unsafe_word, meta_value, module_path, module_words, visibility, restriction, type_path, type_words, type_arguments, return_type, generic_arguments, generic_argument, qualified_path, type, types, expression, generics, lifetime_parameter, lifetimes, parameter_bounds, bound, trait_bound, bound_lifetimes, lifetime_parameters, where_clause, predicates, predicate, predicate_bounds, fields_named, named_fields, named_field, nameless_fields, unnamed_field, unnamed_fields, fields_unnamed, variant, variants, structure, structure_rest, structure_body, enumeration, enumeration_rest, union_item, union_item_rest, derive_input, plain_type_path, plain_type, plain_unnamed_field, plain_unnamed_fields, plain_fields_unnamed, plain_structure_body, plain_structure, plain_derive_input}
+use Rattle.syn_grammar.specs.Rules.{Rule, attributes, inner_attributes, no_attributes, meta, unsafe_path, unsafe_word, meta_value, module_path, module_words, visibility, restriction, type_path, type_words, type_arguments, return_type, generic_arguments, generic_argument, qualified_path, type, types, expression, generics, lifetime_parameter, lifetimes, parameter_bounds, bound, trait_bound, bound_lifetimes, lifetime_parameters, where_clause, predicates, predicate, predicate_bounds, fields_named, named_fields, named_field, nameless_fields, unnamed_field, unnamed_fields, fields_unnamed, variant, variants, structure, structure_rest, structure_body, enumeration, enumeration_rest, union_item, union_item_rest, derive_input, plain_type_path, plain_type, plain_unnamed_field, plain_unnamed_fields, plain_fields_unnamed, plain_structure_body, plain_structure, plain_derive_input}
 
 -- what is shown of its value (all its tokens, in their order) is read as the same value
 abbrev pub reads_shown : Rule → Bool
 reads_shown attributes = true
+reads_shown inner_attributes = true
+reads_shown no_attributes = true
 reads_shown meta = true
 reads_shown unsafe_path = true
 reads_shown unsafe_word = true
@@ -66,6 +68,8 @@ reads_shown plain_derive_input = true
 -- it asks nothing of what follows it that the end may answer otherwise
 abbrev pub stands_alone : Rule → Bool
 stands_alone attributes = true
+stands_alone inner_attributes = true
+stands_alone no_attributes = true
 stands_alone meta = false
 stands_alone unsafe_path = true
 stands_alone unsafe_word = true
@@ -125,6 +129,8 @@ stands_alone plain_derive_input = true
 -- what it asks of what follows it, the end answers as these marks do (of `,` and `;`)
 abbrev pub stands_before : Rule → List Text
 stands_before attributes = comma ∷ semicolon ∷ []
+stands_before inner_attributes = comma ∷ semicolon ∷ []
+stands_before no_attributes = comma ∷ semicolon ∷ []
 stands_before meta = []
 stands_before unsafe_path = comma ∷ semicolon ∷ []
 stands_before unsafe_word = comma ∷ semicolon ∷ []

@@ -5,8 +5,8 @@
 -- A comment directly above a look or a rule says it in words.
 use Rattle.std.specs.Prelude.{true, false, [], ◌∷◌}
 use Rattle.syn_grammar.specs.Words.{w_underscore, w_as, w_const, w_crate, w_enum, w_false, w_for, w_in, w_mut, w_pub, w_Self_type, w_self, w_struct, w_super, w_true, w_unsafe, w_where, w_union, comma, semicolon, colon, equals, plus, star, less, greater, pound, ampersand, question, exclamation, colons, arrow, less_equals}
-use Rattle.syn_grammar.specs.Tokens.{Paren, Brace, Bracket, Str, ByteStr, CStr, Byte, Char, Int, Float, Before_equals, Before_less, Lone_word, Begins_in, Before_brace, Look, ended, at_name, at_word, at_mark, at_literal, at_group, ahead, ◌or_else◌, ◌and_also◌, ◌but_not◌, at_lifetime}
-use Rattle.syn_grammar.specs.Rules.{Rule, attributes, meta, unsafe_path, unsafe_word, meta_value, module_path, module_words, visibility, restriction, type_path, type_words, type_arguments, return_type, generic_arguments, generic_argument, qualified_path, type, types, expression, generics, lifetime_parameter, lifetimes, parameter_bounds, bound, trait_bound, bound_lifetimes, lifetime_parameters, where_clause, predicates, predicate, predicate_bounds, fields_named, named_fields, named_field, nameless_fields, unnamed_field, unnamed_fields, fields_unnamed, variant, variants, structure, structure_rest, structure_body, enumeration, enumeration_rest, union_item, union_item_rest, derive_input, plain_type_path, plain_type, plain_unnamed_field, plain_unnamed_fields, plain_fields_unnamed, plain_structure_body, plain_structure, plain_derive_input}
+use Rattle.syn_grammar.specs.Tokens.{Paren, Brace, Bracket, Str, ByteStr, CStr, Byte, Char, Int, Float, Before_equals, Before_less, Before_bang, Lone_word, Begins_in, Before_brace, Look, ended, at_name, at_word, at_mark, at_literal, at_group, ahead, ◌or_else◌, ◌and_also◌, ◌but_not◌, at_lifetime}
+use Rattle.syn_grammar.specs.Rules.{Rule, attributes, inner_attributes, no_attributes, meta, unsafe_path, unsafe_word, meta_value, module_path, module_words, visibility, restriction, type_path, type_words, type_arguments, return_type, generic_arguments, generic_argument, qualified_path, type, types, expression, generics, lifetime_parameter, lifetimes, parameter_bounds, bound, trait_bound, bound_lifetimes, lifetime_parameters, where_clause, predicates, predicate, predicate_bounds, fields_named, named_fields, named_field, nameless_fields, unnamed_field, unnamed_fields, fields_unnamed, variant, variants, structure, structure_rest, structure_body, enumeration, enumeration_rest, union_item, union_item_rest, derive_input, plain_type_path, plain_type, plain_unnamed_field, plain_unnamed_fields, plain_fields_unnamed, plain_structure_body, plain_structure, plain_derive_input}
 use Rattle.syn_grammar.specs.Shape.{untagged}
 use Rattle.syn_grammar.specs.Grammar.{name, word, name_or, any_literal, Grammar, empty, lifetime, ◌&◌, when◌then◌else◌, vanishing, inside, raw, rest_after, one_of, rule, shaped, captured, unshown, ordered}
 use Rattle.syn_grammar.specs.Forms.{plainly, telling, asking, punctuation, asking_punctuation, never, optional}
@@ -40,6 +40,10 @@ at_semicolon = at_mark semicolon
 -- The character `#` stands next.
 abbrev pub at_pound : Look
 at_pound = at_mark pound
+
+-- The character `#` stands next, and `!` behind it.
+abbrev pub at_inner_attribute : Look
+at_inner_attribute = at_pound and_also ahead Before_bang
 
 -- The character `+` stands next, alone or as the beginning of a longer mark.
 abbrev pub at_plus : Look
@@ -151,6 +155,17 @@ abbrev pub table : Rule → Grammar
 -- Inner attributes that a tree made by hand holds at a node without a place for them are not printed.
 table attributes =
     when at_pound then (punctuation pound & inside Bracket (rule meta)) & rule attributes
+    else unshown
+--
+-- Inner attributes: as long as `#` stands next and `!` behind it, these and a group in brackets with an attribute's meta.
+-- Outer attributes that a tree made by hand holds among them are not printed.
+table inner_attributes =
+    when at_inner_attribute then (asking_punctuation pound & punctuation exclamation & inside Bracket (rule meta)) & rule inner_attributes
+    else unshown
+--
+-- No attributes, where they aren't read yet: `#` must not stand next. Attributes that a tree made by hand holds are printed.
+table no_attributes =
+    when at_pound then never
     else unshown
 --
 -- The meta of an attribute: a path in module style or `unsafe`, and its value.
@@ -440,10 +455,11 @@ table plain_type_path =
 table plain_type =
     rule plain_type_path
 --
--- A field without a name, as it is read until attributes and whole types are trees: a visibility and a type. A `=` behind it is
--- refused. A colon that a tree made by hand holds is not printed.
+-- A field without a name, as it is read until attributes are read and whole types are trees: no attributes, a visibility and a type.
+-- A `=` behind it is refused. A colon that a tree made by hand holds is not printed.
 table plain_unnamed_field =
-    rule visibility
+    rule no_attributes
+    & rule visibility
     & unshown
     & rule plain_type
     & (when at_equals then never else empty)
@@ -465,10 +481,11 @@ table plain_structure_body =
     then rule plain_fields_unnamed & punctuation semicolon
     else punctuation semicolon
 --
--- A struct, as it is read until attributes and generics are trees: a visibility, `struct`, a name and a body.
+-- A struct, as it is read until attributes are read and generics are trees: no attributes, a visibility, `struct`, a name and a body.
 -- Generics that a tree made by hand holds are not printed.
 table plain_structure =
-    rule visibility
+    rule no_attributes
+    & rule visibility
     & plainly (word w_struct)
     & plainly name
     & unshown

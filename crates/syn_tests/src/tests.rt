@@ -1,4 +1,5 @@
 //! Tests of the library, by examples.
+mod attributes;
 mod canonical_prints;
 mod copies;
 mod deep;

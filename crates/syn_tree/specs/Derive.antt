@@ -6,6 +6,7 @@ use Rattle.syn_tokens.specs.Leaves.{maybe, syntax_of_ident}
 use Rattle.syn_tokens.specs.Idents.{IdentValue}
 use Rattle.syn_tokens.specs.Kinds.{Semi, struct_syntax, semi_syntax}
 use Rattle.syn_tree.specs.Parts.{or_added, first, second}
+use Rattle.syn_tree.specs.Attributes.{attributes_syntax, none_listed}
 use Rattle.syn_tree.specs.Restriction.{syntax_of_Visibility}
 use Rattle.syn_tree.specs.Data.{syntax_of_Fields}
 use Rattle.syn_tree.specs.declared.data.Fields.TheVariants as Fields-m
@@ -31,13 +32,13 @@ syntax_of_Data (Data-m.Struct d) = syntax_of_DataStruct d
 
 -- a struct's parts in print order: of its own parts the first stands behind the visibility, the others behind the name and the
 -- generics
-abbrev pub structure_parts : Syntax → Syntax → Syntax → Syntax → Syntax
-structure_parts vis ident generics own =
-    Both vis (Both (first own) (Both ident (Both (Unshown generics) (structure_body_of (first (second own)) (second (second own))))))
+abbrev pub structure_parts : Syntax → Syntax → Syntax → Syntax → Syntax → Syntax
+structure_parts attrs vis ident generics own =
+    Both attrs (Both vis (Both (first own) (Both ident (Both (Unshown generics) (structure_body_of (first (second own)) (second (second own)))))))
 
--- a struct without generics
+-- a struct without attributes and generics
 abbrev pub structure_syntax : Visibility-m.the_data × IdentValue × DataStruct → Syntax
-structure_syntax p = Node (structure_parts (syntax_of_Visibility p.0) (syntax_of_ident p.1) Nothing (syntax_of_DataStruct p.2))
+structure_syntax p = Node (structure_parts none_listed (syntax_of_Visibility p.0) (syntax_of_ident p.1) Nothing (syntax_of_DataStruct p.2))
 
 abbrev pub view_DeriveInput : DeriveInput-in.Inside → Syntax
-view_DeriveInput a = Node (Case plain_structure (structure_parts (syntax_of_Visibility a.vis) (syntax_of_ident a.ident) a.generics (syntax_of_Data a.shape)))
+view_DeriveInput a = Node (Case plain_structure (structure_parts (attributes_syntax a.attrs.items) (syntax_of_Visibility a.vis) (syntax_of_ident a.ident) a.generics (syntax_of_Data a.shape)))

@@ -1,8 +1,10 @@
+pub mod Attributes
 pub mod Data
 pub mod Derive
 pub mod Equality
 pub mod Looks
 pub mod Lower
+pub mod MetaValues
 pub mod Parsing
 pub mod Parts
 pub mod Plain

@@ -11,6 +11,7 @@ ghost use Rattle.syn_parse.specs.Nexts.{RefusedNext, HasFaultNext};
 ghost use Rattle.syn_tree.specs.Defaults.{RefusesDefault};
 
 use crate::comma_lists::plain_unnamed_fields;
+use crate::lower::attr::{no_attributes, print_all};
 use crate::lower::{Attribute, Expr, Type};
 use crate::restriction::Visibility;
 use std::alloc::AllocError;
@@ -77,12 +78,13 @@ impl Field {
         Ok(field)
     }
 
-    /// A visibility and a type, which no `=` may follow.
+    /// No attributes, a visibility and a type, which no `=` may follow.
     #[tactic(auto, using(syn_grammar::proofs::Each::plain_unnamed_field_is))]
     pub(crate) fn read_unnamed(input: &mut ParseBuffer<'_>) -> Parsed<Field>
         ensures parses { Parses IsSyntax itself rules.plain_unnamed_field input.old result input.new }
         ensures default { RefusesDefault input.old IsSyntax RefusedNext result }
     {
+        no_attributes::<Ident>(input)?;
         let field = Field {
             attrs: Vec::new(input.alloc()),
             vis: input.read()?,
@@ -121,9 +123,10 @@ impl Read for FieldsUnnamed {
 
 /// A name and its colon are compared by what they are together.
 impl Compared for Field {
-    #[tactic(auto, using(crate::proofs::Compared::same_name, syn_grammar::proofs::Same::and_true))]
+    #[tactic(auto, using(crate::proofs::Attributes::same_all_attributes, crate::proofs::Compared::same_name, syn_grammar::proofs::Same::and_true))]
     fn is_same(&self, other: &Field) -> bool {
-        self.vis.is_same(&other.vis)
+        self.attrs.is_same(&other.attrs)
+            && self.vis.is_same(&other.vis)
             && self.ident.is_same(&other.ident)
             && self.colon_token.is_same(&other.colon_token)
             && self.ty.is_same(&other.ty)
@@ -150,9 +153,11 @@ fn print_name(
     }
 }
 
+/// All attributes are printed, inner ones too.
 impl Print for Field {
     #[tactic(auto, using(syn_tokens::proofs::Prints::prints))]
     fn print_in(&self, out: &mut StreamBuilder) -> std::result::Result<(), AllocError> {
+        print_all(&self.attrs, out)?;
         self.vis.print_in(out)?;
         print_name(&self.ident, &self.colon_token, out)?;
         self.ty.print_in(out)

@@ -4,6 +4,7 @@ ghost use Rattle.syn_tree.specs.Parsing.{of, rule, meaning_of_rule, parse_rule, 
 ghost use Rattle.syn_tree.specs.Derive.{structure_syntax, body_syntax};
 
 use crate::data::Fields;
+use crate::lower::attr::{no_attributes, print_outer};
 use crate::lower::{Attribute, Generics};
 use crate::restriction::Visibility;
 use std::alloc::AllocError;
@@ -46,7 +47,7 @@ impl Read for DeriveInput {
 
     ghost meaning = { meaning_of_rule rules.plain_derive_input };
 
-    #[tactic(auto, using(syn_grammar::proofs::Each::plain_derive_input_is))]
+    #[tactic(auto, using(syn_grammar::proofs::Each::plain_derive_input_is), unfolding(crate::specs::Attributes::outer_listed))]
     fn read(input: &mut ParseBuffer<'_>) -> Parsed<DeriveInput> {
         let (vis, ident, data) = structure(input)?;
         Ok(DeriveInput {
@@ -59,12 +60,13 @@ impl Read for DeriveInput {
     }
 }
 
-/// A visibility, `struct`, a name and what stands behind it.
+/// No attributes, a visibility, `struct`, a name and what stands behind it.
 #[tactic(auto, using(syn_grammar::proofs::Each::plain_structure_is))]
 fn structure(input: &mut ParseBuffer<'_>) -> Parsed<(Visibility, Ident, DataStruct)>
     ensures reads { Computes IsSyntax structure_syntax (parse_rule rules.plain_structure input.old) result input.new }
     ensures moved { Moved input.old result input.new }
 {
+    no_attributes::<Struct>(input)?;
     let vis = input.read()?;
     let struct_token = input.read()?;
     let ident = input.read()?;
@@ -94,10 +96,11 @@ fn structure_body(input: &mut ParseBuffer<'_>) -> Parsed<(Fields, Semi)>
 }
 
 /// A struct's own parts stand before and behind its name; its `;` is printed though there is none. Generics without
-/// parameters are not printed.
+/// parameters are not printed, nor are inner attributes.
 impl Print for DeriveInput {
     #[tactic(auto, using(syn_tokens::proofs::Prints::prints))]
     fn print_in(&self, out: &mut StreamBuilder) -> Result<(), AllocError> {
+        print_outer(&self.attrs, out)?;
         self.vis.print_in(out)?;
         let Data::Struct(data) = &self.shape;
         data.struct_token.print_in(out)?;

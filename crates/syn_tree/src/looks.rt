@@ -6,7 +6,7 @@ ghost use Rattle.syn_tree.specs.Looks.{lone_word};
 
 use syn_parse::buffer::ParseBuffer;
 use syn_parse::read::End;
-use syn_tokens::token::{Crate, In, SelfValue, Super, kind};
+use syn_tokens::token::{Crate, In, Not, Pound, SelfValue, Super, kind};
 
 /// Whether parentheses stand next that hold `crate`, `self` or `super` alone, or begin with `in`.
 #[tactic(auto, using(crate::proofs::Restricted::restriction_seen))]
@@ -25,4 +25,12 @@ fn is_lone_word(content: &ParseBuffer<'_>) -> bool
 {
     (content.peek::<Crate>() || content.peek::<SelfValue>() || content.peek::<Super>())
         && content.peek2::<End>()
+}
+
+/// Whether `#` stands next, and `!` behind it.
+#[tactic(auto, using(crate::proofs::InnerAttributes::inner_attribute_seen))]
+pub(crate) fn at_inner_attribute(input: &ParseBuffer<'_>) -> bool
+    ensures { result ≡ sees table.at_inner_attribute input.now }
+{
+    input.peek::<Pound>() && input.peek2::<Not>()
 }

@@ -2,7 +2,10 @@
 use std::alloc::{AllocError, Global};
 use syn::data::{Field, Fields, FieldsUnnamed};
 use syn::derive::{Data, DataStruct, DeriveInput};
-use syn::lower::{Generics, Path, PathArguments, PathSegment, Type, TypePath};
+use syn::lower::{
+    AttrStyle, Attribute, Generics, MacroDelimiter, Meta, MetaList, MetaNameValue, Path,
+    PathArguments, PathSegment, Type, TypePath,
+};
 use syn::restriction::{VisRestricted, Visibility};
 use syn::token::{
     Delimiter, Entry, Ident, LiteralRef, Mark, Punct, Spacing, Span, Token, TokenStream,
@@ -153,6 +156,51 @@ impl Outlined for Type {
         out.word("Type")?;
         let Type::Path(ty) = self;
         ty.show(out)
+    }
+}
+
+impl Outlined for MetaList {
+    fn show(&self, out: &mut TreeText) -> Result<(), AllocError> {
+        self.path.show(out)?;
+        let (open, close, opening, closing) = match self.delimiter {
+            MacroDelimiter::Paren(sign) => ("(", ")", sign.opening, sign.closing),
+            MacroDelimiter::Brace(sign) => ("{", "}", sign.opening, sign.closing),
+            MacroDelimiter::Bracket(sign) => ("[", "]", sign.opening, sign.closing),
+        };
+        out.token(open, opening)?;
+        self.tokens.show(out)?;
+        out.token(close, closing)
+    }
+}
+
+impl Outlined for MetaNameValue {
+    fn show(&self, out: &mut TreeText) -> Result<(), AllocError> {
+        self.path.show(out)?;
+        out.mark("=", &self.eq_token)?;
+        self.value.show(out)
+    }
+}
+
+impl Outlined for Meta {
+    fn show(&self, out: &mut TreeText) -> Result<(), AllocError> {
+        match self {
+            Meta::Path(path) => path.show(out),
+            Meta::List(list) => list.show(out),
+            Meta::NameValue(pair) => pair.show(out),
+        }
+    }
+}
+
+impl Outlined for Attribute {
+    fn show(&self, out: &mut TreeText) -> Result<(), AllocError> {
+        out.mark("#", &self.pound_token)?;
+        match &self.style {
+            AttrStyle::Outer => out.word("Outer")?,
+            AttrStyle::Inner(bang) => out.mark("!", bang)?,
+        }
+        out.token("[", self.bracket_token.opening)?;
+        self.meta.show(out)?;
+        out.token("]", self.bracket_token.closing)
     }
 }
 

@@ -10,8 +10,10 @@ use crate::derive::{Data, DataStruct, DeriveInput};
 use syn_tokens::syntactic::compare::Compared;
 
 impl Compared for DeriveInput {
+    #[tactic(auto, using(crate::proofs::Attributes::same_attributes))]
     fn is_same(&self, other: &DeriveInput) -> bool {
-        self.vis.is_same(&other.vis)
+        self.attrs.is_same(&other.attrs)
+            && self.vis.is_same(&other.vis)
             && self.ident.is_same(&other.ident)
             && self.generics.is_same(&other.generics)
             && self.shape.is_same(&other.shape)

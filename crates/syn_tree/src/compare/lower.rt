@@ -2,6 +2,7 @@
 //!
 //! Comparisons of trees.
 
+mod attr;
 mod generics;
 mod path;
 mod ty;

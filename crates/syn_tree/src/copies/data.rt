@@ -28,7 +28,7 @@ impl TryClone for FieldsUnnamed {
 impl TryClone for Field {
     fn try_clone(&self, alloc: Global) -> Result<Field> {
         Ok(Field {
-            attrs: Vec::new(alloc),
+            attrs: self.attrs.try_clone(alloc)?,
             vis: self.vis.try_clone(alloc)?,
             modifiers: self.modifiers,
             ident: self.ident.try_clone(alloc)?,

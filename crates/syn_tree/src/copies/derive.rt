@@ -10,7 +10,7 @@ use syn_tokens::syntactic::try_clone::TryClone;
 impl TryClone for DeriveInput {
     fn try_clone(&self, alloc: Global) -> Result<DeriveInput> {
         Ok(DeriveInput {
-            attrs: Vec::new(alloc),
+            attrs: self.attrs.try_clone(alloc)?,
             vis: self.vis.try_clone(alloc)?,
             ident: self.ident.try_clone(alloc)?,
             generics: self.generics.try_clone(alloc)?,

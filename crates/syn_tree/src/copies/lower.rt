@@ -2,6 +2,7 @@
 //!
 //! Copies of trees.
 
+mod attr;
 mod generics;
 mod path;
 mod ty;

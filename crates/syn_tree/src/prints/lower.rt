@@ -2,5 +2,6 @@
 //!
 //! Prints of trees.
 
+mod attr;
 mod path;
 mod ty;
