@@ -2,6 +2,7 @@
 mod canonical_prints;
 mod copies;
 mod deep;
+mod deferred;
 mod derive_inputs;
 mod fields;
 mod handmade;
