@@ -1,3 +1,4 @@
+pub mod DeferredTokens
 pub mod Errors
 pub mod FirstTokens
 pub mod Listing

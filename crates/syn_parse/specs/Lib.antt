@@ -1,4 +1,5 @@
 pub mod Calls
+pub mod DeferredTokens
 pub mod Form
 pub mod FirstTokens
 pub mod Listing

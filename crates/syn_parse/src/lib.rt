@@ -2,6 +2,7 @@
 #![tactic(auto)]
 
 pub mod buffer;
+pub mod deferred;
 pub mod ext;
 pub mod laws;
 pub mod lookahead;

@@ -3,6 +3,7 @@ mod attributes;
 mod canonical_prints;
 mod copies;
 mod deep;
+mod deferred;
 mod derive_inputs;
 mod fields;
 mod handmade;

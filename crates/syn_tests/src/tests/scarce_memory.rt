@@ -4,7 +4,8 @@
 //! Each does the same twice: one of both has to be right, the other may be refused for want of memory.
 ghost use Rattle.std.specs.Prelude.{None};
 
-use crate::tests::support::{fault, parsed, refused_at, reprinted, span};
+use crate::tests::deferred::Inputs;
+use crate::tests::support::{fault, parsed, printed, refused_at, reprinted, span};
 use std::alloc::Global;
 use syn::canon::{canonical, same_form};
 use syn::data::FieldsUnnamed;
@@ -16,6 +17,7 @@ use syn::reader::{read_tokens, token_text};
 use syn::restriction::Visibility;
 use syn::token::{Ident, LitKind, Literal, TokenStream, TokenTree};
 use syn::{Result, TryClone};
+use syn_parse::deferred::Deferred;
 
 const STRUCT: &str = "pub struct S(pub(in a::b) c, ::d::e,);";
 
@@ -127,6 +129,24 @@ fn copies(rt: HostRuntime) {
     assert!(rt; are_right(is_tree_copied(rt.alloc()), is_tree_copied(rt.alloc())));
     assert!(rt; are_right(is_copied(rt.alloc()), is_copied(rt.alloc())));
     assert!(rt; are_right(is_taken_over(rt.alloc()), is_taken_over(rt.alloc())));
+}
+
+fn is_deferred(alloc: Global) -> Result<bool> {
+    let deferred: Deferred<Inputs> = parsed(alloc, STRUCT)?;
+    let copy = deferred.try_clone(alloc)?;
+    Ok(copy == deferred && printed(alloc, &copy)?.as_str() == PRINTED)
+}
+
+fn is_opened(alloc: Global) -> Result<bool> {
+    let tree: DeriveInput = parsed(alloc, STRUCT)?;
+    let deferred: Deferred<Inputs> = Deferred::new(&tree, alloc)?;
+    Ok(deferred.open()? == tree)
+}
+
+#[test]
+fn deferred_trees(rt: HostRuntime) {
+    assert!(rt; are_right(is_deferred(rt.alloc()), is_deferred(rt.alloc())));
+    assert!(rt; are_right(is_opened(rt.alloc()), is_opened(rt.alloc())));
 }
 
 /// Whether a parse that is refused for want of memory leaves its buffer, and the next one is right.
