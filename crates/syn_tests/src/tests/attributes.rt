@@ -3,6 +3,7 @@ use crate::tests::outline::outline;
 use crate::tests::support::{assert_place, assert_text, assert_text_of, fault, parsed, printed};
 use std::alloc::Global;
 use std::process::Abort;
+use syn::data::Field;
 use syn::derive::DeriveInput;
 use syn::lower::Attribute;
 use syn::parse::ParseBuffer;
@@ -271,5 +272,39 @@ fn by_hand(rt: HostRuntime) -> Result<()> {
     assert!(&rt; equal_items(rt.alloc(), "#![d]", "#![d]")?);
     assert!(&rt; !equal_items(rt.alloc(), "#![d]", "")?);
     assert!(&rt; !equal_items(rt.alloc(), "#![d]", "#![e]")?);
+    Ok(())
+}
+
+/// A field by hand, with the attributes of two texts.
+fn field_with(alloc: Global, inner: &str, outer: &str) -> Result<Field> {
+    let tokens = read_tokens(alloc, "u8")?;
+    let mut field = Field::parse_unnamed(&mut ParseBuffer::new(&tokens))?;
+    field.attrs = attributes(alloc, inner, true)?;
+    for attr in attributes(alloc, outer, false)? {
+        field.attrs.push(attr)?;
+    }
+    Ok(field)
+}
+
+/// What it prints.
+fn field_printed(alloc: Global, inner: &str, outer: &str) -> Result<String> {
+    printed(alloc, &field_with(alloc, inner, outer)?)
+}
+
+/// Whether two fields are equal, with these inner attributes.
+fn equal_fields(alloc: Global, left: &str, right: &str) -> Result<bool> {
+    let left = field_with(alloc, left, "#[a]")?;
+    let right = field_with(alloc, right, "#[a]")?;
+    Ok(left == right)
+}
+
+/// A field prints all its attributes, in their order.
+#[test]
+fn of_a_field_by_hand(rt: HostRuntime) -> Result<()> {
+    let print = field_printed(rt.alloc(), "#![d]", "#[a] #[b = c]")?;
+    assert_text(&rt, print.as_str(), "# ! [ d ] # [ a ] # [ b = c ] u8");
+    assert!(&rt; equal_fields(rt.alloc(), "#![d]", "#![d]")?);
+    assert!(&rt; !equal_fields(rt.alloc(), "#![d]", "")?);
+    assert!(&rt; !equal_fields(rt.alloc(), "#![d]", "#![e]")?);
     Ok(())
 }
