@@ -42,7 +42,7 @@ KINDS = {
 PARTS = {
     1: ['module_path', 'plain_type_path', 'plain_unnamed_fields'],
     2: ['attributes', 'meta', 'module_path', 'type_path', 'type_words', 'return_type', 'generic_arguments', 'generic_argument',
-        'qualified_path', 'types', 'generics', 'lifetime_parameter', 'lifetimes', 'parameter_bounds', 'bound', 'trait_bound',
+        'qualified_path', 'path_as_type', 'types', 'generics', 'lifetime_parameter', 'lifetimes', 'parameter_bounds', 'bound', 'trait_bound',
         'where_clause', 'predicate', 'predicate_bounds', 'named_fields', 'unnamed_fields', 'variants', 'structure_rest',
         'enumeration_rest', 'union_item_rest'],
 }
@@ -60,7 +60,8 @@ def part_readers(o):
     return {
         'attributes': o.p_outer, 'meta': o.p_meta, 'module_path': path('mod'), 'type_path': path('type'), 'plain_type_path': path('type'),
         'type_words': lambda c: words_of(o, c), 'return_type': o.p_return_type, 'generic_arguments': lambda c: o.p_angle(c, None),
-        'generic_argument': lambda c: argument_of(o, c), 'qualified_path': lambda c: qualified_of(o, c), 'types': members(o.p_type),
+        'generic_argument': lambda c: argument_of(o, c), 'qualified_path': lambda c: qualified_of(o, c),
+        'path_as_type': lambda c: qualified_of(o, c) if c.mark('<') else path('type')(c), 'types': members(o.p_type),
         'generics': o.p_generics, 'lifetime_parameter': o.p_lifetime_param, 'lifetimes': o.p_lifetimes,
         'parameter_bounds': bounds(o.end_param), 'bound': o.p_bound, 'trait_bound': o.p_trait_bound,
         'where_clause': lambda c: where_of(o, c), 'predicate': o.p_predicate, 'predicate_bounds': bounds(o.end_where),
@@ -97,7 +98,7 @@ def where_of(o, c):
 PART_SENTENCES = {
     'attributes': lambda g, d: g.oa(1, 0.5), 'meta': lambda g, d: g.meta(d), 'module_path': lambda g, d: g.modpath(d),
     'type_path': lambda g, d: g.path(d, 'type'), 'generic_arguments': lambda g, d: g.gargs(d),
-    'qualified_path': lambda g, d: g.qpath(d, 'type'), 'generics': lambda g, d: g.gen(d, 0.95),
+    'qualified_path': lambda g, d: g.qpath(d, 'type'), 'path_as_type': lambda g, d: g.path(d, 'type'), 'generics': lambda g, d: g.gen(d, 0.95),
     'lifetime_parameter': lambda g, d: g.ltparam(d), 'lifetimes': lambda g, d: g.lifetimes(), 'parameter_bounds': lambda g, d: g.bounds(d),
     'bound': lambda g, d: g.bound(d), 'where_clause': lambda g, d: g.where(d, 0.95), 'predicate': lambda g, d: g.pred(d),
     'predicate_bounds': lambda g, d: g.bounds(d)}
@@ -110,7 +111,8 @@ class Oracle:
         import oracle
         oracle.STAGE = stage
         self.o, self.own = oracle, gen
-        self.delimiters = {DELIMITER_TEXTS[d][0]: d for d in ('Paren', 'Brace', 'Bracket')}
+        self.signs = {d: '' if d == 'None' else texts[0] for d, texts in DELIMITER_TEXTS.items()}
+        self.delimiters = {sign: d for d, sign in self.signs.items()}
         readers = part_readers(oracle)
         oracle.API_KINDS.update({rule: (readers[rule], stage) for rule in PARTS[stage]})
 
@@ -119,7 +121,7 @@ class Oracle:
         made = {Ident: lambda t: o.Ident(t.text),
                 Punct: lambda t: o.Punct(t.character, t.joint),
                 Literal: lambda t: o.Lit(t.kind, t.text),
-                Group: lambda t: o.Group(DELIMITER_TEXTS[t.delimiter][0], self.to(t.content))}
+                Group: lambda t: o.Group(self.signs[t.delimiter], self.to(t.content))}
         return [made[type(t)](t) for t in trees]
 
     def back(self, trees):
@@ -170,6 +172,10 @@ def pairs(stage):
     return list(KINDS[stage].items()) + [(rule, rule) for rule in PARTS[stage]]
 
 
+def holds_invisible(trees):
+    return any(isinstance(t, Group) and (t.delimiter == 'None' or holds_invisible(t.content)) for t in trees)
+
+
 def random_trees(sentences, oracle, generator, rule, kind):
     r = sentences.random
     is_known = kind in PART_SENTENCES or kind != rule
@@ -177,6 +183,8 @@ def random_trees(sentences, oracle, generator, rule, kind):
         trees = oracle.sentence(generator, kind)
     else:
         trees = sentences.sentence(rule, r.choice([3, 5, 7, 9]))
+    if holds_invisible(trees):
+        return trees  # changed, it may be an expression or, without content, a visibility, which the table doesn't read yet
     for _ in range(r.choice([0, 0, 1, 1, 1, 2, 3])):
         trees = sentences.changed(trees)
     return trees

@@ -43,7 +43,18 @@ KINDS = [
 JOINED = {("Path", "segments")}
 
 # what is printed by the tree that holds it, and not by itself
-UNPRINTED = {"AttrStyle", "Data", "DataStruct", "Generics", "MacroDelimiter"}
+UNPRINTED = {
+    "AttrStyle",
+    "ConstModifiers",
+    "Data",
+    "DataStruct",
+    "FnModifiers",
+    "Generics",
+    "ImplModifiers",
+    "MacroDelimiter",
+    "TraitModifiers",
+    "TypeModifiers",
+}
 
 CRATES = Path("crates")
 

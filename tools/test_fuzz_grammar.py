@@ -36,7 +36,8 @@ class SynErr(Exception):
 class Mirror(Oracle):
     def __init__(self):
         import oracle
-        self.o, self.delimiters = oracle, {'(': 'Paren', '{': 'Brace', '[': 'Bracket'}
+        self.o, self.signs = oracle, {'Paren': '(', 'Brace': '{', 'Bracket': '[', 'None': ''}
+        self.delimiters = {sign: d for d, sign in self.signs.items()}
 
 
 def __getattr__(name):

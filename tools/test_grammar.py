@@ -11,7 +11,7 @@ from grammarlib.complaints import EXPLAINED
 from grammarlib.examples import Theorems, parse
 from grammarlib.lookaheads import Lookaheads
 from grammarlib.source import Source
-from grammarlib.tokens import Ident, Literal, Punct, read_text
+from grammarlib.tokens import Group, Ident, Literal, Punct, read_text, shown
 
 HERE = Path(__file__).resolve().parent
 CRATE = HERE.parent / 'crates' / 'syn_grammar'
@@ -119,6 +119,16 @@ class Table(unittest.TestCase):
             self.assertEqual(read_text(text), (Literal(kind, text),))
         self.assertEqual(read_text("&'a b"), (Punct('&', True), Punct("'", True), Ident('a'), Ident('b')))
         self.assertEqual(read_text('1.'), (Literal('Int', '1'), Punct('.', False)))
+
+    def test_what_spells_an_invisible_group(self):
+        text = r'\((a) \(b\)\) c'
+        trees = read_text(text)
+        self.assertEqual(trees, (Group('None', (Group('Paren', (Ident('a'),)), Group('None', (Ident('b'),)))), Ident('c')))
+        self.assertEqual((trees[0].opening, trees[0].closing, trees[1].span), ((0, 2), (11, 13), (14, 15)))
+        self.assertEqual(read_text(shown(trees)), trees)
+        for wrong in (r'\(a)', r'(a\)', r'\(a', r'a\)', '\\', r'\a'):
+            with self.assertRaises(ValueError):
+                read_text(wrong)
 
     def test_all_complaints_are_tested(self):
         # no form of today prints `_` as a name

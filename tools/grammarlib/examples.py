@@ -106,16 +106,16 @@ class Theorems:
         trees = read_text(example.text)
         comment = f'-- `{example.text}`' if example.text else '-- no tokens'
         if example.unread:
-            claim, proof = f'NotDerived (rule {example.rule})\n    ({self.stream(trees)})', f'not_read {example.rule} _ refl refl'
+            claim, proof = f'NotDerived (rule {example.rule})\n    ({self.stream(trees)})', f'not_read {example.rule} _ refl'
             comment += ': nothing is read'
         elif example.printed is None:
-            claim, proof = f'Refused {example.rule}\n    ({self.stream(trees)})', f'not_derived {example.rule} _ refl refl'
+            claim, proof = f'Refused {example.rule}\n    ({self.stream(trees)})', f'not_derived {example.rule} _ refl'
             comment += ' is refused'
         else:
             rest = trees[len(trees) - len(read_text(example.rest)):] if example.rest else ()
             printed = self.stream(read_text(example.printed), True)
             claim = f'DerivesAs {example.rule}\n    ({self.stream(trees)})\n    ({printed})\n    ({self.stream(rest)})'
-            proof = f'computed {example.rule} _ _ _ refl refl'
+            proof = f'computed {example.rule} _ _ _ refl'
             comment += f' prints `{example.printed}`' + (f' and leaves `{example.rest}`' if example.rest else '')
         return f'{comment}\n{example.name} : {claim}\nunfolding {UNFOLD}\n{example.name} = {proof}\n'
 

@@ -309,7 +309,8 @@ class Mutants:
             elif kind == 'group':
                 for other in DELIMITERS:
                     if other != text:
-                        yield f'{DELIMITERS[text]} may also be {DELIMITERS[other]}', exchanged(form, self.also_group(text, other))
+                        name = DELIMITERS.get(text, 'the invisible group')
+                        yield f'{name} may also be {DELIMITERS[other]}', exchanged(form, self.also_group(text, other))
         yield from self.of_names(form, words)
 
     def fixed_tokens(self, form):
@@ -405,7 +406,7 @@ class Mutants:
         if kind == 'rule':
             return form[1][0]
         if kind in ('inside', 'raw'):
-            return f'the group {DELIMITERS[form[1][0]]}'
+            return f'the group {DELIMITERS[form[1][0]]}' if form[1][0] in DELIMITERS else 'the invisible group'
         if kind == 'one_of':
             return 'one of ' + ', '.join(k[0] for k in form[1]) if form[1] else 'a refusal'
         if kind == '&':

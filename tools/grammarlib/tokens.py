@@ -3,9 +3,10 @@ import re
 from dataclasses import dataclass, field
 from functools import partial
 
-OPENING = {'(': 'Paren', '{': 'Brace', '[': 'Bracket'}
-CLOSING = {')': '(', '}': '{', ']': '['}
-DELIMITER_TEXTS = {'Paren': '()', 'Brace': '{}', 'Bracket': '[]', 'None': ('', '')}
+# no text shows the delimiters of an invisible group; here they are `\(` and `\)`
+OPENING = {'(': 'Paren', '{': 'Brace', '[': 'Bracket', '\\(': 'None'}
+CLOSING = {')': '(', '}': '{', ']': '[', '\\)': '\\('}
+DELIMITER_TEXTS = {'Paren': '()', 'Brace': '{}', 'Bracket': '[]', 'None': ('\\(', '\\)')}
 MARKS = "~!@#$%^&*-=+|;:,<.>/?'"
 WORD = re.compile(r'[A-Za-z_]\w*')
 LITERALS = {'ByteStr': r'b"[^"]*"', 'CStr': r'c"[^"]*"', 'Str': r'"[^"]*"', 'Byte': r"b'[^']'", 'Char': r"'[^']'", 'Float': r'\d+\.\d\w*', 'Int': r'\d\w*'}
@@ -90,21 +91,26 @@ def read_text(text):
     return trees
 
 
+def sign(text, place):
+    """The character at this place, or a delimiter of two; nothing at the end."""
+    return text[place:place + 1 + text.startswith('\\', place)]
+
+
 def read_trees(text, place, closing):
     trees = []
     while True:
         while place < len(text) and text[place] == ' ':
             place += 1
-        if place == len(text) or text[place] in CLOSING:
-            found = text[place] if place < len(text) else None
-            if (CLOSING[found] if found else None) != closing:
+        character = sign(text, place)
+        if not character or character in CLOSING:
+            if CLOSING.get(character) != closing:
                 raise ValueError(f'unbalanced group in {text!r}')
             return tuple(trees), place
-        character, span = text[place], (place, place + 1)
+        span = (place, place + len(character))
         if character in OPENING:
-            content, stop = read_trees(text, place + 1, character)
-            trees.append(Group(OPENING[character], content, span, (stop, stop + 1)))
-            place = stop + 1
+            content, stop = read_trees(text, span[1], character)
+            place = stop + len(character)
+            trees.append(Group(OPENING[character], content, span, (stop, place)))
             continue
         for pattern, make in LEAVES:
             found = pattern.match(text, place)

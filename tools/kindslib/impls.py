@@ -53,7 +53,8 @@ def assembled(blocks):
         for path, name in block["uses"]:
             uses.setdefault(path, []).append(name)
     head = "".join(f"ghost use Rattle.{module}.{{{', '.join(dict.fromkeys(names))}}};\n" for module, names in ghosts.items())
-    lines = "".join(import_line(path, names) for path, names in sorted(uses.items()))
+    # in the order of `rt fmt`, for which a list in braces stands behind all modules
+    lines = "".join(sorted((import_line(path, names) for path, names in uses.items()), key=lambda line: line.split(";")[0]))
     return head + "\n" + lines + "".join("\n" + block["text"] for block in blocks)
 
 

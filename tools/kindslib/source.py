@@ -11,6 +11,9 @@ USE = re.compile(r"^use (\w+)::([\w:]+)::(?:\{([^}]*)\}|(\w+));$", re.M)
 DELIMITERS = {"Paren", "Brace", "Bracket"}
 ATTRIBUTES = "Vec<Attribute>"
 
+# what stands for no syntax, though it is a public struct with fields
+NO_SYNTAX = {"Index"}
+
 
 class Fault(Exception):
     """What this script can't read."""
@@ -73,8 +76,9 @@ class Source:
         return None
 
     def printed(self):
-        """The types that stand for syntax: all that have values, but for structs without fields, which only hold a place."""
-        return [t for t in self.types.values() if not t.has_no_values() and (t.is_enum or t.fields)]
+        """The types that stand for syntax: all that have values, but for structs without fields, which only hold a place, and those
+        that are named above."""
+        return [t for t in self.types.values() if not t.has_no_values() and (t.is_enum or t.fields) and t.name not in NO_SYNTAX]
 
     def path_of(self, name):
         """The module through which the crate names a type: the top one of its file, which passes it on."""

@@ -6,6 +6,7 @@ mod kinds;
 mod lawful;
 pub mod reader;
 
+pub use syn_parse::deferred;
 pub use syn_parse::parse::parse2;
 pub use syn_tokens::error::{Error, Fault, Result};
 pub use syn_tokens::ident::Ident;
@@ -16,14 +17,19 @@ pub use syn_tokens::span::Span;
 pub use syn_tokens::syntactic::Syntactic;
 pub use syn_tokens::syntactic::try_clone::TryClone;
 pub use syn_tokens::{error, print, punctuated};
-pub use syn_tree::data::{Field, FieldModifiers, Fields, FieldsUnnamed};
+pub use syn_tree::data::{Field, FieldModifiers, Fields, FieldsUnnamed, Index, MemberRef, Members};
 pub use syn_tree::derive::{Data, DataStruct, DeriveInput};
+pub use syn_tree::item::{
+    ConstModifiers, FnModifiers, ImplModifiers, TraitModifiers, TypeModifiers,
+};
 pub use syn_tree::lower::{
-    AttrStyle, Attribute, Expr, GenericParam, Generics, MacroDelimiter, Meta, MetaList,
-    MetaNameValue, Path, PathArguments, PathSegment, QSelf, Type, TypePath, WhereClause,
+    AttrStyle, Attribute, Expr, ExprLit, GenericParam, Generics, Lit, LitBool, LitByte, LitByteStr,
+    LitCStr, LitChar, LitFloat, LitInt, LitStr, LitToken, LiteralKind, MacroDelimiter, Meta,
+    MetaList, MetaNameValue, Path, PathArguments, PathSegment, QSelf, Type, TypePath, WhereClause,
 };
 pub use syn_tree::restriction::{VisRestricted, Visibility};
-pub use syn_tree::{data, derive, lower, restriction};
+pub use syn_tree::stmt::LocalModifiers;
+pub use syn_tree::{data, derive, item, kind, lower, restriction, stmt};
 
 /// Buffers of tokens, and what is parsed from them.
 pub mod parse {

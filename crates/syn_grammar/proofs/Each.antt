@@ -2,7 +2,7 @@
 -- What each rule reads is what its form reads.
 use Rattle.std.specs.Prelude.{◌≡◌}
 use Rattle.syn_grammar.specs.Tokens.{Stream}
-use Rattle.syn_grammar.specs.Rules.{attributes, inner_attributes, no_attributes, meta, unsafe_path, unsafe_word, meta_value, module_path, module_words, visibility, restriction, type_path, type_words, type_arguments, return_type, generic_arguments, generic_argument, qualified_path, type, types, expression, generics, lifetime_parameter, lifetimes, parameter_bounds, bound, trait_bound, bound_lifetimes, lifetime_parameters, where_clause, predicates, predicate, predicate_bounds, fields_named, named_fields, named_field, nameless_fields, unnamed_field, unnamed_fields, fields_unnamed, variant, variants, structure, structure_rest, structure_body, enumeration, enumeration_rest, union_item, union_item_rest, derive_input, plain_type_path, plain_type, plain_unnamed_field, plain_unnamed_fields, plain_fields_unnamed, plain_structure_body, plain_structure, plain_derive_input}
+use Rattle.syn_grammar.specs.Rules.{attributes, inner_attributes, no_attributes, meta, unsafe_path, unsafe_word, meta_value, module_path, module_words, visibility, restriction, type_path, type_words, type_arguments, return_type, generic_arguments, generic_argument, qualified_path, path_as_type, type, types, expression, generics, lifetime_parameter, lifetimes, parameter_bounds, bound, trait_bound, bound_lifetimes, lifetime_parameters, where_clause, predicates, predicate, predicate_bounds, fields_named, named_fields, named_field, nameless_fields, unnamed_field, unnamed_fields, fields_unnamed, variant, variants, structure, structure_rest, structure_body, enumeration, enumeration_rest, union_item, union_item_rest, derive_input, plain_type_path, plain_type, plain_unnamed_field, plain_unnamed_fields, plain_fields_unnamed, plain_structure_body, plain_structure, plain_derive_input}
 use Rattle.syn_grammar.specs.Grammar.{Node}
 use Rattle.syn_grammar.specs.Table.{table}
 use Rattle.syn_grammar.specs.Run.{wrap, parse_rule, parse_form}
@@ -61,6 +61,9 @@ generic_argument_is = parse_rule_is generic_argument
 
 pub qualified_path_is : (ts : Stream) → parse_rule qualified_path ts ≡ wrap Node (parse_form (table qualified_path) ts)
 qualified_path_is = parse_rule_is qualified_path
+
+pub path_as_type_is : (ts : Stream) → parse_rule path_as_type ts ≡ wrap Node (parse_form (table path_as_type) ts)
+path_as_type_is = parse_rule_is path_as_type
 
 pub type_is : (ts : Stream) → parse_rule type ts ≡ wrap Node (parse_form (table type) ts)
 type_is = parse_rule_is type

@@ -464,5 +464,5 @@ whole (Some p) = only (is_end p.1) (Some p)
 whole None = None
 
 -- it isn't derived where its reading refuses it, or leaves something
-pub not_derived : (k : Rule) (ts : Stream) → visible ts ≡ true → whole (parse_rule k ts) ≡ None → Refused k ts
-not_derived k ts v e s a = absurd (cc (sym e ∙ ap whole (parse_rule_found k ts s end a) ∙ ap (λ b. only b (Some (value_of s, end))) end_found))
+pub not_derived : (k : Rule) (ts : Stream) → whole (parse_rule k ts) ≡ None → Refused k ts
+not_derived k ts e s a = absurd (cc (sym e ∙ ap whole (parse_rule_found k ts s end a) ∙ ap (λ b. only b (Some (value_of s, end))) end_found))

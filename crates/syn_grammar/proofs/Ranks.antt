@@ -2,7 +2,7 @@
 -- How many rules may call one another before anything is read.
 use Rattle.std.proofs.Common.{◌≡◌, ℕ, true, refl}
 use Rattle.std.specs.Prelude.{nat_lt}
-use Rattle.syn_grammar.specs.Rules.{Rule, attributes, inner_attributes, no_attributes, meta, unsafe_path, unsafe_word, meta_value, module_path, module_words, visibility, restriction, type_path, type_words, type_arguments, return_type, generic_arguments, generic_argument, qualified_path, type, types, expression, generics, lifetime_parameter, lifetimes, parameter_bounds, bound, trait_bound, bound_lifetimes, lifetime_parameters, where_clause, predicates, predicate, predicate_bounds, fields_named, named_fields, named_field, nameless_fields, unnamed_field, unnamed_fields, fields_unnamed, variant, variants, structure, structure_rest, structure_body, enumeration, enumeration_rest, union_item, union_item_rest, derive_input, plain_type_path, plain_type, plain_unnamed_field, plain_unnamed_fields, plain_fields_unnamed, plain_structure_body, plain_structure, plain_derive_input}
+use Rattle.syn_grammar.specs.Rules.{Rule, attributes, inner_attributes, no_attributes, meta, unsafe_path, unsafe_word, meta_value, module_path, module_words, visibility, restriction, type_path, type_words, type_arguments, return_type, generic_arguments, generic_argument, qualified_path, path_as_type, type, types, expression, generics, lifetime_parameter, lifetimes, parameter_bounds, bound, trait_bound, bound_lifetimes, lifetime_parameters, where_clause, predicates, predicate, predicate_bounds, fields_named, named_fields, named_field, nameless_fields, unnamed_field, unnamed_fields, fields_unnamed, variant, variants, structure, structure_rest, structure_body, enumeration, enumeration_rest, union_item, union_item_rest, derive_input, plain_type_path, plain_type, plain_unnamed_field, plain_unnamed_fields, plain_fields_unnamed, plain_structure_body, plain_structure, plain_derive_input}
 use Rattle.syn_grammar.specs.Table.{table}
 use Rattle.syn_grammar.proofs.Said.{start_of}
 use Rattle.syn_grammar.proofs.Low.{low}
@@ -25,11 +25,12 @@ rank type_words = 0
 rank type_arguments = 1
 rank return_type = 0
 rank generic_arguments = 0
-rank generic_argument = 3
+rank generic_argument = 4
 rank qualified_path = 0
-rank type = 2
-rank types = 3
-rank expression = 0
+rank path_as_type = 2
+rank type = 3
+rank types = 4
+rank expression = 1
 rank generics = 0
 rank lifetime_parameter = 1
 rank lifetimes = 0
@@ -39,15 +40,15 @@ rank trait_bound = 2
 rank bound_lifetimes = 0
 rank lifetime_parameters = 2
 rank where_clause = 0
-rank predicates = 4
-rank predicate = 3
+rank predicates = 5
+rank predicate = 4
 rank predicate_bounds = 4
 rank fields_named = 0
 rank named_fields = 2
 rank named_field = 1
 rank nameless_fields = 0
-rank unnamed_field = 3
-rank unnamed_fields = 4
+rank unnamed_field = 4
+rank unnamed_fields = 5
 rank fields_unnamed = 0
 rank variant = 1
 rank variants = 2
@@ -88,6 +89,7 @@ ranks_low return_type = refl
 ranks_low generic_arguments = refl
 ranks_low generic_argument = refl
 ranks_low qualified_path = refl
+ranks_low path_as_type = refl
 ranks_low type = refl
 ranks_low types = refl
 ranks_low expression = refl
@@ -149,6 +151,7 @@ lookaheads_low return_type = refl
 lookaheads_low generic_arguments = refl
 lookaheads_low generic_argument = refl
 lookaheads_low qualified_path = refl
+lookaheads_low path_as_type = refl
 lookaheads_low type = refl
 lookaheads_low types = refl
 lookaheads_low expression = refl

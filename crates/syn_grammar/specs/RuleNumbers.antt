@@ -1,7 +1,7 @@
 -- Written by tools/grammar.py from specs/Table.antt; edits are lost.
 -- Rules are told apart by their numbers.
 use Rattle.std.specs.Prelude.{◌≡◌, ℕ, zero, suc, Bool, List, [], ◌∷◌, nat_eq, refl}
-use Rattle.syn_grammar.specs.Rules.{Rule, attributes, inner_attributes, no_attributes, meta, unsafe_path, unsafe_word, meta_value, module_path, module_words, visibility, restriction, type_path, type_words, type_arguments, return_type, generic_arguments, generic_argument, qualified_path, type, types, expression, generics, lifetime_parameter, lifetimes, parameter_bounds, bound, trait_bound, bound_lifetimes, lifetime_parameters, where_clause, predicates, predicate, predicate_bounds, fields_named, named_fields, named_field, nameless_fields, unnamed_field, unnamed_fields, fields_unnamed, variant, variants, structure, structure_rest, structure_body, enumeration, enumeration_rest, union_item, union_item_rest, derive_input, plain_type_path, plain_type, plain_unnamed_field, plain_unnamed_fields, plain_fields_unnamed, plain_structure_body, plain_structure, plain_derive_input}
+use Rattle.syn_grammar.specs.Rules.{Rule, attributes, inner_attributes, no_attributes, meta, unsafe_path, unsafe_word, meta_value, module_path, module_words, visibility, restriction, type_path, type_words, type_arguments, return_type, generic_arguments, generic_argument, qualified_path, path_as_type, type, types, expression, generics, lifetime_parameter, lifetimes, parameter_bounds, bound, trait_bound, bound_lifetimes, lifetime_parameters, where_clause, predicates, predicate, predicate_bounds, fields_named, named_fields, named_field, nameless_fields, unnamed_field, unnamed_fields, fields_unnamed, variant, variants, structure, structure_rest, structure_body, enumeration, enumeration_rest, union_item, union_item_rest, derive_input, plain_type_path, plain_type, plain_unnamed_field, plain_unnamed_fields, plain_fields_unnamed, plain_structure_body, plain_structure, plain_derive_input}
 
 abbrev pub place : Rule → ℕ
 place attributes = 0
@@ -22,52 +22,53 @@ place return_type = 14
 place generic_arguments = 15
 place generic_argument = 16
 place qualified_path = 17
-place type = 18
-place types = 19
-place expression = 20
-place generics = 21
-place lifetime_parameter = 22
-place lifetimes = 23
-place parameter_bounds = 24
-place bound = 25
-place trait_bound = 26
-place bound_lifetimes = 27
-place lifetime_parameters = 28
-place where_clause = 29
-place predicates = 30
-place predicate = 31
-place predicate_bounds = 32
-place fields_named = 33
-place named_fields = 34
-place named_field = 35
-place nameless_fields = 36
-place unnamed_field = 37
-place unnamed_fields = 38
-place fields_unnamed = 39
-place variant = 40
-place variants = 41
-place structure = 42
-place structure_rest = 43
-place structure_body = 44
-place enumeration = 45
-place enumeration_rest = 46
-place union_item = 47
-place union_item_rest = 48
-place derive_input = 49
-place plain_type_path = 50
-place plain_type = 51
-place plain_unnamed_field = 52
-place plain_unnamed_fields = 53
-place plain_fields_unnamed = 54
-place plain_structure_body = 55
-place plain_structure = 56
-place plain_derive_input = 57
+place path_as_type = 18
+place type = 19
+place types = 20
+place expression = 21
+place generics = 22
+place lifetime_parameter = 23
+place lifetimes = 24
+place parameter_bounds = 25
+place bound = 26
+place trait_bound = 27
+place bound_lifetimes = 28
+place lifetime_parameters = 29
+place where_clause = 30
+place predicates = 31
+place predicate = 32
+place predicate_bounds = 33
+place fields_named = 34
+place named_fields = 35
+place named_field = 36
+place nameless_fields = 37
+place unnamed_field = 38
+place unnamed_fields = 39
+place fields_unnamed = 40
+place variant = 41
+place variants = 42
+place structure = 43
+place structure_rest = 44
+place structure_body = 45
+place enumeration = 46
+place enumeration_rest = 47
+place union_item = 48
+place union_item_rest = 49
+place derive_input = 50
+place plain_type_path = 51
+place plain_type = 52
+place plain_unnamed_field = 53
+place plain_unnamed_fields = 54
+place plain_fields_unnamed = 55
+place plain_structure_body = 56
+place plain_structure = 57
+place plain_derive_input = 58
 
 abbrev pub same_rule : Rule → Rule → Bool
 same_rule a b = nat_eq (place a) (place b)
 
 abbrev pub rules : List Rule
-rules = attributes ∷ inner_attributes ∷ no_attributes ∷ meta ∷ unsafe_path ∷ unsafe_word ∷ meta_value ∷ module_path ∷ module_words ∷ visibility ∷ restriction ∷ type_path ∷ type_words ∷ type_arguments ∷ return_type ∷ generic_arguments ∷ generic_argument ∷ qualified_path ∷ type ∷ types ∷ expression ∷ generics ∷ lifetime_parameter ∷ lifetimes ∷ parameter_bounds ∷ bound ∷ trait_bound ∷ bound_lifetimes ∷ lifetime_parameters ∷ where_clause ∷ predicates ∷ predicate ∷ predicate_bounds ∷ fields_named ∷ named_fields ∷ named_field ∷ nameless_fields ∷ unnamed_field ∷ unnamed_fields ∷ fields_unnamed ∷ variant ∷ variants ∷ structure ∷ structure_rest ∷ structure_body ∷ enumeration ∷ enumeration_rest ∷ union_item ∷ union_item_rest ∷ derive_input ∷ plain_type_path ∷ plain_type ∷ plain_unnamed_field ∷ plain_unnamed_fields ∷ plain_fields_unnamed ∷ plain_structure_body ∷ plain_structure ∷ plain_derive_input ∷ []
+rules = attributes ∷ inner_attributes ∷ no_attributes ∷ meta ∷ unsafe_path ∷ unsafe_word ∷ meta_value ∷ module_path ∷ module_words ∷ visibility ∷ restriction ∷ type_path ∷ type_words ∷ type_arguments ∷ return_type ∷ generic_arguments ∷ generic_argument ∷ qualified_path ∷ path_as_type ∷ type ∷ types ∷ expression ∷ generics ∷ lifetime_parameter ∷ lifetimes ∷ parameter_bounds ∷ bound ∷ trait_bound ∷ bound_lifetimes ∷ lifetime_parameters ∷ where_clause ∷ predicates ∷ predicate ∷ predicate_bounds ∷ fields_named ∷ named_fields ∷ named_field ∷ nameless_fields ∷ unnamed_field ∷ unnamed_fields ∷ fields_unnamed ∷ variant ∷ variants ∷ structure ∷ structure_rest ∷ structure_body ∷ enumeration ∷ enumeration_rest ∷ union_item ∷ union_item_rest ∷ derive_input ∷ plain_type_path ∷ plain_type ∷ plain_unnamed_field ∷ plain_unnamed_fields ∷ plain_fields_unnamed ∷ plain_structure_body ∷ plain_structure ∷ plain_derive_input ∷ []
 
 abbrev pub at_place : List Rule → ℕ → Rule
 at_place [] n = attributes
@@ -94,6 +95,7 @@ back return_type = refl
 back generic_arguments = refl
 back generic_argument = refl
 back qualified_path = refl
+back path_as_type = refl
 back type = refl
 back types = refl
 back expression = refl

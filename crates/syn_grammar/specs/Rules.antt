@@ -19,6 +19,7 @@ pub data Rule : Type 0 where
   generic_arguments : Rule
   generic_argument : Rule
   qualified_path : Rule
+  path_as_type : Rule
   type : Rule
   types : Rule
   expression : Rule

@@ -2,7 +2,7 @@
 -- Of which rules what is shown is read again, and where what was read before a rest is read at the end; the proofs compute each line again.
 use Rattle.std.specs.Prelude.{Bool, true, false, List, [], ◌∷◌}
 use Rattle.syn_grammar.specs.Words.{Text, comma, semicolon}
-use Rattle.syn_grammar.specs.Rules.{Rule, attributes, inner_attributes, no_attributes, meta, unsafe_path, unsafe_word, meta_value, module_path, module_words, visibility, restriction, type_path, type_words, type_arguments, return_type, generic_arguments, generic_argument, qualified_path, type, types, expression, generics, lifetime_parameter, lifetimes, parameter_bounds, bound, trait_bound, bound_lifetimes, lifetime_parameters, where_clause, predicates, predicate, predicate_bounds, fields_named, named_fields, named_field, nameless_fields, unnamed_field, unnamed_fields, fields_unnamed, variant, variants, structure, structure_rest, structure_body, enumeration, enumeration_rest, union_item, union_item_rest, derive_input, plain_type_path, plain_type, plain_unnamed_field, plain_unnamed_fields, plain_fields_unnamed, plain_structure_body, plain_structure, plain_derive_input}
+use Rattle.syn_grammar.specs.Rules.{Rule, attributes, inner_attributes, no_attributes, meta, unsafe_path, unsafe_word, meta_value, module_path, module_words, visibility, restriction, type_path, type_words, type_arguments, return_type, generic_arguments, generic_argument, qualified_path, path_as_type, type, types, expression, generics, lifetime_parameter, lifetimes, parameter_bounds, bound, trait_bound, bound_lifetimes, lifetime_parameters, where_clause, predicates, predicate, predicate_bounds, fields_named, named_fields, named_field, nameless_fields, unnamed_field, unnamed_fields, fields_unnamed, variant, variants, structure, structure_rest, structure_body, enumeration, enumeration_rest, union_item, union_item_rest, derive_input, plain_type_path, plain_type, plain_unnamed_field, plain_unnamed_fields, plain_fields_unnamed, plain_structure_body, plain_structure, plain_derive_input}
 
 -- what is shown of its value (all its tokens, in their order) is read as the same value
 abbrev pub reads_shown : Rule → Bool
@@ -24,6 +24,7 @@ reads_shown return_type = true
 reads_shown generic_arguments = true
 reads_shown generic_argument = true
 reads_shown qualified_path = true
+reads_shown path_as_type = true
 reads_shown type = true
 reads_shown types = true
 reads_shown expression = true
@@ -85,6 +86,7 @@ stands_alone return_type = false
 stands_alone generic_arguments = true
 stands_alone generic_argument = false
 stands_alone qualified_path = false
+stands_alone path_as_type = false
 stands_alone type = false
 stands_alone types = false
 stands_alone expression = true
@@ -146,6 +148,7 @@ stands_before return_type = []
 stands_before generic_arguments = comma ∷ semicolon ∷ []
 stands_before generic_argument = []
 stands_before qualified_path = []
+stands_before path_as_type = []
 stands_before type = []
 stands_before types = []
 stands_before expression = comma ∷ semicolon ∷ []

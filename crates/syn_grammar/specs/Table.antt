@@ -5,8 +5,8 @@
 -- A comment directly above a look or a rule says it in words.
 use Rattle.std.specs.Prelude.{true, false, [], ◌∷◌}
 use Rattle.syn_grammar.specs.Words.{w_underscore, w_as, w_const, w_crate, w_enum, w_false, w_for, w_in, w_mut, w_pub, w_Self_type, w_self, w_struct, w_super, w_true, w_unsafe, w_where, w_union, comma, semicolon, colon, equals, plus, star, less, greater, pound, ampersand, question, exclamation, colons, arrow, less_equals}
-use Rattle.syn_grammar.specs.Tokens.{Paren, Brace, Bracket, Str, ByteStr, CStr, Byte, Char, Int, Float, Before_equals, Before_less, Before_bang, Lone_word, Begins_in, Before_brace, Look, ended, at_name, at_word, at_mark, at_literal, at_group, ahead, ◌or_else◌, ◌and_also◌, ◌but_not◌, at_lifetime}
-use Rattle.syn_grammar.specs.Rules.{Rule, attributes, inner_attributes, no_attributes, meta, unsafe_path, unsafe_word, meta_value, module_path, module_words, visibility, restriction, type_path, type_words, type_arguments, return_type, generic_arguments, generic_argument, qualified_path, type, types, expression, generics, lifetime_parameter, lifetimes, parameter_bounds, bound, trait_bound, bound_lifetimes, lifetime_parameters, where_clause, predicates, predicate, predicate_bounds, fields_named, named_fields, named_field, nameless_fields, unnamed_field, unnamed_fields, fields_unnamed, variant, variants, structure, structure_rest, structure_body, enumeration, enumeration_rest, union_item, union_item_rest, derive_input, plain_type_path, plain_type, plain_unnamed_field, plain_unnamed_fields, plain_fields_unnamed, plain_structure_body, plain_structure, plain_derive_input}
+use Rattle.syn_grammar.specs.Tokens.{Paren, Brace, Bracket, None, Str, ByteStr, CStr, Byte, Char, Int, Float, Before_equals, Before_less, Before_bang, Lone_word, Begins_in, Before_brace, Look, ended, at_name, at_word, at_mark, at_literal, at_group, ahead, ◌or_else◌, ◌and_also◌, ◌but_not◌, at_lifetime}
+use Rattle.syn_grammar.specs.Rules.{Rule, attributes, inner_attributes, no_attributes, meta, unsafe_path, unsafe_word, meta_value, module_path, module_words, visibility, restriction, type_path, type_words, type_arguments, return_type, generic_arguments, generic_argument, qualified_path, path_as_type, type, types, expression, generics, lifetime_parameter, lifetimes, parameter_bounds, bound, trait_bound, bound_lifetimes, lifetime_parameters, where_clause, predicates, predicate, predicate_bounds, fields_named, named_fields, named_field, nameless_fields, unnamed_field, unnamed_fields, fields_unnamed, variant, variants, structure, structure_rest, structure_body, enumeration, enumeration_rest, union_item, union_item_rest, derive_input, plain_type_path, plain_type, plain_unnamed_field, plain_unnamed_fields, plain_fields_unnamed, plain_structure_body, plain_structure, plain_derive_input}
 use Rattle.syn_grammar.specs.Shape.{untagged}
 use Rattle.syn_grammar.specs.Grammar.{name, word, name_or, any_literal, Grammar, empty, lifetime, ◌&◌, when◌then◌else◌, vanishing, inside, raw, rest_after, one_of, rule, shaped, captured, unshown, ordered}
 use Rattle.syn_grammar.specs.Forms.{plainly, telling, asking, punctuation, asking_punctuation, never, optional}
@@ -92,6 +92,10 @@ at_brace = at_group Brace
 -- A group in brackets stands next.
 abbrev pub at_bracket : Look
 at_bracket = at_group Bracket
+
+-- An invisible group stands next: a group whose delimiters no text shows.
+abbrev pub at_invisible : Look
+at_invisible = at_group None
 
 -- A literal of any kind stands next.
 abbrev pub at_any_literal : Look
@@ -249,35 +253,43 @@ table generic_argument =
     else rule type
 --
 -- A qualified path in a type: a type in `< >`, with `as` and a path behind it or without them; then `::` and words.
+-- An `as` that a tree made by hand holds without a path is not printed.
 table qualified_path =
     punctuation less
     & rule type
-    & (when at_word w_as then plainly (word w_as) & rule type_path else empty)
+    & (when at_word w_as then plainly (word w_as) & rule type_path else unshown)
     & punctuation greater
     & punctuation colons
     & rule type_words
 --
--- A type: a qualified path; a reference, perhaps with a lifetime and `mut`; a pointer, `const` or `mut`; a tuple or a type in
--- parentheses; a slice, or an array with a literal as its length; the never type; or a path.
-table type =
+-- A path as a type: a qualified path where `<` stands next, or a path.
+table path_as_type =
     when at_less then rule qualified_path
-    else when at_ampersand then punctuation ampersand & (when at_lifetime then lifetime else empty) & optional w_mut & rule type
+    else rule type_path
+--
+-- A type: a reference, perhaps with a lifetime and `mut`; a pointer, `const` or `mut`; a tuple or a type in parentheses; a slice,
+-- or an array with a literal as its length; the never type; an invisible group that holds a type; or a path, qualified or not.
+table type =
+    when at_ampersand then punctuation ampersand & (when at_lifetime then lifetime else empty) & optional w_mut & rule type
     else when at_star then punctuation star & (when at_word w_const then plainly (word w_const) else plainly (word w_mut)) & rule type
     else when at_paren then inside Paren (rule types)
     else when at_bracket then inside Bracket (rule type & (when at_semicolon then punctuation semicolon & rule expression else empty))
     else when at_exclamation then punctuation exclamation
-    else rule type_path
+    else when at_invisible then inside None (rule type)
+    else rule path_as_type
 --
 -- Types, separated by commas; the last comma may stand or not.
 table types =
     when ended then empty
     else rule type & (when at_comma then punctuation comma & rule types else empty)
 --
--- An expression, as far as any is read yet: a literal, `true` or `false`.
+-- An expression, as far as any is read yet: a literal, `true` or `false`. Attributes before it are not read yet; those that a tree
+-- made by hand holds are printed.
 table expression =
-    when at_word w_true then plainly (word w_true)
+    rule no_attributes
+    & (when at_word w_true then plainly (word w_true)
     else when at_word w_false then plainly (word w_false)
-    else plainly any_literal
+    else plainly any_literal)
 --
 -- Generics where `<` stands next: lifetime parameters and others in any order, separated by commas; the last comma may stand or not.
 -- Lifetimes are printed first; without parameters nothing is printed.
@@ -356,7 +368,7 @@ table named_fields =
 table named_field =
     rule attributes
     & rule visibility
-    & shaped untagged (when at_word w_underscore then plainly (word w_underscore) & punctuation colon & nameless_type else plainly name & punctuation colon & rule type)
+    & shaped untagged (when at_word w_underscore then plainly (word w_underscore) & punctuation colon & nameless_type else plainly name & punctuation colon & shaped untagged (rule type))
     & (when at_equals then punctuation equals & rule expression else empty)
 --
 -- The fields of a field that is named `_`: `struct` or `union` and fields in braces, kept as tokens.

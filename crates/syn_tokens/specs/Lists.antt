@@ -25,3 +25,8 @@ module _ {T P : Type 0} where
   -- the values alone, in order
   abbrev pub values : Sequence T P → List T
   values s = firsts s.pairs ++ listed s.last
+
+-- what something holds, if it is there
+abbrev pub items_in : {S X : Type 0} → (S → List X) → Option S → List X
+items_in items None = []
+items_in items (Some s) = items s

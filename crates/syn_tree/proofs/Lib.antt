@@ -1,9 +1,11 @@
-pub mod Attributes
 mod AttributeLists
+pub mod Attributes
 mod CommaLists
 pub mod Compared
 mod Defaults
 pub mod Equality
+pub mod Fields
 mod InnerAttributes
 mod Lists
+mod Literals
 mod Restricted

@@ -1,12 +1,16 @@
 pub mod Attributes
 pub mod Data
+pub mod Defaults
 pub mod Derive
 pub mod Equality
+pub mod Expressions
+pub mod Fields
+pub mod Literals
 pub mod Looks
 pub mod Lower
 pub mod MetaValues
+pub mod Modifiers
 pub mod Parsing
 pub mod Parts
 pub mod Plain
 pub mod Restriction
-pub mod Defaults

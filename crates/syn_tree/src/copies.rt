@@ -4,5 +4,6 @@
 
 mod data;
 mod derive;
+mod item;
 mod lower;
 mod restriction;

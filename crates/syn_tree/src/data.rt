@@ -1,21 +1,28 @@
 //! Fields.
 ghost use Rattle.syn_grammar.specs.Rules as rules;
 ghost use Rattle.syn_tree.specs.Parsing.{of, rule, meaning_of_rule, parse_rule, Computes, Parses, Moved, Outcome, itself, IsSyntax, IsSyntaxError};
-ghost use Rattle.std.specs.Prelude.{◌≡◌, OnErr, OnOk};
+ghost use Rattle.std.specs.Prelude.{◌≡◌, IsOk, OnErr, OnOk};
 ghost use Rattle.syn_grammar.specs.Grammar.{print};
 ghost use Rattle.syn_tokens.specs.Building.{added};
-ghost use Rattle.syn_tokens.specs.Kinds.{colon_syntax};
+ghost use Rattle.syn_tokens.specs.InOrder.{pair_of};
+ghost use Rattle.syn_tokens.specs.Kinds.{colon_syntax, eq_syntax};
 ghost use Rattle.syn_tokens.specs.Leaves.{maybe, syntax_of_ident};
 ghost use Rattle.syn_tree.specs.Data.{field_name};
 ghost use Rattle.syn_parse.specs.Nexts.{RefusedNext, HasFaultNext};
 ghost use Rattle.syn_tree.specs.Defaults.{RefusesDefault};
 
+mod iterators;
+mod members;
+
 use crate::comma_lists::plain_unnamed_fields;
+use crate::kind;
 use crate::lower::attr::{no_attributes, print_all};
-use crate::lower::{Attribute, Expr, Type};
+use crate::lower::{Attribute, Type};
 use crate::restriction::Visibility;
+pub use members::{Index, MemberRef, Members};
 use std::alloc::AllocError;
 use syn_parse::buffer::ParseBuffer;
+use syn_parse::deferred::Deferred;
 use syn_parse::read::Read;
 use syn_parse::read::refusal::Parsed;
 use syn_tokens::error::Result;
@@ -25,7 +32,8 @@ use syn_tokens::punctuated::Punctuated;
 use syn_tokens::span::Span;
 use syn_tokens::stream::builder::StreamBuilder;
 use syn_tokens::syntactic::compare::Compared;
-use syn_tokens::token::{Colon, Comma, Eq, Paren, kind};
+use syn_tokens::token;
+use syn_tokens::token::{Colon, Comma, Eq, Paren};
 
 /// The fields of a struct or variant.
 #[derive(Drop)]
@@ -52,12 +60,21 @@ pub struct Field {
     pub ident: Option<Ident>,
     pub colon_token: Option<Colon>,
     pub ty: Type,
-    pub default: Option<(Eq, Expr)>,
+    pub default: Option<(Eq, Deferred<kind::Expr>)>,
 }
 
 /// The modifiers of a field. There are none.
 #[derive(Clone, Copy, Debug, Default, PartialEq, Eq)]
 pub struct FieldModifiers {}
+
+impl FieldModifiers {
+    /// Always `Ok`, as there are no modifiers.
+    pub fn require_empty(&self) -> Result<()>
+        ensures { IsOk result }
+    {
+        Ok(())
+    }
+}
 
 impl Field {
     /// Parses a field without a name: a visibility and a type, which no `=` may follow.
@@ -111,7 +128,7 @@ impl Read for FieldsUnnamed {
 
     #[tactic(auto, using(syn_grammar::proofs::Each::plain_fields_unnamed_is), unfolding(syn_grammar::specs::Take::is_end))]
     fn read(input: &mut ParseBuffer<'_>) -> Parsed<FieldsUnnamed> {
-        let (paren_token, mut content) = input.read_group::<kind::Paren>()?;
+        let (paren_token, mut content) = input.read_group::<token::kind::Paren>()?;
         let unnamed = plain_unnamed_fields(&mut content)?;
         content.read_end()?;
         Ok(FieldsUnnamed {
@@ -130,6 +147,7 @@ impl Compared for Field {
             && self.ident.is_same(&other.ident)
             && self.colon_token.is_same(&other.colon_token)
             && self.ty.is_same(&other.ty)
+            && self.default.is_same(&other.default)
     }
 }
 
@@ -153,6 +171,24 @@ fn print_name(
     }
 }
 
+/// `=` and a value, or nothing.
+#[tactic(auto, using(syn_tokens::proofs::Prints::prints))]
+fn print_default(
+    default: &Option<(Eq, Deferred<kind::Expr>)>,
+    out: &mut StreamBuilder,
+) -> std::result::Result<(), AllocError>
+    ensures prints { OnOk result (out.new ≡ added out.old (print (maybe (pair_of eq_syntax itself) default.now))) }
+    ensures begins { out.new.before ≡ out.old.before }
+{
+    match default {
+        Some((eq_token, value)) => {
+            eq_token.print_in(out)?;
+            value.print_in(out)
+        }
+        None => Ok(()),
+    }
+}
+
 /// All attributes are printed, inner ones too.
 impl Print for Field {
     #[tactic(auto, using(syn_tokens::proofs::Prints::prints))]
@@ -160,7 +196,8 @@ impl Print for Field {
         print_all(&self.attrs, out)?;
         self.vis.print_in(out)?;
         print_name(&self.ident, &self.colon_token, out)?;
-        self.ty.print_in(out)
+        self.ty.print_in(out)?;
+        print_default(&self.default, out)
     }
 }
 

@@ -1,7 +1,8 @@
 //! The iterators over the values of a list.
-ghost use Rattle.std.specs.Prelude.{◌≡◌, ◌<◌, ◌^◌, length};
+ghost use Rattle.std.specs.Prelude.{◌≡◌, ◌<◌, ◌^◌, [], length};
 ghost use Rattle.std.specs.Iterator.{YieldsFirst, YieldsFirstRef, YieldsFirstMut, YieldsLast, YieldsLastRef, YieldsLastMut, item_count};
-ghost use Rattle.syn_tokens.specs.Lists.{values};
+ghost use Rattle.syn_tokens.specs.Lists.{items_in, values};
+ghost use Rattle.std.specs.Vec.Iter.{into_iter_items};
 
 use super::Punctuated;
 use std::alloc::AllocError;
@@ -26,6 +27,18 @@ impl<'a, T, P> Model for Iter<'a, T, P> {
     ghost coded = { coded_list T.code };
 
     ghost view = { λ i. firsts i.pairs.now ++ listed (option_copied i.last) };
+}
+
+/// No values.
+impl<'a, T, P> Default for Iter<'a, T, P> {
+    ghost is_default = { λ i. i ≡ [] };
+
+    fn default() -> Iter<'a, T, P> {
+        Iter {
+            pairs: &[],
+            last: None,
+        }
+    }
 }
 
 impl<T, P> Punctuated<T, P> {
@@ -117,6 +130,18 @@ impl<'a, T, P> Model for IterMut<'a, T, P> {
     ghost view = { λ i. firsts i.pairs.now ++ listed (option_map (λ t. t.now) i.last) };
 }
 
+/// No values.
+impl<'a, T, P> Default for IterMut<'a, T, P> {
+    ghost is_default = { λ i. i ≡ [] };
+
+    fn default() -> IterMut<'a, T, P> {
+        IterMut {
+            pairs: &mut [],
+            last: None,
+        }
+    }
+}
+
 impl<T, P> Punctuated<T, P> {
     /// The values to be changed, in order and from both ends.
     pub fn iter_mut(&mut self) -> IterMut<'_, T, P>
@@ -179,7 +204,8 @@ impl<'a, T, P> IntoIterator for &'a mut Punctuated<T, P> {
 /// The values of a list that is used up, in order and from both ends.
 #[derive(Drop)]
 pub struct IntoIter<T, P> {
-    pairs: vec::IntoIter<(T, P)>,
+    /// None of the iterator that never had any.
+    pairs: Option<vec::IntoIter<(T, P)>>,
     last: Option<T>,
 }
 
@@ -187,13 +213,25 @@ impl<T, P> Model for IntoIter<T, P> {
     ghost use Rattle.std.specs.Prelude.{List, ◌++◌};
     ghost use Rattle.std.specs.Coded.{coded_list};
     ghost use Rattle.std.specs.Vec.Iter.{into_iter_items};
-    ghost use Rattle.syn_tokens.specs.Lists.{firsts, listed};
+    ghost use Rattle.syn_tokens.specs.Lists.{firsts, items_in, listed};
 
     ghost Value = { List T };
 
     ghost coded = { coded_list T.code };
 
-    ghost view = { λ i. firsts (into_iter_items i.pairs) ++ listed i.last };
+    ghost view = { λ i. firsts (items_in into_iter_items i.pairs) ++ listed i.last };
+}
+
+/// No values. It takes no memory.
+impl<T, P> Default for IntoIter<T, P> {
+    ghost is_default = { λ i. i ≡ [] };
+
+    fn default() -> IntoIter<T, P> {
+        IntoIter {
+            pairs: None,
+            last: None,
+        }
+    }
 }
 
 impl<T: Drop, P: Drop> IntoIterator for Punctuated<T, P> {
@@ -206,12 +244,32 @@ impl<T: Drop, P: Drop> IntoIterator for Punctuated<T, P> {
     fn into_iter(self) -> IntoIter<T, P> {
         let Punctuated { inner, last, .. } = self;
         IntoIter {
-            pairs: inner.into_iter(),
+            pairs: Some(inner.into_iter()),
             last: match last {
                 Some(value) => Some(Box::into_inner(value)),
                 None => None,
             },
         }
+    }
+}
+
+/// The first pair that is left.
+fn next_pair<X: Drop>(pairs: &mut Option<vec::IntoIter<X>>) -> Option<X>
+    ensures { YieldsFirst (items_in into_iter_items) pairs.old result pairs.new }
+{
+    match pairs {
+        Some(pairs) => pairs.next(),
+        None => None,
+    }
+}
+
+/// The last pair that is left.
+fn last_pair<X: Drop>(pairs: &mut Option<vec::IntoIter<X>>) -> Option<X>
+    ensures { YieldsLast (items_in into_iter_items) pairs.old result pairs.new }
+{
+    match pairs {
+        Some(pairs) => pairs.next_back(),
+        None => None,
     }
 }
 
@@ -223,7 +281,7 @@ impl<T: Drop, P: Drop> Iterator for IntoIter<T, P> {
     ghost remaining = { item_count (λ i. i) };
 
     fn next(&mut self) -> Option<T> {
-        match self.pairs.next() {
+        match next_pair(&mut self.pairs) {
             Some((value, _)) => Some(value),
             None => self.last.take(),
         }
@@ -237,7 +295,7 @@ impl<T: Drop, P: Drop> DoubleEndedIterator for IntoIter<T, P> {
         if let Some(last) = self.last.take() {
             return Some(last);
         }
-        let (last, _) = self.pairs.next_back()?;
+        let (last, _) = last_pair(&mut self.pairs)?;
         Some(last)
     }
 }

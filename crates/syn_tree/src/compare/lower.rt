@@ -3,6 +3,8 @@
 //! Comparisons of trees.
 
 mod attr;
+mod expr;
 mod generics;
+mod lit;
 mod path;
 mod ty;

@@ -34,7 +34,7 @@ impl TryClone for Field {
             ident: self.ident.try_clone(alloc)?,
             colon_token: self.colon_token,
             ty: self.ty.try_clone(alloc)?,
-            default: None,
+            default: self.default.try_clone(alloc)?,
         })
     }
 }

@@ -3,6 +3,8 @@
 //! Copies of trees.
 
 mod attr;
+mod expr;
 mod generics;
+mod lit;
 mod path;
 mod ty;

@@ -3,5 +3,7 @@
 //! Prints of trees.
 
 mod attr;
+mod expr;
+mod lit;
 mod path;
 mod ty;

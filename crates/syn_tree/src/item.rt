@@ -1,0 +1,5 @@
+//! Items.
+
+mod modifiers;
+
+pub use modifiers::{ConstModifiers, FnModifiers, ImplModifiers, TraitModifiers, TypeModifiers};

@@ -1,0 +1,153 @@
+//! Words and marks that few items have: what a caller that knows none of them refuses by `require_empty`.
+ghost use Rattle.std.specs.Prelude.{◌++◌};
+ghost use Rattle.syn_tree.specs.Modifiers.{Reports, const_faults, fn_faults, impl_faults, trait_faults, type_faults, unexpected};
+
+use syn_tokens::error::{Error, Result};
+use syn_tokens::span::Span;
+use syn_tokens::token;
+use syn_tokens::token::{Auto, Not};
+
+/// The modifiers of a constant.
+#[derive(Clone, Copy, Debug, Default)]
+pub struct ConstModifiers {
+    pub defaultness: Option<token::Default>,
+}
+
+/// The modifiers of a function.
+#[derive(Clone, Copy, Debug, Default)]
+pub struct FnModifiers {
+    pub defaultness: Option<token::Default>,
+}
+
+/// The modifiers of a type alias.
+#[derive(Clone, Copy, Debug, Default)]
+pub struct TypeModifiers {
+    pub defaultness: Option<token::Default>,
+}
+
+/// The modifiers of an `impl`: `default` before it, and the `!` of a trait that is not implemented.
+#[derive(Clone, Copy, Debug, Default)]
+pub struct ImplModifiers {
+    pub defaultness: Option<token::Default>,
+    pub polarity: Option<Not>,
+}
+
+/// The modifiers of a trait.
+#[derive(Clone, Copy, Debug, Default)]
+pub struct TraitModifiers {
+    pub auto_token: Option<Auto>,
+}
+
+impl ConstModifiers {
+    /// `Ok` where there is no modifier, and else the fault `unexpected const item modifier` at the one that is there.
+    pub fn require_empty(&self) -> Result<()>
+        ensures { Reports (const_faults self.now) result }
+    {
+        require_none(
+            self.defaultness.map(|word| word.span),
+            None,
+            "unexpected const item modifier",
+        )
+    }
+}
+
+impl FnModifiers {
+    /// `Ok` where there is no modifier, and else the fault `unexpected function modifier` at the one that is there.
+    pub fn require_empty(&self) -> Result<()>
+        ensures { Reports (fn_faults self.now) result }
+    {
+        require_none(
+            self.defaultness.map(|word| word.span),
+            None,
+            "unexpected function modifier",
+        )
+    }
+}
+
+impl TypeModifiers {
+    /// `Ok` where there is no modifier, and else the fault `unexpected type alias modifier` at the one that is there.
+    pub fn require_empty(&self) -> Result<()>
+        ensures { Reports (type_faults self.now) result }
+    {
+        require_none(
+            self.defaultness.map(|word| word.span),
+            None,
+            "unexpected type alias modifier",
+        )
+    }
+}
+
+impl ImplModifiers {
+    /// `Ok` where there is no modifier, and else the fault `unexpected impl modifier` at each that is there: at `default`
+    /// and then at `!`, wherever they stand.
+    pub fn require_empty(&self) -> Result<()>
+        ensures { Reports (impl_faults self.now) result }
+    {
+        require_none(
+            self.defaultness.map(|word| word.span),
+            self.polarity.map(|mark| mark.spans[0]),
+            "unexpected impl modifier",
+        )
+    }
+}
+
+impl TraitModifiers {
+    /// `Ok` where there is no modifier, and else the fault `unexpected trait modifier` at the one that is there.
+    pub fn require_empty(&self) -> Result<()>
+        ensures { Reports (trait_faults self.now) result }
+    {
+        require_none(
+            self.auto_token.map(|word| word.span),
+            None,
+            "unexpected trait modifier",
+        )
+    }
+}
+
+/// `Ok` where neither place is given, and else a fault of this text at each place that is, in this order.
+fn require_none(first: Option<Span>, second: Option<Span>, text: &'static str) -> Result<()>
+    ensures { Reports (unexpected text.now first ++ unexpected text.now second) result }
+{
+    match (first, second) {
+        (None, None) => Ok(()),
+        (Some(span), None) => Err(Error::new(span, text)),
+        (None, Some(span)) => Err(Error::new(span, text)),
+        (Some(first), Some(second)) => {
+            let mut error = Error::new(first, text);
+            error.combine(Error::new(second, text));
+            Err(error)
+        }
+    }
+}
+
+// Written by tools/kinds.py from here to the end; edits are lost.
+
+impl syn_tokens::syntactic::Syntactic for ConstModifiers {
+    ghost use Rattle.syn_tree.specs.Modifiers.{syntax_of_ConstModifiers};
+
+    ghost syntax = { syntax_of_ConstModifiers };
+}
+
+impl syn_tokens::syntactic::Syntactic for FnModifiers {
+    ghost use Rattle.syn_tree.specs.Modifiers.{syntax_of_FnModifiers};
+
+    ghost syntax = { syntax_of_FnModifiers };
+}
+
+impl syn_tokens::syntactic::Syntactic for TypeModifiers {
+    ghost use Rattle.syn_tree.specs.Modifiers.{syntax_of_TypeModifiers};
+
+    ghost syntax = { syntax_of_TypeModifiers };
+}
+
+impl syn_tokens::syntactic::Syntactic for ImplModifiers {
+    ghost use Rattle.syn_tree.specs.Modifiers.{syntax_of_ImplModifiers};
+
+    ghost syntax = { syntax_of_ImplModifiers };
+}
+
+impl syn_tokens::syntactic::Syntactic for TraitModifiers {
+    ghost use Rattle.syn_tree.specs.Modifiers.{syntax_of_TraitModifiers};
+
+    ghost syntax = { syntax_of_TraitModifiers };
+}
