@@ -10,10 +10,9 @@ from pathlib import Path
 from types import SimpleNamespace
 
 import try_edits
-from editlib import rooms
+from editlib import memory, rooms
 from editlib.cores import Cores
 from editlib.edits import Source, Unfit, edits_of, packs, read, with_clauses
-from editlib import rooms
 from editlib.functions import block_of, functions_of, types_of
 from editlib.refusals import answer_of, clause_of
 
@@ -366,7 +365,35 @@ class Processors(unittest.TestCase):
         self.assertEqual(cores.free, 3)
 
 
+class GivesWay(unittest.TestCase):
+    def setUp(self):
+        self.free = [9, 9]
+        memory.available, kept = lambda: self.free.pop(0) if len(self.free) > 1 else self.free[0], memory.available
+        self.addCleanup(setattr, memory, "available", kept)
+        self.addCleanup(setattr, memory, "GROWTH", memory.GROWTH)
+        memory.GROWTH = 0.1
+
+    def test_what_is_said_and_the_status(self):
+        self.assertEqual(memory.run(["sh", "-c", "echo a; exit 3"], "/", 5, 3), (3, "a\n"))
+
+    def test_what_is_ended_for_memory_begins_again(self):
+        with tempfile.TemporaryDirectory() as folder:
+            self.free = [9, 2, 4, 9]
+            command = ["sh", "-c", "echo >> begun; [ $(wc -l < begun) = 2 ] || sleep 60"]
+            self.assertEqual(memory.run(command, folder, 5, 3), (0, ""))
+            self.assertEqual((Path(folder) / "begun").read_text(), "\n\n")
+
+
 class Program(InCrate):
+    def test_without_time_nothing_is_tried_and_it_says_so(self):
+        (self.top / "crates.txt").write_text("low:\n")
+        self.edit("a", "clause: value", "old:         2", "new:         4")
+        options = SimpleNamespace(apart=False, crate=None, names=[], said=None, minutes=-1, record=False, check=False)
+        said = io.StringIO()
+        with contextlib.redirect_stdout(said):
+            status = try_edits.tell(options, try_edits.trials_of(options, self.top))
+        self.assertEqual((status, "NOT TRIED, no time was left: 1 of low" in said.getvalue()), (0, True))
+
     def test_check_ends_with_1_where_an_edit_names_no_clause_of_the_contract(self):
         (self.top / "crates.txt").write_text("low:\n")
         self.edit("a", "old:         2", "new:         4")

@@ -6,6 +6,7 @@
     tools/try_edits.py --record [CRATE ..]  also writes the clause into the edits that name none
     --said FOLDER                           keeps what the prover said of each pack in a file there
     --apart                                 in a copy of the repository without what earlier checks kept, so that `rt ci` can run beside
+    --minutes N                             begins no check after so many minutes, and says how many edits weren't tried
 
 An edit is a file of lines:
 
@@ -33,14 +34,13 @@ can't be applied.
 
 import argparse
 import resource
-import subprocess
 import sys
 import time
 from concurrent.futures import ThreadPoolExecutor
 from contextlib import nullcontext
 from pathlib import Path
 
-from editlib import rooms
+from editlib import memory, rooms
 from editlib.cores import Cores
 from editlib.edits import edits_of, packs, with_clauses
 from editlib.refusals import answer_of, clause_of
@@ -53,21 +53,28 @@ SIZE = 40
 class Trial:
     """The edits of one crate, and what became of them."""
 
-    def __init__(self, crate, lower, names, cores, folder=None):
-        self.top, self.crate, self.cores, self.folder = crate.parent.parent, crate, cores, folder
+    def __init__(self, crate, lower, names, cores, folder=None, end=None):
+        self.top, self.crate, self.cores, self.folder, self.end = crate.parent.parent, crate, cores, folder, end
         self.source, self.edits, self.unfit = edits_of(crate, lower, names)
-        self.refused, self.wrong = {}, [f"{path.stem}: can't be applied: {why}" for path, why in self.unfit]
+        self.refused, self.untried, self.wrong = {}, [], [f"{path.stem}: can't be applied: {why}" for path, why in self.unfit]
+
+    def is_late(self):
+        """Whether no time is left for another check."""
+        return self.end is not None and time.monotonic() > self.end
 
     def has_base(self):
-        """Proves the crate as it is, so that its own work and the libraries below it are kept."""
+        """Proves the crate as it is, so that its own work and the libraries below it are kept; false where no time is left."""
         with self.cores.taken(self.cores.number) as jobs:
+            if self.is_late():
+                self.untried += self.edits
+                return False
             start = time.monotonic()
-            done = checked(self.crate, jobs)
-        print(f"{self.crate.name}: {'proved' if not done.returncode else 'NOT PROVED'} as it is, {time.monotonic() - start:.0f} s", flush=True)
-        if done.returncode:
-            print(done.stdout[-2000:])
+            status, said = checked(self.crate, jobs)
+        print(f"{self.crate.name}: {'proved' if not status else 'NOT PROVED'} as it is, {time.monotonic() - start:.0f} s", flush=True)
+        if status:
+            print(said[-2000:])
             self.wrong.append("the crate is not proved without edits")
-        return not done.returncode
+        return not status
 
     def rounds(self, pool):
         """Tries the edits in packs, and what isn't refused in smaller ones, until it is alone."""
@@ -79,10 +86,14 @@ class Trial:
             left, size = [edit for edit in missed if edit.name not in alone], max(1, min(size, len(missed)) // 2)
 
     def try_pack(self, pack):
-        """The edits of the pack that are not refused."""
-        with self.cores.taken(1) as jobs, rooms.room(self.top, self.crate.name, pack.texts) as folder:
+        """The edits of the pack that are not refused; none where no time is left."""
+        with self.cores.taken(1) as jobs:
+            if self.is_late():
+                self.untried += pack.edits
+                return []
             start = time.monotonic()
-            said = checked(folder, jobs).stdout
+            with rooms.room(self.top, self.crate.name, pack.texts) as folder:
+                _, said = checked(folder, jobs)
         if self.folder:
             (self.folder / f"{self.crate.name}-{pack.edits[0].name}-{len(pack.edits)}.txt").write_text(said)
         answer = answer_of(said, self.crate.name, self.source.function_around, set(pack.texts))
@@ -137,9 +148,8 @@ class Trial:
 
 
 def checked(folder, jobs):
-    """A check of the crate in this folder."""
-    command = ["rt", "check", "--jobs", str(jobs)]
-    return subprocess.run(command, cwd=folder, stdout=subprocess.PIPE, stderr=subprocess.STDOUT, text=True, errors="replace")
+    """The status of a check of the crate in this folder, and what it said."""
+    return memory.run(["rt", "check", "--jobs", str(jobs)], folder)
 
 
 def why_not(told, answer):
@@ -172,7 +182,8 @@ def trials_of(options, top):
     lower = {name: [folder / it for it in rooms.below(name, uses)] for name in uses}
     names = [options.crate] if options.crate else sorted(uses, key=lambda name: len(lower[name]))
     has_edits = [name for name in names if [*(folder / name).glob("edits/*"), *(folder / name).glob("must-fail/*")]]
-    return [Trial(folder / name, lower[name], options.names, cores, options.said) for name in has_edits]
+    end = time.monotonic() + 60 * options.minutes if options.minutes else None
+    return [Trial(folder / name, lower[name], options.names, cores, options.said, end) for name in has_edits]
 
 
 def main():
@@ -183,6 +194,7 @@ def main():
     parser.add_argument("--record", action="store_true")
     parser.add_argument("--said", type=Path)
     parser.add_argument("--apart", action="store_true")
+    parser.add_argument("--minutes", type=float)
     options = parser.parse_args()
     if options.apart and options.record:
         parser.error("--record writes into the repository, and --apart works in a copy")
@@ -203,6 +215,9 @@ def tell(options, trials):
     number = sum(len(trial.edits) + len(trial.unfit) for trial in trials)
     refused = sum(len(trial.refused) for trial in trials)
     print(*wrong, sep="\n", end="\n" if wrong else "")
+    late = ", ".join(f"{len(trial.untried)} of {trial.crate.name}" for trial in trials if trial.untried)
+    if late:
+        print(f"NOT TRIED, no time was left: {late}")
     used = resource.getrusage(resource.RUSAGE_CHILDREN)
     times = f"{time.monotonic() - start:.0f} s, {used.ru_utime + used.ru_stime:.0f} s of processors"
     print(f"{number} edits, {len(wrong)} wrong" if options.check else f"{refused} of {number} refused, {len(wrong)} wrong, {times}")
