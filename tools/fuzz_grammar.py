@@ -7,8 +7,7 @@ The repository holds no oracle. Give the folder of one by --oracle, or in the en
 and the status is 2. It must have oracle.py (with KINDS, parse2, parse_prefix, flat, SynErr, the token classes, and a function for each
 part below) and gen.py (random sentences of its own).
 
-A stage says how far the oracle builds the grammar. The rules of what is read today are compared at stage 1, those of whole derive inputs
-at stage 2.
+A stage says how far the oracle builds the grammar: the rules of whole derive inputs are compared at stage 2.
 
 Random token trees, from sentences of the table and of the oracle's own, unchanged and changed, are read by the table
 (by a reader in Python of specs/Table.antt) and by the oracle. They must agree whether the whole is read, on its print, token by token
@@ -32,22 +31,19 @@ HERE = Path(__file__).resolve().parent
 CRATE = HERE.parent / 'crates' / 'syn_grammar'
 # of each stage, the oracle's name of a kind, and the rule that reads it
 KINDS = {
-    1: {'derive': 'plain_derive_input', 'visibility': 'visibility', 'fields-unnamed': 'plain_fields_unnamed',
-        'unnamed-field': 'plain_unnamed_field', 'type': 'plain_type'},
     2: {'derive': 'derive_input', 'visibility': 'visibility', 'fields-unnamed': 'fields_unnamed', 'unnamed-field': 'unnamed_field',
         'fields-named': 'fields_named', 'variant': 'variant', 'named-field': 'named_field', 'item-struct': 'structure',
         'item-enum': 'enumeration', 'item-union': 'union_item', 'type': 'type', 'expr': 'expression'},
 }
 # of each stage, the rules of parts, which the oracle reads by a function and not by a kind
 PARTS = {
-    1: ['module_path', 'plain_type_path', 'plain_unnamed_fields'],
     2: ['attributes', 'meta', 'module_path', 'type_path', 'type_words', 'return_type', 'generic_arguments', 'generic_argument',
         'qualified_path', 'path_as_type', 'types', 'generics', 'lifetime_parameter', 'lifetimes', 'parameter_bounds', 'bound', 'trait_bound',
         'where_clause', 'predicate', 'predicate_bounds', 'named_fields', 'unnamed_fields', 'variants', 'structure_rest',
         'enumeration_rest', 'union_item_rest'],
 }
 # parts that the oracle reads to the end of a group alone: of these no beginnings are compared
-TO_THE_END = ['meta', 'types', 'named_fields', 'unnamed_fields', 'plain_unnamed_fields', 'variants']
+TO_THE_END = ['meta', 'types', 'named_fields', 'unnamed_fields', 'variants']
 SHOWN = 20
 
 
@@ -58,7 +54,7 @@ def part_readers(o):
     bounds = lambda end: lambda c: o.p_bounds(c, end)
     bare = lambda read: lambda c: read(c, [])
     return {
-        'attributes': o.p_outer, 'meta': o.p_meta, 'module_path': path('mod'), 'type_path': path('type'), 'plain_type_path': path('type'),
+        'attributes': o.p_outer, 'meta': o.p_meta, 'module_path': path('mod'), 'type_path': path('type'),
         'type_words': lambda c: words_of(o, c), 'return_type': o.p_return_type, 'generic_arguments': lambda c: o.p_angle(c, None),
         'generic_argument': lambda c: argument_of(o, c), 'qualified_path': lambda c: qualified_of(o, c),
         'path_as_type': lambda c: qualified_of(o, c) if c.mark('<') else path('type')(c), 'types': members(o.p_type),
@@ -66,7 +62,7 @@ def part_readers(o):
         'parameter_bounds': bounds(o.end_param), 'bound': o.p_bound, 'trait_bound': o.p_trait_bound,
         'where_clause': lambda c: where_of(o, c), 'predicate': o.p_predicate, 'predicate_bounds': bounds(o.end_where),
         'named_fields': members(o.p_named_field), 'unnamed_fields': members(o.p_unnamed_field),
-        'plain_unnamed_fields': members(o.p_unnamed_field), 'variants': members(o.p_variant),
+        'variants': members(o.p_variant),
         'structure_rest': bare(o.p_struct), 'enumeration_rest': bare(o.p_enum), 'union_item_rest': bare(o.p_union)}
 
 
@@ -248,7 +244,7 @@ def without_oracle(message):
 def main():
     parser = argparse.ArgumentParser(description=__doc__, formatter_class=argparse.RawDescriptionHelpFormatter)
     parser.add_argument('--oracle', type=Path, default=os.environ.get('ORACLE') and Path(os.environ['ORACLE']))
-    parser.add_argument('--stage', type=int, default=1, choices=sorted(KINDS), help='how far the oracle builds the grammar')
+    parser.add_argument('--stage', type=int, default=2, choices=sorted(KINDS), help='how far the oracle builds the grammar')
     parser.add_argument('--count', type=int, default=20000)
     parser.add_argument('--seed', type=int, default=1)
     parser.add_argument('--crate', type=Path, default=CRATE)

@@ -18,8 +18,8 @@ It writes, laid out as `rt fmt` wants it:
     crates/syn_canon                    src/kind.rt, src/by_kind.rt, specs/Kinds.antt: the program's list of kinds
 
 What is odd is written by hand, and then left out here: a `view_X` in a file of specs/, or an `impl TryClone for X`, `impl Compared
-for X` .. in a file of src/. A struct with a `syntax_of_X` of its own has no `Model`. A list is one that may be empty (`list_of`),
-unless JOINED names it.
+for X` .. in a file of src/. A struct with a `syntax_of_X` of its own has no `Model`, unless it has a `view_X` too: then that is
+its value, of which `syntax_of_X` tells the syntax. A list is one that may be empty (`list_of`), unless JOINED names it.
 """
 import argparse
 import sys
@@ -34,9 +34,16 @@ from kindslib.views import endings, plain_views
 
 # the program's word, the type, the rule that reads it
 KINDS = [
-    ("derive", "DeriveInput", "plain_derive_input"),
+    ("derive", "DeriveInput", "derive_input"),
     ("visibility", "Visibility", "visibility"),
-    ("fields-unnamed", "FieldsUnnamed", "plain_fields_unnamed"),
+    ("variant", "Variant", "variant"),
+    ("named-field", "NamedField", "named_field"),
+    ("unnamed-field", "UnnamedField", "unnamed_field"),
+    ("fields-named", "FieldsNamed", "fields_named"),
+    ("fields-unnamed", "FieldsUnnamed", "fields_unnamed"),
+    ("item-enum", "ItemEnum", "enumeration"),
+    ("item-struct", "ItemStruct", "structure"),
+    ("item-union", "ItemUnion", "union_item"),
 ]
 
 # lists with one value at least, which end with one
@@ -47,11 +54,13 @@ UNPRINTED = {
     "AttrStyle",
     "ConstModifiers",
     "Data",
+    "DataEnum",
     "DataStruct",
+    "DataUnion",
     "FnModifiers",
-    "Generics",
     "ImplModifiers",
     "MacroDelimiter",
+    "QSelf",
     "TraitModifiers",
     "TypeModifiers",
 }

@@ -21,7 +21,7 @@ import sys
 from pathlib import Path
 
 # the tests of each crate that tell a want of memory from other errors: how their names begin
-JUDGED = {"syn_tests": "tests::", "syn_canon": "tests::scarce_memory::"}
+JUDGED = {"syn_tests": "tests::", "syn_type_tests": "tests::", "syn_canon": "tests::scarce_memory::"}
 
 CRATES = Path(__file__).resolve().parent.parent / "crates"
 TEST = re.compile(r"test (\S+) \.\.\. (ok|FAILED)$")

@@ -102,18 +102,13 @@ class Fuzz(unittest.TestCase):
             found = [rule for _, rule in pairs(stage)]
             self.assertEqual([rule for rule in found if rule not in rules], [])
             self.assertEqual(len(found), len(set(found)))
-        today = {rule for _, rule in pairs(1)} - {rule for _, rule in pairs(2)}
-        self.assertTrue(all(rule.startswith('plain_') for rule in today))
-        self.assertFalse(any(rule.startswith('plain_') for _, rule in pairs(2)))
-        parts = PARTS[1] + PARTS[2]
-        self.assertLessEqual({*TO_THE_END, *PART_SENTENCES}, set(parts))
+        self.assertLessEqual({*TO_THE_END, *PART_SENTENCES}, {rule for parts in PARTS.values() for rule in parts})
 
     def test_what_agrees(self):
-        for stage in ('1', '2'):
-            status, said, faults = fuzz('--oracle', self.oracle(), '--stage', stage, '--count', '60')
-            self.assertEqual((status, faults), (0, ''), said)
-            self.assertIn(' worked examples and 60 inputs, ', said)
-            self.assertRegex(said, rf' 0 differ \(\d+ s, seed 1, stage {stage}\)')
+        status, said, faults = fuzz('--oracle', self.oracle(), '--count', '60')
+        self.assertEqual((status, faults), (0, ''), said)
+        self.assertIn(' worked examples and 60 inputs, ', said)
+        self.assertRegex(said, r' 0 differ \(\d+ s, seed 1, stage 2\)')
 
     def test_a_difference(self):
         status, said, _ = fuzz('--oracle', self.oracle('visibility'), '--count', '1')
@@ -121,13 +116,9 @@ class Fuzz(unittest.TestCase):
         self.assertIn("DIFFERENT visibility: pub\n  whole: table [Ident(text='pub', ", said)
         self.assertNotIn('DIFFERENT derive', said)
 
-    def test_the_rules_of_the_stage_are_compared(self):
-        differ = {}
-        for stage in ('1', '2'):
-            status, said, _ = fuzz('--oracle', self.oracle('type'), '--stage', stage, '--count', '1')
-            self.assertEqual(status, 1)
-            differ[stage] = "DIFFERENT type: &'a mut T\n" in said
-        self.assertEqual(differ, {'1': False, '2': True})
+    def test_a_rule_that_is_read_otherwise_is_told(self):
+        _, said, _ = fuzz('--oracle', self.oracle('type'), '--count', '1')
+        self.assertIn("DIFFERENT type: &'a mut T\n", said)
 
     def test_without_an_oracle(self):
         status, said, faults = fuzz()

@@ -6,9 +6,9 @@ import unittest
 from pathlib import Path
 
 from kindslib.grammar import HEAD, rows
-from kindslib.impls import comparisons, copies, prints
+from kindslib.impls import comparisons, copies, import_lines, prints
 from kindslib.lists import comma_lists, list_rules
-from kindslib.program import kind_enum, kind_specs
+from kindslib.program import canonical, dispatch, kind_enum, kind_specs
 from kindslib.source import MARK, Fault, Source
 from kindslib.views import endings, plain_views
 
@@ -74,6 +74,13 @@ table others =
 SPECS = """abbrev pub syntax_of_Choice : Choice-m.the_data → Syntax
 """
 
+READ_BY_HAND = """
+fn things<N: Nested>(nested: &N, input: &mut ParseBuffer<'_>) -> Parsed<Punctuated<Thing, Comma>>
+    ensures { Computes IsSyntax syntax_of_things (parse_rule rules.things input.old) result input.new }
+{
+}
+"""
+
 
 class Kinds(unittest.TestCase):
     def crate(self, types=TYPES, specs=SPECS):
@@ -105,6 +112,10 @@ class Kinds(unittest.TestCase):
         self.assertIn("        print_outer(&self.attrs, out)?;\n        self.ident.print_in(out)?;\n", printed)
         view = plain_views(source, set())[self.top / "specs/Plain.antt"]
         self.assertIn("view_Thing a = Node (Both (attributes_syntax a.attrs.items) (Both (maybe syntax_of_ident a.ident)", view)
+
+    def test_imports_stand_in_the_order_of_the_formatter(self):
+        lines = import_lines({"a::b": ["C", "D"], "a::b::e": ["f"], "a": ["g"], "a::c": ["H"]})
+        self.assertEqual(lines, "use a::b::e::f;\nuse a::b::{C, D};\nuse a::c::H;\nuse a::g;\n")
 
     def test_an_enum_goes_by_its_variants(self):
         source = self.crate()
@@ -159,6 +170,12 @@ class Kinds(unittest.TestCase):
         self.assertIn(self.top / "proofs/comma_lists/things/Answers.antt", files)
         self.assertNotIn("unread", files[self.top / "src/comma_lists.rt"])
 
+    def test_a_list_that_is_read_by_hand_is_left_out(self):
+        source = self.crate(TYPES + READING + READ_BY_HAND)
+        table = self.top / "Table.antt"
+        table.write_text(TABLE)
+        self.assertNotIn("things", comma_lists(source, table)[self.top / "src/comma_lists.rt"])
+
     def test_the_page_says_what_reads_each_rule(self):
         source, table = self.crate_with_table()
         page = self.top / "PAGE.md"
@@ -179,6 +196,29 @@ class Kinds(unittest.TestCase):
         table.write_text(TABLE)
         page.write_text(f"{HEAD}\nBehind.\n")
         self.assertIn("| `thing` | A thing. | `thing` of `things.rt` |\n", rows(source, table, page))
+
+    def test_a_function_is_named_for_what_its_own_contract_or_proof_says(self):
+        short = "fn short() -> bool {\n    true\n}\n\n"
+        reading = "fn thing(input: &mut ParseBuffer<'_>) -> Parsed<()>\n    ensures reads { parse_rule rules.thing }\n{\n}\n\n"
+        opening = "#[tactic(auto, using(Each::things_is))]\nfn opening(input: &mut ParseBuffer<'_>) {\n}\n"
+        source = self.crate(TYPES + short + reading + opening)
+        table, page = self.top / "Table.antt", self.top / "PAGE.md"
+        table.write_text(TABLE)
+        page.write_text(f"{HEAD}\nBehind.\n")
+        text = rows(source, table, page)
+        self.assertIn("| `thing` | A thing. | `thing` of `things.rt` |\n", text)
+        self.assertIn("| `things` | Things. | `opening` of `things.rt` |\n", text)
+
+    def test_a_value_may_stand_for_other_syntax_than_itself(self):
+        both = SPECS + "abbrev pub view_Thing : Thing-in.Inside → Syntax\nabbrev pub syntax_of_Thing : Syntax → Syntax\n"
+        ending = endings(self.crate(specs=both))[self.top / "src/things.rt"]
+        self.assertIn("    ghost view = { view_Thing };\n", ending)
+        self.assertIn("    ghost syntax = { syntax_of_Thing };\n", ending)
+
+    def test_a_wrapper_is_a_kind_too(self):
+        source = self.crate()
+        self.assertIn("use crate::canon::Wrapped;\n", canonical(source, [("thing", "Thing", "thing"), ("wrapped", "Wrapped", "thing")]))
+        self.assertIn("use syn::canon::Wrapped;\nuse syn::things::Thing;\n", dispatch(source, [("thing", "Thing", "thing"), ("wrapped", "Wrapped", "thing")]))
 
     def test_the_kinds_of_the_program(self):
         kinds = [("fields-unnamed", "FieldsUnnamed", "fields_unnamed")]

@@ -22,7 +22,7 @@ COUNT = 120  # changes of the sample
 # wrong tables that break no law, each by one change of a line
 WRONG = {
     'a keyword names a variant': ('    & plainly name\n', '    & plainly (name_or (w_crate ∷ []))\n'),
-    'two visibilities stand before a field': ('table plain_unnamed_field =\n    rule no_attributes\n    & rule visibility\n', 'table plain_unnamed_field =\n    rule no_attributes\n    & rule visibility\n    & rule visibility\n'),
+    'two visibilities stand before a field': ('table unnamed_field =\n    rule attributes\n    & rule visibility\n', 'table unnamed_field =\n    rule attributes\n    & rule visibility\n    & rule visibility\n'),
     'a restriction stands twice': ('inside Paren (rule restriction)', 'inside Paren (rule restriction & (when at_word w_in then rule restriction else empty))'),
 }
 # a rule of forms that the table doesn't use today
@@ -58,12 +58,12 @@ class Mutations(unittest.TestCase):
         self.assertIn(f'{COUNT} changes of the table', said)
 
     def test_an_example_too_few(self):
-        kept = [line for line in (HERE / 'examples.txt').read_text().split('\n') if not line.startswith('plain_struct_crate ')]
+        kept = [line for line in (HERE / 'examples.txt').read_text().split('\n') if not line.startswith('struct_rest_crate ')]
         path = self.folder / 'examples.txt'
         path.write_text('\n'.join(kept))
         status, said = mutate('--examples', path, '--find')
         self.assertEqual(status, 1)
-        self.assertIn('GETS THROUGH: plain_structure: the name may also be `crate` (', said)
+        self.assertIn('GETS THROUGH: structure_rest: the name may also be `crate` (', said)
         self.assertEqual(said.count('GETS THROUGH:'), 1)
 
     def test_wrong_tables_are_told(self):
@@ -99,8 +99,8 @@ class Mutations(unittest.TestCase):
 
     def test_listed_changes(self):
         listed = read_equivalent(HERE / 'equivalent_mutants.txt')
-        told = {**listed, ('plain_structure', 'the name may also be `crate`'): 'wrongly'}
-        self.assertIn('but the example `plain_struct_crate` tells it', '\n'.join(self.borders(told).lacking()))
+        told = {**listed, ('structure_rest', 'the name may also be `crate`'): 'wrongly'}
+        self.assertIn('but the example `struct_rest_crate` tells it', '\n'.join(self.borders(told).lacking()))
         unknown = {**listed, ('structure', 'it is blue'): 'wrongly'}
         self.assertIn('is no change of this rule', '\n'.join(self.borders(unknown).lacking()))
 

@@ -88,6 +88,7 @@ class Functions(unittest.TestCase):
             ("impl<K: OneCharacter> MarkKind<1> for K {", "AnyMarkKind1"),
             ("impl<K: CustomPunctuationKind<2>> Peek for CustomPunctuation<K, 2> {", "CustomPunctuation2Peek"),
             ("impl<T: Compared, P: Compared> Compared for (T, P) {", "Tuple2Compared"),
+            ("impl<F: Fn(&Name) -> Result<Option<u8>, Error> + Copy> Walk for Knot<F> {", "KnotWalk"),
             ("impl<'a, T, P> IntoIterator for &'a Punctuated<T, P> {", "RefPunctuatedIntoIterator"),
             ("impl<'a, T, P> IntoIterator for &'a mut Punctuated<T, P> {", "RefMutPunctuatedIntoIterator"),
         ]:
@@ -273,6 +274,15 @@ class Trials(InCrate):
         self.edit("a", "clause: small", "old:         2", "new:         4")
         self.refused("        4\n", "Name::first", "returns-clause-value")
         self.assertEqual(self.trial()[0], ["a: names small, but refused were: value"])
+
+    def test_one_of_the_named_clauses_is_enough(self):
+        self.edit("a", "clause: value or small", "old:         2", "new:         7")
+        self.refused("        7\n", "Name::first", "returns-clause-small")
+        self.assertEqual(self.trial()[0], [])
+        self.edit("b", "clause: value or wide", "old:         2", "new:         6")
+        self.refused("        6\n", "Name::first", "returns-clause-small")
+        self.assertEqual([it.partition(" (")[0] for it in self.trial()[0]], ["b: wide is no clause of low::Name::first",
+                         "b: names value or wide, but refused were: small"])
 
     def test_what_names_no_clause_of_the_contract_fails(self):
         self.edit("a", "old:         2", "new:         4")

@@ -47,10 +47,12 @@ LONG_MARKS = [
     ("PathSep", "::"), ("PercentEq", "%="), ("PlusEq", "+="), ("RArrow", "->"), ("Shl", "<<"), ("ShlEq", "<<="),
     ("Shr", ">>"), ("ShrEq", ">>="), ("SlashEq", "/="), ("StarEq", "*="),
 ]
+# the type, the delimiter, the sentence of both, what a fault calls them
 GROUPS = [
-    ("Paren", "( )", "parentheses"),
-    ("Brace", "{ }", "curly braces"),
-    ("Bracket", "[ ]", "square brackets"),
+    ("Paren", "Paren", "`( )`", "parentheses"),
+    ("Brace", "Brace", "`{ }`", "curly braces"),
+    ("Bracket", "Bracket", "`[ ]`", "square brackets"),
+    ("Group", "None", "The delimiters of an invisible group: no text shows them.", "invisible group"),
 ]
 
 WORD_FILES = [
@@ -147,23 +149,23 @@ use crate::token::{traits};
 
 def groups():
     kinds = "".join(f"""
-/// `{signs}`
+/// {signs}
 pub struct {name};
 
 impl DelimiterKind for {name} {{
-    ghost delimiter = {{ grammar.{name} }};
+    ghost delimiter = {{ grammar.{delimiter} }};
 
     ghost fault = {{ codes "expected {called}" }};
 
     fn delimiter() -> Delimiter {{
-        Delimiter::{name}
+        Delimiter::{delimiter}
     }}
 
     fn expected() -> &'static str {{
         "expected {called}"
     }}
 }}
-""" for name, signs, called in GROUPS)
+""" for name, delimiter, signs, called in GROUPS)
     return f"""//! The delimiters of groups.
 ghost use Rattle.std.specs.Prelude.{{codes}};
 ghost use Rattle.syn_grammar.specs.Tokens as grammar;
@@ -188,7 +190,7 @@ def token_module():
     aliases = [(f"`{text}`", name, f"Word<kind::{name}>") for _, _, kinds in WORD_FILES for name, text, _ in kinds]
     aliases.sort(key=lambda alias: alias[1])
     aliases += [(f"`{text}`", name, f"Mark<kind::{name}, {len(text)}>") for name, text in MARKS + LONG_MARKS]
-    aliases += [(f"`{text}`", name, f"Delimiters<kind::{name}>") for name, text, _ in GROUPS]
+    aliases += [(signs, name, f"Delimiters<kind::{name}>") for name, _, signs, _ in GROUPS]
     body = "".join(f"\n/// {doc}\npub type {name} = {value};\n" for doc, name, value in aliases)
     return f"""//! Words, marks and the delimiters of groups, each with a type.
 
@@ -256,8 +258,8 @@ abbrev pub {snake(name)}_syntax : {name} → Syntax
 
 
 def group_specs():
-    uses = "".join(f"use Rattle.syn_tokens.specs.declared.token.kind.groups.{name}.{{{name} as K_{name}}}\n" for name, _, _ in GROUPS)
-    body = "".join(f"\nabbrev pub {name} : Type 0\n{name} = Delimiters K_{name}\n" for name, _, _ in GROUPS)
+    uses = "".join(f"use Rattle.syn_tokens.specs.declared.token.kind.groups.{name}.{{{name} as K_{name}}}\n" for name, _, _, _ in GROUPS)
+    body = "".join(f"\nabbrev pub {name} : Type 0\n{name} = Delimiters K_{name}\n" for name, _, _, _ in GROUPS)
     return f"""-- Words, marks and the delimiters of groups, as types and as syntax.
 use Rattle.syn_tokens.specs.declared.token.delimiters.Delimiters.{{Delimiters}}
 {uses}pub use Rattle.syn_tokens.specs.KindsOfWords.{{{passed_on([kind[0] for _, _, kinds in WORD_FILES for kind in kinds])}}}

@@ -5,13 +5,16 @@
     tools/try_edits.py --check              only whether each edit can be applied and names what it breaks; proves nothing
     tools/try_edits.py --record [CRATE ..]  also writes the clause into the edits that name none
     --said FOLDER                           keeps what the prover said of each pack in a file there
-    --apart                                 in a copy of the repository without what earlier checks kept, so that `rt ci` can run beside
+    --apart                                 in a copy of the repository without what earlier checks kept, so that `rt ci` can run beside,
+                                            which tries those of must-fail/ itself
     --minutes N                             begins no check after so many minutes, and says how many edits weren't tried
 
 An edit is a file of lines:
 
     clause: reads                            the clause that it breaks, by its name in the contract; `returns` for a clause
                                              without a name, `invariant` for that of a type
+    clause: same or equal                    the same, of a body that breaks several clauses at once, of which the prover doesn't
+                                             always tell the same one: one of them has to be refused
     clause: skips by loop-character-preserved      the same, where the prover stops at another goal than the clause's own: a
                                              loop's invariant, or what a callee requires; of a table, a function that is
                                              not proved, or a file of proofs, and the lemma there that is refused:
@@ -47,7 +50,7 @@ from editlib.refusals import answer_of, clause_of
 
 TOP = Path(__file__).resolve().parent.parent
 # the most edits of one check: the prover takes some seconds for each refusal
-SIZE = 40
+SIZE = 80
 
 
 class Trial:
@@ -142,7 +145,10 @@ class Trial:
                 edit.path.write_text(with_clauses(edit.path.read_text(), edit.clauses))
             for clause in edit.clauses:
                 name, _, goal = clause.partition(" by ")
-                fits = goal in [*clauses, *others] and (name in self.whole(edit) or not self.whole(edit)) if goal else name in clauses
+                if goal:
+                    fits = goal in [*clauses, *others] and (name in self.whole(edit) or not self.whole(edit))
+                else:
+                    fits = not set(alternatives(name)).isdisjoint(clauses)
                 if not fits:
                     self.wrong.append(f"{edit.name}: names {clause}, but refused were: {', '.join([*clauses, *others])}")
 
@@ -150,6 +156,11 @@ class Trial:
 def checked(folder, jobs):
     """The status of a check of the crate in this folder, and what it said."""
     return memory.run(["rt", "check", "--jobs", str(jobs)], folder)
+
+
+def alternatives(clauses):
+    """The names of clauses of which one is refused."""
+    return clauses.split(" or ")
 
 
 def why_not(told, answer):
@@ -171,9 +182,9 @@ def unnamed(trial):
         if not edit.clauses:
             yield f"{edit.name}: names no clause (a line `clause: NAME`; --record writes what is refused)"
         for clause in edit.clauses:
-            name = clause.partition(" by ")[0]
-            if known and name not in known and name != "invariant":
-                yield f"{edit.name}: {name} is no clause of {', '.join(sorted(edit.functions))} ({', '.join(known)})"
+            for name in alternatives(clause.partition(" by ")[0]):
+                if known and name not in known and name != "invariant":
+                    yield f"{edit.name}: {name} is no clause of {', '.join(sorted(edit.functions))} ({', '.join(known)})"
 
 
 def trials_of(options, top):
@@ -182,7 +193,7 @@ def trials_of(options, top):
     lower = {name: [folder / it for it in rooms.below(name, uses)] for name in uses}
     names = [options.crate] if options.crate else sorted(uses, key=lambda name: len(lower[name]))
     has_edits = [name for name in names if [*(folder / name).glob("edits/*"), *(folder / name).glob("must-fail/*")]]
-    end = time.monotonic() + 60 * options.minutes if options.minutes else None
+    end = None if options.minutes is None else time.monotonic() + 60 * options.minutes
     return [Trial(folder / name, lower[name], options.names, cores, options.said, end) for name in has_edits]
 
 

@@ -4,7 +4,7 @@
 every proof would still hold.
 
 Run it at the top of the repository: tools/views.py --check. A field may be absent only where its type has no values or
-one value (`pub enum Attribute {}`; `pub struct FieldModifiers {}`, an enum of one variant without fields). Structs that stand for no
+one value (`pub enum Never {}`; `pub struct FieldModifiers {}`, an enum of one variant without fields). Structs that stand for no
 syntax (`NO_SYNTAX` of kindslib) have no view."""
 
 import argparse

@@ -37,7 +37,7 @@ def functions_of(crate, path):
         block = BLOCK.match(line)
         if block:
             owner, trait = owner_of(block[1], block[2])
-            in_trait = block[1] == "trait"
+            in_trait = line.startswith("pub trait ")
         elif line.startswith("}"):
             owner, trait, in_trait = "", None, False
         function = FUNCTION.match(line)

@@ -8,7 +8,6 @@ import re
 from dataclasses import dataclass
 
 FUNCTION = re.compile(r"( *)(?:pub(?:\([^)]*\))? )?(?:const )?(?:unsafe )?(?:extern \"C\" )?fn (\w+)")
-HEADER = re.compile(r"(?:unsafe )?impl(?:<.*?>)? (.*)")
 TRAIT = re.compile(r"(?:pub(?:\([^)]*\))? )?(?:unsafe )?trait (\w+)")
 TYPE = re.compile(r"(?m)^(?:pub(?:\([^)]*\))? )?(?:struct|enum) (\w+)")
 ENSURES = re.compile(r"\s+ensures\*? (?:(\w+) )?\{")
@@ -39,10 +38,20 @@ def plain(name):
     return borrow + re.match(r"(?:&('\w+ )?(mut )?)?(?:\w+::)*(\w*)", name)[3]
 
 
+def subject_of(header):
+    """What stands behind `impl` and its parameters, whose bounds may have an `->`."""
+    depth, text = 0, header.partition("impl")[2].replace("->", "  ")
+    for at, sign in enumerate(text):
+        depth += (sign == "<") - (sign == ">")
+        if not depth and sign in "> ":
+            return header.partition("impl")[2][at + 1 :].strip()
+    return ""
+
+
 def block_of(header):
     """The prover's name of an impl block, such as ErrorFromRefusal, AnyParse where the type is a parameter, and
     CustomPunctuation2Peek where the type has a number."""
-    inside = HEADER.match(re.sub(r"\s*(where .*)?\{$", "", header))[1]
+    inside = subject_of(re.sub(r"\s*(where .*)?\{$", "", header))
     if " for " not in inside:
         return plain(inside)
     trait, kind = inside.split(" for ", 1)
@@ -108,7 +117,7 @@ def functions_of(path, text, types):
             header = opened(lines, at)
             name = block_of(header)
             module = module_of(path) if " for " in header else types.get(name, module_of(path))
-            trait = re.match(r"(?:\w+::)*(\w+)", HEADER.match(header)[1])[1] if " for " in header else None
+            trait = re.match(r"(?:\w+::)*(\w+)", subject_of(header))[1] if " for " in header else None
             around.append((len(indent), [module, name], trait))
         elif TRAIT.match(start) and is_open:
             around.append((len(indent), [module_of(path), TRAIT.match(start)[1]], None))

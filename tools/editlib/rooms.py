@@ -43,10 +43,11 @@ def linked(source, target):
 
 @contextmanager
 def apart(top):
-    """A copy of the repository's sources, without what was kept, as a folder that is there until the block ends."""
+    """A copy of the repository's sources, without what was kept and without the edits that `rt ci` tries, as a folder that is
+    there until the block ends."""
     with tempfile.TemporaryDirectory(prefix="edits-") as folder:
         copy = Path(folder) / top.name
-        shutil.copytree(top, copy, ignore=shutil.ignore_patterns("out", ".git"), symlinks=True)
+        shutil.copytree(top, copy, ignore=shutil.ignore_patterns("out", ".git", "must-fail"), symlinks=True)
         subprocess.run(["git", "init", "-q", copy], check=True)
         yield copy
 

@@ -8,24 +8,27 @@ UNREAD = "not read yet"
 HEAD = "| rule | in words | Rust |\n|---|---|---|\n"
 RULE = re.compile(r"^--\n((?:-- [^\n]*\n)+)table (\w+) =$", re.M)
 READ = re.compile(r"^impl Read for (\w+) \{\n    ghost form = \{ of \(rule rules\.(\w+)\) \};", re.M)
-FUNCTION = re.compile(r"^( *)(pub )?(?:pub\(crate\) )?fn (\w+)(?:<[^(]*>)?\(.*?\n\1\{", re.M | re.S)
+FUNCTION = re.compile(r"^((?: *#\[[^\n]*\]\n)*)( *)(pub )?(?:pub\(\w+\) )?fn (\w+)(?:<[^(]*>)?(\(.*?(?:\{|\{\}|;))$", re.M | re.S)
 
 
 def readers(source, lists):
-    """By each rule, the types that are read by it, or else the functions that promise it, the public ones if there are any."""
-    types = {}
+    """By each rule, the types that are read by it; or else the functions that promise it, the public ones if there are any; or
+    else those whose proof opens its equation."""
+    types, opened = {}, {}
     functions = {rule: [(False, f"`{rule}` of `comma_lists.rt`")] for rule in lists}
     for file, text in source.hand.items():
         for name, rule in READ.findall(text):
             types.setdefault(rule, []).append(f"`{name}`")
         for match in FUNCTION.finditer(text):
-            owner = re.findall(r"^impl(?: \w+ for)? (\w+) \{", text[: match.start()], re.M)[-1:] if match[1] else []
-            name = "::".join(owner + [match[3]])
-            for rule in dict.fromkeys(re.findall(r"rules\.(\w+)", match[0])):
-                functions.setdefault(rule, []).append((bool(match[2]), f"`{name}` of `{file.as_posix()}`"))
-    found = {rule: [name for public, name in names if public] or [name for _, name in names] for rule, names in functions.items()}
-    found.update(types)
-    return found
+            attributes, indent, public, function, signature = match.groups()
+            owner = re.findall(r"^impl(?: \w+ for)? (\w+) \{", text[: match.start()], re.M)[-1:] if indent else []
+            name = f"`{'::'.join(owner + [function])}` of `{file.as_posix()}`"
+            for rule in dict.fromkeys(re.findall(r"rules\.(\w+)", signature)):
+                functions.setdefault(rule, []).append((bool(public), name))
+            for rule in dict.fromkeys(re.findall(r"Each::(\w+)_is\b", attributes)):
+                opened.setdefault(rule, []).append(name)
+    promised = {rule: [name for public, name in names if public] or [name for _, name in names] for rule, names in functions.items()}
+    return opened | promised | types
 
 
 def rows(source, table, page):

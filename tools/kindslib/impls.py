@@ -1,6 +1,16 @@
 """Copies and comparisons: the same for every type, part by part."""
+import re
+from dataclasses import dataclass
+
 from .source import ATTRIBUTES, DELIMITERS, Fault, wrapped
 from .views import syntax_of
+
+# the type by which what leads back to itself does so
+ENTRY = "Type"
+
+# what says that the parts of such a type are smaller than it, where computing doesn't
+SMALLER_LISTS = "crate::proofs::Smaller::lists"
+SMALLER = {"TypePath": ["crate::proofs::Smaller::qself_smaller", "crate::proofs::Smaller::path_smaller"]}
 
 WRITTEN = "Written by tools/kinds.py; edits are lost."
 
@@ -13,11 +23,22 @@ def import_line(path, names):
         return line + "\n"
     lines, line = [], "   "
     for name in names:
-        if len(line) + len(name) + 2 > 100:
+        if len(line) + len(name) + 2 > 99:
             lines.append(line)
             line = "   "
         line += f" {name},"
     return f"use {path}::{{\n" + "\n".join(lines + [line]) + "\n};\n"
+
+
+def import_lines(uses):
+    """The imports of these names, by their paths: in the order of `rt fmt`, where several names of one module stand behind the
+    modules in it."""
+    def key(item):
+        path, names = item
+        names = sorted(set(names))
+        return [*path.split("::"), names[0] if len(names) == 1 else "\x7f"]
+
+    return "".join(import_line(path, names) for path, names in sorted(uses.items(), key=key))
 
 
 def folder(source, name, title, one, attribute=""):
@@ -35,17 +56,23 @@ def folder(source, name, title, one, attribute=""):
     texts = {}
     for path, blocks in files.items():
         relative = path.relative_to(source.crate / "src" / name)
-        texts[path] = f"//! {WRITTEN}\n//!\n//! {title} of `{source.files()[relative][0].file.with_suffix('').as_posix()}`.\n" + assembled(blocks)
+        children = modules.pop(relative.with_suffix("").parts, ())
+        of = source.files()[relative][0].file.with_suffix("").as_posix()
+        texts[path] = f"//! {WRITTEN}\n//!\n//! {title} of `{of}`.\n" + assembled(blocks, children)
     for parts, names in modules.items():
         path = source.crate / "src" / "/".join((name, *parts))
         path = path.with_name(path.name + ".rt")
         top = "" if parts else attribute
-        texts[path] = f"//! {WRITTEN}\n//!\n//! {title} of trees.\n{top}\n" + "".join(f"mod {child};\n" for child in sorted(names))
+        texts[path] = f"//! {WRITTEN}\n//!\n//! {title} of trees.\n{top}\n" + module_lines(names)
     return texts
 
 
-def assembled(blocks):
-    """The imports that the blocks want, and the blocks."""
+def module_lines(names):
+    return "".join(f"mod {name};\n" for name in sorted(names))
+
+
+def assembled(blocks, children):
+    """The imports that the blocks want, the modules below, and the blocks."""
     ghosts, uses = {}, {}
     for block in blocks:
         for module, name in block["ghosts"]:
@@ -53,12 +80,39 @@ def assembled(blocks):
         for path, name in block["uses"]:
             uses.setdefault(path, []).append(name)
     head = "".join(f"ghost use Rattle.{module}.{{{', '.join(dict.fromkeys(names))}}};\n" for module, names in ghosts.items())
-    # in the order of `rt fmt`, for which a list in braces stands behind all modules
-    lines = "".join(sorted((import_line(path, names) for path, names in uses.items()), key=lambda line: line.split(";")[0]))
-    return head + "\n" + lines + "".join("\n" + block["text"] for block in blocks)
+    below = module_lines(children) + "\n" if children else ""
+    return head + "\n" + below + import_lines(uses) + "".join("\n" + block["text"] for block in blocks)
 
 
 # COPIES
+
+
+def empty_copy(t, field, kind, uses):
+    """The copy of a field that holds nothing."""
+    if kind.startswith("Vec<"):
+        return "Vec::new(alloc)"
+    if kind.startswith("Punctuated<"):
+        uses.append(("syn_tokens::punctuated", "Punctuated"))
+        return "Punctuated::new(alloc)"
+    if kind.startswith("Option<"):
+        return "None"
+    raise Fault(f"{t.file}: {t.name}.{field} has no values, so {t.name} has none")
+
+
+def nested_copy(source, t, place, kind, uses):
+    """How a part of what leads back to itself is copied."""
+    inner = kind.removeprefix("Option<").removesuffix(">")
+    if kind == ENTRY:
+        return f"nested.copy_type(&{place}, alloc)?"
+    if kind == f"Box<{ENTRY}>":
+        return f"Box::new(alloc, nested.copy_type(&{place}, alloc)?)?"
+    if source.is_nested(inner):
+        return f"{place}.copy_nested(nested, alloc)?"
+    if source.lists_nested(kind):
+        uses.append(("crate::nested::copy", "copy_list"))
+        return f"copy_list(nested, &{place}, alloc)?"
+    uses.append(("crate::nested::copy", "copied"))
+    return f"copied(&{place}, alloc)?"
 
 
 def copied(source, t, field, kind, uses):
@@ -66,14 +120,9 @@ def copied(source, t, field, kind, uses):
     if source.is_plain_copy(t, kind):
         return f"self.{field}"
     if source.is_empty(kind):
-        if kind.startswith("Vec<"):
-            return "Vec::new(alloc)"
-        if kind.startswith("Punctuated<"):
-            uses.append(("syn_tokens::punctuated", "Punctuated"))
-            return "Punctuated::new(alloc)"
-        if kind.startswith("Option<"):
-            return "None"
-        raise Fault(f"{t.file}: {t.name}.{field} has no values, so {t.name} has none")
+        return empty_copy(t, field, kind, uses)
+    if t.is_nested:
+        return nested_copy(source, t, f"self.{field}", kind, uses)
     return f"self.{field}.try_clone(alloc)?"
 
 
@@ -82,30 +131,77 @@ def copy_struct(source, t, uses):
     return f"        Ok({t.name} {{\n{lines}        }})\n"
 
 
-def copy_enum(source, t):
+def copied_payload(source, t, payload, uses):
+    """How what a variant holds is copied."""
+    if source.is_token(t, payload):
+        return "*value"
+    if not t.is_nested:
+        return "value.try_clone(alloc)?"
+    if source.is_nested(payload):
+        return "value.copy_nested(nested, alloc)?"
+    uses.append(("crate::nested::copy", "copied"))
+    return "copied(value, alloc)?"
+
+
+def copy_enum(source, t, uses):
     arms = ""
     for variant, payload in t.variants:
         name = f"{t.name}::{variant}"
         if not payload:
             arms += f"            {name} => Ok({name}),\n"
             continue
-        value = "*value" if source.is_token(t, payload) else "value.try_clone(alloc)?"
-        line = f"            {name}(value) => Ok({name}({value})),"
+        line = f"            {name}(value) => Ok({name}({copied_payload(source, t, payload, uses)})),"
         if len(line) > 100:
-            line = f"            {name}(value) => {{\n                Ok({name}({value}))\n            }}"
+            line = f"            {name}(value) => {{\n                Ok({name}({copied_payload(source, t, payload, uses)}))\n            }}"
         arms += line + "\n"
     return f"        match self {{\n{arms}        }}\n"
+
+
+def copy_body(source, t, uses):
+    return copy_enum(source, t, uses) if t.is_enum else copy_struct(source, t, uses)
+
+
+def smaller_tactic(t, body):
+    lemmas = SMALLER.get(t.name, []) + ([SMALLER_LISTS] if "_list(nested" in body else [])
+    return f"    #[tactic(auto, using({', '.join(lemmas)}))]\n" if lemmas else ""
+
+
+def nested_copy_text(source, t, uses):
+    """The copy of a type that leads back to itself: with the help of the copy of a type, and then by itself."""
+    text = ""
+    uses += [("std::alloc", "AllocError"), ("crate::nested::copy", "copy_type")]
+    if not source.by_hand(f"impl CopyNested for {t.name}"):
+        uses += [("crate::nested::copy", name) for name in ("CopyNested", "CopyType")]
+        head = f"    fn copy_nested<N: CopyType>(&self, nested: &N, alloc: Global) -> Result<{t.name}, AllocError> {{\n"
+        if len(head) > 101:
+            head = f"    fn copy_nested<N: CopyType>(\n        &self,\n        nested: &N,\n        alloc: Global,\n    ) -> Result<{t.name}, AllocError> {{\n"
+        body = copy_body(source, t, uses)
+        text = f"impl CopyNested for {t.name} {{\n{smaller_tactic(t, body)}{head}{body}    }}\n}}\n\n"
+    call = "copy_type(self, alloc)?"
+    if t.name != ENTRY:
+        call = "self.copy_nested(&Knot { copy_type }, alloc)?"
+        uses += [("crate::nested::copy", name) for name in ("CopyNested", "Knot")]
+    return text + f"""impl TryClone for {t.name} {{
+    fn try_clone(&self, alloc: Global) -> error::Result<{t.name}> {{
+        Ok({call})
+    }}
+}}
+"""
 
 
 def copy_block(source, t):
     if source.by_hand(f"impl TryClone for {t.name}"):
         return None
-    module = f"crate::{source.path_of(t.name)}"
-    uses = [(module, t.name), ("std::alloc", "Global"), ("syn_tokens::error", "Result"), ("syn_tokens::syntactic::try_clone", "TryClone")]
-    body = copy_enum(source, t) if t.is_enum else copy_struct(source, t, uses)
+    uses = [(f"crate::{source.path_of(t.name)}", t.name), ("std::alloc", "Global"), ("syn_tokens::syntactic::try_clone", "TryClone")]
+    if t.is_nested:
+        uses.append(("syn_tokens", "error"))
+        return {"text": nested_copy_text(source, t, uses), "uses": uses, "ghosts": []}
+    body = copy_body(source, t, uses)
     alloc = "alloc" if "alloc" in body else "_alloc"
+    result = "error::Result" if source.leads_back(t.file) else "Result"
+    uses.append(("syn_tokens", "error") if source.leads_back(t.file) else ("syn_tokens::error", "Result"))
     text = f"""impl TryClone for {t.name} {{
-    fn try_clone(&self, {alloc}: Global) -> Result<{t.name}> {{
+    fn try_clone(&self, {alloc}: Global) -> {result}<{t.name}> {{
 {body}    }}
 }}
 """
@@ -126,30 +222,109 @@ def is_compared(source, t, kind):
     return not (one_value or signs or source.is_empty(kind))
 
 
-def compare_struct(source, t):
-    parts = [f"self.{field}.is_same(&other.{field})" for field, kind in t.fields if is_compared(source, t, kind)]
+@dataclass
+class Calls:
+    """What is called of a field that leads back to the type that it stands in: where it is the first type of the circle, one of the
+    others, or a list of them; and where the function for lists stands."""
+
+    entry: str
+    type: str
+    list: str
+    list_from: tuple
+
+    def of(self, source, t, field, kind, uses):
+        """The call of this field; none where it doesn't lead back."""
+        if not t.is_nested:
+            return None
+        if kind in (ENTRY, f"Box<{ENTRY}>"):
+            return self.entry.format(field)
+        if source.is_nested(kind):
+            return self.type.format(field)
+        if source.lists_nested(kind):
+            uses.append(self.list_from)
+            return self.list.format(field)
+        return None
+
+
+COMPARED = Calls(
+    "nested.is_same_type(&self.{0}, &other.{0})",
+    "self.{0}.is_same_nested(nested, &other.{0})",
+    "same_list(nested, &self.{0}, &other.{0})",
+    ("crate::nested::compare", "same_list"),
+)
+
+
+def compared_part(source, t, field, kind, uses):
+    """How a field is compared."""
+    return COMPARED.of(source, t, field, kind, uses) or f"self.{field}.is_same(&other.{field})"
+
+
+def compare_struct(source, t, uses):
+    parts = [compared_part(source, t, field, kind, uses) for field, kind in t.fields if is_compared(source, t, kind)]
     if not parts:
         return "        true\n"
     return wrapped(" && ".join(parts), 8, parts, "&& ") + "\n"
+
+
+def compared_arm(pattern, function, arguments):
+    """An arm of a `match` that calls this function, in the layout of `rt fmt`."""
+    line = f"            {pattern} => {function}("
+    if len(line) + len(arguments) + 2 <= 100:
+        return f"{line}{arguments}),\n"
+    if len(line) <= 100:
+        return f"{line}\n                {arguments},\n            ),\n"
+    return f"            {pattern} =>\n                {function}({arguments}),\n"
 
 
 def compare_enum(source, t):
     arms = ""
     for variant, payload in t.variants:
         name = f"{t.name}::{variant}"
-        arms += f"            ({name}(a), {name}(b)) => a.is_same(b),\n" if payload else f"            ({name}, {name}) => true,\n"
+        is_nested = t.is_nested and source.is_nested(payload)
+        if payload:
+            arms += compared_arm(f"({name}(a), {name}(b))", *(("a.is_same_nested", "nested, b") if is_nested else ("a.is_same", "b")))
+        else:
+            arms += f"            ({name}, {name}) => true,\n"
     if len(t.variants) > 1:
         arms += "            _ => false,\n"
     return f"        match (self, other) {{\n{arms}        }}\n"
 
 
-def compared_text(source, t):
-    body = compare_enum(source, t) if t.is_enum else compare_struct(source, t)
+def compare_body(source, t, uses):
+    return compare_enum(source, t) if t.is_enum else compare_struct(source, t, uses)
+
+
+def compared_text(source, t, uses):
+    body = compare_body(source, t, uses)
     other = "other" if "other" in body else "_other"
     tactic = "    #[tactic(auto, using(crate::proofs::Attributes::same_attributes))]\n" if t.has_attributes() else ""
     return f"""impl Compared for {t.name} {{
 {tactic}    fn is_same(&self, {other}: &{t.name}) -> bool {{
 {body}    }}
+}}
+
+"""
+
+
+def nested_compared_text(source, t, uses):
+    """The comparison of a type that leads back to itself: with the help of that of types, and then by itself."""
+    text = ""
+    uses.append(("crate::nested::compare", "is_same_type"))
+    if not source.by_hand(f"impl CompareNested for {t.name}"):
+        uses += [("crate::nested::compare", name) for name in ("CompareNested", "CompareType")]
+        body = compare_body(source, t, uses)
+        head = f"    fn is_same_nested<N: CompareType>(&self, nested: &N, other: &{t.name}) -> bool {{\n"
+        if len(head) > 101:
+            head = f"    fn is_same_nested<N: CompareType>(\n        &self,\n        nested: &N,\n        other: &{t.name},\n    ) -> bool {{\n"
+        text = f"impl CompareNested for {t.name} {{\n{smaller_tactic(t, body)}{head}{body}    }}\n}}\n\n"
+    call = "is_same_type(self, other)"
+    if t.name != ENTRY:
+        call = "self.is_same_nested(&Knot { is_same_type }, other)"
+        uses += [("crate::nested::compare", name) for name in ("CompareNested", "Knot")]
+    return text + f"""impl Compared for {t.name} {{
+    fn is_same(&self, other: &{t.name}) -> bool {{
+        {call}
+    }}
 }}
 
 """
@@ -185,7 +360,8 @@ def compare_block(source, t):
     ghosts += [("syn_tree.specs.Equality", name) for name in ("IsSame", "IsEqual", "PrintsAlike")]
     ghosts += [("syn_tokens.specs.Comparison", name) for name in ("same_by", "same_equiv", "same_per")]
     uses = [(f"crate::{source.path_of(t.name)}", t.name), ("syn_tokens::syntactic::compare", "Compared")]
-    return {"text": ("" if odd else compared_text(source, t)) + equality_text(t.name, syntax), "uses": uses, "ghosts": ghosts}
+    compared = "" if odd else (nested_compared_text if t.is_nested else compared_text)(source, t, uses)
+    return {"text": compared + equality_text(t.name, syntax), "uses": uses, "ghosts": ghosts}
 
 
 def comparisons(source):
@@ -195,11 +371,21 @@ def comparisons(source):
 # PRINTS
 
 
+PRINTED = Calls(
+    "nested.print_type(&self.{0}, out)",
+    "self.{0}.print_nested(nested, out)",
+    "print_list(nested, &self.{0}, out)",
+    ("crate::nested::print", "print_list"),
+)
+
+
 def print_step(source, t, field, kind, uses):
     """How one field is printed."""
     if kind == ATTRIBUTES:
         uses.append(("crate::lower::attr", "print_outer"))
         return f"print_outer(&self.{field}, out)"
+    if nested := PRINTED.of(source, t, field, kind, uses):
+        return nested
     if kind.startswith("Punctuated<"):
         uses.append(("syn_tokens::print", "print_list"))
         return f"print_list(&self.{field}, out)"
@@ -223,25 +409,75 @@ def print_enum(source, t):
     arms = ""
     for variant, payload in t.variants:
         name = f"{t.name}::{variant}"
-        arms += f"            {name}(value) => value.print_in(out),\n" if payload else f"            {name} => Ok(()),\n"
+        call = "print_nested(nested, out)" if t.is_nested and source.is_nested(payload) else "print_in(out)"
+        arms += f"            {name}(value) => value.{call},\n" if payload else f"            {name} => Ok(()),\n"
     return f"        match self {{\n{arms}        }}\n"
 
 
-def print_block(source, t):
-    odd = source.by_hand(f"impl Print for {t.name}")
-    uses = [(f"crate::{source.path_of(t.name)}", t.name), ("syn_tokens::print", "ToTokens")]
-    text = ""
-    if not odd:
-        uses += [("std::alloc", "AllocError"), ("syn_tokens::stream::builder", "StreamBuilder"), ("syn_tokens::print", "Print")]
-        body = print_enum(source, t) if t.is_enum else print_struct(source, t, uses)
-        out = "out" if "out" in body else "_out"
-        tactic = "    #[tactic(auto, using(syn_tokens::proofs::Prints::groups))]\n" if ".open(out)" in body else ""
-        text = f"""impl Print for {t.name} {{
-{tactic}    fn print_in(&self, {out}: &mut StreamBuilder) -> Result<(), AllocError> {{
+def print_tactic(source, t, body):
+    """What the proof of a print is handed beside what all of them are."""
+    lemmas = ["syn_tokens::proofs::Prints::groups"] if ".open(out)" in body else []
+    if "print_list(nested" in body:
+        lemmas = lemmas or ["syn_tokens::proofs::Prints::prints"]
+        lemmas.append(SMALLER_LISTS)
+    return f"    #[tactic(auto, using({', '.join(lemmas)}))]\n" if lemmas else ""
+
+
+PRINT_USES = [("std::alloc", "AllocError"), ("syn_tokens::stream::builder", "StreamBuilder"), ("syn_tokens::print", "Print")]
+
+
+def print_body(source, t, uses):
+    return print_enum(source, t) if t.is_enum else print_struct(source, t, uses)
+
+
+def print_text(source, t, uses):
+    body = print_body(source, t, uses)
+    out = "out" if "out" in body else "_out"
+    return f"""impl Print for {t.name} {{
+{print_tactic(source, t, body)}    fn print_in(&self, {out}: &mut StreamBuilder) -> Result<(), AllocError> {{
 {body}    }}
 }}
 
 """
+
+
+def nested_print_text(source, t, uses):
+    """The print of a type that leads back to itself: with the help of the print of a type, and then by itself."""
+    text = ""
+    if not source.by_hand(f"impl PrintNested for {t.name}"):
+        uses += [("crate::nested::print", "PrintType"), ("crate::nested::print", "PrintNested")]
+        body = print_body(source, t, uses)
+        text = f"""impl PrintNested for {t.name} {{
+{print_tactic(source, t, body)}    fn print_nested<N: PrintType>(
+        &self,
+        nested: &N,
+        out: &mut StreamBuilder,
+    ) -> Result<(), AllocError> {{
+{body}    }}
+}}
+
+"""
+    if t.name == ENTRY:
+        call = "print_type(self, out)"
+    else:
+        call = "self.print_nested(&Knot { print_type }, out)"
+        uses += [("crate::nested::print", name) for name in ("Knot", "PrintNested")]
+    uses.append(("crate::nested::print", "print_type"))
+    return text + f"""impl Print for {t.name} {{
+    fn print_in(&self, out: &mut StreamBuilder) -> Result<(), AllocError> {{
+        {call}
+    }}
+}}
+
+"""
+
+
+def print_block(source, t):
+    uses = [(f"crate::{source.path_of(t.name)}", t.name), ("syn_tokens::print", "ToTokens")]
+    text = ""
+    if not source.by_hand(f"impl Print for {t.name}"):
+        uses += PRINT_USES
+        text = nested_print_text(source, t, uses) if t.is_nested else print_text(source, t, uses)
     return {"text": text + f"impl ToTokens for {t.name} {{}}\n", "uses": uses, "ghosts": []}
 
 

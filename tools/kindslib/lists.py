@@ -2,13 +2,13 @@
 import re
 import textwrap
 
-from .impls import WRITTEN, import_line
+from .impls import WRITTEN, import_lines
 from .views import syntax_of
 
 RULE = re.compile(r"^--\n((?:-- [^\n]*\n)+)table (\w+) =\n((?:    [^\n]*\n)+)", re.M)
 LIST = "when ended then empty else rule ELEMENT & (when at_comma then punctuation comma & rule NAME else empty)"
 READ = re.compile(r"^impl Read for (\w+) \{\n    ghost form = \{ of \(rule rules\.(\w+)\) \};", re.M)
-FUNCTION = re.compile(r"^    pub\(crate\) fn (\w+)\(input: &mut ParseBuffer<'_>\) -> Parsed<(\w+)>\n        ensures (?:\w+ )?\{ Parses IsSyntax \S+ rules\.(\w+) ", re.M)
+FUNCTION = re.compile(r"^    pub(?:\(crate\))? fn (\w+)\(input: &mut ParseBuffer<'_>\) -> Parsed<(\w+)>\n        ensures (?:\w+ )?\{ Parses IsSyntax \S+ rules\.(\w+) ", re.M)
 
 
 def list_rules(table):
@@ -85,9 +85,11 @@ use Rattle.syn_parse.specs.Listing.{{IsList}}
 
 
 def read_lists(source, table):
-    """The rules that are comma lists, but for those whose elements nothing reads; and what reads the elements of each rule."""
+    """The rules that are comma lists, but for those whose elements nothing reads and those that a function by hand reads; and what
+    reads the elements of each rule."""
     known = readers(source)
-    return [(name, element, words) for name, element, words in list_rules(table) if element in known], known
+    by_hand = {rule for text in source.hand.values() for rule in re.findall(r"\(parse_rule rules\.(\w+) input\.old\)", text)}
+    return [(name, element, words) for name, element, words in list_rules(table) if element in known and name not in by_hand], known
 
 
 def comma_lists(source, table):
@@ -106,7 +108,7 @@ def comma_lists(source, table):
     for path, name in needs:
         uses.setdefault(path, []).append(name)
     heads = "".join(f"ghost use Rattle.{module}.{{{', '.join(dict.fromkeys(names))}}};\n" for module, names in views.items())
-    imports = "".join(import_line(path, names) for path, names in sorted(uses.items()))
+    imports = import_lines(uses)
     functions = "".join(function(source, name, words, *known[element]) for name, element, words in lists)
     files = {source.crate / "src/comma_lists.rt": f"""//! {WRITTEN}
 //!

@@ -1,15 +1,18 @@
 """The kinds that have canonical prints, and the program's list of them."""
-from .impls import WRITTEN, import_line
+from .impls import WRITTEN, import_lines
 from .source import camel
 
 
-def imports(source, crate, kinds, others):
+def imports(source, crate, own, kinds, others):
+    """What the kinds' types and these others are imported by. A type that is no tree is a wrapper, in the module `canon` of
+    the crate that is called `own`."""
     uses = {}
     for _, name, _ in kinds:
-        uses.setdefault(f"{crate}::{source.path_of(name)}", []).append(name)
+        path = f"{crate}::{source.path_of(name)}" if name in source.types else f"{own}::canon"
+        uses.setdefault(path, []).append(name)
     for path, name in others:
         uses.setdefault(path, []).append(name)
-    return "".join(import_line(path, names) for path, names in sorted(uses.items()))
+    return import_lines(uses)
 
 
 def canonical(source, kinds):
@@ -26,7 +29,7 @@ impl Canonical for {name} {{
 ghost use Rattle.std.specs.Prelude.{{refl}};
 ghost use Rattle.syn_grammar.specs.Rules as rules;
 
-{imports(source, "syn_tree", kinds, [("crate::lawful", "Canonical")])}{blocks}"""
+{imports(source, "syn_tree", "crate", kinds, [("crate::lawful", "Canonical")])}{blocks}"""
 
 
 def kind_enum(kinds):
@@ -68,7 +71,7 @@ ghost use Rattle.syn_grammar.specs.Tokens.{{visible}};
 ghost use Rattle.syn_canon.specs.Kinds.{{rule_of}};
 ghost use Rattle.syn_canon.specs.Answers.{{IsPrinted, IsDerived, IsUnderived}};
 
-{imports(source, "syn", kinds, [("crate::answer", "check"), ("crate::answer", "print"), ("crate::failure", "Failure"), ("crate::kind", "Kind"), ("syn::token", "TokenStream")])}
+{imports(source, "syn", "syn", kinds, [("crate::answer", "check"), ("crate::answer", "print"), ("crate::failure", "Failure"), ("crate::kind", "Kind"), ("syn::token", "TokenStream")])}
 /// What `print` writes of the tokens.
 pub(crate) fn print_as(kind: Kind, tokens: TokenStream) -> Result<String, Failure>
     requires {{ visible tokens ≡ true }}

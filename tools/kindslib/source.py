@@ -8,9 +8,8 @@ TYPE = re.compile(r"^((?:///[^\n]*\n|#\[[^\n]*\n)*)pub (struct|enum) (\w+) \{(.*
 FIELD = re.compile(r"^    pub (\w+): (.+),$", re.M)
 VARIANT = re.compile(r"^    (\w+)(?:\((.*)\))?,$", re.M)
 USE = re.compile(r"^use (\w+)::([\w:]+)::(?:\{([^}]*)\}|(\w+));$", re.M)
-DELIMITERS = {"Paren", "Brace", "Bracket"}
+DELIMITERS = {"Paren", "Brace", "Bracket", "Group"}
 ATTRIBUTES = "Vec<Attribute>"
-
 # what stands for no syntax, though it is a public struct with fields
 NO_SYNTAX = {"Index"}
 
@@ -27,6 +26,7 @@ class Type:
         self.name = name
         self.file = file
         self.is_copy = "Copy" in attributes
+        self.is_nested = "#[cycle(" in attributes
         self.fields = [] if self.is_enum else FIELD.findall(body)
         self.variants = VARIANT.findall(body) if self.is_enum else []
         lines = [line for line in body.split("\n") if line.strip() and not line.strip().startswith(("///", "//"))]
@@ -84,13 +84,25 @@ class Source:
         """The module through which the crate names a type: the top one of its file, which passes it on."""
         return self.types[name].file.parts[0].removesuffix(".rt")
 
+    def is_nested(self, kind):
+        """Whether it is a type that leads back to itself."""
+        return kind in self.types and self.types[kind].is_nested
+
+    def leads_back(self, file):
+        """Whether a type of this file does."""
+        return any(t.is_nested for t in self.types.values() if t.file == file)
+
+    def lists_nested(self, kind):
+        """Whether it is a list of values of such a type."""
+        return kind.startswith("Punctuated<") and self.is_nested(kind.removeprefix("Punctuated<").split(", ")[0])
+
     def is_token(self, owner, kind):
         """Whether a type of a field of `owner` is a word, a mark or the delimiters of a group."""
         return kind in self.tokens[owner.file]
 
     def is_empty(self, kind):
-        """Whether a field of this type holds nothing, since some type in it has no values."""
-        return any(name in self.types and self.types[name].has_no_values() for name in re.findall(r"\w+", kind))
+        """Whether a field of this type holds nothing, since some type in it has no values. (A name behind `::` is no type of the crate.)"""
+        return any(name in self.types and self.types[name].has_no_values() for name in re.findall(r"(?<!::)\b\w+", kind))
 
     def holds_place(self, kind):
         """Whether the field's type is a struct without fields."""
@@ -99,7 +111,7 @@ class Source:
     def is_plain_copy(self, owner, kind):
         """Whether a field is copied by itself."""
         inner = re.fullmatch(r"Option<(\w+)>", kind)
-        return self.is_token(owner, kind) or self.holds_place(kind) or bool(inner and self.is_token(owner, inner[1]))
+        return kind == "usize" or self.is_token(owner, kind) or self.holds_place(kind) or bool(inner and self.is_token(owner, inner[1]))
 
     def files(self):
         """The types that stand for syntax, by the file in which they stand."""

@@ -7,7 +7,8 @@ SYNTAXES = {"Ident": "syntax_of_ident", "Literal": "syntax_of_literal"}
 
 
 def has_model(source, t):
-    return not t.is_enum and source.spec_of(f"syntax_of_{t.name}") is None
+    """A struct has one, unless it only has a `syntax_of_X`. Where it has both, this is what its value stands for."""
+    return not t.is_enum and (source.spec_of(f"syntax_of_{t.name}") is None or source.spec_of(f"view_{t.name}") is not None)
 
 
 def is_plain(source, t):
@@ -29,16 +30,29 @@ impl std::marker::Model for {t.name} {{
     ghost use Rattle.syn_tree.specs.{file}.{{view_{t.name}}};
 
     ghost view = {{ view_{t.name} }};
-}}
+{size(t) if t.is_nested else ""}}}
+"""
+
+
+def size(t):
+    """Of a struct that leads back to itself: more than that of each of its parts."""
+    return f"""
+    ghost use Rattle.syn_tree.specs.Sizes.{{tree_size}};
+
+    ghost size = {{ tree_size }};
+
+    ghost use Rattle.syn_tree.specs.Falls.{{falls_{t.name}}};
+
+    ghost size_decreases = {{ λ a h. falls_{t.name} a }};
 """
 
 
 def syntax_of(source, t):
     """What the clauses of this type call its syntax, and the module of specifications that it is from."""
-    if has_model(source, t):
-        return "itself", "syn_grammar.specs.Promises"
     name = f"syntax_of_{t.name}"
     file = source.spec_of(name)
+    if file is None and has_model(source, t):
+        return "itself", "syn_grammar.specs.Promises"
     if file is None:
         raise Fault(f"{t.file}: {t.name} wants a {name} in specs/")
     return name, f"syn_tree.specs.{file}"
@@ -85,10 +99,8 @@ class PlainView:
         inner = self.source.types.get(kind)
         if inner is None:
             raise Fault(f"{t.file}: {t.name} holds `{kind}`, so write view_{t.name} in specs/ by hand")
-        if has_model(self.source, inner):
-            return None
         name, module = syntax_of(self.source, inner)
-        return self.take(module, name)
+        return None if name == "itself" else self.take(module, name)
 
     def of_field(self, t, field, kind):
         place = f"a.{field}"

@@ -10,20 +10,21 @@ use std::io::{Read, Write};
 use std::process::ExitCode;
 use syn::reader::{read_tokens, token_text};
 use syn::token::TokenStream;
-use syn::{Data, DeriveInput, Fields, ToTokens, parse2};
+use syn::{Data, DeriveInput, Error, ToTokens, parse2};
 
-/// What is written of a struct that this text spells.
+/// What is written of a struct that this text spells. An enum or a union is refused.
 fn describe(alloc: Global, text: &str) -> syn::Result<String> {
-    let input: DeriveInput = parse2(read_tokens(alloc, text)?)?;
+    let tree: DeriveInput = parse2(read_tokens(alloc, text)?)?;
+    let input = &tree;
+    let Data::Struct(data) = &input.shape else {
+        return Err(Error::new(input.ident.span, "expected a struct"));
+    };
     let mut lines = String::new(alloc);
     writeln!(lines, "struct {}", input.ident.text())?;
-    let Data::Struct(data) = &input.shape;
-    if let Fields::Unnamed(fields) = &data.fields {
-        for field in fields.unnamed.iter() {
-            let mut ty = TokenStream::new(alloc);
-            field.ty.to_tokens(&mut ty)?;
-            writeln!(lines, "field: {}", token_text(&ty)?.as_str())?;
-        }
+    for field in data.fields.iter() {
+        let mut ty = TokenStream::new(alloc);
+        field.ty.to_tokens(&mut ty)?;
+        writeln!(lines, "field: {}", token_text(&ty)?.as_str())?;
     }
     let mut printed = TokenStream::new(alloc);
     input.to_tokens(&mut printed)?;

@@ -1,8 +1,8 @@
--- THE SYNTAX OF ROUTES: `route GET "/users" ~> users::list (page: u8, size: u8) if admin`, with `;` between them.
+-- THE SYNTAX OF ROUTES: `route GET "/users" ~> users::list [page: u8, size: u8] if admin`, with `;` between them.
 use Rattle.std.specs.Prelude.{Bool, false, [], ◌∷◌, codes}
 use Rattle.syn_grammar.specs.Words.{Text, w_if, colon, comma, semicolon}
-use Rattle.syn_grammar.specs.Tokens.{Paren, literal, begins_text, at_word}
-use Rattle.syn_grammar.specs.Rules.{module_path, plain_type}
+use Rattle.syn_grammar.specs.Tokens.{Bracket, literal, begins_text, at_word}
+use Rattle.syn_grammar.specs.Rules.{type_path, type}
 use Rattle.syn_grammar.specs.Grammar.{token, name, word, any_literal, rule, Syntax, Token}
 use Rattle.syn_parse.specs.Form.{Condition, by, Form, of, keyword, punctuation, ◌followed_by◌, in_group, list, optional, such_that}
 
@@ -20,11 +20,11 @@ path_form = such_that is_path (of (token [] any_literal))
 
 -- `name: Type`
 abbrev pub parameter_form : Form
-parameter_form = of (token [] name) followed_by punctuation colon followed_by of (rule plain_type)
+parameter_form = of (token [] name) followed_by punctuation colon followed_by of (rule type)
 
--- in parentheses, parameters with commas between them
+-- in brackets, parameters with commas between them
 abbrev pub parameters_form : Form
-parameters_form = in_group Paren (list parameter_form (punctuation comma))
+parameters_form = in_group Bracket (list parameter_form (punctuation comma))
 
 -- `if name`
 abbrev pub guard_form : Form
@@ -35,5 +35,5 @@ at_guard = by (at_word w_if)
 
 abbrev pub route_form : Form
 route_form =
-    keyword (codes "route") followed_by of (token [] name) followed_by path_form followed_by punctuation (codes "~>") followed_by of (rule module_path)
+    keyword (codes "route") followed_by of (token [] name) followed_by path_form followed_by punctuation (codes "~>") followed_by of (rule type_path)
     followed_by parameters_form followed_by optional at_guard guard_form

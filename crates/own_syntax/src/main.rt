@@ -1,6 +1,6 @@
 //! Reads routes, a syntax of its own, from standard input, and writes two lines for each: what it says, and its tokens.
 //!
-//! A route is `route GET "/users" ~> users::list (page: u8, size: u8) if admin`, with or without the part that begins with
+//! A route is `route GET "/users" ~> users::list [page: u8, size: u8] if admin`, with or without the part that begins with
 //! `if`; a `;` stands between routes. The status is 0; 1 where the text is refused or can't be read or written, with a line
 //! on standard error.
 #![tactic(auto)]

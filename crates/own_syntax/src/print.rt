@@ -36,9 +36,9 @@ impl Print for Route {
         self.path.print_in(out)?;
         self.leads_to.print_in(out)?;
         self.target.print_in(out)?;
-        self.paren_token.open(out)?;
+        self.bracket_token.open(out)?;
         print_list(&self.parameters, out)?;
-        self.paren_token.close(out)?;
+        self.bracket_token.close(out)?;
         self.guard.print_in(out)
     }
 }

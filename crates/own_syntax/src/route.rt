@@ -13,10 +13,10 @@ ghost use Rattle.own_syntax.specs.Syntax.{syntax_of_RoutePath, syntax_of_Paramet
 use crate::kw;
 use syn::parse::{ParseBuffer, Parsed, Peek, Read, Refusal};
 use syn::punctuated::Punctuated;
-use syn::token::{Colon, Comma, If, Paren, kind};
+use syn::token::{Bracket, Colon, Comma, If, kind};
 use syn::{Ident, Literal, Path, Syntactic, Type};
 
-/// `route GET "/users" ~> users::list (page: u8, size: u8) if admin`
+/// `route GET "/users" ~> users::list [page: u8, size: u8] if admin`
 #[derive(Drop)]
 pub struct Route {
     pub route_token: kw::Route,
@@ -24,7 +24,7 @@ pub struct Route {
     pub path: RoutePath,
     pub leads_to: kw::LeadsTo,
     pub target: Path,
-    pub paren_token: Paren,
+    pub bracket_token: Bracket,
     pub parameters: Punctuated<Parameter, Comma>,
     pub guard: Option<Guard>,
 }
@@ -140,14 +140,14 @@ impl Read for Route {
         let path = input.read()?;
         let leads_to = input.read()?;
         let target = input.read()?;
-        let (paren_token, parameters) = parameters(input)?;
+        let (bracket_token, parameters) = parameters(input)?;
         Ok(Route {
             route_token,
             method,
             path,
             leads_to,
             target,
-            paren_token,
+            bracket_token,
             parameters,
             guard: input.read()?,
         })
@@ -156,14 +156,14 @@ impl Read for Route {
     ghost meaning = { meaning_of _ refl };
 }
 
-/// In parentheses, parameters with commas between them.
+/// In brackets, parameters with commas between them.
 #[tactic(auto, unfolding(syn_grammar::specs::Take::is_end))]
-fn parameters(input: &mut ParseBuffer<'_>) -> Parsed<(Paren, Punctuated<Parameter, Comma>)>
+fn parameters(input: &mut ParseBuffer<'_>) -> Parsed<(Bracket, Punctuated<Parameter, Comma>)>
     ensures reads { Computes IsSyntax parameters_syntax (parse parameters_form input.old) result input.new }
     ensures moved { Moved input.old result input.new }
 {
-    let (paren_token, mut content) = input.read_group::<kind::Paren>()?;
+    let (bracket_token, mut content) = input.read_group::<kind::Bracket>()?;
     let parameters = content.read_terminated()?;
     content.read_end()?;
-    Ok((paren_token, parameters))
+    Ok((bracket_token, parameters))
 }

@@ -2,11 +2,14 @@
 ghost use Rattle.syn.specs.Canonical.{CanonicalOutcome, SameFormOutcome};
 ghost use Rattle.syn_tokens.specs.Faults.{IsSyntaxError};
 
+mod wrappers;
+
 pub use crate::lawful::Canonical;
 use syn_parse::parse::parse2;
 use syn_tokens::error::Result;
 use syn_tokens::print::ToTokens;
 use syn_tokens::stream::TokenStream;
+pub use wrappers::{NamedField, UnnamedField};
 
 /// The canonical print of what the tokens spell: the print of the tree that the whole stream is read as.
 ///

@@ -4,13 +4,15 @@
 ghost use Rattle.std.specs.Prelude.{refl};
 ghost use Rattle.syn_grammar.specs.Rules as rules;
 
+use crate::canon::{NamedField, UnnamedField};
 use crate::lawful::Canonical;
-use syn_tree::data::FieldsUnnamed;
+use syn_tree::data::{FieldsNamed, FieldsUnnamed, Variant};
 use syn_tree::derive::DeriveInput;
+use syn_tree::item::{ItemEnum, ItemStruct, ItemUnion};
 use syn_tree::restriction::Visibility;
 
 impl Canonical for DeriveInput {
-    ghost rule = { rules.plain_derive_input };
+    ghost rule = { rules.derive_input };
 
     ghost reads_rule = { refl };
 }
@@ -21,8 +23,50 @@ impl Canonical for Visibility {
     ghost reads_rule = { refl };
 }
 
+impl Canonical for Variant {
+    ghost rule = { rules.variant };
+
+    ghost reads_rule = { refl };
+}
+
+impl Canonical for NamedField {
+    ghost rule = { rules.named_field };
+
+    ghost reads_rule = { refl };
+}
+
+impl Canonical for UnnamedField {
+    ghost rule = { rules.unnamed_field };
+
+    ghost reads_rule = { refl };
+}
+
+impl Canonical for FieldsNamed {
+    ghost rule = { rules.fields_named };
+
+    ghost reads_rule = { refl };
+}
+
 impl Canonical for FieldsUnnamed {
-    ghost rule = { rules.plain_fields_unnamed };
+    ghost rule = { rules.fields_unnamed };
+
+    ghost reads_rule = { refl };
+}
+
+impl Canonical for ItemEnum {
+    ghost rule = { rules.enumeration };
+
+    ghost reads_rule = { refl };
+}
+
+impl Canonical for ItemStruct {
+    ghost rule = { rules.structure };
+
+    ghost reads_rule = { refl };
+}
+
+impl Canonical for ItemUnion {
+    ghost rule = { rules.union_item };
 
     ghost reads_rule = { refl };
 }

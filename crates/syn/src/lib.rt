@@ -17,15 +17,22 @@ pub use syn_tokens::span::Span;
 pub use syn_tokens::syntactic::Syntactic;
 pub use syn_tokens::syntactic::try_clone::TryClone;
 pub use syn_tokens::{error, print, punctuated};
-pub use syn_tree::data::{Field, FieldModifiers, Fields, FieldsUnnamed, Index, MemberRef, Members};
-pub use syn_tree::derive::{Data, DataStruct, DeriveInput};
+pub use syn_tree::data::{
+    Field, FieldModifiers, Fields, FieldsNamed, FieldsUnnamed, Index, MemberRef, Members, Variant,
+};
+pub use syn_tree::derive::{Data, DataEnum, DataStruct, DataUnion, DeriveInput};
 pub use syn_tree::item::{
-    ConstModifiers, FnModifiers, ImplModifiers, TraitModifiers, TypeModifiers,
+    ConstModifiers, FnModifiers, ImplModifiers, Item, ItemEnum, ItemStruct, ItemUnion,
+    TraitModifiers, TypeModifiers,
 };
 pub use syn_tree::lower::{
-    AttrStyle, Attribute, Expr, ExprLit, GenericParam, Generics, Lit, LitBool, LitByte, LitByteStr,
-    LitCStr, LitChar, LitFloat, LitInt, LitStr, LitToken, LiteralKind, MacroDelimiter, Meta,
-    MetaList, MetaNameValue, Path, PathArguments, PathSegment, QSelf, Type, TypePath, WhereClause,
+    AngleBracketedGenericArguments, AssocType, AttrStyle, Attribute, BoundLifetimes, ConstParam,
+    Expr, ExprLit, GenericArgument, GenericParam, Generics, LifetimeParam, Lit, LitBool, LitByte,
+    LitByteStr, LitCStr, LitChar, LitFloat, LitInt, LitStr, LitToken, LiteralKind, MacroDelimiter,
+    Meta, MetaList, MetaNameValue, ParenthesizedGenericArguments, Path, PathArguments, PathSegment,
+    PredicateLifetime, PredicateType, QSelf, ReturnType, TraitBound, TraitBoundModifier, Type,
+    TypeArray, TypeGroup, TypeNever, TypeParam, TypeParamBound, TypeParen, TypePath, TypePtr,
+    TypeReference, TypeSlice, TypeTuple, WhereClause, WherePredicate,
 };
 pub use syn_tree::restriction::{VisRestricted, Visibility};
 pub use syn_tree::stmt::LocalModifiers;

@@ -9,8 +9,10 @@ ghost use Rattle.syn_canon.specs.Answers.{IsPrinted, IsDerived, IsUnderived};
 use crate::answer::{check, print};
 use crate::failure::Failure;
 use crate::kind::Kind;
-use syn::data::FieldsUnnamed;
+use syn::canon::{NamedField, UnnamedField};
+use syn::data::{FieldsNamed, FieldsUnnamed, Variant};
 use syn::derive::DeriveInput;
+use syn::item::{ItemEnum, ItemStruct, ItemUnion};
 use syn::restriction::Visibility;
 use syn::token::TokenStream;
 
@@ -23,7 +25,14 @@ pub(crate) fn print_as(kind: Kind, tokens: TokenStream) -> Result<String, Failur
     match kind {
         Kind::Derive => print::<DeriveInput>(tokens),
         Kind::Visibility => print::<Visibility>(tokens),
+        Kind::Variant => print::<Variant>(tokens),
+        Kind::NamedField => print::<NamedField>(tokens),
+        Kind::UnnamedField => print::<UnnamedField>(tokens),
+        Kind::FieldsNamed => print::<FieldsNamed>(tokens),
         Kind::FieldsUnnamed => print::<FieldsUnnamed>(tokens),
+        Kind::ItemEnum => print::<ItemEnum>(tokens),
+        Kind::ItemStruct => print::<ItemStruct>(tokens),
+        Kind::ItemUnion => print::<ItemUnion>(tokens),
     }
 }
 
@@ -36,6 +45,13 @@ pub(crate) fn check_as(kind: Kind, tokens: TokenStream) -> Result<(), Failure>
     match kind {
         Kind::Derive => check::<DeriveInput>(tokens),
         Kind::Visibility => check::<Visibility>(tokens),
+        Kind::Variant => check::<Variant>(tokens),
+        Kind::NamedField => check::<NamedField>(tokens),
+        Kind::UnnamedField => check::<UnnamedField>(tokens),
+        Kind::FieldsNamed => check::<FieldsNamed>(tokens),
         Kind::FieldsUnnamed => check::<FieldsUnnamed>(tokens),
+        Kind::ItemEnum => check::<ItemEnum>(tokens),
+        Kind::ItemStruct => check::<ItemStruct>(tokens),
+        Kind::ItemUnion => check::<ItemUnion>(tokens),
     }
 }

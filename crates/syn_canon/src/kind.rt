@@ -9,7 +9,14 @@ ghost use Rattle.syn_canon.specs.Kinds.{word_of, NoKind};
 pub(crate) enum Kind {
     Derive,
     Visibility,
+    Variant,
+    NamedField,
+    UnnamedField,
+    FieldsNamed,
     FieldsUnnamed,
+    ItemEnum,
+    ItemStruct,
+    ItemUnion,
 }
 
 impl Kind {
@@ -20,7 +27,14 @@ impl Kind {
         match word {
             "derive" => Some(Kind::Derive),
             "visibility" => Some(Kind::Visibility),
+            "variant" => Some(Kind::Variant),
+            "named-field" => Some(Kind::NamedField),
+            "unnamed-field" => Some(Kind::UnnamedField),
+            "fields-named" => Some(Kind::FieldsNamed),
             "fields-unnamed" => Some(Kind::FieldsUnnamed),
+            "item-enum" => Some(Kind::ItemEnum),
+            "item-struct" => Some(Kind::ItemStruct),
+            "item-union" => Some(Kind::ItemUnion),
             _ => None,
         }
     }

@@ -2,7 +2,7 @@
 -- What each rule reads is what its form reads.
 use Rattle.std.specs.Prelude.{◌≡◌}
 use Rattle.syn_grammar.specs.Tokens.{Stream}
-use Rattle.syn_grammar.specs.Rules.{attributes, inner_attributes, no_attributes, meta, unsafe_path, unsafe_word, meta_value, module_path, module_words, visibility, restriction, type_path, type_words, type_arguments, return_type, generic_arguments, generic_argument, qualified_path, path_as_type, type, types, expression, generics, lifetime_parameter, lifetimes, parameter_bounds, bound, trait_bound, bound_lifetimes, lifetime_parameters, where_clause, predicates, predicate, predicate_bounds, fields_named, named_fields, named_field, nameless_fields, unnamed_field, unnamed_fields, fields_unnamed, variant, variants, structure, structure_rest, structure_body, enumeration, enumeration_rest, union_item, union_item_rest, derive_input, plain_type_path, plain_type, plain_unnamed_field, plain_unnamed_fields, plain_fields_unnamed, plain_structure_body, plain_structure, plain_derive_input}
+use Rattle.syn_grammar.specs.Rules.{attributes, inner_attributes, no_attributes, meta, unsafe_path, unsafe_word, meta_value, module_path, module_words, visibility, restriction, type_path, type_words, type_arguments, return_type, generic_arguments, generic_argument, qualified_path, path_as_type, type, types, expression, generics, lifetime_parameter, lifetimes, parameter_bounds, bound, trait_bound, bound_lifetimes, lifetime_parameters, where_clause, predicates, predicate, predicate_bounds, fields_named, named_fields, named_field, nameless_fields, unnamed_field, unnamed_fields, fields_unnamed, variant, variants, structure, structure_rest, structure_body, enumeration, enumeration_rest, union_item, union_item_rest, derive_input}
 use Rattle.syn_grammar.specs.Grammar.{Node}
 use Rattle.syn_grammar.specs.Table.{table}
 use Rattle.syn_grammar.specs.Run.{wrap, parse_rule, parse_form}
@@ -160,27 +160,3 @@ union_item_rest_is = parse_rule_is union_item_rest
 
 pub derive_input_is : (ts : Stream) → parse_rule derive_input ts ≡ wrap Node (parse_form (table derive_input) ts)
 derive_input_is = parse_rule_is derive_input
-
-pub plain_type_path_is : (ts : Stream) → parse_rule plain_type_path ts ≡ wrap Node (parse_form (table plain_type_path) ts)
-plain_type_path_is = parse_rule_is plain_type_path
-
-pub plain_type_is : (ts : Stream) → parse_rule plain_type ts ≡ wrap Node (parse_form (table plain_type) ts)
-plain_type_is = parse_rule_is plain_type
-
-pub plain_unnamed_field_is : (ts : Stream) → parse_rule plain_unnamed_field ts ≡ wrap Node (parse_form (table plain_unnamed_field) ts)
-plain_unnamed_field_is = parse_rule_is plain_unnamed_field
-
-pub plain_unnamed_fields_is : (ts : Stream) → parse_rule plain_unnamed_fields ts ≡ wrap Node (parse_form (table plain_unnamed_fields) ts)
-plain_unnamed_fields_is = parse_rule_is plain_unnamed_fields
-
-pub plain_fields_unnamed_is : (ts : Stream) → parse_rule plain_fields_unnamed ts ≡ wrap Node (parse_form (table plain_fields_unnamed) ts)
-plain_fields_unnamed_is = parse_rule_is plain_fields_unnamed
-
-pub plain_structure_body_is : (ts : Stream) → parse_rule plain_structure_body ts ≡ wrap Node (parse_form (table plain_structure_body) ts)
-plain_structure_body_is = parse_rule_is plain_structure_body
-
-pub plain_structure_is : (ts : Stream) → parse_rule plain_structure ts ≡ wrap Node (parse_form (table plain_structure) ts)
-plain_structure_is = parse_rule_is plain_structure
-
-pub plain_derive_input_is : (ts : Stream) → parse_rule plain_derive_input ts ≡ wrap Node (parse_form (table plain_derive_input) ts)
-plain_derive_input_is = parse_rule_is plain_derive_input

@@ -36,7 +36,6 @@ mod ExamplesOfFields
 mod ExamplesOfGenerics
 mod ExamplesOfItems
 mod ExamplesOfPaths
-mod ExamplesOfPlain
 mod ExamplesOfTypes
 pub mod Shapes
 pub mod Same

@@ -2,7 +2,7 @@
 -- How many rules may call one another before anything is read.
 use Rattle.std.proofs.Common.{◌≡◌, ℕ, true, refl}
 use Rattle.std.specs.Prelude.{nat_lt}
-use Rattle.syn_grammar.specs.Rules.{Rule, attributes, inner_attributes, no_attributes, meta, unsafe_path, unsafe_word, meta_value, module_path, module_words, visibility, restriction, type_path, type_words, type_arguments, return_type, generic_arguments, generic_argument, qualified_path, path_as_type, type, types, expression, generics, lifetime_parameter, lifetimes, parameter_bounds, bound, trait_bound, bound_lifetimes, lifetime_parameters, where_clause, predicates, predicate, predicate_bounds, fields_named, named_fields, named_field, nameless_fields, unnamed_field, unnamed_fields, fields_unnamed, variant, variants, structure, structure_rest, structure_body, enumeration, enumeration_rest, union_item, union_item_rest, derive_input, plain_type_path, plain_type, plain_unnamed_field, plain_unnamed_fields, plain_fields_unnamed, plain_structure_body, plain_structure, plain_derive_input}
+use Rattle.syn_grammar.specs.Rules.{Rule, attributes, inner_attributes, no_attributes, meta, unsafe_path, unsafe_word, meta_value, module_path, module_words, visibility, restriction, type_path, type_words, type_arguments, return_type, generic_arguments, generic_argument, qualified_path, path_as_type, type, types, expression, generics, lifetime_parameter, lifetimes, parameter_bounds, bound, trait_bound, bound_lifetimes, lifetime_parameters, where_clause, predicates, predicate, predicate_bounds, fields_named, named_fields, named_field, nameless_fields, unnamed_field, unnamed_fields, fields_unnamed, variant, variants, structure, structure_rest, structure_body, enumeration, enumeration_rest, union_item, union_item_rest, derive_input}
 use Rattle.syn_grammar.specs.Table.{table}
 use Rattle.syn_grammar.proofs.Said.{start_of}
 use Rattle.syn_grammar.proofs.Low.{low}
@@ -60,14 +60,6 @@ rank enumeration_rest = 1
 rank union_item = 2
 rank union_item_rest = 1
 rank derive_input = 3
-rank plain_type_path = 2
-rank plain_type = 3
-rank plain_unnamed_field = 4
-rank plain_unnamed_fields = 5
-rank plain_fields_unnamed = 0
-rank plain_structure_body = 1
-rank plain_structure = 1
-rank plain_derive_input = 2
 
 -- not too many
 pub ranks_low : (k : Rule) → nat_lt (rank k) 256 ≡ true
@@ -122,14 +114,6 @@ ranks_low enumeration_rest = refl
 ranks_low union_item = refl
 ranks_low union_item_rest = refl
 ranks_low derive_input = refl
-ranks_low plain_type_path = refl
-ranks_low plain_type = refl
-ranks_low plain_unnamed_field = refl
-ranks_low plain_unnamed_fields = refl
-ranks_low plain_fields_unnamed = refl
-ranks_low plain_structure_body = refl
-ranks_low plain_structure = refl
-ranks_low plain_derive_input = refl
 
 -- each of them has a lower rank, so no rule comes back to itself
 pub lookaheads_low : (k : Rule) → low start_of rank (rank k) (table k) ≡ true
@@ -184,11 +168,3 @@ lookaheads_low enumeration_rest = refl
 lookaheads_low union_item = refl
 lookaheads_low union_item_rest = refl
 lookaheads_low derive_input = refl
-lookaheads_low plain_type_path = refl
-lookaheads_low plain_type = refl
-lookaheads_low plain_unnamed_field = refl
-lookaheads_low plain_unnamed_fields = refl
-lookaheads_low plain_fields_unnamed = refl
-lookaheads_low plain_structure_body = refl
-lookaheads_low plain_structure = refl
-lookaheads_low plain_derive_input = refl

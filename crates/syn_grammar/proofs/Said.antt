@@ -3,7 +3,7 @@
 use Rattle.std.proofs.Common.{◌≡◌, Bool, true, false, [], ◌∷◌, refl, sym, true≢false}
 use Rattle.syn_grammar.specs.Words.{w_underscore, w_as, w_crate, w_enum, w_false, w_for, w_impl, w_in, w_pub, w_Self_type, w_self, w_struct, w_super, w_trait, w_true, w_unsafe, w_where, w_union, w_auto, w_default, w_safe, semicolon, equals, star, less, pound, ampersand, question, lifetime_mark, exclamation, colons, arrow, equal_equal, not_equals, less_less, less_equals, and_and, star_equals, ampersand_equals, less_less_equals}
 use Rattle.syn_grammar.specs.Tokens.{Paren, Brace, Bracket, None, Str, ByteStr, CStr, Byte, Char, Int, Float, Ended, Name, Word, Punctuation, Literal, Delimited, Before_equals, Bang_brace, Bang_name, Bang_group, ended, at_name, at_word, ahead, ◌or_else◌, ◌and_also◌, ◌but_not◌, at_lifetime, at_path_rest}
-use Rattle.syn_grammar.specs.Rules.{Rule, attributes, inner_attributes, no_attributes, meta, unsafe_path, unsafe_word, meta_value, module_path, module_words, visibility, restriction, type_path, type_words, type_arguments, return_type, generic_arguments, generic_argument, qualified_path, path_as_type, type, types, expression, generics, lifetime_parameter, lifetimes, parameter_bounds, bound, trait_bound, bound_lifetimes, lifetime_parameters, where_clause, predicates, predicate, predicate_bounds, fields_named, named_fields, named_field, nameless_fields, unnamed_field, unnamed_fields, fields_unnamed, variant, variants, structure, structure_rest, structure_body, enumeration, enumeration_rest, union_item, union_item_rest, derive_input, plain_type_path, plain_type, plain_unnamed_field, plain_unnamed_fields, plain_fields_unnamed, plain_structure_body, plain_structure, plain_derive_input}
+use Rattle.syn_grammar.specs.Rules.{Rule, attributes, inner_attributes, no_attributes, meta, unsafe_path, unsafe_word, meta_value, module_path, module_words, visibility, restriction, type_path, type_words, type_arguments, return_type, generic_arguments, generic_argument, qualified_path, path_as_type, type, types, expression, generics, lifetime_parameter, lifetimes, parameter_bounds, bound, trait_bound, bound_lifetimes, lifetime_parameters, where_clause, predicates, predicate, predicate_bounds, fields_named, named_fields, named_field, nameless_fields, unnamed_field, unnamed_fields, fields_unnamed, variant, variants, structure, structure_rest, structure_body, enumeration, enumeration_rest, union_item, union_item_rest, derive_input}
 use Rattle.syn_grammar.specs.Table.{at_colons, at_colon, at_equals, at_comma, at_pound, at_inner_attribute, at_plus, at_less, at_less_only, at_greater, at_arrow, at_paren, at_brace, at_bracket, at_arguments, at_restriction, at_parameter_end, at_predicate_end, table}
 use Rattle.syn_grammar.proofs.FirstSets.{Start, IsSaid}
 use Rattle.syn_grammar.proofs.NeverFollow.{IsOff}
@@ -66,14 +66,6 @@ start_of enumeration_rest = record { first_set = Word w_pub ∷ Word w_enum ∷ 
 start_of union_item = record { first_set = Punctuation pound ∷ Word w_pub ∷ Word w_union ∷ []; nullable = false; never_follow = [] }
 start_of union_item_rest = record { first_set = Word w_pub ∷ Word w_union ∷ []; nullable = false; never_follow = [] }
 start_of derive_input = record { first_set = Punctuation pound ∷ Word w_pub ∷ Word w_struct ∷ Word w_enum ∷ Word w_union ∷ []; nullable = false; never_follow = [] }
-start_of plain_type_path = record { first_set = Name ∷ Punctuation colons ∷ Word w_Self_type ∷ Word w_auto ∷ Word w_crate ∷ Word w_default ∷ Word w_safe ∷ Word w_self ∷ Word w_super ∷ Word w_union ∷ []; nullable = false; never_follow = at_colons ∷ [] }
-start_of plain_type = record { first_set = Name ∷ Punctuation colons ∷ Word w_Self_type ∷ Word w_auto ∷ Word w_crate ∷ Word w_default ∷ Word w_safe ∷ Word w_self ∷ Word w_super ∷ Word w_union ∷ []; nullable = false; never_follow = at_colons ∷ [] }
-start_of plain_unnamed_field = record { first_set = Word w_pub ∷ Name ∷ Punctuation colons ∷ Word w_Self_type ∷ Word w_auto ∷ Word w_crate ∷ Word w_default ∷ Word w_safe ∷ Word w_self ∷ Word w_super ∷ Word w_union ∷ []; nullable = false; never_follow = at_equals ∷ [] }
-start_of plain_unnamed_fields = record { first_set = Name ∷ Punctuation colons ∷ Word w_Self_type ∷ Word w_auto ∷ Word w_crate ∷ Word w_default ∷ Word w_pub ∷ Word w_safe ∷ Word w_self ∷ Word w_super ∷ Word w_union ∷ []; nullable = true; never_follow = [] }
-start_of plain_fields_unnamed = record { first_set = Delimited Paren ∷ []; nullable = false; never_follow = [] }
-start_of plain_structure_body = record { first_set = Delimited Paren ∷ Punctuation semicolon ∷ []; nullable = false; never_follow = [] }
-start_of plain_structure = record { first_set = Word w_pub ∷ Word w_struct ∷ []; nullable = false; never_follow = [] }
-start_of plain_derive_input = record { first_set = Word w_pub ∷ Word w_struct ∷ []; nullable = false; never_follow = [] }
 
 -- it ends by itself
 abbrev pub closed_of : Rule → Bool
@@ -128,14 +120,6 @@ closed_of enumeration_rest = true
 closed_of union_item = true
 closed_of union_item_rest = true
 closed_of derive_input = true
-closed_of plain_type_path = false
-closed_of plain_type = false
-closed_of plain_unnamed_field = false
-closed_of plain_unnamed_fields = false
-closed_of plain_fields_unnamed = true
-closed_of plain_structure_body = true
-closed_of plain_structure = true
-closed_of plain_derive_input = true
 
 -- somebody asks for the facts of its lookahead
 abbrev pub heard_of : Rule → Bool
@@ -190,14 +174,6 @@ heard_of enumeration_rest = false
 heard_of union_item = false
 heard_of union_item_rest = false
 heard_of derive_input = false
-heard_of plain_type_path = true
-heard_of plain_type = true
-heard_of plain_unnamed_field = true
-heard_of plain_unnamed_fields = true
-heard_of plain_fields_unnamed = false
-heard_of plain_structure_body = false
-heard_of plain_structure = false
-heard_of plain_derive_input = false
 
 -- how its print may differ from what it read
 abbrev pub summary_of : Bool → Rule → Summary
@@ -252,14 +228,6 @@ summary_of false enumeration_rest = record { stays = Word w_pub ∷ Word w_enum 
 summary_of false union_item = record { stays = Word w_pub ∷ []; moves = move (Punctuation pound) (Punctuation pound) [] ∷ move (Word w_union) (Word w_union) [] ∷ []; nullable = false; gone = []; ends = []; halts = []; shuns = [] }
 summary_of false union_item_rest = record { stays = Word w_pub ∷ []; moves = move (Word w_union) (Word w_union) [] ∷ []; nullable = false; gone = []; ends = []; halts = []; shuns = [] }
 summary_of false derive_input = record { stays = Word w_pub ∷ Word w_struct ∷ Word w_enum ∷ []; moves = move (Punctuation pound) (Punctuation pound) [] ∷ move (Word w_union) (Word w_union) [] ∷ []; nullable = false; gone = []; ends = []; halts = []; shuns = [] }
-summary_of false plain_type_path = record { stays = []; moves = move (Punctuation colons) (Punctuation colons) [] ∷ move Name Name [] ∷ move (Word w_union) (Word w_union) [] ∷ move (Word w_auto) (Word w_auto) [] ∷ move (Word w_default) (Word w_default) [] ∷ move (Word w_safe) (Word w_safe) [] ∷ move (Word w_self) (Word w_self) [] ∷ move (Word w_Self_type) (Word w_Self_type) [] ∷ move (Word w_super) (Word w_super) [] ∷ move (Word w_crate) (Word w_crate) [] ∷ []; nullable = false; gone = []; ends = []; halts = at_colons ∷ []; shuns = [] }
-summary_of false plain_type = record { stays = []; moves = move (Punctuation colons) (Punctuation colons) [] ∷ move Name Name [] ∷ move (Word w_union) (Word w_union) [] ∷ move (Word w_auto) (Word w_auto) [] ∷ move (Word w_default) (Word w_default) [] ∷ move (Word w_safe) (Word w_safe) [] ∷ move (Word w_self) (Word w_self) [] ∷ move (Word w_Self_type) (Word w_Self_type) [] ∷ move (Word w_super) (Word w_super) [] ∷ move (Word w_crate) (Word w_crate) [] ∷ []; nullable = false; gone = []; ends = []; halts = at_colons ∷ []; shuns = [] }
-summary_of false plain_unnamed_field = record { stays = Word w_pub ∷ Punctuation colons ∷ Name ∷ Word w_union ∷ Word w_auto ∷ Word w_default ∷ Word w_safe ∷ Word w_self ∷ Word w_Self_type ∷ Word w_super ∷ Word w_crate ∷ []; moves = []; nullable = false; gone = []; ends = (at_equals but_not at_equals) ∷ at_paren ∷ at_less ∷ ((at_colons or_else at_less_only or_else at_paren or_else at_word w_as) but_not at_colons) ∷ (at_colons but_not at_colons) ∷ ((at_path_rest and_also ahead Bang_brace) but_not at_colons) ∷ ((at_path_rest and_also ahead Bang_name) but_not at_colons) ∷ ((at_path_rest and_also ahead Bang_group) but_not at_colons) ∷ at_name ∷ at_brace ∷ at_word w_trait ∷ (at_word w_unsafe or_else at_word w_impl) ∷ ended ∷ []; halts = at_equals ∷ at_colons ∷ []; shuns = [] }
-summary_of false plain_unnamed_fields = record { stays = Word w_pub ∷ Punctuation colons ∷ Name ∷ Word w_union ∷ Word w_auto ∷ Word w_default ∷ Word w_safe ∷ Word w_self ∷ Word w_Self_type ∷ Word w_super ∷ Word w_crate ∷ []; moves = []; nullable = true; gone = []; ends = ended ∷ (at_equals but_not at_equals) ∷ at_paren ∷ at_less ∷ ((at_colons or_else at_less_only or_else at_paren or_else at_word w_as) but_not at_colons) ∷ (at_colons but_not at_colons) ∷ ((at_path_rest and_also ahead Bang_brace) but_not at_colons) ∷ ((at_path_rest and_also ahead Bang_name) but_not at_colons) ∷ ((at_path_rest and_also ahead Bang_group) but_not at_colons) ∷ at_name ∷ at_brace ∷ at_word w_trait ∷ (at_word w_unsafe or_else at_word w_impl) ∷ []; halts = at_comma ∷ at_equals ∷ at_colons ∷ []; shuns = [] }
-summary_of false plain_fields_unnamed = record { stays = Delimited Paren ∷ []; moves = []; nullable = false; gone = []; ends = []; halts = []; shuns = [] }
-summary_of false plain_structure_body = record { stays = Delimited Paren ∷ Punctuation semicolon ∷ []; moves = []; nullable = false; gone = []; ends = []; halts = []; shuns = [] }
-summary_of false plain_structure = record { stays = Word w_pub ∷ Word w_struct ∷ []; moves = []; nullable = false; gone = []; ends = []; halts = []; shuns = [] }
-summary_of false plain_derive_input = record { stays = Word w_pub ∷ Word w_struct ∷ []; moves = []; nullable = false; gone = []; ends = []; halts = []; shuns = [] }
 summary_of true attributes = record { stays = []; moves = move (Punctuation pound) (Punctuation pound) [] ∷ []; nullable = true; gone = []; ends = []; halts = at_pound ∷ []; shuns = [] }
 summary_of true inner_attributes = record { stays = []; moves = []; nullable = false; gone = []; ends = []; halts = []; shuns = [] }
 summary_of true no_attributes = record { stays = []; moves = []; nullable = true; gone = []; ends = []; halts = at_pound ∷ []; shuns = [] }
@@ -311,14 +279,6 @@ summary_of true enumeration_rest = record { stays = []; moves = []; nullable = f
 summary_of true union_item = record { stays = []; moves = []; nullable = false; gone = []; ends = []; halts = []; shuns = [] }
 summary_of true union_item_rest = record { stays = []; moves = []; nullable = false; gone = []; ends = []; halts = []; shuns = [] }
 summary_of true derive_input = record { stays = []; moves = []; nullable = false; gone = []; ends = []; halts = []; shuns = [] }
-summary_of true plain_type_path = record { stays = Punctuation colons ∷ Name ∷ Word w_union ∷ Word w_auto ∷ Word w_default ∷ Word w_safe ∷ Word w_self ∷ Word w_Self_type ∷ Word w_super ∷ Word w_crate ∷ []; moves = []; nullable = false; gone = []; ends = at_equals ∷ at_paren ∷ at_less ∷ ((at_colons or_else at_less_only or_else at_paren or_else at_word w_as) but_not at_colons) ∷ (at_colons but_not at_colons) ∷ ((at_path_rest and_also ahead Bang_brace) but_not at_colons) ∷ ((at_path_rest and_also ahead Bang_name) but_not at_colons) ∷ ((at_path_rest and_also ahead Bang_group) but_not at_colons) ∷ at_name ∷ at_brace ∷ at_word w_trait ∷ (at_word w_unsafe or_else at_word w_impl) ∷ ended ∷ []; halts = at_colons ∷ []; shuns = [] }
-summary_of true plain_type = record { stays = Punctuation colons ∷ Name ∷ Word w_union ∷ Word w_auto ∷ Word w_default ∷ Word w_safe ∷ Word w_self ∷ Word w_Self_type ∷ Word w_super ∷ Word w_crate ∷ []; moves = []; nullable = false; gone = []; ends = at_equals ∷ at_paren ∷ at_less ∷ ((at_colons or_else at_less_only or_else at_paren or_else at_word w_as) but_not at_colons) ∷ (at_colons but_not at_colons) ∷ ((at_path_rest and_also ahead Bang_brace) but_not at_colons) ∷ ((at_path_rest and_also ahead Bang_name) but_not at_colons) ∷ ((at_path_rest and_also ahead Bang_group) but_not at_colons) ∷ at_name ∷ at_brace ∷ at_word w_trait ∷ (at_word w_unsafe or_else at_word w_impl) ∷ ended ∷ []; halts = at_colons ∷ []; shuns = [] }
-summary_of true plain_unnamed_field = record { stays = Word w_pub ∷ Punctuation colons ∷ Name ∷ Word w_union ∷ Word w_auto ∷ Word w_default ∷ Word w_safe ∷ Word w_self ∷ Word w_Self_type ∷ Word w_super ∷ Word w_crate ∷ []; moves = []; nullable = false; gone = []; ends = (at_equals but_not at_equals) ∷ at_paren ∷ at_less ∷ ((at_colons or_else at_less_only or_else at_paren or_else at_word w_as) but_not at_colons) ∷ (at_colons but_not at_colons) ∷ ((at_path_rest and_also ahead Bang_brace) but_not at_colons) ∷ ((at_path_rest and_also ahead Bang_name) but_not at_colons) ∷ ((at_path_rest and_also ahead Bang_group) but_not at_colons) ∷ at_name ∷ at_brace ∷ at_word w_trait ∷ (at_word w_unsafe or_else at_word w_impl) ∷ ended ∷ []; halts = at_equals ∷ at_colons ∷ []; shuns = [] }
-summary_of true plain_unnamed_fields = record { stays = Word w_pub ∷ Punctuation colons ∷ Name ∷ Word w_union ∷ Word w_auto ∷ Word w_default ∷ Word w_safe ∷ Word w_self ∷ Word w_Self_type ∷ Word w_super ∷ Word w_crate ∷ []; moves = []; nullable = true; gone = []; ends = ended ∷ (at_equals but_not at_equals) ∷ at_paren ∷ at_less ∷ ((at_colons or_else at_less_only or_else at_paren or_else at_word w_as) but_not at_colons) ∷ (at_colons but_not at_colons) ∷ ((at_path_rest and_also ahead Bang_brace) but_not at_colons) ∷ ((at_path_rest and_also ahead Bang_name) but_not at_colons) ∷ ((at_path_rest and_also ahead Bang_group) but_not at_colons) ∷ at_name ∷ at_brace ∷ at_word w_trait ∷ (at_word w_unsafe or_else at_word w_impl) ∷ []; halts = at_comma ∷ at_equals ∷ at_colons ∷ []; shuns = [] }
-summary_of true plain_fields_unnamed = record { stays = []; moves = []; nullable = false; gone = []; ends = []; halts = []; shuns = [] }
-summary_of true plain_structure_body = record { stays = []; moves = []; nullable = false; gone = []; ends = []; halts = []; shuns = [] }
-summary_of true plain_structure = record { stays = []; moves = []; nullable = false; gone = []; ends = []; halts = []; shuns = [] }
-summary_of true plain_derive_input = record { stays = []; moves = []; nullable = false; gone = []; ends = []; halts = []; shuns = [] }
 
 -- so it is
 pub starts_hold : IsSaid start_of table
@@ -373,14 +333,6 @@ starts_hold enumeration_rest = (refl, λ e. e)
 starts_hold union_item = (refl, λ e. e)
 starts_hold union_item_rest = (refl, λ e. e)
 starts_hold derive_input = (refl, λ e. e)
-starts_hold plain_type_path = (refl, λ e. e)
-starts_hold plain_type = (refl, λ e. e)
-starts_hold plain_unnamed_field = (refl, λ e. e)
-starts_hold plain_unnamed_fields = (refl, λ e. refl)
-starts_hold plain_fields_unnamed = (refl, λ e. e)
-starts_hold plain_structure_body = (refl, λ e. e)
-starts_hold plain_structure = (refl, λ e. e)
-starts_hold plain_derive_input = (refl, λ e. e)
 
 -- nor do these
 pub never_follow_hold : IsOff start_of table
@@ -435,14 +387,6 @@ never_follow_hold enumeration_rest = refl
 never_follow_hold union_item = refl
 never_follow_hold union_item_rest = refl
 never_follow_hold derive_input = refl
-never_follow_hold plain_type_path = refl
-never_follow_hold plain_type = refl
-never_follow_hold plain_unnamed_field = refl
-never_follow_hold plain_unnamed_fields = refl
-never_follow_hold plain_fields_unnamed = refl
-never_follow_hold plain_structure_body = refl
-never_follow_hold plain_structure = refl
-never_follow_hold plain_derive_input = refl
 
 -- nothing is asked behind it
 pub closed_hold : (k : Rule) → closed_of k ≡ true → closes closed_of (table k) ≡ true
@@ -497,14 +441,6 @@ closed_hold enumeration_rest e = refl
 closed_hold union_item e = refl
 closed_hold union_item_rest e = refl
 closed_hold derive_input e = refl
-closed_hold plain_type_path e = absurd (true≢false (sym e))
-closed_hold plain_type e = absurd (true≢false (sym e))
-closed_hold plain_unnamed_field e = absurd (true≢false (sym e))
-closed_hold plain_unnamed_fields e = absurd (true≢false (sym e))
-closed_hold plain_fields_unnamed e = refl
-closed_hold plain_structure_body e = refl
-closed_hold plain_structure e = refl
-closed_hold plain_derive_input e = refl
 
 -- no stream is read by two forms of a union
 pub unions_hold : (k : Rule) → sound table start_of (table k) ≡ true
@@ -559,14 +495,6 @@ unions_hold enumeration_rest = refl
 unions_hold union_item = refl
 unions_hold union_item_rest = refl
 unions_hold derive_input = refl
-unions_hold plain_type_path = refl
-unions_hold plain_type = refl
-unions_hold plain_unnamed_field = refl
-unions_hold plain_unnamed_fields = refl
-unions_hold plain_fields_unnamed = refl
-unions_hold plain_structure_body = refl
-unions_hold plain_structure = refl
-unions_hold plain_derive_input = refl
 
 -- its summary covers what its form prints
 pub summaries_hold : IsSummary summary_of heard_of start_of closed_of table
@@ -621,14 +549,6 @@ summaries_hold false enumeration_rest e = (refl, refl)
 summaries_hold false union_item e = (refl, refl)
 summaries_hold false union_item_rest e = (refl, refl)
 summaries_hold false derive_input e = (refl, refl)
-summaries_hold false plain_type_path e = (refl, refl)
-summaries_hold false plain_type e = (refl, refl)
-summaries_hold false plain_unnamed_field e = (refl, refl)
-summaries_hold false plain_unnamed_fields e = (refl, refl)
-summaries_hold false plain_fields_unnamed e = (refl, refl)
-summaries_hold false plain_structure_body e = (refl, refl)
-summaries_hold false plain_structure e = (refl, refl)
-summaries_hold false plain_derive_input e = (refl, refl)
 summaries_hold true attributes e = (refl, refl)
 summaries_hold true inner_attributes e = absurd (true≢false (sym e))
 summaries_hold true no_attributes e = (refl, refl)
@@ -680,14 +600,6 @@ summaries_hold true enumeration_rest e = absurd (true≢false (sym e))
 summaries_hold true union_item e = absurd (true≢false (sym e))
 summaries_hold true union_item_rest e = absurd (true≢false (sym e))
 summaries_hold true derive_input e = absurd (true≢false (sym e))
-summaries_hold true plain_type_path e = (refl, refl)
-summaries_hold true plain_type e = (refl, refl)
-summaries_hold true plain_unnamed_field e = (refl, refl)
-summaries_hold true plain_unnamed_fields e = (refl, refl)
-summaries_hold true plain_fields_unnamed e = absurd (true≢false (sym e))
-summaries_hold true plain_structure_body e = absurd (true≢false (sym e))
-summaries_hold true plain_structure e = absurd (true≢false (sym e))
-summaries_hold true plain_derive_input e = absurd (true≢false (sym e))
 
 -- nothing that may not follow is the end
 pub ends_hold : (k : Rule) → clear (summary_of false k).shuns Ended ≡ true
@@ -742,11 +654,3 @@ ends_hold enumeration_rest = refl
 ends_hold union_item = refl
 ends_hold union_item_rest = refl
 ends_hold derive_input = refl
-ends_hold plain_type_path = refl
-ends_hold plain_type = refl
-ends_hold plain_unnamed_field = refl
-ends_hold plain_unnamed_fields = refl
-ends_hold plain_fields_unnamed = refl
-ends_hold plain_structure_body = refl
-ends_hold plain_structure = refl
-ends_hold plain_derive_input = refl

@@ -1,7 +1,7 @@
 -- Written by tools/grammar.py from specs/Table.antt; edits are lost.
 -- Rules are told apart by their numbers.
 use Rattle.std.specs.Prelude.{◌≡◌, ℕ, zero, suc, Bool, List, [], ◌∷◌, nat_eq, refl}
-use Rattle.syn_grammar.specs.Rules.{Rule, attributes, inner_attributes, no_attributes, meta, unsafe_path, unsafe_word, meta_value, module_path, module_words, visibility, restriction, type_path, type_words, type_arguments, return_type, generic_arguments, generic_argument, qualified_path, path_as_type, type, types, expression, generics, lifetime_parameter, lifetimes, parameter_bounds, bound, trait_bound, bound_lifetimes, lifetime_parameters, where_clause, predicates, predicate, predicate_bounds, fields_named, named_fields, named_field, nameless_fields, unnamed_field, unnamed_fields, fields_unnamed, variant, variants, structure, structure_rest, structure_body, enumeration, enumeration_rest, union_item, union_item_rest, derive_input, plain_type_path, plain_type, plain_unnamed_field, plain_unnamed_fields, plain_fields_unnamed, plain_structure_body, plain_structure, plain_derive_input}
+use Rattle.syn_grammar.specs.Rules.{Rule, attributes, inner_attributes, no_attributes, meta, unsafe_path, unsafe_word, meta_value, module_path, module_words, visibility, restriction, type_path, type_words, type_arguments, return_type, generic_arguments, generic_argument, qualified_path, path_as_type, type, types, expression, generics, lifetime_parameter, lifetimes, parameter_bounds, bound, trait_bound, bound_lifetimes, lifetime_parameters, where_clause, predicates, predicate, predicate_bounds, fields_named, named_fields, named_field, nameless_fields, unnamed_field, unnamed_fields, fields_unnamed, variant, variants, structure, structure_rest, structure_body, enumeration, enumeration_rest, union_item, union_item_rest, derive_input}
 
 abbrev pub place : Rule → ℕ
 place attributes = 0
@@ -55,20 +55,12 @@ place enumeration_rest = 47
 place union_item = 48
 place union_item_rest = 49
 place derive_input = 50
-place plain_type_path = 51
-place plain_type = 52
-place plain_unnamed_field = 53
-place plain_unnamed_fields = 54
-place plain_fields_unnamed = 55
-place plain_structure_body = 56
-place plain_structure = 57
-place plain_derive_input = 58
 
 abbrev pub same_rule : Rule → Rule → Bool
 same_rule a b = nat_eq (place a) (place b)
 
 abbrev pub rules : List Rule
-rules = attributes ∷ inner_attributes ∷ no_attributes ∷ meta ∷ unsafe_path ∷ unsafe_word ∷ meta_value ∷ module_path ∷ module_words ∷ visibility ∷ restriction ∷ type_path ∷ type_words ∷ type_arguments ∷ return_type ∷ generic_arguments ∷ generic_argument ∷ qualified_path ∷ path_as_type ∷ type ∷ types ∷ expression ∷ generics ∷ lifetime_parameter ∷ lifetimes ∷ parameter_bounds ∷ bound ∷ trait_bound ∷ bound_lifetimes ∷ lifetime_parameters ∷ where_clause ∷ predicates ∷ predicate ∷ predicate_bounds ∷ fields_named ∷ named_fields ∷ named_field ∷ nameless_fields ∷ unnamed_field ∷ unnamed_fields ∷ fields_unnamed ∷ variant ∷ variants ∷ structure ∷ structure_rest ∷ structure_body ∷ enumeration ∷ enumeration_rest ∷ union_item ∷ union_item_rest ∷ derive_input ∷ plain_type_path ∷ plain_type ∷ plain_unnamed_field ∷ plain_unnamed_fields ∷ plain_fields_unnamed ∷ plain_structure_body ∷ plain_structure ∷ plain_derive_input ∷ []
+rules = attributes ∷ inner_attributes ∷ no_attributes ∷ meta ∷ unsafe_path ∷ unsafe_word ∷ meta_value ∷ module_path ∷ module_words ∷ visibility ∷ restriction ∷ type_path ∷ type_words ∷ type_arguments ∷ return_type ∷ generic_arguments ∷ generic_argument ∷ qualified_path ∷ path_as_type ∷ type ∷ types ∷ expression ∷ generics ∷ lifetime_parameter ∷ lifetimes ∷ parameter_bounds ∷ bound ∷ trait_bound ∷ bound_lifetimes ∷ lifetime_parameters ∷ where_clause ∷ predicates ∷ predicate ∷ predicate_bounds ∷ fields_named ∷ named_fields ∷ named_field ∷ nameless_fields ∷ unnamed_field ∷ unnamed_fields ∷ fields_unnamed ∷ variant ∷ variants ∷ structure ∷ structure_rest ∷ structure_body ∷ enumeration ∷ enumeration_rest ∷ union_item ∷ union_item_rest ∷ derive_input ∷ []
 
 abbrev pub at_place : List Rule → ℕ → Rule
 at_place [] n = attributes
@@ -128,11 +120,3 @@ back enumeration_rest = refl
 back union_item = refl
 back union_item_rest = refl
 back derive_input = refl
-back plain_type_path = refl
-back plain_type = refl
-back plain_unnamed_field = refl
-back plain_unnamed_fields = refl
-back plain_fields_unnamed = refl
-back plain_structure_body = refl
-back plain_structure = refl
-back plain_derive_input = refl

@@ -52,11 +52,3 @@ pub data Rule : Type 0 where
   union_item : Rule
   union_item_rest : Rule
   derive_input : Rule
-  plain_type_path : Rule
-  plain_type : Rule
-  plain_unnamed_field : Rule
-  plain_unnamed_fields : Rule
-  plain_fields_unnamed : Rule
-  plain_structure_body : Rule
-  plain_structure : Rule
-  plain_derive_input : Rule

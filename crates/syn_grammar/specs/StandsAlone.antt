@@ -2,7 +2,7 @@
 -- Of which rules what is shown is read again, and where what was read before a rest is read at the end; the proofs compute each line again.
 use Rattle.std.specs.Prelude.{Bool, true, false, List, [], ◌∷◌}
 use Rattle.syn_grammar.specs.Words.{Text, comma, semicolon}
-use Rattle.syn_grammar.specs.Rules.{Rule, attributes, inner_attributes, no_attributes, meta, unsafe_path, unsafe_word, meta_value, module_path, module_words, visibility, restriction, type_path, type_words, type_arguments, return_type, generic_arguments, generic_argument, qualified_path, path_as_type, type, types, expression, generics, lifetime_parameter, lifetimes, parameter_bounds, bound, trait_bound, bound_lifetimes, lifetime_parameters, where_clause, predicates, predicate, predicate_bounds, fields_named, named_fields, named_field, nameless_fields, unnamed_field, unnamed_fields, fields_unnamed, variant, variants, structure, structure_rest, structure_body, enumeration, enumeration_rest, union_item, union_item_rest, derive_input, plain_type_path, plain_type, plain_unnamed_field, plain_unnamed_fields, plain_fields_unnamed, plain_structure_body, plain_structure, plain_derive_input}
+use Rattle.syn_grammar.specs.Rules.{Rule, attributes, inner_attributes, no_attributes, meta, unsafe_path, unsafe_word, meta_value, module_path, module_words, visibility, restriction, type_path, type_words, type_arguments, return_type, generic_arguments, generic_argument, qualified_path, path_as_type, type, types, expression, generics, lifetime_parameter, lifetimes, parameter_bounds, bound, trait_bound, bound_lifetimes, lifetime_parameters, where_clause, predicates, predicate, predicate_bounds, fields_named, named_fields, named_field, nameless_fields, unnamed_field, unnamed_fields, fields_unnamed, variant, variants, structure, structure_rest, structure_body, enumeration, enumeration_rest, union_item, union_item_rest, derive_input}
 
 -- what is shown of its value (all its tokens, in their order) is read as the same value
 abbrev pub reads_shown : Rule → Bool
@@ -57,14 +57,6 @@ reads_shown enumeration_rest = true
 reads_shown union_item = true
 reads_shown union_item_rest = true
 reads_shown derive_input = true
-reads_shown plain_type_path = true
-reads_shown plain_type = true
-reads_shown plain_unnamed_field = true
-reads_shown plain_unnamed_fields = true
-reads_shown plain_fields_unnamed = true
-reads_shown plain_structure_body = true
-reads_shown plain_structure = true
-reads_shown plain_derive_input = true
 
 -- it asks nothing of what follows it that the end may answer otherwise
 abbrev pub stands_alone : Rule → Bool
@@ -119,14 +111,6 @@ stands_alone enumeration_rest = true
 stands_alone union_item = true
 stands_alone union_item_rest = true
 stands_alone derive_input = true
-stands_alone plain_type_path = true
-stands_alone plain_type = true
-stands_alone plain_unnamed_field = false
-stands_alone plain_unnamed_fields = false
-stands_alone plain_fields_unnamed = true
-stands_alone plain_structure_body = true
-stands_alone plain_structure = true
-stands_alone plain_derive_input = true
 
 -- what it asks of what follows it, the end answers as these marks do (of `,` and `;`)
 abbrev pub stands_before : Rule → List Text
@@ -181,11 +165,3 @@ stands_before enumeration_rest = comma ∷ semicolon ∷ []
 stands_before union_item = comma ∷ semicolon ∷ []
 stands_before union_item_rest = comma ∷ semicolon ∷ []
 stands_before derive_input = comma ∷ semicolon ∷ []
-stands_before plain_type_path = comma ∷ semicolon ∷ []
-stands_before plain_type = comma ∷ semicolon ∷ []
-stands_before plain_unnamed_field = []
-stands_before plain_unnamed_fields = []
-stands_before plain_fields_unnamed = comma ∷ semicolon ∷ []
-stands_before plain_structure_body = comma ∷ semicolon ∷ []
-stands_before plain_structure = comma ∷ semicolon ∷ []
-stands_before plain_derive_input = comma ∷ semicolon ∷ []

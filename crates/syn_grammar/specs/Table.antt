@@ -6,7 +6,7 @@
 use Rattle.std.specs.Prelude.{true, false, [], ◌∷◌}
 use Rattle.syn_grammar.specs.Words.{w_underscore, w_as, w_const, w_crate, w_enum, w_false, w_for, w_in, w_mut, w_pub, w_Self_type, w_self, w_struct, w_super, w_true, w_unsafe, w_where, w_union, comma, semicolon, colon, equals, plus, star, less, greater, pound, ampersand, question, exclamation, colons, arrow, less_equals}
 use Rattle.syn_grammar.specs.Tokens.{Paren, Brace, Bracket, None, Str, ByteStr, CStr, Byte, Char, Int, Float, Before_equals, Before_less, Before_bang, Lone_word, Begins_in, Before_brace, Look, ended, at_name, at_word, at_mark, at_literal, at_group, ahead, ◌or_else◌, ◌and_also◌, ◌but_not◌, at_lifetime}
-use Rattle.syn_grammar.specs.Rules.{Rule, attributes, inner_attributes, no_attributes, meta, unsafe_path, unsafe_word, meta_value, module_path, module_words, visibility, restriction, type_path, type_words, type_arguments, return_type, generic_arguments, generic_argument, qualified_path, path_as_type, type, types, expression, generics, lifetime_parameter, lifetimes, parameter_bounds, bound, trait_bound, bound_lifetimes, lifetime_parameters, where_clause, predicates, predicate, predicate_bounds, fields_named, named_fields, named_field, nameless_fields, unnamed_field, unnamed_fields, fields_unnamed, variant, variants, structure, structure_rest, structure_body, enumeration, enumeration_rest, union_item, union_item_rest, derive_input, plain_type_path, plain_type, plain_unnamed_field, plain_unnamed_fields, plain_fields_unnamed, plain_structure_body, plain_structure, plain_derive_input}
+use Rattle.syn_grammar.specs.Rules.{Rule, attributes, inner_attributes, no_attributes, meta, unsafe_path, unsafe_word, meta_value, module_path, module_words, visibility, restriction, type_path, type_words, type_arguments, return_type, generic_arguments, generic_argument, qualified_path, path_as_type, type, types, expression, generics, lifetime_parameter, lifetimes, parameter_bounds, bound, trait_bound, bound_lifetimes, lifetime_parameters, where_clause, predicates, predicate, predicate_bounds, fields_named, named_fields, named_field, nameless_fields, unnamed_field, unnamed_fields, fields_unnamed, variant, variants, structure, structure_rest, structure_body, enumeration, enumeration_rest, union_item, union_item_rest, derive_input}
 use Rattle.syn_grammar.specs.Shape.{untagged}
 use Rattle.syn_grammar.specs.Grammar.{name, word, name_or, any_literal, Grammar, empty, lifetime, ◌&◌, when◌then◌else◌, vanishing, inside, raw, rest_after, one_of, rule, shaped, captured, unshown, ordered}
 use Rattle.syn_grammar.specs.Forms.{plainly, telling, asking, punctuation, asking_punctuation, never, optional}
@@ -458,51 +458,3 @@ table union_item_rest =
 -- The input of a derive: a struct, an enum or a union.
 table derive_input =
     one_of (structure ∷ enumeration ∷ union_item ∷ [])
---
--- A path in a type, as it is read until whole types are trees: a path in module style.
-table plain_type_path =
-    rule module_path
---
--- A type, as it is read until whole types are trees: a path.
-table plain_type =
-    rule plain_type_path
---
--- A field without a name, as it is read until attributes are read and whole types are trees: no attributes, a visibility and a type.
--- A `=` behind it is refused. A colon that a tree made by hand holds is not printed.
-table plain_unnamed_field =
-    rule no_attributes
-    & rule visibility
-    & unshown
-    & rule plain_type
-    & (when at_equals then never else empty)
---
--- Fields without names, each as it is read today: none, or one and, behind a comma, the others. The last comma may stand or not.
-table plain_unnamed_fields =
-    when ended
-    then empty
-    else rule plain_unnamed_field & (when at_comma then punctuation comma & rule plain_unnamed_fields else empty)
---
--- The fields of a tuple struct, each as it is read today, in parentheses.
-table plain_fields_unnamed =
-    inside Paren (rule plain_unnamed_fields)
---
--- What follows a struct's name, as it is read until where clauses and fields with names are trees: its fields in parentheses and `;`,
--- or `;` alone.
-table plain_structure_body =
-    when at_paren
-    then rule plain_fields_unnamed & punctuation semicolon
-    else punctuation semicolon
---
--- A struct, as it is read until attributes are read and generics are trees: no attributes, a visibility, `struct`, a name and a body.
--- Generics that a tree made by hand holds are not printed.
-table plain_structure =
-    rule no_attributes
-    & rule visibility
-    & plainly (word w_struct)
-    & plainly name
-    & unshown
-    & rule plain_structure_body
---
--- The input of a derive, as it is read until enums and unions are trees: a struct.
-table plain_derive_input =
-    one_of (plain_structure ∷ [])

@@ -2,7 +2,7 @@
 //! Their statements stand in specs/Laws.antt. They hold of every token stream, where none is said to be visible.
 
 ghost use Rattle.syn_grammar.specs.Laws.{OneTree, SpansDecideNothing, PrintIsRead, PrintIsVisible, NormalPrints, NormalIsIdempotent, NormalForgetsSpans, SameForm, EndsByItself};
-ghost use Rattle.syn_grammar.specs.Rules.{derive_input, plain_derive_input};
+ghost use Rattle.syn_grammar.specs.Rules.{derive_input};
 
 /// The grammar is unambiguous: from one token stream each rule reads at most one syntax tree, and
 /// leaves one rest. Holds of every token stream.
@@ -51,9 +51,7 @@ pub fn same_form()
 {}
 
 /// The input of a derive ends by itself: what is derived of a token stream is read, as the same tree,
-/// of that stream before any other. It holds of what is read today and of whole inputs, and of every token
-/// stream.
+/// of that stream before any other. It holds of every token stream.
 pub fn derive_input_ends_by_itself()
-    ensures before_everything { EndsByItself plain_derive_input }
-    ensures whole_before_everything { EndsByItself derive_input }
+    ensures before_everything { EndsByItself derive_input }
 {}

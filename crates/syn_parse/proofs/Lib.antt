@@ -6,6 +6,7 @@ pub mod Literals
 pub mod Lookaheads
 pub mod Nexts
 pub mod Refused
+pub mod RowsOf
 pub mod TerminatedLists
 pub mod Wholes
 pub mod Words

@@ -1,7 +1,7 @@
 -- DEFERRED TREES: tokens that are read as a whole, and what they are read as.
 use Rattle.std.specs.Prelude.{◌≡◌, Bool, true, false, List, [], ◌∷◌, Some, None}
 use Rattle.syn_grammar.specs.Tokens.{Stream, end, and}
-use Rattle.syn_grammar.specs.Rules.{Rule, attributes, inner_attributes, no_attributes, meta, unsafe_path, unsafe_word, meta_value, module_path, module_words, visibility, restriction, expression, plain_type_path, plain_type, plain_unnamed_field, plain_unnamed_fields, plain_fields_unnamed, plain_structure_body, plain_structure, plain_derive_input}
+use Rattle.syn_grammar.specs.Rules.{Rule, attributes, inner_attributes, no_attributes, meta, unsafe_path, unsafe_word, meta_value, module_path, module_words, visibility, restriction, expression}
 use Rattle.syn_grammar.specs.Grammar.{Syntax, Nothing, show, Grammar, empty, token, mark, lifetime, ◌&◌, when◌then◌else◌, inside, raw, rest_after, either, one_of, rule, such, shaped, captured, unshown, among}
 use Rattle.syn_grammar.specs.Take.{Out, only, is_end}
 use Rattle.syn_grammar.specs.Run.{parse_rule}
@@ -32,8 +32,7 @@ prints_all said _ = false
 -- rules of which that holds, with all that they lead to; the proof computes each again
 abbrev pub rules_in_order : List Rule
 rules_in_order =
-    attributes ∷ inner_attributes ∷ no_attributes ∷ meta ∷ unsafe_path ∷ unsafe_word ∷ meta_value ∷ module_path ∷ module_words ∷ visibility ∷ restriction ∷ expression
-    ∷ plain_type_path ∷ plain_type ∷ plain_unnamed_field ∷ plain_unnamed_fields ∷ plain_fields_unnamed ∷ plain_structure_body ∷ plain_structure ∷ plain_derive_input ∷ []
+    attributes ∷ inner_attributes ∷ no_attributes ∷ meta ∷ unsafe_path ∷ unsafe_word ∷ meta_value ∷ module_path ∷ module_words ∷ visibility ∷ restriction ∷ expression ∷ []
 
 -- THE TEST
 abbrev pub prints_shown : Rule → Bool

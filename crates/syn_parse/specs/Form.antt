@@ -1,6 +1,6 @@
 -- FORMS: what a type is read by. A form is one of the grammar, a token that the grammar doesn't know, or made of forms.
 -- `parse` says what is computed of a form, `Derives` what it reads, in the words of the grammar; `Meaning` joins the two.
-use Rattle.std.specs.Prelude.{◌≡◌, ◌↔◌, ◌⊎◌, ℕ, ◌<◌, ◌≤◌, Bool, true, false, Option, Some, None, Result, Ok, Err}
+use Rattle.std.specs.Prelude.{◌≡◌, ◌↔◌, ◌⊎◌, ◌<◌, ◌≤◌, Bool, true, false, Some, None, Result, Ok, Err}
 use Rattle.syn_grammar.specs.Words.{Text}
 use Rattle.syn_grammar.specs.Tokens.{Span, Delimiter, ident, Stream, end, leaf, group, visible, same_text, Look, stands, or, and, no}
 use Rattle.syn_grammar.specs.Grammar as grammar

@@ -1,11 +1,11 @@
 -- LISTS WITH SEPARATORS, AS RULES OF THE GRAMMAR READ THEM.
-use Rattle.std.specs.Prelude.{◌≡◌, ℕ, ◌≤◌, Result, Some}
+use Rattle.std.specs.Prelude.{◌≡◌, ℕ, ◌≤◌, Result, Some, None}
 use denote.Ref.{MutBor}
-use Rattle.syn_grammar.specs.Tokens.{Stream}
+use Rattle.syn_grammar.specs.Tokens.{Stream, pick}
 use Rattle.syn_grammar.specs.Rules.{Rule}
-use Rattle.syn_grammar.specs.Grammar.{Syntax, Nothing, Node}
-use Rattle.syn_grammar.specs.Take.{Out, left}
-use Rattle.syn_grammar.specs.Run.{parse_rule, wrap, and_then, branch}
+use Rattle.syn_grammar.specs.Grammar.{Syntax, Nothing, Node, Done}
+use Rattle.syn_grammar.specs.Take.{Out, Parser, left}
+use Rattle.syn_grammar.specs.Run.{parse_rule, wrap, and_then, branch, last, row_comma, rows}
 use Rattle.syn_grammar.specs.Promises.{Computes, Moved}
 use Rattle.syn_parse.specs.Form.{Condition, meets, Form, parse}
 
@@ -21,6 +21,15 @@ pub record IsList (k : Rule) (element : Form) (stop next : Condition) (separator
 -- the rule is one element at least, and others as long as a separator stands next
 pub record IsJoined (k : Rule) (element : Form) (next : Condition) (separator : Form) : Type 0 where
   pub is : (ts : Stream) → parse_rule k ts ≡ wrap Node (element_and_others k element next separator ts)
+
+-- a member of a row, and where a separator stands next, that and the others
+abbrev pub member_and_others : Condition → Form → Parser → Out → Out
+member_and_others next separator others (Some p) = pick (meets next p.1) (row_comma p.0 (parse separator p.1) others) (Some (last p.0, p.1))
+member_and_others next separator others None = None
+
+-- the row of these members goes up to a stop that is not read; the last separator may stand or not
+pub record IsRowOf (member : Form) (stop next : Condition) (separator : Form) : Type 0 where
+  pub is : (ts : Stream) → rows (parse member) ts ≡ pick (meets stop ts) (Some (Done, ts)) (member_and_others next separator (rows (parse member)) (parse member ts))
 
 -- A FUNCTION THAT IS HANDED OVER: it may be called where so many tokens are left, and it answers what a form reads
 pub record Callable {R E T : Type 0} (n : ℕ) (answers : R → Result T E) (pre : MutBor Stream → Type 0) (post : MutBor Stream → R → MutBor Stream → Type 0) : Type 0 where

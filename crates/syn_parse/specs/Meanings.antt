@@ -1,11 +1,10 @@
 -- EVERY WELL-FORMED FORM MEANS WHAT IS COMPUTED OF IT. (The proof stands here, since the types that are read cite it.)
-use Rattle.std.proofs.Common.{◌≡◌, ◌<◌, ◌≤◌, Bool, true, false, Option, Some, None, ◌⊎◌, inl, inr, refl, sym, ap, ◌∙◌, subst, arith}
+use Rattle.std.proofs.Common.{◌≡◌, ◌<◌, ◌≤◌, Bool, true, false, Some, None, ◌⊎◌, inl, inr, refl, sym, ap, ◌∙◌, subst, arith}
 use Rattle.syn_grammar.specs.Words.{Text}
-use Rattle.syn_grammar.specs.Tokens.{Span, Delimiter, Leaf, ident, literal, Stream, end, leaf, punct, group, and, or, no, is_visible, visible, same_text, Look}
+use Rattle.syn_grammar.specs.Tokens.{Span, Delimiter, ident, literal, Stream, end, leaf, punct, group, and, or, no, is_visible, visible, same_text}
 use Rattle.syn_grammar.specs.Rules.{Rule}
-use Rattle.syn_grammar.specs.Grammar.{Grammar, rule, empty, Syntax, Nothing, Token, Both, Left, Right, Group}
-use Rattle.syn_grammar.specs.Table.{table}
-use Rattle.syn_grammar.specs.Take.{Out, Parser, only, left, is_end, sees, Opened, take_group}
+use Rattle.syn_grammar.specs.Grammar.{rule, empty, Syntax, Nothing, Token, Both, Left, Right, Group}
+use Rattle.syn_grammar.specs.Take.{Out, Parser, only, left, take_group}
 use Rattle.syn_grammar.specs.Run.{and_then, branch, wrap, close, within, parse_rule}
 use Rattle.syn_grammar.specs.Promises as says
 use Rattle.syn_grammar.proofs.FirstSets.{nullable}
@@ -15,9 +14,8 @@ use Rattle.syn_grammar.proofs.Takes.{TreeAndRest, inv_only, sees_is, end_told, e
 use Rattle.syn_grammar.proofs.Means.{rest_seen}
 use Rattle.syn_grammar.proofs.Run.{Falls, Less, inv_wrap, inv_then, inv_within, parse_falls, runs_shrinks, parse_rule_less}
 use Rattle.syn_grammar.proofs.Outcomes.{meaning_of as grammar_means}
-use Rattle.syn_parse.specs.Terminated.{terminated}
-use Rattle.syn_parse.specs.Form.{Condition, by, at_keyword, at_punctuation, take_keyword, meets, stands_next, Form, of, keyword, ◌followed_by◌, choice, in_group, list, such_that, optional, if_tree, parse, Derives, NotDerived, reads_some, is_sound, Meaning, ParsesSome}
-use Rattle.syn_parse.specs.TerminatedLists.{Shorter, Law, IsTerminated, terminated_is, list_split, list_found, list_falls}
+use Rattle.syn_parse.specs.Form.{Condition, by, at_keyword, at_punctuation, take_keyword, meets, stands_next, Form, of, keyword, ◌followed_by◌, choice, in_group, list, such_that, optional, if_tree, parse, Derives, NotDerived, reads_some, is_sound, Meaning}
+use Rattle.syn_parse.specs.TerminatedLists.{Shorter, Law, terminated_is, list_split, list_found, list_falls}
 
 -- what a form reads of which token
 pub keyword_less : (x : Text) (ts : Stream) (y : TreeAndRest) → take_keyword x ts ≡ Some y → left y.1 < left ts

@@ -182,8 +182,7 @@ pub fn read_deferred_rest<K: TreeKind>(input: &mut ParseBuffer<'_>) -> Parsed<De
 
 impl<K: Kind> Print for Deferred<K> {
     fn print_in(&self, out: &mut StreamBuilder) -> std::result::Result<(), AllocError> {
-        let copy = self.source().cursor().to_stream(out.alloc())?;
-        out.append(copy)
+        out.append(self.source())
     }
 }
 
@@ -191,7 +190,7 @@ impl<K: Kind> ToTokens for Deferred<K> {}
 
 impl<K: Kind> TryClone for Deferred<K> {
     fn try_clone(&self, alloc: Global) -> Result<Deferred<K>> {
-        let source = self.source.try_clone(alloc)?;
+        let source = self.source().try_clone(alloc)?;
         Ok(Deferred::of(source, alloc)?)
     }
 }

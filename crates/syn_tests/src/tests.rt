@@ -1,17 +1,13 @@
-//! Tests of the library, by examples.
-mod attributes;
+//! The reader of text, fields, variants, items, inputs of derives and deferred trees, by examples.
+mod asserts;
 mod canonical_prints;
 mod copies;
-mod deep;
 mod deferred;
 mod derive_inputs;
 mod fields;
 mod handmade;
-mod literals;
+mod items;
 mod members;
-mod modifiers;
-mod outline;
 mod reader;
 mod scarce_memory;
-mod support;
-mod visibilities;
+mod whole_inputs;

@@ -1,10 +1,10 @@
 -- Marks are printed character by character.
-use Rattle.std.proofs.Common.{◌≡◌, ℕ, zero, suc, ◌+◌, ◌<◌, ◌≤◌, Bool, true, false, nat_lt, List, [], ◌∷◌, length, drop, get_or, refl, ap, sym, ◌∙◌, add-one, arith}
+use Rattle.std.proofs.Common.{◌≡◌, ℕ, zero, suc, ◌+◌, ◌<◌, ◌≤◌, true, nat_lt, List, [], ◌∷◌, length, drop, get_or, refl, ap, sym, ◌∙◌, add-one, arith}
 use Rattle.std.specs.Prelude.{IsTrue}
 use Rattle.std.proofs.lemmas.List.{drop_all}
 use Rattle.std.proofs.lemmas.Bool.Decides.{nat_tests}
 use Rattle.syn_grammar.specs.Words.{Text}
-use Rattle.syn_grammar.specs.Tokens.{Stream, end, punct, ◌⧺◌}
+use Rattle.syn_grammar.specs.Tokens.{end, punct, ◌⧺◌}
 use Rattle.syn_grammar.specs.Grammar.{spell}
 use Rattle.syn_grammar.proofs.Sets.{and_left, and_right}
 use Rattle.syn_tokens.specs.Spans.{at}

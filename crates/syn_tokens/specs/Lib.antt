@@ -19,6 +19,7 @@ pub mod Lists
 pub mod Literals
 pub mod CompactSpans
 pub mod Packed
+pub mod Ordered
 pub mod Places
 pub mod Punct
 pub mod Rows

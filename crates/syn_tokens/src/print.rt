@@ -16,8 +16,8 @@ use std::alloc::AllocError;
 
 /// What prints are made of: here it stands once what each of them adds to the stream that is being built.
 ///
-/// No type leads back to itself yet. Where one will, `print_in` takes the entry points of the recursion as one more
-/// argument, and prints through them what is nested (docs/DESIGN.md, "Open recursion").
+/// What leads back to itself has a function beside this one, which takes what prints it inside as one more argument
+/// (docs/DESIGN.md, "Open recursion").
 pub trait Print: Syntactic {
     /// Adds the tokens at the end. Only memory can be refused; some of the tokens may then stand there, and groups may be
     /// open, but what the builder began with is still what it was.

@@ -1,5 +1,5 @@
 //! Lists with separators.
-ghost use Rattle.std.specs.Prelude.{◌≡◌, ◌++◌, ◌-◌, ◌<◌, ◌∷◌, ◌≢◌, ◌↔◌, ◌⊎◌, [], IfOk, OnOk, OnErr, IfSome, IsTrue, IsSome, MatchOption, None, Some, length, slice_get};
+ghost use Rattle.std.specs.Prelude.{◌≡◌, ◌++◌, ◌-◌, ◌<◌, ◌∷◌, ◌≢◌, ◌↔◌, ◌⊎◌, [], IfOk, IfErr, OnOk, OnErr, IfSome, IsTrue, IsSome, MatchOption, None, Some, length, slice_get};
 ghost use Rattle.std.specs.Option.{option_copied};
 ghost use Rattle.std.specs.Vec.{vec_len, vec_capacity};
 ghost use Rattle.syn_tokens.specs.Lists.{nothing_listed, values};
@@ -163,5 +163,39 @@ impl<T: Drop, P: Drop> Punctuated<T, P> {
             self.inner.push((Box::into_inner(value), punct))?;
         }
         Ok(())
+    }
+
+    /// Adds the values of another list at the end. Where memory is refused, the list stays as it was, and the other is dropped.
+    pub fn append(&mut self, other: Punctuated<T, P>) -> Result<(), AllocError>
+        requires { self.old.last ≡ None }
+        ensures ok { OnOk result (self.new ≡ record { pairs = self.old.pairs ++ other.pairs; last = other.last }) }
+        ensures err { OnErr result (self.new ≡ self.old) }
+    {
+        let Punctuated {
+            inner: mut pairs,
+            last,
+            alloc: _,
+        } = other;
+        if pairs.len() > usize::MAX - 1 - self.inner.len() {
+            return Err(AllocError);
+        }
+        self.inner.append(&mut pairs)?;
+        self.last = last;
+        Ok(())
+    }
+
+    /// The only value of a list of one value that no separator follows; any other list comes back as it was.
+    pub fn into_lone(mut self) -> Result<Box<T>, Punctuated<T, P>>
+        ensures lone { IfOk result (λ value. self ≡ record { pairs = []; last = Some value.value }) }
+        ensures other { IfErr result (λ list. list ≡ self) }
+        ensures missed { OnErr result ((self.pairs ≢ []) ⊎ (self.last ≡ None)) }
+    {
+        if !self.inner.is_empty() {
+            return Err(self);
+        }
+        match self.last.take() {
+            Some(value) => Ok(value),
+            None => Err(self),
+        }
     }
 }

@@ -321,3 +321,6 @@ pub type Brace = Delimiters<kind::Brace>;
 
 /// `[ ]`
 pub type Bracket = Delimiters<kind::Bracket>;
+
+/// The delimiters of an invisible group: no text shows them.
+pub type Group = Delimiters<kind::Group>;

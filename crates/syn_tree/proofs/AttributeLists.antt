@@ -9,7 +9,7 @@ use Rattle.syn_grammar.specs.Take.{Out, sees}
 use Rattle.syn_grammar.specs.Run.{parse_rule, parse_form, wrap, and_then, branch}
 use Rattle.syn_tokens.specs.InOrder.{in_order}
 use Rattle.syn_parse.proofs.Listing.{wrap_wrap, wrap_same}
-use Rattle.syn_tree.specs.Attributes.{every, shown_before, listed, outer_listed, inner_listed, none_listed, is_outer, is_inner, outer_form, inner_form, attributes_syntax, inner_attributes_syntax, syntax_of_Attribute}
+use Rattle.syn_tree.specs.Attributes.{every, shown_before, listed, all_listed, outer_listed, inner_listed, none_listed, is_outer, is_inner, outer_form, inner_form, attributes_syntax, all_attributes_syntax, inner_attributes_syntax, syntax_of_Attribute}
 use Rattle.syn_tree.specs.declared.lower.attr.Attribute.{Attribute}
 
 abbrev all : List Attribute → Syntax
@@ -53,6 +53,15 @@ module _ (test : Syntax → Bool) where
   -- where the test holds of all, all are shown
   pub listed_all : (l : List Attribute) → every test (all l) ≡ true → listed test (all l) ≡ in_front l none_listed
   listed_all l e = ap (λ b. shown_before test (pick b Nothing (all l)) (all l)) e ∙ shown_all Nothing l e
+
+-- where all are printed, they stand so too
+all_listed_is : (l : List Attribute) → all_listed (all l) ≡ in_front l none_listed
+all_listed_is [] = refl
+all_listed_is (a ∷ l) = ap (before_others a) (all_listed_is l)
+
+pub all_outer : (l : List Attribute) → every is_outer (all l) ≡ true → all_attributes_syntax l ≡ attributes_syntax l
+unfolding outer_listed
+all_outer l e = all_listed_is l ∙ sym (listed_all is_outer l e)
 
 -- the rule is attributes of this form, as long as a look holds
 abbrev pub attribute_and_others : Rule → Grammar → Look → Stream → Out

@@ -1,41 +1,64 @@
--- The fields of a list in braces or parentheses, and where paths begin.
-use Rattle.std.proofs.Common.{◌≡◌, List, [], ◌∷◌, ◌++◌, Option, Some, None, refl, ap, ◌∙◌, slice_get, length}
+-- Fields, read, printed and compared.
+use Rattle.std.proofs.Common.{◌≡◌, refl, sym, ap, ◌∙◌}
+use Rattle.std.specs.Prelude.{Option, Some, None, false}
+use Rattle.syn_grammar.specs.Words.{colon, comma}
+use Rattle.syn_grammar.specs.Tokens.{◌⧺◌, and, ended, at_mark}
+use Rattle.syn_grammar.specs.Rules.{named_fields, named_field}
 use Rattle.syn_grammar.specs.Shape.{untagged}
-use Rattle.syn_grammar.specs.Grammar.{Syntax, Both, Shaped, print}
+use Rattle.syn_grammar.specs.Grammar.{Syntax, Nothing, Both, Left, Right, Unshown, Added, Shaped, rule, mark, print, plain_syntax}
+use Rattle.syn_grammar.specs.Same.{same_syntax}
+use Rattle.syn_grammar.proofs.Each.{named_fields_is}
+use Rattle.syn_grammar.proofs.Streams.{append_append}
+use Rattle.syn_tokens.specs.Leaves.{maybe, syntax_of_ident}
 use Rattle.syn_tokens.specs.Idents.{IdentValue}
-use Rattle.syn_tokens.specs.declared.span.Span.{Span}
-use Rattle.syn_tokens.specs.Kinds.{Comma, PathSep, comma_syntax, path_sep_syntax}
-use Rattle.syn_tokens.specs.Leaves.{syntax_of_ident}
-use Rattle.syn_tokens.specs.Lists.{Sequence, firsts, listed, values}
-use Rattle.syn_tokens.specs.Listing.{list_of, joined_of}
-use Rattle.syn_grammar.specs.Promises.{itself}
-use Rattle.syn_tree.specs.Fields.{elements, first_place}
+use Rattle.syn_tokens.specs.Kinds.{Colon, colon_syntax}
+use Rattle.syn_parse.specs.Form.{by, of}
+use Rattle.syn_parse.specs.Listing.{IsList}
+use Rattle.syn_tree.specs.Parts.{first, second, or_added}
+use Rattle.syn_tree.specs.Data.{field_name, field_parts}
+use Rattle.syn_tree.proofs.Compared.{told}
 
-pub elements_listed : (l : List (Syntax × Comma)) (o : Option Syntax) → elements (list_of itself comma_syntax l o) ≡ firsts l ++ listed o
-elements_listed [] None = refl
-elements_listed [] (Some t) = refl
-elements_listed (x ∷ l) o = ap (λ m. x.0 ∷ m) (elements_listed l o)
+-- fields with names are a list with commas
+pub named_fields_list : IsList named_fields (of (rule named_field)) (by ended) (by (at_mark comma)) (of (mark false comma))
+named_fields_list = record { is = named_fields_is }
 
--- where a list begins, by its first value
-abbrev begins : (Syntax → Syntax) → Option Syntax → Span
-begins list None = record { start = 0; end = 0 }
-begins list (Some s) = first_place (print (list s))
+-- a field's name, and what follows it
+pub print_field_parts : (i : Option IdentValue) (c t d : Syntax) → print (field_parts (maybe syntax_of_ident i) c t d) ≡ print (field_name (maybe syntax_of_ident i) c) ⧺ (print t ⧺ print d)
+print_field_parts (Some i) c t d = ap (λ z. print (syntax_of_ident i) ⧺ z) (append_append (print (or_added colon c)) (print t) (print d))
+print_field_parts None c t d = refl
 
--- a path that begins with a word
-pub words_begin : (l : List (Syntax × PathSep)) (o : Option Syntax) (i : IdentValue) (a : Syntax) → slice_get (firsts l ++ listed o) 0 ≡ Some (Shaped untagged (Both (syntax_of_ident i) a))
-    → first_place (print (joined_of itself path_sep_syntax l o)) ≡ i.span
-words_begin [] None i a e = absurd (cc e)
-words_begin [] (Some t) i a e = ap (begins (λ s. joined_of itself path_sep_syntax [] (Some s))) e
-words_begin (x ∷ l) o i a e = ap (begins (λ s. joined_of itself path_sep_syntax ((s, x.1) ∷ l) o)) e
+-- the parts of a field in order
+abbrev parts_in_order : Syntax → Syntax → Syntax → Syntax → Syntax
+parts_in_order i c t d = Both i (Both c (Both t d))
 
--- a path without words
-pub no_words_begin : (l : List (Syntax × PathSep)) (o : Option Syntax) → slice_get (firsts l ++ listed o) 0 ≡ None
-    → first_place (print (joined_of itself path_sep_syntax l o)) ≡ record { start = 0; end = 0 }
-no_words_begin [] None e = refl
-no_words_begin [] (Some t) e = absurd (cc e)
-no_words_begin (x ∷ l) o e = absurd (cc e)
+abbrev parts_of : Syntax → Syntax
+parts_of s = field_parts (first s) (first (second s)) (first (second (second s))) (second (second (second s)))
 
--- a list of no length is empty
-pub nothing_in : {X : Type 0} (l : List X) → length l ≡ 0 → l ≡ []
-nothing_in [] e = refl
-nothing_in (x ∷ l) e = absurd (cc e)
+abbrev parts_back : Syntax → Syntax
+parts_back (Both (Shaped j (Both i (Both (Added x) (Shaped k t)))) d) = parts_in_order (Left i) (Right Nothing) t d
+parts_back (Both (Shaped j (Both i (Both c (Shaped k t)))) d) = parts_in_order (Left i) (Left c) t d
+parts_back (Both (Unshown Nothing) (Both t d)) = parts_in_order (Right Nothing) (Right Nothing) t d
+parts_back (Both (Unshown c) (Both t d)) = parts_in_order (Right Nothing) (Left c) t d
+parts_back s = s
+
+abbrev listed : Option IdentValue → Option Colon → Syntax → Syntax → Syntax
+listed i c t d = parts_in_order (maybe syntax_of_ident i) (maybe colon_syntax c) t d
+
+abbrev formed : Option IdentValue → Option Colon → Syntax → Syntax → Syntax
+formed i c t d = field_parts (maybe syntax_of_ident i) (maybe colon_syntax c) t d
+
+plain_parts : (i : Option IdentValue) (c : Option Colon) (t d : Syntax) → plain_syntax (formed i c t d) ≡ parts_of (plain_syntax (listed i c t d))
+plain_parts (Some i) (Some c) t d = refl
+plain_parts (Some i) None t d = refl
+plain_parts None (Some c) t d = refl
+plain_parts None None t d = refl
+
+told_parts : (i : Option IdentValue) (c : Option Colon) (t d : Syntax) → parts_back (plain_syntax (formed i c t d)) ≡ plain_syntax (listed i c t d)
+told_parts (Some i) (Some c) t d = refl
+told_parts (Some i) None t d = refl
+told_parts None (Some c) t d = refl
+told_parts None None t d = refl
+
+pub same_field : (i j : Option IdentValue) (c e : Option Colon) (s t a d : Syntax) →
+    same_syntax (field_parts (maybe syntax_of_ident i) (maybe colon_syntax c) s a) (field_parts (maybe syntax_of_ident j) (maybe colon_syntax e) t d) ≡ and (same_syntax (maybe syntax_of_ident i) (maybe syntax_of_ident j)) (and (same_syntax (maybe colon_syntax c) (maybe colon_syntax e)) (and (same_syntax s t) (same_syntax a d)))
+same_field i j c e s t a d = told parts_of parts_back _ _ (listed i c s a) (listed j e t d) (plain_parts i c s a) (plain_parts j e t d) (told_parts i c s a) (told_parts j e t d)

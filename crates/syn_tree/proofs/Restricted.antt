@@ -15,11 +15,11 @@ abbrev lone : Look
 lone = (at_word w_crate or_else at_word w_self or_else at_word w_super) and_also ahead Before_end
 
 -- a fact that is not asked for is not told
-abbrev asks : Fact → Asked → Bool
+abbrev pub asks : Fact → Asked → Bool
 asks n [] = false
 asks n (p ∷ l) = or (same_fact n p.1) (asks n l)
 
-not_told : (n : Fact) (l : Asked) (f : Lookahead) → asks n l ≡ false → has_fact n (facts_for l f) ≡ false
+pub not_told : (n : Fact) (l : Asked) (f : Lookahead) → asks n l ≡ false → has_fact n (facts_for l f) ≡ false
 not_told n [] f e = refl
 not_told n (p ∷ l) f e = go (answers p.0 f) (same_fact n p.1) refl (not_told n l f)
   where
@@ -29,7 +29,7 @@ not_told n (p ∷ l) f e = go (answers p.0 f) (same_fact n p.1) refl (not_told n
     go false false q h = h (ap (λ z. or z (asks n l)) (sym q) ∙ e)
 
 -- of a condition that is told first, and of none behind it
-told_first : (n : Fact) (c : Look) (l : Asked) (f : Lookahead) → same_fact n n ≡ true → asks n l ≡ false → has_fact n (facts_for ((c, n) ∷ l) f) ≡ answers c f
+pub told_first : (n : Fact) (c : Look) (l : Asked) (f : Lookahead) → same_fact n n ≡ true → asks n l ≡ false → has_fact n (facts_for ((c, n) ∷ l) f) ≡ answers c f
 told_first n c l f r e = go (answers c f)
   where
     go : (a : Bool) → has_fact n (pick a (n ∷ facts_for l f) (facts_for l f)) ≡ a
@@ -37,7 +37,7 @@ told_first n c l f r e = go (answers c f)
     go false = not_told n l f e
 
 -- an identifier's terminal is this word's only where that is its text
-word_face : (w x : Text) → is_word w (leaf_terminal (ident x)) ≡ true → x ≡ w
+pub word_face : (w x : Text) → is_word w (leaf_terminal (ident x)) ≡ true → x ≡ w
 word_face w x e = go (one_of_texts x (keywords ++ contextual)) e
   where
     go : (b : Bool) → is_word w (pick b (Word x) Name) ≡ true → x ≡ w
@@ -62,11 +62,11 @@ noted_end x m e = go (is_word w_crate (leaf_terminal (ident x))) (is_word w_self
     go false false true p q r h = at w_super (word_face w_super x r) (told_first Before_end ended asked_by_path_word (lookahead m) refl refl)
     go false false false p q r h = absurd (true≢false (sym h))
 
-and_same : (b c d : Bool) → (b ≡ true → c ≡ d) → and b c ≡ and b d
+pub and_same : (b c d : Bool) → (b ≡ true → c ≡ d) → and b c ≡ and b d
 and_same true c d h = h refl
 and_same false c d h = refl
 
-no_word : (w : Text) (c : ℕ) (j : Bool) (sp : Span) (m : Stream) → is_word w (lookahead (punct c j sp m)).terminal ≡ false
+pub no_word : (w : Text) (c : ℕ) (j : Bool) (sp : Span) (m : Stream) → is_word w (lookahead (punct c j sp m)).terminal ≡ false
 unfolding sees lookahead_at take_token
 no_word w c j sp m = sees_word w (punct c j sp m)
 

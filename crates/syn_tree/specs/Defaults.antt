@@ -1,14 +1,14 @@
 -- Defaults of fields without names, which are refused.
 use Rattle.std.specs.Prelude.{◌≡◌, ℕ, true, List, Some, codes, Result, Ok, Err}
 use Rattle.syn_grammar.specs.Tokens.{Stream}
-use Rattle.syn_grammar.specs.Rules.{no_attributes, visibility, plain_type}
+use Rattle.syn_grammar.specs.Rules.{attributes, visibility, type}
 use Rattle.syn_grammar.specs.Grammar.{Syntax}
 use Rattle.syn_grammar.specs.Take.{sees}
 use Rattle.syn_grammar.specs.Run.{parse_rule}
 use Rattle.syn_grammar.specs.Table.{at_equals}
 use Rattle.syn_parse.specs.Peeks.{past}
 
--- no attributes, a visibility and a type stand there, and behind them `=` and a default
+-- attributes, a visibility and a type stand there, and behind them `=` and a default
 pub record HasDefault (ts default : Stream) : Type 0 where
   pub attrs : Syntax
   pub behind_attrs : Stream
@@ -16,9 +16,9 @@ pub record HasDefault (ts default : Stream) : Type 0 where
   pub behind_vis : Stream
   pub ty : Syntax
   pub behind_type : Stream
-  pub reads_attrs : parse_rule no_attributes ts ≡ Some (attrs, behind_attrs)
+  pub reads_attrs : parse_rule attributes ts ≡ Some (attrs, behind_attrs)
   pub reads_vis : parse_rule visibility behind_attrs ≡ Some (vis, behind_vis)
-  pub reads_type : parse_rule plain_type behind_vis ≡ Some (ty, behind_type)
+  pub reads_type : parse_rule type behind_vis ≡ Some (ty, behind_type)
   pub equals : sees at_equals behind_type ≡ true
   pub is : default ≡ past behind_type
 

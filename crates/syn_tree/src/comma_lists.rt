@@ -6,19 +6,26 @@ ghost use Rattle.syn_tree.specs.Parsing.{parse_rule, Computes, Kept, IsSyntax, l
 ghost use Rattle.syn_tokens.specs.Kinds.{comma_syntax};
 ghost use Rattle.syn_grammar.specs.Promises.{itself};
 
-use crate::data::Field;
+use crate::data::{Field, Variant};
 use syn_parse::buffer::ParseBuffer;
-use syn_parse::read::End;
 use syn_parse::read::lists::punctuated_list;
 use syn_parse::read::refusal::Parsed;
+use syn_parse::read::{End, Read};
 use syn_tokens::punctuated::Punctuated;
 use syn_tokens::token::Comma;
 
-/// Fields without names, each as it is read today: none, or one and, behind a comma, the others. The last comma may
-/// stand or not.
-pub(crate) fn plain_unnamed_fields(input: &mut ParseBuffer<'_>) -> Parsed<Punctuated<Field, Comma>>
-    ensures reads { Computes IsSyntax (λ l. list_of itself comma_syntax l.pairs l.last) (parse_rule rules.plain_unnamed_fields input.old) result input.new }
+/// Fields without names: none, or one and, behind a comma, the others. The last comma may stand or not.
+pub(crate) fn unnamed_fields(input: &mut ParseBuffer<'_>) -> Parsed<Punctuated<Field, Comma>>
+    ensures reads { Computes IsSyntax (λ l. list_of itself comma_syntax l.pairs l.last) (parse_rule rules.unnamed_fields input.old) result input.new }
     ensures moved { Kept input.old result input.new }
 {
     punctuated_list::<End, Comma, _, _>(input, |next| Field::read_unnamed(next))
+}
+
+/// Variants, separated by commas; the last comma may stand or not.
+pub(crate) fn variants(input: &mut ParseBuffer<'_>) -> Parsed<Punctuated<Variant, Comma>>
+    ensures reads { Computes IsSyntax (λ l. list_of itself comma_syntax l.pairs l.last) (parse_rule rules.variants input.old) result input.new }
+    ensures moved { Kept input.old result input.new }
+{
+    punctuated_list::<End, Comma, _, _>(input, |next| next.read())
 }

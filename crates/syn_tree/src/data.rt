@@ -1,4 +1,4 @@
-//! Fields.
+//! Fields and variants.
 ghost use Rattle.syn_grammar.specs.Rules as rules;
 ghost use Rattle.syn_tree.specs.Parsing.{of, rule, meaning_of_rule, parse_rule, Computes, Parses, Moved, Outcome, itself, IsSyntax, IsSyntaxError};
 ghost use Rattle.std.specs.Prelude.{◌≡◌, IsOk, OnErr, OnOk};
@@ -11,12 +11,14 @@ ghost use Rattle.syn_tree.specs.Data.{field_name};
 ghost use Rattle.syn_parse.specs.Nexts.{RefusedNext, HasFaultNext};
 ghost use Rattle.syn_tree.specs.Defaults.{RefusesDefault};
 
+mod first_token;
 mod iterators;
 mod members;
+mod parsing;
 
-use crate::comma_lists::plain_unnamed_fields;
+use crate::comma_lists::unnamed_fields;
 use crate::kind;
-use crate::lower::attr::{no_attributes, print_all};
+use crate::lower::attr::{all_outer_attributes, print_all};
 use crate::lower::{Attribute, Type};
 use crate::restriction::Visibility;
 pub use members::{Index, MemberRef, Members};
@@ -33,15 +35,33 @@ use syn_tokens::span::Span;
 use syn_tokens::stream::builder::StreamBuilder;
 use syn_tokens::syntactic::compare::Compared;
 use syn_tokens::token;
-use syn_tokens::token::{Colon, Comma, Eq, Paren};
+use syn_tokens::token::{Brace, Colon, Comma, Eq, Paren};
+
+/// A variant of an enum.
+#[derive(Drop)]
+pub struct Variant {
+    pub attrs: Vec<Attribute>,
+    pub ident: Ident,
+    pub fields: Fields,
+    pub discriminant: Option<(Eq, Deferred<kind::Expr>)>,
+}
 
 /// The fields of a struct or variant.
 #[derive(Drop)]
 pub enum Fields {
+    /// `{ a: A, b: B }`
+    Named(FieldsNamed),
     /// `(A, B)`
     Unnamed(FieldsUnnamed),
     /// No fields.
     Unit,
+}
+
+/// Fields with names, in braces.
+#[derive(Drop)]
+pub struct FieldsNamed {
+    pub brace_token: Brace,
+    pub named: Punctuated<Field, Comma>,
 }
 
 /// Fields in parentheses.
@@ -51,7 +71,7 @@ pub struct FieldsUnnamed {
     pub unnamed: Punctuated<Field, Comma>,
 }
 
-/// A field of a struct or variant.
+/// A field of a struct, a variant or a union.
 #[derive(Drop)]
 pub struct Field {
     pub attrs: Vec<Attribute>,
@@ -77,14 +97,31 @@ impl FieldModifiers {
 }
 
 impl Field {
-    /// Parses a field without a name: a visibility and a type, which no `=` may follow.
+    /// Parses a field with a name: attributes, a visibility, a name or `_`, `:` and a type; and where `=` stands next, that
+    /// and an expression. Behind `_ :` also `struct` or `union` with fields in braces is a type, which is kept as its tokens.
+    ///
+    /// Where the tokens are no such field, or memory is refused, the buffer stands where it stood.
+    #[tactic(auto, using(syn_parse::proofs::Refused::refused_by_syntax))]
+    pub fn parse_named(input: &mut ParseBuffer<'_>) -> Result<Field>
+        ensures outcome { Outcome IsSyntaxError itself (rule rules.named_field) input.old result input.new }
+        ensures reads { Computes IsSyntaxError itself (parse_rule rules.named_field input.old) result input.new }
+        ensures unchanged { OnErr result (input.new ≡ input.old) }
+        ensures moved { Moved input.old result input.new }
+    {
+        let mut ahead = input.fork();
+        let field = Field::read_named(&mut ahead)?;
+        input.advance_to(&ahead);
+        Ok(field)
+    }
+
+    /// Parses a field without a name: attributes, a visibility and a type, which no `=` may follow.
     ///
     /// Where the tokens are no such field, or memory is refused, the buffer stands where it stood. The fault of a `=` is
     /// at the token behind it, as fields without names have no defaults.
     #[tactic(auto, using(syn_parse::proofs::Refused::refused_by_syntax))]
     pub fn parse_unnamed(input: &mut ParseBuffer<'_>) -> Result<Field>
-        ensures outcome { Outcome IsSyntaxError itself (rule rules.plain_unnamed_field) input.old result input.new }
-        ensures reads { Computes IsSyntaxError itself (parse_rule rules.plain_unnamed_field input.old) result input.new }
+        ensures outcome { Outcome IsSyntaxError itself (rule rules.unnamed_field) input.old result input.new }
+        ensures reads { Computes IsSyntaxError itself (parse_rule rules.unnamed_field input.old) result input.new }
         ensures default { RefusesDefault input.old IsSyntaxError HasFaultNext result }
         ensures unchanged { OnErr result (input.new ≡ input.old) }
         ensures moved { Moved input.old result input.new }
@@ -95,15 +132,21 @@ impl Field {
         Ok(field)
     }
 
-    /// No attributes, a visibility and a type, which no `=` may follow.
-    #[tactic(auto, using(syn_grammar::proofs::Each::plain_unnamed_field_is))]
-    pub(crate) fn read_unnamed(input: &mut ParseBuffer<'_>) -> Parsed<Field>
-        ensures parses { Parses IsSyntax itself rules.plain_unnamed_field input.old result input.new }
+    /// Reads a field with a name, as a part of what a rule reads. Where it is refused, nothing is said of what is left.
+    pub fn read_named(input: &mut ParseBuffer<'_>) -> Parsed<Field>
+        ensures parses { Parses IsSyntax itself rules.named_field input.old result input.new }
+    {
+        parsing::named_field(input)
+    }
+
+    /// Reads a field without a name, as a part of what a rule reads. Where it is refused, nothing is said of what is left.
+    #[tactic(auto, using(syn_grammar::proofs::Each::unnamed_field_is))]
+    pub fn read_unnamed(input: &mut ParseBuffer<'_>) -> Parsed<Field>
+        ensures parses { Parses IsSyntax itself rules.unnamed_field input.old result input.new }
         ensures default { RefusesDefault input.old IsSyntax RefusedNext result }
     {
-        no_attributes::<Ident>(input)?;
         let field = Field {
-            attrs: Vec::new(input.alloc()),
+            attrs: all_outer_attributes(input)?,
             vis: input.read()?,
             modifiers: FieldModifiers {},
             ident: None,
@@ -120,16 +163,27 @@ impl Field {
     }
 }
 
+/// Fields with names, in braces.
+impl Read for FieldsNamed {
+    ghost form = { of (rule rules.fields_named) };
+
+    ghost meaning = { meaning_of_rule rules.fields_named };
+
+    fn read(input: &mut ParseBuffer<'_>) -> Parsed<FieldsNamed> {
+        parsing::fields_named(input)
+    }
+}
+
 /// Fields in parentheses.
 impl Read for FieldsUnnamed {
-    ghost form = { of (rule rules.plain_fields_unnamed) };
+    ghost form = { of (rule rules.fields_unnamed) };
 
-    ghost meaning = { meaning_of_rule rules.plain_fields_unnamed };
+    ghost meaning = { meaning_of_rule rules.fields_unnamed };
 
-    #[tactic(auto, using(syn_grammar::proofs::Each::plain_fields_unnamed_is), unfolding(syn_grammar::specs::Take::is_end))]
+    #[tactic(auto, using(syn_grammar::proofs::Each::fields_unnamed_is), unfolding(syn_grammar::specs::Take::is_end))]
     fn read(input: &mut ParseBuffer<'_>) -> Parsed<FieldsUnnamed> {
         let (paren_token, mut content) = input.read_group::<token::kind::Paren>()?;
-        let unnamed = plain_unnamed_fields(&mut content)?;
+        let unnamed = unnamed_fields(&mut content)?;
         content.read_end()?;
         Ok(FieldsUnnamed {
             paren_token,
@@ -138,9 +192,48 @@ impl Read for FieldsUnnamed {
     }
 }
 
+/// Attributes, a name, fields or none, and perhaps `=` and an expression. A visibility before the name is dropped.
+impl Read for Variant {
+    ghost form = { of (rule rules.variant) };
+
+    ghost meaning = { meaning_of_rule rules.variant };
+
+    #[tactic(auto, using(syn_grammar::proofs::Each::variant_is))]
+    fn read(input: &mut ParseBuffer<'_>) -> Parsed<Variant> {
+        let attrs = all_outer_attributes(input)?;
+        parsing::skip_visibility(input)?;
+        Ok(Variant {
+            attrs,
+            ident: input.read()?,
+            fields: parsing::fields(input)?,
+            discriminant: parsing::value(input)?,
+        })
+    }
+}
+
+impl From<FieldsNamed> for Fields {
+    ghost use Rattle.syn_tree.specs.declared.data.Fields.TheVariants as variants;
+
+    ghost from_gives = { λ named fields. fields ≡ variants.Named named };
+
+    fn from(fields: FieldsNamed) -> Fields {
+        Fields::Named(fields)
+    }
+}
+
+impl From<FieldsUnnamed> for Fields {
+    ghost use Rattle.syn_tree.specs.declared.data.Fields.TheVariants as variants;
+
+    ghost from_gives = { λ unnamed fields. fields ≡ variants.Unnamed unnamed };
+
+    fn from(fields: FieldsUnnamed) -> Fields {
+        Fields::Unnamed(fields)
+    }
+}
+
 /// A name and its colon are compared by what they are together.
 impl Compared for Field {
-    #[tactic(auto, using(crate::proofs::Attributes::same_all_attributes, crate::proofs::Compared::same_name, syn_grammar::proofs::Same::and_true))]
+    #[tactic(auto, using(crate::proofs::Attributes::same_all_attributes, crate::proofs::Fields::same_field, syn_grammar::proofs::Same::and_true))]
     fn is_same(&self, other: &Field) -> bool {
         self.attrs.is_same(&other.attrs)
             && self.vis.is_same(&other.vis)
@@ -148,6 +241,16 @@ impl Compared for Field {
             && self.colon_token.is_same(&other.colon_token)
             && self.ty.is_same(&other.ty)
             && self.default.is_same(&other.default)
+    }
+}
+
+impl Compared for Variant {
+    #[tactic(auto, using(crate::proofs::Attributes::same_all_attributes))]
+    fn is_same(&self, other: &Variant) -> bool {
+        self.attrs.is_same(&other.attrs)
+            && self.ident.is_same(&other.ident)
+            && self.fields.is_same(&other.fields)
+            && self.discriminant.is_same(&other.discriminant)
     }
 }
 
@@ -171,19 +274,19 @@ fn print_name(
     }
 }
 
-/// `=` and a value, or nothing.
+/// `=` and an expression, or nothing.
 #[tactic(auto, using(syn_tokens::proofs::Prints::prints))]
-fn print_default(
-    default: &Option<(Eq, Deferred<kind::Expr>)>,
+fn print_value(
+    value: &Option<(Eq, Deferred<kind::Expr>)>,
     out: &mut StreamBuilder,
 ) -> std::result::Result<(), AllocError>
-    ensures prints { OnOk result (out.new ≡ added out.old (print (maybe (pair_of eq_syntax itself) default.now))) }
+    ensures prints { OnOk result (out.new ≡ added out.old (print (maybe (pair_of eq_syntax itself) value.now))) }
     ensures begins { out.new.before ≡ out.old.before }
 {
-    match default {
-        Some((eq_token, value)) => {
+    match value {
+        Some((eq_token, expr)) => {
             eq_token.print_in(out)?;
-            value.print_in(out)
+            expr.print_in(out)
         }
         None => Ok(()),
     }
@@ -191,17 +294,54 @@ fn print_default(
 
 /// All attributes are printed, inner ones too.
 impl Print for Field {
-    #[tactic(auto, using(syn_tokens::proofs::Prints::prints))]
+    #[tactic(auto, using(syn_tokens::proofs::Prints::prints, crate::proofs::Fields::print_field_parts))]
     fn print_in(&self, out: &mut StreamBuilder) -> std::result::Result<(), AllocError> {
         print_all(&self.attrs, out)?;
         self.vis.print_in(out)?;
         print_name(&self.ident, &self.colon_token, out)?;
         self.ty.print_in(out)?;
-        print_default(&self.default, out)
+        print_value(&self.default, out)
+    }
+}
+
+/// All attributes are printed, inner ones too.
+impl Print for Variant {
+    #[tactic(auto, using(syn_tokens::proofs::Prints::prints))]
+    fn print_in(&self, out: &mut StreamBuilder) -> std::result::Result<(), AllocError> {
+        print_all(&self.attrs, out)?;
+        self.ident.print_in(out)?;
+        self.fields.print_in(out)?;
+        print_value(&self.discriminant, out)
     }
 }
 
 // Written by tools/kinds.py from here to the end; edits are lost.
+
+impl std::marker::Model for Variant {
+    ghost use Rattle.syn_grammar.specs.Grammar.{Syntax};
+    ghost use Rattle.syn_grammar.specs.TreeCodes.{syntax_code};
+
+    ghost Value = { Syntax };
+
+    ghost coded = { syntax_code };
+
+    ghost use Rattle.syn_tree.specs.Data.{view_Variant};
+
+    ghost view = { view_Variant };
+}
+
+impl std::marker::Model for FieldsNamed {
+    ghost use Rattle.syn_grammar.specs.Grammar.{Syntax};
+    ghost use Rattle.syn_grammar.specs.TreeCodes.{syntax_code};
+
+    ghost Value = { Syntax };
+
+    ghost coded = { syntax_code };
+
+    ghost use Rattle.syn_tree.specs.Plain.{view_FieldsNamed};
+
+    ghost view = { view_FieldsNamed };
+}
 
 impl std::marker::Model for FieldsUnnamed {
     ghost use Rattle.syn_grammar.specs.Grammar.{Syntax};
@@ -229,10 +369,22 @@ impl std::marker::Model for Field {
     ghost view = { view_Field };
 }
 
+impl syn_tokens::syntactic::Syntactic for Variant {
+    ghost use Rattle.syn_grammar.specs.Promises.{itself};
+
+    ghost syntax = { itself };
+}
+
 impl syn_tokens::syntactic::Syntactic for Fields {
     ghost use Rattle.syn_tree.specs.Data.{syntax_of_Fields};
 
     ghost syntax = { syntax_of_Fields };
+}
+
+impl syn_tokens::syntactic::Syntactic for FieldsNamed {
+    ghost use Rattle.syn_grammar.specs.Promises.{itself};
+
+    ghost syntax = { itself };
 }
 
 impl syn_tokens::syntactic::Syntactic for FieldsUnnamed {

@@ -5,5 +5,6 @@
 
 mod data;
 mod derive;
+mod item;
 mod lower;
 mod restriction;

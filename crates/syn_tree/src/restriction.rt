@@ -7,6 +7,7 @@ ghost use Rattle.syn_tree.specs.Restriction.{restriction_syntax};
 
 use crate::looks::at_restriction;
 use crate::lower::Path;
+use crate::lower::parsing::module_path;
 use syn_parse::buffer::ParseBuffer;
 use syn_parse::read::Read;
 use syn_parse::read::refusal::Parsed;
@@ -78,7 +79,7 @@ fn restricting_path(input: &mut ParseBuffer<'_>) -> Parsed<(Option<In>, Path)>
     ensures reads { Computes IsSyntax restriction_syntax (parse_rule rules.restriction input.old) result input.new }
     ensures moved { Moved input.old result input.new }
 {
-    Ok((input.read()?, input.read()?))
+    Ok((input.read()?, module_path(input)?))
 }
 
 /// Which variant it is, is told by what stands behind `pub`.

@@ -75,11 +75,12 @@ fn fault_lines(rt: HostRuntime) -> Result<(), Fail> {
     Ok(())
 }
 
-/// What is no struct of this stage, and where.
+/// What is no text of its kind, and where.
 #[test]
 fn places(rt: HostRuntime) -> Result<(), Fail> {
     for (line, input, want) in [
-        ("print derive", "struct S<T>;", "refused at 8: "),
+        ("print item-struct", "enum E {}", "refused at 0: "),
+        ("print variant", "A =", "refused at 3: "),
         ("check derive", "struct S", "refused at 8: "),
         ("check derive", "pub  ", "refused at 3: "),
         ("print derive", "", "refused at 0: "),

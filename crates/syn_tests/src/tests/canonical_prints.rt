@@ -1,8 +1,5 @@
 //! Canonical prints, and whether two streams have the same.
-use crate::tests::outline::outline;
-use crate::tests::support::{
-    assert_place, assert_text, assert_text_of, fault, push_group, push_ident, push_marks,
-};
+use crate::tests::asserts::{assert_place, assert_text, assert_text_of};
 use std::alloc::Global;
 use std::process::Abort;
 use syn::Result;
@@ -12,6 +9,8 @@ use syn::derive::DeriveInput;
 use syn::reader::{read_tokens, token_text};
 use syn::restriction::Visibility;
 use syn::token::{Delimiter, Spacing, TokenStream};
+use syn_test_support::outline::outline;
+use syn_test_support::{fault, push_group, push_ident, push_marks};
 
 /// The canonical print of the text as a `T`.
 fn canonical_text<T: Canonical + Drop>(alloc: Global, text: &str) -> Result<String> {
@@ -83,7 +82,7 @@ fn are_refused<T: Canonical + Drop>(
 const REFUSED: &[(&str, usize)] = &[
     ("struct S", 8),
     ("struct S; x", 10),
-    ("struct S {}", 9),
+    ("struct S {} ;", 12),
     ("", 0),
 ];
 

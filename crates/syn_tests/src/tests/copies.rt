@@ -1,6 +1,4 @@
 //! Copies of trees, and their equality.
-use crate::tests::outline::{Outlined, outline};
-use crate::tests::support::{parsed, span};
 use std::alloc::Global;
 use std::process::Abort;
 use syn::data::{Field, Fields, FieldsUnnamed};
@@ -11,6 +9,8 @@ use syn::punctuated::Punctuated;
 use syn::restriction::{VisRestricted, Visibility};
 use syn::token::{Gt, Ident, Lt};
 use syn::{Result, TryClone};
+use syn_test_support::outline::{Outlined, outline};
+use syn_test_support::{parsed, span};
 use syn_tokens::syntactic::compare::Compared;
 
 /// Whether the trees of two texts are equal.
@@ -143,29 +143,40 @@ fn fields_in_parentheses(rt: HostRuntime) -> Result<()> {
 }
 
 /// The fields of a struct.
-fn fields(tree: &DeriveInput) -> &Fields {
-    let Data::Struct(data) = &tree.shape;
-    &data.fields
+fn fields(tree: &DeriveInput) -> Option<&Fields> {
+    match &tree.shape {
+        Data::Struct(data) => Some(&data.fields),
+        Data::Enum(_) => None,
+        Data::Union(_) => None,
+    }
 }
 
 /// The first of them.
 fn first_field(tree: &DeriveInput) -> Option<&Field> {
     match fields(tree) {
-        Fields::Unnamed(fields) => fields.unnamed.first(),
-        Fields::Unit => None,
+        Some(Fields::Unnamed(fields)) => fields.unnamed.first(),
+        Some(Fields::Named(fields)) => fields.named.first(),
+        Some(Fields::Unit) => None,
+        None => None,
     }
 }
 
 /// Whether what a struct has of its own is copied.
 fn is_shape_copied(alloc: Global, tree: &DeriveInput, other: &DeriveInput) -> Result<bool> {
-    let Data::Struct(data) = &tree.shape;
-    let Data::Struct(other_data) = &other.shape;
     let is_whole = is_copied(alloc, &tree.shape, &other.shape)?;
-    Ok(is_whole && is_copied(alloc, data, other_data)?)
+    match (&tree.shape, &other.shape) {
+        (Data::Struct(data), Data::Struct(other_data)) => {
+            Ok(is_whole && is_copied(alloc, data, other_data)?)
+        }
+        _ => Ok(false),
+    }
 }
 
 fn are_fields_copied(alloc: Global, tree: &DeriveInput, other: &DeriveInput) -> Result<bool> {
-    is_copied(alloc, fields(tree), fields(other))
+    match (fields(tree), fields(other)) {
+        (Some(fields), Some(other_fields)) => is_copied(alloc, fields, other_fields),
+        _ => Ok(false),
+    }
 }
 
 fn is_field_copied(alloc: Global, tree: &DeriveInput, other: &DeriveInput) -> Result<bool> {
@@ -197,7 +208,10 @@ fn parts_of_structs(rt: HostRuntime) -> Result<()> {
 
 /// Whether the fields of a struct without any are copied.
 fn are_no_fields_copied(alloc: Global, tree: &DeriveInput) -> Result<bool> {
-    is_copied(alloc, &Fields::Unit, fields(tree))
+    match fields(tree) {
+        Some(fields) => is_copied(alloc, &Fields::Unit, fields),
+        None => Ok(false),
+    }
 }
 
 #[test]
@@ -248,7 +262,7 @@ fn segments(rt: HostRuntime) -> Result<()> {
     Ok(())
 }
 
-/// There are no other arguments yet.
+/// No arguments.
 #[test]
 fn arguments(rt: HostRuntime) -> Result<()> {
     let none = PathArguments::None;

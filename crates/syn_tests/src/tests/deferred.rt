@@ -1,22 +1,19 @@
-//! Deferred trees, by examples: of visibilities, paths and derive inputs.
+//! Deferred trees, by examples: of visibilities and expressions.
 ghost use Rattle.std.specs.Prelude.{refl};
 ghost use Rattle.syn_grammar.specs.Rules as rules;
 ghost use Rattle.syn_tree.specs.Parsing.{of, rule, itself, meaning_of_rule};
 
-use crate::tests::support::{
-    are_left_behind, are_refused, are_reprinted, assert_text_of, fault, parsed, printed, span,
-};
+use crate::tests::asserts::{assert_none, assert_text_of};
 use std::alloc::{AllocError, Global};
 use std::marker::Model;
-use syn::derive::DeriveInput;
-use syn::lower::Path;
+use syn::deferred::{Deferred, Kind, StandsAlone, TreeKind, read_deferred_rest};
 use syn::parse::{ParseBuffer, Parsed, Read};
 use syn::print::{Print, ToTokens};
 use syn::reader::{read_tokens, token_text};
 use syn::restriction::Visibility;
-use syn::token::{Ident, StreamBuilder};
-use syn::{Result, Syntactic, TryClone};
-use syn_parse::deferred::{Deferred, Kind, StandsAlone, TreeKind, read_deferred_rest};
+use syn::token::StreamBuilder;
+use syn::{Result, Syntactic, TryClone, kind};
+use syn_test_support::{fault, not_left_behind, not_refused, not_reprinted, parsed, printed};
 
 /// Visibilities.
 pub struct Visibilities;
@@ -39,123 +36,99 @@ impl TreeKind for Visibilities {
     ghost by_rule = { refl };
 }
 
-/// Paths in module style.
-pub struct Paths;
-
-impl Kind for Paths {
-    ghost rule = { rules.module_path };
-
-    ghost read_again = { refl };
-
-    ghost in_order = { refl };
-}
-
-impl StandsAlone for Paths {
-    ghost alone = { refl };
-}
-
-impl TreeKind for Paths {
-    type Tree = Path;
-
-    ghost by_rule = { refl };
-}
-
-/// Derive inputs.
-pub struct Inputs;
-
-impl Kind for Inputs {
-    ghost rule = { rules.plain_derive_input };
-
-    ghost read_again = { refl };
-
-    ghost in_order = { refl };
-}
-
-impl StandsAlone for Inputs {
-    ghost alone = { refl };
-}
-
-impl TreeKind for Inputs {
-    type Tree = DeriveInput;
-
-    ghost by_rule = { refl };
-}
-
 const LEFT: &[(&str, &str)] = &[
-    ("struct S;", ""),
-    ("struct S; struct T;", "struct T ;"),
-    ("pub struct A(u8);;", ";"),
-    ("pub(in a::b)struct C(::d,) ; x", "x"),
+    ("1", ""),
+    ("1u8 + 2", "+ 2"),
+    ("true;", ";"),
+    ("\"a\", b", ", b"),
 ];
 
 const LEFT_BY_VISIBILITIES: &[(&str, &str)] = &[
     ("pub(self) x", "x"),
     ("pub (u8)", "( u8 )"),
+    ("pub(in a::b)struct", "struct"),
     ("x", "x"),
     ("", ""),
 ];
 
-const LEFT_BY_PATHS: &[(&str, &str)] = &[("a::b < c", "< c"), ("::a , b", ", b")];
-
 /// A deferred tree takes what its tree takes, whatever follows.
 #[test]
 fn from_the_front(rt: HostRuntime) -> Result<()> {
-    are_left_behind::<Deferred<Inputs>>(&rt, rt.alloc(), LEFT)?;
-    are_left_behind::<Deferred<Visibilities>>(&rt, rt.alloc(), LEFT_BY_VISIBILITIES)?;
-    are_left_behind::<Deferred<Paths>>(&rt, rt.alloc(), LEFT_BY_PATHS)
+    assert_none(
+        &rt,
+        not_left_behind::<Deferred<kind::Expr>>(rt.alloc(), LEFT),
+    )?;
+    assert_none(
+        &rt,
+        not_left_behind::<Deferred<Visibilities>>(rt.alloc(), LEFT_BY_VISIBILITIES),
+    )
 }
 
 /// It is refused where its tree is.
 #[test]
 fn refusals(rt: HostRuntime) -> Result<()> {
-    are_refused::<Deferred<Inputs>>(&rt, rt.alloc(), &[("struct in;", 7), ("struct S; x", 10)])?;
-    are_refused::<Deferred<Paths>>(&rt, rt.alloc(), &[("a::", 3), ("<", 0)])
+    assert_none(
+        &rt,
+        not_refused::<Deferred<kind::Expr>>(rt.alloc(), &[("a", 0), ("1 2", 2)]),
+    )?;
+    assert_none(
+        &rt,
+        not_refused::<Deferred<Visibilities>>(rt.alloc(), &[("pub(in)", 6), ("pub pub", 4)]),
+    )
 }
 
 const PRINTS: &[(&str, &str)] = &[
-    ("struct S;", "struct S ;"),
-    (
-        "pub(in a::b)struct C(::d,) ;",
-        "pub ( in a :: b ) struct C ( :: d , ) ;",
-    ),
+    ("", ""),
+    ("pub", "pub"),
+    ("pub(in a::b)", "pub ( in a :: b )"),
 ];
 
 #[test]
 fn prints(rt: HostRuntime) -> Result<()> {
-    are_reprinted::<Deferred<Inputs>>(&rt, rt.alloc(), PRINTS)?;
-    are_reprinted::<Deferred<Visibilities>>(&rt, rt.alloc(), &[("", ""), ("pub", "pub")])
+    assert_none(
+        &rt,
+        not_reprinted::<Deferred<Visibilities>>(rt.alloc(), PRINTS),
+    )?;
+    assert_none(
+        &rt,
+        not_reprinted::<Deferred<kind::Expr>>(rt.alloc(), &[("false", "false"), ("1_0", "1_0")]),
+    )
 }
 
-/// The deferred derive input at the front of the text.
-fn front(alloc: Global, text: &str) -> Result<Deferred<Inputs>> {
+/// The deferred visibility at the front of the text.
+fn front(alloc: Global, text: &str) -> Result<Deferred<Visibilities>> {
     let tokens = read_tokens(alloc, text)?;
     ParseBuffer::new(&tokens).parse()
 }
 
-/// Where the name of a tree stands.
-fn name_of(tree: &DeriveInput) -> usize {
-    tree.ident.span.start
+/// Where a visibility's `pub` stands; 0 where it has none.
+fn place_of(vis: &Visibility) -> usize {
+    match vis {
+        Visibility::Public(pub_token) => pub_token.span.start,
+        Visibility::Restricted(vis) => vis.pub_token.span.start,
+        Visibility::Inherited => 0,
+    }
 }
 
-/// Where the name stands in the tree that is opened.
-fn name_at(deferred: &Deferred<Inputs>) -> Result<usize> {
+/// Where it stands in the tree that is opened.
+fn place_in(deferred: &Deferred<Visibilities>) -> Result<usize> {
     let tree = deferred.open()?;
-    Ok(name_of(&tree))
+    Ok(place_of(&tree))
 }
 
 /// Whether the tree that is opened is the one that is parsed at once.
 fn opens_as_parsed(alloc: Global, text: &str) -> Result<bool> {
-    let deferred = parsed::<Deferred<Inputs>>(alloc, text)?;
-    Ok(deferred.open()? == parsed::<DeriveInput>(alloc, text)?)
+    let deferred = parsed::<Deferred<Visibilities>>(alloc, text)?;
+    Ok(deferred.open()? == parsed::<Visibility>(alloc, text)?)
 }
 
 /// The tree has the spans of the text.
 #[test]
 fn opened(rt: HostRuntime) -> Result<()> {
-    let deferred = front(rt.alloc(), " struct S(a); rest")?;
-    assert_eq!(rt; name_at(&deferred)?, 8);
-    assert_eq!(rt; name_at(&deferred.try_clone(rt.alloc())?)?, 8);
-    assert!(rt; opens_as_parsed(rt.alloc(), "pub(in a::b) struct S(a, pub ::b::c,);")?);
+    let deferred = front(rt.alloc(), "  pub(self) rest")?;
+    assert_eq!(rt; place_in(&deferred)?, 2);
+    assert_eq!(rt; place_in(&deferred.try_clone(rt.alloc())?)?, 2);
+    assert!(rt; opens_as_parsed(rt.alloc(), "pub(in a::b)")?);
     Ok(())
 }
 
@@ -170,12 +143,12 @@ fn are_equal(alloc: Global, left: &str, right: &str) -> Result<bool> {
 #[test]
 fn equality(rt: HostRuntime) -> Result<()> {
     for (left, right, want) in [
-        ("struct S(a::b);", " struct S ( a::b ) ;", true),
-        ("struct S;", "struct S;;", true),
-        ("struct S(a);", "struct S(a,);", false),
-        ("struct S;", "struct T;", false),
-        ("struct S;", "struct S();", false),
-        ("struct S(a);", "struct S(::a);", false),
+        ("pub(in a::b)", " pub ( in a :: b )", true),
+        ("pub;", "pub", true),
+        ("pub", "pub(self)", false),
+        ("pub(crate)", "pub(in crate)", false),
+        ("pub(in a::b)", "pub(in a)", false),
+        ("pub(in a)", "pub(in ::a)", false),
     ] {
         assert_eq!(rt;
             are_equal(rt.alloc(), left, right)?,
@@ -194,50 +167,51 @@ fn source_text(alloc: Global, text: &str) -> Result<String> {
 /// They have canonical spacing, whatever the text had.
 #[test]
 fn sources(rt: HostRuntime) -> Result<()> {
-    for text in ["struct S;;", "struct S ; x"] {
+    for text in ["pub(in::a);", "pub ( in :: a ) x"] {
         assert_text_of(
             &rt,
             text,
             source_text(rt.alloc(), text)?.as_str(),
-            "struct S ;",
+            "pub ( in :: a )",
         );
     }
     Ok(())
 }
 
-/// A derive input of this name, made by hand.
-fn named(alloc: Global, name: &str) -> Result<DeriveInput> {
-    let mut tree: DeriveInput = parsed(alloc, "struct S(a);")?;
-    tree.ident = Ident::new(alloc, name, span(0, 1))?;
-    Ok(tree)
+/// A visibility that is made by hand of this text's: its `in` is left out.
+fn without_in(alloc: Global, text: &str) -> Result<Visibility> {
+    let mut vis: Visibility = parsed(alloc, text)?;
+    if let Visibility::Restricted(restricted) = &mut vis {
+        restricted.in_token = None;
+    }
+    Ok(vis)
 }
 
-/// The text that a tree of this name prints, once it was deferred and opened.
-fn printed_by_name(alloc: Global, name: &str) -> Result<String> {
-    let deferred: Deferred<Inputs> = Deferred::new(&named(alloc, name)?, alloc)?;
+/// What it prints, once it was deferred and opened.
+fn printed_without_in(alloc: Global, text: &str) -> Result<String> {
+    let deferred: Deferred<Visibilities> = Deferred::new(&without_in(alloc, text)?, alloc)?;
     printed(alloc, &deferred.open()?)
 }
 
-/// Where the print of a tree of this name is refused.
-fn refused_by_name(alloc: Global, name: &str) -> Result<usize> {
-    let tree = named(alloc, name)?;
-    Ok(fault(Deferred::<Inputs>::new(&tree, alloc))?.span.start)
-}
-
-/// A tree that was made by hand is deferred where its print is read.
+/// A tree that was made by hand is deferred where its print is read as a whole.
 #[test]
 fn made_by_hand(rt: HostRuntime) -> Result<()> {
-    let print = printed_by_name(rt.alloc(), "Two")?;
-    assert_text_of(&rt, "Two", print.as_str(), "struct Two ( a ) ;");
-    assert_eq!(rt; refused_by_name(rt.alloc(), "in")?, 0);
+    let print = printed_without_in(rt.alloc(), "pub(in self)")?;
+    assert_text_of(&rt, "self", print.as_str(), "pub ( self )");
+    assert_eq!(rt;
+        fault(printed_without_in(rt.alloc(), "pub(in a)"))?
+            .span
+            .start,
+        3
+    );
     Ok(())
 }
 
-/// What the content of the text's parentheses prints, which is a path.
-fn path_inside(alloc: Global, text: &str) -> Result<String> {
+/// What the content of the text's parentheses prints, which is a visibility.
+fn visibility_inside(alloc: Global, text: &str) -> Result<String> {
     let tokens = read_tokens(alloc, text)?;
     let (_, mut content) = ParseBuffer::new(&tokens).parenthesized()?;
-    let deferred = read_deferred_rest::<Paths>(&mut content)?;
+    let deferred = read_deferred_rest::<Visibilities>(&mut content)?;
     content.finish()?;
     printed(alloc, &deferred)
 }
@@ -245,9 +219,17 @@ fn path_inside(alloc: Global, text: &str) -> Result<String> {
 /// All that is left of a group has to be the tree.
 #[test]
 fn rests(rt: HostRuntime) -> Result<()> {
-    let text = "(a:: b) c";
-    assert_text_of(&rt, text, path_inside(rt.alloc(), text)?.as_str(), "a :: b");
-    assert_eq!(rt; fault(path_inside(rt.alloc(), "(a, b)"))?.span.start, 2);
+    let text = "(pub(self)) c";
+    assert_text_of(
+        &rt,
+        text,
+        visibility_inside(rt.alloc(), text)?.as_str(),
+        "pub ( self )",
+    );
+    assert_eq!(rt;
+        fault(visibility_inside(rt.alloc(), "(pub, b)"))?.span.start,
+        4
+    );
     Ok(())
 }
 

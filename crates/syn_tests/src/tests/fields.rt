@@ -1,15 +1,16 @@
 //! Fields, types and paths.
-use crate::tests::outline::outline;
-use crate::tests::support::{
-    are_left_behind, are_left_by_refused, are_refused, are_reprinted, are_shown, assert_text_of,
-    fault, parsed, refused,
-};
+use crate::tests::asserts::{assert_none, assert_text_of};
 use std::alloc::Global;
 use syn::data::{Field, FieldsUnnamed};
 use syn::lower::{Path, Type};
 use syn::parse::ParseBuffer;
 use syn::reader::{read_tokens, token_text};
 use syn::{Fault, Result};
+use syn_test_support::outline::outline;
+use syn_test_support::{
+    fault, not_left_behind, not_left_by_refused, not_refused, not_reprinted, not_shown, parsed,
+    refused,
+};
 
 /// Paths, and their trees.
 const PATHS: &[(&str, &str)] = &[
@@ -29,7 +30,7 @@ const PATHS: &[(&str, &str)] = &[
 
 #[test]
 fn paths(rt: HostRuntime) -> Result<()> {
-    are_shown::<Path>(&rt, rt.alloc(), PATHS)
+    assert_none(&rt, not_shown::<Path>(rt.alloc(), PATHS))
 }
 
 const NO_PATHS: &[(&str, usize)] = &[
@@ -45,17 +46,20 @@ const NO_PATHS: &[(&str, usize)] = &[
     ("a::::b", 3),
     ("a b", 2),
     ("(a)", 0),
-    ("a<b>", 1),
+    ("a<b", 3),
 ];
 
 #[test]
 fn refused_paths(rt: HostRuntime) -> Result<()> {
-    are_refused::<Path>(&rt, rt.alloc(), NO_PATHS)
+    assert_none(&rt, not_refused::<Path>(rt.alloc(), NO_PATHS))
 }
 
 #[test]
 fn printed_paths(rt: HostRuntime) -> Result<()> {
-    are_reprinted::<Path>(&rt, rt.alloc(), &[("::a::b", ":: a :: b")])
+    assert_none(
+        &rt,
+        not_reprinted::<Path>(rt.alloc(), &[("::a::b", ":: a :: b")]),
+    )
 }
 
 const TYPES: &[(&str, &str)] = &[
@@ -65,10 +69,19 @@ const TYPES: &[(&str, &str)] = &[
 
 #[test]
 fn types(rt: HostRuntime) -> Result<()> {
-    are_shown::<Type>(&rt, rt.alloc(), TYPES)?;
-    are_reprinted::<Type>(&rt, rt.alloc(), &[("a::b", "a :: b")])?;
-    are_left_behind::<Type>(&rt, rt.alloc(), &[("a::b: c", ": c")])?;
-    are_left_by_refused::<Type>(&rt, rt.alloc(), &[("a::(b)", "a :: ( b )")])
+    assert_none(&rt, not_shown::<Type>(rt.alloc(), TYPES))?;
+    assert_none(
+        &rt,
+        not_reprinted::<Type>(rt.alloc(), &[("a::b", "a :: b")]),
+    )?;
+    assert_none(
+        &rt,
+        not_left_behind::<Type>(rt.alloc(), &[("a::b: c", ": c")]),
+    )?;
+    assert_none(
+        &rt,
+        not_left_by_refused::<Type>(rt.alloc(), &[("a::(b)", "a :: ( b )")]),
+    )
 }
 
 /// Fields in parentheses, and their trees.
@@ -98,7 +111,7 @@ const FIELDS: &[(&str, &str)] = &[
 
 #[test]
 fn fields(rt: HostRuntime) -> Result<()> {
-    are_shown::<FieldsUnnamed>(&rt, rt.alloc(), FIELDS)
+    assert_none(&rt, not_shown::<FieldsUnnamed>(rt.alloc(), FIELDS))
 }
 
 const PRINTS: &[(&str, &str)] = &[
@@ -115,7 +128,7 @@ const PRINTS: &[(&str, &str)] = &[
 
 #[test]
 fn prints(rt: HostRuntime) -> Result<()> {
-    are_reprinted::<FieldsUnnamed>(&rt, rt.alloc(), PRINTS)
+    assert_none(&rt, not_reprinted::<FieldsUnnamed>(rt.alloc(), PRINTS))
 }
 
 /// How many fields there are, and whether a `,` stands behind the last.
@@ -158,7 +171,7 @@ const REFUSED: &[(&str, usize)] = &[
 
 #[test]
 fn refused_fields(rt: HostRuntime) -> Result<()> {
-    are_refused::<FieldsUnnamed>(&rt, rt.alloc(), REFUSED)
+    assert_none(&rt, not_refused::<FieldsUnnamed>(rt.alloc(), REFUSED))
 }
 
 const NO_DEFAULT: &str = "field default value is only supported in structs with named fields";
@@ -188,7 +201,7 @@ const LEFT: &[(&str, &str)] = &[
 
 #[test]
 fn left_by_refused_fields(rt: HostRuntime) -> Result<()> {
-    are_left_by_refused::<FieldsUnnamed>(&rt, rt.alloc(), LEFT)
+    assert_none(&rt, not_left_by_refused::<FieldsUnnamed>(rt.alloc(), LEFT))
 }
 
 /// What shows the field that stands at the front of the text.
@@ -220,9 +233,9 @@ const SINGLE: &[(&str, &str, &str)] = &[
     ),
     ("a, b", "Field Inherited Type Path a@0..1", ", b"),
     (
-        "pub(self) a (b)",
+        "pub(self) a [b]",
         "Field Restricted pub@0..3 (@3..4 Path self@4..8 )@8..9 Type Path a@10..11",
-        "( b )",
+        "[ b ]",
     ),
     ("a: b", "Field Inherited Type Path a@0..1", ": b"),
 ];
@@ -270,7 +283,7 @@ fn refused_single_fields(rt: HostRuntime) -> Result<()> {
     Ok(())
 }
 
-/// The parts of a field that no text gives it yet.
+/// The parts that a field without a name and attributes lacks.
 #[test]
 fn empty_parts(rt: HostRuntime) -> Result<()> {
     let tokens = read_tokens(rt.alloc(), "pub a")?;

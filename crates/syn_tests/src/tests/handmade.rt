@@ -1,6 +1,5 @@
 //! Prints of trees that no text gives: parts that are printed though the tree lacks them, and parts that aren't printed.
-use crate::tests::outline::outline;
-use crate::tests::support::{assert_text, parsed, print_shown, printed, span};
+use crate::tests::asserts::assert_text;
 use std::alloc::Global;
 use syn::Result;
 use syn::data::{Field, FieldModifiers, Fields};
@@ -10,6 +9,8 @@ use syn::print::ToTokens;
 use syn::punctuated::Punctuated;
 use syn::restriction::{VisRestricted, Visibility};
 use syn::token::{Colon, Comma, Gt, Ident, Lt, Paren, PathSep, Pub, Semi, Struct, TokenStream};
+use syn_test_support::outline::outline;
+use syn_test_support::{parsed, print_shown, printed, span};
 
 fn segment(alloc: Global, text: &str) -> Result<PathSegment> {
     Ok(PathSegment {
@@ -131,7 +132,7 @@ fn signed_printed(alloc: Global) -> Result<String> {
 /// `<` and `>` without parameters aren't printed.
 #[test]
 fn empty_generics(rt: HostRuntime) -> Result<()> {
-    let want = "Inherited struct@0..1 S@0..1 <@1..2 >@2..3 Unit";
+    let want = "Inherited S@0..1 <@1..2 >@2..3 struct@0..1 Unit";
     assert_text(&rt, signed_shown(rt.alloc())?.as_str(), want);
     assert_text(&rt, signed_printed(rt.alloc())?.as_str(), "struct S ;");
     Ok(())
@@ -234,11 +235,14 @@ fn fields(rt: HostRuntime) -> Result<()> {
 /// The fields of a struct, moved out of it; none where it has none.
 fn moved_out(tree: DeriveInput) -> Option<Punctuated<Field, Comma>> {
     let DeriveInput { shape, .. } = tree;
-    let Data::Struct(data) = shape;
-    let DataStruct { fields, .. } = data;
-    match fields {
-        Fields::Unnamed(fields) => Some(fields.unnamed),
-        Fields::Unit => None,
+    match shape {
+        Data::Struct(data) => match data.fields {
+            Fields::Unnamed(fields) => Some(fields.unnamed),
+            Fields::Named(fields) => Some(fields.named),
+            Fields::Unit => None,
+        },
+        Data::Enum(_) => None,
+        Data::Union(_) => None,
     }
 }
 

@@ -1,18 +1,23 @@
 //! The fields of structs from both ends, and what they are called.
-use crate::tests::support::{assert_text, assert_text_of, parsed, printed};
+use crate::tests::asserts::{assert_text, assert_text_of};
 use std::alloc::{AllocError, Global};
 use std::fmt::Write as _;
 use syn::data::{Field, Fields, MemberRef, Members};
 use syn::derive::{Data, DeriveInput};
-use syn::lower::Type;
-use syn::token::Span;
+use syn::lower::{Type, TypeTuple};
+use syn::punctuated::Punctuated;
+use syn::punctuated::iterators::IntoIter;
+use syn::token::{Comma, Paren, Span};
 use syn::{Error, Result};
+use syn_test_support::{parsed, printed, span};
 
 /// The fields of the struct that the text spells.
 fn fields_of(alloc: Global, text: &str) -> Result<Fields> {
     let DeriveInput { shape, .. } = parsed(alloc, text)?;
-    let Data::Struct(data) = shape;
-    Ok(data.fields)
+    match shape {
+        Data::Struct(data) => Ok(data.fields),
+        Data::Enum(_) | Data::Union(_) => Err(Error::new(Span::call_site(), "no struct")),
+    }
 }
 
 /// Adds what one field is called: its name, or its place and where its type begins.
@@ -49,13 +54,20 @@ fn members_behind(alloc: Global, text: &str, taken: usize) -> Result<String> {
 }
 
 const MEMBERS: &[(&str, usize, &str)] = &[
-    ("struct S(u8, b::C);", 0, "0@9..11;1@13..14;"),
-    ("struct S(u8, b::C);", 1, "1@13..14;"),
-    ("struct S(u8, b::C);", 2, ""),
-    ("struct S(u8, b::C);", 3, ""),
-    ("struct S(pub ::b, c,);", 0, "0@13..14;1@18..19;"),
+    ("struct S(u8, &'a str);", 0, "0@9..11;1@13..14;"),
+    ("struct S(u8, &'a str);", 1, "1@13..14;"),
+    ("struct S(u8, &'a str);", 2, ""),
+    ("struct S(u8, &'a str);", 3, ""),
+    ("struct S { a: u8, b: u8 }", 0, "a;b;"),
+    ("struct S { a: u8, r#in: u8 }", 1, "r#in;"),
+    ("struct S { _: union { a: u8 } }", 0, "_;"),
     ("struct S;", 0, ""),
     ("struct S();", 0, ""),
+    (
+        "struct S(#[a] pub ::b, *const c, (d,), [e], !, <f>::g);",
+        0,
+        "0@18..19;1@23..24;2@33..34;3@39..40;4@44..45;5@47..48;",
+    ),
 ];
 
 #[test]
@@ -67,16 +79,15 @@ fn members(rt: HostRuntime) -> Result<()> {
     Ok(())
 }
 
-/// The first word of a field's type.
+/// The name of a field.
 fn name_of(field: &Field) -> &str {
-    let Type::Path(ty) = &field.ty;
-    match ty.path.segments.first() {
-        Some(segment) => segment.ident.text(),
+    match &field.ident {
+        Some(ident) => ident.text(),
         None => "",
     }
 }
 
-/// Adds that word, or `-` where there is no field.
+/// Adds the name of a field, or `-` where there is none.
 fn add_name(text: &mut String, field: Option<&Field>) -> std::result::Result<(), AllocError> {
     match field {
         Some(field) => text.push_str(name_of(field)),
@@ -84,14 +95,37 @@ fn add_name(text: &mut String, field: Option<&Field>) -> std::result::Result<(),
     }
 }
 
-/// The fields of the struct, used up: the first, the last, and the first two of what is then left.
+/// Adds the name of the first of the fields, used up.
+fn add_first(
+    names: &mut String,
+    fields: &mut IntoIter<Field, Comma>,
+) -> std::result::Result<(), AllocError> {
+    add_name(names, fields.next().as_ref())
+}
+
+/// Adds the name of the last.
+fn add_last(
+    names: &mut String,
+    fields: &mut IntoIter<Field, Comma>,
+) -> std::result::Result<(), AllocError> {
+    add_name(names, fields.next_back().as_ref())
+}
+
+/// Adds the name of the first, and of the last of those that are then left.
+fn add_both(
+    names: &mut String,
+    fields: &mut IntoIter<Field, Comma>,
+) -> std::result::Result<(), AllocError> {
+    add_first(names, fields)?;
+    add_last(names, fields)
+}
+
+/// The fields of the struct, used up: the first, the last, and the same again of what is then left.
 fn taken_from_both_ends(alloc: Global, text: &str) -> Result<String> {
     let mut names = String::new(alloc);
     let mut fields = fields_of(alloc, text)?.into_iter();
-    add_name(&mut names, fields.next().as_ref())?;
-    add_name(&mut names, fields.next_back().as_ref())?;
-    add_name(&mut names, fields.next().as_ref())?;
-    add_name(&mut names, fields.next_back().as_ref())?;
+    add_both(&mut names, &mut fields)?;
+    add_both(&mut names, &mut fields)?;
     Ok(names)
 }
 
@@ -111,10 +145,10 @@ fn lent_from_both_ends(alloc: Global, text: &str) -> Result<String> {
 #[test]
 fn both_ends(rt: HostRuntime) -> Result<()> {
     for (text, taken, lent) in [
-        ("struct S(a, b);", "ab--", "ab--"),
-        ("struct S(a, b, c);", "acb-", "acbb"),
+        ("struct S { a: u8, b: u8 }", "ab--", "ab--"),
+        ("struct S { a: u8, b: u8, c: u8 }", "acb-", "acbb"),
         ("struct S;", "----", "----"),
-        ("struct S();", "----", "----"),
+        ("struct S {}", "----", "----"),
     ] {
         let found = taken_from_both_ends(rt.alloc(), text)?;
         assert_text_of(&rt, text, found.as_str(), taken);
@@ -135,28 +169,39 @@ fn counts(rt: HostRuntime) -> Result<()> {
     for (text, want) in [
         ("struct S;", (0, true)),
         ("struct S();", (0, true)),
+        ("struct S {}", (0, true)),
         ("struct S(a, b,);", (2, false)),
-        ("struct S(a);", (1, false)),
+        ("struct S { a: b }", (1, false)),
     ] {
         assert_eq!(rt; counted(rt.alloc(), text)?, want, "of {text:?}");
     }
     Ok(())
 }
 
-/// The print of the fields once the type of each is `x`.
-fn changed_fields(alloc: Global, text: &str) -> Result<String> {
+/// The type of no values.
+fn unit_type(alloc: Global) -> Type {
+    Type::Tuple(TypeTuple {
+        paren_token: Paren::new(span(0, 1), span(1, 2)),
+        elems: Punctuated::new(alloc),
+    })
+}
+
+/// The print of the fields once the type of each is `()`.
+fn unit_fields(alloc: Global, text: &str) -> Result<String> {
     let mut fields = fields_of(alloc, text)?;
     for field in &mut fields {
-        field.ty = parsed(alloc, "x")?;
+        field.ty = unit_type(alloc);
     }
     printed(alloc, &fields)
 }
 
 #[test]
 fn changed(rt: HostRuntime) -> Result<()> {
-    let text = changed_fields(rt.alloc(), "struct S(u8, pub u16,);")?;
-    assert_text(&rt, text.as_str(), "( x , pub x , )");
-    let text = changed_fields(rt.alloc(), "struct S;")?;
+    let text = unit_fields(rt.alloc(), "struct S(u8, u16);")?;
+    assert_text(&rt, text.as_str(), "( ( ) , ( ) )");
+    let text = unit_fields(rt.alloc(), "struct S { a: u8, pub b: u16, }")?;
+    assert_text(&rt, text.as_str(), "{ a : ( ) , pub b : ( ) , }");
+    let text = unit_fields(rt.alloc(), "struct S;")?;
     assert_text(&rt, text.as_str(), "");
     Ok(())
 }

@@ -4,8 +4,7 @@
 //! Each does the same twice: one of both has to be right, the other may be refused for want of memory.
 ghost use Rattle.std.specs.Prelude.{None};
 
-use crate::tests::deferred::Inputs;
-use crate::tests::support::{fault, parsed, printed, refused_at, reprinted, span};
+use crate::tests::deferred::Visibilities;
 use std::alloc::Global;
 use syn::canon::{canonical, same_form};
 use syn::data::FieldsUnnamed;
@@ -18,6 +17,7 @@ use syn::restriction::Visibility;
 use syn::token::{Ident, LitKind, Literal, TokenStream, TokenTree};
 use syn::{Result, TryClone};
 use syn_parse::deferred::Deferred;
+use syn_test_support::{fault, parsed, printed, refused_at, reprinted, span};
 
 const STRUCT: &str = "pub struct S(pub(in a::b) c, ::d::e,);";
 
@@ -132,14 +132,14 @@ fn copies(rt: HostRuntime) {
 }
 
 fn is_deferred(alloc: Global) -> Result<bool> {
-    let deferred: Deferred<Inputs> = parsed(alloc, STRUCT)?;
+    let deferred: Deferred<Visibilities> = parsed(alloc, "pub(in a::b)")?;
     let copy = deferred.try_clone(alloc)?;
-    Ok(copy == deferred && printed(alloc, &copy)?.as_str() == PRINTED)
+    Ok(copy == deferred && printed(alloc, &copy)?.as_str() == "pub ( in a :: b )")
 }
 
 fn is_opened(alloc: Global) -> Result<bool> {
-    let tree: DeriveInput = parsed(alloc, STRUCT)?;
-    let deferred: Deferred<Inputs> = Deferred::new(&tree, alloc)?;
+    let tree: Visibility = parsed(alloc, "pub(in a::b)")?;
+    let deferred: Deferred<Visibilities> = Deferred::new(&tree, alloc)?;
     Ok(deferred.open()? == tree)
 }
 

@@ -33,7 +33,7 @@ impl Print for Lifetime {
 /// Its trees, as they are.
 impl Print for TokenStream {
     fn print_in(&self, out: &mut StreamBuilder) -> Result<(), AllocError> {
-        out.append(self.copy(out.alloc())?)
+        out.append(self)
     }
 }
 

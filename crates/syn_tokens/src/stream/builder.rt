@@ -15,6 +15,7 @@ use crate::literal::Literal;
 use crate::punct::{Punct, Spacing};
 use crate::span::Span;
 use crate::stream::TokenStream;
+use crate::stream::copies::append_copies;
 use crate::stream::entry::{Close, Entry, Open};
 use crate::stream::words::Words;
 use std::alloc::{AllocError, Global};
@@ -132,16 +133,14 @@ impl StreamBuilder {
         Ok(())
     }
 
-    /// Adds the trees of a stream, all at once, however deep they are; refused, it leaves all as it was.
-    pub fn append(&mut self, stream: TokenStream) -> std::result::Result<(), AllocError>
-        ensures prints { OnOk result (self.new ≡ added self.old stream) }
+    /// Adds copies of the trees of a stream, in memory that is asked for once, however deep they are; refused, it leaves all as it was.
+    pub fn append(&mut self, stream: &TokenStream) -> std::result::Result<(), AllocError>
+        ensures prints { OnOk result (self.new ≡ added self.old stream.now) }
         ensures err { OnErr result (self.new ≡ self.old) }
         ensures begins { self.new.before ≡ self.old.before }
     {
-        let (entries, trees) = stream.into_entries();
-        let mut entries = entries;
-        self.entries.append(&mut entries)?;
-        self.trees += trees;
+        append_copies(&mut self.entries, stream.entries())?;
+        self.trees += stream.len();
         Ok(())
     }
 

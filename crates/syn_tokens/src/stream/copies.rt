@@ -1,5 +1,5 @@
 //! Copies of token trees and streams: each takes memory once, however deep its groups are.
-ghost use Rattle.std.specs.Prelude.{◌≡◌, ℕ, [], IfOk, IfErr, OnOk, OnErr};
+ghost use Rattle.std.specs.Prelude.{◌≡◌, ◌++◌, ℕ, [], length, take, IfOk, IfErr, OnOk, OnErr};
 ghost use Rattle.syn_grammar.specs.Tokens.{end};
 ghost use Rattle.syn_grammar.specs.Take as grammar;
 ghost use Rattle.syn_tokens.specs.Entries.{decode, IsFlat};
@@ -15,14 +15,42 @@ use crate::stream::entry::Entry;
 use crate::stream::tree::{Group, TokenTree};
 use std::alloc::{AllocError, Global};
 
+/// Adds copies of these entries behind others; refused, some of them may stand there.
+fn push_copies(behind: &mut Vec<Entry>, entries: &[Entry]) -> std::result::Result<(), AllocError>
+    ensures ok { OnOk result (behind.new.items ≡ behind.old.items ++ entries.now) }
+    ensures kept { take (length behind.old.items) behind.new.items ≡ behind.old.items }
+{
+    for entry in entries {
+        behind.push(entry.copy()?)?;
+    }
+    Ok(())
+}
+
+/// Adds copies of these entries behind others; refused, it leaves those as they were.
+pub(super) fn append_copies(
+    behind: &mut Vec<Entry>,
+    entries: &[Entry],
+) -> std::result::Result<(), AllocError>
+    ensures ok { OnOk result (behind.new.items ≡ behind.old.items ++ entries.now) }
+    ensures err { OnErr result (behind.new.items ≡ behind.old.items) }
+{
+    let before = behind.len();
+    behind.reserve(entries.len())?;
+    match push_copies(behind, entries) {
+        Ok(()) => Ok(()),
+        Err(error) => {
+            behind.truncate(before);
+            Err(error)
+        }
+    }
+}
+
 /// Copies of these entries.
 fn copy_entries(entries: &[Entry], alloc: Global) -> std::result::Result<Vec<Entry>, AllocError>
     ensures { IfOk result (λ copy. copy.items ≡ entries.now) }
 {
     let mut copy = Vec::with_capacity(alloc, entries.len())?;
-    for entry in entries {
-        copy.push(entry.copy()?)?;
-    }
+    push_copies(&mut copy, entries)?;
     Ok(copy)
 }
 

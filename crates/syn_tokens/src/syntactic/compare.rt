@@ -4,8 +4,10 @@ ghost use Rattle.syn_grammar.specs.Same.{same_syntax};
 ghost use Rattle.syn_tokens.specs.InOrder.{in_order};
 
 use crate::ident::Ident;
+use crate::lifetime::Lifetime;
 use crate::literal::Literal;
 use crate::punctuated::Punctuated;
+use crate::stream::TokenStream;
 use crate::syntactic::Syntactic;
 use crate::token::{Mark, MarkKind, Word, WordKind};
 
@@ -26,6 +28,18 @@ impl Compared for Ident {
 impl Compared for Literal {
     #[tactic(auto, using(syn_grammar::proofs::Same::bytes_same_text))]
     fn is_same(&self, other: &Literal) -> bool {
+        self == other
+    }
+}
+
+impl Compared for Lifetime {
+    fn is_same(&self, other: &Lifetime) -> bool {
+        self.ident.is_same(&other.ident)
+    }
+}
+
+impl Compared for TokenStream {
+    fn is_same(&self, other: &TokenStream) -> bool {
         self == other
     }
 }

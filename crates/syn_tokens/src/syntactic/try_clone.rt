@@ -3,8 +3,10 @@ ghost use Rattle.std.specs.Prelude.{◌≡◌, [], map, IfOk, IfErr, None};
 
 use crate::error::Result;
 use crate::ident::Ident;
+use crate::lifetime::Lifetime;
 use crate::literal::Literal;
 use crate::punctuated::Punctuated;
+use crate::stream::TokenStream;
 use crate::syntactic::Syntactic;
 use crate::token::{Mark, MarkKind, Word, WordKind};
 use std::alloc::Global;
@@ -25,6 +27,21 @@ impl TryClone for Ident {
 
 impl TryClone for Literal {
     fn try_clone(&self, alloc: Global) -> Result<Literal> {
+        self.try_clone(alloc)
+    }
+}
+
+impl TryClone for Lifetime {
+    fn try_clone(&self, alloc: Global) -> Result<Lifetime> {
+        Ok(Lifetime {
+            apostrophe: self.apostrophe,
+            ident: self.ident.try_clone(alloc)?,
+        })
+    }
+}
+
+impl TryClone for TokenStream {
+    fn try_clone(&self, alloc: Global) -> Result<TokenStream> {
         self.try_clone(alloc)
     }
 }

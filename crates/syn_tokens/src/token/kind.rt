@@ -48,6 +48,7 @@ pub use expressions::Underscore;
 pub use expressions::While;
 pub use groups::Brace;
 pub use groups::Bracket;
+pub use groups::Group;
 pub use groups::Paren;
 pub use long_marks::AndAnd;
 pub use long_marks::AndEq;

@@ -1,5 +1,5 @@
 //! Marks, such as `::`.
-ghost use Rattle.std.specs.Prelude.{◌≡◌, OnOk};
+ghost use Rattle.std.specs.Prelude.{◌≡◌, OnOk, replicate};
 ghost use Rattle.syn_grammar.specs.Words.{Text};
 ghost use Rattle.syn_grammar.specs.Tokens.{end};
 ghost use Rattle.syn_grammar.specs.Grammar.{spell};
@@ -45,6 +45,15 @@ impl<K, const N: usize> Mark<K, N> {
             spans,
             kind: PhantomData,
         }
+    }
+}
+
+impl<K, const N: usize> Default for Mark<K, N> {
+    /// The mark at no place of a text: each of its characters has the span 0 to 0.
+    fn default() -> Mark<K, N>
+        ensures { result.spans ≡ replicate N (record { start = 0; end = 0 }) }
+    {
+        Mark::new([Span::call_site(); N])
     }
 }
 

@@ -60,6 +60,8 @@ fn marks(rt: HostRuntime) -> Result<()> {
     let mark: Comma = Mark::new([HERE]);
     assert_eq!(rt; TryClone::try_clone(&mark, rt.alloc())?.spans[0], HERE);
     assert!(rt; mark.is_same(&Mark::new([BEHIND])), "wherever they stand");
+    assert_eq!(rt; Comma::default().spans[0], Span::call_site());
+    assert!(rt; mark == Comma::default(), "wherever they stand");
     Ok(())
 }
 

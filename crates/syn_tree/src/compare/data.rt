@@ -1,17 +1,38 @@
 //! Written by tools/kinds.py; edits are lost.
 //!
 //! Comparisons of `data`.
-ghost use Rattle.syn_tree.specs.Data.{syntax_of_Fields};
+ghost use Rattle.syn_grammar.specs.Promises.{itself};
 ghost use Rattle.syn_tree.specs.Equality.{IsSame, IsEqual, PrintsAlike};
 ghost use Rattle.syn_tokens.specs.Comparison.{same_by, same_equiv, same_per};
-ghost use Rattle.syn_grammar.specs.Promises.{itself};
+ghost use Rattle.syn_tree.specs.Data.{syntax_of_Fields};
 
-use crate::data::{Field, Fields, FieldsUnnamed};
+use crate::data::{Field, Fields, FieldsNamed, FieldsUnnamed, Variant};
 use syn_tokens::syntactic::compare::Compared;
+
+/// Two are equal exactly where they are once every span is 0 to 0.
+impl PartialEq for Variant {
+    ghost eq = { same_by itself };
+
+    ghost laws = { same_per itself };
+
+    #[tactic(auto, using(crate::proofs::Equality::equals))]
+    fn eq(&self, other: &Variant) -> bool
+        ensures same { IsSame itself self.now other.now result }
+        ensures equal { IsEqual itself self.now other.now result }
+        ensures prints { PrintsAlike itself self.now other.now result }
+    {
+        self.is_same(other)
+    }
+}
+
+impl Eq for Variant {
+    ghost laws = { same_equiv itself };
+}
 
 impl Compared for Fields {
     fn is_same(&self, other: &Fields) -> bool {
         match (self, other) {
+            (Fields::Named(a), Fields::Named(b)) => a.is_same(b),
             (Fields::Unnamed(a), Fields::Unnamed(b)) => a.is_same(b),
             (Fields::Unit, Fields::Unit) => true,
             _ => false,
@@ -37,6 +58,32 @@ impl PartialEq for Fields {
 
 impl Eq for Fields {
     ghost laws = { same_equiv syntax_of_Fields };
+}
+
+impl Compared for FieldsNamed {
+    fn is_same(&self, other: &FieldsNamed) -> bool {
+        self.named.is_same(&other.named)
+    }
+}
+
+/// Two are equal exactly where they are once every span is 0 to 0.
+impl PartialEq for FieldsNamed {
+    ghost eq = { same_by itself };
+
+    ghost laws = { same_per itself };
+
+    #[tactic(auto, using(crate::proofs::Equality::equals))]
+    fn eq(&self, other: &FieldsNamed) -> bool
+        ensures same { IsSame itself self.now other.now result }
+        ensures equal { IsEqual itself self.now other.now result }
+        ensures prints { PrintsAlike itself self.now other.now result }
+    {
+        self.is_same(other)
+    }
+}
+
+impl Eq for FieldsNamed {
+    ghost laws = { same_equiv itself };
 }
 
 impl Compared for FieldsUnnamed {

@@ -4,21 +4,10 @@
 ghost use Rattle.syn_grammar.specs.Promises.{itself};
 ghost use Rattle.syn_tree.specs.Equality.{IsSame, IsEqual, PrintsAlike};
 ghost use Rattle.syn_tokens.specs.Comparison.{same_by, same_equiv, same_per};
-ghost use Rattle.syn_tree.specs.Derive.{syntax_of_Data, syntax_of_DataStruct};
+ghost use Rattle.syn_tree.specs.Derive.{syntax_of_Data, syntax_of_DataStruct, syntax_of_DataEnum, syntax_of_DataUnion};
 
-use crate::derive::{Data, DataStruct, DeriveInput};
+use crate::derive::{Data, DataEnum, DataStruct, DataUnion, DeriveInput};
 use syn_tokens::syntactic::compare::Compared;
-
-impl Compared for DeriveInput {
-    #[tactic(auto, using(crate::proofs::Attributes::same_attributes))]
-    fn is_same(&self, other: &DeriveInput) -> bool {
-        self.attrs.is_same(&other.attrs)
-            && self.vis.is_same(&other.vis)
-            && self.ident.is_same(&other.ident)
-            && self.generics.is_same(&other.generics)
-            && self.shape.is_same(&other.shape)
-    }
-}
 
 /// Two are equal exactly where they are once every span is 0 to 0.
 impl PartialEq for DeriveInput {
@@ -44,6 +33,9 @@ impl Compared for Data {
     fn is_same(&self, other: &Data) -> bool {
         match (self, other) {
             (Data::Struct(a), Data::Struct(b)) => a.is_same(b),
+            (Data::Enum(a), Data::Enum(b)) => a.is_same(b),
+            (Data::Union(a), Data::Union(b)) => a.is_same(b),
+            _ => false,
         }
     }
 }
@@ -94,4 +86,56 @@ impl PartialEq for DataStruct {
 
 impl Eq for DataStruct {
     ghost laws = { same_equiv syntax_of_DataStruct };
+}
+
+impl Compared for DataEnum {
+    fn is_same(&self, other: &DataEnum) -> bool {
+        self.enum_token.is_same(&other.enum_token) && self.variants.is_same(&other.variants)
+    }
+}
+
+/// Two are equal exactly where they are once every span is 0 to 0.
+impl PartialEq for DataEnum {
+    ghost eq = { same_by syntax_of_DataEnum };
+
+    ghost laws = { same_per syntax_of_DataEnum };
+
+    #[tactic(auto, using(crate::proofs::Equality::equals))]
+    fn eq(&self, other: &DataEnum) -> bool
+        ensures same { IsSame syntax_of_DataEnum self.now other.now result }
+        ensures equal { IsEqual syntax_of_DataEnum self.now other.now result }
+        ensures prints { PrintsAlike syntax_of_DataEnum self.now other.now result }
+    {
+        self.is_same(other)
+    }
+}
+
+impl Eq for DataEnum {
+    ghost laws = { same_equiv syntax_of_DataEnum };
+}
+
+impl Compared for DataUnion {
+    fn is_same(&self, other: &DataUnion) -> bool {
+        self.union_token.is_same(&other.union_token) && self.fields.is_same(&other.fields)
+    }
+}
+
+/// Two are equal exactly where they are once every span is 0 to 0.
+impl PartialEq for DataUnion {
+    ghost eq = { same_by syntax_of_DataUnion };
+
+    ghost laws = { same_per syntax_of_DataUnion };
+
+    #[tactic(auto, using(crate::proofs::Equality::equals))]
+    fn eq(&self, other: &DataUnion) -> bool
+        ensures same { IsSame syntax_of_DataUnion self.now other.now result }
+        ensures equal { IsEqual syntax_of_DataUnion self.now other.now result }
+        ensures prints { PrintsAlike syntax_of_DataUnion self.now other.now result }
+    {
+        self.is_same(other)
+    }
+}
+
+impl Eq for DataUnion {
+    ghost laws = { same_equiv syntax_of_DataUnion };
 }

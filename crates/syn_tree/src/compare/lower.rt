@@ -3,8 +3,10 @@
 //! Comparisons of trees.
 
 mod attr;
+mod bounds;
 mod expr;
 mod generics;
 mod lit;
 mod path;
 mod ty;
+mod where_clause;

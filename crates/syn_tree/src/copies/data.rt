@@ -2,17 +2,38 @@
 //!
 //! Copies of `data`.
 
-use crate::data::{Field, Fields, FieldsUnnamed};
+use crate::data::{Field, Fields, FieldsNamed, FieldsUnnamed, Variant};
 use std::alloc::Global;
 use syn_tokens::error::Result;
 use syn_tokens::syntactic::try_clone::TryClone;
 
+impl TryClone for Variant {
+    fn try_clone(&self, alloc: Global) -> Result<Variant> {
+        Ok(Variant {
+            attrs: self.attrs.try_clone(alloc)?,
+            ident: self.ident.try_clone(alloc)?,
+            fields: self.fields.try_clone(alloc)?,
+            discriminant: self.discriminant.try_clone(alloc)?,
+        })
+    }
+}
+
 impl TryClone for Fields {
     fn try_clone(&self, alloc: Global) -> Result<Fields> {
         match self {
+            Fields::Named(value) => Ok(Fields::Named(value.try_clone(alloc)?)),
             Fields::Unnamed(value) => Ok(Fields::Unnamed(value.try_clone(alloc)?)),
             Fields::Unit => Ok(Fields::Unit),
         }
+    }
+}
+
+impl TryClone for FieldsNamed {
+    fn try_clone(&self, alloc: Global) -> Result<FieldsNamed> {
+        Ok(FieldsNamed {
+            brace_token: self.brace_token,
+            named: self.named.try_clone(alloc)?,
+        })
     }
 }
 

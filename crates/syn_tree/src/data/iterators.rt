@@ -1,7 +1,7 @@
 //! The fields of a struct or variant, in order and from both ends.
 ghost use Rattle.std.specs.Prelude.{◌≡◌, ◌↔◌, ◌<◌, ◌^◌, [], IsTrue, MatchOption, length};
 ghost use Rattle.syn_tokens.specs.Lists.{values};
-ghost use Rattle.syn_tree.specs.Fields.{fields_of};
+ghost use Rattle.syn_tree.specs.Members.{fields_of};
 
 use crate::data::{Field, Fields};
 use syn_tokens::punctuated::Punctuated;
@@ -10,22 +10,24 @@ use syn_tokens::token::Comma;
 
 impl Fields {
     /// The list of fields; none of a unit struct.
-    #[tactic(auto, using(crate::proofs::Fields::elements_listed))]
+    #[tactic(auto, using(crate::proofs::Members::elements_listed))]
     fn list(&self) -> Option<&Punctuated<Field, Comma>>
         ensures { MatchOption result (fields_of self.now ≡ []) (λ list. fields_of self.now ≡ values list.now) }
     {
         match self {
+            Fields::Named(fields) => Some(&fields.named),
             Fields::Unnamed(fields) => Some(&fields.unnamed),
             Fields::Unit => None,
         }
     }
 
     /// The same, to be changed.
-    #[tactic(auto, using(crate::proofs::Fields::elements_listed))]
+    #[tactic(auto, using(crate::proofs::Members::elements_listed))]
     fn list_mut(&mut self) -> Option<&mut Punctuated<Field, Comma>>
         ensures { MatchOption result (fields_of self.old ≡ []) (λ list. fields_of self.old ≡ values list.now) }
     {
         match self {
+            Fields::Named(fields) => Some(&mut fields.named),
             Fields::Unnamed(fields) => Some(&mut fields.unnamed),
             Fields::Unit => None,
         }
@@ -54,11 +56,12 @@ impl Fields {
     }
 
     /// How many fields there are.
-    #[tactic(auto, using(crate::proofs::Fields::elements_listed))]
+    #[tactic(auto, using(crate::proofs::Members::elements_listed))]
     pub fn len(&self) -> usize
         ensures { result ≡ length (fields_of self.now) }
     {
         match self {
+            Fields::Named(fields) => fields.named.len(),
             Fields::Unnamed(fields) => fields.unnamed.len(),
             Fields::Unit => 0,
         }
@@ -80,9 +83,10 @@ impl IntoIterator for Fields {
 
     ghost into_iter_gives = { λ fields i. i ≡ fields_of fields };
 
-    #[tactic(auto, using(crate::proofs::Fields::elements_listed))]
+    #[tactic(auto, using(crate::proofs::Members::elements_listed))]
     fn into_iter(self) -> IntoIter<Field, Comma> {
         match self {
+            Fields::Named(fields) => fields.named.into_iter(),
             Fields::Unnamed(fields) => fields.unnamed.into_iter(),
             Fields::Unit => IntoIter::default(),
         }

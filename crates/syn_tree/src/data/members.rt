@@ -1,12 +1,10 @@
 //! What the fields of a struct or variant are called.
 ghost use Rattle.std.specs.Prelude.{◌≡◌, ◌<◌, ◌^◌, length};
 ghost use Rattle.std.specs.Iterator.{YieldsFirstBy, item_count};
-ghost use Rattle.syn_grammar.specs.Grammar.{print};
-ghost use Rattle.syn_tree.specs.Lower.{syntax_of_Type};
-ghost use Rattle.syn_tree.specs.Fields.{fields_of, first_place, member_of, member_value, members_from};
+ghost use Rattle.syn_tree.specs.Members.{fields_of, member_of, member_value, members_from};
 
+use crate::data::first_token::first_span;
 use crate::data::{Field, Fields};
-use crate::lower::{Path, Type};
 use std::alloc::AllocError;
 use std::marker::Model;
 use syn_tokens::ident::Ident;
@@ -37,7 +35,7 @@ pub struct Members<'a> {
 
 impl<'a> Model for Members<'a> {
     ghost use Rattle.std.specs.Prelude.{List, ◌+◌, ◌<◌, ◌^◌, length};
-    ghost use Rattle.syn_tree.specs.Fields.{MemberValue, member_of, members_from};
+    ghost use Rattle.syn_tree.specs.Members.{MemberValue, member_of, members_from};
 
     ghost Value = { List MemberValue };
 
@@ -99,28 +97,5 @@ fn member<'a>(field: &'a Field, index: u32) -> MemberRef<'a>
             index,
             span: first_span(&field.ty),
         }),
-    }
-}
-
-/// Where the type's first token stands; 0 to 0 where it has none.
-fn first_span(ty: &Type) -> Span
-    ensures { result ≡ first_place (print (syntax_of_Type ty.now)) }
-{
-    match ty {
-        Type::Path(ty) => path_span(&ty.path),
-    }
-}
-
-/// The same of a path: where `::` stands, or else its first word.
-#[tactic(auto, using(crate::proofs::Fields::words_begin, crate::proofs::Fields::no_words_begin))]
-fn path_span(path: &Path) -> Span
-    ensures { result ≡ first_place (print path.now) }
-{
-    if let Some(colons) = &path.leading_colon {
-        return colons.spans[0];
-    }
-    match path.segments.first() {
-        Some(segment) => segment.ident.span,
-        None => Span::call_site(),
     }
 }

@@ -11,6 +11,7 @@ ghost use Rattle.syn_tree.specs.Attributes.{all_attributes_syntax, all_row, attr
 mod parsing;
 
 use crate::lower::Path;
+pub(crate) use parsing::{all_outer_attributes, outer_attributes};
 use std::alloc::AllocError;
 use syn_parse::buffer::ParseBuffer;
 use syn_parse::read::Peek;

@@ -1,5 +1,5 @@
-use Rattle.syn_grammar.proofs.Proved.{derive_input_ends, plain_derive_input_ends}
+use Rattle.syn_grammar.proofs.Proved.{derive_input_ends}
 use Rattle.syn_grammar.proofs.laws.derive_input_ends_by_itself.Goals as goal
 
 pub returns : goal.returns
-returns c = record { before_everything = plain_derive_input_ends; whole_before_everything = derive_input_ends }
+returns c = record { before_everything = derive_input_ends }

@@ -1,6 +1,6 @@
 //! Doc comments, which are read as attributes.
+use crate::tests::asserts::assert_text_of;
 use crate::tests::reader::support::{Read, Refused, are_read, are_refused, shown};
-use crate::tests::support::assert_text_of;
 use std::alloc::Global;
 use syn::Result;
 

@@ -1,5 +1,5 @@
 //! The text of streams that no text spells.
-use crate::tests::support::assert_text_of;
+use crate::tests::asserts::assert_text_of;
 use std::alloc::Global;
 use syn::Result;
 use syn::reader::token_text;

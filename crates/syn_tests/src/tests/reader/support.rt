@@ -1,11 +1,11 @@
 //! How the tests write down what a text is read as, and what it is refused for.
-use crate::tests::outline::outline;
-use crate::tests::support::assert_text_of;
+use crate::tests::asserts::assert_text_of;
 use std::alloc::Global;
 use std::process::Abort;
 use syn::Result;
 use syn::reader::read_tokens;
 use syn::token::TokenStream;
+use syn_test_support::outline::outline;
 
 /// A text, and its tokens with their spans: an identifier as `a@0..1`; a mark's character as `:@0..1`, or as `:+@0..1` where
 /// it is Joint; a literal with its kind before it, as `Int1@0..1` or `Str"a"@0..3`; and the two delimiters of a group as `(@0..1`

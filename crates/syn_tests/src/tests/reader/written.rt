@@ -1,5 +1,5 @@
 //! The text of tokens that were read.
-use crate::tests::support::assert_text_of;
+use crate::tests::asserts::assert_text_of;
 use std::alloc::Global;
 use syn::Result;
 use syn::reader::{read_tokens, token_text};

@@ -55,3 +55,20 @@ impl DelimiterKind for Bracket {
         "expected square brackets"
     }
 }
+
+/// The delimiters of an invisible group: no text shows them.
+pub struct Group;
+
+impl DelimiterKind for Group {
+    ghost delimiter = { grammar.None };
+
+    ghost fault = { codes "expected invisible group" };
+
+    fn delimiter() -> Delimiter {
+        Delimiter::None
+    }
+
+    fn expected() -> &'static str {
+        "expected invisible group"
+    }
+}

@@ -11,11 +11,12 @@ ghost use Rattle.syn_tokens.specs.Kinds.{eq_syntax, path_sep_syntax};
 ghost use Rattle.syn_tokens.specs.Spans.{at};
 ghost use Rattle.syn_tree.specs.Parsing.{rule, inside, parse_rule, parse_form, Computes, Parses, Moved, Kept, Outcome, itself, IsSyntax, IsSyntaxError, joined_of};
 ghost use Rattle.syn_tree.specs.Parts.{group_syntax};
-ghost use Rattle.syn_tree.specs.Attributes.{attributes_syntax, inner_attributes_syntax, inner_form, is_inner, is_outer, meta_path_form, outer_form, syntax_of_Attribute, syntax_of_Meta};
+ghost use Rattle.syn_tree.specs.Attributes.{all_attributes_syntax, attributes_syntax, inner_attributes_syntax, inner_form, is_inner, is_outer, meta_path_form, outer_form, syntax_of_Attribute, syntax_of_Meta};
 ghost use Rattle.syn_tree.specs.MetaValues.{syntax_of_MetaValue};
 
 use crate::looks::at_inner_attribute;
 use crate::lower::attr::{AttrStyle, Attribute, MacroDelimiter, Meta, MetaList, MetaNameValue};
+use crate::lower::parsing::module_path;
 use crate::lower::{Path, PathArguments, PathSegment};
 use syn_parse::buffer::ParseBuffer;
 use syn_parse::read::refusal::{Parsed, Refusal};
@@ -72,8 +73,9 @@ impl Attribute {
 
 /// Outer attributes, as long as `#` stands next.
 #[tactic(auto, using(crate::proofs::AttributeLists::outer_refused))]
-fn outer_attributes(input: &mut ParseBuffer<'_>) -> Parsed<Vec<Attribute>>
+pub(crate) fn outer_attributes(input: &mut ParseBuffer<'_>) -> Parsed<Vec<Attribute>>
     ensures reads { Computes IsSyntax (λ v. attributes_syntax v.items) (parse_rule rules.attributes input.old) result input.new }
+    ensures all { IfOk result (λ v. all_attributes_syntax v.items ≡ attributes_syntax v.items) }
     ensures kept { Kept input.old result input.new }
 {
     let mut attrs = Vec::new(input.alloc());
@@ -82,6 +84,14 @@ fn outer_attributes(input: &mut ParseBuffer<'_>) -> Parsed<Vec<Attribute>>
         attrs.push(attr)?;
     }
     Ok(attrs)
+}
+
+/// The same, for a tree that prints all of its attributes, inner ones too.
+pub(crate) fn all_outer_attributes(input: &mut ParseBuffer<'_>) -> Parsed<Vec<Attribute>>
+    ensures reads { Computes IsSyntax (λ v. all_attributes_syntax v.items) (parse_rule rules.attributes input.old) result input.new }
+    ensures kept { Kept input.old result input.new }
+{
+    outer_attributes(input)
 }
 
 /// Inner attributes, as long as `#` stands next and `!` behind it.
@@ -172,7 +182,7 @@ fn meta_path(input: &mut ParseBuffer<'_>) -> Parsed<Path>
     if input.peek::<Unsafe>() {
         unsafe_path(input)
     } else {
-        input.read()
+        module_path(input)
     }
 }
 

@@ -1,5 +1,5 @@
 use Rattle.std.proofs.Common.{refl, rules}
-use Rattle.syn_grammar.specs.Rules.{plain_unnamed_field}
+use Rattle.syn_grammar.specs.Rules.{unnamed_field}
 use Rattle.syn_grammar.specs.Grammar.{rule}
 use Rattle.syn_grammar.specs.Promises.{itself}
 use Rattle.syn_grammar.proofs.Outcomes.{meaning_of_rule, outcome_of}
@@ -11,10 +11,10 @@ use Rattle.syn_tree.proofs.data.Field.parse_unnamed.Goals as goal
 
 pub returns-in_err-field-clause-outcome : goal.returns-in_err-field-clause-outcome
 returns-in_err-field-clause-outcome c =
-    outcome_of IsSyntaxError itself (rule plain_unnamed_field) (meaning_of_rule plain_unnamed_field) c.args.input.now c.from_residual.result c.args.input.now (search (rules, refused_by_syntax)) (λ e h. refl)
+    outcome_of IsSyntaxError itself (rule unnamed_field) (meaning_of_rule unnamed_field) c.args.input.now c.from_residual.result c.args.input.now (search (rules, refused_by_syntax)) (λ e h. refl)
 
 pub returns-clause-outcome : goal.returns-clause-outcome
-returns-clause-outcome c = λ v. ((meaning_of_rule plain_unnamed_field c.args.input.now v).0 _ _).0 (search rules)
+returns-clause-outcome c = λ v. ((meaning_of_rule unnamed_field c.args.input.now v).0 _ _).0 (search rules)
 
 pub returns-in_err-field-clause-default : goal.returns-in_err-field-clause-default
 returns-in_err-field-clause-default c =

@@ -1,5 +1,5 @@
 use Rattle.std.proofs.Common.{rules, sym, ap, length, ◌∙◌}
-use Rattle.syn_tree.proofs.Fields.{nothing_in}
+use Rattle.syn_tree.proofs.Members.{nothing_in}
 use Rattle.syn_tree.proofs.data.Fields.is_empty.Goals as goal
 
 pub returns : goal.returns

@@ -4,7 +4,7 @@ use Rattle.syn_grammar.specs.Table.{at_pound}
 use Rattle.syn_grammar.specs.Take.{left, sees}
 use Rattle.syn_grammar.specs.Run.{parse_rule, parse_form, wrap}
 use Rattle.syn_tree.specs.Attributes.{outer_form, is_outer, syntax_of_Attribute}
-use Rattle.syn_tree.proofs.AttributeLists.{in_front, every_grows, read_grows, outer_more, outer_end}
+use Rattle.syn_tree.proofs.AttributeLists.{in_front, every_grows, read_grows, outer_more, outer_end, all_outer}
 use Rattle.syn_tree.proofs.lower.attr.parsing.outer_attributes.Goals as goal
 
 pub attributes-preserved : goal.attributes-preserved
@@ -25,3 +25,6 @@ pub returns-clause-reads : goal.returns-clause-reads
 returns-clause-reads c =
     let past : sees at_pound c.attributes.input ≡ false = search rules in
     c.attributes.invariant.2 ∙ outer_end c.attributes.attrs.items c.attributes.input c.attributes.invariant.1 past
+
+pub returns-clause-all : goal.returns-clause-all
+returns-clause-all c = all_outer c.attributes.attrs.items c.attributes.invariant.1

@@ -1,0 +1,66 @@
+//! What is parsed by functions, as types that have canonical prints.
+ghost use Rattle.syn_grammar.specs.Grammar.{rule};
+ghost use Rattle.syn_grammar.specs.Rules as rules;
+ghost use Rattle.syn_parse.specs.Form.{of};
+ghost use Rattle.syn_parse.specs.Meanings.{meaning_of_rule};
+
+use std::alloc::AllocError;
+use syn_parse::buffer::ParseBuffer;
+use syn_parse::read::Read;
+use syn_parse::read::refusal::Parsed;
+use syn_tokens::print::{Print, ToTokens};
+use syn_tokens::stream::builder::StreamBuilder;
+use syn_tokens::syntactic::Syntactic;
+use syn_tree::data::Field;
+
+/// A field with a name, as `Field::parse_named` parses it.
+#[derive(Drop)]
+pub struct NamedField(pub Field);
+
+impl Syntactic for NamedField {
+    ghost syntax = { λ field. field.0 };
+}
+
+impl Read for NamedField {
+    ghost form = { of (rule rules.named_field) };
+
+    ghost meaning = { meaning_of_rule rules.named_field };
+
+    fn read(input: &mut ParseBuffer<'_>) -> Parsed<NamedField> {
+        Ok(NamedField(Field::read_named(input)?))
+    }
+}
+
+impl Print for NamedField {
+    fn print_in(&self, out: &mut StreamBuilder) -> Result<(), AllocError> {
+        self.0.print_in(out)
+    }
+}
+
+impl ToTokens for NamedField {}
+
+/// A field without a name, as `Field::parse_unnamed` parses it.
+#[derive(Drop)]
+pub struct UnnamedField(pub Field);
+
+impl Syntactic for UnnamedField {
+    ghost syntax = { λ field. field.0 };
+}
+
+impl Read for UnnamedField {
+    ghost form = { of (rule rules.unnamed_field) };
+
+    ghost meaning = { meaning_of_rule rules.unnamed_field };
+
+    fn read(input: &mut ParseBuffer<'_>) -> Parsed<UnnamedField> {
+        Ok(UnnamedField(Field::read_unnamed(input)?))
+    }
+}
+
+impl Print for UnnamedField {
+    fn print_in(&self, out: &mut StreamBuilder) -> Result<(), AllocError> {
+        self.0.print_in(out)
+    }
+}
+
+impl ToTokens for UnnamedField {}

@@ -1,0 +1,459 @@
+//! Texts that show trees whole: each token with its spans, each part that is there.
+use std::alloc::{AllocError, Global};
+use syn::ToTokens;
+use syn::data::{Field, Fields, FieldsNamed, FieldsUnnamed, Variant};
+use syn::derive::{Data, DataEnum, DataStruct, DataUnion, DeriveInput};
+use syn::item::{Item, ItemEnum, ItemStruct, ItemUnion};
+use syn::lower::{
+    AttrStyle, Attribute, Generics, MacroDelimiter, Meta, MetaList, MetaNameValue, Path,
+    PathArguments, PathSegment, Type, TypePath,
+};
+use syn::punctuated::Punctuated;
+use syn::restriction::{VisRestricted, Visibility};
+use syn::token::{
+    Comma, Delimiter, Entry, Eq, Ident, LiteralRef, Mark, Punct, Spacing, Span, Token, TokenStream,
+};
+use syn_parse::deferred::Deferred;
+use syn_tree::kind::Expr;
+
+/// A tree that can be shown.
+pub trait Outlined {
+    /// Adds what shows the tree: a word as `pub@0..3`, a mark as `::@3..4@4..5`, a group as `(@0..1` and `)@4..5`; the
+    /// character of a mark in a stream as `:@3..4`, or as `:+@3..4` where it is Joint, and a literal with its kind as `Int1@0..1`.
+    fn show(&self, out: &mut TreeText) -> Result<(), AllocError>;
+}
+
+/// The text that shows a tree.
+pub fn outline<T: Outlined>(alloc: Global, tree: &T) -> Result<String, AllocError> {
+    let mut out = TreeText {
+        alloc,
+        text: String::new(alloc),
+    };
+    tree.show(&mut out)?;
+    Ok(out.text)
+}
+
+/// A text that is being written.
+#[derive(Drop)]
+pub struct TreeText {
+    alloc: Global,
+    text: String,
+}
+
+impl TreeText {
+    fn word(&mut self, word: &str) -> Result<(), AllocError> {
+        if !self.text.is_empty() {
+            self.text.push(' ')?;
+        }
+        self.text.push_str(word)
+    }
+
+    fn place(&mut self, span: Span) -> Result<(), AllocError> {
+        let (start, end) = (span.start, span.end);
+        write!(self.text, "@{start}..{end}")?;
+        Ok(())
+    }
+
+    fn token(&mut self, word: &str, span: Span) -> Result<(), AllocError> {
+        self.word(word)?;
+        self.place(span)
+    }
+
+    fn mark<K, const N: usize>(&mut self, text: &str, mark: &Mark<K, N>) -> Result<(), AllocError> {
+        self.word(text)?;
+        for span in mark.spans.iter() {
+            self.place(*span)?;
+        }
+        Ok(())
+    }
+}
+
+impl TreeText {
+    fn entry(&mut self, entry: &Entry) -> Result<(), AllocError> {
+        match entry.token() {
+            Token::Ident(ident) => self.token(ident.text(), ident.span),
+            Token::Literal(literal) => self.literal(&literal),
+            Token::Punct(punct) => self.punct(&punct),
+            Token::Open(open) => self.token(signs(open.delimiter).0, open.span),
+            Token::Close(close) => self.token(signs(close.delimiter).1, close.span),
+        }
+    }
+
+    fn literal(&mut self, literal: &LiteralRef<'_>) -> Result<(), AllocError> {
+        let kind = literal.kind();
+        self.word("")?;
+        write!(self.text, "{kind:?}")?;
+        self.text.push_str(literal.text())?;
+        self.place(literal.span)
+    }
+
+    /// Each attribute in its order.
+    fn attributes(&mut self, attrs: &Vec<Attribute>) -> Result<(), AllocError> {
+        for attr in attrs {
+            attr.show(self)?;
+        }
+        Ok(())
+    }
+
+    /// `=` and the tokens of an expression, where they are there.
+    fn value(&mut self, value: &Option<(Eq, Deferred<Expr>)>) -> Result<(), AllocError> {
+        let Some((eq_token, expr)) = value else {
+            return Ok(());
+        };
+        self.mark("=", eq_token)?;
+        expr.source().show(self)
+    }
+
+    /// The tokens that a tree prints, behind this word.
+    fn printed<T: ToTokens>(&mut self, word: &str, tree: &T) -> Result<(), AllocError> {
+        self.word(word)?;
+        let mut tokens = TokenStream::new(self.alloc);
+        match tree.to_tokens(&mut tokens) {
+            Ok(()) => tokens.show(self),
+            Err(_) => Err(AllocError),
+        }
+    }
+
+    /// Values with commas between them.
+    fn list<T: Outlined>(&mut self, list: &Punctuated<T, Comma>) -> Result<(), AllocError> {
+        for (value, comma) in list.pairs() {
+            value.show(self)?;
+            self.mark(",", comma)?;
+        }
+        if let Some(value) = list.trailing_value() {
+            value.show(self)?;
+        }
+        Ok(())
+    }
+
+    fn punct(&mut self, punct: &Punct) -> Result<(), AllocError> {
+        self.word("")?;
+        self.text.push(punct.character())?;
+        if punct.spacing == Spacing::Joint {
+            self.text.push('+')?;
+        }
+        self.place(punct.span)
+    }
+}
+
+fn signs(delimiter: Delimiter) -> (&'static str, &'static str) {
+    match delimiter {
+        Delimiter::Paren => ("(", ")"),
+        Delimiter::Brace => ("{", "}"),
+        Delimiter::Bracket => ("[", "]"),
+        Delimiter::None => ("<<", ">>"),
+    }
+}
+
+impl Outlined for TokenStream {
+    fn show(&self, out: &mut TreeText) -> Result<(), AllocError> {
+        for entry in self.entries() {
+            out.entry(entry)?;
+        }
+        Ok(())
+    }
+}
+
+impl Outlined for Ident {
+    fn show(&self, out: &mut TreeText) -> Result<(), AllocError> {
+        out.token(self.text(), self.span)
+    }
+}
+
+impl Outlined for PathArguments {
+    fn show(&self, out: &mut TreeText) -> Result<(), AllocError> {
+        match self {
+            PathArguments::None => Ok(()),
+            _ => out.printed("Arguments", self),
+        }
+    }
+}
+
+impl Outlined for PathSegment {
+    fn show(&self, out: &mut TreeText) -> Result<(), AllocError> {
+        self.ident.show(out)?;
+        self.arguments.show(out)
+    }
+}
+
+impl Outlined for Path {
+    fn show(&self, out: &mut TreeText) -> Result<(), AllocError> {
+        out.word("Path")?;
+        if let Some(leading_colon) = &self.leading_colon {
+            out.mark("::", leading_colon)?;
+        }
+        for (segment, separator) in self.segments.pairs() {
+            segment.show(out)?;
+            out.mark("::", separator)?;
+        }
+        if let Some(segment) = self.segments.trailing_value() {
+            segment.show(out)?;
+        }
+        Ok(())
+    }
+}
+
+impl Outlined for TypePath {
+    fn show(&self, out: &mut TreeText) -> Result<(), AllocError> {
+        match &self.qself {
+            Some(_) => out.printed("Qualified", self),
+            None => self.path.show(out),
+        }
+    }
+}
+
+impl Outlined for Type {
+    fn show(&self, out: &mut TreeText) -> Result<(), AllocError> {
+        out.word("Type")?;
+        match self {
+            Type::Path(ty) => ty.show(out),
+            Type::Verbatim(tokens) => {
+                out.word("Verbatim")?;
+                tokens.show(out)
+            }
+            _ => out.printed("Other", self),
+        }
+    }
+}
+
+impl Outlined for MetaList {
+    fn show(&self, out: &mut TreeText) -> Result<(), AllocError> {
+        self.path.show(out)?;
+        let (open, close, opening, closing) = match self.delimiter {
+            MacroDelimiter::Paren(sign) => ("(", ")", sign.opening, sign.closing),
+            MacroDelimiter::Brace(sign) => ("{", "}", sign.opening, sign.closing),
+            MacroDelimiter::Bracket(sign) => ("[", "]", sign.opening, sign.closing),
+        };
+        out.token(open, opening)?;
+        self.tokens.show(out)?;
+        out.token(close, closing)
+    }
+}
+
+impl Outlined for MetaNameValue {
+    fn show(&self, out: &mut TreeText) -> Result<(), AllocError> {
+        self.path.show(out)?;
+        out.mark("=", &self.eq_token)?;
+        self.value.show(out)
+    }
+}
+
+impl Outlined for Meta {
+    fn show(&self, out: &mut TreeText) -> Result<(), AllocError> {
+        match self {
+            Meta::Path(path) => path.show(out),
+            Meta::List(list) => list.show(out),
+            Meta::NameValue(pair) => pair.show(out),
+        }
+    }
+}
+
+impl Outlined for Attribute {
+    fn show(&self, out: &mut TreeText) -> Result<(), AllocError> {
+        out.mark("#", &self.pound_token)?;
+        match &self.style {
+            AttrStyle::Outer => out.word("Outer")?,
+            AttrStyle::Inner(bang) => out.mark("!", bang)?,
+        }
+        out.token("[", self.bracket_token.opening)?;
+        self.meta.show(out)?;
+        out.token("]", self.bracket_token.closing)
+    }
+}
+
+impl Outlined for VisRestricted {
+    fn show(&self, out: &mut TreeText) -> Result<(), AllocError> {
+        out.token("pub", self.pub_token.span)?;
+        out.token("(", self.paren_token.opening)?;
+        if let Some(in_token) = &self.in_token {
+            out.token("in", in_token.span)?;
+        }
+        self.path.show(out)?;
+        out.token(")", self.paren_token.closing)
+    }
+}
+
+impl Outlined for Visibility {
+    fn show(&self, out: &mut TreeText) -> Result<(), AllocError> {
+        match self {
+            Visibility::Public(pub_token) => {
+                out.word("Public")?;
+                out.token("pub", pub_token.span)
+            }
+            Visibility::Restricted(restricted) => {
+                out.word("Restricted")?;
+                restricted.show(out)
+            }
+            Visibility::Inherited => out.word("Inherited"),
+        }
+    }
+}
+
+impl Outlined for Field {
+    fn show(&self, out: &mut TreeText) -> Result<(), AllocError> {
+        out.word("Field")?;
+        out.attributes(&self.attrs)?;
+        self.vis.show(out)?;
+        if let Some(ident) = &self.ident {
+            ident.show(out)?;
+        }
+        if let Some(colon_token) = &self.colon_token {
+            out.mark(":", colon_token)?;
+        }
+        self.ty.show(out)?;
+        out.value(&self.default)
+    }
+}
+
+impl Outlined for FieldsNamed {
+    fn show(&self, out: &mut TreeText) -> Result<(), AllocError> {
+        out.token("{", self.brace_token.opening)?;
+        out.list(&self.named)?;
+        out.token("}", self.brace_token.closing)
+    }
+}
+
+impl Outlined for Variant {
+    fn show(&self, out: &mut TreeText) -> Result<(), AllocError> {
+        out.word("Variant")?;
+        out.attributes(&self.attrs)?;
+        self.ident.show(out)?;
+        self.fields.show(out)?;
+        out.value(&self.discriminant)
+    }
+}
+
+impl Outlined for FieldsUnnamed {
+    fn show(&self, out: &mut TreeText) -> Result<(), AllocError> {
+        out.token("(", self.paren_token.opening)?;
+        out.list(&self.unnamed)?;
+        out.token(")", self.paren_token.closing)
+    }
+}
+
+impl Outlined for Fields {
+    fn show(&self, out: &mut TreeText) -> Result<(), AllocError> {
+        match self {
+            Fields::Named(fields) => {
+                out.word("Named")?;
+                fields.show(out)
+            }
+            Fields::Unnamed(fields) => {
+                out.word("Unnamed")?;
+                fields.show(out)
+            }
+            Fields::Unit => out.word("Unit"),
+        }
+    }
+}
+
+impl Outlined for Generics {
+    fn show(&self, out: &mut TreeText) -> Result<(), AllocError> {
+        if let Some(lt_token) = &self.lt_token {
+            out.mark("<", lt_token)?;
+        }
+        if let Some(gt_token) = &self.gt_token {
+            out.mark(">", gt_token)?;
+        }
+        match self.params.is_empty() {
+            true => Ok(()),
+            false => out.printed("Parameters", self),
+        }
+    }
+}
+
+impl Outlined for DataStruct {
+    fn show(&self, out: &mut TreeText) -> Result<(), AllocError> {
+        out.token("struct", self.struct_token.span)?;
+        self.fields.show(out)?;
+        if let Some(semi_token) = &self.semi_token {
+            out.mark(";", semi_token)?;
+        }
+        Ok(())
+    }
+}
+
+impl Outlined for DataEnum {
+    fn show(&self, out: &mut TreeText) -> Result<(), AllocError> {
+        out.token("enum", self.enum_token.span)?;
+        out.token("{", self.brace_token.opening)?;
+        out.list(&self.variants)?;
+        out.token("}", self.brace_token.closing)
+    }
+}
+
+impl Outlined for DataUnion {
+    fn show(&self, out: &mut TreeText) -> Result<(), AllocError> {
+        out.token("union", self.union_token.span)?;
+        self.fields.show(out)
+    }
+}
+
+impl Outlined for Data {
+    fn show(&self, out: &mut TreeText) -> Result<(), AllocError> {
+        match self {
+            Data::Struct(data) => data.show(out),
+            Data::Enum(data) => data.show(out),
+            Data::Union(data) => data.show(out),
+        }
+    }
+}
+
+impl Outlined for DeriveInput {
+    fn show(&self, out: &mut TreeText) -> Result<(), AllocError> {
+        out.attributes(&self.attrs)?;
+        self.vis.show(out)?;
+        self.ident.show(out)?;
+        self.generics.show(out)?;
+        self.shape.show(out)
+    }
+}
+
+impl Outlined for ItemEnum {
+    fn show(&self, out: &mut TreeText) -> Result<(), AllocError> {
+        out.attributes(&self.attrs)?;
+        self.vis.show(out)?;
+        out.token("enum", self.enum_token.span)?;
+        self.ident.show(out)?;
+        self.generics.show(out)?;
+        out.token("{", self.brace_token.opening)?;
+        out.list(&self.variants)?;
+        out.token("}", self.brace_token.closing)
+    }
+}
+
+impl Outlined for ItemStruct {
+    fn show(&self, out: &mut TreeText) -> Result<(), AllocError> {
+        out.attributes(&self.attrs)?;
+        self.vis.show(out)?;
+        out.token("struct", self.struct_token.span)?;
+        self.ident.show(out)?;
+        self.generics.show(out)?;
+        self.fields.show(out)?;
+        if let Some(semi_token) = &self.semi_token {
+            out.mark(";", semi_token)?;
+        }
+        Ok(())
+    }
+}
+
+impl Outlined for ItemUnion {
+    fn show(&self, out: &mut TreeText) -> Result<(), AllocError> {
+        out.attributes(&self.attrs)?;
+        self.vis.show(out)?;
+        out.token("union", self.union_token.span)?;
+        self.ident.show(out)?;
+        self.generics.show(out)?;
+        self.fields.show(out)
+    }
+}
+
+impl Outlined for Item {
+    fn show(&self, out: &mut TreeText) -> Result<(), AllocError> {
+        match self {
+            Item::Enum(item) => item.show(out),
+            Item::Struct(item) => item.show(out),
+            Item::Union(item) => item.show(out),
+        }
+    }
+}

@@ -1,0 +1,585 @@
+//! Fields with names, variants, and structs, enums and unions as items and as inputs of derives.
+use crate::tests::asserts::{assert_none, assert_text, assert_text_of};
+use std::alloc::Global;
+use syn::canon::{NamedField, UnnamedField, canonical};
+use syn::data::{Field, FieldModifiers, Fields, FieldsNamed, FieldsUnnamed, Variant};
+use syn::derive::{Data, DeriveInput};
+use syn::item::{Item, ItemEnum, ItemStruct, ItemUnion};
+use syn::parse::ParseBuffer;
+use syn::reader::{read_tokens, token_text};
+use syn::restriction::Visibility;
+use syn::token::{Colon, Ident, Semi};
+use syn::{Result, TryClone};
+use syn_test_support::outline::outline;
+use syn_test_support::{
+    fault, not_left_behind, not_left_by_refused, not_refused, not_reprinted, not_shown, parsed,
+    print_shown, printed, refused, reprinted, shown, span,
+};
+
+/// Fields in braces, and their trees.
+const FIELDS: &[(&str, &str)] = &[
+    ("{}", "{@0..1 }@1..2"),
+    (
+        "{a: b}",
+        "{@0..1 Field Inherited a@1..2 :@2..3 Type Path b@4..5 }@5..6",
+    ),
+    (
+        "{ a: u8, pub b: T = 3, }",
+        "{@0..1 Field Inherited a@2..3 :@3..4 Type Path u8@5..7 ,@7..8 Field Public pub@9..12 b@13..14 :@14..15 Type Path T@16..17 =@18..19 Int3@20..21 ,@21..22 }@23..24",
+    ),
+    (
+        "{#[a] _: b}",
+        "{@0..1 Field #@1..2 Outer [@2..3 Path a@3..4 ]@4..5 Inherited _@6..7 :@7..8 Type Path b@9..10 }@10..11",
+    ),
+    (
+        "{_: struct {a: b}}",
+        "{@0..1 Field Inherited _@1..2 :@2..3 Type Verbatim struct@4..10 {@11..12 a@12..13 :@13..14 b@15..16 }@16..17 }@17..18",
+    ),
+    (
+        "{_: union}",
+        "{@0..1 Field Inherited _@1..2 :@2..3 Type Path union@4..9 }@9..10",
+    ),
+];
+
+#[test]
+fn fields(rt: HostRuntime) -> Result<()> {
+    assert_none(&rt, not_shown::<FieldsNamed>(rt.alloc(), FIELDS))
+}
+
+const FIELD_PRINTS: &[(&str, &str)] = &[
+    ("{}", "{ }"),
+    ("{a:b,c:d}", "{ a : b , c : d }"),
+    ("{ a: u8, pub b: T = 3, }", "{ a : u8 , pub b : T = 3 , }"),
+    (
+        "{_: struct { a: u8 }, _: union { _: struct {} , } }",
+        "{ _ : struct { a : u8 } , _ : union { _ : struct { } , } }",
+    ),
+    (
+        "{#[a = b] #[c] pub(crate) d: e}",
+        "{ # [ a = b ] # [ c ] pub ( crate ) d : e }",
+    ),
+];
+
+#[test]
+fn field_prints(rt: HostRuntime) -> Result<()> {
+    assert_none(&rt, not_reprinted::<FieldsNamed>(rt.alloc(), FIELD_PRINTS))
+}
+
+const NO_FIELDS: &[(&str, usize)] = &[
+    ("", 0),
+    ("(a: b)", 0),
+    ("{a}", 2),
+    ("{a b}", 3),
+    ("{a: }", 4),
+    ("{a: b c}", 6),
+    ("{a: b = }", 8),
+    ("{a: b = c}", 8),
+    ("{: b}", 1),
+    ("{fn: b}", 1),
+    ("{,}", 1),
+    ("{a: b,,}", 6),
+    ("{a: struct {b: c}}", 4),
+    ("{_: struct (b)}", 11),
+    ("{_: struct {b}}", 13),
+    ("{_: union {b}}", 12),
+    ("{#![a] b: c}", 2),
+];
+
+#[test]
+fn refused_fields(rt: HostRuntime) -> Result<()> {
+    assert_none(&rt, not_refused::<FieldsNamed>(rt.alloc(), NO_FIELDS))
+}
+
+/// Whether a field with a name could be parsed.
+fn is_named(input: &mut ParseBuffer<'_>) -> Result<bool> {
+    match Field::parse_named(input) {
+        Ok(_field) => Ok(true),
+        Err(error) => {
+            let _fault = fault(Err::<bool, _>(error))?;
+            Ok(false)
+        }
+    }
+}
+
+/// What is left of the text behind a field with a name, or where it was refused.
+fn left_by_named(alloc: Global, text: &str) -> Result<String> {
+    let tokens = read_tokens(alloc, text)?;
+    let mut input = ParseBuffer::new(&tokens);
+    let _is_named = is_named(&mut input)?;
+    token_text(&input.rest()?)
+}
+
+#[test]
+fn left_by_single_fields(rt: HostRuntime) -> Result<()> {
+    for (text, want) in [
+        ("a: b, c: d", ", c : d"),
+        ("pub a: b = 1 ;", ";"),
+        ("_: union {} x", "x"),
+        ("pub a b", "pub a b"),
+        ("a: b = c", "a : b = c"),
+        ("_: struct x", "_ : struct x"),
+    ] {
+        assert_text_of(&rt, text, left_by_named(rt.alloc(), text)?.as_str(), want);
+    }
+    Ok(())
+}
+
+/// Variants, and their trees. A visibility is not kept.
+const VARIANTS: &[(&str, &str)] = &[
+    ("A", "Variant A@0..1 Unit"),
+    ("pub A", "Variant A@4..5 Unit"),
+    (
+        "A(u8) = 1",
+        "Variant A@0..1 Unnamed (@1..2 Field Inherited Type Path u8@2..4 )@4..5 =@6..7 Int1@8..9",
+    ),
+    (
+        "#[a] A {}",
+        "Variant #@0..1 Outer [@1..2 Path a@2..3 ]@3..4 A@5..6 Named {@7..8 }@8..9",
+    ),
+];
+
+#[test]
+fn variants(rt: HostRuntime) -> Result<()> {
+    assert_none(&rt, not_shown::<Variant>(rt.alloc(), VARIANTS))?;
+    assert_none(
+        &rt,
+        not_reprinted::<Variant>(rt.alloc(), &[("pub(crate) A", "A"), ("A=b'c'", "A = b'c'")]),
+    )?;
+    assert_none(
+        &rt,
+        not_left_behind::<Variant>(rt.alloc(), &[("A, B", ", B"), ("A [b]", "[ b ]")]),
+    )?;
+    assert_none(
+        &rt,
+        not_left_by_refused::<Variant>(rt.alloc(), &[("A = b", "A = b"), ("A(b c)", "A ( b c )")]),
+    )
+}
+
+const NO_VARIANTS: &[(&str, usize)] = &[
+    ("", 0),
+    ("pub", 3),
+    ("_", 0),
+    ("A =", 3),
+    ("A = 1 + 2", 6),
+    ("A { b }", 6),
+    ("A(b = 1)", 6),
+    ("A(b) {}", 5),
+];
+
+#[test]
+fn refused_variants(rt: HostRuntime) -> Result<()> {
+    assert_none(&rt, not_refused::<Variant>(rt.alloc(), NO_VARIANTS))
+}
+
+/// Inputs of derives, and their prints.
+const INPUTS: &[(&str, &str)] = &[
+    ("enum E { pub A }", "enum E { A }"),
+    (
+        "struct S { a: u8, pub b: T = 3, }",
+        "struct S { a : u8 , pub b : T = 3 , }",
+    ),
+    (
+        "union U { _: struct { a: u8 } }",
+        "union U { _ : struct { a : u8 } }",
+    ),
+    (
+        "enum E { A = 1, B(u8), C {} }",
+        "enum E { A = 1 , B ( u8 ) , C { } }",
+    ),
+    ("pub enum E {}", "pub enum E { }"),
+    (
+        "#[a::b(x==y)] struct S;",
+        "# [ a :: b ( x == y ) ] struct S ;",
+    ),
+    ("union union {}", "union union { }"),
+    ("struct S(#[a] b);", "struct S ( # [ a ] b ) ;"),
+];
+
+#[test]
+fn inputs(rt: HostRuntime) -> Result<()> {
+    assert_none(&rt, not_reprinted::<DeriveInput>(rt.alloc(), INPUTS))
+}
+
+const TREES: &[(&str, &str)] = &[
+    (
+        "enum E { A, }",
+        "Inherited enum@0..4 E@5..6 {@7..8 Variant A@9..10 Unit ,@10..11 }@12..13",
+    ),
+    (
+        "pub enum E {}",
+        "Public pub@0..3 enum@4..8 E@9..10 {@11..12 }@12..13",
+    ),
+];
+
+#[test]
+fn enums(rt: HostRuntime) -> Result<()> {
+    assert_none(&rt, not_shown::<ItemEnum>(rt.alloc(), TREES))?;
+    assert_none(
+        &rt,
+        not_reprinted::<ItemEnum>(rt.alloc(), &[("#[a] enum E{A}", "# [ a ] enum E { A }")]),
+    )?;
+    assert_none(
+        &rt,
+        not_refused::<ItemEnum>(
+            rt.alloc(),
+            &[("struct S;", 0), ("enum E;", 6), ("enum E {} x", 10)],
+        ),
+    )?;
+    assert_none(
+        &rt,
+        not_left_behind::<ItemEnum>(rt.alloc(), &[("enum E {};", ";")]),
+    )
+}
+
+#[test]
+fn structs(rt: HostRuntime) -> Result<()> {
+    assert_none(
+        &rt,
+        not_shown::<ItemStruct>(
+            rt.alloc(),
+            &[
+                (
+                    "struct S {}",
+                    "Inherited struct@0..6 S@7..8 Named {@9..10 }@10..11",
+                ),
+                ("struct S;", "Inherited struct@0..6 S@7..8 Unit ;@8..9"),
+            ],
+        ),
+    )?;
+    assert_none(
+        &rt,
+        not_reprinted::<ItemStruct>(rt.alloc(), &[("#[a] struct S{}", "# [ a ] struct S { }")]),
+    )?;
+    assert_none(
+        &rt,
+        not_refused::<ItemStruct>(
+            rt.alloc(),
+            &[("enum E {}", 0), ("struct S {};", 11), ("struct S()", 10)],
+        ),
+    )?;
+    assert_none(
+        &rt,
+        not_left_behind::<ItemStruct>(rt.alloc(), &[("struct S {} ;", ";")]),
+    )
+}
+
+#[test]
+fn unions(rt: HostRuntime) -> Result<()> {
+    assert_none(
+        &rt,
+        not_shown::<ItemUnion>(
+            rt.alloc(),
+            &[("union U {}", "Inherited union@0..5 U@6..7 {@8..9 }@9..10")],
+        ),
+    )?;
+    assert_none(
+        &rt,
+        not_reprinted::<ItemUnion>(rt.alloc(), &[("pub union U{a:b}", "pub union U { a : b }")]),
+    )?;
+    assert_none(
+        &rt,
+        not_refused::<ItemUnion>(
+            rt.alloc(),
+            &[("struct S;", 0), ("union U;", 7), ("union U(a);", 7)],
+        ),
+    )
+}
+
+const NO_INPUTS: &[(&str, usize)] = &[
+    ("", 0),
+    ("fn f() {}", 0),
+    ("pub", 3),
+    ("enum E", 6),
+    ("enum E()", 6),
+    ("union U;", 7),
+    ("struct S { a: b };", 17),
+    ("#[a]", 4),
+    ("#![a] struct S;", 1),
+];
+
+#[test]
+fn refused_inputs(rt: HostRuntime) -> Result<()> {
+    assert_none(&rt, not_refused::<DeriveInput>(rt.alloc(), NO_INPUTS))
+}
+
+const NO_DEFAULT: &str = "field default value is only supported in structs with named fields";
+
+/// The fault of a default in parentheses stands at what is behind its `=`.
+#[test]
+fn faults(rt: HostRuntime) -> Result<()> {
+    let first = refused::<ItemStruct>(rt.alloc(), "struct S(u8 = 1);")?;
+    assert_eq!(rt; (first.span.start, first.text), (14, NO_DEFAULT));
+    let second = refused::<DeriveInput>(rt.alloc(), "pub fn f() {}")?;
+    assert_eq!(rt;
+        (second.span, second.text),
+        (span(4, 6), "expected one of: `struct`, `enum`, `union`")
+    );
+    Ok(())
+}
+
+/// The item that an input of a derive is.
+fn as_item(alloc: Global, text: &str) -> Result<Item> {
+    Ok(Item::from(parsed::<DeriveInput>(alloc, text)?))
+}
+
+/// What shows that item.
+fn item_shown(alloc: Global, text: &str) -> Result<String> {
+    Ok(outline(alloc, &as_item(alloc, text)?)?)
+}
+
+/// What that item prints.
+fn item_printed(alloc: Global, text: &str) -> Result<String> {
+    printed(alloc, &as_item(alloc, text)?)
+}
+
+#[test]
+fn inputs_as_items(rt: HostRuntime) -> Result<()> {
+    for (text, want) in [
+        ("struct S;", "Inherited struct@0..6 S@7..8 Unit ;@8..9"),
+        ("enum E {}", "Inherited enum@0..4 E@5..6 {@7..8 }@8..9"),
+        ("union U {}", "Inherited union@0..5 U@6..7 {@8..9 }@9..10"),
+    ] {
+        assert_text_of(&rt, text, item_shown(rt.alloc(), text)?.as_str(), want);
+        let print = reprinted::<DeriveInput>(rt.alloc(), text)?;
+        assert_text_of(
+            &rt,
+            text,
+            item_printed(rt.alloc(), text)?.as_str(),
+            print.as_str(),
+        );
+    }
+    Ok(())
+}
+
+/// The item that a struct is once it was the input of a derive.
+fn back(alloc: Global, text: &str) -> Result<Item> {
+    let item: ItemStruct = parsed(alloc, text)?;
+    Ok(Item::from(DeriveInput::from(item)))
+}
+
+/// What shows that item.
+fn back_shown(alloc: Global, text: &str) -> Result<String> {
+    Ok(outline(alloc, &back(alloc, text)?)?)
+}
+
+#[test]
+fn structs_there_and_back(rt: HostRuntime) -> Result<()> {
+    for text in [
+        "struct S;",
+        "#[a] pub struct S { b: c = 1, }",
+        "struct S(a);",
+    ] {
+        let before = shown::<ItemStruct>(rt.alloc(), text)?;
+        assert_text_of(
+            &rt,
+            text,
+            back_shown(rt.alloc(), text)?.as_str(),
+            before.as_str(),
+        );
+    }
+    Ok(())
+}
+
+/// Whether two items are equal, and the second to a copy of the first.
+fn is_equal(alloc: Global, left: &Item, right: &Item) -> Result<bool> {
+    Ok(left == right && left.try_clone(alloc)? == *right)
+}
+
+/// Whether the item is equal to that of a text.
+fn is_equal_to(alloc: Global, left: &Item, right: &str) -> Result<bool> {
+    is_equal(alloc, left, &as_item(alloc, right)?)
+}
+
+/// Whether the items of two texts are equal.
+fn are_equal(alloc: Global, left: &str, right: &str) -> Result<bool> {
+    is_equal_to(alloc, &as_item(alloc, left)?, right)
+}
+
+#[test]
+fn equality(rt: HostRuntime) -> Result<()> {
+    for (left, right, want) in [
+        ("struct S;", " struct S ;", true),
+        ("enum E { A = 1 }", "enum E { pub A = 1 }", true),
+        ("enum E { A = 1 }", "enum E { A = 2 }", false),
+        ("enum E { A }", "enum E { A, }", false),
+        ("struct S { a: b }", "struct S { a: b = 1 }", false),
+        ("struct S {}", "struct S();", false),
+        ("struct S {}", "union S {}", false),
+        ("union U { a: b }", "union U { c: b }", false),
+    ] {
+        assert_eq!(rt;
+            are_equal(rt.alloc(), left, right)?,
+            want,
+            "{left:?} {right:?}"
+        );
+    }
+    Ok(())
+}
+
+/// A struct with fields in braces, and a `;` that isn't printed.
+fn with_semicolon(alloc: Global) -> Result<ItemStruct> {
+    let mut item: ItemStruct = parsed(alloc, "struct S { a: b }")?;
+    item.semi_token = Some(Semi::new([span(0, 1)]));
+    Ok(item)
+}
+
+/// A struct in parentheses, and no `;`, which is printed.
+fn without_semicolon(alloc: Global) -> Result<ItemStruct> {
+    let mut item: ItemStruct = parsed(alloc, "struct S(a);")?;
+    item.semi_token = None;
+    Ok(item)
+}
+
+fn with_semicolon_printed(alloc: Global) -> Result<String> {
+    printed(alloc, &with_semicolon(alloc)?)
+}
+
+fn without_semicolon_shown(alloc: Global) -> Result<String> {
+    print_shown(alloc, &without_semicolon(alloc)?)
+}
+
+/// Whether a `;` that isn't printed is told from none.
+fn is_semicolon_told(alloc: Global, other: &ItemStruct) -> Result<bool> {
+    Ok(with_semicolon(alloc)? != *other)
+}
+
+#[test]
+fn semicolons(rt: HostRuntime) -> Result<()> {
+    let print = with_semicolon_printed(rt.alloc())?;
+    assert_text(&rt, print.as_str(), "struct S { a : b }");
+    let print = without_semicolon_shown(rt.alloc())?;
+    let want = "struct@0..6 S@7..8 (@8..9 a@9..10 )@10..11 ;@0..0";
+    assert_text(&rt, print.as_str(), want);
+    Ok(())
+}
+
+#[test]
+fn semicolons_compared(rt: HostRuntime) -> Result<()> {
+    let other: ItemStruct = parsed(rt.alloc(), "struct S { a: b }")?;
+    assert!(rt; is_semicolon_told(rt.alloc(), &other)?);
+    Ok(())
+}
+
+/// A field by hand, with a default, and a name where one is given.
+fn field(alloc: Global, name: Option<&str>) -> Result<Field> {
+    let tokens = read_tokens(alloc, "a: b = 1")?;
+    let read = Field::parse_named(&mut ParseBuffer::new(&tokens))?;
+    let ident = match name {
+        Some(name) => Some(Ident::new(alloc, name, span(0, 1))?),
+        None => None,
+    };
+    Ok(Field {
+        attrs: Vec::new(alloc),
+        vis: Visibility::Inherited,
+        modifiers: FieldModifiers {},
+        ident,
+        colon_token: None,
+        ty: read.ty,
+        default: read.default,
+    })
+}
+
+/// What shows the print of a field by hand.
+fn field_shown(alloc: Global, name: Option<&str>) -> Result<String> {
+    print_shown(alloc, &field(alloc, name)?)
+}
+
+/// A colon is printed behind a name though there is none; a default is printed in any case.
+#[test]
+fn fields_by_hand(rt: HostRuntime) -> Result<()> {
+    let named = field_shown(rt.alloc(), Some("n"))?;
+    assert_text(&rt, named.as_str(), "n@0..1 :@0..0 b@3..4 =@5..6 Int1@7..8");
+    let unnamed = field_shown(rt.alloc(), None)?;
+    assert_text(&rt, unnamed.as_str(), "b@3..4 =@5..6 Int1@7..8");
+    Ok(())
+}
+
+/// A field without a name, but with a colon.
+fn with_colon(alloc: Global) -> Result<Field> {
+    let mut field = field(alloc, None)?;
+    field.colon_token = Some(Colon::new([span(0, 1)]));
+    Ok(field)
+}
+
+fn with_colon_shown(alloc: Global) -> Result<String> {
+    print_shown(alloc, &with_colon(alloc)?)
+}
+
+/// Whether a field is told from one without a name, but with a colon.
+fn is_colon_told(alloc: Global, other: &Field) -> Result<bool> {
+    Ok(with_colon(alloc)? != *other)
+}
+
+/// Without a name no colon is printed.
+#[test]
+fn colons(rt: HostRuntime) -> Result<()> {
+    let print = with_colon_shown(rt.alloc())?;
+    assert_text(&rt, print.as_str(), "b@3..4 =@5..6 Int1@7..8");
+    let other = field(rt.alloc(), None)?;
+    assert!(rt; is_colon_told(rt.alloc(), &other)?);
+    Ok(())
+}
+
+/// The fields of the text, as those of a variant.
+fn named_fields(alloc: Global, text: &str) -> Result<Fields> {
+    Ok(Fields::from(parsed::<FieldsNamed>(alloc, text)?))
+}
+
+fn unnamed_fields(alloc: Global, text: &str) -> Result<Fields> {
+    Ok(Fields::from(parsed::<FieldsUnnamed>(alloc, text)?))
+}
+
+fn named_fields_printed(alloc: Global, text: &str) -> Result<String> {
+    printed(alloc, &named_fields(alloc, text)?)
+}
+
+fn unnamed_fields_printed(alloc: Global, text: &str) -> Result<String> {
+    printed(alloc, &unnamed_fields(alloc, text)?)
+}
+
+#[test]
+fn fields_of_either_kind(rt: HostRuntime) -> Result<()> {
+    let print = named_fields_printed(rt.alloc(), "{ a: b }")?;
+    assert_text(&rt, print.as_str(), "{ a : b }");
+    let print = unnamed_fields_printed(rt.alloc(), "(a)")?;
+    assert_text(&rt, print.as_str(), "( a )");
+    Ok(())
+}
+
+/// The canonical print of a field with a name.
+fn named_canonical(alloc: Global, text: &str) -> Result<String> {
+    token_text(&canonical::<NamedField>(read_tokens(alloc, text)?)?)
+}
+
+/// The canonical print of a field without a name.
+fn unnamed_canonical(alloc: Global, text: &str) -> Result<String> {
+    token_text(&canonical::<UnnamedField>(read_tokens(alloc, text)?)?)
+}
+
+#[test]
+fn wrappers(rt: HostRuntime) -> Result<()> {
+    let named = named_canonical(rt.alloc(), "pub enabled: bool")?;
+    assert_text(&rt, named.as_str(), "pub enabled : bool");
+    let unnamed = unnamed_canonical(rt.alloc(), "primitive::bool")?;
+    assert_text(&rt, unnamed.as_str(), "primitive :: bool");
+    assert_none(
+        &rt,
+        not_refused::<NamedField>(rt.alloc(), &[("bool", 4), ("a: b, c: d", 4)]),
+    )?;
+    assert_none(
+        &rt,
+        not_refused::<UnnamedField>(rt.alloc(), &[("a: b", 1), ("a = 1", 4)]),
+    )
+}
+
+/// Whether the shape is an enum's.
+fn is_enum(alloc: Global, text: &str) -> Result<bool> {
+    let input: DeriveInput = parsed(alloc, text)?;
+    Ok(matches!(input.shape, Data::Enum(_)))
+}
+
+#[test]
+fn shapes(rt: HostRuntime) -> Result<()> {
+    assert!(rt; is_enum(rt.alloc(), "enum E {}")? && !is_enum(rt.alloc(), "union U {}")?);
+    Ok(())
+}

@@ -1,0 +1,71 @@
+-- WHAT SYNTAX ITEMS STAND FOR, one level at a time, every field.
+-- A struct stands for what its rule's form reads, without the mark of the rule: an item tells by that of which kind it is.
+use Rattle.syn_grammar.specs.Tokens.{Brace}
+use Rattle.syn_grammar.specs.Rules.{structure, enumeration, union_item}
+use Rattle.syn_grammar.specs.Grammar.{Syntax, Both, Node, Case}
+use Rattle.syn_grammar.specs.Promises.{itself}
+use Rattle.syn_tokens.specs.Leaves.{maybe, syntax_of_ident}
+use Rattle.syn_tokens.specs.Idents.{IdentValue}
+use Rattle.syn_tokens.specs.Kinds.{comma_syntax, enum_syntax, semi_syntax, struct_syntax, union_syntax}
+use Rattle.syn_tokens.specs.Listing.{list_of}
+use Rattle.syn_tree.specs.Parts.{group_syntax, first}
+use Rattle.syn_tree.specs.Attributes.{attributes_syntax}
+use Rattle.syn_tree.specs.Restriction.{syntax_of_Visibility}
+use Rattle.syn_tree.specs.Generics.{clause_of}
+use Rattle.syn_tree.specs.Data.{syntax_of_Fields}
+use Rattle.syn_tree.specs.Derive.{braced_of, enumeration_syntax, item_of, structure_of, structure_syntax, union_item_syntax}
+use Rattle.syn_tree.specs.declared.restriction.Visibility.TheVariants as Visibility-m
+use Rattle.syn_tree.specs.declared.derive.DataStruct.{DataStruct}
+use Rattle.syn_tree.specs.declared.derive.DataEnum.{DataEnum}
+use Rattle.syn_tree.specs.declared.derive.DataUnion.{DataUnion}
+use Rattle.syn_tree.specs.declared.item.ItemEnum.TheInside as ItemEnum-in
+use Rattle.syn_tree.specs.declared.item.ItemStruct.TheInside as ItemStruct-in
+use Rattle.syn_tree.specs.declared.item.ItemUnion.TheInside as ItemUnion-in
+use Rattle.syn_tree.specs.declared.item.Item.TheVariants as Item-m
+
+abbrev pub view_ItemStruct : ItemStruct-in.Inside → Syntax
+view_ItemStruct a =
+    item_of (attributes_syntax a.attrs.items) (syntax_of_Visibility a.vis)
+    (structure_of (syntax_of_ident a.ident) (first a.generics) (clause_of a.generics) (Both (struct_syntax a.struct_token) (Both (syntax_of_Fields a.fields) (maybe semi_syntax a.semi_token))))
+
+abbrev pub view_ItemEnum : ItemEnum-in.Inside → Syntax
+view_ItemEnum a =
+    item_of (attributes_syntax a.attrs.items) (syntax_of_Visibility a.vis)
+    (braced_of (syntax_of_ident a.ident) (first a.generics) (clause_of a.generics) (Both (enum_syntax a.enum_token) (group_syntax Brace a.brace_token (list_of itself comma_syntax a.variants.pairs a.variants.last))))
+
+abbrev pub view_ItemUnion : ItemUnion-in.Inside → Syntax
+view_ItemUnion a =
+    item_of (attributes_syntax a.attrs.items) (syntax_of_Visibility a.vis)
+    (braced_of (syntax_of_ident a.ident) (first a.generics) (clause_of a.generics) (Both (union_syntax a.union_token) a.fields))
+
+abbrev pub syntax_of_ItemStruct : Syntax → Syntax
+syntax_of_ItemStruct = Node
+
+abbrev pub syntax_of_ItemEnum : Syntax → Syntax
+syntax_of_ItemEnum = Node
+
+abbrev pub syntax_of_ItemUnion : Syntax → Syntax
+syntax_of_ItemUnion = Node
+
+abbrev pub syntax_of_Item : Item-m.the_data → Syntax
+syntax_of_Item (Item-m.Enum s) = Node (Case enumeration s)
+syntax_of_Item (Item-m.Struct s) = Node (Case structure s)
+syntax_of_Item (Item-m.Union s) = Node (Case union_item s)
+
+-- the item that the input of a derive is
+abbrev pub item_in : Syntax → Item-m.the_data
+item_in (Node (Case enumeration s)) = Item-m.Enum s
+item_in (Node (Case structure s)) = Item-m.Struct s
+item_in (Node (Case union_item s)) = Item-m.Union s
+item_in s = Item-m.Struct s
+
+-- AS THEY ARE READ, behind the attributes
+
+abbrev pub structure_rest_syntax : Visibility-m.the_data × IdentValue × Syntax × DataStruct → Syntax
+structure_rest_syntax p = Node (Both (syntax_of_Visibility p.0) (structure_syntax (p.1, p.2, p.3)))
+
+abbrev pub enumeration_rest_syntax : Visibility-m.the_data × IdentValue × Syntax × DataEnum → Syntax
+enumeration_rest_syntax p = Node (Both (syntax_of_Visibility p.0) (enumeration_syntax (p.1, p.2, p.3)))
+
+abbrev pub union_item_rest_syntax : Visibility-m.the_data × IdentValue × Syntax × DataUnion → Syntax
+union_item_rest_syntax p = Node (Both (syntax_of_Visibility p.0) (union_item_syntax (p.1, p.2, p.3)))
