@@ -2,7 +2,7 @@
 use Rattle.std.proofs.Common.{◌≡◌, ℕ, Bool, true, false, true≢false, ◌&&◌, List, [], ◌∷◌, ◌++◌, Option, Some, None, refl, sym, ap, subst, ◌∙◌, arith, append_assoc, append-nil}
 use Rattle.std.specs.Option.{IfSome}
 use Rattle.std.specs.Char.{IsScalar, encode_utf8}
-use Rattle.std.specs.Str.{IsUtf8, chars}
+use Rattle.std.specs.Str.{IsUtf8, EmptyOrStartsWithPassing, chars}
 use Rattle.std.specs.List.{list_all}
 use Rattle.std.specs.Str.Pattern.{FindsPrefixBy, CutsPrefixes}
 use Rattle.std.proofs.lemmas.List.Folds.{list_all-append}
@@ -24,6 +24,15 @@ first_fails : (test : ℕ → Bool) (cs bytes : List ℕ) → encodes cs ≡ byt
     → ((c : ℕ) (rest : List ℕ) → IsScalar c → bytes ≡ encode_utf8 c ++ rest → test c ≡ false) → first_passes test cs ≡ false
 first_fails test [] bytes e s h = refl
 first_fails test (c ∷ cs) bytes e s h = h c (encodes cs) (and_left _ _ s) (sym e)
+
+-- the first character, if there is one, passes where the text is empty or begins with one that does
+pub passes_there : (test : ℕ → Bool) (bytes rest : List ℕ) → IsUtf8 bytes → EmptyOrStartsWithPassing test bytes rest → (c : ℕ) (cs : List ℕ) → chars bytes ≡ c ∷ cs → test c ≡ true
+passes_there test [] rest u h c cs e = let none : [] ≡ c ∷ cs = sym chars-nil ∙ e in absurd (cc)
+passes_there test (b ∷ bytes) rest u h c cs e =
+    let found = h (omega arith) in
+    let both : found.0 ∷ chars rest ≡ c ∷ cs = sym (chars_past_char (b ∷ bytes) rest found.0 u found.2) ∙ e in
+    let same : found.0 ≡ c = cc in
+    subst (λ (n : ℕ). test n ≡ true) same found.1
 
 -- what is left when all characters that pass are cut off
 pub trimmed_stops : (test : ℕ → Bool) (bytes : List ℕ) → IsUtf8 bytes → (o : Option ℕ) → FindsPrefixBy test bytes o → IfSome o (λ n. n ≡ 0) → begins_by test bytes ≡ false

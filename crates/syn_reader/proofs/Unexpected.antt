@@ -2,7 +2,7 @@
 use Rattle.std.proofs.Common.{◌≡◌, ◌≢◌, ◌<◌, ◌==◌, ℕ, true, false, List, [], ◌∷◌, codes, refl, sym, ap, ◌∙◌, subst, true≢false, lit<}
 use Rattle.std.proofs.lemmas.Bool.{eq-eqb}
 use Rattle.std.specs.Prelude.{Result, Ok, Err, IfOk, IfErr, MatchResult}
-use Rattle.std.specs.Char.{encode_utf8, is_ascii_digit}
+use Rattle.std.specs.Char.{encode_utf8, is_ascii_digit, is_not_whitespace}
 use Rattle.unicode_ident.proofs.IdentLemmas.{is_xid_start-ascii}
 use Rattle.syn_grammar.specs.Tokens as grammar
 use Rattle.syn_tokens.specs.Idents.{may_start}
@@ -52,7 +52,7 @@ pub quote_alone : (start next : Cursor) (s : Span) (e : List FaultValue) → IsP
     → e ≡ (s, codes "unexpected character") ∷ [] → IsLexicalFault start.text.now start.offset e
 quote_alone start next s e past stands b n there is =
     fault_there start next 39 s e past stands there is
-    (is_xid_start-ascii 39 (lit< tt), quote_literal _ _ refl ∙ no_character Char _ b, n, quote_no_sign)
+    (refl, is_xid_start-ascii 39 (lit< tt), quote_literal _ _ refl ∙ no_character Char _ b, n, quote_no_sign)
 
 -- ANY OTHER CHARACTER
 
@@ -92,10 +92,10 @@ sign_there start next c s (Comment x t) past stands there h = absurd h
 -- a delimiter of a group, or a character with which no piece begins
 pub sign_or_fault : (r : Result Lexeme (List FaultValue)) (start next : Cursor) (c : ℕ) (s : Span) → IsPast c start next
     → Stands start.text.now (encode_utf8 c) start.offset next.offset → s ≡ record { start = start.offset; end = next.offset }
-    → may_start c ≡ false → (c ≡ 34 → ⊥) → (c ≡ 39 → ⊥) → is_ascii_digit c ≡ false → is_punct_character c ≡ false
+    → is_not_whitespace c ≡ true → may_start c ≡ false → (c ≡ 34 → ⊥) → (c ≡ 39 → ⊥) → is_ascii_digit c ≡ false → is_punct_character c ≡ false
     → IfOk r (IsDelimiter c s) → IfErr r (λ e. NoDelimiter c) → IfErr r (λ e. e ≡ (s, codes "unexpected character") ∷ [])
     → MatchResult r (λ l. IsLexemeFrom start.text.now start.offset l next.offset) (IsLexicalFault start.text.now start.offset)
-sign_or_fault (Ok l) start next c s past stands there m q a d p ok none is = sign_there start next c s l past.1 stands there ok
-sign_or_fault (Err e) start next c s past stands there m q a d p ok none is =
+sign_or_fault (Ok l) start next c s past stands there w m q a d p ok none is = sign_there start next c s l past.1 stands there ok
+sign_or_fault (Err e) start next c s past stands there w m q a d p ok none is =
     fault_there start next c s e past stands there is
-    (m, none_from c (left next) m (differs c 34 q) (differs c 39 a) d, no_mark c (left next) (differs c 39 a) p, none)
+    (w, m, none_from c (left next) m (differs c 34 q) (differs c 39 a) d, no_mark c (left next) (differs c 39 a) p, none)

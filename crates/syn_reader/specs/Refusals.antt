@@ -1,6 +1,6 @@
 -- Which texts are refused: with which words, and where.
 use Rattle.std.specs.Prelude.{◌≡◌, ◌≢◌, ◌<◌, ◌≤◌, ℕ, false, true, List, [], ◌∷◌, ◌++◌, drop, length, codes, None}
-use Rattle.std.specs.Char.{encode_utf8}
+use Rattle.std.specs.Char.{encode_utf8, is_not_whitespace}
 use Rattle.syn_grammar.specs.Tokens.{Span, Delimiter}
 use Rattle.syn_tokens.specs.Spans.{at}
 use Rattle.syn_tokens.specs.Idents.{may_start}
@@ -49,9 +49,10 @@ words_of open_group = codes "unbalanced group"
 abbrev pub NoDelimiter : ℕ → Type 0
 NoDelimiter c = (d : Delimiter) → (opening_delimiter d ≢ c ∷ []) × (closing_delimiter d ≢ c ∷ [])
 
--- no identifier, literal, mark or delimiter of a group begins with this character, before these; nor a comment, which begins as marks do
+-- this character is no white space, and no identifier, literal, mark or delimiter of a group begins with it, before these; nor a
+-- comment, which begins as marks do
 abbrev pub BeginsNone : ℕ → List ℕ → Type 0
-BeginsNone c cs = (may_start c ≡ false) × (literal_from c cs ≡ Absent) × (begins_mark c cs ≡ false) × NoDelimiter c
+BeginsNone c cs = (is_not_whitespace c ≡ true) × (may_start c ≡ false) × (literal_from c cs ≡ Absent) × (begins_mark c cs ≡ false) × NoDelimiter c
 
 -- from byte i to byte j stands one character, with which no piece begins
 abbrev pub IsUnexpected : List ℕ → ℕ → ℕ → Type 0

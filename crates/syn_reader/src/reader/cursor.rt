@@ -1,7 +1,7 @@
 //! A place in a text.
-ghost use Rattle.std.specs.Prelude.{◌≡◌, ◌++◌, ◌∷◌, [], ◌<◌, ◌≤◌, ℕ, Bool, List, drop, length, ◌^◌, MatchOption, OnSome};
+ghost use Rattle.std.specs.Prelude.{◌≡◌, ◌++◌, ◌∷◌, [], ◌<◌, ◌≤◌, ℕ, Bool, List, true, drop, length, ◌^◌, MatchOption, OnSome};
 ghost use Rattle.std.specs.Char.{encode_utf8, is_not_whitespace};
-ghost use Rattle.std.specs.Str.{IsCharBoundary, EmptyOrStartsWithPassing};
+ghost use Rattle.std.specs.Str.{IsCharBoundary};
 ghost use Rattle.std.specs.Fn.{AlwaysReturns};
 ghost use Rattle.syn_reader.specs.Scanning.{first_of, begins_with, drop_while};
 ghost use Rattle.syn_reader.specs.Spelling.{Stands, IsBlank};
@@ -91,7 +91,7 @@ impl<'a> Cursor<'a> {
         ensures text { self.new.text ≡ self.old.text }
         ensures onward { self.old.offset ≤ self.new.offset }
         ensures blank { IsBlank self.old.text.now self.old.offset self.new.offset }
-        ensures stops { (rest : List ℕ) × EmptyOrStartsWithPassing is_not_whitespace (drop self.new.offset self.old.text.now) rest }
+        ensures stops { (c : ℕ) → (cs : List ℕ) → left self.new ≡ c ∷ cs → is_not_whitespace c ≡ true }
     {
         self.step_to(self.rest().trim_start());
     }

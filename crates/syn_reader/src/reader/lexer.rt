@@ -1,7 +1,7 @@
 //! Lexemes: the pieces that a text is cut into.
 ghost use Rattle.std.specs.Prelude.{◌≡◌, ◌<◌, ◌≤◌, ◌-◌, ◌&&◌, ◌==◌, ℕ, List, true, false, not, [], ◌∷◌, ◌++◌, length, codes, IfOk, IfErr, MatchResult};
 ghost use Rattle.std.specs.Iterator.{at_most};
-ghost use Rattle.std.specs.Char.{encode_utf8, is_ascii_digit};
+ghost use Rattle.std.specs.Char.{encode_utf8, is_ascii_digit, is_not_whitespace};
 ghost use Rattle.unicode_ident.specs.Ident.{is_xid_continue};
 ghost use Rattle.syn_tokens.specs.Spans.{at};
 ghost use Rattle.syn_tokens.specs.Idents.{may_start};
@@ -61,6 +61,7 @@ impl<'a> Lexer<'a> {
     fn lexeme(&mut self, start: &Cursor<'a>, first: char) -> Result<Lexeme<'a>>
         requires past { IsPast first start.now self.old.cursor }
         requires first { Stands start.now.text.now (encode_utf8 first) start.now.offset self.old.cursor.offset }
+        requires no_space { is_not_whitespace first ≡ true }
         ensures onward { Onward self.old.cursor self.new.cursor }
         ensures stands { MatchResult result (λ l. IsLexemeFrom start.now.text.now start.now.offset l self.new.cursor.offset) (IsLexicalFault start.now.text.now start.now.offset) }
     {

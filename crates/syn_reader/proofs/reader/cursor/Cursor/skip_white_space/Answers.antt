@@ -1,7 +1,7 @@
-use Rattle.std.proofs.Common.{◌++◌, take, ap, subst, sym, ◌∙◌}
+use Rattle.std.proofs.Common.{◌++◌, take, ap, sym, ◌∙◌}
 use Rattle.std.specs.Char.{is_not_whitespace}
-use Rattle.std.specs.Str.{EmptyOrStartsWithPassing}
 use Rattle.std.proofs.lemmas.List.{take-append-drop}
+use Rattle.syn_reader.proofs.Characters.{passes_there}
 use Rattle.syn_reader.proofs.reader.cursor.Cursor.skip_white_space.Goals as goal
 
 pub returns-clause-blank : goal.returns-clause-blank
@@ -17,4 +17,4 @@ returns-clause-blank c =
 pub returns-clause-stops : goal.returns-clause-stops
 returns-clause-stops c =
     let trimmed = c.trim_start.ensures.value in
-    (trimmed.3.0, subst (λ bytes. EmptyOrStartsWithPassing is_not_whitespace bytes trimmed.3.0) (sym c.step_to.ensures.rest) trimmed.3.1)
+    rw (c.step_to.ensures.text, c.step_to.ensures.rest) (passes_there is_not_whitespace _ trimmed.3.0 c.trim_start.utf8 trimmed.3.1)

@@ -7,3 +7,6 @@ returns-in_err-first-clause-steps c =
     let same = c.skip_white_space.ensures.text in
     let left = rw same at c.in_err-first.ensures.stands in
     (c.in_err-first.ensures.text ∙ same, rw c.from_residual.ensures (blank_append _ _ _ _ c.skip_white_space.ensures.blank left))
+
+pub lexeme-requires-clause-no_space : goal.lexeme-requires-clause-no_space
+lexeme-requires-clause-no_space c = c.skip_white_space.ensures.stops c.in_ok-first.first _ c.in_ok-first.ensures.left
