@@ -12,24 +12,31 @@ use syn::reader::{read_tokens, token_text};
 use syn::token::TokenStream;
 use syn::{Data, DeriveInput, Error, ToTokens, parse2};
 
-/// What is written of a struct that this text spells. An enum or a union is refused.
-fn describe(alloc: Global, text: &str) -> syn::Result<String> {
-    let tree: DeriveInput = parse2(read_tokens(alloc, text)?)?;
-    let input = &tree;
+/// The tokens of a tree, as text.
+fn printed<T: ToTokens>(alloc: Global, tree: &T) -> syn::Result<String> {
+    let mut tokens = TokenStream::new(alloc);
+    tree.to_tokens(&mut tokens)?;
+    token_text(&tokens)
+}
+
+/// What is written of a struct. An enum or a union is refused.
+fn describe(alloc: Global, input: &DeriveInput) -> syn::Result<String> {
     let Data::Struct(data) = &input.shape else {
         return Err(Error::new(input.ident.span, "expected a struct"));
     };
     let mut lines = String::new(alloc);
     writeln!(lines, "struct {}", input.ident.text())?;
     for field in data.fields.iter() {
-        let mut ty = TokenStream::new(alloc);
-        field.ty.to_tokens(&mut ty)?;
-        writeln!(lines, "field: {}", token_text(&ty)?.as_str())?;
+        writeln!(lines, "field: {}", printed(alloc, &field.ty)?.as_str())?;
     }
-    let mut printed = TokenStream::new(alloc);
-    input.to_tokens(&mut printed)?;
-    writeln!(lines, "{}", token_text(&printed)?.as_str())?;
+    writeln!(lines, "{}", printed(alloc, input)?.as_str())?;
     Ok(lines)
+}
+
+/// The same of the struct that this text spells.
+fn describe_text(alloc: Global, text: &str) -> syn::Result<String> {
+    let input: DeriveInput = parse2(read_tokens(alloc, text)?)?;
+    describe(alloc, &input)
 }
 
 /// Reads all of the input, writes what it spells, and answers the exit status.
@@ -44,7 +51,7 @@ fn run<R: Read + Drop, W: Write + Drop, V: Write + Drop>(
         let _ = writeln!(faults, "read failed");
         return 1;
     }
-    match describe(alloc, text.as_str()) {
+    match describe_text(alloc, text.as_str()) {
         Ok(lines) => match output
             .write_all(lines.as_bytes())
             .and_then(|_| output.flush())

@@ -16,8 +16,6 @@ mod kw;
 mod line;
 mod print;
 mod route;
-#[cfg(test)]
-mod tests;
 
 use crate::line::add_route;
 use crate::route::Route;

@@ -2,14 +2,16 @@
 ghost use Rattle.std.specs.Prelude.{codes, refl};
 ghost use Rattle.syn_tokens.specs.Punct.{is_punct_character};
 
-use crate::tests::support::{at, refused, tokens};
+use crate::tests::support::{assert_text, at, refused, shown, tokens};
 use std::alloc::Global;
 use syn_parse::buffer::ParseBuffer;
 use syn_parse::parse::Parse;
 use syn_parse::read::Peek;
 use syn_tokens::error::Result;
 use syn_tokens::ident::Ident;
+use syn_tokens::print::ToTokens;
 use syn_tokens::span::Span;
+use syn_tokens::stream::TokenStream;
 use syn_tokens::syntactic::compare::Compared;
 use syn_tokens::syntactic::try_clone::TryClone;
 use syn_tokens::token::{
@@ -197,5 +199,25 @@ fn copies_of_marks(rt: HostRuntime) -> Result<()> {
     let mark = BothWays::new([at(0), at(1), at(2)]);
     assert_eq!(rt; TryClone::try_clone(&mark, rt.alloc())?.spans, mark.spans);
     assert!(rt; mark.is_same(&BothWays::new([HERE; 3])) && mark == BothWays::new([HERE; 3]));
+    Ok(())
+}
+
+/// What the three print, one behind another.
+fn printed(alloc: Global) -> Result<String> {
+    let mut out = TokenStream::new(alloc);
+    Route::new(HERE).to_tokens(&mut out)?;
+    BothWays::new([at(1), at(2), at(3)]).to_tokens(&mut out)?;
+    LeadsTo::new([at(4), at(5)]).to_tokens(&mut out)?;
+    shown(alloc, &out)
+}
+
+/// Each prints its text at its places, all characters of a mark but the last Joint.
+#[test]
+fn prints(rt: HostRuntime) -> Result<()> {
+    assert_text(
+        &rt,
+        printed(rt.alloc())?.as_str(),
+        "route@3..8 <+@1..2 -+@2..3 >@3..4 ~+@4..5 >@5..6",
+    );
     Ok(())
 }

@@ -4,6 +4,7 @@
 //! to be proved of each function.
 use std::alloc::Global;
 use std::process::Abort;
+use syn_outlines::stream_shown;
 use syn_tokens::delimiter::Delimiter;
 use syn_tokens::error::{Error, Result};
 use syn_tokens::ident::Ident;
@@ -12,7 +13,6 @@ use syn_tokens::punct::{Punct, Spacing};
 use syn_tokens::span::Span;
 use syn_tokens::stream::TokenStream;
 use syn_tokens::stream::builder::StreamBuilder;
-use syn_tokens::stream::entry::{Entry, Token};
 
 /// Fails where a text isn't what it should be.
 pub fn assert_text(rt: &impl Abort, found: &str, want: &str) {
@@ -102,54 +102,9 @@ fn add_leaf(out: &mut StreamBuilder, part: &str, span: Span) -> Result<()> {
     Ok(())
 }
 
-/// What shows each token and each delimiter with its span: `a@0..1`, `:@1..2`, a mark's character that is Joint as `:+@1..2`,
-/// a literal with its kind as `Int1@2..3`.
+/// What shows each token and each delimiter with its span.
 pub fn shown(alloc: Global, stream: &TokenStream) -> Result<String> {
-    let mut out = String::new(alloc);
-    for entry in stream.entries() {
-        if !out.is_empty() {
-            out.push(' ')?;
-        }
-        show(&mut out, entry)?;
-    }
-    Ok(out)
-}
-
-fn show(out: &mut String, entry: &Entry) -> Result<()> {
-    match entry.token() {
-        Token::Ident(ident) => show_word(out, ident.text(), ident.span),
-        Token::Literal(literal) => {
-            let kind = literal.kind();
-            write!(out, "{kind:?}")?;
-            show_word(out, literal.text(), literal.span)
-        }
-        Token::Punct(punct) => {
-            out.push(punct.character())?;
-            let joint = if punct.spacing == Spacing::Joint {
-                "+"
-            } else {
-                ""
-            };
-            show_word(out, joint, punct.span)
-        }
-        Token::Open(open) => show_word(out, delimiters(open.delimiter).0, open.span),
-        Token::Close(close) => show_word(out, delimiters(close.delimiter).1, close.span),
-    }
-}
-
-fn show_word(out: &mut String, word: &str, span: Span) -> Result<()> {
-    let Span { start, end } = span;
-    write!(out, "{word}@{start}..{end}")?;
-    Ok(())
-}
-
-fn delimiters(delimiter: Delimiter) -> (&'static str, &'static str) {
-    match delimiter {
-        Delimiter::Paren => ("(", ")"),
-        Delimiter::Brace => ("{", "}"),
-        Delimiter::Bracket => ("[", "]"),
-        Delimiter::None => ("<", ">"),
-    }
+    Ok(stream_shown(alloc, stream)?)
 }
 
 /// Whether the error has just this fault, from this byte on.
