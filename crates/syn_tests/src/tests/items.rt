@@ -380,6 +380,18 @@ fn equality(rt: HostRuntime) -> Result<()> {
         ("struct S {}", "struct S();", false),
         ("struct S {}", "union S {}", false),
         ("union U { a: b }", "union U { c: b }", false),
+        ("struct S<T>(A<T>);", "struct S < T > ( A < T > ) ;", true),
+        ("struct S where T: A;", "struct S where T : A ;", true),
+        ("struct S<T, 'a>;", "struct S<'a, T>;", false),
+        ("struct S<>;", "struct S;", false),
+        ("struct S where;", "struct S;", false),
+        ("struct S where T: A;", "struct S where T: B;", false),
+        ("struct S(&'a u8);", "struct S(&u8);", false),
+        ("#[a(==)] struct S;", "#[a(= =)] struct S;", false),
+        ("enum E { #[a] A }", "enum E { A }", false),
+        ("enum E { A }", "enum E { A {} }", false),
+        ("pub enum E {}", "pub(crate) enum E {}", false),
+        ("union U { a: b }", "union U { a: b = 1 }", false),
     ] {
         assert_eq!(rt;
             are_equal(rt.alloc(), left, right)?,

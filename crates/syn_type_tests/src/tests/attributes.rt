@@ -8,10 +8,10 @@ use syn::lower::Attribute;
 use syn::parse::ParseBuffer;
 use syn::print::ToTokens;
 use syn::reader::{read_tokens, token_text};
-use syn::token::TokenStream;
+use syn::token::{Delimiter, TokenStream};
 use syn::{Fault, Result, TryClone};
 use syn_test_support::outline::outline;
-use syn_test_support::{fault, parsed, printed};
+use syn_test_support::{fault, parsed, printed, push_group};
 
 /// The attributes at the front of a buffer: inner ones, or outer ones.
 fn read(input: &mut ParseBuffer<'_>, inner: bool) -> Result<Vec<Attribute>> {
@@ -263,6 +263,32 @@ fn refusals(rt: HostRuntime) -> Result<()> {
         assert_place(&rt, text, missed.span.start, *place);
         assert_text_of(&rt, text, missed.text, words);
     }
+    Ok(())
+}
+
+/// `#[a]`, with an empty group behind the `a`.
+fn with_group(alloc: Global, delimiter: Delimiter) -> Result<TokenStream> {
+    let mut content = read_tokens(alloc, "a")?;
+    push_group(&mut content, delimiter, TokenStream::new(alloc))?;
+    let mut tokens = read_tokens(alloc, "#")?;
+    push_group(&mut tokens, Delimiter::Bracket, content)?;
+    Ok(tokens)
+}
+
+/// How many attributes that is, where it isn't refused.
+fn count_with_group(alloc: Global, delimiter: Delimiter) -> Result<usize> {
+    let tokens = with_group(alloc, delimiter)?;
+    Ok(Attribute::parse_outer(&mut ParseBuffer::new(&tokens))?.len())
+}
+
+/// The group behind an attribute's path has delimiters.
+#[test]
+fn groups_by_hand(rt: HostRuntime) -> Result<()> {
+    for delimiter in [Delimiter::Paren, Delimiter::Brace, Delimiter::Bracket] {
+        assert_eq!(&rt; count_with_group(rt.alloc(), delimiter)?, 1);
+    }
+    let missed = fault(count_with_group(rt.alloc(), Delimiter::None))?;
+    assert_text(&rt, missed.text, "unexpected token");
     Ok(())
 }
 

@@ -393,7 +393,7 @@ fn kinds(rt: HostRuntime) -> Result<()> {
 }
 
 /// Whether two texts are equal as a `T`, each also with copies of both.
-fn are_equal<T: Parse + TryClone + PartialEq + Drop>(
+pub fn are_equal<T: Parse + TryClone + PartialEq + Drop>(
     alloc: Global,
     left: &str,
     right: &str,

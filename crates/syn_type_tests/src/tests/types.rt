@@ -1,5 +1,6 @@
-//! Types and paths: which tree a text is, and what it prints.
+//! Types and paths: which tree a text is, what it prints, and which are equal.
 use crate::tests::asserts::{assert_none, assert_text_of};
+use crate::tests::generics::are_equal;
 use std::alloc::Global;
 use std::process::Abort;
 use syn::Result;
@@ -454,6 +455,52 @@ const PRINTS: &[(&str, &str)] = &[
 #[test]
 fn prints(rt: HostRuntime) -> Result<()> {
     assert_none(&rt, not_reprinted::<Type>(rt.alloc(), PRINTS))
+}
+
+const EQUAL: &[(&str, &str, bool)] = &[
+    ("T", " T ", true),
+    ("A<B<C>>", "A < B < C > >", true),
+    ("&'a mut [T; 1]", "& 'a mut [ T;1 ]", true),
+    ("<T as A>::B", "< T as A > :: B", true),
+    ("T", "U", false),
+    ("T", "r#T", false),
+    ("a::T", "::a::T", false),
+    ("a::T", "a", false),
+    ("A", "A<>", false),
+    ("A<T>", "A::<T>", false),
+    ("A<T>", "A<T,>", false),
+    ("A<T>", "A<U>", false),
+    ("A<T>", "A(T)", false),
+    ("A<T, 'a>", "A<'a, T>", false),
+    ("A<'a>", "A<'b>", false),
+    ("A<1>", "A<2>", false),
+    ("A<I = T>", "A<J = T>", false),
+    ("A()", "A() -> ()", false),
+    ("(T)", "T", false),
+    ("(T)", "(T,)", false),
+    ("[T]", "[T; 1]", false),
+    ("[T; 1]", "[T; 01]", false),
+    ("&T", "&'a T", false),
+    ("&T", "&mut T", false),
+    ("&T", "*const T", false),
+    ("*const T", "*mut T", false),
+    ("!", "()", false),
+    ("<T>::B", "<U>::B", false),
+    ("<T>::B", "T::B", false),
+    ("<T as A::B>::C", "<T as A>::B::C", false),
+];
+
+/// Places don't count.
+#[test]
+fn equality(rt: HostRuntime) -> Result<()> {
+    for (left, right, want) in EQUAL {
+        assert_eq!(rt;
+            are_equal::<Type>(rt.alloc(), left, right)?,
+            *want,
+            "{left:?} {right:?}"
+        );
+    }
+    Ok(())
 }
 
 /// A type behind a mark, in a group without delimiters, and a mark behind the group.
