@@ -4,10 +4,10 @@
 pub mod canon;
 mod kinds;
 mod lawful;
-pub mod reader;
 
 pub use syn_parse::deferred;
 pub use syn_parse::parse::parse2;
+pub use syn_reader::reader;
 pub use syn_tokens::error::{Error, Fault, Result};
 pub use syn_tokens::ident::Ident;
 pub use syn_tokens::lifetime::Lifetime;

@@ -9,8 +9,8 @@ use Rattle.syn_grammar.specs.Grammar.{Syntax}
 use Rattle.syn_grammar.specs.Laws.{Derives}
 use Rattle.syn_grammar.specs.Promises as grammar
 use Rattle.syn_tokens.specs.Faults.{FaultValue, IsSyntaxError}
-use Rattle.syn.specs.Spelling.{Spells, IsFaultWithin}
-use Rattle.syn.specs.Texts.{text_of}
+use Rattle.syn_reader.specs.Spelling.{Spells, IsFaultWithin}
+use Rattle.syn_reader.specs.Texts.{text_of}
 use Rattle.syn.specs.Canonical.{IsCanonical}
 use Rattle.syn_canon.specs.declared.command.Command.{Command}
 use Rattle.syn_canon.specs.declared.command.Command.TheVariants.{Print, Check}

@@ -10,9 +10,8 @@ use syn::lower::{
 };
 use syn::punctuated::Punctuated;
 use syn::restriction::{VisRestricted, Visibility};
-use syn::token::{
-    Comma, Delimiter, Entry, Eq, Ident, LiteralRef, Mark, Punct, Spacing, Span, Token, TokenStream,
-};
+use syn::token::{Comma, Eq, Ident, Mark, Span, TokenStream};
+use syn_outlines::{add_place, add_stream, add_token, add_word};
 use syn_parse::deferred::Deferred;
 use syn_tree::kind::Expr;
 
@@ -42,49 +41,19 @@ pub struct TreeText {
 
 impl TreeText {
     fn word(&mut self, word: &str) -> Result<(), AllocError> {
-        if !self.text.is_empty() {
-            self.text.push(' ')?;
-        }
-        self.text.push_str(word)
-    }
-
-    fn place(&mut self, span: Span) -> Result<(), AllocError> {
-        let (start, end) = (span.start, span.end);
-        write!(self.text, "@{start}..{end}")?;
-        Ok(())
+        add_word(&mut self.text, word)
     }
 
     fn token(&mut self, word: &str, span: Span) -> Result<(), AllocError> {
-        self.word(word)?;
-        self.place(span)
+        add_token(&mut self.text, word, span)
     }
 
     fn mark<K, const N: usize>(&mut self, text: &str, mark: &Mark<K, N>) -> Result<(), AllocError> {
         self.word(text)?;
         for span in mark.spans.iter() {
-            self.place(*span)?;
+            add_place(&mut self.text, *span)?;
         }
         Ok(())
-    }
-}
-
-impl TreeText {
-    fn entry(&mut self, entry: &Entry) -> Result<(), AllocError> {
-        match entry.token() {
-            Token::Ident(ident) => self.token(ident.text(), ident.span),
-            Token::Literal(literal) => self.literal(&literal),
-            Token::Punct(punct) => self.punct(&punct),
-            Token::Open(open) => self.token(signs(open.delimiter).0, open.span),
-            Token::Close(close) => self.token(signs(close.delimiter).1, close.span),
-        }
-    }
-
-    fn literal(&mut self, literal: &LiteralRef<'_>) -> Result<(), AllocError> {
-        let kind = literal.kind();
-        self.word("")?;
-        write!(self.text, "{kind:?}")?;
-        self.text.push_str(literal.text())?;
-        self.place(literal.span)
     }
 
     /// Each attribute in its order.
@@ -125,32 +94,11 @@ impl TreeText {
         }
         Ok(())
     }
-
-    fn punct(&mut self, punct: &Punct) -> Result<(), AllocError> {
-        self.word("")?;
-        self.text.push(punct.character())?;
-        if punct.spacing == Spacing::Joint {
-            self.text.push('+')?;
-        }
-        self.place(punct.span)
-    }
-}
-
-fn signs(delimiter: Delimiter) -> (&'static str, &'static str) {
-    match delimiter {
-        Delimiter::Paren => ("(", ")"),
-        Delimiter::Brace => ("{", "}"),
-        Delimiter::Bracket => ("[", "]"),
-        Delimiter::None => ("<<", ">>"),
-    }
 }
 
 impl Outlined for TokenStream {
     fn show(&self, out: &mut TreeText) -> Result<(), AllocError> {
-        for entry in self.entries() {
-            out.entry(entry)?;
-        }
-        Ok(())
+        add_stream(&mut out.text, self)
     }
 }
 

@@ -1,4 +1,4 @@
-//! The reader of text, fields, variants, items, inputs of derives and deferred trees, by examples.
+//! Fields, variants, items, inputs of derives and deferred trees, by examples.
 mod asserts;
 mod canonical_prints;
 mod conversions;
@@ -9,6 +9,5 @@ mod fields;
 mod handmade;
 mod items;
 mod members;
-mod reader;
 mod scarce_memory;
 mod whole_inputs;

@@ -1,7 +1,7 @@
 -- WHAT THE PROGRAM COUNTS.
 use Rattle.std.specs.Prelude.{◌≡◌, ℕ, List, Option, IfSome}
 use Rattle.syn_grammar.specs.Tokens.{Stream}
-use Rattle.syn.specs.Spelling.{Spells}
+use Rattle.syn_reader.specs.Spelling.{Spells}
 
 -- the text is all that the reader had to give, where it is known what that is
 abbrev pub IsRead : Option (List ℕ) → List ℕ → Type 0

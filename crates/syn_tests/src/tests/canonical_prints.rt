@@ -3,9 +3,10 @@ use crate::tests::asserts::{assert_place, assert_text, assert_text_of};
 use std::alloc::Global;
 use std::process::Abort;
 use syn::Result;
-use syn::canon::{Canonical, canonical, same_form};
-use syn::data::FieldsUnnamed;
+use syn::canon::{Canonical, NamedField, UnnamedField, canonical, same_form};
+use syn::data::{FieldsNamed, FieldsUnnamed, Variant};
 use syn::derive::DeriveInput;
+use syn::item::{ItemEnum, ItemStruct, ItemUnion};
 use syn::reader::{read_tokens, token_text};
 use syn::restriction::Visibility;
 use syn::token::{Delimiter, Spacing, TokenStream};
@@ -227,6 +228,37 @@ fn different(rt: HostRuntime) -> Result<()> {
     are_alike::<Visibility>(&rt, rt.alloc(), false, &[("pub(self)", "pub(in self)")])?;
     are_alike::<FieldsUnnamed>(&rt, rt.alloc(), false, &[("(a)", "(a, a)")])
 }
+
+/// What is not kept makes no difference: a variant's visibility, the order of lifetimes and types, empty `< >` and `where`.
+#[test]
+fn same_fields(rt: HostRuntime) -> Result<()> {
+    let alloc = rt.alloc();
+    are_alike::<FieldsNamed>(&rt, alloc, true, &[("{a:b}", "{ a : b }")])?;
+    are_alike::<FieldsNamed>(&rt, alloc, false, &[("{a: b}", "{a: b,}")])?;
+    are_alike::<Variant>(&rt, alloc, true, &[("pub A", "A"), ("A=1", "A = 1")])?;
+    are_alike::<Variant>(&rt, alloc, false, &[("A", "A()"), ("A = 1", "A = 2")])?;
+    are_alike::<NamedField>(&rt, alloc, true, &[("a:b", "a : b")])?;
+    are_alike::<NamedField>(&rt, alloc, false, &[("a: b", "a: b = 1")])?;
+    are_alike::<UnnamedField>(&rt, alloc, true, &[("a<>", "a < >")])?;
+    are_alike::<UnnamedField>(&rt, alloc, false, &[("a", "#[a] a")])
+}
+
+#[test]
+fn same_items(rt: HostRuntime) -> Result<()> {
+    let alloc = rt.alloc();
+    are_alike::<ItemEnum>(&rt, alloc, true, &[("enum E{pub A}", "enum E { A }")])?;
+    are_alike::<ItemEnum>(&rt, alloc, false, &[("enum E {A}", "enum E {A,}")])?;
+    are_alike::<ItemStruct>(&rt, alloc, true, FORMS_OF_STRUCTS)?;
+    are_alike::<ItemStruct>(&rt, alloc, false, &[("struct S;", "struct S {}")])?;
+    are_alike::<ItemUnion>(&rt, alloc, true, &[("union U<>{}", "union U {}")])?;
+    are_alike::<ItemUnion>(&rt, alloc, false, &[("union U {}", "union U {a: b}")])
+}
+
+const FORMS_OF_STRUCTS: &[(&str, &str)] = &[
+    ("struct S<T, 'a>;", "struct S<'a, T,>;"),
+    ("struct S<> where;", "struct S;"),
+    ("struct S<T> where;", "struct S<T>;"),
+];
 
 /// `struct r#a ;`
 fn raw(alloc: Global) -> Result<TokenStream> {

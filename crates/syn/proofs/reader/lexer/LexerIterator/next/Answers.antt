@@ -1,9 +1,0 @@
-use Rattle.std.proofs.Common.{◌∙◌}
-use Rattle.syn.proofs.Spelling.{blank_append}
-use Rattle.syn.proofs.reader.lexer.LexerIterator.next.Goals as goal
-
-pub returns-in_err-first-clause-steps : goal.returns-in_err-first-clause-steps
-returns-in_err-first-clause-steps c =
-    let same = c.skip_white_space.ensures.text in
-    let left = rw same at c.in_err-first.ensures.stands in
-    (c.in_err-first.ensures.text ∙ same, rw c.from_residual.ensures (blank_append _ _ _ _ c.skip_white_space.ensures.blank left))

@@ -1,7 +1,0 @@
-use Rattle.std.proofs.Common.{◌≡◌, ◌++◌, drop, string_bytes}
-use Rattle.syn.specs.Texts.{text_of}
-use Rattle.syn.specs.EntryTexts.{entries_text}
-use Rattle.syn.proofs.reader.text.token_text.Given as goal
-
-abbrev pub invariant-loop-entry : goal.invariant-loop-entry
-invariant-loop-entry l = string_bytes l.writer.text ++ entries_text l.writer.glued (drop l.entry-index l.entry-items) ≡ text_of l.tokens

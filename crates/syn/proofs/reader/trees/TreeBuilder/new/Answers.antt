@@ -1,7 +1,0 @@
-use Rattle.std.proofs.Common.{[], refl}
-use Rattle.syn.proofs.Spelling.{blank_here}
-use Rattle.syn.proofs.reader.trees.TreeBuilder.new.Goals as goal
-
--- no piece was read
-pub returns : goal.returns
-returns c = λ text. rw c.new.ensures ([], blank_here text 0, refl, tt)

@@ -1,0 +1,13 @@
+pub mod Places
+pub mod Characters
+pub mod Identifiers
+pub mod Spelling
+pub mod Flattened
+pub mod Groups
+pub mod Refusals
+pub mod Unexpected
+pub mod DocComments
+pub mod WrittenEntries
+pub mod Beginnings
+pub mod Comments
+pub mod Scans

@@ -1,0 +1,76 @@
+-- What the entries of a stream write is the text of the stream.
+use Rattle.std.proofs.Common.{◌≡◌, ℕ, ◌+◌, ◌<◌, ◌≤◌, Bool, true, false, List, [], ◌∷◌, ◌++◌, length, drop, get_or, refl, sym, ap, ◌∙◌, append_assoc, append-nil}
+use Rattle.std.proofs.lemmas.List.{at_drop_more, drop_all}
+use Rattle.std.specs.Char.{encode_utf8}
+use Rattle.syn_grammar.specs.Tokens.{ident, literal, Paren, Brace, Bracket, None, Stream, end, leaf, punct, group}
+use Rattle.syn_grammar.specs.Take as count
+use Rattle.syn_tokens.specs.Entries.{close_entry, encode}
+use Rattle.syn_tokens.specs.declared.stream.entry.Token.{Token as Entry}
+use Rattle.syn_tokens.proofs.Entries.{joint_back}
+use Rattle.syn_reader.specs.Spelling.{opening_delimiter, closing_delimiter}
+use Rattle.syn_reader.specs.Texts.{gap, follows_directly, text_behind, text_of}
+use Rattle.syn_reader.specs.EntryTexts.{entry_text, direct_behind, entries_text}
+
+-- a word, what comes behind it, and the rest
+word_first : (a b c r : List ℕ) → (a ++ b) ++ (c ++ r) ≡ (a ++ (b ++ c)) ++ r
+word_first a b c r = append_assoc a b (c ++ r) ∙ ap (λ t. a ++ t) (sym (append_assoc b c r)) ∙ sym (append_assoc a (b ++ c) r)
+
+-- a stream writes this before all other entries
+abbrev WritesFirst : Bool → Stream → Type 0
+WritesFirst direct s = (rest : List Entry) → entries_text direct (encode s ++ rest) ≡ text_behind direct s ++ entries_text (follows_directly direct s) rest
+
+-- the content of a visible group and what is behind the group, where its delimiters are these
+in_delimiters : (space opening closing : List ℕ) (close : Entry) → ((b : Bool) → entry_text b close ≡ gap b ++ closing) → ((b : Bool) → direct_behind b close ≡ false)
+    → (i m : Stream) → WritesFirst false i → WritesFirst false m → (rest : List Entry)
+    → (space ++ opening) ++ entries_text false ((encode i ++ close ∷ encode m) ++ rest)
+    ≡ (space ++ (opening ++ (text_behind false i ++ (gap (follows_directly false i) ++ (closing ++ text_behind false m))))) ++ entries_text (follows_directly false m) rest
+in_delimiters space opening closing close writes ends i m inner more rest =
+    let direct = follows_directly false i in
+    let left = entries_text (follows_directly false m) rest in
+    let tail = gap direct ++ (closing ++ text_behind false m) in
+    ap (λ es. (space ++ opening) ++ entries_text false es) (append_assoc (encode i) (close ∷ encode m) rest)
+    ∙ ap (λ t. (space ++ opening) ++ t) (inner (close ∷ (encode m ++ rest)))
+    ∙ ap (λ t. (space ++ opening) ++ (text_behind false i ++ (t ++ entries_text (direct_behind direct close) (encode m ++ rest)))) (writes direct)
+    ∙ ap (λ b. (space ++ opening) ++ (text_behind false i ++ ((gap direct ++ closing) ++ entries_text b (encode m ++ rest)))) (ends direct)
+    ∙ ap (λ t. (space ++ opening) ++ (text_behind false i ++ ((gap direct ++ closing) ++ t))) (more rest)
+    ∙ ap (λ t. (space ++ opening) ++ (text_behind false i ++ t)) (word_first (gap direct) closing (text_behind false m) left)
+    ∙ ap (λ t. (space ++ opening) ++ t) (sym (append_assoc (text_behind false i) tail left))
+    ∙ word_first space opening (text_behind false i ++ tail) left
+
+-- the entries of a stream with others behind them
+behind_stream : (direct : Bool) (s : Stream) → WritesFirst direct s
+behind_stream direct end rest = refl
+behind_stream direct (leaf (ident x) sp m) rest =
+    ap (λ t. (gap direct ++ x) ++ t) (behind_stream false m rest)
+    ∙ word_first (gap direct) x (text_behind false m) (entries_text (follows_directly false m) rest)
+behind_stream direct (leaf (literal k x) sp m) rest =
+    ap (λ t. (gap direct ++ x) ++ t) (behind_stream false m rest)
+    ∙ word_first (gap direct) x (text_behind false m) (entries_text (follows_directly false m) rest)
+behind_stream direct (punct c j sp m) rest =
+    ap (λ b. (gap direct ++ encode_utf8 c) ++ entries_text b (encode m ++ rest)) (joint_back j)
+    ∙ ap (λ t. (gap direct ++ encode_utf8 c) ++ t) (behind_stream j m rest)
+    ∙ word_first (gap direct) (encode_utf8 c) (text_behind j m) (entries_text (follows_directly j m) rest)
+behind_stream direct (group None o c i m) rest =
+    ap (entries_text direct) (append_assoc (encode i) (close_entry None c (count.length i) ∷ encode m) rest)
+    ∙ behind_stream direct i (close_entry None c (count.length i) ∷ (encode m ++ rest))
+    ∙ ap (λ t. text_behind direct i ++ t) (behind_stream (follows_directly direct i) m rest)
+    ∙ sym (append_assoc (text_behind direct i) (text_behind (follows_directly direct i) m) (entries_text (follows_directly (follows_directly direct i) m) rest))
+behind_stream direct (group Paren o c i m) rest =
+    in_delimiters (gap direct) (opening_delimiter Paren) (closing_delimiter Paren) (close_entry Paren c (count.length i)) (λ b. refl) (λ b. refl) i m (behind_stream false i) (behind_stream false m) rest
+behind_stream direct (group Brace o c i m) rest =
+    in_delimiters (gap direct) (opening_delimiter Brace) (closing_delimiter Brace) (close_entry Brace c (count.length i)) (λ b. refl) (λ b. refl) i m (behind_stream false i) (behind_stream false m) rest
+behind_stream direct (group Bracket o c i m) rest =
+    in_delimiters (gap direct) (opening_delimiter Bracket) (closing_delimiter Bracket) (close_entry Bracket c (count.length i)) (λ b. refl) (λ b. refl) i m (behind_stream false i) (behind_stream false m) rest
+
+-- the entries of a stream alone
+pub whole_text : (s : Stream) → entries_text true (encode s) ≡ text_of s
+whole_text s = ap (entries_text true) (sym (append-nil (encode s))) ∙ behind_stream true s [] ∙ append-nil (text_of s)
+
+-- what is left to be written, one entry on
+pub next_entry : (direct : Bool) (es : List Entry) (i : ℕ) (d : Entry) → i < length es →
+    entries_text direct (drop i es) ≡ entry_text direct (get_or es i d) ++ entries_text (direct_behind direct (get_or es i d)) (drop (i + 1) es)
+next_entry direct es i d h = at_drop_more (entries_text direct) es i d h
+
+-- nothing is left
+pub no_entry : (direct : Bool) (es : List Entry) (i : ℕ) → length es ≤ i → entries_text direct (drop i es) ≡ []
+no_entry direct es i h = ap (entries_text direct) (drop_all i es h)

@@ -1,0 +1,10 @@
+pub mod Scanning
+pub mod Docs
+pub mod Flat
+pub mod Places
+pub mod Spelling
+pub mod Refusals
+pub mod Texts
+pub mod EntryTexts
+pub mod Lexemes
+pub mod Building
