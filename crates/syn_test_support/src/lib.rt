@@ -141,6 +141,23 @@ pub fn not_refused<T: Parse + Drop>(alloc: Global, rows: &[(&str, usize)]) -> Re
     Ok(wrong)
 }
 
+/// The texts that aren't refused as a whole at that byte in these words.
+pub fn not_refused_so<T: Parse + Drop>(
+    alloc: Global,
+    rows: &[(&str, usize, &str)],
+) -> Result<String> {
+    let mut wrong = String::new(alloc);
+    for (text, place, words) in rows {
+        let found = refused::<T>(alloc, text)?;
+        let at = found.span.start;
+        if at != *place {
+            writeln!(wrong, "{text:?}: refused at {at}, not at {place}")?;
+        }
+        compare(&mut wrong, text, found.text, words)?;
+    }
+    Ok(wrong)
+}
+
 /// The texts of which what is parsed from the front doesn't leave this.
 pub fn not_left_behind<T: Parse + Drop>(alloc: Global, rows: &[(&str, &str)]) -> Result<String> {
     let mut wrong = String::new(alloc);

@@ -5,8 +5,8 @@ use syn::data::{Field, Fields, FieldsNamed, FieldsUnnamed, Variant};
 use syn::derive::{Data, DataEnum, DataStruct, DataUnion, DeriveInput};
 use syn::item::{Item, ItemEnum, ItemStruct, ItemUnion};
 use syn::lower::{
-    AttrStyle, Attribute, Generics, MacroDelimiter, Meta, MetaList, MetaNameValue, Path,
-    PathArguments, PathSegment, Type, TypePath,
+    AttrStyle, Attribute, GenericParam, Generics, MacroDelimiter, Meta, MetaList, MetaNameValue,
+    Path, PathArguments, PathSegment, Type, TypePath, WhereClause, WherePredicate,
 };
 use syn::punctuated::Punctuated;
 use syn::restriction::{VisRestricted, Visibility};
@@ -150,6 +150,23 @@ impl Outlined for TypePath {
     }
 }
 
+/// What a type is called.
+fn kind_of(ty: &Type) -> &'static str {
+    match ty {
+        Type::Array(_) => "Array",
+        Type::Group(_) => "Group",
+        Type::Never(_) => "Never",
+        Type::Paren(_) => "Paren",
+        Type::Path(_) => "Path",
+        Type::Ptr(_) => "Ptr",
+        Type::Reference(_) => "Reference",
+        Type::Slice(_) => "Slice",
+        Type::Tuple(_) => "Tuple",
+        Type::Verbatim(_) => "Verbatim",
+    }
+}
+
+/// Types that are no path are shown by what they print.
 impl Outlined for Type {
     fn show(&self, out: &mut TreeText) -> Result<(), AllocError> {
         out.word("Type")?;
@@ -159,7 +176,7 @@ impl Outlined for Type {
                 out.word("Verbatim")?;
                 tokens.show(out)
             }
-            _ => out.printed("Other", self),
+            _ => out.printed(kind_of(self), self),
         }
     }
 }
@@ -295,17 +312,47 @@ impl Outlined for Fields {
     }
 }
 
+/// A parameter is shown by what it prints.
+impl Outlined for GenericParam {
+    fn show(&self, out: &mut TreeText) -> Result<(), AllocError> {
+        match self {
+            GenericParam::Lifetime(_) => out.printed("LifetimeParam", self),
+            GenericParam::Ty(_) => out.printed("TypeParam", self),
+            GenericParam::Const(_) => out.printed("ConstParam", self),
+        }
+    }
+}
+
+/// And so is a predicate.
+impl Outlined for WherePredicate {
+    fn show(&self, out: &mut TreeText) -> Result<(), AllocError> {
+        match self {
+            WherePredicate::Lifetime(_) => out.printed("PredicateLifetime", self),
+            WherePredicate::Ty(_) => out.printed("PredicateType", self),
+        }
+    }
+}
+
+impl Outlined for WhereClause {
+    fn show(&self, out: &mut TreeText) -> Result<(), AllocError> {
+        out.token("where", self.where_token.span)?;
+        out.list(&self.predicates)
+    }
+}
+
+/// Parameters are shown in the order in which the tree holds them.
 impl Outlined for Generics {
     fn show(&self, out: &mut TreeText) -> Result<(), AllocError> {
         if let Some(lt_token) = &self.lt_token {
             out.mark("<", lt_token)?;
         }
+        out.list(&self.params)?;
         if let Some(gt_token) = &self.gt_token {
             out.mark(">", gt_token)?;
         }
-        match self.params.is_empty() {
-            true => Ok(()),
-            false => out.printed("Parameters", self),
+        match &self.where_clause {
+            Some(clause) => clause.show(out),
+            None => Ok(()),
         }
     }
 }

@@ -1,6 +1,7 @@
 //! Fields, variants, items, inputs of derives and deferred trees, by examples.
 mod asserts;
 mod canonical_prints;
+mod conversions;
 mod copies;
 mod deferred;
 mod derive_inputs;

@@ -6,5 +6,7 @@ mod generics;
 mod handmade_types;
 mod literals;
 mod modifiers;
+mod type_ends;
 mod types;
 mod visibilities;
+mod where_clauses;

@@ -184,6 +184,16 @@ const SAME: &[(&str, &str)] = &[
         "pub(crate)struct S(a,::b);",
         "pub (crate) struct S (a, ::b);",
     ),
+    ("struct S<> where ;", "struct S;"),
+    ("struct S<T, 'a>;", "struct S<'a, T,>;"),
+    ("struct S<T:>;", "struct S<T>;"),
+    ("struct S(A<T, 'a>);", "struct S(A<'a, T,>);"),
+    (
+        "struct S where T: for<'a:> A;",
+        "struct S where T: for<'a> A;",
+    ),
+    ("enum E { pub A }", "enum E { A }"),
+    ("#[a = b] struct S;", "# [a =b] struct S;"),
 ];
 
 #[test]
@@ -201,6 +211,15 @@ const DIFFERENT: &[(&str, &str)] = &[
     ("struct S(a, b);", "struct S(b, a);"),
     ("struct S(a::b);", "struct S(::a::b);"),
     ("struct S(pub a);", "struct S(pub(self) a);"),
+    ("struct S<T, 'a>;", "struct S<'a, T>;"),
+    ("struct S(A<>);", "struct S(A);"),
+    ("struct S(A::<T>);", "struct S(A<T>);"),
+    ("struct S((T));", "struct S((T,));"),
+    ("struct S where T: ;", "struct S;"),
+    ("#[a(x=>y)] struct S;", "#[a(x= >y)] struct S;"),
+    ("#[a()] struct S;", "#[a[]] struct S;"),
+    ("enum E { A }", "enum E { A {} }"),
+    ("enum E { A = 1 }", "enum E { A = 01 }"),
 ];
 
 #[test]

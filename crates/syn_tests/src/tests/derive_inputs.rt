@@ -6,8 +6,8 @@ use syn::derive::{Data, DeriveInput};
 use syn::lower::Generics;
 use syn::{Fault, Result};
 use syn_test_support::{
-    not_left_behind, not_left_by_refused, not_refused, not_reprinted, not_shown, parsed, refused,
-    span,
+    not_left_behind, not_left_by_refused, not_refused_so, not_reprinted, not_shown, parsed,
+    refused, span,
 };
 
 /// Structs, and their trees.
@@ -59,30 +59,32 @@ fn prints(rt: HostRuntime) -> Result<()> {
     assert_none(&rt, not_reprinted::<DeriveInput>(rt.alloc(), PRINTS))
 }
 
-const REFUSED: &[(&str, usize)] = &[
-    ("", 0),
-    ("pub", 3),
-    ("pub  ", 3),
-    ("struct", 6),
-    ("struct S", 8),
-    ("struct S() ", 10),
-    ("struct S(a)", 11),
-    ("struct struct;", 7),
-    ("struct _;", 7),
-    ("struct (a);", 7),
-    ("struct S [a];", 9),
-    ("struct S; x", 10),
-    ("struct S;;", 9),
-    ("struct S(a)(b);", 11),
-    ("struct S(a b);", 11),
-    ("struct S(,);", 9),
-    ("pub pub struct S;", 4),
-    ("pub(crate)(crate) struct S;", 10),
+const NO_WORD: &str = "expected one of: `struct`, `enum`, `union`";
+
+const REFUSED: &[(&str, usize, &str)] = &[
+    ("", 0, NO_WORD),
+    ("pub", 3, NO_WORD),
+    ("pub  ", 3, NO_WORD),
+    ("struct", 6, "expected identifier"),
+    ("struct S", 8, "expected `;`"),
+    ("struct S() ", 10, "expected `;`"),
+    ("struct S(a)", 11, "expected `;`"),
+    ("struct struct;", 7, "expected identifier"),
+    ("struct _;", 7, "expected identifier"),
+    ("struct (a);", 7, "expected identifier"),
+    ("struct S [a];", 9, "expected `;`"),
+    ("struct S; x", 10, "unexpected token"),
+    ("struct S;;", 9, "unexpected token"),
+    ("struct S(a)(b);", 11, "expected `;`"),
+    ("struct S(a b);", 11, "unexpected token"),
+    ("struct S(,);", 9, "expected identifier"),
+    ("pub pub struct S;", 4, NO_WORD),
+    ("pub(crate)(crate) struct S;", 10, NO_WORD),
 ];
 
 #[test]
 fn refusals(rt: HostRuntime) -> Result<()> {
-    assert_none(&rt, not_refused::<DeriveInput>(rt.alloc(), REFUSED))
+    assert_none(&rt, not_refused_so::<DeriveInput>(rt.alloc(), REFUSED))
 }
 
 /// The fault for which the whole text is refused.

@@ -8,7 +8,7 @@ use syn::reader::{read_tokens, token_text};
 use syn::{Fault, Result};
 use syn_test_support::outline::outline;
 use syn_test_support::{
-    fault, not_left_behind, not_left_by_refused, not_refused, not_reprinted, not_shown, parsed,
+    fault, not_left_behind, not_left_by_refused, not_refused_so, not_reprinted, not_shown, parsed,
     refused,
 };
 
@@ -33,25 +33,28 @@ fn paths(rt: HostRuntime) -> Result<()> {
     assert_none(&rt, not_shown::<Path>(rt.alloc(), PATHS))
 }
 
-const NO_PATHS: &[(&str, usize)] = &[
-    ("", 0),
-    ("fn", 0),
-    ("_", 0),
-    ("::", 2),
-    ("a::", 3),
-    ("a::fn", 3),
-    ("a::_", 3),
-    ("a:::b", 3),
-    ("a: :b", 1),
-    ("a::::b", 3),
-    ("a b", 2),
-    ("(a)", 0),
-    ("a<b", 3),
+const NO_PATHS: &[(&str, usize, &str)] = &[
+    ("", 0, "expected identifier"),
+    ("fn", 0, "expected identifier"),
+    ("_", 0, "expected identifier"),
+    ("1", 0, "expected identifier"),
+    ("'a", 0, "expected identifier"),
+    ("::", 2, "expected identifier"),
+    ("a::", 3, "expected identifier"),
+    ("a::fn", 3, "expected identifier"),
+    ("a::_", 3, "expected identifier"),
+    ("a:::b", 3, "expected identifier"),
+    ("a: :b", 1, "unexpected token"),
+    ("a::::b", 3, "expected identifier"),
+    ("a b", 2, "unexpected token"),
+    ("(a)", 0, "expected identifier"),
+    ("<a>::b", 0, "expected identifier"),
+    ("a<b", 3, "expected `>`"),
 ];
 
 #[test]
 fn refused_paths(rt: HostRuntime) -> Result<()> {
-    assert_none(&rt, not_refused::<Path>(rt.alloc(), NO_PATHS))
+    assert_none(&rt, not_refused_so::<Path>(rt.alloc(), NO_PATHS))
 }
 
 #[test]
@@ -65,6 +68,32 @@ fn printed_paths(rt: HostRuntime) -> Result<()> {
 const TYPES: &[(&str, &str)] = &[
     ("u8", "Type Path u8@0..2"),
     ("::a", "Type Path ::@0..1@1..2 a@2..3"),
+    ("!", "Type Never !@0..1"),
+    ("(a)", "Type Paren (@0..1 a@1..2 )@2..3"),
+    ("(a,)", "Type Tuple (@0..1 a@1..2 ,@2..3 )@3..4"),
+    (
+        "&'a mut b",
+        "Type Reference &@0..1 '+@1..2 a@2..3 mut@4..7 b@8..9",
+    ),
+    ("*const a", "Type Ptr *@0..1 const@1..6 a@7..8"),
+    ("*mut a", "Type Ptr *@0..1 mut@1..4 a@5..6"),
+    ("[a]", "Type Slice [@0..1 a@1..2 ]@2..3"),
+    (
+        "[a; 0x1]",
+        "Type Array [@0..1 a@1..2 ;@2..3 Int0x1@4..7 ]@7..8",
+    ),
+    (
+        "<a as b>::c",
+        "Type Qualified <@0..1 a@1..2 as@3..5 b@6..7 >@7..8 :+@8..9 :@9..10 c@10..11",
+    ),
+    (
+        "a::<b, 'c, 1, d = e>",
+        "Type Path a@0..1 Arguments :+@1..2 :@2..3 <@3..4 '+@7..8 c@8..9 ,@9..10 b@4..5 ,@5..6 Int1@11..12 ,@12..13 d@14..15 =@16..17 e@18..19 >@19..20",
+    ),
+    (
+        "a(b,) -> c",
+        "Type Path a@0..1 Arguments (@1..2 b@2..3 ,@3..4 )@4..5 -+@6..7 >@7..8 c@9..10",
+    ),
 ];
 
 #[test]
@@ -151,27 +180,27 @@ fn last_commas(rt: HostRuntime) -> Result<()> {
     Ok(())
 }
 
-const REFUSED: &[(&str, usize)] = &[
-    ("", 0),
-    ("a", 0),
-    ("{}", 0),
-    ("[a]", 0),
-    ("(a b)", 3),
-    ("(,)", 1),
-    ("(a,,)", 3),
-    ("(a;)", 2),
-    ("(a) b", 4),
-    ("()()", 2),
-    ("(pub)", 4),
-    ("(pub a::)", 8),
-    ("(a:::b)", 4),
-    ("(a: b)", 2),
-    ("(fn)", 1),
+const REFUSED: &[(&str, usize, &str)] = &[
+    ("", 0, "expected parentheses"),
+    ("a", 0, "expected parentheses"),
+    ("{}", 0, "expected parentheses"),
+    ("[a]", 0, "expected parentheses"),
+    ("(a b)", 3, "unexpected token"),
+    ("(,)", 1, "expected identifier"),
+    ("(a,,)", 3, "expected identifier"),
+    ("(a;)", 2, "unexpected token"),
+    ("(a) b", 4, "unexpected token"),
+    ("()()", 2, "unexpected token"),
+    ("(pub)", 4, "expected identifier"),
+    ("(pub a::)", 8, "expected identifier"),
+    ("(a:::b)", 4, "expected identifier"),
+    ("(a: b)", 2, "unexpected token"),
+    ("(fn)", 1, "expected identifier"),
 ];
 
 #[test]
 fn refused_fields(rt: HostRuntime) -> Result<()> {
-    assert_none(&rt, not_refused::<FieldsUnnamed>(rt.alloc(), REFUSED))
+    assert_none(&rt, not_refused_so::<FieldsUnnamed>(rt.alloc(), REFUSED))
 }
 
 const NO_DEFAULT: &str = "field default value is only supported in structs with named fields";

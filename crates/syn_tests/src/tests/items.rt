@@ -12,8 +12,8 @@ use syn::token::{Colon, Ident, Semi};
 use syn::{Result, TryClone};
 use syn_test_support::outline::outline;
 use syn_test_support::{
-    fault, not_left_behind, not_left_by_refused, not_refused, not_reprinted, not_shown, parsed,
-    print_shown, printed, refused, reprinted, shown, span,
+    fault, not_left_behind, not_left_by_refused, not_refused, not_refused_so, not_reprinted,
+    not_shown, parsed, print_shown, printed, refused, reprinted, span,
 };
 
 /// Fields in braces, and their trees.
@@ -38,6 +38,10 @@ const FIELDS: &[(&str, &str)] = &[
     (
         "{_: union}",
         "{@0..1 Field Inherited _@1..2 :@2..3 Type Path union@4..9 }@9..10",
+    ),
+    (
+        "{pub enabled: bool}",
+        "{@0..1 Field Public pub@1..4 enabled@5..12 :@12..13 Type Path bool@14..18 }@18..19",
     ),
 ];
 
@@ -65,29 +69,29 @@ fn field_prints(rt: HostRuntime) -> Result<()> {
     assert_none(&rt, not_reprinted::<FieldsNamed>(rt.alloc(), FIELD_PRINTS))
 }
 
-const NO_FIELDS: &[(&str, usize)] = &[
-    ("", 0),
-    ("(a: b)", 0),
-    ("{a}", 2),
-    ("{a b}", 3),
-    ("{a: }", 4),
-    ("{a: b c}", 6),
-    ("{a: b = }", 8),
-    ("{a: b = c}", 8),
-    ("{: b}", 1),
-    ("{fn: b}", 1),
-    ("{,}", 1),
-    ("{a: b,,}", 6),
-    ("{a: struct {b: c}}", 4),
-    ("{_: struct (b)}", 11),
-    ("{_: struct {b}}", 13),
-    ("{_: union {b}}", 12),
-    ("{#![a] b: c}", 2),
+const NO_FIELDS: &[(&str, usize, &str)] = &[
+    ("", 0, "expected curly braces"),
+    ("(a: b)", 0, "expected curly braces"),
+    ("{a}", 2, "expected `:`"),
+    ("{a b}", 3, "expected `:`"),
+    ("{a: }", 4, "expected identifier"),
+    ("{a: b c}", 6, "unexpected token"),
+    ("{a: b = }", 8, "expected literal"),
+    ("{a: b = c}", 8, "expected literal"),
+    ("{: b}", 1, "expected identifier"),
+    ("{fn: b}", 1, "expected identifier"),
+    ("{,}", 1, "expected identifier"),
+    ("{a: b,,}", 6, "expected identifier"),
+    ("{a: struct {b: c}}", 4, "expected identifier"),
+    ("{_: struct (b)}", 11, "expected curly braces"),
+    ("{_: struct {b}}", 13, "expected `:`"),
+    ("{_: union {b}}", 12, "expected `:`"),
+    ("{#![a] b: c}", 2, "expected square brackets"),
 ];
 
 #[test]
 fn refused_fields(rt: HostRuntime) -> Result<()> {
-    assert_none(&rt, not_refused::<FieldsNamed>(rt.alloc(), NO_FIELDS))
+    assert_none(&rt, not_refused_so::<FieldsNamed>(rt.alloc(), NO_FIELDS))
 }
 
 /// Whether a field with a name could be parsed.
@@ -155,20 +159,20 @@ fn variants(rt: HostRuntime) -> Result<()> {
     )
 }
 
-const NO_VARIANTS: &[(&str, usize)] = &[
-    ("", 0),
-    ("pub", 3),
-    ("_", 0),
-    ("A =", 3),
-    ("A = 1 + 2", 6),
-    ("A { b }", 6),
-    ("A(b = 1)", 6),
-    ("A(b) {}", 5),
+const NO_VARIANTS: &[(&str, usize, &str)] = &[
+    ("", 0, "expected identifier"),
+    ("pub", 3, "expected identifier"),
+    ("_", 0, "expected identifier"),
+    ("A =", 3, "expected literal"),
+    ("A = 1 + 2", 6, "unexpected token"),
+    ("A { b }", 6, "expected `:`"),
+    ("A(b = 1)", 6, NO_DEFAULT),
+    ("A(b) {}", 5, "unexpected token"),
 ];
 
 #[test]
 fn refused_variants(rt: HostRuntime) -> Result<()> {
-    assert_none(&rt, not_refused::<Variant>(rt.alloc(), NO_VARIANTS))
+    assert_none(&rt, not_refused_so::<Variant>(rt.alloc(), NO_VARIANTS))
 }
 
 /// Inputs of derives, and their prints.
@@ -285,21 +289,23 @@ fn unions(rt: HostRuntime) -> Result<()> {
     )
 }
 
-const NO_INPUTS: &[(&str, usize)] = &[
-    ("", 0),
-    ("fn f() {}", 0),
-    ("pub", 3),
-    ("enum E", 6),
-    ("enum E()", 6),
-    ("union U;", 7),
-    ("struct S { a: b };", 17),
-    ("#[a]", 4),
-    ("#![a] struct S;", 1),
+const NO_WORD: &str = "expected one of: `struct`, `enum`, `union`";
+
+const NO_INPUTS: &[(&str, usize, &str)] = &[
+    ("", 0, NO_WORD),
+    ("fn f() {}", 0, NO_WORD),
+    ("pub", 3, NO_WORD),
+    ("enum E", 6, "expected curly braces"),
+    ("enum E()", 6, "expected curly braces"),
+    ("union U;", 7, "expected curly braces"),
+    ("struct S { a: b };", 17, "unexpected token"),
+    ("#[a]", 4, NO_WORD),
+    ("#![a] struct S;", 1, "expected square brackets"),
 ];
 
 #[test]
 fn refused_inputs(rt: HostRuntime) -> Result<()> {
-    assert_none(&rt, not_refused::<DeriveInput>(rt.alloc(), NO_INPUTS))
+    assert_none(&rt, not_refused_so::<DeriveInput>(rt.alloc(), NO_INPUTS))
 }
 
 const NO_DEFAULT: &str = "field default value is only supported in structs with named fields";
@@ -310,10 +316,7 @@ fn faults(rt: HostRuntime) -> Result<()> {
     let first = refused::<ItemStruct>(rt.alloc(), "struct S(u8 = 1);")?;
     assert_eq!(rt; (first.span.start, first.text), (14, NO_DEFAULT));
     let second = refused::<DeriveInput>(rt.alloc(), "pub fn f() {}")?;
-    assert_eq!(rt;
-        (second.span, second.text),
-        (span(4, 6), "expected one of: `struct`, `enum`, `union`")
-    );
+    assert_eq!(rt; (second.span, second.text), (span(4, 6), NO_WORD));
     Ok(())
 }
 
@@ -351,35 +354,6 @@ fn inputs_as_items(rt: HostRuntime) -> Result<()> {
     Ok(())
 }
 
-/// The item that a struct is once it was the input of a derive.
-fn back(alloc: Global, text: &str) -> Result<Item> {
-    let item: ItemStruct = parsed(alloc, text)?;
-    Ok(Item::from(DeriveInput::from(item)))
-}
-
-/// What shows that item.
-fn back_shown(alloc: Global, text: &str) -> Result<String> {
-    Ok(outline(alloc, &back(alloc, text)?)?)
-}
-
-#[test]
-fn structs_there_and_back(rt: HostRuntime) -> Result<()> {
-    for text in [
-        "struct S;",
-        "#[a] pub struct S { b: c = 1, }",
-        "struct S(a);",
-    ] {
-        let before = shown::<ItemStruct>(rt.alloc(), text)?;
-        assert_text_of(
-            &rt,
-            text,
-            back_shown(rt.alloc(), text)?.as_str(),
-            before.as_str(),
-        );
-    }
-    Ok(())
-}
-
 /// Whether two items are equal, and the second to a copy of the first.
 fn is_equal(alloc: Global, left: &Item, right: &Item) -> Result<bool> {
     Ok(left == right && left.try_clone(alloc)? == *right)
@@ -406,6 +380,18 @@ fn equality(rt: HostRuntime) -> Result<()> {
         ("struct S {}", "struct S();", false),
         ("struct S {}", "union S {}", false),
         ("union U { a: b }", "union U { c: b }", false),
+        ("struct S<T>(A<T>);", "struct S < T > ( A < T > ) ;", true),
+        ("struct S where T: A;", "struct S where T : A ;", true),
+        ("struct S<T, 'a>;", "struct S<'a, T>;", false),
+        ("struct S<>;", "struct S;", false),
+        ("struct S where;", "struct S;", false),
+        ("struct S where T: A;", "struct S where T: B;", false),
+        ("struct S(&'a u8);", "struct S(&u8);", false),
+        ("#[a(==)] struct S;", "#[a(= =)] struct S;", false),
+        ("enum E { #[a] A }", "enum E { A }", false),
+        ("enum E { A }", "enum E { A {} }", false),
+        ("pub enum E {}", "pub(crate) enum E {}", false),
+        ("union U { a: b }", "union U { a: b = 1 }", false),
     ] {
         assert_eq!(rt;
             are_equal(rt.alloc(), left, right)?,

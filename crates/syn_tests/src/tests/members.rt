@@ -4,6 +4,7 @@ use std::alloc::{AllocError, Global};
 use std::fmt::Write as _;
 use syn::data::{Field, Fields, MemberRef, Members};
 use syn::derive::{Data, DeriveInput};
+use syn::item::ItemStruct;
 use syn::lower::{Type, TypeTuple};
 use syn::punctuated::Punctuated;
 use syn::punctuated::iterators::IntoIter;
@@ -184,6 +185,81 @@ fn unit_type(alloc: Global) -> Type {
         paren_token: Paren::new(span(0, 1), span(1, 2)),
         elems: Punctuated::new(alloc),
     })
+}
+
+/// The print of the struct once the type of each of its fields is `()`.
+fn unit_struct(alloc: Global, text: &str) -> Result<String> {
+    let mut item: ItemStruct = parsed(alloc, text)?;
+    for field in item.fields.iter_mut() {
+        field.ty = unit_type(alloc);
+    }
+    printed(alloc, &item)
+}
+
+#[test]
+fn changed_in_a_struct(rt: HostRuntime) -> Result<()> {
+    for (text, want) in [
+        ("struct S(u8, u16);", "struct S ( ( ) , ( ) ) ;"),
+        ("struct S { pub a: u8 }", "struct S { pub a : ( ) }"),
+        ("struct S;", "struct S ;"),
+    ] {
+        let found = unit_struct(rt.alloc(), text)?;
+        assert_text_of(&rt, text, found.as_str(), want);
+    }
+    Ok(())
+}
+
+/// Makes `()` the type of a field, where there is one.
+fn make_unit(alloc: Global, field: Option<&mut Field>) {
+    if let Some(field) = field {
+        field.ty = unit_type(alloc);
+    }
+}
+
+/// The print of the fields once the type of the last is `()`, and then that of the first of those that are left.
+fn unit_ends(alloc: Global, text: &str) -> Result<String> {
+    let mut fields = fields_of(alloc, text)?;
+    let mut lent = fields.iter_mut();
+    make_unit(alloc, lent.next_back());
+    make_unit(alloc, lent.next());
+    printed(alloc, &fields)
+}
+
+#[test]
+fn changed_at_both_ends(rt: HostRuntime) -> Result<()> {
+    for (text, want) in [
+        ("struct S(a, b, c);", "( ( ) , b , ( ) )"),
+        ("struct S { a: b }", "{ a : ( ) }"),
+        ("struct S();", "( )"),
+        ("struct S;", ""),
+    ] {
+        let found = unit_ends(rt.alloc(), text)?;
+        assert_text_of(&rt, text, found.as_str(), want);
+    }
+    Ok(())
+}
+
+/// The names of the fields of the struct, which are walked as they are lent.
+fn names_of(alloc: Global, text: &str) -> Result<String> {
+    let fields = fields_of(alloc, text)?;
+    let mut names = String::new(alloc);
+    for field in &fields {
+        add_name(&mut names, Some(field))?;
+    }
+    Ok(names)
+}
+
+#[test]
+fn lent(rt: HostRuntime) -> Result<()> {
+    for (text, want) in [
+        ("struct S { a: u8, _: u8, b: u8 }", "a_b"),
+        ("struct S(u8);", ""),
+        ("struct S;", ""),
+    ] {
+        let found = names_of(rt.alloc(), text)?;
+        assert_text_of(&rt, text, found.as_str(), want);
+    }
+    Ok(())
 }
 
 /// The print of the fields once the type of each is `()`.

@@ -8,10 +8,10 @@ use syn::lower::Attribute;
 use syn::parse::ParseBuffer;
 use syn::print::ToTokens;
 use syn::reader::{read_tokens, token_text};
-use syn::token::TokenStream;
-use syn::{Result, TryClone};
+use syn::token::{Delimiter, TokenStream};
+use syn::{Fault, Result, TryClone};
 use syn_test_support::outline::outline;
-use syn_test_support::{fault, parsed, printed};
+use syn_test_support::{fault, parsed, printed, push_group};
 
 /// The attributes at the front of a buffer: inner ones, or outer ones.
 fn read(input: &mut ParseBuffer<'_>, inner: bool) -> Result<Vec<Attribute>> {
@@ -83,6 +83,29 @@ const OUTER: &[(&str, &str, &str)] = &[
         "# [ self :: Self :: super :: crate = # a b ]",
         "",
     ),
+    (
+        "#[a == b] #[c =d, e; f]",
+        "# [ a = = b ] # [ c = d , e ; f ]",
+        "",
+    ),
+    ("#[a(== , = =)]", "# [ a ( == , = = ) ]", ""),
+    (
+        "#[unsafe{}] #[unsafe = 1]",
+        "# [ unsafe { } ] # [ unsafe = 1 ]",
+        "",
+    ),
+    ("#[r#fn::union(auto)]", "# [ r#fn :: union ( auto ) ]", ""),
+    ("#[a](b)", "# [ a ]", "( b )"),
+    ("#[a] [b]", "# [ a ]", "[ b ]"),
+    ("#[a] ![b]", "# [ a ]", "! [ b ]"),
+    ("/// a\nb", "# [ doc = \" a\" ]", "b"),
+    (
+        "/** a */ #[b] /// c",
+        "# [ doc = \" a \" ] # [ b ] # [ doc = \" c\" ]",
+        "",
+    ),
+    ("//// a\nb", "", "b"),
+    ("/*** a */ /**/ b", "", "b"),
 ];
 
 #[test]
@@ -95,6 +118,15 @@ const INNER: &[(&str, &str, &str)] = &[
     ("#[a]", "", "# [ a ]"),
     ("#![a] #[b]", "# ! [ a ]", "# [ b ]"),
     ("#![a(b)] #![c = d] e", "# ! [ a ( b ) ] # ! [ c = d ]", "e"),
+    ("# ! [unsafe(a)] !", "# ! [ unsafe ( a ) ]", "!"),
+    ("#[a] #![b]", "", "# [ a ] #! [ b ]"),
+    ("#![a] #", "# ! [ a ]", "#"),
+    ("//! a\nb", "# ! [ doc = \" a\" ]", "b"),
+    (
+        "/*! a */ /// b",
+        "# ! [ doc = \" a \" ]",
+        "# [ doc = \" b\" ]",
+    ),
 ];
 
 #[test]
@@ -144,6 +176,26 @@ const SHOWN: &[(&str, bool, &str)] = &[
         false,
         "#@0..1 Outer [@1..2 Path unsafe@2..8 (@8..9 a@9..10 )@10..11 ]@11..12",
     ),
+    (
+        "#[::a == b]",
+        false,
+        "#@0..1 Outer [@1..2 Path ::@2..3@3..4 a@4..5 =@6..7 =@7..8 b@9..10 ]@10..11",
+    ),
+    (
+        "#[a()]",
+        false,
+        "#@0..1 Outer [@1..2 Path a@2..3 (@3..4 )@4..5 ]@5..6",
+    ),
+    (
+        " /// a",
+        false,
+        "#@1..6 Outer [@1..6 Path doc@1..6 =@1..6 Str\" a\"@1..6 ]@1..6",
+    ),
+    (
+        "/*!a*/",
+        true,
+        "#@0..6 !@0..6 [@0..6 Path doc@0..6 =@0..6 Str\"a\"@0..6 ]@0..6",
+    ),
 ];
 
 /// The tree is what the text has, token by token with its place, and so is its copy.
@@ -158,37 +210,85 @@ fn trees_and_copies(rt: HostRuntime) -> Result<()> {
     Ok(())
 }
 
-/// Where the text is refused.
-fn refused_at(alloc: Global, text: &str, inner: bool) -> Result<usize> {
-    Ok(fault(attributes(alloc, text, inner))?.span.start)
+/// The fault for which the text is refused.
+fn refused(alloc: Global, text: &str, inner: bool) -> Result<Fault> {
+    fault(attributes(alloc, text, inner))
 }
 
-const REFUSED: &[(&str, bool, usize)] = &[
-    ("#", false, 1),
-    ("#!", false, 1),
-    ("#![a]", false, 1),
-    ("#[a] #", false, 6),
-    ("#[", false, 1),
-    ("#(a)", false, 1),
-    ("#[a b]", false, 4),
-    ("#[a =]", false, 5),
-    ("#[a() b]", false, 6),
-    ("#[1]", false, 2),
-    ("#[]", false, 2),
-    ("#[unsafe::a]", false, 8),
-    ("#[::unsafe]", false, 4),
-    ("#!", true, 2),
-    ("#!(a)", true, 2),
-    ("#![a b]", true, 5),
-    ("#![a] #!a", true, 8),
+const REFUSED: &[(&str, bool, usize, &str)] = &[
+    ("#", false, 1, "expected square brackets"),
+    ("#!", false, 1, "expected square brackets"),
+    ("#![a]", false, 1, "expected square brackets"),
+    ("//! a\nb", false, 0, "expected square brackets"),
+    ("#[a] #", false, 6, "expected square brackets"),
+    ("##[a]", false, 1, "expected square brackets"),
+    ("#(a)", false, 1, "expected square brackets"),
+    ("#{a}", false, 1, "expected square brackets"),
+    ("#[", false, 1, "unbalanced group"),
+    ("#[a b]", false, 4, "unexpected token"),
+    ("#[a, b]", false, 3, "unexpected token"),
+    ("#[a!()]", false, 3, "unexpected token"),
+    ("#[a<b>]", false, 3, "unexpected token"),
+    ("#[a::<b>]", false, 5, "expected identifier"),
+    ("#[a::]", false, 5, "expected identifier"),
+    ("#[a =]", false, 5, "unexpected end of input"),
+    ("#[a() b]", false, 6, "unexpected token"),
+    ("#[a()()]", false, 5, "unexpected token"),
+    ("#[a(b) = c]", false, 7, "unexpected token"),
+    ("#[1]", false, 2, "expected identifier"),
+    ("#[fn]", false, 2, "expected identifier"),
+    ("#[_]", false, 2, "expected identifier"),
+    ("#[(a)]", false, 2, "expected identifier"),
+    ("#[= a]", false, 2, "expected identifier"),
+    ("#[#[a]]", false, 2, "expected identifier"),
+    ("#[]", false, 2, "expected identifier"),
+    ("#[unsafe::a]", false, 8, "unexpected token"),
+    ("#[unsafe a]", false, 9, "unexpected token"),
+    ("#[::unsafe]", false, 4, "expected identifier"),
+    ("#[a::unsafe]", false, 5, "expected identifier"),
+    ("#!", true, 2, "expected square brackets"),
+    ("#!(a)", true, 2, "expected square brackets"),
+    ("#!![a]", true, 2, "expected square brackets"),
+    ("#![a b]", true, 5, "unexpected token"),
+    ("#![a = ]", true, 7, "unexpected end of input"),
+    ("#![]", true, 3, "expected identifier"),
+    ("#![unsafe::a]", true, 9, "unexpected token"),
+    ("#![a] #!a", true, 8, "expected square brackets"),
 ];
 
 #[test]
 fn refusals(rt: HostRuntime) -> Result<()> {
-    for (text, inner, want) in REFUSED {
-        let place = refused_at(rt.alloc(), text, *inner)?;
-        assert_place(&rt, text, place, *want);
+    for (text, inner, place, words) in REFUSED {
+        let missed = refused(rt.alloc(), text, *inner)?;
+        assert_place(&rt, text, missed.span.start, *place);
+        assert_text_of(&rt, text, missed.text, words);
     }
+    Ok(())
+}
+
+/// `#[a]`, with an empty group behind the `a`.
+fn with_group(alloc: Global, delimiter: Delimiter) -> Result<TokenStream> {
+    let mut content = read_tokens(alloc, "a")?;
+    push_group(&mut content, delimiter, TokenStream::new(alloc))?;
+    let mut tokens = read_tokens(alloc, "#")?;
+    push_group(&mut tokens, Delimiter::Bracket, content)?;
+    Ok(tokens)
+}
+
+/// How many attributes that is, where it isn't refused.
+fn count_with_group(alloc: Global, delimiter: Delimiter) -> Result<usize> {
+    let tokens = with_group(alloc, delimiter)?;
+    Ok(Attribute::parse_outer(&mut ParseBuffer::new(&tokens))?.len())
+}
+
+/// The group behind an attribute's path has delimiters.
+#[test]
+fn groups_by_hand(rt: HostRuntime) -> Result<()> {
+    for delimiter in [Delimiter::Paren, Delimiter::Brace, Delimiter::Bracket] {
+        assert_eq!(&rt; count_with_group(rt.alloc(), delimiter)?, 1);
+    }
+    let missed = fault(count_with_group(rt.alloc(), Delimiter::None))?;
+    assert_text(&rt, missed.text, "unexpected token");
     Ok(())
 }
 

@@ -1,5 +1,5 @@
-//! Generic parameters, bounds and where clauses: which tree a text is, what is printed, what is left behind one, what is refused,
-//! their copies and equality, and trees made by hand.
+//! Generic parameters and bounds: which tree a text is, what is printed, what is left behind one, what is refused; their copies and
+//! equality, those of where clauses too, and trees made by hand.
 use crate::tests::asserts::{assert_none, assert_text_of};
 use std::alloc::Global;
 use std::process::Abort;
@@ -12,7 +12,7 @@ use syn::punctuated::Punctuated;
 use syn::token::{Colon, Eq, Gt, Ident, Lt};
 use syn::{Result, ToTokens, TryClone};
 use syn_test_support::{
-    not_left_behind, not_left_by_refused, not_refused, not_reprinted, parsed, printed, span,
+    not_left_behind, not_refused_so, not_reprinted, not_shown, parsed, printed, span,
 };
 
 /// Lifetimes are printed first, each with the comma that it held; without parameters nothing is printed.
@@ -57,11 +57,67 @@ const GENERICS: &[(&str, &str)] = &[
     ),
     ("</** d */ T>", "< # [ doc = \" d \" ] T >"),
     ("<T: A<'a>>", "< T : A < 'a > >"),
+    ("<T, 'a, U>", "< 'a , T , U >"),
+    ("<T, 'a, 'b>", "< 'a , 'b , T , >"),
+    ("<'a, 'b,>", "< 'a , 'b , >"),
+    (
+        "<r#in, union: auto = default>",
+        "< r#in , union : auto = default >",
+    ),
+    ("<T: 'a>", "< T : 'a >"),
+    ("<T: A +, U: 'b +>", "< T : A + , U : 'b + >"),
+    ("<T: A += u8>", "< T : A + = u8 >"),
+    ("<'a: 'b +, 'c: 'a>", "< 'a : 'b + , 'c : 'a >"),
+    ("<T:::A>", "< T : :: A >"),
+    ("<T: A<B<C>>>", "< T : A < B < C > > >"),
+    ("<T = A<B<C>>>", "< T = A < B < C > > >"),
+    ("<T: A(B) -> C + D>", "< T : A ( B ) -> C + D >"),
+    ("<T: self::A::<B>::C>", "< T : self :: A :: < B > :: C >"),
+    ("<T: (?A) + 'b>", "< T : ( ? A ) + 'b >"),
+    (
+        "<T: for<'a: 'b + 'c, #[d] 'e:,> A>",
+        "< T : for < 'a : 'b + 'c , # [ d ] 'e , > A >",
+    ),
+    (
+        "<const N: char = 'a', const M: &'static str = \"b\">",
+        "< const N : char = 'a' , const M : & 'static str = \"b\" >",
+    ),
+    (
+        "<const N: A<B<C>> = false,>",
+        "< const N : A < B < C > > = false , >",
+    ),
 ];
 
 #[test]
 fn generics(rt: HostRuntime) -> Result<()> {
     assert_none(&rt, not_reprinted::<Generics>(rt.alloc(), GENERICS))
+}
+
+/// Parameters in the order of the text, each token with its place.
+const TREES: &[(&str, &str)] = &[
+    ("", ""),
+    ("<>", "<@0..1 >@1..2"),
+    (
+        "<T: ?A + 'b = C, 'd>",
+        "<@0..1 TypeParam T@1..2 :@2..3 ?@4..5 A@5..6 +@7..8 '+@9..10 b@10..11 =@12..13 C@14..15 ,@15..16 LifetimeParam '+@17..18 d@18..19 >@19..20",
+    ),
+    (
+        "<#[a] const N: u8 = true,>",
+        "<@0..1 ConstParam #@1..2 [@2..3 a@3..4 ]@4..5 const@6..11 N@12..13 :@13..14 u8@15..17 =@18..19 true@20..24 ,@24..25 >@25..26",
+    ),
+    (
+        "<'a: 'b +>",
+        "<@0..1 LifetimeParam '+@1..2 a@2..3 :@3..4 '+@5..6 b@6..7 +@8..9 >@9..10",
+    ),
+    (
+        "<T: (for<'a> A)>",
+        "<@0..1 TypeParam T@1..2 :@2..3 (@4..5 for@5..8 <@8..9 '+@9..10 a@10..11 >@11..12 A@13..14 )@14..15 >@15..16",
+    ),
+];
+
+#[test]
+fn trees(rt: HostRuntime) -> Result<()> {
+    assert_none(&rt, not_shown::<Generics>(rt.alloc(), TREES))
 }
 
 const BEHIND_GENERICS: &[(&str, &str)] = &[
@@ -71,6 +127,10 @@ const BEHIND_GENERICS: &[(&str, &str)] = &[
     ("<T>= 1", "= 1"),
     ("<T> where T: A", "where T : A"),
     ("(T)", "( T )"),
+    ("<>> 1", "> 1"),
+    ("<T: A<B>>>", ">"),
+    ("<T> <U>", "< U >"),
+    ("::<T>", "::< T >"),
 ];
 
 #[test]
@@ -81,114 +141,78 @@ fn behind_generics(rt: HostRuntime) -> Result<()> {
     )
 }
 
-const NO_GENERICS: &[(&str, usize)] = &[
-    ("<T U>", 3),
-    ("<T: A B>", 6),
-    ("<T: A + B C>", 10),
-    ("<'a: T>", 5),
-    ("<'a: 'b 'c>", 8),
-    ("<'a = 'b>", 4),
-    ("<T = >", 5),
-    ("<const N>", 8),
-    ("<const N: u8 = N>", 15),
-    ("<const N: u8 = >", 15),
-    ("<const: u8>", 6),
-    ("<for>", 1),
-    ("<,>", 1),
-    ("<T,,>", 3),
-    ("<#![a] T>", 2),
-    ("<T: ('a)>", 5),
-    ("<T: ?'a>", 5),
-    ("<T: for<T> A>", 8),
-    ("<T: for A>", 8),
-    ("<T: (A B)>", 7),
-    ("<", 1),
-    ("<T", 2),
+const NO_GENERICS: &[(&str, usize, &str)] = &[
+    ("<T U>", 3, "expected `>`"),
+    ("<T: A B>", 6, "expected `>`"),
+    ("<T: A + B C>", 10, "expected `>`"),
+    ("<'a: T>", 5, "expected `>`"),
+    ("<'a: 'b 'c>", 8, "expected `>`"),
+    ("<'a 'b>", 4, "expected `>`"),
+    ("<'a = 'b>", 4, "expected `>`"),
+    ("<T = >", 5, "expected identifier"),
+    ("<T == A>", 4, "expected identifier"),
+    ("<T = A: B>", 6, "expected `>`"),
+    ("<T: A = >", 8, "expected identifier"),
+    ("<const N>", 8, "expected `:`"),
+    ("<const N = 3>", 9, "expected `:`"),
+    ("<const N: >", 10, "expected identifier"),
+    ("<const N: u8 = N>", 15, "expected literal"),
+    ("<const N: u8 = -1>", 15, "expected literal"),
+    ("<const N: u8 = { 1 }>", 15, "expected literal"),
+    ("<const N: u8 = 1 + 2>", 17, "expected `>`"),
+    ("<const N: u8 = >", 15, "expected literal"),
+    ("<const: u8>", 6, "expected identifier"),
+    ("<const 'a: u8>", 7, "expected identifier"),
+    ("<for>", 1, "expected identifier"),
+    ("<_>", 1, "expected identifier"),
+    ("<Self>", 1, "expected identifier"),
+    ("<1>", 1, "expected identifier"),
+    ("<(T)>", 1, "expected identifier"),
+    ("<= T>", 1, "expected identifier"),
+    ("<,>", 1, "expected identifier"),
+    ("<T,,>", 3, "expected identifier"),
+    ("<T>>", 3, "unexpected token"),
+    ("<T::A>", 3, "expected identifier"),
+    ("<#![a] T>", 2, "expected square brackets"),
+    ("<#[a b] T>", 5, "unexpected token"),
+    ("<#[a]>", 5, "expected identifier"),
+    ("<T #[a]>", 3, "expected `>`"),
+    ("<T: + A>", 4, "expected identifier"),
+    ("<T: A + + B>", 8, "expected identifier"),
+    ("<T: &A>", 4, "expected identifier"),
+    ("<T: <A>::B>", 4, "expected identifier"),
+    ("<T: !A>", 4, "expected identifier"),
+    ("<T: const A>", 4, "expected identifier"),
+    ("<T: ~const A>", 4, "expected identifier"),
+    ("<T: use<'a>>", 4, "expected identifier"),
+    ("<T: dyn A>", 4, "expected identifier"),
+    ("<T: #[a] A>", 4, "expected identifier"),
+    ("<T: ('a)>", 5, "expected identifier"),
+    ("<T: ()>", 5, "expected identifier"),
+    ("<T: ((A))>", 5, "expected identifier"),
+    ("<T: ?'a>", 5, "expected identifier"),
+    ("<T: ?(A)>", 5, "expected identifier"),
+    ("<T: ??A>", 5, "expected identifier"),
+    ("<T: for<T> A>", 8, "expected lifetime"),
+    ("<T: for<'a, const N: u8> A>", 12, "expected lifetime"),
+    ("<T: for A>", 8, "expected `<`"),
+    ("<T: for<'a A>", 11, "expected `>`"),
+    ("<T: for<'a = 'b> A>", 11, "expected `>`"),
+    ("<T: for<'a>>", 11, "expected identifier"),
+    ("<T: for<'a> 'b>", 12, "expected identifier"),
+    ("<T: for<'a> ?A>", 12, "expected identifier"),
+    ("<T: for<'a> (A)>", 12, "expected identifier"),
+    ("<T: for<'a> for<'b> A>", 12, "expected identifier"),
+    ("<T: (A B)>", 7, "unexpected token"),
+    ("<T: (A) B>", 8, "expected `>`"),
+    ("<", 1, "expected identifier"),
+    ("<T", 2, "expected `>`"),
+    ("T", 0, "unexpected token"),
 ];
 
 #[test]
 fn no_generics(rt: HostRuntime) -> Result<()> {
-    assert_none(&rt, not_refused::<Generics>(rt.alloc(), NO_GENERICS))
-}
-
-/// Without predicates nothing is printed; a predicate's colon always is.
-const CLAUSES: &[(&str, &str)] = &[
-    ("where", ""),
-    ("where T:", "where T :"),
-    ("where T: A, ", "where T : A ,"),
-    ("where T: A + 'b + ?B +", "where T : A + 'b + ? B +"),
-    ("where 'a:", "where 'a :"),
-    (
-        "where 'a: 'b + 'c, 'd: 'e +",
-        "where 'a : 'b + 'c , 'd : 'e +",
-    ),
-    (
-        "where for<'c> F<'c>: G<'c>, [T]: A",
-        "where for < 'c > F < 'c > : G < 'c > , [ T ] : A",
-    ),
-    (
-        "where &'a T: A, (T,): B, <T as A>::B: C",
-        "where & 'a T : A , ( T , ) : B , < T as A > :: B : C",
-    ),
-];
-
-#[test]
-fn clauses(rt: HostRuntime) -> Result<()> {
-    assert_none(&rt, not_reprinted::<WhereClause>(rt.alloc(), CLAUSES))
-}
-
-/// What ends a clause at its start, behind a comma, or behind a predicate.
-const BEHIND_CLAUSES: &[(&str, &str)] = &[
-    ("where;", ";"),
-    ("where {}", "{ }"),
-    ("where T: ; x", "; x"),
-    ("where T: A {}", "{ }"),
-    ("where T: A + = 1", "= 1"),
-    ("where T: A, = 1", "= 1"),
-    ("where T: A, : x", ": x"),
-    ("where , x", ", x"),
-    ("where T: A,, x", ", x"),
-    ("where T: A [b]", "[ b ]"),
-    ("where 'a: 'b x", "x"),
-    ("where 'a: x", "x"),
-];
-
-#[test]
-fn behind_clauses(rt: HostRuntime) -> Result<()> {
-    assert_none(
-        &rt,
-        not_left_behind::<WhereClause>(rt.alloc(), BEHIND_CLAUSES),
-    )?;
-    assert_none(
-        &rt,
-        not_left_behind::<Option<WhereClause>>(rt.alloc(), BEHIND_CLAUSES),
-    )?;
-    assert_none(
-        &rt,
-        not_left_behind::<Option<WhereClause>>(rt.alloc(), &[("T: A", "T : A"), ("", "")]),
-    )
-}
-
-const NO_CLAUSES: &[(&str, &str)] = &[
-    ("", ""),
-    ("T: A", "T : A"),
-    ("where T", "where T"),
-    ("where T A", "where T A"),
-    ("where T::", "where T ::"),
-    ("where T: A + ::", "where T : A + ::"),
-    ("where T: (x y)", "where T : ( x y )"),
-    ("where ::", "where ::"),
-    ("where 'a", "where 'a"),
-    ("where for<'a> 'b: 'c", "where for <'a > 'b : 'c"),
-    ("where (T)", "where ( T )"),
-];
-
-#[test]
-fn no_clauses(rt: HostRuntime) -> Result<()> {
-    assert_none(
-        &rt,
-        not_left_by_refused::<WhereClause>(rt.alloc(), NO_CLAUSES),
-    )
+    assert_none(&rt, not_refused_so::<Generics>(rt.alloc(), NO_GENERICS))
 }
 
 /// Parts by themselves.
@@ -235,8 +259,63 @@ fn parts(rt: HostRuntime) -> Result<()> {
     assert_none(
         &rt,
         not_reprinted::<WherePredicate>(alloc, &[("'a: 'b", "'a : 'b"), ("T:", "T :")]),
+    )
+}
+
+const NO_PARAMS: &[(&str, usize, &str)] = &[
+    ("", 0, "expected identifier"),
+    ("const", 5, "expected identifier"),
+    ("T:", 2, "expected identifier"),
+    ("T: A +", 6, "expected identifier"),
+    ("T U", 2, "unexpected token"),
+];
+
+const NO_LIFETIME_PARAMS: &[(&str, usize, &str)] = &[
+    ("", 0, "expected lifetime"),
+    ("#[a] T", 5, "expected lifetime"),
+    ("'a = 'b", 3, "unexpected token"),
+];
+
+const NO_BOUNDS: &[(&str, usize, &str)] = &[
+    ("", 0, "expected identifier"),
+    ("('a)", 1, "expected identifier"),
+    ("?", 1, "expected identifier"),
+    ("A + B", 2, "unexpected token"),
+];
+
+const NO_BOUND_LIFETIMES: &[(&str, usize, &str)] = &[
+    ("", 0, "expected `for`"),
+    ("for", 3, "expected `<`"),
+    ("for<T>", 4, "expected lifetime"),
+    ("for<'a,,>", 7, "expected lifetime"),
+    ("for<'a", 6, "expected `>`"),
+];
+
+const NO_PREDICATES: &[(&str, usize, &str)] = &[
+    ("", 0, "expected identifier"),
+    ("T", 1, "expected `:`"),
+    ("'a", 2, "expected `:`"),
+    ("T: A, U", 4, "unexpected token"),
+];
+
+#[test]
+fn no_parts(rt: HostRuntime) -> Result<()> {
+    let alloc = rt.alloc();
+    assert_none(&rt, not_refused_so::<GenericParam>(alloc, NO_PARAMS))?;
+    assert_none(
+        &rt,
+        not_refused_so::<LifetimeParam>(alloc, NO_LIFETIME_PARAMS),
     )?;
-    assert_none(&rt, not_refused::<TraitBound>(alloc, &[("'a", 0), ("", 0)]))
+    assert_none(&rt, not_refused_so::<TypeParamBound>(alloc, NO_BOUNDS))?;
+    assert_none(
+        &rt,
+        not_refused_so::<TraitBound>(alloc, &[("'a", 0, "expected identifier")]),
+    )?;
+    assert_none(
+        &rt,
+        not_refused_so::<BoundLifetimes>(alloc, NO_BOUND_LIFETIMES),
+    )?;
+    assert_none(&rt, not_refused_so::<WherePredicate>(alloc, NO_PREDICATES))
 }
 
 /// What a parameter is, and whether it has a colon, bounds, a `=` and a default.
@@ -302,6 +381,9 @@ fn kinds(rt: HostRuntime) -> Result<()> {
         ("'a: 'b + 'c", ("lifetime", true, 2, false, false)),
         ("T", ("type", false, 0, false, false)),
         ("T: A + 'b = u8", ("type", true, 2, true, true)),
+        ("T: = u8", ("type", true, 0, true, true)),
+        ("T = u8", ("type", false, 0, true, true)),
+        ("T: 'a + (?B) + = u8", ("type", true, 2, true, true)),
         ("const N: u8", ("const", true, 0, false, false)),
         ("const N: u8 = 3", ("const", true, 0, true, true)),
     ] {
@@ -311,7 +393,7 @@ fn kinds(rt: HostRuntime) -> Result<()> {
 }
 
 /// Whether two texts are equal as a `T`, each also with copies of both.
-fn are_equal<T: Parse + TryClone + PartialEq + Drop>(
+pub fn are_equal<T: Parse + TryClone + PartialEq + Drop>(
     alloc: Global,
     left: &str,
     right: &str,

@@ -9,7 +9,7 @@ use syn::parse::ParseBuffer;
 use syn::reader::read_tokens;
 use syn::token::Span;
 use syn::{LitKind, Literal, Result, TryClone};
-use syn_test_support::{not_left_behind, not_refused, not_reprinted, parsed, printed, span};
+use syn_test_support::{not_left_behind, not_refused_so, not_reprinted, parsed, printed, span};
 
 /// What it is, and its text.
 fn parts(lit: &Lit) -> (&str, &str) {
@@ -55,6 +55,21 @@ const LITERALS: &[(&str, &str)] = &[
     ("1e5", "Float 1e5 0..3"),
     ("true", "Bool true 0..4"),
     (" false", "Bool false 1..6"),
+    ("\"\"", "Str \"\" 0..2"),
+    ("\"a\\\"b\"", "Str \"a\\\"b\" 0..6"),
+    ("r\"a\"b", "Str r\"a\"b 0..5"),
+    ("br#\"a\"#", "ByteStr br#\"a\"# 0..7"),
+    ("cr\"a\"", "CStr cr\"a\" 0..5"),
+    ("b'\\''u8", "Byte b'\\''u8 0..7"),
+    ("'\\n'", "Char '\\n' 0..4"),
+    ("'\\u{1f}'a", "Char '\\u{1f}'a 0..9"),
+    ("0b1", "Int 0b1 0..3"),
+    ("0o7_u64", "Int 0o7_u64 0..7"),
+    ("1f32", "Int 1f32 0..4"),
+    ("0x1e", "Int 0x1e 0..4"),
+    ("1.", "Float 1. 0..2"),
+    ("1e-5", "Float 1e-5 0..4"),
+    ("1_0.5E+1f64", "Float 1_0.5E+1f64 0..11"),
 ];
 
 #[test]
@@ -69,31 +84,47 @@ fn literals(rt: HostRuntime) -> Result<()> {
 }
 
 /// Where no literal, `true` or `false` stands, and where more follows.
-const NO_LITERALS: &[(&str, usize)] = &[
-    ("", 0),
-    ("a", 0),
-    ("r#true", 0),
-    ("truth", 0),
-    ("-1", 0),
-    ("(1)", 0),
-    ("1 2", 2),
-    ("false.a", 5),
+const NO_LITERALS: &[(&str, usize, &str)] = &[
+    ("", 0, "expected literal"),
+    ("a", 0, "expected literal"),
+    ("r#true", 0, "expected literal"),
+    ("truth", 0, "expected literal"),
+    ("True", 0, "expected literal"),
+    ("-1", 0, "expected literal"),
+    ("!true", 0, "expected literal"),
+    ("'a", 0, "expected literal"),
+    ("(1)", 0, "expected literal"),
+    ("{ 1 }", 0, "expected literal"),
+    ("#[a] 1", 0, "expected literal"),
+    ("1 2", 2, "unexpected token"),
+    ("1 + 2", 2, "unexpected token"),
+    ("1.a", 1, "unexpected token"),
+    ("1..2", 1, "unexpected token"),
+    ("\"a\" b", 4, "unexpected token"),
+    ("false.a", 5, "unexpected token"),
+    ("true false", 5, "unexpected token"),
 ];
 
 #[test]
 fn refused_literals(rt: HostRuntime) -> Result<()> {
-    assert_none(&rt, not_refused::<Lit>(rt.alloc(), NO_LITERALS))?;
-    assert_none(&rt, not_refused::<Expr>(rt.alloc(), NO_LITERALS))?;
-    assert_none(
-        &rt,
-        not_refused::<Expr>(rt.alloc(), &[("#[a] 1", 0), ("1 + 2", 2)]),
-    )
+    assert_none(&rt, not_refused_so::<Lit>(rt.alloc(), NO_LITERALS))?;
+    assert_none(&rt, not_refused_so::<Expr>(rt.alloc(), NO_LITERALS))
 }
 
 #[test]
 fn printed_literals(rt: HostRuntime) -> Result<()> {
     for text in [
-        "\"a\"", "c\"a\"", "'a'", "b'a'", "1_0u8", "1.5", "true", "false",
+        "\"a\"",
+        "r#\"a\"#b",
+        "b\"a\"",
+        "c\"a\"",
+        "'a'",
+        "b'a'",
+        "1_0u8",
+        "1.5",
+        "1e+5",
+        "true",
+        "false",
     ] {
         assert_none(&rt, not_reprinted::<Lit>(rt.alloc(), &[(text, text)]))?;
         assert_none(&rt, not_reprinted::<Expr>(rt.alloc(), &[(text, text)]))?;

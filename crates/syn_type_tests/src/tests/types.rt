@@ -1,16 +1,17 @@
-//! Types and paths: which tree a text is, what is left behind one, and what is refused, where and in which words.
-use crate::tests::asserts::{assert_place, assert_text_of};
+//! Types and paths: which tree a text is, what it prints, and which are equal.
+use crate::tests::asserts::{assert_none, assert_text_of};
+use crate::tests::generics::are_equal;
 use std::alloc::Global;
 use std::process::Abort;
+use syn::Result;
 use syn::lower::{
     GenericArgument, Path, PathArguments, QSelf, ReturnType, Type, TypePath, TypePtr, TypeReference,
 };
-use syn::parse::{Parse, ParseBuffer};
+use syn::parse::ParseBuffer;
 use syn::punctuated::Punctuated;
 use syn::reader::{read_tokens, token_text};
-use syn::token::Comma;
-use syn::{Fault, Result};
-use syn_test_support::{fault, left_behind, parsed, refused};
+use syn::token::{Comma, Delimiter, Spacing, TokenStream};
+use syn_test_support::{fault, not_reprinted, parsed, push_group, push_marks};
 
 /// So deep trees are shown.
 const DEPTH: usize = 30;
@@ -261,6 +262,18 @@ const TYPES: &[(&str, &str)] = &[
     ("*mut T", "mut pointer(path(T))"),
     ("*const *mut T", "const pointer(mut pointer(path(T)))"),
     ("&!", "reference(never())"),
+    ("&'a &'b T", "'a reference('b reference(path(T)))"),
+    ("&(T)", "reference(paren(path(T)))"),
+    ("*mut [T; 2]", "mut pointer(array(path(T) ; 2))"),
+    ("((), ((),))", "tuple(tuple() , tuple(tuple() , ))"),
+    (
+        "(&T, *const U,)",
+        "tuple(reference(path(T)) , const pointer(path(U)) , )",
+    ),
+    ("[T; true]", "array(path(T) ; true)"),
+    ("[T; 'a']", "array(path(T) ; 'a')"),
+    ("[[T; 1]; 2]", "array(array(path(T) ; 1) ; 2)"),
+    ("[!; false]", "array(never() ; false)"),
 ];
 
 #[test]
@@ -297,6 +310,43 @@ const PATHS: &[(&str, &str)] = &[
     ("Fn(A) -> &B", "path(Fn(path(A)) -> reference(path(B)))"),
     ("Fn() -> Fn() -> T", "path(Fn() -> path(Fn() -> path(T)))"),
     ("&Vec<T>", "reference(path(Vec<path(T)>))"),
+    ("r#in::union", "path(r#in::union)"),
+    ("raw::default::auto::safe", "path(raw::default::auto::safe)"),
+    ("::A<T>::B", "path(::A<path(T)>::B)"),
+    (
+        "crate::A::<T>::B<U>",
+        "path(crate::A::<path(T)>::B<path(U)>)",
+    ),
+    ("Self::A(T)::B", "path(Self::A(path(T))::B)"),
+    ("Self(T)", "path(Self(path(T)))"),
+    ("A<N>", "path(A<path(N)>)"),
+    ("A<r#true>", "path(A<path(r#true)>)"),
+    ("A<'a>", "path(A<lifetime a>)"),
+    ("A<'a,>", "path(A<lifetime a , >)"),
+    (
+        "A<T, 'a, I = U, 1, 'b, V>",
+        "path(A<path(T) , lifetime a , I = path(U) , const 1 , lifetime b , path(V)>)",
+    ),
+    (
+        "A<1.5, b'c', b\"d\", c\"e\">",
+        "path(A<const 1.5 , const b'c' , const b\"d\" , const c\"e\">)",
+    ),
+    (
+        "A<(T), (), [T; 1], &'a T, !, *mut T>",
+        "path(A<paren(path(T)) , tuple() , array(path(T) ; 1) , 'a reference(path(T)) , never() , mut pointer(path(T))>)",
+    ),
+    ("A<I = B<J = C>>", "path(A<I = path(B<J = path(C)>)>)"),
+    ("A<B<C>, D>", "path(A<path(B<path(C)>) , path(D)>)"),
+    ("A<B<C<>>>", "path(A<path(B<path(C<>)>)>)"),
+    ("A<<T>::B>", "path(A<path(path(T) 0 ::B)>)"),
+    ("A::<<T>::B>", "path(A::<path(path(T) 0 ::B)>)"),
+    (
+        "A<Fn(B) -> C, D>",
+        "path(A<path(Fn(path(B)) -> path(C)) , path(D)>)",
+    ),
+    ("Fn() -> A::B<C>", "path(Fn() -> path(A::B<path(C)>))"),
+    ("Fn(()) -> ()", "path(Fn(tuple()) -> tuple())"),
+    ("Fn(A)->!", "path(Fn(path(A)) -> never())"),
 ];
 
 #[test]
@@ -320,6 +370,31 @@ const QUALIFIED: &[(&str, &str)] = &[
     ("<<T>::A>::B", "path(path(path(T) 0 ::A) 0 ::B)"),
     ("Vec<<T as I>::A>", "path(Vec<path(path(T) as 1 I::A)>)"),
     ("<&T>::A", "path(reference(path(T)) 0 ::A)"),
+    ("<[T]>::A", "path(slice(path(T)) 0 ::A)"),
+    ("<!>::A", "path(never() 0 ::A)"),
+    ("<(T,)>::A", "path(tuple(path(T) , ) 0 ::A)"),
+    (
+        "<&'a mut T as I>::A",
+        "path('a mut reference(path(T)) as 1 I::A)",
+    ),
+    ("<T>::self::crate", "path(path(T) 0 ::self::crate)"),
+    ("<Self as super::I>::A", "path(path(Self) as 2 super::I::A)"),
+    (
+        "<T as I::J<U>>::A::<V>",
+        "path(path(T) as 2 I::J<path(U)>::A::<path(V)>)",
+    ),
+    (
+        "<T as Fn(A) -> B>::C(D)",
+        "path(path(T) as 1 Fn(path(A)) -> path(B)::C(path(D)))",
+    ),
+    (
+        "<<T as I>::A as J>::B",
+        "path(path(path(T) as 1 I::A) as 1 J::B)",
+    ),
+    (
+        "< <A<T>>::B as C<D<E>>>::F",
+        "path(path(path(A<path(T)>) 0 ::B) as 1 C<path(D<path(E)>)>::F)",
+    ),
 ];
 
 #[test]
@@ -327,122 +402,167 @@ fn qualified_paths(rt: HostRuntime) -> Result<()> {
     types_are(&rt, rt.alloc(), QUALIFIED)
 }
 
-/// Fails where what is parsed from the front of one of the texts doesn't leave this.
-fn leave<T: Parse + Drop>(rt: &impl Abort, alloc: Global, rows: &[(&str, &str)]) -> Result<()> {
-    for (text, want) in rows {
-        assert_text_of(rt, text, left_behind::<T>(alloc, text)?.as_str(), want);
+const PRINTS: &[(&str, &str)] = &[
+    ("!", "!"),
+    ("()", "( )"),
+    ("(T)", "( T )"),
+    ("(T,)", "( T , )"),
+    ("(A,B,)", "( A , B , )"),
+    ("((),((),))", "( ( ) , ( ( ) , ) )"),
+    ("&T", "& T"),
+    ("&'a mut T", "& 'a mut T"),
+    ("&&T", "& & T"),
+    ("&'a&'b T", "& 'a & 'b T"),
+    ("*const*mut T", "* const * mut T"),
+    ("[T]", "[ T ]"),
+    ("[[T;1];0x2u8]", "[ [ T ; 1 ] ; 0x2u8 ]"),
+    ("[!; true]", "[ ! ; true ]"),
+    ("::a::B", ":: a :: B"),
+    ("self::super::crate::Self", "self :: super :: crate :: Self"),
+    ("r#in::union", "r#in :: union"),
+    ("Vec<Vec<T>>", "Vec < Vec < T > >"),
+    ("Vec::<T>", "Vec :: < T >"),
+    ("Vec::<>", "Vec :: < >"),
+    ("A<>", "A < >"),
+    ("A<T,'a>", "A < 'a , T , >"),
+    ("A<'a,T,'b,>", "A < 'a , 'b , T , >"),
+    ("A<T,'a,'b>", "A < 'a , 'b , T , >"),
+    (
+        "A<T, 'a, I = U, 1, 'b, V>",
+        "A < 'a , 'b , T , I = U , 1 , V >",
+    ),
+    ("A<I=B<J=&C>>", "A < I = B < J = & C > >"),
+    ("A<1.5,b'c',\"d\",true>", "A < 1.5 , b'c' , \"d\" , true >"),
+    ("A<<T>::B>", "A < < T > :: B >"),
+    ("A<B<C<D>>>", "A < B < C < D > > >"),
+    ("A<(T),(T,),[T;1]>", "A < ( T ) , ( T , ) , [ T ; 1 ] >"),
+    ("Fn()", "Fn ( )"),
+    ("Fn(A,)->B", "Fn ( A , ) -> B"),
+    ("Fn()->Fn()->!", "Fn ( ) -> Fn ( ) -> !"),
+    ("Self(T)::B<C>", "Self ( T ) :: B < C >"),
+    ("A<Fn(B)->C,D>", "A < Fn ( B ) -> C , D >"),
+    ("<T>::A", "< T > :: A"),
+    (
+        "<T as a::B<U>>::C::<V>",
+        "< T as a :: B < U > > :: C :: < V >",
+    ),
+    ("<T as ::A>::B", "< T as :: A > :: B"),
+    ("<<T as I>::A as J>::B", "< < T as I > :: A as J > :: B"),
+    ("<&'a T>::self::crate", "< & 'a T > :: self :: crate"),
+    ("<T as Fn(A)->B>::C(D)", "< T as Fn ( A ) -> B > :: C ( D )"),
+];
+
+#[test]
+fn prints(rt: HostRuntime) -> Result<()> {
+    assert_none(&rt, not_reprinted::<Type>(rt.alloc(), PRINTS))
+}
+
+const EQUAL: &[(&str, &str, bool)] = &[
+    ("T", " T ", true),
+    ("A<B<C>>", "A < B < C > >", true),
+    ("&'a mut [T; 1]", "& 'a mut [ T;1 ]", true),
+    ("<T as A>::B", "< T as A > :: B", true),
+    ("T", "U", false),
+    ("T", "r#T", false),
+    ("a::T", "::a::T", false),
+    ("a::T", "a", false),
+    ("A", "A<>", false),
+    ("A<T>", "A::<T>", false),
+    ("A<T>", "A<T,>", false),
+    ("A<T>", "A<U>", false),
+    ("A<T>", "A(T)", false),
+    ("A<T, 'a>", "A<'a, T>", false),
+    ("A<'a>", "A<'b>", false),
+    ("A<1>", "A<2>", false),
+    ("A<I = T>", "A<J = T>", false),
+    ("A()", "A() -> ()", false),
+    ("(T)", "T", false),
+    ("(T)", "(T,)", false),
+    ("[T]", "[T; 1]", false),
+    ("[T; 1]", "[T; 01]", false),
+    ("&T", "&'a T", false),
+    ("&T", "&mut T", false),
+    ("&T", "*const T", false),
+    ("*const T", "*mut T", false),
+    ("!", "()", false),
+    ("<T>::B", "<U>::B", false),
+    ("<T>::B", "T::B", false),
+    ("<T as A::B>::C", "<T as A>::B::C", false),
+];
+
+/// Places don't count.
+#[test]
+fn equality(rt: HostRuntime) -> Result<()> {
+    for (left, right, want) in EQUAL {
+        assert_eq!(rt;
+            are_equal::<Type>(rt.alloc(), left, right)?,
+            *want,
+            "{left:?} {right:?}"
+        );
     }
     Ok(())
 }
 
-const LEFT: &[(&str, &str)] = &[
-    ("T <= 3", "<= 3"),
-    ("T <=", "<="),
-    ("T >> 1", ">> 1"),
-    ("T = U", "= U"),
-    ("self<T>", "< T >"),
-    ("super(T)", "( T )"),
-    ("T {}", "{ }"),
-    ("T [0]", "[ 0 ]"),
-    ("T + 'a", "+ 'a"),
-    ("! = 1", "= 1"),
-    ("!= 1", "= 1"),
-    ("Fn() - > T", "- > T"),
-];
-
-#[test]
-fn left_behind_types(rt: HostRuntime) -> Result<()> {
-    leave::<Type>(&rt, rt.alloc(), LEFT)
+/// A type behind a mark, in a group without delimiters, and a mark behind the group.
+fn in_a_group(alloc: Global, text: &str) -> Result<TokenStream> {
+    let mut tokens = read_tokens(alloc, "&")?;
+    push_group(&mut tokens, Delimiter::None, read_tokens(alloc, text)?)?;
+    push_marks(&mut tokens, ";", Spacing::Alone)?;
+    Ok(tokens)
 }
 
-const LEFT_BEHIND_RETURNS: &[(&str, &str)] = &[("", ""), ("T", "T"), ("-> T U", "U"), ("->T", "")];
-
-#[test]
-fn left_behind_returns(rt: HostRuntime) -> Result<()> {
-    leave::<ReturnType>(&rt, rt.alloc(), LEFT_BEHIND_RETURNS)
+/// What shows the type at the front.
+fn front_shown(alloc: Global, input: &mut ParseBuffer<'_>) -> Result<String> {
+    let ty: Type = input.parse()?;
+    shown(alloc, &ty)
 }
 
-const LEFT_BEHIND_PATHS: &[(&str, &str)] = &[("a::B<T> c", "c"), ("::a(T) -> U", "")];
-
-#[test]
-fn left_behind_paths(rt: HostRuntime) -> Result<()> {
-    leave::<Path>(&rt, rt.alloc(), LEFT_BEHIND_PATHS)
+/// What shows the type with such a group in it.
+fn group_shown(alloc: Global, text: &str) -> Result<String> {
+    let tokens = in_a_group(alloc, text)?;
+    front_shown(alloc, &mut ParseBuffer::new(&tokens))
 }
 
-/// What is left behind a path in module style.
-fn left_by_module(alloc: Global, text: &str) -> Result<String> {
-    let tokens = read_tokens(alloc, text)?;
+/// What is left behind it.
+fn left_behind_group(alloc: Global, text: &str) -> Result<String> {
+    let tokens = in_a_group(alloc, text)?;
     let mut input = ParseBuffer::new(&tokens);
-    let _path = Path::parse_mod_style(&mut input)?;
+    let _shown = front_shown(alloc, &mut input)?;
     token_text(&input.rest()?)
 }
 
-const LEFT_BY_MODULES: &[(&str, &str)] = &[("a::b<T>", "< T >"), ("::crate(T)", "( T )")];
-
-/// Arguments are left; behind the `::` before some a word is missing.
-#[test]
-fn left_behind_module_paths(rt: HostRuntime) -> Result<()> {
-    for (text, want) in LEFT_BY_MODULES {
-        assert_text_of(&rt, text, left_by_module(rt.alloc(), text)?.as_str(), want);
-    }
-    let missed = fault(left_by_module(rt.alloc(), "Self::<T>"))?;
-    assert_place(&rt, "Self::<T>", missed.span.start, 6);
-    Ok(())
-}
-
-/// Fails where one of the texts isn't refused there in these words.
-fn are_refused<T: Parse + Drop>(
-    rt: &impl Abort,
-    alloc: Global,
-    rows: &[(&str, usize, &str)],
-) -> Result<()> {
-    for (text, place, words) in rows {
-        let missed: Fault = refused::<T>(alloc, text)?;
-        assert_place(rt, text, missed.span.start, *place);
-        assert_text_of(rt, text, missed.text, words);
-    }
-    Ok(())
-}
-
-const REFUSED: &[(&str, usize, &str)] = &[
-    ("", 0, "expected identifier"),
-    ("1", 0, "expected identifier"),
-    ("{}", 0, "expected identifier"),
-    ("_", 0, "expected identifier"),
-    ("fn()", 0, "expected identifier"),
-    ("&", 1, "expected identifier"),
-    ("&'a", 3, "expected identifier"),
-    ("* T", 2, "expected `mut`"),
-    ("*const", 6, "expected identifier"),
-    ("(,)", 1, "expected identifier"),
-    ("(T U)", 3, "unexpected token"),
-    ("[]", 1, "expected identifier"),
-    ("[T U]", 3, "unexpected token"),
-    ("[T;]", 3, "expected literal"),
-    ("[T; N]", 4, "expected literal"),
-    ("[T; 3 4]", 6, "unexpected token"),
-    ("a::", 3, "expected identifier"),
-    ("::", 2, "expected identifier"),
-    ("A<", 2, "expected identifier"),
-    ("A<T", 3, "expected `>`"),
-    ("A<T U>", 4, "expected `>`"),
-    ("A<,>", 2, "expected identifier"),
-    ("A<T,,>", 4, "expected identifier"),
-    ("A<I = >", 6, "expected identifier"),
-    ("A<'a = T>", 5, "expected `>`"),
-    ("Vec<Vec<+>>", 8, "expected identifier"),
-    ("A<=T>", 1, "unexpected token"),
-    ("Fn(A B)", 5, "unexpected token"),
-    ("Fn(A) ->", 8, "expected identifier"),
-    ("<T>", 3, "expected `::`"),
-    ("<T>::", 5, "expected identifier"),
-    ("<T as>::A", 5, "expected identifier"),
-    ("<T as I::A", 10, "expected `>`"),
-    ("<T A>::B", 3, "expected `>`"),
-    ("< >::A", 2, "expected identifier"),
+const GROUPS: &[(&str, &str)] = &[
+    ("T", "reference(group(path(T)))"),
+    (
+        "&'a [A<B>]",
+        "reference(group('a reference(slice(path(A<path(B)>)))))",
+    ),
 ];
 
+/// A group without delimiters is a type of its own, and holds nothing but a type.
 #[test]
-fn refusals(rt: HostRuntime) -> Result<()> {
-    are_refused::<Type>(&rt, rt.alloc(), REFUSED)
+fn groups(rt: HostRuntime) -> Result<()> {
+    for (text, want) in GROUPS {
+        assert_text_of(&rt, text, group_shown(rt.alloc(), text)?.as_str(), want);
+        assert_text_of(
+            &rt,
+            text,
+            left_behind_group(rt.alloc(), text)?.as_str(),
+            ";",
+        );
+    }
+    Ok(())
+}
+
+#[test]
+fn refused_groups(rt: HostRuntime) -> Result<()> {
+    for (text, words) in [
+        ("", "expected identifier"),
+        ("T U", "unexpected token"),
+        ("dyn T", "expected identifier"),
+    ] {
+        let missed = fault(group_shown(rt.alloc(), text))?;
+        assert_text_of(&rt, text, missed.text, words);
+    }
+    Ok(())
 }

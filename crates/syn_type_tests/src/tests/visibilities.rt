@@ -6,8 +6,8 @@ use syn::restriction::Visibility;
 use syn::token::{Delimiter, TokenStream};
 use syn::{Fault, Result};
 use syn_test_support::{
-    fault, not_left_behind, not_left_by_refused, not_refused, not_reprinted, not_shown, push_group,
-    push_ident, refused,
+    fault, not_left_behind, not_left_by_refused, not_refused_so, not_reprinted, not_shown,
+    push_group, push_ident,
 };
 
 /// Texts, and the trees that they are parsed as.
@@ -83,19 +83,22 @@ fn left(rt: HostRuntime) -> Result<()> {
 }
 
 /// What is left is too much for a whole stream.
-const TOO_MUCH: &[(&str, usize)] = &[
-    ("x", 0),
-    ("pub(foo::bar)", 3),
-    ("pub(crate::A)", 3),
-    ("pub()", 3),
-    ("pub {crate}", 4),
-    ("pub(crate) x", 11),
-    ("pub pub", 4),
+const TOO_MUCH: &[(&str, usize, &str)] = &[
+    ("x", 0, "unexpected token"),
+    ("crate", 0, "unexpected token"),
+    ("(crate)", 0, "unexpected token"),
+    ("pub(foo::bar)", 3, "unexpected token"),
+    ("pub(crate::A)", 3, "unexpected token"),
+    ("pub()", 3, "unexpected token"),
+    ("pub {crate}", 4, "unexpected token"),
+    ("pub(crate) x", 11, "unexpected token"),
+    ("pub in a", 4, "unexpected token"),
+    ("pub pub", 4, "unexpected token"),
 ];
 
 #[test]
 fn whole_streams(rt: HostRuntime) -> Result<()> {
-    assert_none(&rt, not_refused::<Visibility>(rt.alloc(), TOO_MUCH))
+    assert_none(&rt, not_refused_so::<Visibility>(rt.alloc(), TOO_MUCH))
 }
 
 /// Behind `in` a path must stand, and nothing else; where it doesn't, nothing is read.
@@ -118,12 +121,22 @@ fn refusals(rt: HostRuntime) -> Result<()> {
     assert_none(&rt, not_left_by_refused::<Visibility>(rt.alloc(), REFUSED))
 }
 
+const NO_PATHS: &[(&str, usize, &str)] = &[
+    ("pub(in)", 6, "expected identifier"),
+    ("pub(in ::)", 9, "expected identifier"),
+    ("pub(in a::) x", 10, "expected identifier"),
+    ("pub(in in)", 7, "expected identifier"),
+    ("pub(in fn)", 7, "expected identifier"),
+    ("pub(in (a))", 7, "expected identifier"),
+    ("pub(in some::path @@garbage)", 18, "unexpected token"),
+    ("pub(in a b)", 9, "unexpected token"),
+    ("pub(in a,)", 8, "unexpected token"),
+    ("pub(in a<b>)", 8, "unexpected token"),
+];
+
 #[test]
 fn refused_wholes(rt: HostRuntime) -> Result<()> {
-    for (text, _) in REFUSED {
-        refused::<Visibility>(rt.alloc(), text)?;
-    }
-    Ok(())
+    assert_none(&rt, not_refused_so::<Visibility>(rt.alloc(), NO_PATHS))
 }
 
 /// `pub` and a group that holds this identifier.
