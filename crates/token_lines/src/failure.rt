@@ -8,7 +8,7 @@ ghost use Rattle.token_lines.specs.declared.failure.Failure.TheVariants.{OutOfMe
 use hex::FromHexError;
 use std::alloc::{AllocError, AllocFailed};
 use std::io;
-use syn::error::Error;
+use syn_tokens::error::Error;
 
 /// Why the program stops before the last line.
 #[derive(Clone, Copy, Debug, PartialEq, Eq)]

@@ -2,9 +2,15 @@
 
 use crate::failure::Failure;
 use std::alloc::{AllocError, Global};
-use syn::error::Error;
-use syn::reader::{read_tokens, token_text};
-use syn::token::{Delimiter, IdentRef, LiteralRef, Punct, Span, Token, TokenStream};
+use syn_reader::reader::{read_tokens, token_text};
+use syn_tokens::delimiter::Delimiter;
+use syn_tokens::error::Error;
+use syn_tokens::ident::ident_ref::IdentRef;
+use syn_tokens::literal::literal_ref::LiteralRef;
+use syn_tokens::punct::Punct;
+use syn_tokens::span::Span;
+use syn_tokens::stream::TokenStream;
+use syn_tokens::stream::entry::Token;
 
 /// Adds the line of the text with these hex digits.
 pub(crate) fn add_line(alloc: Global, digits: &str, out: &mut String) -> Result<(), Failure> {
