@@ -99,6 +99,10 @@ class Functions(unittest.TestCase):
         (found,) = functions_of("src/name/more.rt", texts["src/name/more.rt"], types_of(texts))
         self.assertEqual(found.name, "name::Name::f")
 
+    def test_a_head_of_several_lines_keeps_its_block(self):
+        text = "impl<\n    E: Carrier,\n    F: Fn(u8) -> E,\n> Nested for Knot<E, F>\nwhere\n    E: Drop,\n{\n    fn f(&self) {\n        g()\n    }\n}\n"
+        self.assertEqual([it.name for it in functions_of("src/lib.rt", text, {})], ["KnotNested::f"])
+
     def test_bodies_contracts_and_traits_are_found(self):
         found = {it.name: it for it in functions_of("src/lib.rt", SOURCE, {})}
         self.assertEqual(

@@ -109,7 +109,8 @@ def functions_of(path, text, types):
     lines, found, around = text.split("\n"), [], []
     for at, line in enumerate(lines):
         indent = re.match(" *", line)[0]
-        while around and line.strip() and len(indent) <= around[-1][0]:
+        # the head of a block may go on in lines of its own indent
+        while around and line.strip() and len(indent) <= around[-1][0] and not line.strip().startswith((">", "where", "{")):
             around.pop()
         is_open = line.rstrip().endswith("{") or not line.rstrip().endswith((";", "}"))
         start = line.strip()
