@@ -8,104 +8,35 @@ mod lawful;
 pub use syn_parse::deferred;
 pub use syn_parse::parse::parse2;
 pub use syn_reader::reader;
-pub use syn_tokens::error;
-pub use syn_tokens::error::Error;
-pub use syn_tokens::error::Fault;
-pub use syn_tokens::error::Result;
+pub use syn_tokens::error::{Error, Fault, Result};
 pub use syn_tokens::ident::Ident;
 pub use syn_tokens::lifetime::Lifetime;
-pub use syn_tokens::literal::LitKind;
-pub use syn_tokens::literal::Literal;
-pub use syn_tokens::print;
+pub use syn_tokens::literal::{LitKind, Literal};
 pub use syn_tokens::print::ToTokens;
-pub use syn_tokens::punctuated;
 pub use syn_tokens::span::Span;
 pub use syn_tokens::syntactic::Syntactic;
 pub use syn_tokens::syntactic::try_clone::TryClone;
-pub use syn_tree::data;
-pub use syn_tree::data::Field;
-pub use syn_tree::data::FieldModifiers;
-pub use syn_tree::data::Fields;
-pub use syn_tree::data::FieldsNamed;
-pub use syn_tree::data::FieldsUnnamed;
-pub use syn_tree::data::Index;
-pub use syn_tree::data::MemberRef;
-pub use syn_tree::data::Members;
-pub use syn_tree::data::Variant;
-pub use syn_tree::derive;
-pub use syn_tree::derive::Data;
-pub use syn_tree::derive::DataEnum;
-pub use syn_tree::derive::DataStruct;
-pub use syn_tree::derive::DataUnion;
-pub use syn_tree::derive::DeriveInput;
-pub use syn_tree::item;
-pub use syn_tree::item::ConstModifiers;
-pub use syn_tree::item::FnModifiers;
-pub use syn_tree::item::ImplModifiers;
-pub use syn_tree::item::Item;
-pub use syn_tree::item::ItemEnum;
-pub use syn_tree::item::ItemStruct;
-pub use syn_tree::item::ItemUnion;
-pub use syn_tree::item::TraitModifiers;
-pub use syn_tree::item::TypeModifiers;
-pub use syn_tree::kind;
-pub use syn_tree::lower;
-pub use syn_tree::lower::AngleBracketedGenericArguments;
-pub use syn_tree::lower::AssocType;
-pub use syn_tree::lower::AttrStyle;
-pub use syn_tree::lower::Attribute;
-pub use syn_tree::lower::BoundLifetimes;
-pub use syn_tree::lower::ConstParam;
-pub use syn_tree::lower::Expr;
-pub use syn_tree::lower::ExprLit;
-pub use syn_tree::lower::GenericArgument;
-pub use syn_tree::lower::GenericParam;
-pub use syn_tree::lower::Generics;
-pub use syn_tree::lower::LifetimeParam;
-pub use syn_tree::lower::Lit;
-pub use syn_tree::lower::LitBool;
-pub use syn_tree::lower::LitByte;
-pub use syn_tree::lower::LitByteStr;
-pub use syn_tree::lower::LitCStr;
-pub use syn_tree::lower::LitChar;
-pub use syn_tree::lower::LitFloat;
-pub use syn_tree::lower::LitInt;
-pub use syn_tree::lower::LitStr;
-pub use syn_tree::lower::LitToken;
-pub use syn_tree::lower::LiteralKind;
-pub use syn_tree::lower::MacroDelimiter;
-pub use syn_tree::lower::Meta;
-pub use syn_tree::lower::MetaList;
-pub use syn_tree::lower::MetaNameValue;
-pub use syn_tree::lower::ParenthesizedGenericArguments;
-pub use syn_tree::lower::Path;
-pub use syn_tree::lower::PathArguments;
-pub use syn_tree::lower::PathSegment;
-pub use syn_tree::lower::PredicateLifetime;
-pub use syn_tree::lower::PredicateType;
-pub use syn_tree::lower::QSelf;
-pub use syn_tree::lower::ReturnType;
-pub use syn_tree::lower::TraitBound;
-pub use syn_tree::lower::TraitBoundModifier;
-pub use syn_tree::lower::Type;
-pub use syn_tree::lower::TypeArray;
-pub use syn_tree::lower::TypeGroup;
-pub use syn_tree::lower::TypeNever;
-pub use syn_tree::lower::TypeParam;
-pub use syn_tree::lower::TypeParamBound;
-pub use syn_tree::lower::TypeParen;
-pub use syn_tree::lower::TypePath;
-pub use syn_tree::lower::TypePtr;
-pub use syn_tree::lower::TypeReference;
-pub use syn_tree::lower::TypeSlice;
-pub use syn_tree::lower::TypeTuple;
-pub use syn_tree::lower::WhereClause;
-pub use syn_tree::lower::WherePredicate;
-pub use syn_tree::restriction;
-pub use syn_tree::restriction::VisRestricted;
-pub use syn_tree::restriction::Visibility;
-pub use syn_tree::stmt;
+pub use syn_tokens::{error, print};
+pub use syn_tree::data::{
+    Field, FieldModifiers, Fields, FieldsNamed, FieldsUnnamed, Index, MemberRef, Members, Variant,
+};
+pub use syn_tree::derive::{Data, DataEnum, DataStruct, DataUnion, DeriveInput};
+pub use syn_tree::item::{
+    ConstModifiers, FnModifiers, ImplModifiers, Item, ItemEnum, ItemStruct, ItemUnion,
+    TraitModifiers, TypeModifiers,
+};
+pub use syn_tree::lower::{
+    AngleBracketedGenericArguments, AssocType, AttrStyle, Attribute, BoundLifetimes, ConstParam,
+    Expr, ExprLit, GenericArgument, GenericParam, Generics, LifetimeParam, Lit, LitBool, LitByte,
+    LitByteStr, LitCStr, LitChar, LitFloat, LitInt, LitStr, LitToken, LiteralKind, MacroDelimiter,
+    Meta, MetaList, MetaNameValue, ParenthesizedGenericArguments, Path, PathArguments, PathSegment,
+    PredicateLifetime, PredicateType, QSelf, ReturnType, TraitBound, TraitBoundModifier, Type,
+    TypeArray, TypeGroup, TypeNever, TypeParam, TypeParamBound, TypeParen, TypePath, TypePtr,
+    TypeReference, TypeSlice, TypeTuple, WhereClause, WherePredicate,
+};
+pub use syn_tree::restriction::{VisRestricted, Visibility};
 pub use syn_tree::stmt::LocalModifiers;
+pub use syn_tree::{data, derive, item, kind, lower, restriction, stmt};
 
 /// Buffers of tokens, and what is parsed from them.
 pub mod parse {
@@ -116,6 +47,17 @@ pub mod parse {
     pub use syn_parse::read::refusal::{Parsed, Refusal};
     pub use syn_parse::read::{End, Peek, Read};
     pub use syn_tokens::error::{Error, Fault, Result};
+}
+
+/// Values with separators between them, and the iterators over them.
+pub mod punctuated {
+    pub use syn_tokens::punctuated::Punctuated;
+    pub use syn_tokens::punctuated::iterators::{IntoIter, Iter, IterMut};
+}
+
+/// Expressions: of today a literal, `true` or `false`.
+pub mod expr {
+    pub use syn_tree::lower::{Expr, ExprLit};
 }
 
 /// Places in token streams, from which their trees are read.

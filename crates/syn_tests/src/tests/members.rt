@@ -7,7 +7,7 @@ use syn::derive::{Data, DeriveInput};
 use syn::item::ItemStruct;
 use syn::lower::{Type, TypeTuple};
 use syn::punctuated::Punctuated;
-use syn::punctuated::iterators::IntoIter;
+use syn::punctuated::IntoIter;
 use syn::token::{Comma, Paren, Span};
 use syn::{Error, Result};
 use syn_test_support::{parsed, printed, span};
