@@ -43,11 +43,11 @@ fn split(text: &str) -> Option<(Question, &str)> {
         return Some((Question::LeftRefused, kinds));
     }
     let (word, kinds) = text.split_once(' ')?;
-    Some((question(word)?, kinds))
+    Some((question_of(word)?, kinds))
 }
 
 /// The question of one word.
-fn question(word: &str) -> Option<Question> {
+fn question_of(word: &str) -> Option<Question> {
     match word {
         "tree" => Some(Question::Tree),
         "print" => Some(Question::Print),
