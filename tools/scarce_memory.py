@@ -2,15 +2,18 @@
 """Runs the tests of a crate with one request for memory refused: the first, the second, and so on.
 
     tools/scarce_memory.py [CRATE [FIRST [LAST]]]      syn_tests 1 60 where nothing else is said
+    tools/scarce_memory.py check_rows [FIRST [LAST]]
     tools/scarce_memory.py copies
 
 Each test that is judged has to pass, or to fail by the error of memory alone; those of a module scarce_memory have to
 pass. What does otherwise is printed with what it said.
 
+`check_rows` is a program: with its rows it has to end with status 3 and without a word, or to write what it is to write.
+
 `copies` refuses each request of the copy of a stream of fifty groups, one in another: there has to be one, as the copy
 takes memory once, however deep the stream is.
 
-Nothing is proved here; each number takes some 20 seconds, and of copies a minute.
+Nothing is proved here; each number takes some 20 seconds, and of copies and check_rows a minute.
 """
 
 import argparse
@@ -22,6 +25,9 @@ from pathlib import Path
 
 # the tests of each crate that tell a want of memory from other errors: how their names begin
 JUDGED = {"syn_tests": "tests::", "syn_type_tests": "tests::", "syn_canon": "tests::scarce_memory::"}
+
+# a program that does nothing but answer its standard input
+PROGRAM = "check_rows"
 
 CRATES = Path(__file__).resolve().parent.parent / "crates"
 TEST = re.compile(r"test (\S+) \.\.\. (ok|FAILED)$")
@@ -41,6 +47,28 @@ def run(crate, number):
         elif tests and line.startswith(" "):
             tests[-1][2].append(line.strip())
     return tests
+
+
+def run_program(number):
+    """The status of the program on its standard input, and what it wrote; no status where it didn't end."""
+    # the steps are the interpreter's, which wouldn't get to the end; the compiled program answers
+    command = ["rt", "try", "--steps", "1000", "--fail-alloc", str(number)]
+    with open(CRATES / PROGRAM / "stdin", encoding="utf-8") as rows:
+        done = subprocess.run(command, cwd=CRATES / PROGRAM, stdin=rows, capture_output=True, text=True)
+    ended = re.search(r"(?m)^checked: ended status=(\d+)$", done.stderr)
+    return ended and int(ended[1]), done.stdout
+
+
+def of_program(first, last):
+    """Refuses each of these requests of the program. Returns how many of the runs were wrong."""
+    wrong = 0
+    answer = (CRATES / PROGRAM / "stdout").read_text(encoding="utf-8")
+    for number in range(first, last + 1):
+        status, said = run_program(number)
+        is_right = (status, said.rstrip("\n")) in ((0, answer.rstrip("\n")), (3, ""))
+        print(f"{PROGRAM}, request {number}: status {status}" + ("" if is_right else f", wrong: {said!r}"), flush=True)
+        wrong += not is_right
+    return wrong
 
 
 def is_wrong(name, outcome, lines):
@@ -78,13 +106,17 @@ def copies():
 
 def main():
     parser = argparse.ArgumentParser(description=__doc__, formatter_class=argparse.RawDescriptionHelpFormatter)
-    parser.add_argument("crate", nargs="?", default="syn_tests", choices=[*JUDGED, "copies"])
+    parser.add_argument("crate", nargs="?", default="syn_tests", choices=[*JUDGED, PROGRAM, "copies"])
     parser.add_argument("first", nargs="?", type=int, default=1)
     parser.add_argument("last", nargs="?", type=int, default=60)
     options = parser.parse_args()
     crate = options.crate
     if crate == "copies":
         copies()
+    if crate == PROGRAM:
+        wrong = of_program(options.first, options.last)
+        print(f"{wrong} wrong")
+        sys.exit(1 if wrong else 0)
     wrong = 0
     for number in range(options.first, options.last + 1):
         tests = run(crate, number)

@@ -1,18 +1,17 @@
-//! What the tests of `syn` share: texts in, texts out, tables of both, tokens by hand, and what a refusal says. It is a library, so
-//! that crates of tests are proved beside each other.
+//! What the tests of `syn` share: texts in, texts out, tokens by hand, and what a refusal says. It is a library, so that crates of
+//! tests are proved beside each other.
 //!
-//! A test hands a table to one of the functions that go through it, which answers the rows that are wrong, or asks small functions
-//! for a text or for yes or no. So few values are alive at once, and little is to be proved of each function. Each of these answers
-//! an error of memory where memory is refused, so that a test then fails by that error and by no assertion. Assertions themselves
-//! stand in the crates of tests: a library may not end the process.
+//! A test asks small functions for a text or for yes or no. So few values are alive at once, and little is to be proved of each
+//! function. Each of these answers an error of memory where memory is refused, so that a test then fails by that error and by no
+//! assertion. Assertions themselves stand in the crates of tests: a library may not end the process.
 #![tactic(auto)]
 
 pub mod outline;
+pub mod visibilities;
 
 use crate::outline::{Outlined, outline};
 use std::alloc::Global;
-use std::fmt::Write as _;
-use syn::parse::{Parse, ParseBuffer, parse2};
+use syn::parse::{Parse, parse2};
 use syn::reader::{read_tokens, token_text};
 use syn::token::{Delimiter, Group, Ident, Punct, Spacing, Span, TokenStream, TokenTree};
 use syn::{Error, Fault, Result, ToTokens};
@@ -63,22 +62,6 @@ pub fn refused_at<T: Parse + Drop>(alloc: Global, text: &str) -> Result<usize> {
     Ok(refused::<T>(alloc, text)?.span.start)
 }
 
-/// What a `T` parsed from the front of the text leaves.
-pub fn left_behind<T: Parse + Drop>(alloc: Global, text: &str) -> Result<String> {
-    let tokens = read_tokens(alloc, text)?;
-    let mut input = ParseBuffer::new(&tokens);
-    let _tree: T = input.parse()?;
-    token_text(&input.rest()?)
-}
-
-/// What is left where no `T` could be parsed from the front of the text.
-pub fn left_by_refused<T: Parse + Drop>(alloc: Global, text: &str) -> Result<String> {
-    let tokens = read_tokens(alloc, text)?;
-    let mut input = ParseBuffer::new(&tokens);
-    let _fault = fault(input.parse::<T>())?;
-    token_text(&input.rest()?)
-}
-
 /// What shows the tree that the whole text is parsed as.
 pub fn shown<T: Parse + Outlined + Drop>(alloc: Global, text: &str) -> Result<String> {
     let tree: T = parsed(alloc, text)?;
@@ -90,103 +73,6 @@ pub fn print_shown<T: ToTokens>(alloc: Global, tree: &T) -> Result<String> {
     let mut tokens = TokenStream::new(alloc);
     tree.to_tokens(&mut tokens)?;
     Ok(outline(alloc, &tokens)?)
-}
-
-/// Adds a line on what came of a text, where it isn't what it should be.
-fn compare(wrong: &mut String, text: &str, found: &str, want: &str) -> Result<()> {
-    if found != want {
-        writeln!(wrong, "{text:?}: {found:?}, not {want:?}")?;
-    }
-    Ok(())
-}
-
-/// The texts that aren't parsed as the tree that is shown so, each with what came of it; none, if all is as it should be.
-pub fn not_shown<T: Parse + Outlined + Drop>(
-    alloc: Global,
-    rows: &[(&str, &str)],
-) -> Result<String> {
-    let mut wrong = String::new(alloc);
-    for (text, want) in rows {
-        compare(&mut wrong, text, shown::<T>(alloc, text)?.as_str(), want)?;
-    }
-    Ok(wrong)
-}
-
-/// The texts that, parsed, aren't printed so.
-pub fn not_reprinted<T: Parse + ToTokens + Drop>(
-    alloc: Global,
-    rows: &[(&str, &str)],
-) -> Result<String> {
-    let mut wrong = String::new(alloc);
-    for (text, want) in rows {
-        compare(
-            &mut wrong,
-            text,
-            reprinted::<T>(alloc, text)?.as_str(),
-            want,
-        )?;
-    }
-    Ok(wrong)
-}
-
-/// The texts that aren't refused as a whole at that byte.
-pub fn not_refused<T: Parse + Drop>(alloc: Global, rows: &[(&str, usize)]) -> Result<String> {
-    let mut wrong = String::new(alloc);
-    for (text, want) in rows {
-        let found = refused_at::<T>(alloc, text)?;
-        if found != *want {
-            writeln!(wrong, "{text:?}: refused at {found}, not at {want}")?;
-        }
-    }
-    Ok(wrong)
-}
-
-/// The texts that aren't refused as a whole at that byte in these words.
-pub fn not_refused_so<T: Parse + Drop>(
-    alloc: Global,
-    rows: &[(&str, usize, &str)],
-) -> Result<String> {
-    let mut wrong = String::new(alloc);
-    for (text, place, words) in rows {
-        let found = refused::<T>(alloc, text)?;
-        let at = found.span.start;
-        if at != *place {
-            writeln!(wrong, "{text:?}: refused at {at}, not at {place}")?;
-        }
-        compare(&mut wrong, text, found.text, words)?;
-    }
-    Ok(wrong)
-}
-
-/// The texts of which what is parsed from the front doesn't leave this.
-pub fn not_left_behind<T: Parse + Drop>(alloc: Global, rows: &[(&str, &str)]) -> Result<String> {
-    let mut wrong = String::new(alloc);
-    for (text, want) in rows {
-        compare(
-            &mut wrong,
-            text,
-            left_behind::<T>(alloc, text)?.as_str(),
-            want,
-        )?;
-    }
-    Ok(wrong)
-}
-
-/// The texts of which a parse from the front isn't refused, or doesn't leave this, which is all of it.
-pub fn not_left_by_refused<T: Parse + Drop>(
-    alloc: Global,
-    rows: &[(&str, &str)],
-) -> Result<String> {
-    let mut wrong = String::new(alloc);
-    for (text, want) in rows {
-        compare(
-            &mut wrong,
-            text,
-            left_by_refused::<T>(alloc, text)?.as_str(),
-            want,
-        )?;
-    }
-    Ok(wrong)
 }
 
 /// Adds an identifier of this text at the end of a stream, at 0 to 1.

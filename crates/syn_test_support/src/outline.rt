@@ -1,19 +1,21 @@
 //! Texts that show trees whole: each token with its spans, each part that is there.
 use std::alloc::{AllocError, Global};
 use syn::ToTokens;
+use syn::canon::{NamedField, UnnamedField};
 use syn::data::{Field, Fields, FieldsNamed, FieldsUnnamed, Variant};
 use syn::derive::{Data, DataEnum, DataStruct, DataUnion, DeriveInput};
 use syn::item::{Item, ItemEnum, ItemStruct, ItemUnion};
 use syn::lower::{
-    AttrStyle, Attribute, GenericParam, Generics, MacroDelimiter, Meta, MetaList, MetaNameValue,
-    Path, PathArguments, PathSegment, Type, TypePath, WhereClause, WherePredicate,
+    AttrStyle, Attribute, BoundLifetimes, Expr, GenericParam, Generics, LifetimeParam, Lit,
+    MacroDelimiter, Meta, MetaList, MetaNameValue, Path, PathArguments, PathSegment, ReturnType,
+    TraitBound, TraitBoundModifier, Type, TypeParamBound, TypePath, WhereClause, WherePredicate,
 };
 use syn::punctuated::Punctuated;
 use syn::restriction::{VisRestricted, Visibility};
 use syn::token::{Comma, Eq, Ident, Mark, Span, TokenStream};
 use syn_outlines::{add_place, add_stream, add_token, add_word};
-use syn_parse::deferred::Deferred;
-use syn_tree::kind::Expr;
+use syn_parse::deferred::{Deferred, Kind};
+use syn_tree::kind;
 
 /// A tree that can be shown.
 pub trait Outlined {
@@ -65,12 +67,12 @@ impl TreeText {
     }
 
     /// `=` and the tokens of an expression, where they are there.
-    fn value(&mut self, value: &Option<(Eq, Deferred<Expr>)>) -> Result<(), AllocError> {
+    fn value(&mut self, value: &Option<(Eq, Deferred<kind::Expr>)>) -> Result<(), AllocError> {
         let Some((eq_token, expr)) = value else {
             return Ok(());
         };
         self.mark("=", eq_token)?;
-        expr.source().show(self)
+        expr.show(self)
     }
 
     /// The tokens that a tree prints, behind this word.
@@ -99,6 +101,21 @@ impl TreeText {
 impl Outlined for TokenStream {
     fn show(&self, out: &mut TreeText) -> Result<(), AllocError> {
         add_stream(&mut out.text, self)
+    }
+}
+
+impl<K: Kind> Outlined for Deferred<K> {
+    fn show(&self, out: &mut TreeText) -> Result<(), AllocError> {
+        self.source().show(out)
+    }
+}
+
+impl<T: Outlined> Outlined for Option<T> {
+    fn show(&self, out: &mut TreeText) -> Result<(), AllocError> {
+        match self {
+            Some(tree) => tree.show(out),
+            None => out.word("None"),
+        }
     }
 }
 
@@ -178,6 +195,24 @@ impl Outlined for Type {
             }
             _ => out.printed(kind_of(self), self),
         }
+    }
+}
+
+impl Outlined for ReturnType {
+    fn show(&self, out: &mut TreeText) -> Result<(), AllocError> {
+        out.printed("ReturnType", self)
+    }
+}
+
+impl Outlined for Lit {
+    fn show(&self, out: &mut TreeText) -> Result<(), AllocError> {
+        out.printed("Lit", self)
+    }
+}
+
+impl Outlined for Expr {
+    fn show(&self, out: &mut TreeText) -> Result<(), AllocError> {
+        out.printed("Expr", self)
     }
 }
 
@@ -270,6 +305,18 @@ impl Outlined for Field {
     }
 }
 
+impl Outlined for NamedField {
+    fn show(&self, out: &mut TreeText) -> Result<(), AllocError> {
+        self.0.show(out)
+    }
+}
+
+impl Outlined for UnnamedField {
+    fn show(&self, out: &mut TreeText) -> Result<(), AllocError> {
+        self.0.show(out)
+    }
+}
+
 impl Outlined for FieldsNamed {
     fn show(&self, out: &mut TreeText) -> Result<(), AllocError> {
         out.token("{", self.brace_token.opening)?;
@@ -330,6 +377,37 @@ impl Outlined for WherePredicate {
             WherePredicate::Lifetime(_) => out.printed("PredicateLifetime", self),
             WherePredicate::Ty(_) => out.printed("PredicateType", self),
         }
+    }
+}
+
+/// And so are parts of both.
+impl Outlined for LifetimeParam {
+    fn show(&self, out: &mut TreeText) -> Result<(), AllocError> {
+        out.printed("LifetimeParam", self)
+    }
+}
+
+impl Outlined for TypeParamBound {
+    fn show(&self, out: &mut TreeText) -> Result<(), AllocError> {
+        out.printed("TypeParamBound", self)
+    }
+}
+
+impl Outlined for TraitBound {
+    fn show(&self, out: &mut TreeText) -> Result<(), AllocError> {
+        out.printed("TraitBound", self)
+    }
+}
+
+impl Outlined for TraitBoundModifier {
+    fn show(&self, out: &mut TreeText) -> Result<(), AllocError> {
+        out.printed("TraitBoundModifier", self)
+    }
+}
+
+impl Outlined for BoundLifetimes {
+    fn show(&self, out: &mut TreeText) -> Result<(), AllocError> {
+        out.printed("BoundLifetimes", self)
     }
 }
 

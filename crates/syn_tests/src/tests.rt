@@ -10,4 +10,3 @@ mod handmade;
 mod items;
 mod members;
 mod scarce_memory;
-mod whole_inputs;

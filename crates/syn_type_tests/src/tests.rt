@@ -9,4 +9,3 @@ mod modifiers;
 mod type_ends;
 mod types;
 mod visibilities;
-mod where_clauses;

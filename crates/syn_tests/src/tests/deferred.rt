@@ -1,99 +1,20 @@
-//! Deferred trees, by examples: of visibilities and expressions.
+//! Deferred trees, by examples: of visibilities.
 ghost use Rattle.std.specs.Prelude.{refl};
 ghost use Rattle.syn_grammar.specs.Rules as rules;
 ghost use Rattle.syn_tree.specs.Parsing.{of, rule, itself, meaning_of_rule};
 
-use crate::tests::asserts::{assert_none, assert_text_of};
+use crate::tests::asserts::assert_text_of;
 use std::alloc::{AllocError, Global};
 use std::marker::Model;
-use syn::deferred::{Deferred, Kind, StandsAlone, TreeKind, read_deferred_rest};
+use syn::deferred::{Deferred, Kind, TreeKind, read_deferred_rest};
 use syn::parse::{ParseBuffer, Parsed, Read};
 use syn::print::{Print, ToTokens};
 use syn::reader::{read_tokens, token_text};
 use syn::restriction::Visibility;
 use syn::token::StreamBuilder;
-use syn::{Result, Syntactic, TryClone, kind};
-use syn_test_support::{fault, not_left_behind, not_refused, not_reprinted, parsed, printed};
-
-/// Visibilities.
-pub struct Visibilities;
-
-impl Kind for Visibilities {
-    ghost rule = { rules.visibility };
-
-    ghost read_again = { refl };
-
-    ghost in_order = { refl };
-}
-
-impl StandsAlone for Visibilities {
-    ghost alone = { refl };
-}
-
-impl TreeKind for Visibilities {
-    type Tree = Visibility;
-
-    ghost by_rule = { refl };
-}
-
-const LEFT: &[(&str, &str)] = &[
-    ("1", ""),
-    ("1u8 + 2", "+ 2"),
-    ("true;", ";"),
-    ("\"a\", b", ", b"),
-];
-
-const LEFT_BY_VISIBILITIES: &[(&str, &str)] = &[
-    ("pub(self) x", "x"),
-    ("pub (u8)", "( u8 )"),
-    ("pub(in a::b)struct", "struct"),
-    ("x", "x"),
-    ("", ""),
-];
-
-/// A deferred tree takes what its tree takes, whatever follows.
-#[test]
-fn from_the_front(rt: HostRuntime) -> Result<()> {
-    assert_none(
-        &rt,
-        not_left_behind::<Deferred<kind::Expr>>(rt.alloc(), LEFT),
-    )?;
-    assert_none(
-        &rt,
-        not_left_behind::<Deferred<Visibilities>>(rt.alloc(), LEFT_BY_VISIBILITIES),
-    )
-}
-
-/// It is refused where its tree is.
-#[test]
-fn refusals(rt: HostRuntime) -> Result<()> {
-    assert_none(
-        &rt,
-        not_refused::<Deferred<kind::Expr>>(rt.alloc(), &[("a", 0), ("1 2", 2)]),
-    )?;
-    assert_none(
-        &rt,
-        not_refused::<Deferred<Visibilities>>(rt.alloc(), &[("pub(in)", 6), ("pub pub", 4)]),
-    )
-}
-
-const PRINTS: &[(&str, &str)] = &[
-    ("", ""),
-    ("pub", "pub"),
-    ("pub(in a::b)", "pub ( in a :: b )"),
-];
-
-#[test]
-fn prints(rt: HostRuntime) -> Result<()> {
-    assert_none(
-        &rt,
-        not_reprinted::<Deferred<Visibilities>>(rt.alloc(), PRINTS),
-    )?;
-    assert_none(
-        &rt,
-        not_reprinted::<Deferred<kind::Expr>>(rt.alloc(), &[("false", "false"), ("1_0", "1_0")]),
-    )
-}
+use syn::{Result, Syntactic, TryClone};
+use syn_test_support::visibilities::Visibilities;
+use syn_test_support::{fault, parsed, printed};
 
 /// The deferred visibility at the front of the text.
 fn front(alloc: Global, text: &str) -> Result<Deferred<Visibilities>> {

@@ -1,98 +1,17 @@
-//! Fields with names, variants, and structs, enums and unions as items and as inputs of derives.
-use crate::tests::asserts::{assert_none, assert_text, assert_text_of};
+//! Fields with names, items as inputs of derives and the other way round, their equality, and trees made by hand.
+use crate::tests::asserts::{assert_text, assert_text_of};
 use std::alloc::Global;
 use syn::canon::{NamedField, UnnamedField, canonical};
-use syn::data::{Field, FieldModifiers, Fields, FieldsNamed, FieldsUnnamed, Variant};
+use syn::data::{Field, FieldModifiers, Fields, FieldsNamed, FieldsUnnamed};
 use syn::derive::{Data, DeriveInput};
-use syn::item::{Item, ItemEnum, ItemStruct, ItemUnion};
+use syn::item::{Item, ItemStruct};
 use syn::parse::ParseBuffer;
 use syn::reader::{read_tokens, token_text};
 use syn::restriction::Visibility;
 use syn::token::{Colon, Ident, Semi};
 use syn::{Result, TryClone};
 use syn_test_support::outline::outline;
-use syn_test_support::{
-    fault, not_left_behind, not_left_by_refused, not_refused, not_refused_so, not_reprinted,
-    not_shown, parsed, print_shown, printed, refused, reprinted, span,
-};
-
-/// Fields in braces, and their trees.
-const FIELDS: &[(&str, &str)] = &[
-    ("{}", "{@0..1 }@1..2"),
-    (
-        "{a: b}",
-        "{@0..1 Field Inherited a@1..2 :@2..3 Type Path b@4..5 }@5..6",
-    ),
-    (
-        "{ a: u8, pub b: T = 3, }",
-        "{@0..1 Field Inherited a@2..3 :@3..4 Type Path u8@5..7 ,@7..8 Field Public pub@9..12 b@13..14 :@14..15 Type Path T@16..17 =@18..19 Int3@20..21 ,@21..22 }@23..24",
-    ),
-    (
-        "{#[a] _: b}",
-        "{@0..1 Field #@1..2 Outer [@2..3 Path a@3..4 ]@4..5 Inherited _@6..7 :@7..8 Type Path b@9..10 }@10..11",
-    ),
-    (
-        "{_: struct {a: b}}",
-        "{@0..1 Field Inherited _@1..2 :@2..3 Type Verbatim struct@4..10 {@11..12 a@12..13 :@13..14 b@15..16 }@16..17 }@17..18",
-    ),
-    (
-        "{_: union}",
-        "{@0..1 Field Inherited _@1..2 :@2..3 Type Path union@4..9 }@9..10",
-    ),
-    (
-        "{pub enabled: bool}",
-        "{@0..1 Field Public pub@1..4 enabled@5..12 :@12..13 Type Path bool@14..18 }@18..19",
-    ),
-];
-
-#[test]
-fn fields(rt: HostRuntime) -> Result<()> {
-    assert_none(&rt, not_shown::<FieldsNamed>(rt.alloc(), FIELDS))
-}
-
-const FIELD_PRINTS: &[(&str, &str)] = &[
-    ("{}", "{ }"),
-    ("{a:b,c:d}", "{ a : b , c : d }"),
-    ("{ a: u8, pub b: T = 3, }", "{ a : u8 , pub b : T = 3 , }"),
-    (
-        "{_: struct { a: u8 }, _: union { _: struct {} , } }",
-        "{ _ : struct { a : u8 } , _ : union { _ : struct { } , } }",
-    ),
-    (
-        "{#[a = b] #[c] pub(crate) d: e}",
-        "{ # [ a = b ] # [ c ] pub ( crate ) d : e }",
-    ),
-];
-
-#[test]
-fn field_prints(rt: HostRuntime) -> Result<()> {
-    assert_none(&rt, not_reprinted::<FieldsNamed>(rt.alloc(), FIELD_PRINTS))
-}
-
-const NO_FIELDS: &[(&str, usize, &str)] = &[
-    ("", 0, "expected curly braces"),
-    ("(a: b)", 0, "expected curly braces"),
-    ("{a}", 2, "expected `:`"),
-    ("{a b}", 3, "expected `:`"),
-    ("{a: }", 4, "expected identifier"),
-    ("{a: b c}", 6, "unexpected token"),
-    ("{a: b = }", 8, "expected literal"),
-    ("{a: b = c}", 8, "expected literal"),
-    ("{: b}", 1, "expected identifier"),
-    ("{fn: b}", 1, "expected identifier"),
-    ("{,}", 1, "expected identifier"),
-    ("{a: b,,}", 6, "expected identifier"),
-    ("{a: struct {b: c}}", 4, "expected identifier"),
-    ("{_: struct (b)}", 11, "expected curly braces"),
-    ("{_: struct {b}}", 13, "expected `:`"),
-    ("{_: union {b}}", 12, "expected `:`"),
-    ("{#![a] b: c}", 2, "expected square brackets"),
-];
-
-#[test]
-fn refused_fields(rt: HostRuntime) -> Result<()> {
-    assert_none(&rt, not_refused_so::<FieldsNamed>(rt.alloc(), NO_FIELDS))
-}
+use syn_test_support::{fault, parsed, print_shown, printed, refused, reprinted, span};
 
 /// Whether a field with a name could be parsed.
 fn is_named(input: &mut ParseBuffer<'_>) -> Result<bool> {
@@ -128,185 +47,7 @@ fn left_by_single_fields(rt: HostRuntime) -> Result<()> {
     Ok(())
 }
 
-/// Variants, and their trees. A visibility is not kept.
-const VARIANTS: &[(&str, &str)] = &[
-    ("A", "Variant A@0..1 Unit"),
-    ("pub A", "Variant A@4..5 Unit"),
-    (
-        "A(u8) = 1",
-        "Variant A@0..1 Unnamed (@1..2 Field Inherited Type Path u8@2..4 )@4..5 =@6..7 Int1@8..9",
-    ),
-    (
-        "#[a] A {}",
-        "Variant #@0..1 Outer [@1..2 Path a@2..3 ]@3..4 A@5..6 Named {@7..8 }@8..9",
-    ),
-];
-
-#[test]
-fn variants(rt: HostRuntime) -> Result<()> {
-    assert_none(&rt, not_shown::<Variant>(rt.alloc(), VARIANTS))?;
-    assert_none(
-        &rt,
-        not_reprinted::<Variant>(rt.alloc(), &[("pub(crate) A", "A"), ("A=b'c'", "A = b'c'")]),
-    )?;
-    assert_none(
-        &rt,
-        not_left_behind::<Variant>(rt.alloc(), &[("A, B", ", B"), ("A [b]", "[ b ]")]),
-    )?;
-    assert_none(
-        &rt,
-        not_left_by_refused::<Variant>(rt.alloc(), &[("A = b", "A = b"), ("A(b c)", "A ( b c )")]),
-    )
-}
-
-const NO_VARIANTS: &[(&str, usize, &str)] = &[
-    ("", 0, "expected identifier"),
-    ("pub", 3, "expected identifier"),
-    ("_", 0, "expected identifier"),
-    ("A =", 3, "expected literal"),
-    ("A = 1 + 2", 6, "unexpected token"),
-    ("A { b }", 6, "expected `:`"),
-    ("A(b = 1)", 6, NO_DEFAULT),
-    ("A(b) {}", 5, "unexpected token"),
-];
-
-#[test]
-fn refused_variants(rt: HostRuntime) -> Result<()> {
-    assert_none(&rt, not_refused_so::<Variant>(rt.alloc(), NO_VARIANTS))
-}
-
-/// Inputs of derives, and their prints.
-const INPUTS: &[(&str, &str)] = &[
-    ("enum E { pub A }", "enum E { A }"),
-    (
-        "struct S { a: u8, pub b: T = 3, }",
-        "struct S { a : u8 , pub b : T = 3 , }",
-    ),
-    (
-        "union U { _: struct { a: u8 } }",
-        "union U { _ : struct { a : u8 } }",
-    ),
-    (
-        "enum E { A = 1, B(u8), C {} }",
-        "enum E { A = 1 , B ( u8 ) , C { } }",
-    ),
-    ("pub enum E {}", "pub enum E { }"),
-    (
-        "#[a::b(x==y)] struct S;",
-        "# [ a :: b ( x == y ) ] struct S ;",
-    ),
-    ("union union {}", "union union { }"),
-    ("struct S(#[a] b);", "struct S ( # [ a ] b ) ;"),
-];
-
-#[test]
-fn inputs(rt: HostRuntime) -> Result<()> {
-    assert_none(&rt, not_reprinted::<DeriveInput>(rt.alloc(), INPUTS))
-}
-
-const TREES: &[(&str, &str)] = &[
-    (
-        "enum E { A, }",
-        "Inherited enum@0..4 E@5..6 {@7..8 Variant A@9..10 Unit ,@10..11 }@12..13",
-    ),
-    (
-        "pub enum E {}",
-        "Public pub@0..3 enum@4..8 E@9..10 {@11..12 }@12..13",
-    ),
-];
-
-#[test]
-fn enums(rt: HostRuntime) -> Result<()> {
-    assert_none(&rt, not_shown::<ItemEnum>(rt.alloc(), TREES))?;
-    assert_none(
-        &rt,
-        not_reprinted::<ItemEnum>(rt.alloc(), &[("#[a] enum E{A}", "# [ a ] enum E { A }")]),
-    )?;
-    assert_none(
-        &rt,
-        not_refused::<ItemEnum>(
-            rt.alloc(),
-            &[("struct S;", 0), ("enum E;", 6), ("enum E {} x", 10)],
-        ),
-    )?;
-    assert_none(
-        &rt,
-        not_left_behind::<ItemEnum>(rt.alloc(), &[("enum E {};", ";")]),
-    )
-}
-
-#[test]
-fn structs(rt: HostRuntime) -> Result<()> {
-    assert_none(
-        &rt,
-        not_shown::<ItemStruct>(
-            rt.alloc(),
-            &[
-                (
-                    "struct S {}",
-                    "Inherited struct@0..6 S@7..8 Named {@9..10 }@10..11",
-                ),
-                ("struct S;", "Inherited struct@0..6 S@7..8 Unit ;@8..9"),
-            ],
-        ),
-    )?;
-    assert_none(
-        &rt,
-        not_reprinted::<ItemStruct>(rt.alloc(), &[("#[a] struct S{}", "# [ a ] struct S { }")]),
-    )?;
-    assert_none(
-        &rt,
-        not_refused::<ItemStruct>(
-            rt.alloc(),
-            &[("enum E {}", 0), ("struct S {};", 11), ("struct S()", 10)],
-        ),
-    )?;
-    assert_none(
-        &rt,
-        not_left_behind::<ItemStruct>(rt.alloc(), &[("struct S {} ;", ";")]),
-    )
-}
-
-#[test]
-fn unions(rt: HostRuntime) -> Result<()> {
-    assert_none(
-        &rt,
-        not_shown::<ItemUnion>(
-            rt.alloc(),
-            &[("union U {}", "Inherited union@0..5 U@6..7 {@8..9 }@9..10")],
-        ),
-    )?;
-    assert_none(
-        &rt,
-        not_reprinted::<ItemUnion>(rt.alloc(), &[("pub union U{a:b}", "pub union U { a : b }")]),
-    )?;
-    assert_none(
-        &rt,
-        not_refused::<ItemUnion>(
-            rt.alloc(),
-            &[("struct S;", 0), ("union U;", 7), ("union U(a);", 7)],
-        ),
-    )
-}
-
 const NO_WORD: &str = "expected one of: `struct`, `enum`, `union`";
-
-const NO_INPUTS: &[(&str, usize, &str)] = &[
-    ("", 0, NO_WORD),
-    ("fn f() {}", 0, NO_WORD),
-    ("pub", 3, NO_WORD),
-    ("enum E", 6, "expected curly braces"),
-    ("enum E()", 6, "expected curly braces"),
-    ("union U;", 7, "expected curly braces"),
-    ("struct S { a: b };", 17, "unexpected token"),
-    ("#[a]", 4, NO_WORD),
-    ("#![a] struct S;", 1, "expected square brackets"),
-];
-
-#[test]
-fn refused_inputs(rt: HostRuntime) -> Result<()> {
-    assert_none(&rt, not_refused_so::<DeriveInput>(rt.alloc(), NO_INPUTS))
-}
 
 const NO_DEFAULT: &str = "field default value is only supported in structs with named fields";
 
@@ -548,14 +289,7 @@ fn wrappers(rt: HostRuntime) -> Result<()> {
     assert_text(&rt, named.as_str(), "pub enabled : bool");
     let unnamed = unnamed_canonical(rt.alloc(), "primitive::bool")?;
     assert_text(&rt, unnamed.as_str(), "primitive :: bool");
-    assert_none(
-        &rt,
-        not_refused::<NamedField>(rt.alloc(), &[("bool", 4), ("a: b, c: d", 4)]),
-    )?;
-    assert_none(
-        &rt,
-        not_refused::<UnnamedField>(rt.alloc(), &[("a: b", 1), ("a = 1", 4)]),
-    )
+    Ok(())
 }
 
 /// Whether the shape is an enum's.

@@ -4,7 +4,6 @@
 //! Each does the same twice: one of both has to be right, the other may be refused for want of memory.
 ghost use Rattle.std.specs.Prelude.{None};
 
-use crate::tests::deferred::Visibilities;
 use std::alloc::Global;
 use syn::canon::{canonical, same_form};
 use syn::data::FieldsUnnamed;
@@ -17,6 +16,7 @@ use syn::restriction::Visibility;
 use syn::token::{Ident, LitKind, Literal, TokenStream, TokenTree};
 use syn::{Result, TryClone};
 use syn_parse::deferred::Deferred;
+use syn_test_support::visibilities::Visibilities;
 use syn_test_support::{fault, parsed, printed, refused_at, reprinted, span};
 
 const STRUCT: &str = "pub struct S(pub(in a::b) c, ::d::e,);";

@@ -1,6 +1,5 @@
 //! What fails a test. A library has no such functions, since they may end the process.
 use std::process::Abort;
-use syn::Result;
 
 /// Fails where a text isn't what it should be.
 pub fn assert_text(rt: &impl Abort, found: &str, want: &str) {
@@ -15,10 +14,4 @@ pub fn assert_text_of(rt: &impl Abort, text: &str, found: &str, want: &str) {
 /// Fails where the number that came of a text isn't the one that it should be.
 pub fn assert_place(rt: &impl Abort, text: &str, found: usize, want: usize) {
     assert_eq!(rt; found, want, "of {text:?}");
-}
-
-/// Fails where a row of a table is wrong. An error of memory is handed on.
-pub fn assert_none(rt: &impl Abort, wrong: Result<String>) -> Result<()> {
-    assert_eq!(rt; wrong?.as_str(), "");
-    Ok(())
 }

@@ -1,5 +1,5 @@
 //! Literals and expressions, by examples.
-use crate::tests::asserts::{assert_none, assert_text_of};
+use crate::tests::asserts::assert_text_of;
 use std::alloc::{AllocError, Global};
 use std::fmt::Write as _;
 use syn::lower::{
@@ -9,7 +9,7 @@ use syn::parse::ParseBuffer;
 use syn::reader::read_tokens;
 use syn::token::Span;
 use syn::{LitKind, Literal, Result, TryClone};
-use syn_test_support::{not_left_behind, not_refused_so, not_reprinted, parsed, printed, span};
+use syn_test_support::{parsed, printed, span};
 
 /// What it is, and its text.
 fn parts(lit: &Lit) -> (&str, &str) {
@@ -76,58 +76,6 @@ const LITERALS: &[(&str, &str)] = &[
 fn literals(rt: HostRuntime) -> Result<()> {
     for (text, want) in LITERALS {
         assert_text_of(&rt, text, read_as(rt.alloc(), text)?.as_str(), want);
-    }
-    assert_none(
-        &rt,
-        not_left_behind::<Lit>(rt.alloc(), &[("1 + 2", "+ 2"), ("true, 1", ", 1")]),
-    )
-}
-
-/// Where no literal, `true` or `false` stands, and where more follows.
-const NO_LITERALS: &[(&str, usize, &str)] = &[
-    ("", 0, "expected literal"),
-    ("a", 0, "expected literal"),
-    ("r#true", 0, "expected literal"),
-    ("truth", 0, "expected literal"),
-    ("True", 0, "expected literal"),
-    ("-1", 0, "expected literal"),
-    ("!true", 0, "expected literal"),
-    ("'a", 0, "expected literal"),
-    ("(1)", 0, "expected literal"),
-    ("{ 1 }", 0, "expected literal"),
-    ("#[a] 1", 0, "expected literal"),
-    ("1 2", 2, "unexpected token"),
-    ("1 + 2", 2, "unexpected token"),
-    ("1.a", 1, "unexpected token"),
-    ("1..2", 1, "unexpected token"),
-    ("\"a\" b", 4, "unexpected token"),
-    ("false.a", 5, "unexpected token"),
-    ("true false", 5, "unexpected token"),
-];
-
-#[test]
-fn refused_literals(rt: HostRuntime) -> Result<()> {
-    assert_none(&rt, not_refused_so::<Lit>(rt.alloc(), NO_LITERALS))?;
-    assert_none(&rt, not_refused_so::<Expr>(rt.alloc(), NO_LITERALS))
-}
-
-#[test]
-fn printed_literals(rt: HostRuntime) -> Result<()> {
-    for text in [
-        "\"a\"",
-        "r#\"a\"#b",
-        "b\"a\"",
-        "c\"a\"",
-        "'a'",
-        "b'a'",
-        "1_0u8",
-        "1.5",
-        "1e+5",
-        "true",
-        "false",
-    ] {
-        assert_none(&rt, not_reprinted::<Lit>(rt.alloc(), &[(text, text)]))?;
-        assert_none(&rt, not_reprinted::<Expr>(rt.alloc(), &[(text, text)]))?;
     }
     Ok(())
 }

@@ -1,5 +1,5 @@
 //! Types and paths: which tree a text is, what it prints, and which are equal.
-use crate::tests::asserts::{assert_none, assert_text_of};
+use crate::tests::asserts::assert_text_of;
 use crate::tests::generics::are_equal;
 use std::alloc::Global;
 use std::process::Abort;
@@ -11,7 +11,7 @@ use syn::parse::ParseBuffer;
 use syn::punctuated::Punctuated;
 use syn::reader::{read_tokens, token_text};
 use syn::token::{Comma, Delimiter, Spacing, TokenStream};
-use syn_test_support::{fault, not_reprinted, parsed, push_group, push_marks};
+use syn_test_support::{fault, parsed, push_group, push_marks};
 
 /// So deep trees are shown.
 const DEPTH: usize = 30;
@@ -400,61 +400,6 @@ const QUALIFIED: &[(&str, &str)] = &[
 #[test]
 fn qualified_paths(rt: HostRuntime) -> Result<()> {
     types_are(&rt, rt.alloc(), QUALIFIED)
-}
-
-const PRINTS: &[(&str, &str)] = &[
-    ("!", "!"),
-    ("()", "( )"),
-    ("(T)", "( T )"),
-    ("(T,)", "( T , )"),
-    ("(A,B,)", "( A , B , )"),
-    ("((),((),))", "( ( ) , ( ( ) , ) )"),
-    ("&T", "& T"),
-    ("&'a mut T", "& 'a mut T"),
-    ("&&T", "& & T"),
-    ("&'a&'b T", "& 'a & 'b T"),
-    ("*const*mut T", "* const * mut T"),
-    ("[T]", "[ T ]"),
-    ("[[T;1];0x2u8]", "[ [ T ; 1 ] ; 0x2u8 ]"),
-    ("[!; true]", "[ ! ; true ]"),
-    ("::a::B", ":: a :: B"),
-    ("self::super::crate::Self", "self :: super :: crate :: Self"),
-    ("r#in::union", "r#in :: union"),
-    ("Vec<Vec<T>>", "Vec < Vec < T > >"),
-    ("Vec::<T>", "Vec :: < T >"),
-    ("Vec::<>", "Vec :: < >"),
-    ("A<>", "A < >"),
-    ("A<T,'a>", "A < 'a , T , >"),
-    ("A<'a,T,'b,>", "A < 'a , 'b , T , >"),
-    ("A<T,'a,'b>", "A < 'a , 'b , T , >"),
-    (
-        "A<T, 'a, I = U, 1, 'b, V>",
-        "A < 'a , 'b , T , I = U , 1 , V >",
-    ),
-    ("A<I=B<J=&C>>", "A < I = B < J = & C > >"),
-    ("A<1.5,b'c',\"d\",true>", "A < 1.5 , b'c' , \"d\" , true >"),
-    ("A<<T>::B>", "A < < T > :: B >"),
-    ("A<B<C<D>>>", "A < B < C < D > > >"),
-    ("A<(T),(T,),[T;1]>", "A < ( T ) , ( T , ) , [ T ; 1 ] >"),
-    ("Fn()", "Fn ( )"),
-    ("Fn(A,)->B", "Fn ( A , ) -> B"),
-    ("Fn()->Fn()->!", "Fn ( ) -> Fn ( ) -> !"),
-    ("Self(T)::B<C>", "Self ( T ) :: B < C >"),
-    ("A<Fn(B)->C,D>", "A < Fn ( B ) -> C , D >"),
-    ("<T>::A", "< T > :: A"),
-    (
-        "<T as a::B<U>>::C::<V>",
-        "< T as a :: B < U > > :: C :: < V >",
-    ),
-    ("<T as ::A>::B", "< T as :: A > :: B"),
-    ("<<T as I>::A as J>::B", "< < T as I > :: A as J > :: B"),
-    ("<&'a T>::self::crate", "< & 'a T > :: self :: crate"),
-    ("<T as Fn(A)->B>::C(D)", "< T as Fn ( A ) -> B > :: C ( D )"),
-];
-
-#[test]
-fn prints(rt: HostRuntime) -> Result<()> {
-    assert_none(&rt, not_reprinted::<Type>(rt.alloc(), PRINTS))
 }
 
 const EQUAL: &[(&str, &str, bool)] = &[
