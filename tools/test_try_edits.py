@@ -5,6 +5,7 @@ import contextlib
 import io
 import os
 import tempfile
+import time
 import unittest
 from pathlib import Path
 from types import SimpleNamespace
@@ -396,6 +397,14 @@ class GivesWay(unittest.TestCase):
             command = ["sh", "-c", "echo >> begun; [ $(wc -l < begun) = 2 ] || sleep 60"]
             self.assertEqual(memory.run(command, folder, 5, 3), (0, ""))
             self.assertEqual((Path(folder) / "begun").read_text(), "\n\n")
+
+
+    def test_what_has_not_ended_in_its_time_is_ended(self):
+        start = time.monotonic()
+        self.assertIsNone(memory.run(["sleep", "60"], "/", 5, 3, end=start + 1))
+        self.free = [4]
+        self.assertIsNone(memory.run(["true"], "/", 5, 3, end=start + 2))
+        self.assertLess(time.monotonic() - start, 20)
 
 
 class Program(InCrate):

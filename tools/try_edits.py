@@ -7,7 +7,8 @@
     --said FOLDER                           keeps what the prover said of each pack in a file there
     --apart                                 in a copy of the repository without what earlier checks kept, so that `rt ci` can run beside,
                                             which tries those of must-fail/ itself
-    --minutes N                             begins no check after so many minutes, and says how many edits weren't tried
+    --minutes N                             ends after so many minutes, also a check that goes on, and says how many edits weren't
+                                            tried
 
 An edit is a file of lines:
 
@@ -72,7 +73,11 @@ class Trial:
                 self.untried += self.edits
                 return False
             start = time.monotonic()
-            status, said = checked(self.crate, jobs)
+            answer = checked(self.crate, jobs, self.end)
+        if answer is None:
+            self.untried += self.edits
+            return False
+        status, said = answer
         print(f"{self.crate.name}: {'proved' if not status else 'NOT PROVED'} as it is, {time.monotonic() - start:.0f} s", flush=True)
         if status:
             print(said[-2000:])
@@ -96,7 +101,11 @@ class Trial:
                 return []
             start = time.monotonic()
             with rooms.room(self.top, self.crate.name, pack.texts) as folder:
-                _, said = checked(folder, jobs)
+                answer = checked(folder, jobs, self.end)
+        if answer is None:
+            self.untried += pack.edits
+            return []
+        said = answer[1]
         if self.folder:
             (self.folder / f"{self.crate.name}-{pack.edits[0].name}-{len(pack.edits)}.txt").write_text(said)
         answer = answer_of(said, self.crate.name, self.source.function_around, set(pack.texts))
@@ -153,9 +162,9 @@ class Trial:
                     self.wrong.append(f"{edit.name}: names {clause}, but refused were: {', '.join([*clauses, *others])}")
 
 
-def checked(folder, jobs):
-    """The status of a check of the crate in this folder, and what it said."""
-    return memory.run(["rt", "check", "--jobs", str(jobs)], folder)
+def checked(folder, jobs, end):
+    """The status of a check of the crate in this folder, and what it said; none where no time was left for it."""
+    return memory.run(["rt", "check", "--jobs", str(jobs)], folder, end=end)
 
 
 def alternatives(clauses):

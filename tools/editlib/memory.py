@@ -18,11 +18,18 @@ GROWTH, LOOK = 15, 0.5
 beginning, ending = Lock(), Lock()
 
 
-def begun(command, folder, said, room):
-    """The process, once there is room for it."""
+def is_over(end):
+    """Whether this time has come, if there is one."""
+    return end is not None and time.monotonic() > end
+
+
+def begun(command, folder, said, room, end):
+    """The process, once there is room for it; none where its time is over before."""
     with beginning:
-        while available() < room:
+        while available() < room and not is_over(end):
             time.sleep(LOOK)
+        if is_over(end):
+            return None
         process = subprocess.Popen(command, cwd=folder, stdout=said, stderr=subprocess.STDOUT, start_new_session=True)
         try:
             process.wait(GROWTH)
@@ -31,11 +38,11 @@ def begun(command, folder, said, room):
     return process
 
 
-def gave_way(process, least):
-    """Waits for the process; true where it was ended for want of memory."""
+def gave_way(process, least, end):
+    """Waits for the process; true where it was ended for want of memory, or as its time was over."""
     while process.poll() is None:
         with ending:
-            if available() < least and process.poll() is None:
+            if (available() < least or is_over(end)) and process.poll() is None:
                 os.killpg(process.pid, signal.SIGKILL)
                 process.wait()
                 return True
@@ -43,17 +50,20 @@ def gave_way(process, least):
     return False
 
 
-def run(command, folder, room=ROOM, least=LEAST):
-    """The status of the command, run in this folder, and what it said."""
+def run(command, folder, room=ROOM, least=LEAST, end=None):
+    """The status of the command, run in this folder, and what it said; none where it hadn't ended at this time."""
     with open("/proc/meminfo") as file:
         total = 1024 * int(file.readline().split()[1])
-    while True:
+    while not is_over(end):
         with tempfile.TemporaryFile("w+", errors="replace") as said:
-            process = begun(command, folder, said, min(room, total // 2))
+            process = begun(command, folder, said, min(room, total // 2), end)
+            if process is None:
+                break
             try:
-                if not gave_way(process, min(least, total // 8)):
+                if not gave_way(process, min(least, total // 8), end):
                     said.seek(0)
                     return process.returncode, said.read()
             finally:
                 if process.poll() is None:
                     os.killpg(process.pid, signal.SIGKILL)
+    return None
