@@ -169,7 +169,8 @@ def pairs(stage):
 
 
 def holds_invisible(trees):
-    return any(isinstance(t, Group) and (t.delimiter == 'None' or holds_invisible(t.content)) for t in trees)
+    """An invisible group with content stands in them, at any depth."""
+    return any(isinstance(t, Group) and (t.delimiter == 'None' and t.content or holds_invisible(t.content)) for t in trees)
 
 
 def random_trees(sentences, oracle, generator, rule, kind):
@@ -180,9 +181,10 @@ def random_trees(sentences, oracle, generator, rule, kind):
     else:
         trees = sentences.sentence(rule, r.choice([3, 5, 7, 9]))
     if holds_invisible(trees):
-        return trees  # changed, it may be an expression or, without content, a visibility, which the table doesn't read yet
+        return trees  # changed, it may be an expression, which the table doesn't read yet
     for _ in range(r.choice([0, 0, 1, 1, 1, 2, 3])):
-        trees = sentences.changed(trees)
+        changed = sentences.changed(trees)
+        trees = trees if holds_invisible(changed) else changed
     return trees
 
 

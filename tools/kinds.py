@@ -1,17 +1,21 @@
 #!/usr/bin/env python3
-"""Writes what is the same for every type of syntax, from the structs and enums of crates/syn_tree and the table of kinds below.
+"""Writes what is the same for every type of syntax, from the structs and enums of the crates of trees (syn_lower, syn_tree) and the
+table of kinds below.
 
     tools/kinds.py            writes the files; run it at the top of the repository, and commit what it writes
     tools/kinds.py --check    writes nothing; fails where a file isn't as it would write it
 
-It writes, laid out as `rt fmt` wants it:
+It writes, laid out as `rt fmt` wants it, in both crates of trees:
 
-    crates/syn_tree/src/**.rt           at the end of each file, under a line that says so: `Model` and `Syntactic` (the language
-                                        wants the first in the module of its type)
-    crates/syn_tree/specs/Plain.antt    the views of structs that are their rule's parts in order
-    crates/syn_tree/src/copies**        `TryClone`
-    crates/syn_tree/src/compare**       `Compared`, `PartialEq`, `Eq`
-    crates/syn_tree/src/prints**        `Print`, `ToTokens`
+    src/**.rt             at the end of each file, under a line that says so: `Model` and `Syntactic` (the language wants the
+                          first in the module of its type)
+    specs/Plain.antt      the views of structs that are their rule's parts in order
+    src/copies**          `TryClone`
+    src/compare**         `Compared`, `PartialEq`, `Eq`
+    src/prints**          `Print`, `ToTokens`
+
+and beside them:
+
     crates/syn_tree/src/comma_lists.rt  the function of each rule that is a comma list, with its proof (proofs/CommaLists)
     crates/syn/src/kinds.rt             `Canonical`, of the kinds below
     docs/GRAMMAR.md                     the table of rules, each in the words above it, with what reads it
@@ -19,7 +23,8 @@ It writes, laid out as `rt fmt` wants it:
 
 What is odd is written by hand, and then left out here: a `view_X` in a file of specs/, or an `impl TryClone for X`, `impl Compared
 for X` .. in a file of src/. A struct with a `syntax_of_X` of its own has no `Model`, unless it has a `view_X` too: then that is
-its value, of which `syntax_of_X` tells the syntax. A list is one that may be empty (`list_of`), unless JOINED names it.
+its value, of which `syntax_of_X` tells the syntax. A struct without fields only holds a place, unless it has a `syntax_of_X`. A list
+is one that may be empty (`list_of`), unless JOINED names it.
 """
 import argparse
 import sys
@@ -29,7 +34,7 @@ from kindslib.grammar import rows
 from kindslib.impls import comparisons, copies, prints
 from kindslib.lists import comma_lists
 from kindslib.program import canonical, dispatch, kind_enum, kind_specs
-from kindslib.source import Fault, Source
+from kindslib.source import LOWEST, Fault, Source
 from kindslib.views import endings, plain_views
 
 # the program's word, the type, the rule that reads it
@@ -57,8 +62,10 @@ UNPRINTED = {
     "DataEnum",
     "DataStruct",
     "DataUnion",
+    "FieldModifiers",
     "FnModifiers",
     "ImplModifiers",
+    "LocalModifiers",
     "MacroDelimiter",
     "QSelf",
     "TraitModifiers",
@@ -70,13 +77,15 @@ CRATES = Path("crates")
 
 def outputs():
     """What stands in each file that this script writes, or has a part of."""
-    source = Source(CRATES / "syn_tree")
+    lower = Source(CRATES / LOWEST)
+    source = Source(CRATES / "syn_tree", lower)
     files = {}
-    files.update(endings(source))
-    files.update(plain_views(source, JOINED))
-    files.update(copies(source))
-    files.update(comparisons(source))
-    files.update(prints(source, UNPRINTED))
+    for crate in (lower, source):
+        files.update(endings(crate))
+        files.update(plain_views(crate, JOINED))
+        files.update(copies(crate))
+        files.update(comparisons(crate))
+        files.update(prints(crate, UNPRINTED))
     table, page = CRATES / "syn_grammar/specs/Table.antt", Path("docs/GRAMMAR.md")
     files.update(comma_lists(source, table))
     files[page] = rows(source, table, page)
@@ -89,7 +98,7 @@ def outputs():
 
 def leftovers(files):
     """Files in the folders that are this script's alone which it wouldn't write."""
-    folders = [CRATES / "syn_tree" / name for name in ("src/copies", "src/compare", "src/prints", "proofs/comma_lists")]
+    folders = [CRATES / crate / name for crate in (LOWEST, "syn_tree") for name in ("src/copies", "src/compare", "src/prints", "proofs/comma_lists")]
     return [path for folder in folders for path in sorted(folder.rglob("*.*t*")) if path.is_file() and path not in files]
 
 

@@ -298,7 +298,7 @@ class Renamer:
     def comment(self, file, text):
         if file.kind == '.edit':  # the clause that it breaks, which has a name of its own crate
             return IDENTIFIER.sub(lambda m: self.local(file, m[0]) or m[0], text)
-        is_about = file.is_home or file.crate == 'syn_tree' or file.path == 'docs/GRAMMAR.md'
+        is_about = file.is_home or file.crate in ('syn_lower', 'syn_tree') or file.path == 'docs/GRAMMAR.md'
         pieces = re.split(r'(`[^`\n]+`)', text)
         for n, piece in enumerate(pieces):
             pieces[n] = self.quoted(file, piece) if n % 2 else self.prose(piece, is_about)

@@ -24,7 +24,7 @@ import sys
 from pathlib import Path
 
 # the tests of each crate that tell a want of memory from other errors: how their names begin
-JUDGED = {"syn_tests": "tests::", "syn_type_tests": "tests::", "syn_canon": "tests::scarce_memory::"}
+JUDGED = {"syn_tests": "tests::", "syn_canon": "tests::scarce_memory::"}
 
 # a program that does nothing but answer its standard input
 PROGRAM = "check_rows"

@@ -86,10 +86,10 @@ class Kinds(unittest.TestCase):
     def crate(self, types=TYPES, specs=SPECS):
         folder = tempfile.TemporaryDirectory()
         self.addCleanup(folder.cleanup)
-        self.top = Path(folder.name)
+        self.top = Path(folder.name) / "syn_tree"
         for name, text in (("src/things.rt", types), ("specs/Things.antt", specs)):
             path = self.top / name
-            path.parent.mkdir(exist_ok=True)
+            path.parent.mkdir(parents=True, exist_ok=True)
             path.write_text(text)
         return Source(self.top)
 
@@ -103,15 +103,40 @@ class Kinds(unittest.TestCase):
         self.assertNotIn("attrs", same)
         self.assertNotIn("paren_token", same)
 
+    def test_a_struct_without_fields_stands_for_what_its_specification_says(self):
+        source = self.crate()
+        self.assertNotIn("for Place", copies(source)[self.top / "src/copies/things.rt"])
+        source = self.crate(specs=SPECS + "abbrev pub syntax_of_Place : Place → Syntax\n")
+        self.assertIn("        Ok(Place {})\n", copies(source)[self.top / "src/copies/things.rt"])
+        same = comparisons(source)[self.top / "src/compare/things.rt"]
+        self.assertIn("    fn is_same(&self, _other: &Place) -> bool {\n        true\n", same)
+        self.assertIn("ghost eq = { same_by syntax_of_Place };", same)
+        self.assertNotIn("place", plain_views(source, set())[self.top / "specs/Plain.antt"])
+
     def test_attributes_are_a_list_of_their_own(self):
         source = self.crate(TYPES.replace("attrs: Vec<Never>", "attrs: Vec<Attribute>"))
         self.assertIn("            attrs: self.attrs.try_clone(alloc)?,\n", copies(source)[self.top / "src/copies/things.rt"])
         same = comparisons(source)[self.top / "src/compare/things.rt"]
-        self.assertIn("    #[tactic(auto, using(crate::proofs::Attributes::same_attributes))]\n    fn is_same(&self, other: &Thing) -> bool {\n        self.attrs.is_same(&other.attrs)\n", same)
+        self.assertIn("    #[tactic(auto, using(syn_lower::proofs::Attributes::same_attributes))]\n    fn is_same(&self, other: &Thing) -> bool {\n        self.attrs.is_same(&other.attrs)\n", same)
         printed = prints(source, {"Choice"})[self.top / "src/prints/things.rt"]
         self.assertIn("        print_outer(&self.attrs, out)?;\n        self.ident.print_in(out)?;\n", printed)
         view = plain_views(source, set())[self.top / "specs/Plain.antt"]
         self.assertIn("view_Thing a = Node (Both (attributes_syntax a.attrs.items) (Both (maybe syntax_of_ident a.ident)", view)
+
+    def test_a_type_of_the_crate_below_is_named_by_that_crate(self):
+        lower = self.crate()
+        lower.crate = self.top.with_name("syn_lower")
+        for t in lower.types.values():
+            t.crate = "syn_lower"
+        upper = self.top.with_name("above")
+        (upper / "src").mkdir(parents=True)
+        (upper / "src/holders.rt").write_text("/// A holder.\n#[derive(Drop)]\npub struct Holder {\n    pub choice: Choice,\n}\n")
+        source = Source(upper, lower)
+        self.assertEqual([t.name for t in source.printed()], ["Holder"])
+        self.assertEqual((source.path_of("Choice"), source.own_path_of("Holder")), ("syn_lower", "crate::holders"))
+        view = plain_views(source, set())[upper / "specs/Plain.antt"]
+        self.assertIn("use Rattle.syn_lower.specs.Things.{syntax_of_Choice}\n", view)
+        self.assertIn("view_Holder a = Node (syntax_of_Choice a.choice)\n", view)
 
     def test_imports_stand_in_the_order_of_the_formatter(self):
         lines = import_lines({"a::b": ["C", "D"], "a::b::e": ["f"], "a": ["g"], "a::c": ["H"]})
@@ -182,7 +207,7 @@ class Kinds(unittest.TestCase):
         page.write_text(f"Before.\n\n{HEAD}| `old` | Old. | `Old` |\n\nBehind.\n")
         text = rows(source, table, page)
         self.assertTrue(text.startswith(f"Before.\n\n{HEAD}| `thing` | A thing. | `Thing` |\n"))
-        self.assertIn("| `things` | Things. | `things` of `comma_lists.rt` |\n", text)
+        self.assertIn("| `things` | Things. | `things` of `syn_tree/comma_lists.rt` |\n", text)
         self.assertIn("| `unread` | Unread. | not read yet |\n", text)
         self.assertTrue(text.endswith("| `others` | Things that end otherwise. | not read yet |\n\nBehind.\n"))
         page.write_text("No table.\n")
@@ -195,7 +220,7 @@ class Kinds(unittest.TestCase):
         table, page = self.top / "Table.antt", self.top / "PAGE.md"
         table.write_text(TABLE)
         page.write_text(f"{HEAD}\nBehind.\n")
-        self.assertIn("| `thing` | A thing. | `thing` of `things.rt` |\n", rows(source, table, page))
+        self.assertIn("| `thing` | A thing. | `thing` of `syn_tree/things.rt` |\n", rows(source, table, page))
 
     def test_a_function_is_named_for_what_its_own_contract_or_proof_says(self):
         short = "fn short() -> bool {\n    true\n}\n\n"
@@ -206,8 +231,8 @@ class Kinds(unittest.TestCase):
         table.write_text(TABLE)
         page.write_text(f"{HEAD}\nBehind.\n")
         text = rows(source, table, page)
-        self.assertIn("| `thing` | A thing. | `thing` of `things.rt` |\n", text)
-        self.assertIn("| `things` | Things. | `opening` of `things.rt` |\n", text)
+        self.assertIn("| `thing` | A thing. | `thing` of `syn_tree/things.rt` |\n", text)
+        self.assertIn("| `things` | Things. | `opening` of `syn_tree/things.rt` |\n", text)
 
     def test_a_value_may_stand_for_other_syntax_than_itself(self):
         both = SPECS + "abbrev pub view_Thing : Thing-in.Inside → Syntax\nabbrev pub syntax_of_Thing : Syntax → Syntax\n"

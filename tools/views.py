@@ -1,20 +1,17 @@
 #!/usr/bin/env python3
-"""Checks that every field of every public struct of crates/syn_tree stands in what the struct is said to stand for
+"""Checks that every field of every public struct of the crates of trees stands in what the struct is said to stand for
 (`view_X` or `syntax_of_X` in specs/). A field that were left out there could be lost by a print, a copy or a comparison, and
 every proof would still hold.
 
 Run it at the top of the repository: tools/views.py --check. A field may be absent only where its type has no values or
-one value (`pub enum Never {}`; `pub struct FieldModifiers {}`, an enum of one variant without fields). Structs that stand for no
-syntax (`NO_SYNTAX` of kindslib) have no view."""
+one value (`pub enum Never {}`; `pub struct FieldModifiers {}`, an enum of one variant without fields)."""
 
 import argparse
 import re
 import sys
 from pathlib import Path
 
-from kindslib.source import NO_SYNTAX
-
-CRATE = Path("crates/syn_tree")
+CRATES = [Path("crates/syn_lower"), Path("crates/syn_tree")]
 
 STRUCT = re.compile(r"^pub struct (\w+) \{(.*?)\}", re.S | re.M)
 FIELD = re.compile(r"^\s*pub (\w+): (.+),$", re.M)
@@ -24,11 +21,11 @@ DEFINITION = re.compile(r"^(?:view|syntax_of)_(\w+) (\w+) =(.*?)(?=^\S|\Z)", re.
 
 
 def sources():
-    return "\n".join(path.read_text() for path in sorted((CRATE / "src").rglob("*.rt")))
+    return "\n".join(path.read_text() for crate in CRATES for path in sorted((crate / "src").rglob("*.rt")))
 
 
 def specifications():
-    return "\n".join(path.read_text() for path in sorted((CRATE / "specs").rglob("*.antt")))
+    return "\n".join(path.read_text() for crate in CRATES for path in sorted((crate / "specs").rglob("*.antt")))
 
 
 def shown_fields(views):
@@ -52,7 +49,7 @@ def main():
         for field, kind in FIELD.findall(body):
             fields += 1
             absent = kind in lone or empty & set(re.findall(r"\w+", kind))
-            if field not in shown.get(struct, set()) and not absent and struct not in NO_SYNTAX:
+            if field not in shown.get(struct, set()) and not absent:
                 complaints.append(f"{struct}.{field} doesn't stand in its view in specs/")
     if not fields:
         complaints.append("no field was found")

@@ -22,7 +22,7 @@ class Writer:
         if len(terminal) == 1:
             return terminal[0]
         argument = self.text(terminal[1]) if terminal[0] in ('Word', 'Punctuation') else terminal[1][0]
-        return f'{terminal[0]} {argument}'
+        return ' '.join([terminal[0], argument] + [str(flag).lower() for flag in terminal[2:]])
 
     def look(self, look, least=0):
         """A look, in parentheses where `least` (how strongly the context binds) wants them."""

@@ -45,7 +45,7 @@ def terminal_words(terminal):
     kind = terminal[0]
     return {'Ended': 'the end', 'Name': 'a name'}.get(kind) or {
         'Word': lambda: f'`{terminal[1]}`', 'Punctuation': lambda: f'`{terminal[1]}`',
-        'Literal': lambda: f'a literal {terminal[1][0]}', 'Delimited': lambda: f'a {terminal[1][0]} group'}[kind]()
+        'Literal': lambda: f'a literal {terminal[1][0]}', 'Delimited': lambda: f'a {terminal[1][0]} group{" without content" * terminal[2]}'}[kind]()
 
 
 class Tests:

@@ -1,12 +1,14 @@
 """What stands at the front of a stream: terminals, the facts that a lookahead tells, and looks (as specs/Tokens.antt defines them).
 
-A terminal is ('Ended',), ('Name',), ('Word', text), ('Sign', text), ('Literal', kind) or ('Holds', delimiter).
+A terminal is ('Ended',), ('Name',), ('Word', text), ('Punctuation', text), ('Literal', kind) or ('Delimited', delimiter, empty), where
+`empty` says that it is an invisible group without content.
 A lookahead is a terminal and the facts that it tells.
 """
 
 ENDED, NAME = ('Ended',), ('Name',)
 NEVER = ('one_of', ())
 EMPTY = ('empty',)
+INVISIBLE = ('None',)
 JOINED = ('or_else', 'and_also', 'but_not')
 
 
@@ -18,6 +20,11 @@ def unique(items):
 def parts(look):
     """The two looks that a joined look is made of."""
     return look[1:] if look[0] in JOINED else ()
+
+
+def group_terminals(delimiter):
+    """The terminals that a group with this delimiter may have."""
+    return [('Delimited', delimiter, empty) for empty in ([False, True] if delimiter == INVISIBLE else [False])]
 
 
 def mentions_fact(look):
@@ -57,7 +64,9 @@ class Lookaheads:
         if kind == 'at_literal':
             return terminal == ('Literal', look[1])
         if kind == 'at_group':
-            return terminal == ('Delimited', look[1])
+            return terminal[:2] == ('Delimited', look[1])
+        if kind == 'at_empty_group':
+            return terminal == ('Delimited', INVISIBLE, True)
         raise ValueError(f'unknown look {look}')
 
     def may(self, look, terminal):
@@ -109,6 +118,11 @@ class Lookaheads:
 
     def asked_inside(self, delimiter):
         return [(p[1], p[2]) for p in self.source.value('asked_inside', delimiter)]
+
+    def group_lookahead(self, delimiter, lookahead):
+        """The lookahead of a group whose content has this lookahead."""
+        empty = delimiter == INVISIBLE and lookahead[0] == ENDED
+        return ('Delimited', delimiter, empty), self.facts_for(self.asked_inside(delimiter), lookahead)
 
     def facts_for(self, asked, lookahead):
         return [n for look, n in asked if self.answers(look, lookahead)]

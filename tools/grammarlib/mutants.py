@@ -7,7 +7,7 @@ a name that may be a keyword; a group whose content isn't read to its end, or ma
 from collections import Counter
 from dataclasses import dataclass
 
-from .lookaheads import EMPTY, JOINED, NEVER, unique
+from .lookaheads import EMPTY, INVISIBLE, JOINED, NEVER, group_terminals, unique
 from .reader import Reader, Refused
 from .starts import LOOKS, Starts
 from .tokens import stream
@@ -200,7 +200,7 @@ class Mutants:
     def first(self, part):
         """What the part begins with stands next."""
         made = {'Name': lambda f: ('at_name',), 'Word': lambda f: ('at_word', f[1]), 'Punctuation': lambda f: ('at_mark', f[1]),
-                'Literal': lambda f: ('at_literal', f[1]), 'Delimited': lambda f: ('at_group', f[1])}
+                'Literal': lambda f: ('at_literal', f[1]), 'Delimited': lambda f: ('at_empty_group',) if f[2] else ('at_group', f[1])}
         return any_of([made[f[0]](f) for f in self.starts.first_set(part)] or [('ended',)])
 
     # CHOICES, GROUPS AND UNIONS
@@ -272,6 +272,8 @@ class Mutants:
             for other in DELIMITERS:
                 if (other,) != look[1]:
                     yield f'where {DELIMITERS[other]} stands too', either(look, ('at_group', (other,)))
+        if kind == 'at_empty_group':
+            yield 'where an invisible group with content stands too', ('at_group', INVISIBLE)
         if kind in ('at_word', 'at_mark', 'at_name'):
             yield 'where nothing stands too', either(look, ('ended',))
         if kind == 'at_word':
@@ -281,7 +283,7 @@ class Mutants:
         signs = list("~!@#$%^&*-=+|;:,<.>/?'") + self.lookaheads.long_marks
         kinds = ['Str', 'ByteStr', 'CStr', 'Byte', 'Char', 'Int', 'Float']
         return ([('Ended',), ('Name',)] + [('Word', w) for w in self.words] + [('Punctuation', s) for s in signs]
-                + [('Literal', (k,)) for k in kinds] + [('Delimited', (d,)) for d in list(DELIMITERS) + ['None']])
+                + [('Literal', (k,)) for k in kinds] + [f for d in list(DELIMITERS) + ['None'] for f in group_terminals((d,))])
 
     def is_idle(self, look, new, yes, other):
         """The two conditions differ only before what neither way reads."""

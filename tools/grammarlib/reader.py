@@ -38,8 +38,7 @@ class Reader:
             return ('Literal', (token.kind,)), []
         if isinstance(token, Punct):
             return lookaheads.punctuation_lookahead(token.character, token.joint, self.lookahead(here.rest))
-        delimiter = (token.delimiter,)
-        return ('Delimited', delimiter), lookaheads.facts_for(lookaheads.asked_inside(delimiter), self.lookahead(stream(token.content)))
+        return lookaheads.group_lookahead((token.delimiter,), self.lookahead(stream(token.content)))
 
     def sees(self, look, here):
         return self.lookaheads.answers(look, self.lookahead(here))

@@ -9,7 +9,7 @@ LITERALS = {'Int': ['0', '1', '01', '7u8'], 'Float': ['1.5'], 'Char': ["'c'"], '
 STRAY = (
     [Ident(x) for x in 'pub crate self Self super in struct union where const fn _ a r#in'.split()]
     + [Punct(c, joint) for c in ":,;=<>#!&'+-.?" for joint in (False, True)]
-    + [Literal('Int', '1')] + [Group(d, ()) for d in ('Paren', 'Brace', 'Bracket')])
+    + [Literal('Int', '1')] + [Group(d, ()) for d in ('Paren', 'Brace', 'Bracket', 'None')])
 LONGEST = 60
 
 

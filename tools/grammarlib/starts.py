@@ -2,9 +2,9 @@
 
 These are the functions of proofs/FirstSets.antt, proofs/Extend.antt and proofs/NeverFollow.antt, computed for all rules at once.
 """
-from .lookaheads import NAME, NEVER, mentions_fact, parts, unique
+from .lookaheads import NAME, NEVER, group_terminals, mentions_fact, parts, unique
 
-LOOKS = ('at_word', 'at_mark', 'ended', 'at_name', 'at_literal', 'at_group', 'ahead', 'or_else', 'and_also', 'but_not')
+LOOKS = ('at_word', 'at_mark', 'ended', 'at_name', 'at_literal', 'at_group', 'at_empty_group', 'ahead', 'or_else', 'and_also', 'but_not')
 
 
 def opt_generics(lookaheads, x, y):
@@ -81,7 +81,7 @@ class Starts:
         if kind == 'vanishing':
             return [f for f in self.first_set(form[3]) if lookaheads.may(form[2], f)]
         if kind in ('inside', 'raw'):
-            return [('Delimited', form[1])]
+            return group_terminals(form[1])
         if kind == 'either':
             return self.first_set(form[1]) + self.first_set(form[2])
         if kind == 'one_of':

@@ -10,7 +10,7 @@ shuns   looks that no lookahead behind the print may meet
 """
 from dataclasses import dataclass, field
 
-from .lookaheads import ENDED, mentions_fact, occurs, unique
+from .lookaheads import ENDED, INVISIBLE, group_terminals, mentions_fact, occurs, unique
 from .starts import opt_generics
 
 WILD = ('Word', '_')
@@ -103,7 +103,7 @@ class Summaries:
         return self.choice(form[1], self.summary(form[2], asked), self.summary(form[3], asked))
 
     def raw_summary(self, form, told):
-        return Summary([('Delimited', form[1])])
+        return Summary(group_terminals(form[1]))
 
     def either_summary(self, form, told):
         return self.summary(form[1], told).beside(self.summary(form[2], told))
@@ -184,9 +184,14 @@ class Summaries:
 
     def inside_summary(self, form, told):
         looks = [c for c, _ in self.lookaheads.asked_inside(form[1])]
-        terminal = ('Delimited', form[1])
-        steady = self.steady(looks, self.summary(form[2], bool(looks)))
-        return Summary([terminal]) if steady else Summary([], [(terminal, terminal, ())])
+        content, terminals = self.summary(form[2], bool(looks)), group_terminals(form[1])
+        if not self.steady(looks, content) or (form[1] == INVISIBLE and not self.lasts(content)):
+            return Summary([], [(a, b, ()) for a in terminals for b in terminals])
+        return Summary(terminals if content.nullable else terminals[:1])
+
+    def lasts(self, summary):
+        """Where the form reads something, it prints something."""
+        return not summary.gone and ENDED not in summary.prints() + [a for a, b, told in summary.moves]
 
     def steady(self, looks, summary):
         """The looks are answered alike of what the form reads and of what it prints."""

@@ -11,18 +11,23 @@ READ = re.compile(r"^impl Read for (\w+) \{\n    ghost form = \{ of \(rule rules
 FUNCTION = re.compile(r"^((?: *#\[[^\n]*\]\n)*)( *)(pub )?(?:pub\(\w+\) )?fn (\w+)(?:<[^(]*>)?(\(.*?(?:\{|\{\}|;))$", re.M | re.S)
 
 
+def by_hand(source):
+    """Each file of types that is written by hand, here and in the crate below, by its crate and its path there."""
+    return [(f"{it.crate.name}/{file.as_posix()}", text) for it in (source.below, source) if it for file, text in it.hand.items()]
+
+
 def readers(source, lists):
     """By each rule, the types that are read by it; or else the functions that promise it, the public ones if there are any; or
     else those whose proof opens its equation."""
     types, opened = {}, {}
-    functions = {rule: [(False, f"`{rule}` of `comma_lists.rt`")] for rule in lists}
-    for file, text in source.hand.items():
+    functions = {rule: [(False, f"`{rule}` of `{source.crate.name}/comma_lists.rt`")] for rule in lists}
+    for file, text in by_hand(source):
         for name, rule in READ.findall(text):
             types.setdefault(rule, []).append(f"`{name}`")
         for match in FUNCTION.finditer(text):
             attributes, indent, public, function, signature = match.groups()
             owner = re.findall(r"^impl(?: \w+ for)? (\w+) \{", text[: match.start()], re.M)[-1:] if indent else []
-            name = f"`{'::'.join(owner + [function])}` of `{file.as_posix()}`"
+            name = f"`{'::'.join(owner + [function])}` of `{file}`"
             for rule in dict.fromkeys(re.findall(r"rules\.(\w+)", signature)):
                 functions.setdefault(rule, []).append((bool(public), name))
             for rule in dict.fromkeys(re.findall(r"Each::(\w+)_is\b", attributes)):

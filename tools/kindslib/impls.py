@@ -2,7 +2,7 @@
 import re
 from dataclasses import dataclass
 
-from .source import ATTRIBUTES, DELIMITERS, Fault, wrapped
+from .source import ATTRIBUTES, DELIMITERS, LOWEST, Fault, wrapped
 from .views import syntax_of
 
 # the type by which what leads back to itself does so
@@ -127,6 +127,8 @@ def copied(source, t, field, kind, uses):
 
 
 def copy_struct(source, t, uses):
+    if not t.fields:
+        return f"        Ok({t.name} {{}})\n"
     lines = "".join(f"            {field}: {copied(source, t, field, kind, uses)},\n" for field, kind in t.fields)
     return f"        Ok({t.name} {{\n{lines}        }})\n"
 
@@ -192,7 +194,7 @@ def nested_copy_text(source, t, uses):
 def copy_block(source, t):
     if source.by_hand(f"impl TryClone for {t.name}"):
         return None
-    uses = [(f"crate::{source.path_of(t.name)}", t.name), ("std::alloc", "Global"), ("syn_tokens::syntactic::try_clone", "TryClone")]
+    uses = [(source.own_path_of(t.name), t.name), ("std::alloc", "Global"), ("syn_tokens::syntactic::try_clone", "TryClone")]
     if t.is_nested:
         uses.append(("syn_tokens", "error"))
         return {"text": nested_copy_text(source, t, uses), "uses": uses, "ghosts": []}
@@ -297,7 +299,7 @@ def compare_body(source, t, uses):
 def compared_text(source, t, uses):
     body = compare_body(source, t, uses)
     other = "other" if "other" in body else "_other"
-    tactic = "    #[tactic(auto, using(crate::proofs::Attributes::same_attributes))]\n" if t.has_attributes() else ""
+    tactic = f"    #[tactic(auto, using({source.root()}::proofs::Attributes::same_attributes))]\n" if t.has_attributes() else ""
     return f"""impl Compared for {t.name} {{
 {tactic}    fn is_same(&self, {other}: &{t.name}) -> bool {{
 {body}    }}
@@ -330,14 +332,14 @@ def nested_compared_text(source, t, uses):
 """
 
 
-def equality_text(name, syntax):
+def equality_text(source, name, syntax):
     return f"""/// Two are equal exactly where they are once every span is 0 to 0.
 impl PartialEq for {name} {{
     ghost eq = {{ same_by {syntax} }};
 
     ghost laws = {{ same_per {syntax} }};
 
-    #[tactic(auto, using(crate::proofs::Equality::equals))]
+    #[tactic(auto, using({source.root()}::proofs::Equality::equals))]
     fn eq(&self, other: &{name}) -> bool
         ensures same {{ IsSame {syntax} self.now other.now result }}
         ensures equal {{ IsEqual {syntax} self.now other.now result }}
@@ -357,11 +359,11 @@ def compare_block(source, t):
     syntax, module = syntax_of(source, t)
     odd = source.by_hand(f"impl Compared for {t.name}")
     ghosts = [(module, syntax)]
-    ghosts += [("syn_tree.specs.Equality", name) for name in ("IsSame", "IsEqual", "PrintsAlike")]
+    ghosts += [(f"{LOWEST}.specs.Equality", name) for name in ("IsSame", "IsEqual", "PrintsAlike")]
     ghosts += [("syn_tokens.specs.Comparison", name) for name in ("same_by", "same_equiv", "same_per")]
-    uses = [(f"crate::{source.path_of(t.name)}", t.name), ("syn_tokens::syntactic::compare", "Compared")]
+    uses = [(source.own_path_of(t.name), t.name), ("syn_tokens::syntactic::compare", "Compared")]
     compared = "" if odd else (nested_compared_text if t.is_nested else compared_text)(source, t, uses)
-    return {"text": compared + equality_text(t.name, syntax), "uses": uses, "ghosts": ghosts}
+    return {"text": compared + equality_text(source, t.name, syntax), "uses": uses, "ghosts": ghosts}
 
 
 def comparisons(source):
@@ -382,7 +384,7 @@ PRINTED = Calls(
 def print_step(source, t, field, kind, uses):
     """How one field is printed."""
     if kind == ATTRIBUTES:
-        uses.append(("crate::lower::attr", "print_outer"))
+        uses.append((f"{source.root()}::attr", "print_outer"))
         return f"print_outer(&self.{field}, out)"
     if nested := PRINTED.of(source, t, field, kind, uses):
         return nested
@@ -473,7 +475,7 @@ def nested_print_text(source, t, uses):
 
 
 def print_block(source, t):
-    uses = [(f"crate::{source.path_of(t.name)}", t.name), ("syn_tokens::print", "ToTokens")]
+    uses = [(source.own_path_of(t.name), t.name), ("syn_tokens::print", "ToTokens")]
     text = ""
     if not source.by_hand(f"impl Print for {t.name}"):
         uses += PRINT_USES

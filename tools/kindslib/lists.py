@@ -3,6 +3,7 @@ import re
 import textwrap
 
 from .impls import WRITTEN, import_lines
+from .source import LOWEST
 from .views import syntax_of
 
 RULE = re.compile(r"^--\n((?:-- [^\n]*\n)+)table (\w+) =\n((?:    [^\n]*\n)+)", re.M)
@@ -56,8 +57,8 @@ use Rattle.syn_grammar.specs.Rules.{{{name}, {element}}}
 use Rattle.syn_grammar.specs.Grammar.{{rule}}
 use Rattle.syn_parse.specs.Form.{{of}}
 use Rattle.{module}.{{{syntax}}}
-use Rattle.syn_tree.proofs.CommaLists.{{{name}_list}}
-use Rattle.syn_tree.proofs.comma_lists.{name}.Goals as goal
+use Rattle.{source.crate.name}.proofs.CommaLists.{{{name}_list}}
+use Rattle.{source.crate.name}.proofs.comma_lists.{name}.Goals as goal
 
 pub returns-clause-reads : goal.returns-clause-reads
 returns-clause-reads c = c.punctuated_list.ensures.reads {name} (of (rule {element})) {syntax} {name}_list (record {{ says = λ old new x h. search (rules, h) }})
@@ -102,7 +103,7 @@ def comma_lists(source, table):
         kind, call = known[element]
         syntax, module = syntax_of(source, source.types[kind])
         views.setdefault(module, []).append(syntax)
-        needs.append((f"crate::{source.path_of(kind)}", kind))
+        needs.append((source.own_path_of(kind), kind))
         if call == "next.read()":
             needs.append(("syn_parse::read", "Read"))
     for path, name in needs:
@@ -114,7 +115,7 @@ def comma_lists(source, table):
 //!
 //! The rules of the grammar that are comma lists to the end of a group.
 ghost use Rattle.syn_grammar.specs.Rules as rules;
-ghost use Rattle.syn_tree.specs.Parsing.{{parse_rule, Computes, Kept, IsSyntax, list_of}};
+ghost use Rattle.{LOWEST}.specs.Parsing.{{parse_rule, Computes, Kept, IsSyntax, list_of}};
 ghost use Rattle.syn_tokens.specs.Kinds.{{comma_syntax}};
 {heads}
 {imports}{functions}"""}

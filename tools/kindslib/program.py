@@ -1,18 +1,24 @@
 """The kinds that have canonical prints, and the program's list of them."""
 from .impls import WRITTEN, import_lines
-from .source import camel
+from .source import LOWEST_MODULE, camel
 
 
-def imports(source, crate, own, kinds, others):
-    """What the kinds' types and these others are imported by. A type that is no tree is a wrapper, in the module `canon` of
-    the crate that is called `own`."""
+def imports(source, named, own, kinds, others):
+    """What the kinds' types and these others are imported by: by the crates of the trees, or as the crate `syn` has `named` them. A
+    type that is no tree is a wrapper, in the module `canon` of the crate that is called `own`."""
     uses = {}
     for _, name, _ in kinds:
-        path = f"{crate}::{source.path_of(name)}" if name in source.types else f"{own}::canon"
+        path = named(source.path_of(name)) if name in source.types else f"{own}::canon"
         uses.setdefault(path, []).append(name)
     for path, name in others:
         uses.setdefault(path, []).append(name)
     return import_lines(uses)
+
+
+def by_syn(path):
+    """What the crate `syn` calls a module of the crates of trees."""
+    crate, *modules = path.split("::")
+    return "::".join(["syn", *(modules or [LOWEST_MODULE])])
 
 
 def canonical(source, kinds):
@@ -29,7 +35,7 @@ impl Canonical for {name} {{
 ghost use Rattle.std.specs.Prelude.{{refl}};
 ghost use Rattle.syn_grammar.specs.Rules as rules;
 
-{imports(source, "syn_tree", "crate", kinds, [("crate::lawful", "Canonical")])}{blocks}"""
+{imports(source, str, "crate", kinds, [("crate::lawful", "Canonical")])}{blocks}"""
 
 
 def kind_enum(kinds):
@@ -71,7 +77,7 @@ ghost use Rattle.syn_grammar.specs.Tokens.{{visible}};
 ghost use Rattle.syn_canon.specs.Kinds.{{rule_of}};
 ghost use Rattle.syn_canon.specs.Answers.{{IsPrinted, IsDerived, IsUnderived}};
 
-{imports(source, "syn", "syn", kinds, [("crate::answer", "check"), ("crate::answer", "print"), ("crate::failure", "Failure"), ("crate::kind", "Kind"), ("syn::token", "TokenStream")])}
+{imports(source, by_syn, "syn", kinds, [("crate::answer", "check"), ("crate::answer", "print"), ("crate::failure", "Failure"), ("crate::kind", "Kind"), ("syn::token", "TokenStream")])}
 /// What `print` writes of the tokens.
 pub(crate) fn print_as(kind: Kind, tokens: TokenStream) -> Result<String, Failure>
     requires {{ visible tokens ≡ true }}

@@ -1,4 +1,4 @@
-"""Reads the structs and enums of crates/syn_tree, as far as they are laid out there: one field or variant a line."""
+"""Reads the structs and enums of the crates of trees, as far as they are laid out there: one field or variant a line."""
 import re
 
 FIRST_LINE = "Written by tools/kinds.py from here to the end; edits are lost."
@@ -10,8 +10,8 @@ VARIANT = re.compile(r"^    (\w+)(?:\((.*)\))?,$", re.M)
 USE = re.compile(r"^use (\w+)::([\w:]+)::(?:\{([^}]*)\}|(\w+));$", re.M)
 DELIMITERS = {"Paren", "Brace", "Bracket", "Group"}
 ATTRIBUTES = "Vec<Attribute>"
-# what stands for no syntax, though it is a public struct with fields
-NO_SYNTAX = {"Index"}
+# what is no syntax of the crate, and is copied by itself
+PLAIN = {"Span", "u32", "usize"}
 
 
 class Fault(Exception):
@@ -21,7 +21,8 @@ class Fault(Exception):
 class Type:
     """A struct or an enum, with its fields or variants in order."""
 
-    def __init__(self, kind, name, body, attributes, file):
+    def __init__(self, kind, name, body, attributes, file, crate):
+        self.crate = crate
         self.is_enum = kind == "enum"
         self.name = name
         self.file = file
@@ -44,13 +45,18 @@ class Type:
         return not self.fields and not self.is_enum or [payload for _, payload in self.variants] == [""]
 
 
-class Source:
-    """The types of the crate, what is written by hand for them, and where."""
+# the crate of the trees that all others are made of, and the module in which the crate `syn` has them
+LOWEST, LOWEST_MODULE = "syn_lower", "lower"
 
-    def __init__(self, crate):
+
+class Source:
+    """The types of a crate, what is written by hand for them, and where; and those of the crate below, of which they are made."""
+
+    def __init__(self, crate, below=None):
         self.crate = crate
+        self.below = below
         self.hand = {}
-        self.types = {}
+        self.types = dict(below.types) if below else {}
         self.tokens = {}
         for path in sorted((crate / "src").rglob("*.rt")):
             relative = path.relative_to(crate / "src")
@@ -59,7 +65,7 @@ class Source:
                 continue
             self.hand[relative] = text
             for attributes, kind, name, body in TYPE.findall(text):
-                self.types[name] = Type(kind, name, body, attributes, relative)
+                self.types[name] = Type(kind, name, body, attributes, relative, crate.name)
             self.tokens[relative] = imported(text)
         self.specs = {path.stem: path.read_text() for path in sorted((crate / "specs").rglob("*.antt"))}
         self.specs = {name: text for name, text in self.specs.items() if not text.startswith("-- Written by tools/kinds.py")}
@@ -76,13 +82,28 @@ class Source:
         return None
 
     def printed(self):
-        """The types that stand for syntax: all that have values, but for structs without fields, which only hold a place, and those
-        that are named above."""
-        return [t for t in self.types.values() if not t.has_no_values() and (t.is_enum or t.fields) and t.name not in NO_SYNTAX]
+        """The crate's types that stand for syntax: all that have values, but for structs without fields that have no
+        `syntax_of_X`."""
+        own = [t for t in self.types.values() if t.crate == self.crate.name]
+        return [t for t in own if not t.has_no_values() and (t.is_enum or t.fields or self.spec_of(f"syntax_of_{t.name}"))]
+
+    def owner(self, t):
+        """The source of the crate in which a type stands."""
+        return self if t.crate == self.crate.name else self.below
+
+    def root(self):
+        """How this crate calls the lowest one."""
+        return "crate" if self.crate.name == LOWEST else LOWEST
 
     def path_of(self, name):
-        """The module through which the crate names a type: the top one of its file, which passes it on."""
-        return self.types[name].file.parts[0].removesuffix(".rt")
+        """The crate that names a type, and the module through which it does: the top one of its file, which passes it on, or none
+        in the lowest crate."""
+        t = self.types[name]
+        return t.crate if t.crate == LOWEST else f"{t.crate}::{t.file.parts[0].removesuffix('.rt')}"
+
+    def own_path_of(self, name):
+        """The same, as this crate calls it."""
+        return re.sub(rf"^{self.crate.name}\b", "crate", self.path_of(name))
 
     def is_nested(self, kind):
         """Whether it is a type that leads back to itself."""
@@ -111,7 +132,7 @@ class Source:
     def is_plain_copy(self, owner, kind):
         """Whether a field is copied by itself."""
         inner = re.fullmatch(r"Option<(\w+)>", kind)
-        return kind == "usize" or self.is_token(owner, kind) or self.holds_place(kind) or bool(inner and self.is_token(owner, inner[1]))
+        return kind in PLAIN or self.is_token(owner, kind) or self.holds_place(kind) or bool(inner and self.is_token(owner, inner[1]))
 
     def files(self):
         """The types that stand for syntax, by the file in which they stand."""

@@ -1,7 +1,7 @@
 """Models and views: what syntax each struct stands for."""
 import re
 
-from .source import ATTRIBUTES, DELIMITERS, MARK, Fault, snake
+from .source import ATTRIBUTES, DELIMITERS, LOWEST, MARK, Fault, snake
 
 SYNTAXES = {"Ident": "syntax_of_ident", "Literal": "syntax_of_literal"}
 
@@ -27,7 +27,7 @@ impl std::marker::Model for {t.name} {{
 
     ghost coded = {{ syntax_code }};
 
-    ghost use Rattle.syn_tree.specs.{file}.{{view_{t.name}}};
+    ghost use Rattle.{t.crate}.specs.{file}.{{view_{t.name}}};
 
     ghost view = {{ view_{t.name} }};
 {size(t) if t.is_nested else ""}}}
@@ -37,11 +37,11 @@ impl std::marker::Model for {t.name} {{
 def size(t):
     """Of a struct that leads back to itself: more than that of each of its parts."""
     return f"""
-    ghost use Rattle.syn_tree.specs.Sizes.{{tree_size}};
+    ghost use Rattle.{t.crate}.specs.Sizes.{{tree_size}};
 
     ghost size = {{ tree_size }};
 
-    ghost use Rattle.syn_tree.specs.Falls.{{falls_{t.name}}};
+    ghost use Rattle.{t.crate}.specs.Falls.{{falls_{t.name}}};
 
     ghost size_decreases = {{ λ a h. falls_{t.name} a }};
 """
@@ -50,12 +50,13 @@ def size(t):
 def syntax_of(source, t):
     """What the clauses of this type call its syntax, and the module of specifications that it is from."""
     name = f"syntax_of_{t.name}"
+    source = source.owner(t)
     file = source.spec_of(name)
     if file is None and has_model(source, t):
         return "itself", "syn_grammar.specs.Promises"
     if file is None:
         raise Fault(f"{t.file}: {t.name} wants a {name} in specs/")
-    return name, f"syn_tree.specs.{file}"
+    return name, f"{t.crate}.specs.{file}"
 
 
 def syntactic(source, t):
@@ -105,7 +106,7 @@ class PlainView:
     def of_field(self, t, field, kind):
         place = f"a.{field}"
         if kind == ATTRIBUTES:
-            return f"{self.take('syn_tree.specs.Attributes', 'attributes_syntax')} {place}.items"
+            return f"{self.take(f'{LOWEST}.specs.Attributes', 'attributes_syntax')} {place}.items"
         outer = re.fullmatch(r"(Option|Box|Punctuated)<(.*)>", kind)
         if outer and outer[1] == "Box":
             function, place = self.function(t, outer[2]), f"{place}.value"
@@ -126,7 +127,7 @@ class PlainView:
         if kind in DELIMITERS and self.source.is_token(t, kind):
             if not others:
                 raise Fault(f"{t.file}: nothing stands in the group of {t.name}, so write view_{t.name} in specs/ by hand")
-            group = self.take("syn_tree.specs.Parts", "group_syntax")
+            group = self.take(f"{LOWEST}.specs.Parts", "group_syntax")
             return f"{group} {self.take('syn_grammar.specs.Tokens', kind)} a.{field} {atom(self.of_fields(t, others))}"
         syntax = self.of_field(t, field, kind)
         if not others:
@@ -156,6 +157,6 @@ def plain_views(source, joined):
     types = [t for t in source.printed() if is_plain(source, t)]
     body = "".join(view.text(t) for t in types)
     uses = "".join(f"use Rattle.{module}.{{{', '.join(sorted(names))}}}\n" for module, names in sorted(imports.items()))
-    insides = "".join(f"use Rattle.syn_tree.specs.declared.{declared(t)}.TheInside as {t.name}-in\n" for t in types)
+    insides = "".join(f"use Rattle.{t.crate}.specs.declared.{declared(t)}.TheInside as {t.name}-in\n" for t in types)
     head = "-- Written by tools/kinds.py; edits are lost.\n-- THE VIEWS OF STRUCTS THAT ARE THEIR RULE'S PARTS IN ORDER.\n"
     return {source.crate / "specs/Plain.antt": head + uses + insides + body}

@@ -1,85 +1,156 @@
 //! The kinds of trees, by their words.
 
 use crate::answer::answer;
+use crate::call::{
+    Converted, InnerAttributes, ModStyle, NamedField, Opened, OuterAttributes, UnnamedField,
+};
+use crate::called::called;
 use crate::failure::Failure;
-use crate::question::Heading;
+use crate::fields::fields_as;
+use crate::form::form_as;
+use crate::parts::parts_as;
+use crate::question::{Heading, Question, TreeQuestion};
+use crate::row::Row;
 use std::alloc::Global;
-use syn::canon::{NamedField, UnnamedField};
-use syn::data::{FieldsNamed, FieldsUnnamed, Variant};
+use syn::data::{Fields, FieldsNamed, FieldsUnnamed, Variant};
 use syn::deferred::Deferred;
 use syn::derive::DeriveInput;
-use syn::item::{ItemEnum, ItemStruct, ItemUnion};
+use syn::item::{Item, ItemEnum, ItemStruct, ItemUnion};
 use syn::kind;
 use syn::lower::{
     BoundLifetimes, Expr, GenericParam, Generics, LifetimeParam, Lit, Path, ReturnType, TraitBound,
-    TraitBoundModifier, Type, TypeParamBound, WhereClause, WherePredicate,
+    TraitBoundModifier, Type, TypeParamBound, TypePath, WhereClause, WherePredicate,
 };
 use syn::restriction::Visibility;
 use syn_test_support::visibilities::Visibilities;
 
-/// What comes of the text as the kind of this word, which stands in the heading: items, and what is in them; else what
-/// `of_types` says.
+/// What comes of the row as the kind of this word, which stands in the heading.
 pub(crate) fn answer_as(
     alloc: Global,
     heading: &Heading<'_>,
     word: &str,
-    text: &str,
+    row: &Row<'_>,
 ) -> Result<String, Failure> {
-    let question = heading.question;
+    match heading.question {
+        Question::OfTree(question) => of_items(alloc, question, heading, word, row),
+        Question::OfForm(question) => form_as(alloc, question, heading, word, row),
+        Question::Parts => parts_as(alloc, heading, word, row.text),
+        Question::Fields => fields_as(alloc, heading, word, row.text),
+    }
+}
+
+/// Items, and what is in them; else what `of_types` says.
+fn of_items(
+    alloc: Global,
+    question: TreeQuestion,
+    heading: &Heading<'_>,
+    word: &str,
+    row: &Row<'_>,
+) -> Result<String, Failure> {
     match word {
-        "DeriveInput" => answer::<DeriveInput>(alloc, question, text),
-        "ItemStruct" => answer::<ItemStruct>(alloc, question, text),
-        "ItemEnum" => answer::<ItemEnum>(alloc, question, text),
-        "ItemUnion" => answer::<ItemUnion>(alloc, question, text),
-        "Variant" => answer::<Variant>(alloc, question, text),
-        "FieldsNamed" => answer::<FieldsNamed>(alloc, question, text),
-        "FieldsUnnamed" => answer::<FieldsUnnamed>(alloc, question, text),
-        "NamedField" => answer::<NamedField>(alloc, question, text),
-        "UnnamedField" => answer::<UnnamedField>(alloc, question, text),
-        "Visibility" => answer::<Visibility>(alloc, question, text),
-        _ => of_types(alloc, heading, word, text),
+        "DeriveInput" => answer::<DeriveInput>(alloc, question, row),
+        "ItemStruct" => answer::<ItemStruct>(alloc, question, row),
+        "ItemEnum" => answer::<ItemEnum>(alloc, question, row),
+        "ItemUnion" => answer::<ItemUnion>(alloc, question, row),
+        "Variant" => answer::<Variant>(alloc, question, row),
+        "FieldsNamed" => answer::<FieldsNamed>(alloc, question, row),
+        "FieldsUnnamed" => answer::<FieldsUnnamed>(alloc, question, row),
+        "Visibility" => answer::<Visibility>(alloc, question, row),
+        _ => of_types(alloc, question, heading, word, row),
     }
 }
 
 /// Types, paths and values; else what `of_generics` says.
 fn of_types(
     alloc: Global,
+    question: TreeQuestion,
     heading: &Heading<'_>,
     word: &str,
-    text: &str,
+    row: &Row<'_>,
 ) -> Result<String, Failure> {
-    let question = heading.question;
     match word {
-        "Type" => answer::<Type>(alloc, question, text),
-        "Path" => answer::<Path>(alloc, question, text),
-        "ReturnType" => answer::<ReturnType>(alloc, question, text),
-        "Lit" => answer::<Lit>(alloc, question, text),
-        "Expr" => answer::<Expr>(alloc, question, text),
-        "Deferred<Expr>" => answer::<Deferred<kind::Expr>>(alloc, question, text),
-        "Deferred<Visibilities>" => answer::<Deferred<Visibilities>>(alloc, question, text),
-        _ => of_generics(alloc, heading, word, text),
+        "Type" => answer::<Type>(alloc, question, row),
+        "TypePath" => answer::<TypePath>(alloc, question, row),
+        "Path" => answer::<Path>(alloc, question, row),
+        "ReturnType" => answer::<ReturnType>(alloc, question, row),
+        "Lit" => answer::<Lit>(alloc, question, row),
+        "Expr" => answer::<Expr>(alloc, question, row),
+        "Deferred<Expr>" => answer::<Deferred<kind::Expr>>(alloc, question, row),
+        "Deferred<Visibilities>" => answer::<Deferred<Visibilities>>(alloc, question, row),
+        _ => of_generics(alloc, question, heading, word, row),
     }
 }
 
-/// Generics and their parts.
+/// Generics and their parts; else what `of_calls` says.
 fn of_generics(
     alloc: Global,
+    question: TreeQuestion,
     heading: &Heading<'_>,
     word: &str,
-    text: &str,
+    row: &Row<'_>,
 ) -> Result<String, Failure> {
-    let question = heading.question;
     match word {
-        "Generics" => answer::<Generics>(alloc, question, text),
-        "GenericParam" => answer::<GenericParam>(alloc, question, text),
-        "LifetimeParam" => answer::<LifetimeParam>(alloc, question, text),
-        "TypeParamBound" => answer::<TypeParamBound>(alloc, question, text),
-        "TraitBound" => answer::<TraitBound>(alloc, question, text),
-        "TraitBoundModifier" => answer::<TraitBoundModifier>(alloc, question, text),
-        "BoundLifetimes" => answer::<BoundLifetimes>(alloc, question, text),
-        "WhereClause" => answer::<WhereClause>(alloc, question, text),
-        "Option<WhereClause>" => answer::<Option<WhereClause>>(alloc, question, text),
-        "WherePredicate" => answer::<WherePredicate>(alloc, question, text),
+        "Generics" => answer::<Generics>(alloc, question, row),
+        "GenericParam" => answer::<GenericParam>(alloc, question, row),
+        "LifetimeParam" => answer::<LifetimeParam>(alloc, question, row),
+        "TypeParamBound" => answer::<TypeParamBound>(alloc, question, row),
+        "TraitBound" => answer::<TraitBound>(alloc, question, row),
+        "TraitBoundModifier" => answer::<TraitBoundModifier>(alloc, question, row),
+        "BoundLifetimes" => answer::<BoundLifetimes>(alloc, question, row),
+        "WhereClause" => answer::<WhereClause>(alloc, question, row),
+        "Option<WhereClause>" => answer::<Option<WhereClause>>(alloc, question, row),
+        "WherePredicate" => answer::<WherePredicate>(alloc, question, row),
+        _ => of_calls(alloc, question, heading, word, row),
+    }
+}
+
+/// Calls that read a tree; else what `of_conversions` says.
+fn of_calls(
+    alloc: Global,
+    question: TreeQuestion,
+    heading: &Heading<'_>,
+    word: &str,
+    row: &Row<'_>,
+) -> Result<String, Failure> {
+    match word {
+        "Field::parse_named" => called::<NamedField>(alloc, question, row),
+        "Field::parse_unnamed" => called::<UnnamedField>(alloc, question, row),
+        "Path::parse_mod_style" => called::<ModStyle>(alloc, question, row),
+        "Attribute::parse_outer" => called::<OuterAttributes>(alloc, question, row),
+        "Attribute::parse_inner" => called::<InnerAttributes>(alloc, question, row),
+        "Deferred::open" => called::<Opened>(alloc, question, row),
+        _ => of_conversions(alloc, question, heading, word, row),
+    }
+}
+
+/// Trees that are made of others.
+fn of_conversions(
+    alloc: Global,
+    question: TreeQuestion,
+    heading: &Heading<'_>,
+    word: &str,
+    row: &Row<'_>,
+) -> Result<String, Failure> {
+    match word {
+        "Item::from(DeriveInput)" => called::<Converted<DeriveInput, Item>>(alloc, question, row),
+        "Item::from(ItemStruct)" => called::<Converted<ItemStruct, Item>>(alloc, question, row),
+        "Item::from(ItemEnum)" => called::<Converted<ItemEnum, Item>>(alloc, question, row),
+        "Item::from(ItemUnion)" => called::<Converted<ItemUnion, Item>>(alloc, question, row),
+        "DeriveInput::from(ItemStruct)" => {
+            called::<Converted<ItemStruct, DeriveInput>>(alloc, question, row)
+        }
+        "DeriveInput::from(ItemEnum)" => {
+            called::<Converted<ItemEnum, DeriveInput>>(alloc, question, row)
+        }
+        "DeriveInput::from(ItemUnion)" => {
+            called::<Converted<ItemUnion, DeriveInput>>(alloc, question, row)
+        }
+        "Fields::from(FieldsNamed)" => called::<Converted<FieldsNamed, Fields>>(
+            alloc, question, row,
+        ),
+        "Fields::from(FieldsUnnamed)" => {
+            called::<Converted<FieldsUnnamed, Fields>>(alloc, question, row)
+        }
         _ => Err(Failure::Malformed(heading.line, "no such kind")),
     }
 }

@@ -3,7 +3,8 @@
 use crate::escapes::text_of;
 use crate::failure::Failure;
 use crate::kinds::answer_as;
-use crate::question::{Heading, Question};
+use crate::question::{FormQuestion, Heading, Question, TreeQuestion};
+use crate::row::Row;
 use std::alloc::{AllocError, Global};
 use std::fmt::Write as _;
 
@@ -15,14 +16,6 @@ const NO_SECOND: &str = "no line of what this text should be";
 struct Count {
     rows: usize,
     wrong: usize,
-}
-
-/// A row: the number of its first line, its text, and what that should be, as its lines write them or as they stand for them.
-#[derive(Clone, Copy)]
-struct Row<'a> {
-    line: usize,
-    text: &'a str,
-    want: &'a str,
 }
 
 /// Where in the sections the next line stands.
@@ -119,33 +112,69 @@ fn check_as(
     count: &mut Count,
     said: &mut String,
 ) -> Result<(), Failure> {
-    let found = answer_as(alloc, heading, kind, row.text)?;
+    let found = answer_as(alloc, heading, kind, row)?;
     count.rows = count.rows.saturating_add(1);
-    if !is_right(heading.question, found.as_str(), row.want) {
+    if !is_right(heading, found.as_str(), row.want) {
         count.wrong = count.wrong.saturating_add(1);
-        tell(said, kind, row, found.as_str())?;
+        tell(said, kind, row, heading.verdict)?;
+        tell_answers(said, found.as_str(), heading.verdict.unwrap_or(row.want))?;
     }
     Ok(())
 }
 
-/// Whether what was found is what it should be. Where a text is refused, that may be the byte alone.
-fn is_right(question: Question, found: &str, want: &str) -> bool {
+/// Whether what was found is what it should be.
+fn is_right(heading: &Heading<'_>, found: &str, want: &str) -> bool {
+    match heading.verdict {
+        Some(verdict) => found == verdict,
+        None if asks_for_fault(heading.question) => is_fault(found, want),
+        None => found == want,
+    }
+}
+
+fn asks_for_fault(question: Question) -> bool {
+    matches!(
+        question,
+        Question::OfTree(TreeQuestion::Refused) | Question::OfForm(FormQuestion::Refused)
+    )
+}
+
+/// Whether that is the fault. Of it a row may say the first byte alone, or this and the words.
+fn is_fault(found: &str, want: &str) -> bool {
     if found == want {
         return true;
     }
-    match (question, found.split_once(": ")) {
-        (Question::Refused, Some((place, _words))) => place == want,
+    match (found.split_once(".."), found.split_once(": ")) {
+        (Some((start, _)), Some((_, words))) => is_start(start, words, want),
         _ => false,
     }
 }
 
-/// Adds a line on a row that is wrong.
-fn tell(said: &mut String, kind: &str, row: &Row<'_>, found: &str) -> Result<(), AllocError> {
+/// Whether that is what a fault with these words begins with.
+fn is_start(start: &str, words: &str, want: &str) -> bool {
+    match want.split_once(": ") {
+        Some((want_start, want_words)) => want_start == start && want_words == words,
+        None => want == start,
+    }
+}
+
+/// Adds what says which row is wrong: its text, or its two texts.
+fn tell(
+    said: &mut String,
+    kind: &str,
+    row: &Row<'_>,
+    verdict: Option<&str>,
+) -> Result<(), AllocError> {
     let Row { line, text, want } = *row;
-    writeln!(
-        said,
-        "line {line}, {kind}, {text:?}: {found:?}, not {want:?}"
-    )
+    write!(said, "line {line}, {kind}, {text:?}")?;
+    if verdict.is_some() {
+        write!(said, " and {want:?}")?;
+    }
+    Ok(())
+}
+
+/// Adds what was found, and what it should be.
+fn tell_answers(said: &mut String, found: &str, want: &str) -> Result<(), AllocError> {
+    writeln!(said, ": {found:?}, not {want:?}")
 }
 
 /// The place behind the line of this number.

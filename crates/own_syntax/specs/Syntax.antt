@@ -6,8 +6,8 @@ use Rattle.syn_tokens.specs.Kinds.{colon_syntax, comma_syntax, if_syntax, Bracke
 use Rattle.syn_tokens.specs.Leaves.{maybe, syntax_of_ident, syntax_of_literal, syntax_of_mark, syntax_of_word}
 use Rattle.syn_tokens.specs.Listing.{list_of}
 use Rattle.syn_tokens.specs.Lists.{Sequence}
-use Rattle.syn_tree.specs.Parts.{group_syntax}
-use Rattle.syn_tree.specs.Types.{syntax_of_Type}
+use Rattle.syn_lower.specs.Parts.{group_syntax}
+use Rattle.syn_lower.specs.Types.{syntax_of_Type}
 use Rattle.own_syntax.specs.declared.route.RoutePath.{RoutePath}
 use Rattle.own_syntax.specs.declared.route.Parameter.{Parameter}
 use Rattle.own_syntax.specs.declared.route.Guard.{Guard}

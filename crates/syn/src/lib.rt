@@ -5,6 +5,15 @@ pub mod canon;
 mod kinds;
 mod lawful;
 
+pub use syn_lower::{
+    AngleBracketedGenericArguments, AssocType, AttrStyle, Attribute, BoundLifetimes, ConstParam,
+    Expr, ExprLit, GenericArgument, GenericParam, Generics, LifetimeParam, Lit, LitBool, LitByte,
+    LitByteStr, LitCStr, LitChar, LitFloat, LitInt, LitStr, LitToken, LiteralKind, MacroDelimiter,
+    Meta, MetaList, MetaNameValue, ParenthesizedGenericArguments, Path, PathArguments, PathSegment,
+    PredicateLifetime, PredicateType, QSelf, ReturnType, TraitBound, TraitBoundModifier, Type,
+    TypeArray, TypeGroup, TypeNever, TypeParam, TypeParamBound, TypeParen, TypePath, TypePtr,
+    TypeReference, TypeSlice, TypeTuple, WhereClause, WherePredicate, kind,
+};
 pub use syn_parse::deferred;
 pub use syn_parse::parse::parse2;
 pub use syn_reader::reader;
@@ -25,18 +34,9 @@ pub use syn_tree::item::{
     ConstModifiers, FnModifiers, ImplModifiers, Item, ItemEnum, ItemStruct, ItemUnion,
     TraitModifiers, TypeModifiers,
 };
-pub use syn_tree::lower::{
-    AngleBracketedGenericArguments, AssocType, AttrStyle, Attribute, BoundLifetimes, ConstParam,
-    Expr, ExprLit, GenericArgument, GenericParam, Generics, LifetimeParam, Lit, LitBool, LitByte,
-    LitByteStr, LitCStr, LitChar, LitFloat, LitInt, LitStr, LitToken, LiteralKind, MacroDelimiter,
-    Meta, MetaList, MetaNameValue, ParenthesizedGenericArguments, Path, PathArguments, PathSegment,
-    PredicateLifetime, PredicateType, QSelf, ReturnType, TraitBound, TraitBoundModifier, Type,
-    TypeArray, TypeGroup, TypeNever, TypeParam, TypeParamBound, TypeParen, TypePath, TypePtr,
-    TypeReference, TypeSlice, TypeTuple, WhereClause, WherePredicate,
-};
 pub use syn_tree::restriction::{VisRestricted, Visibility};
 pub use syn_tree::stmt::LocalModifiers;
-pub use syn_tree::{data, derive, item, kind, lower, restriction, stmt};
+pub use syn_tree::{data, derive, item, restriction, stmt};
 
 /// Buffers of tokens, and what is parsed from them.
 pub mod parse {
@@ -55,9 +55,23 @@ pub mod punctuated {
     pub use syn_tokens::punctuated::iterators::{IntoIter, Iter, IterMut};
 }
 
+/// What the trees of items are made of: attributes, paths, types, generics and literals.
+pub mod lower {
+    pub use syn_lower::{
+        AngleBracketedGenericArguments, AssocType, AttrStyle, Attribute, BoundLifetimes,
+        ConstParam, Expr, ExprLit, GenericArgument, GenericParam, Generics, LifetimeParam, Lit,
+        LitBool, LitByte, LitByteStr, LitCStr, LitChar, LitFloat, LitInt, LitStr, LitToken,
+        LiteralKind, MacroDelimiter, Meta, MetaList, MetaNameValue, ParenthesizedGenericArguments,
+        Path, PathArguments, PathSegment, PredicateLifetime, PredicateType, QSelf, ReturnType,
+        TraitBound, TraitBoundModifier, Type, TypeArray, TypeGroup, TypeNever, TypeParam,
+        TypeParamBound, TypeParen, TypePath, TypePtr, TypeReference, TypeSlice, TypeTuple,
+        WhereClause, WherePredicate,
+    };
+}
+
 /// Expressions: of today a literal, `true` or `false`.
 pub mod expr {
-    pub use syn_tree::lower::{Expr, ExprLit};
+    pub use syn_lower::{Expr, ExprLit};
 }
 
 /// Places in token streams, from which their trees are read.

@@ -1,7 +1,7 @@
 -- What was read in front of a rest is read alone; and equal tokens, spans aside, are read as equal values, spans aside.
 use Rattle.std.proofs.Common.{◌≡◌, ℕ, zero, suc, Bool, true, false, List, [], ◌∷◌, Some, refl, sym, ap, ap₂, ◌∙◌, subst, true≢false, ◌⊎◌, inl, inr}
 use Rattle.syn_grammar.specs.Words.{w_true, w_false}
-use Rattle.syn_grammar.specs.Tokens.{Stream, end, leaf, group, ◌⧺◌, or, and, no, Lookahead, Look, ended, at_name, at_word, at_mark, at_literal, at_group, ahead, ◌or_else◌, ◌and_also◌, ◌but_not◌, lookahead, answers, is_ended, is_name, is_word, starts_mark, is_literal, is_group}
+use Rattle.syn_grammar.specs.Tokens.{Stream, end, leaf, group, ◌⧺◌, or, and, no, Lookahead, Look, ended, at_name, at_word, at_mark, at_literal, at_group, at_empty_group, ahead, ◌or_else◌, ◌and_also◌, ◌but_not◌, lookahead, answers, is_ended, is_name, is_word, starts_mark, is_literal, is_group, is_empty_group}
 use Rattle.syn_grammar.specs.Rules.{Rule}
 use Rattle.syn_grammar.specs.RuleNumbers.{place, same_rule, rules, at_place, back}
 use Rattle.syn_grammar.specs.Grammar.{Syntax, Nothing, Token, Mark, Both, Left, Right, Node, Group, Raw, Case, Such, Shaped, Unshown, word, any_literal, Grammar, DerivesPrefix, empty, token, mark, ◌&◌, when◌then◌else◌, inside, raw, either, one_of, rule, such, shaped, unshown, among, plain_syntax}
@@ -97,6 +97,7 @@ by_terminal (at_word x) a b w e = ap (is_word x) e
 by_terminal (at_mark x) a b w e = ap (starts_mark x) e
 by_terminal (at_literal k) a b w e = ap (is_literal k) e
 by_terminal (at_group d) a b w e = ap (is_group d) e
+by_terminal at_empty_group a b w e = ap is_empty_group e
 by_terminal (ahead n) a b w e = absurd (true≢false w)
 by_terminal (c or_else d) a b w e = ap₂ or (by_terminal c a b (neither_left (asks_fact c) _ w) e) (by_terminal d a b (neither_right (asks_fact c) _ w) e)
 by_terminal (c and_also d) a b w e = ap₂ and (by_terminal c a b (neither_left (asks_fact c) _ w) e) (by_terminal d a b (neither_right (asks_fact c) _ w) e)

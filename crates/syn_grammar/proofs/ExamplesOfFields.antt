@@ -2,7 +2,7 @@
 -- Worked examples of fields and variants, from tools/examples.txt: what each rule reads, prints and refuses. The checker computes each.
 use Rattle.std.proofs.Common.{true, false, [], ◌∷◌, refl}
 use Rattle.syn_grammar.specs.Words.{w_underscore, w_crate, w_false, w_fn, w_in, w_pub, w_Self_type, w_self, w_struct, w_super, w_true, w_union, w_auto, w_default, w_safe}
-use Rattle.syn_grammar.specs.Tokens.{call_site, Paren, Brace, Bracket, Int, ident, literal, end, leaf, punct, group}
+use Rattle.syn_grammar.specs.Tokens.{call_site, Paren, Brace, Bracket, None, Int, ident, literal, end, leaf, punct, group}
 use Rattle.syn_grammar.specs.Rules.{fields_named, named_fields, named_field, nameless_fields, unnamed_field, unnamed_fields, fields_unnamed, variant, variants}
 use Rattle.syn_grammar.specs.Grammar.{rule}
 use Rattle.syn_grammar.specs.Take.{left, is_end, lookahead_at, sees, take_token, take_lifetime, take_mark, take_group, before}
@@ -409,6 +409,46 @@ named_leaves_second_type : DerivesAs named_field
 unfolding left is_end lookahead_at sees take_token take_lifetime take_mark take_group before rows_for rows run parse_rule
 named_leaves_second_type = computed named_field _ _ _ refl
 
+-- `\(\) a: b` prints `a : b`
+named_invisible : DerivesAs named_field
+    (group None (at 0 2) (at 2 4) end (leaf (ident (97 ∷ [])) (at 5 6) (punct 58 false (at 6 7) (leaf (ident (98 ∷ [])) (at 8 9) end))))
+    (leaf (ident (97 ∷ [])) call_site (punct 58 false call_site (leaf (ident (98 ∷ [])) call_site end)))
+    (end)
+unfolding left is_end lookahead_at sees take_token take_lifetime take_mark take_group before rows_for rows run parse_rule
+named_invisible = computed named_field _ _ _ refl
+
+-- `\(\) _: struct { \(\) a: b }` prints `_ : struct { \(\) a : b }`
+named_invisible_underscore : DerivesAs named_field
+    (group None (at 0 2) (at 2 4) end (leaf (ident w_underscore) (at 5 6) (punct 58 false (at 6 7) (leaf (ident w_struct) (at 8 14) (group Brace (at 15 16) (at 27 28) (group None (at 17 19) (at 19 21) end (leaf (ident (97 ∷ [])) (at 22 23) (punct 58 false (at 23 24) (leaf (ident (98 ∷ [])) (at 25 26) end)))) end)))))
+    (leaf (ident w_underscore) call_site (punct 58 false call_site (leaf (ident w_struct) call_site (group Brace call_site call_site (group None call_site call_site end (leaf (ident (97 ∷ [])) call_site (punct 58 false call_site (leaf (ident (98 ∷ [])) call_site end)))) end))))
+    (end)
+unfolding left is_end lookahead_at sees take_token take_lifetime take_mark take_group before rows_for rows run parse_rule
+named_invisible_underscore = computed named_field _ _ _ refl
+
+-- `\(\) \(\) a: b`: nothing is read
+named_invisible_twice : NotDerived (rule named_field)
+    (group None (at 0 2) (at 2 4) end (group None (at 5 7) (at 7 9) end (leaf (ident (97 ∷ [])) (at 10 11) (punct 58 false (at 11 12) (leaf (ident (98 ∷ [])) (at 13 14) end)))))
+unfolding left is_end lookahead_at sees take_token take_lifetime take_mark take_group before rows_for rows run parse_rule
+named_invisible_twice = not_read named_field _ refl
+
+-- `\(\) pub a: b`: nothing is read
+named_invisible_public : NotDerived (rule named_field)
+    (group None (at 0 2) (at 2 4) end (leaf (ident w_pub) (at 5 8) (leaf (ident (97 ∷ [])) (at 9 10) (punct 58 false (at 10 11) (leaf (ident (98 ∷ [])) (at 12 13) end)))))
+unfolding left is_end lookahead_at sees take_token take_lifetime take_mark take_group before rows_for rows run parse_rule
+named_invisible_public = not_read named_field _ refl
+
+-- `pub \(\) a: b`: nothing is read
+named_public_invisible : NotDerived (rule named_field)
+    (leaf (ident w_pub) (at 0 3) (group None (at 4 6) (at 6 8) end (leaf (ident (97 ∷ [])) (at 9 10) (punct 58 false (at 10 11) (leaf (ident (98 ∷ [])) (at 12 13) end)))))
+unfolding left is_end lookahead_at sees take_token take_lifetime take_mark take_group before rows_for rows run parse_rule
+named_public_invisible = not_read named_field _ refl
+
+-- `\(a\) b: c`: nothing is read
+named_invisible_name : NotDerived (rule named_field)
+    (group None (at 0 2) (at 3 5) (leaf (ident (97 ∷ [])) (at 2 3) end) (leaf (ident (98 ∷ [])) (at 6 7) (punct 58 false (at 7 8) (leaf (ident (99 ∷ [])) (at 9 10) end))))
+unfolding left is_end lookahead_at sees take_token take_lifetime take_mark take_group before rows_for rows run parse_rule
+named_invisible_name = not_read named_field _ refl
+
 -- `_: a b` prints `_ : a` and leaves `b`
 named_underscore_leaves_type : DerivesAs named_field
     (leaf (ident w_underscore) (at 0 1) (punct 58 false (at 1 2) (leaf (ident (97 ∷ [])) (at 3 4) (leaf (ident (98 ∷ [])) (at 5 6) end))))
@@ -606,6 +646,70 @@ field_two_public : NotDerived (rule unnamed_field)
     (leaf (ident w_pub) (at 0 3) (leaf (ident w_pub) (at 4 7) (leaf (ident (97 ∷ [])) (at 8 9) end)))
 unfolding left is_end lookahead_at sees take_token take_lifetime take_mark take_group before rows_for rows run parse_rule
 field_two_public = not_read unnamed_field _ refl
+
+-- `\(\) a` prints `a`
+field_invisible : DerivesAs unnamed_field
+    (group None (at 0 2) (at 2 4) end (leaf (ident (97 ∷ [])) (at 5 6) end))
+    (leaf (ident (97 ∷ [])) call_site end)
+    (end)
+unfolding left is_end lookahead_at sees take_token take_lifetime take_mark take_group before rows_for rows run parse_rule
+field_invisible = computed unnamed_field _ _ _ refl
+
+-- `\(a\)` prints `\( a \)`
+field_invisible_type : DerivesAs unnamed_field
+    (group None (at 0 2) (at 3 5) (leaf (ident (97 ∷ [])) (at 2 3) end) end)
+    (group None call_site call_site (leaf (ident (97 ∷ [])) call_site end) end)
+    (end)
+unfolding left is_end lookahead_at sees take_token take_lifetime take_mark take_group before rows_for rows run parse_rule
+field_invisible_type = computed unnamed_field _ _ _ refl
+
+-- `\(\) \(a\)` prints `\( a \)`
+field_invisible_before_type : DerivesAs unnamed_field
+    (group None (at 0 2) (at 2 4) end (group None (at 5 7) (at 8 10) (leaf (ident (97 ∷ [])) (at 7 8) end) end))
+    (group None call_site call_site (leaf (ident (97 ∷ [])) call_site end) end)
+    (end)
+unfolding left is_end lookahead_at sees take_token take_lifetime take_mark take_group before rows_for rows run parse_rule
+field_invisible_before_type = computed unnamed_field _ _ _ refl
+
+-- `pub \(a\)` prints `pub \( a \)`
+field_public_invisible_type : DerivesAs unnamed_field
+    (leaf (ident w_pub) (at 0 3) (group None (at 4 6) (at 7 9) (leaf (ident (97 ∷ [])) (at 6 7) end) end))
+    (leaf (ident w_pub) call_site (group None call_site call_site (leaf (ident (97 ∷ [])) call_site end) end))
+    (end)
+unfolding left is_end lookahead_at sees take_token take_lifetime take_mark take_group before rows_for rows run parse_rule
+field_public_invisible_type = computed unnamed_field _ _ _ refl
+
+-- `\(\)`: nothing is read
+field_invisible_alone : NotDerived (rule unnamed_field)
+    (group None (at 0 2) (at 2 4) end end)
+unfolding left is_end lookahead_at sees take_token take_lifetime take_mark take_group before rows_for rows run parse_rule
+field_invisible_alone = not_read unnamed_field _ refl
+
+-- `\(\) \(\) a`: nothing is read
+field_invisible_twice : NotDerived (rule unnamed_field)
+    (group None (at 0 2) (at 2 4) end (group None (at 5 7) (at 7 9) end (leaf (ident (97 ∷ [])) (at 10 11) end)))
+unfolding left is_end lookahead_at sees take_token take_lifetime take_mark take_group before rows_for rows run parse_rule
+field_invisible_twice = not_read unnamed_field _ refl
+
+-- `\(\) pub a`: nothing is read
+field_invisible_public : NotDerived (rule unnamed_field)
+    (group None (at 0 2) (at 2 4) end (leaf (ident w_pub) (at 5 8) (leaf (ident (97 ∷ [])) (at 9 10) end)))
+unfolding left is_end lookahead_at sees take_token take_lifetime take_mark take_group before rows_for rows run parse_rule
+field_invisible_public = not_read unnamed_field _ refl
+
+-- `pub \(\) a`: nothing is read
+field_public_invisible : NotDerived (rule unnamed_field)
+    (leaf (ident w_pub) (at 0 3) (group None (at 4 6) (at 6 8) end (leaf (ident (97 ∷ [])) (at 9 10) end)))
+unfolding left is_end lookahead_at sees take_token take_lifetime take_mark take_group before rows_for rows run parse_rule
+field_public_invisible = not_read unnamed_field _ refl
+
+-- `\(\) ()` prints `( )`
+field_invisible_parentheses : DerivesAs unnamed_field
+    (group None (at 0 2) (at 2 4) end (group Paren (at 5 6) (at 6 7) end end))
+    (group Paren call_site call_site end end)
+    (end)
+unfolding left is_end lookahead_at sees take_token take_lifetime take_mark take_group before rows_for rows run parse_rule
+field_invisible_parentheses = computed unnamed_field _ _ _ refl
 
 -- no tokens prints ``
 list_none : DerivesAs unnamed_fields
@@ -908,6 +1012,78 @@ variant_default : DerivesAs variant
     (end)
 unfolding left is_end lookahead_at sees take_token take_lifetime take_mark take_group before rows_for rows run parse_rule
 variant_default = computed variant _ _ _ refl
+
+-- `\(\) a` prints `a`
+variant_invisible : DerivesAs variant
+    (group None (at 0 2) (at 2 4) end (leaf (ident (97 ∷ [])) (at 5 6) end))
+    (leaf (ident (97 ∷ [])) call_site end)
+    (end)
+unfolding left is_end lookahead_at sees take_token take_lifetime take_mark take_group before rows_for rows run parse_rule
+variant_invisible = computed variant _ _ _ refl
+
+-- `#[a] \(\) B(\(\) c) = 1` prints `# [ a ] B ( c ) = 1`
+variant_invisible_fields : DerivesAs variant
+    (punct 35 false (at 0 1) (group Bracket (at 1 2) (at 3 4) (leaf (ident (97 ∷ [])) (at 2 3) end) (group None (at 5 7) (at 7 9) end (leaf (ident (66 ∷ [])) (at 10 11) (group Paren (at 11 12) (at 18 19) (group None (at 12 14) (at 14 16) end (leaf (ident (99 ∷ [])) (at 17 18) end)) (punct 61 false (at 20 21) (leaf (literal Int (49 ∷ [])) (at 22 23) end)))))))
+    (punct 35 false call_site (group Bracket call_site call_site (leaf (ident (97 ∷ [])) call_site end) (leaf (ident (66 ∷ [])) call_site (group Paren call_site call_site (leaf (ident (99 ∷ [])) call_site end) (punct 61 false call_site (leaf (literal Int (49 ∷ [])) call_site end))))))
+    (end)
+unfolding left is_end lookahead_at sees take_token take_lifetime take_mark take_group before rows_for rows run parse_rule
+variant_invisible_fields = computed variant _ _ _ refl
+
+-- `\(\) \(\) a`: nothing is read
+variant_invisible_twice : NotDerived (rule variant)
+    (group None (at 0 2) (at 2 4) end (group None (at 5 7) (at 7 9) end (leaf (ident (97 ∷ [])) (at 10 11) end)))
+unfolding left is_end lookahead_at sees take_token take_lifetime take_mark take_group before rows_for rows run parse_rule
+variant_invisible_twice = not_read variant _ refl
+
+-- `\(\) pub a`: nothing is read
+variant_invisible_public : NotDerived (rule variant)
+    (group None (at 0 2) (at 2 4) end (leaf (ident w_pub) (at 5 8) (leaf (ident (97 ∷ [])) (at 9 10) end)))
+unfolding left is_end lookahead_at sees take_token take_lifetime take_mark take_group before rows_for rows run parse_rule
+variant_invisible_public = not_read variant _ refl
+
+-- `pub \(\) a`: nothing is read
+variant_public_invisible : NotDerived (rule variant)
+    (leaf (ident w_pub) (at 0 3) (group None (at 4 6) (at 6 8) end (leaf (ident (97 ∷ [])) (at 9 10) end)))
+unfolding left is_end lookahead_at sees take_token take_lifetime take_mark take_group before rows_for rows run parse_rule
+variant_public_invisible = not_read variant _ refl
+
+-- `\(pub\) a`: nothing is read
+variant_invisible_word : NotDerived (rule variant)
+    (group None (at 0 2) (at 5 7) (leaf (ident w_pub) (at 2 5) end) (leaf (ident (97 ∷ [])) (at 8 9) end))
+unfolding left is_end lookahead_at sees take_token take_lifetime take_mark take_group before rows_for rows run parse_rule
+variant_invisible_word = not_read variant _ refl
+
+-- `\(b\) a`: nothing is read
+variant_invisible_name : NotDerived (rule variant)
+    (group None (at 0 2) (at 3 5) (leaf (ident (98 ∷ [])) (at 2 3) end) (leaf (ident (97 ∷ [])) (at 6 7) end))
+unfolding left is_end lookahead_at sees take_token take_lifetime take_mark take_group before rows_for rows run parse_rule
+variant_invisible_name = not_read variant _ refl
+
+-- `a \(\)` prints `a` and leaves `\(\)`
+variant_leaves_invisible : DerivesAs variant
+    (leaf (ident (97 ∷ [])) (at 0 1) (group None (at 2 4) (at 4 6) end end))
+    (leaf (ident (97 ∷ [])) call_site end)
+    (group None (at 2 4) (at 4 6) end end)
+unfolding left is_end lookahead_at sees take_token take_lifetime take_mark take_group before rows_for rows run parse_rule
+variant_leaves_invisible = computed variant _ _ _ refl
+
+-- `() a`: nothing is read
+variant_parentheses_first : NotDerived (rule variant)
+    (group Paren (at 0 1) (at 1 2) end (leaf (ident (97 ∷ [])) (at 3 4) end))
+unfolding left is_end lookahead_at sees take_token take_lifetime take_mark take_group before rows_for rows run parse_rule
+variant_parentheses_first = not_read variant _ refl
+
+-- `[] a`: nothing is read
+variant_brackets_first : NotDerived (rule variant)
+    (group Bracket (at 0 1) (at 1 2) end (leaf (ident (97 ∷ [])) (at 3 4) end))
+unfolding left is_end lookahead_at sees take_token take_lifetime take_mark take_group before rows_for rows run parse_rule
+variant_brackets_first = not_read variant _ refl
+
+-- no tokens: nothing is read
+variant_nothing : NotDerived (rule variant)
+    (end)
+unfolding left is_end lookahead_at sees take_token take_lifetime take_mark take_group before rows_for rows run parse_rule
+variant_nothing = not_read variant _ refl
 
 -- `A, B(u8), C { a: u8 }` prints `A , B ( u8 ) , C { a : u8 }`
 variants_three : DerivesAs variants

@@ -2,7 +2,7 @@
 -- Worked examples of structs, enums, unions and inputs of derives, from tools/examples.txt: what each rule reads, prints and refuses. The checker computes each.
 use Rattle.std.proofs.Common.{true, false, [], ◌∷◌, refl}
 use Rattle.syn_grammar.specs.Words.{w_underscore, w_as, w_const, w_crate, w_enum, w_fn, w_in, w_pub, w_Self_type, w_self, w_struct, w_super, w_where, w_union, w_auto, w_default, w_safe}
-use Rattle.syn_grammar.specs.Tokens.{call_site, Paren, Brace, Bracket, Int, ident, literal, end, leaf, punct, group}
+use Rattle.syn_grammar.specs.Tokens.{call_site, Paren, Brace, Bracket, None, Int, ident, literal, end, leaf, punct, group}
 use Rattle.syn_grammar.specs.Rules.{structure, structure_rest, structure_body, enumeration, enumeration_rest, union_item, union_item_rest, derive_input}
 use Rattle.syn_grammar.specs.Grammar.{rule}
 use Rattle.syn_grammar.specs.Take.{left, is_end, lookahead_at, sees, take_token, take_lifetime, take_mark, take_group, before}
@@ -114,6 +114,14 @@ struct_leaves_struct : DerivesAs structure
     (leaf (ident w_struct) (at 10 16) end)
 unfolding left is_end lookahead_at sees take_token take_lifetime take_mark take_group before rows_for rows run parse_rule
 struct_leaves_struct = computed structure _ _ _ refl
+
+-- `#[a] \(\) struct S { \(\) a: u8 }` prints `# [ a ] struct S { a : u8 }`
+struct_invisible : DerivesAs structure
+    (punct 35 false (at 0 1) (group Bracket (at 1 2) (at 3 4) (leaf (ident (97 ∷ [])) (at 2 3) end) (group None (at 5 7) (at 7 9) end (leaf (ident w_struct) (at 10 16) (leaf (ident (83 ∷ [])) (at 17 18) (group Brace (at 19 20) (at 32 33) (group None (at 21 23) (at 23 25) end (leaf (ident (97 ∷ [])) (at 26 27) (punct 58 false (at 27 28) (leaf (ident (117 ∷ 56 ∷ [])) (at 29 31) end)))) end))))))
+    (punct 35 false call_site (group Bracket call_site call_site (leaf (ident (97 ∷ [])) call_site end) (leaf (ident w_struct) call_site (leaf (ident (83 ∷ [])) call_site (group Brace call_site call_site (leaf (ident (97 ∷ [])) call_site (punct 58 false call_site (leaf (ident (117 ∷ 56 ∷ [])) call_site end))) end)))))
+    (end)
+unfolding left is_end lookahead_at sees take_token take_lifetime take_mark take_group before rows_for rows run parse_rule
+struct_invisible = computed structure _ _ _ refl
 
 -- `pub struct S<T>(T);` prints `pub struct S < T > ( T ) ;`
 struct_rest_tuple : DerivesAs structure_rest
@@ -327,6 +335,38 @@ struct_rest_default : DerivesAs structure_rest
 unfolding left is_end lookahead_at sees take_token take_lifetime take_mark take_group before rows_for rows run parse_rule
 struct_rest_default = computed structure_rest _ _ _ refl
 
+-- `\(\) struct a;` prints `struct a ;`
+struct_rest_invisible : DerivesAs structure_rest
+    (group None (at 0 2) (at 2 4) end (leaf (ident w_struct) (at 5 11) (leaf (ident (97 ∷ [])) (at 12 13) (punct 59 false (at 13 14) end))))
+    (leaf (ident w_struct) call_site (leaf (ident (97 ∷ [])) call_site (punct 59 false call_site end)))
+    (end)
+unfolding left is_end lookahead_at sees take_token take_lifetime take_mark take_group before rows_for rows run parse_rule
+struct_rest_invisible = computed structure_rest _ _ _ refl
+
+-- `\(\) pub struct a;`: nothing is read
+struct_rest_invisible_public : NotDerived (rule structure_rest)
+    (group None (at 0 2) (at 2 4) end (leaf (ident w_pub) (at 5 8) (leaf (ident w_struct) (at 9 15) (leaf (ident (97 ∷ [])) (at 16 17) (punct 59 false (at 17 18) end)))))
+unfolding left is_end lookahead_at sees take_token take_lifetime take_mark take_group before rows_for rows run parse_rule
+struct_rest_invisible_public = not_read structure_rest _ refl
+
+-- `pub \(\) struct a;`: nothing is read
+struct_rest_public_invisible : NotDerived (rule structure_rest)
+    (leaf (ident w_pub) (at 0 3) (group None (at 4 6) (at 6 8) end (leaf (ident w_struct) (at 9 15) (leaf (ident (97 ∷ [])) (at 16 17) (punct 59 false (at 17 18) end)))))
+unfolding left is_end lookahead_at sees take_token take_lifetime take_mark take_group before rows_for rows run parse_rule
+struct_rest_public_invisible = not_read structure_rest _ refl
+
+-- `\(\) \(\) struct a;`: nothing is read
+struct_rest_invisible_twice : NotDerived (rule structure_rest)
+    (group None (at 0 2) (at 2 4) end (group None (at 5 7) (at 7 9) end (leaf (ident w_struct) (at 10 16) (leaf (ident (97 ∷ [])) (at 17 18) (punct 59 false (at 18 19) end)))))
+unfolding left is_end lookahead_at sees take_token take_lifetime take_mark take_group before rows_for rows run parse_rule
+struct_rest_invisible_twice = not_read structure_rest _ refl
+
+-- `\(a\) struct b;`: nothing is read
+struct_rest_invisible_name : NotDerived (rule structure_rest)
+    (group None (at 0 2) (at 3 5) (leaf (ident (97 ∷ [])) (at 2 3) end) (leaf (ident w_struct) (at 6 12) (leaf (ident (98 ∷ [])) (at 13 14) (punct 59 false (at 14 15) end))))
+unfolding left is_end lookahead_at sees take_token take_lifetime take_mark take_group before rows_for rows run parse_rule
+struct_rest_invisible_name = not_read structure_rest _ refl
+
 -- `;` prints `;`
 body_unit : DerivesAs structure_body
     (punct 59 false (at 0 1) end)
@@ -496,6 +536,14 @@ enum_leaves_enum : DerivesAs enumeration
     (leaf (ident w_enum) (at 10 14) end)
 unfolding left is_end lookahead_at sees take_token take_lifetime take_mark take_group before rows_for rows run parse_rule
 enum_leaves_enum = computed enumeration _ _ _ refl
+
+-- `\(\) enum E { \(\) A }` prints `enum E { A }`
+enum_invisible : DerivesAs enumeration
+    (group None (at 0 2) (at 2 4) end (leaf (ident w_enum) (at 5 9) (leaf (ident (69 ∷ [])) (at 10 11) (group Brace (at 12 13) (at 21 22) (group None (at 14 16) (at 16 18) end (leaf (ident (65 ∷ [])) (at 19 20) end)) end))))
+    (leaf (ident w_enum) call_site (leaf (ident (69 ∷ [])) call_site (group Brace call_site call_site (leaf (ident (65 ∷ [])) call_site end) end)))
+    (end)
+unfolding left is_end lookahead_at sees take_token take_lifetime take_mark take_group before rows_for rows run parse_rule
+enum_invisible = computed enumeration _ _ _ refl
 
 -- `enum E<T> where T: A { B(T) }` prints `enum E < T > where T : A { B ( T ) }`
 enum_rest_generic : DerivesAs enumeration_rest
@@ -805,6 +853,14 @@ union_leaves_union : DerivesAs union_item
 unfolding left is_end lookahead_at sees take_token take_lifetime take_mark take_group before rows_for rows run parse_rule
 union_leaves_union = computed union_item _ _ _ refl
 
+-- `\(\) union U { \(\) a: u8 }` prints `union U { a : u8 }`
+union_invisible : DerivesAs union_item
+    (group None (at 0 2) (at 2 4) end (leaf (ident w_union) (at 5 10) (leaf (ident (85 ∷ [])) (at 11 12) (group Brace (at 13 14) (at 26 27) (group None (at 15 17) (at 17 19) end (leaf (ident (97 ∷ [])) (at 20 21) (punct 58 false (at 21 22) (leaf (ident (117 ∷ 56 ∷ [])) (at 23 25) end)))) end))))
+    (leaf (ident w_union) call_site (leaf (ident (85 ∷ [])) call_site (group Brace call_site call_site (leaf (ident (97 ∷ [])) call_site (punct 58 false call_site (leaf (ident (117 ∷ 56 ∷ [])) call_site end))) end)))
+    (end)
+unfolding left is_end lookahead_at sees take_token take_lifetime take_mark take_group before rows_for rows run parse_rule
+union_invisible = computed union_item _ _ _ refl
+
 -- `pub union U<T> { a: T }` prints `pub union U < T > { a : T }`
 union_rest_generic : DerivesAs union_item_rest
     (leaf (ident w_pub) (at 0 3) (leaf (ident w_union) (at 4 9) (leaf (ident (85 ∷ [])) (at 10 11) (punct 60 false (at 11 12) (leaf (ident (84 ∷ [])) (at 12 13) (punct 62 false (at 13 14) (group Brace (at 15 16) (at 22 23) (leaf (ident (97 ∷ [])) (at 17 18) (punct 58 false (at 18 19) (leaf (ident (84 ∷ [])) (at 20 21) end))) end)))))))
@@ -1056,6 +1112,20 @@ derive_tuple_in_public : NotDerived (rule derive_input)
     (leaf (ident w_struct) (at 0 6) (leaf (ident (83 ∷ [])) (at 7 8) (group Paren (at 8 9) (at 20 21) (leaf (ident w_pub) (at 9 12) (group Paren (at 13 14) (at 19 20) (leaf (ident w_crate) (at 14 19) end) end)) (punct 59 false (at 21 22) end))))
 unfolding left is_end lookahead_at sees take_token take_lifetime take_mark take_group before rows_for rows run parse_rule
 derive_tuple_in_public = not_read derive_input _ refl
+
+-- `\(\) struct A(\(\) u8);` prints `struct A ( u8 ) ;`
+derive_invisible : DerivesAs derive_input
+    (group None (at 0 2) (at 2 4) end (leaf (ident w_struct) (at 5 11) (leaf (ident (65 ∷ [])) (at 12 13) (group Paren (at 13 14) (at 21 22) (group None (at 14 16) (at 16 18) end (leaf (ident (117 ∷ 56 ∷ [])) (at 19 21) end)) (punct 59 false (at 22 23) end)))))
+    (leaf (ident w_struct) call_site (leaf (ident (65 ∷ [])) call_site (group Paren call_site call_site (leaf (ident (117 ∷ 56 ∷ [])) call_site end) (punct 59 false call_site end))))
+    (end)
+unfolding left is_end lookahead_at sees take_token take_lifetime take_mark take_group before rows_for rows run parse_rule
+derive_invisible = computed derive_input _ _ _ refl
+
+-- `\(\) \(\) struct A;`: nothing is read
+derive_invisible_twice : NotDerived (rule derive_input)
+    (group None (at 0 2) (at 2 4) end (group None (at 5 7) (at 7 9) end (leaf (ident w_struct) (at 10 16) (leaf (ident (65 ∷ [])) (at 17 18) (punct 59 false (at 18 19) end)))))
+unfolding left is_end lookahead_at sees take_token take_lifetime take_mark take_group before rows_for rows run parse_rule
+derive_invisible_twice = not_read derive_input _ refl
 
 -- `struct S(u8 = 1);`: nothing is read
 derive_default : NotDerived (rule derive_input)

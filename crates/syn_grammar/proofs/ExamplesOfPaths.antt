@@ -2,7 +2,7 @@
 -- Worked examples of paths in module style and visibilities, from tools/examples.txt: what each rule reads, prints and refuses. The checker computes each.
 use Rattle.std.proofs.Common.{true, false, [], ◌∷◌, refl}
 use Rattle.syn_grammar.specs.Words.{w_underscore, w_crate, w_fn, w_in, w_pub, w_Self_type, w_self, w_super, w_union, w_auto, w_default, w_safe}
-use Rattle.syn_grammar.specs.Tokens.{call_site, Paren, Brace, Bracket, Int, ident, literal, end, leaf, punct, group}
+use Rattle.syn_grammar.specs.Tokens.{call_site, Paren, Brace, Bracket, None, Int, ident, literal, end, leaf, punct, group}
 use Rattle.syn_grammar.specs.Rules.{module_path, module_words, visibility, restriction}
 use Rattle.syn_grammar.specs.Grammar.{rule}
 use Rattle.syn_grammar.specs.Take.{left, is_end, lookahead_at, sees, take_token, take_lifetime, take_mark, take_group, before}
@@ -517,6 +517,126 @@ vis_in_keyword : NotDerived (rule visibility)
 unfolding left is_end lookahead_at sees take_token take_lifetime take_mark take_group before rows_for rows run parse_rule
 vis_in_keyword = not_read visibility _ refl
 
+-- `\(\)` prints ``
+vis_invisible : DerivesAs visibility
+    (group None (at 0 2) (at 2 4) end end)
+    (end)
+    (end)
+unfolding left is_end lookahead_at sees take_token take_lifetime take_mark take_group before rows_for rows run parse_rule
+vis_invisible = computed visibility _ _ _ refl
+
+-- `\(\) a` prints `` and leaves `a`
+vis_invisible_leaves_name : DerivesAs visibility
+    (group None (at 0 2) (at 2 4) end (leaf (ident (97 ∷ [])) (at 5 6) end))
+    (end)
+    (leaf (ident (97 ∷ [])) (at 5 6) end)
+unfolding left is_end lookahead_at sees take_token take_lifetime take_mark take_group before rows_for rows run parse_rule
+vis_invisible_leaves_name = computed visibility _ _ _ refl
+
+-- `\(\) ()` prints `` and leaves `()`
+vis_invisible_leaves_group : DerivesAs visibility
+    (group None (at 0 2) (at 2 4) end (group Paren (at 5 6) (at 6 7) end end))
+    (end)
+    (group Paren (at 5 6) (at 6 7) end end)
+unfolding left is_end lookahead_at sees take_token take_lifetime take_mark take_group before rows_for rows run parse_rule
+vis_invisible_leaves_group = computed visibility _ _ _ refl
+
+-- `\(\) \(\)` prints `` and leaves `\(\)`
+vis_invisible_twice : DerivesAs visibility
+    (group None (at 0 2) (at 2 4) end (group None (at 5 7) (at 7 9) end end))
+    (end)
+    (group None (at 5 7) (at 7 9) end end)
+unfolding left is_end lookahead_at sees take_token take_lifetime take_mark take_group before rows_for rows run parse_rule
+vis_invisible_twice = computed visibility _ _ _ refl
+
+-- `\(\) pub` prints `` and leaves `pub`
+vis_invisible_before_public : DerivesAs visibility
+    (group None (at 0 2) (at 2 4) end (leaf (ident w_pub) (at 5 8) end))
+    (end)
+    (leaf (ident w_pub) (at 5 8) end)
+unfolding left is_end lookahead_at sees take_token take_lifetime take_mark take_group before rows_for rows run parse_rule
+vis_invisible_before_public = computed visibility _ _ _ refl
+
+-- `\(\) pub(crate)` prints `` and leaves `pub(crate)`
+vis_invisible_before_restricted : DerivesAs visibility
+    (group None (at 0 2) (at 2 4) end (leaf (ident w_pub) (at 5 8) (group Paren (at 8 9) (at 14 15) (leaf (ident w_crate) (at 9 14) end) end)))
+    (end)
+    (leaf (ident w_pub) (at 5 8) (group Paren (at 8 9) (at 14 15) (leaf (ident w_crate) (at 9 14) end) end))
+unfolding left is_end lookahead_at sees take_token take_lifetime take_mark take_group before rows_for rows run parse_rule
+vis_invisible_before_restricted = computed visibility _ _ _ refl
+
+-- `pub \(\)` prints `pub` and leaves `\(\)`
+vis_invisible_behind_public : DerivesAs visibility
+    (leaf (ident w_pub) (at 0 3) (group None (at 4 6) (at 6 8) end end))
+    (leaf (ident w_pub) call_site end)
+    (group None (at 4 6) (at 6 8) end end)
+unfolding left is_end lookahead_at sees take_token take_lifetime take_mark take_group before rows_for rows run parse_rule
+vis_invisible_behind_public = computed visibility _ _ _ refl
+
+-- `pub(crate) \(\)` prints `pub ( crate )` and leaves `\(\)`
+vis_invisible_behind_restricted : DerivesAs visibility
+    (leaf (ident w_pub) (at 0 3) (group Paren (at 3 4) (at 9 10) (leaf (ident w_crate) (at 4 9) end) (group None (at 11 13) (at 13 15) end end)))
+    (leaf (ident w_pub) call_site (group Paren call_site call_site (leaf (ident w_crate) call_site end) end))
+    (group None (at 11 13) (at 13 15) end end)
+unfolding left is_end lookahead_at sees take_token take_lifetime take_mark take_group before rows_for rows run parse_rule
+vis_invisible_behind_restricted = computed visibility _ _ _ refl
+
+-- `pub(\(\))` prints `pub` and leaves `(\(\))`
+vis_invisible_inside : DerivesAs visibility
+    (leaf (ident w_pub) (at 0 3) (group Paren (at 3 4) (at 8 9) (group None (at 4 6) (at 6 8) end end) end))
+    (leaf (ident w_pub) call_site end)
+    (group Paren (at 3 4) (at 8 9) (group None (at 4 6) (at 6 8) end end) end)
+unfolding left is_end lookahead_at sees take_token take_lifetime take_mark take_group before rows_for rows run parse_rule
+vis_invisible_inside = computed visibility _ _ _ refl
+
+-- `\(a\)` prints `` and leaves `\(a\)`
+vis_invisible_name : DerivesAs visibility
+    (group None (at 0 2) (at 3 5) (leaf (ident (97 ∷ [])) (at 2 3) end) end)
+    (end)
+    (group None (at 0 2) (at 3 5) (leaf (ident (97 ∷ [])) (at 2 3) end) end)
+unfolding left is_end lookahead_at sees take_token take_lifetime take_mark take_group before rows_for rows run parse_rule
+vis_invisible_name = computed visibility _ _ _ refl
+
+-- `\(pub\)` prints `` and leaves `\(pub\)`
+vis_invisible_public : DerivesAs visibility
+    (group None (at 0 2) (at 5 7) (leaf (ident w_pub) (at 2 5) end) end)
+    (end)
+    (group None (at 0 2) (at 5 7) (leaf (ident w_pub) (at 2 5) end) end)
+unfolding left is_end lookahead_at sees take_token take_lifetime take_mark take_group before rows_for rows run parse_rule
+vis_invisible_public = computed visibility _ _ _ refl
+
+-- `\(\(\)\)` prints `` and leaves `\(\(\)\)`
+vis_invisible_in_invisible : DerivesAs visibility
+    (group None (at 0 2) (at 6 8) (group None (at 2 4) (at 4 6) end end) end)
+    (end)
+    (group None (at 0 2) (at 6 8) (group None (at 2 4) (at 4 6) end end) end)
+unfolding left is_end lookahead_at sees take_token take_lifetime take_mark take_group before rows_for rows run parse_rule
+vis_invisible_in_invisible = computed visibility _ _ _ refl
+
+-- `()` prints `` and leaves `()`
+vis_empty_parentheses : DerivesAs visibility
+    (group Paren (at 0 1) (at 1 2) end end)
+    (end)
+    (group Paren (at 0 1) (at 1 2) end end)
+unfolding left is_end lookahead_at sees take_token take_lifetime take_mark take_group before rows_for rows run parse_rule
+vis_empty_parentheses = computed visibility _ _ _ refl
+
+-- `{}` prints `` and leaves `{}`
+vis_empty_braces : DerivesAs visibility
+    (group Brace (at 0 1) (at 1 2) end end)
+    (end)
+    (group Brace (at 0 1) (at 1 2) end end)
+unfolding left is_end lookahead_at sees take_token take_lifetime take_mark take_group before rows_for rows run parse_rule
+vis_empty_braces = computed visibility _ _ _ refl
+
+-- `[]` prints `` and leaves `[]`
+vis_empty_brackets : DerivesAs visibility
+    (group Bracket (at 0 1) (at 1 2) end end)
+    (end)
+    (group Bracket (at 0 1) (at 1 2) end end)
+unfolding left is_end lookahead_at sees take_token take_lifetime take_mark take_group before rows_for rows run parse_rule
+vis_empty_brackets = computed visibility _ _ _ refl
+
 -- `super` prints `super`
 restriction_super : DerivesAs restriction
     (leaf (ident w_super) (at 0 5) end)
@@ -596,3 +716,9 @@ restriction_keyword : NotDerived (rule restriction)
     (leaf (ident w_pub) (at 0 3) end)
 unfolding left is_end lookahead_at sees take_token take_lifetime take_mark take_group before rows_for rows run parse_rule
 restriction_keyword = not_read restriction _ refl
+
+-- `\(\)`: nothing is read
+restriction_invisible : NotDerived (rule restriction)
+    (group None (at 0 2) (at 2 4) end end)
+unfolding left is_end lookahead_at sees take_token take_lifetime take_mark take_group before rows_for rows run parse_rule
+restriction_invisible = not_read restriction _ refl

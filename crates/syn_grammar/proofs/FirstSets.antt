@@ -2,12 +2,12 @@
 use Rattle.std.proofs.Common.{◌≡◌, ℕ, Bool, true, false, List, [], ◌∷◌, ◌++◌, nat_eq, refl, sym, ap, ◌∙◌, ap₂, subst, true≢false, ◌⊎◌, inl, inr, map}
 use Rattle.std.proofs.lemmas.Bool.{eqb-true, eq-eqb}
 use Rattle.syn_grammar.specs.Words.{Text, long_marks, lifetime_mark, keywords, contextual, colon, comma, less}
-use Rattle.syn_grammar.specs.Tokens.{Span, Delimiter, Stream, leaf, punct, ident, lookahead_with, punctuation_lookahead, facts_for, asked, Name, Word, one_of_texts, same_text, is_name, or, and, no, pick, begins_text, Terminal, Punctuation, Delimited, same_terminal, mem, Look, Lookahead, answers, lookahead, longest, before_identifier, join, char_terminal}
+use Rattle.syn_grammar.specs.Tokens.{Span, Delimiter, Stream, leaf, punct, ident, lookahead_with, punctuation_lookahead, facts_for, asked, Name, Word, one_of_texts, same_text, is_name, or, and, no, pick, begins_text, Terminal, Punctuation, Delimited, same_terminal, mem, Look, Lookahead, answers, lookahead, longest, before_identifier, join, char_terminal, holds_nothing}
 use Rattle.syn_grammar.specs.Rules.{Rule}
 use Rattle.syn_grammar.specs.RuleNumbers.{same_rule}
 use Rattle.syn_grammar.specs.Grammar.{Syntax, Nothing, Token, Mark, Lifetime, Both, Left, Right, Node, Vanishing, Group, Raw, Rest, Case, Captured, Unshown, Impl, Done, Last, More, Order, Such, chars, Spelled, DerivesPrefix, name, terminals, Grammar, empty, token, mark, lifetime, ◌&◌, when◌then◌else◌, vanishing, inside, raw, rest_after, either, one_of, rule, such, captured, unshown, supplied, generics_before, row, ordered, choose, among, suits, Shaped, shaped}
 use Rattle.syn_grammar.proofs.RuleLemmas.{same_rule_eq}
-use Rattle.syn_grammar.proofs.Sets.{or_left, or_right, or_split, or_mono, and_left, mem_here, mem_left, mem_right, those, mem_those, subset, mem_subset, same_terminal_eq, same_terminal_of, may, must, may_of, must_not_of, and_right}
+use Rattle.syn_grammar.proofs.Sets.{or_left, or_right, or_split, or_mono, and_left, mem_here, mem_left, mem_right, those, mem_those, subset, mem_subset, same_terminal_eq, same_terminal_of, may, must, may_of, must_not_of, and_right, group_terminals, group_terminal}
 
 -- what a mark's last character may be seen as
 abbrev pub beginning : ℕ → List Text → List Terminal
@@ -157,8 +157,8 @@ module _ (said : Rule → Start) where
   first_set (g & h) = first_set g ++ pick (nullable g) (first_set h) []
   first_set (when c then g else h) = keep c (first_set g) ++ leave c (first_set h)
   first_set (vanishing b c g) = keep c (first_set g) ++ []
-  first_set (inside d g) = Delimited d ∷ []
-  first_set (raw d) = Delimited d ∷ []
+  first_set (inside d g) = group_terminals d
+  first_set (raw d) = group_terminals d
   first_set (rest_after cs) = mark_first_set cs
   first_set (either g h) = first_set g ++ first_set h
   first_set (one_of ks) = all_first_set ks
@@ -184,8 +184,9 @@ module _ (said : Rule → Start) where
   of_choice true g h a e = mem_left a (first_set g) (first_set h) e
   of_choice false g h a e = mem_right a (first_set g) (first_set h) e
 
-  group_head : (d d' : Delimiter) (ts r i : Stream) (o c : Span) → d ≡ d' → ts ≡ Stream.group d' o c i r → mem (lookahead ts).terminal (Delimited d ∷ []) ≡ true
-  group_head d d' ts r i o c e f = ap (λ t. mem (lookahead t).terminal (Delimited d ∷ [])) f ∙ ap (λ v. mem (Delimited v) (Delimited d ∷ [])) (sym e) ∙ mem_here (Delimited d) []
+  group_head : (d d' : Delimiter) (ts r i : Stream) (o c : Span) → d ≡ d' → ts ≡ Stream.group d' o c i r → mem (lookahead ts).terminal (group_terminals d) ≡ true
+  group_head d d' ts r i o c e f =
+      ap (λ t. mem (lookahead t).terminal (group_terminals d)) f ∙ ap (λ v. mem (Delimited v (holds_nothing v (lookahead i).terminal)) (group_terminals d)) (sym e) ∙ group_terminal d (lookahead i).terminal
 
   pub one_first_set : (k : Rule) (ks : List Rule) (a : Terminal) → among k ks ≡ true → mem a (said k).first_set ≡ true → mem a (all_first_set ks) ≡ true
   one_first_set k [] a e h = absurd (true≢false (sym e))

@@ -2,9 +2,9 @@
 use Rattle.std.proofs.Common.{◌≡◌, ℕ, Bool, true, false, List, [], ◌∷◌, ◌++◌, map, nat_eq, Option, Some, None, ◌⊎◌, inl, inr, refl, sym, ap, ap₂, ◌∙◌, subst, true≢false}
 use Rattle.std.proofs.lemmas.Bool.{eqb-true, eq-eqb}
 use Rattle.syn_grammar.specs.Words.{Text, keywords, contextual, long_marks, lifetime_mark}
-use Rattle.syn_grammar.specs.Tokens.{Span, Delimiter, LitKind, kind_number, Leaf, ident, literal, Stream, end, leaf, punct, group, and, or, no, pick, same_text, one_of_texts, begins_text, Terminal, Name, Word, Punctuation, Literal, mem, is_ended, is_group, is_name, is_word, is_literal, starts_mark, leaf_terminal, before_identifier, join, char_terminal, longest, Look, ended, at_name, at_word, at_mark, at_literal, at_group, at_lifetime, ◌or_else◌, ◌and_also◌, ◌but_not◌, lookahead}
+use Rattle.syn_grammar.specs.Tokens.{Span, Delimiter, Paren, Brace, Bracket, None as Invisible, LitKind, kind_number, Leaf, ident, literal, Stream, end, leaf, punct, group, and, or, no, pick, same_text, one_of_texts, begins_text, Terminal, Name, Word, Punctuation, Literal, mem, is_ended, is_group, is_empty_group, is_name, is_word, is_literal, starts_mark, leaf_terminal, before_identifier, join, char_terminal, longest, Look, ended, at_name, at_word, at_mark, at_literal, at_group, at_empty_group, at_lifetime, ◌or_else◌, ◌and_also◌, ◌but_not◌, lookahead}
 use Rattle.syn_grammar.specs.Grammar.{name, word, literal_of, terminals, Token, Lifetime}
-use Rattle.syn_grammar.specs.Take.{only, is_end, lookahead_at, sees, take_token, Chars, add_char, take_chars, marked, take_mark, take_lifetime, take_group, same_delimiter, taken}
+use Rattle.syn_grammar.specs.Take.{only, is_end, lookahead_at, sees, take_token, Chars, add_char, take_chars, marked, take_mark, take_lifetime, Opened, take_group, same_delimiter, taken}
 use Rattle.syn_grammar.proofs.Sets.{and_left, and_right, no_true, or_split, same_text_eq}
 use Rattle.syn_grammar.proofs.Streams.{lookahead_end}
 use Rattle.syn_grammar.proofs.Takes.{TreeAndRest}
@@ -128,6 +128,26 @@ sees_group d (leaf (ident x) sp m) = go (one_of_texts x (keywords ++ contextual)
 sees_group d (leaf (literal k x) sp m) = refl
 sees_group d (punct c j sp m) = not_punctuation (is_group d) (λ x. refl) c j (lookahead m).terminal
 sees_group d (group d' o c i m) = sym (taken_only (same_delimiter d d') _ ∙ and_true (same_delimiter d d'))
+
+-- of an invisible group that was opened: it holds nothing
+abbrev pub holds_nothing_of : Option Opened → Bool
+holds_nothing_of (Some g) = sees ended g.content
+holds_nothing_of None = false
+
+pub sees_empty_group : (ts : Stream) → sees at_empty_group ts ≡ holds_nothing_of (take_group Invisible ts)
+unfolding sees lookahead_at take_group
+sees_empty_group end = refl
+sees_empty_group (leaf (ident x) sp m) = go (one_of_texts x (keywords ++ contextual))
+  where
+    go : (b : Bool) → is_empty_group (pick b (Word x) Name) ≡ false
+    go true = refl
+    go false = refl
+sees_empty_group (leaf (literal k x) sp m) = refl
+sees_empty_group (punct c j sp m) = not_punctuation is_empty_group (λ x. refl) c j (lookahead m).terminal
+sees_empty_group (group Paren o c i m) = refl
+sees_empty_group (group Brace o c i m) = refl
+sees_empty_group (group Bracket o c i m) = refl
+sees_empty_group (group Invisible o c i m) = refl
 
 -- ---- of a mark
 abbrev pub no_longer : Text → Text → Bool

@@ -2,7 +2,7 @@
 use Rattle.std.proofs.Common.{◌≡◌, ℕ, Bool, true, false, List, [], ◌∷◌, ◌++◌, nat_eq, refl, sym, ap, ◌∙◌, ap₂, subst, true≢false, ◌⊎◌, inl, inr}
 use Rattle.std.proofs.lemmas.Bool.{eqb-true, eq-eqb}
 use Rattle.syn_grammar.specs.Words.{Text, lifetime_mark, long_marks}
-use Rattle.syn_grammar.specs.Tokens.{Span, Stream, or, and, no, pick, Terminal, Ended, Name, Word, Punctuation, Literal, Delimited, Lookahead, lookahead_with, Fact, same_fact, fact_number, has_fact, same_terminal, mem, Look, ended, at_name, at_word, at_mark, at_literal, at_group, ahead, ◌or_else◌, ◌and_also◌, ◌but_not◌, answers, Asked, facts_for, asked, longest, begins_text, before_identifier, join, char_terminal, lone_facts, punctuation_facts, punctuation_lookahead, lookahead}
+use Rattle.syn_grammar.specs.Tokens.{Span, Stream, or, and, no, pick, Terminal, Ended, Name, Word, Punctuation, Literal, Delimited, Lookahead, lookahead_with, Fact, same_fact, fact_number, has_fact, same_terminal, mem, Look, ended, at_name, at_word, at_mark, at_literal, at_group, at_empty_group, ahead, ◌or_else◌, ◌and_also◌, ◌but_not◌, answers, Asked, facts_for, asked, longest, begins_text, before_identifier, join, char_terminal, lone_facts, punctuation_facts, punctuation_lookahead, lookahead}
 use Rattle.syn_grammar.specs.Grammar.{chars, spell, Spelled}
 use Rattle.syn_grammar.proofs.Sets.{or_left, or_split, and_left, and_right, true_or_false, mem_here, those, mem_those, same_terminal_eq, same_fact_eq, or_right}
 use Rattle.syn_grammar.proofs.Streams.{quiet, silent_fact}
@@ -133,6 +133,7 @@ heard y (at_mark (d ∷ m)) [] l e h = absurd (true≢false (sym h))
 heard y (at_mark (d ∷ m)) (c ∷ x) l e h = ap (λ i. longest long_marks (y ∷ i ∷ x) (y ∷ [])) (sym (eqb-true d c (and_left (nat_eq d c) _ h))) ∙ none_longest y d x long_marks e
 heard y (at_literal k) x l e h = absurd (true≢false (sym h))
 heard y (at_group d) x l e h = absurd (true≢false (sym h))
+heard y at_empty_group x l e h = absurd (true≢false (sym h))
 heard y (ahead n) x l e h = absurd (true≢false (sym e))
 heard y (a or_else b) x l e h =
     go (or_split (answers a (lookahead_with (Punctuation x) l)) (answers b (lookahead_with (Punctuation x) l)) h) (heard y a x l (and_left (deaf y a) _ e)) (heard y b x l (and_right (deaf y a) _ e))
@@ -217,7 +218,7 @@ told_facts (x ∷ y ∷ []) ts r f h q e A =
         at Name i = identifier g B
         at (Word l) i = identifier g B
         at (Literal k) i = same_facts_for g B
-        at (Delimited d) i = same_facts_for g B
+        at (Delimited d v) i = same_facts_for g B
 told_facts (x ∷ y ∷ z ∷ l) ts r f h q e A = absurd (true≢false (sym q))
 
 -- what a token with this terminal asks of what follows, for these facts

@@ -1,12 +1,12 @@
 -- How groups, members of lists, supplied names and generics print, by the summaries of their forms.
-use Rattle.std.proofs.Common.{◌≡◌, ℕ, Bool, true, false, List, [], ◌∷◌, ◌++◌, refl, sym, ap, ◌∙◌, subst, true≢false, ◌⊎◌, inl, inr}
+use Rattle.std.proofs.Common.{◌≡◌, ℕ, Bool, true, false, List, [], ◌∷◌, ◌++◌, refl, sym, ap, ◌∙◌, subst, true≢false, ◌⊎◌, inl, inr, ap₂}
 use Rattle.syn_grammar.specs.Words.{w_underscore, colon, comma, less, greater}
-use Rattle.syn_grammar.specs.Tokens.{Span, Delimiter, Stream, end, or, and, no, pick, Terminal, Ended, Word, Punctuation, Delimited, Lookahead, lookahead_with, Fact, same_terminal, mem, Look, ahead, ◌or_else◌, ◌and_also◌, ◌but_not◌, answers, facts_for, asked_inside, lookahead}
+use Rattle.syn_grammar.specs.Tokens.{Span, Delimiter, Paren, Brace, Bracket, Stream, end, or, and, no, pick, Terminal, Ended, Word, Punctuation, Delimited, Lookahead, lookahead_with, Fact, same_terminal, mem, Look, ahead, ◌or_else◌, ◌and_also◌, ◌but_not◌, answers, asked_inside, lookahead, None, is_ended, holds_nothing, group_lookahead}
 use Rattle.syn_grammar.specs.Grammar.{spell, terminals, at_row_end, name, at_unnamed, underscore}
-use Rattle.syn_grammar.proofs.Sets.{or_split, and_left, and_right, no_true, mem_here, mem_left, mem_right, every, every_at, may, must, off_of, on_of}
+use Rattle.syn_grammar.proofs.Sets.{or_split, and_left, and_right, no_true, mem_left, mem_right, every, every_at, may, must, off_of, on_of, or_left, group_terminals, group_terminal}
 use Rattle.syn_grammar.proofs.Streams.{silent}
 use Rattle.syn_grammar.proofs.FirstSets.{mark_first_set}
-use Rattle.syn_grammar.proofs.Again.{move, stays_off, off_sound, those2, mem2_those, seconds, mem2_left, mem2_here, every2, every2_at, mem_seconds, cross, Agree, agree, clear, agree_sound, clear_sound, agree_same, agree_left, agree_right, stay_off_agreed, agree_neither, ahead_looks, fact_agrees}
+use Rattle.syn_grammar.proofs.Again.{move, stays_off, off_sound, those2, mem2_those, seconds, mem2_left, every2, every2_at, mem_seconds, cross, Agree, agree, clear, agree_sound, clear_sound, agree_same, agree_left, agree_right, stay_off_agreed, agree_neither, ahead_looks, fact_agrees, firsts, mem_firsts, mem2_cross}
 use Rattle.syn_grammar.proofs.Summaries.{Summary, either_summary, seam, filled, HasLookaheads, alike, altered, passed, vanished, Ready, ready, either_right, prints, printed_mem}
 use Rattle.syn_grammar.proofs.Marks.{mark_terminal, and_off_right, mark_summary}
 
@@ -22,16 +22,73 @@ steady_sound A p a b w (vanished v f) =
     let u = and_right (every2 (agree A) p.moves) _ w in
     agree_neither A a b (clear_sound A a (every_at (clear A) a.terminal p.gone (and_left (every (clear A) p.gone) _ u) v)) (clear_sound A b (ap (λ z. clear A z.terminal) f ∙ and_right (every (clear A) p.gone) _ u))
 
-abbrev pub group_summary : Delimiter → Bool → Summary
-group_summary d s = record { stays = pick s (Delimited d ∷ []) []; moves = pick s [] (move (Delimited d) (Delimited d) [] ∷ []); nullable = false; gone = []; ends = []; halts = []; shuns = [] }
+filled_off : (a : Terminal) (l : List Terminal) → mem a l ≡ true → filled l ≡ true
+filled_off a [] e = e
+filled_off a (x ∷ l) e = refl
 
-pub group_lookahead : (d : Delimiter) (p : Summary) (a b ra rb : Lookahead) → HasLookaheads p a b (lookahead end) (lookahead end) →
-    HasLookaheads (group_summary d (steady (ahead_looks (asked_inside d)) p)) (lookahead_with (Delimited d) (facts_for (asked_inside d) a)) (lookahead_with (Delimited d) (facts_for (asked_inside d) b)) ra rb
-group_lookahead d p a b ra rb h = go (steady (ahead_looks (asked_inside d)) p) refl
+abbrev none_ended : List Terminal → Bool
+none_ended l = every (λ f. no (is_ended f)) l
+
+-- of the content of an invisible group: what is read of it and what is printed are both nothing, or neither is
+abbrev pub lasting : Delimiter → Summary → Bool
+lasting None p = and (no (filled p.gone)) (and (none_ended p.stays) (and (none_ended (firsts p.moves)) (none_ended (seconds p.moves))))
+lasting d p = true
+
+-- a group's terminals, by whether its content may be nothing
+abbrev pub terminals_with : Delimiter → Bool → List Terminal
+terminals_with d v = pick v (group_terminals d) (Delimited d false ∷ [])
+
+-- a group, by whether its lookahead is the same in the print, and whether its content may be nothing
+abbrev pub group_summary : Delimiter → Bool → Bool → Summary
+group_summary d s v = record { stays = pick s (terminals_with d v) []; moves = pick s [] (cross (group_terminals d) (group_terminals d)); nullable = false; gone = []; ends = []; halts = []; shuns = [] }
+
+abbrev pub inside_summary : Delimiter → Summary → Summary
+inside_summary d p = group_summary d (and (steady (ahead_looks (asked_inside d)) p) (lasting d p)) p.nullable
+
+visible_terminal : (a : Terminal) (v : Bool) → same_terminal a a ≡ true → mem a (pick v (a ∷ []) (a ∷ [])) ≡ true
+visible_terminal a true e = or_left (same_terminal a a) false e
+visible_terminal a false e = or_left (same_terminal a a) false e
+
+filled_terminal : (f : Terminal) (v : Bool) → is_ended f ≡ false → mem (Delimited None (is_ended f)) (terminals_with None v) ≡ true
+filled_terminal f true e = group_terminal None f
+filled_terminal f false e = ap (λ z. mem (Delimited None z) (Delimited None false ∷ [])) e
+
+not_ended_in : (a : Terminal) (l : List Terminal) → none_ended l ≡ true → mem a l ≡ true → is_ended a ≡ false
+not_ended_in a l w e = no_true (is_ended a) (every_at (λ f. no (is_ended f)) a l w e)
+
+-- both hold something, or neither does
+same_terminals : (d : Delimiter) (p : Summary) (a b : Lookahead) → lasting d p ≡ true → HasLookaheads p a b (lookahead end) (lookahead end) →
+    (holds_nothing d a.terminal ≡ holds_nothing d b.terminal) × (mem (Delimited d (holds_nothing d a.terminal)) (terminals_with d p.nullable) ≡ true)
+same_terminals Paren p a b w h = (refl, visible_terminal (Delimited Paren false) p.nullable refl)
+same_terminals Brace p a b w h = (refl, visible_terminal (Delimited Brace false) p.nullable refl)
+same_terminals Bracket p a b w h = (refl, visible_terminal (Delimited Bracket false) p.nullable refl)
+same_terminals None p a b w h = go h
   where
-    go : (v : Bool) → steady (ahead_looks (asked_inside d)) p ≡ v → HasLookaheads (group_summary d v) (lookahead_with (Delimited d) (facts_for (asked_inside d) a)) (lookahead_with (Delimited d) (facts_for (asked_inside d) b)) ra rb
-    go true w = alike (mem_here (Delimited d) []) (ap (lookahead_with (Delimited d)) (fact_agrees (asked_inside d) a b (steady_sound (ahead_looks (asked_inside d)) p a b w h)))
-    go false w = altered [] (mem2_here (move (Delimited d) (Delimited d) []) []) tt
+    w1 : and (none_ended p.stays) (and (none_ended (firsts p.moves)) (none_ended (seconds p.moves))) ≡ true
+    w1 = and_right (no (filled p.gone)) _ w
+
+    w2 : and (none_ended (firsts p.moves)) (none_ended (seconds p.moves)) ≡ true
+    w2 = and_right (none_ended p.stays) _ w1
+
+    go : HasLookaheads p a b (lookahead end) (lookahead end) → (is_ended a.terminal ≡ is_ended b.terminal) × (mem (Delimited None (is_ended a.terminal)) (terminals_with None p.nullable) ≡ true)
+    go (alike e f) = (ap (λ z. is_ended z.terminal) f, filled_terminal a.terminal p.nullable (not_ended_in a.terminal p.stays (and_left (none_ended p.stays) _ w1) e))
+    go (altered k e l) =
+        let x = not_ended_in a.terminal (firsts p.moves) (and_left (none_ended (firsts p.moves)) _ w2) (mem_firsts (move a.terminal b.terminal k) p.moves e) in
+        let y = not_ended_in b.terminal (seconds p.moves) (and_right (none_ended (firsts p.moves)) _ w2) (mem_seconds (move a.terminal b.terminal k) p.moves e) in
+        (x ∙ sym y, filled_terminal a.terminal p.nullable x)
+    go (passed v e f) = (ap (λ z. is_ended z.terminal) (e ∙ sym f), subst (λ n. mem (Delimited None (is_ended a.terminal)) (terminals_with None n) ≡ true) (sym v) (group_terminal None a.terminal))
+    go (vanished v f) = absurd (true≢false (sym (filled_off a.terminal p.gone v) ∙ no_true (filled p.gone) (and_left (no (filled p.gone)) _ w)))
+
+pub inside_lookahead : (d : Delimiter) (p : Summary) (a b ra rb : Lookahead) → HasLookaheads p a b (lookahead end) (lookahead end) →
+    HasLookaheads (inside_summary d p) (group_lookahead d a) (group_lookahead d b) ra rb
+inside_lookahead d p a b ra rb h = go (and (steady (ahead_looks (asked_inside d)) p) (lasting d p)) refl
+  where
+    go : (v : Bool) → and (steady (ahead_looks (asked_inside d)) p) (lasting d p) ≡ v → HasLookaheads (group_summary d v p.nullable) (group_lookahead d a) (group_lookahead d b) ra rb
+    go true w =
+        let (e, m) = same_terminals d p a b (and_right (steady (ahead_looks (asked_inside d)) p) _ w) h in
+        let s = steady_sound (ahead_looks (asked_inside d)) p a b (and_left (steady (ahead_looks (asked_inside d)) p) _ w) h in
+        alike m (ap₂ (λ v l. lookahead_with (Delimited d v) l) e (fact_agrees (asked_inside d) a b s))
+    go false w = altered [] (mem2_cross (Delimited d (holds_nothing d a.terminal)) (Delimited d (holds_nothing d b.terminal)) (group_terminals d) (group_terminals d) (group_terminal d a.terminal) (group_terminal d b.terminal)) tt
 
 -- ROWS: what stands behind a member is a comma or a `>`
 abbrev pub edges : List Terminal
@@ -51,10 +108,6 @@ one_way_sound (c ∷ A) a b w x y = (go (or_split (every (must c) edges) _ (and_
 
 abbrev pub in_row : Summary → Bool
 in_row p = and (and (no p.nullable) (no (filled p.gone))) (and (one_way (p.ends ++ p.halts)) (and (every (clear p.shuns) edges) (every (λ f. no (may at_row_end f)) (prints p))))
-
-filled_off : (a : Terminal) (l : List Terminal) → mem a l ≡ true → filled l ≡ true
-filled_off a [] e = e
-filled_off a (x ∷ l) e = refl
 
 module _ (p : Summary) (w : in_row p ≡ true) where
   pub w1 : and (one_way (p.ends ++ p.halts)) (and (every (clear p.shuns) edges) (every (λ f. no (may at_row_end f)) (prints p))) ≡ true

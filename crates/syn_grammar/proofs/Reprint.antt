@@ -1,10 +1,10 @@
 -- What is printed is read again, for every table whose summaries hold and whose forms are `fine`.
 use Rattle.std.proofs.Common.{◌≡◌, ℕ, Bool, true, false, List, [], ◌∷◌, ◌++◌, refl, sym, ap, ◌∙◌, ap₂, subst, true≢false, ◌⊎◌, inl, inr}
 use Rattle.syn_grammar.specs.Words.{colon, comma, less, greater, lifetime_mark}
-use Rattle.syn_grammar.specs.Tokens.{Span, Stream, end, leaf, punct, group, ◌⧺◌, or, and, no, pick, Terminal, Ended, Punctuation, Delimited, Lookahead, lookahead_with, same_terminal, mem, Look, ended, at_mark, ◌or_else◌, answers, starts_mark, is_name, is_ended, asked, asked_inside, leaf_terminal, punctuation_lookahead, lookahead, stands, at_generics, at_parameter, Before_parameter, call_site}
+use Rattle.syn_grammar.specs.Tokens.{Span, Stream, end, leaf, punct, group, ◌⧺◌, or, and, no, pick, Terminal, Ended, Punctuation, Lookahead, lookahead_with, same_terminal, mem, Look, ended, at_mark, ◌or_else◌, answers, starts_mark, is_name, is_ended, asked, leaf_terminal, punctuation_lookahead, lookahead, stands, at_generics, at_parameter, Before_parameter, call_site}
 use Rattle.syn_grammar.specs.Rules.{Rule}
 use Rattle.syn_grammar.specs.Grammar.{Syntax, Nothing, Token, Mark, Lifetime, Both, Left, Right, Node, Vanishing, Group, Raw, Rest, Case, Captured, Done, Last, More, Order, Such, chars, spell, Spelled, DerivesPrefix, terminals, suits, Grammar, empty, token, mark, lifetime, ◌&◌, when◌then◌else◌, vanishing, inside, raw, rest_after, either, one_of, rule, such, captured, row, ordered, choose, among, at_row_end, bare, show, behind, sort, print, renew, name, supplied, at_unnamed, underscore, Unshown, Impl, unshown, generics_before, opt_generics, no_generics, Shaped, shaped, led_part, led}
-use Rattle.syn_grammar.proofs.Sets.{or_split, and_left, and_right, no_true, mem_here, mem_left, mem_right, every, every_at, may, must, off_of, or_right}
+use Rattle.syn_grammar.proofs.Sets.{or_split, and_left, and_right, no_true, mem_here, mem_left, mem_right, every, every_at, may, must, off_of, or_right, group_terminal}
 use Rattle.syn_grammar.specs.RuleNumbers.{same_rule}
 use Rattle.syn_grammar.proofs.RuleLemmas.{same_rule_eq}
 use Rattle.syn_grammar.proofs.Plain.{holds_renew}
@@ -16,7 +16,7 @@ use Rattle.syn_grammar.proofs.Again.{move, mem2_right, mem2_cross, clear, agree_
 use Rattle.syn_grammar.proofs.Summaries.{Summary, seq_summary, when_summary, empty_summary, vanishing_summary, either_summary, one_summary, seam, kept, filled, HasLookaheads, alike, altered, passed, covers, seq_lookahead, seam_sound, Ready, ready, at_end, ready_left, ready_right, ready_then, ready_else, ready_second, ready_vanishing, cover_lookahead, cover_ready, when_left, when_right, vanishing_gone, vanishing_stays, either_left, either_right, one_lookahead, one_ready, prints}
 use Rattle.syn_grammar.proofs.Marks.{mark_terminal, mark_lookahead, lookahead_spell, spell_spelled, last_asked, token_summary, token_lookahead, mark_summary, marked, inner_summary, inner_lookahead}
 use Rattle.syn_grammar.proofs.Surely.{surely, surely_sound}
-use Rattle.syn_grammar.proofs.Parts.{steady, group_summary, group_lookahead, edges, in_row, ready_at_edge, not_ended, wild_out, wild_lookahead, colon_summary, supplied_colon, supplied_summary, supplied_fine, named_lookahead, mentions, heeds, listens, lead_summary, solid, solid_lookahead, sure_first, printed_behind}
+use Rattle.syn_grammar.proofs.Parts.{group_summary, edges, in_row, ready_at_edge, not_ended, wild_out, wild_lookahead, colon_summary, supplied_colon, supplied_summary, supplied_fine, named_lookahead, mentions, heeds, listens, lead_summary, solid, solid_lookahead, sure_first, printed_behind, inside_summary, inside_lookahead}
 
 module _ (said : Bool → Rule → Summary) (heard : Rule → Bool) (starts : Rule → Start) (closed : Rule → Bool) where
   abbrev pub summary : Bool → Grammar → Summary
@@ -28,8 +28,8 @@ module _ (said : Bool → Rule → Summary) (heard : Rule → Bool) (starts : Ru
   summary a (g & h) = seq_summary (never_follow starts [] h) (summary a g) (summary (heeds a (summary a g)) h)
   summary a (when c then g else h) = when_summary c (summary (or a (mentions c)) g) (summary (or a (mentions c)) h)
   summary a (vanishing b c g) = vanishing_summary b c (summary (or a (mentions c)) g)
-  summary a (inside d g) = group_summary d (steady (ahead_looks (asked_inside d)) (summary (listens d) g))
-  summary a (raw d) = group_summary d true
+  summary a (inside d g) = inside_summary d (summary (listens d) g)
+  summary a (raw d) = group_summary d true true
   summary a (either g h) = either_summary (summary a g) (summary a h)
   summary a (one_of ks) = one_summary (said a) ks
   summary a (rule k) = said a k
@@ -304,12 +304,12 @@ module _ (said : Bool → Rule → Summary) (heard : Rule → Bool) (starts : Ru
             (e, print s, refl, y.0),
             subst (λ z. HasLookaheads (summary j (inside d g)) z (lookahead (group d' o c (print s) r')) (lookahead r) (lookahead r')) (ap lookahead (sym f))
                 (subst (λ v. HasLookaheads (summary j (inside d g)) (lookahead (group v o c i r)) (lookahead (group v o c (print s) r')) (lookahead r) (lookahead r')) e
-                (group_lookahead d (summary (listens d) g) (lookahead i) (lookahead (print s)) (lookahead r) (lookahead r') y.1)),
+                (inside_lookahead d (summary (listens d) g) (lookahead i) (lookahead (print s)) (lookahead r) (lookahead r') y.1)),
           )
       again j (raw d) (Raw d' o c i) ts r r' w (e, f) R = (
         (e, refl),
-        subst (λ z. HasLookaheads (group_summary d true) z (lookahead (group d' o c i r')) (lookahead r) (lookahead r')) (ap lookahead (sym f))
-            (subst (λ v. HasLookaheads (group_summary d true) (lookahead (group v o c i r)) (lookahead (group v o c i r')) (lookahead r) (lookahead r')) e (alike (mem_here (Delimited d) []) refl)),
+        subst (λ z. HasLookaheads (group_summary d true true) z (lookahead (group d' o c i r')) (lookahead r) (lookahead r')) (ap lookahead (sym f))
+            (subst (λ v. HasLookaheads (group_summary d true true) (lookahead (group v o c i r)) (lookahead (group v o c i r')) (lookahead r) (lookahead r')) e (alike (group_terminal d (lookahead i).terminal) refl)),
       )
       again j (either g h) (Left s) ts r r' w a R =
           let x = again j g s ts r r' (and_left (fine j g) _ w) a (ready_left (summary j g) (summary j h) (lookahead r) (lookahead r') R) in

@@ -2,7 +2,7 @@
 -- What the proofs say of each rule; the checker computes each line again.
 use Rattle.std.proofs.Common.{◌≡◌, Bool, true, false, [], ◌∷◌, refl, sym, true≢false}
 use Rattle.syn_grammar.specs.Words.{w_underscore, w_as, w_crate, w_enum, w_false, w_for, w_impl, w_in, w_pub, w_Self_type, w_self, w_struct, w_super, w_trait, w_true, w_unsafe, w_where, w_union, w_auto, w_default, w_safe, semicolon, equals, star, less, pound, ampersand, question, lifetime_mark, exclamation, colons, arrow, equal_equal, not_equals, less_less, less_equals, and_and, star_equals, ampersand_equals, less_less_equals}
-use Rattle.syn_grammar.specs.Tokens.{Paren, Brace, Bracket, None, Str, ByteStr, CStr, Byte, Char, Int, Float, Ended, Name, Word, Punctuation, Literal, Delimited, Before_equals, Bang_brace, Bang_name, Bang_group, ended, at_name, at_word, ahead, ◌or_else◌, ◌and_also◌, ◌but_not◌, at_lifetime, at_path_rest}
+use Rattle.syn_grammar.specs.Tokens.{Paren, Brace, Bracket, None, Str, ByteStr, CStr, Byte, Char, Int, Float, Ended, Name, Word, Punctuation, Literal, Delimited, Before_equals, Bang_brace, Bang_name, Bang_group, ended, at_name, at_word, at_empty_group, ahead, ◌or_else◌, ◌and_also◌, ◌but_not◌, at_lifetime, at_path_rest}
 use Rattle.syn_grammar.specs.Rules.{Rule, attributes, inner_attributes, no_attributes, meta, unsafe_path, unsafe_word, meta_value, module_path, module_words, visibility, restriction, type_path, type_words, type_arguments, return_type, generic_arguments, generic_argument, qualified_path, path_as_type, type, types, expression, generics, lifetime_parameter, lifetimes, parameter_bounds, bound, trait_bound, bound_lifetimes, lifetime_parameters, where_clause, predicates, predicate, predicate_bounds, fields_named, named_fields, named_field, nameless_fields, unnamed_field, unnamed_fields, fields_unnamed, variant, variants, structure, structure_rest, structure_body, enumeration, enumeration_rest, union_item, union_item_rest, derive_input}
 use Rattle.syn_grammar.specs.Table.{at_colons, at_colon, at_equals, at_comma, at_pound, at_inner_attribute, at_plus, at_less, at_less_only, at_greater, at_arrow, at_paren, at_brace, at_bracket, at_arguments, at_restriction, at_parameter_end, at_predicate_end, table}
 use Rattle.syn_grammar.proofs.FirstSets.{Start, IsSaid}
@@ -21,51 +21,51 @@ start_of no_attributes = record { first_set = []; nullable = true; never_follow 
 start_of meta = record { first_set = Word w_unsafe ∷ Name ∷ Punctuation colons ∷ Word w_Self_type ∷ Word w_auto ∷ Word w_crate ∷ Word w_default ∷ Word w_safe ∷ Word w_self ∷ Word w_super ∷ Word w_union ∷ []; nullable = false; never_follow = [] }
 start_of unsafe_path = record { first_set = Word w_unsafe ∷ []; nullable = false; never_follow = at_colons ∷ [] }
 start_of unsafe_word = record { first_set = Word w_unsafe ∷ []; nullable = false; never_follow = at_colons ∷ [] }
-start_of meta_value = record { first_set = Delimited Paren ∷ Delimited Brace ∷ Delimited Bracket ∷ Punctuation equals ∷ Punctuation (61 ∷ 62 ∷ []) ∷ Punctuation equal_equal ∷ []; nullable = true; never_follow = [] }
+start_of meta_value = record { first_set = Delimited Paren false ∷ Delimited Brace false ∷ Delimited Bracket false ∷ Punctuation equals ∷ Punctuation (61 ∷ 62 ∷ []) ∷ Punctuation equal_equal ∷ []; nullable = true; never_follow = [] }
 start_of module_path = record { first_set = Punctuation colons ∷ Name ∷ Word w_Self_type ∷ Word w_auto ∷ Word w_crate ∷ Word w_default ∷ Word w_safe ∷ Word w_self ∷ Word w_super ∷ Word w_union ∷ []; nullable = false; never_follow = at_colons ∷ [] }
 start_of module_words = record { first_set = Name ∷ Word w_union ∷ Word w_auto ∷ Word w_default ∷ Word w_safe ∷ Word w_self ∷ Word w_Self_type ∷ Word w_super ∷ Word w_crate ∷ []; nullable = false; never_follow = at_colons ∷ [] }
-start_of visibility = record { first_set = Word w_pub ∷ []; nullable = true; never_follow = [] }
+start_of visibility = record { first_set = Word w_pub ∷ Delimited None true ∷ []; nullable = true; never_follow = [] }
 start_of restriction = record { first_set = Word w_in ∷ Name ∷ Punctuation colons ∷ Word w_Self_type ∷ Word w_auto ∷ Word w_crate ∷ Word w_default ∷ Word w_safe ∷ Word w_self ∷ Word w_super ∷ Word w_union ∷ []; nullable = false; never_follow = at_colons ∷ [] }
 start_of type_path = record { first_set = Punctuation colons ∷ Name ∷ Word w_Self_type ∷ Word w_auto ∷ Word w_crate ∷ Word w_default ∷ Word w_safe ∷ Word w_self ∷ Word w_super ∷ Word w_union ∷ []; nullable = false; never_follow = at_colons ∷ [] }
 start_of type_words = record { first_set = Name ∷ Word w_union ∷ Word w_auto ∷ Word w_default ∷ Word w_safe ∷ Word w_Self_type ∷ Word w_self ∷ Word w_super ∷ Word w_crate ∷ []; nullable = false; never_follow = at_colons ∷ [] }
-start_of type_arguments = record { first_set = Delimited Paren ∷ Punctuation colons ∷ Punctuation less ∷ Punctuation less_less ∷ Punctuation less_less_equals ∷ Punctuation less_equals ∷ []; nullable = false; never_follow = [] }
+start_of type_arguments = record { first_set = Delimited Paren false ∷ Punctuation colons ∷ Punctuation less ∷ Punctuation less_less ∷ Punctuation less_less_equals ∷ Punctuation less_equals ∷ []; nullable = false; never_follow = [] }
 start_of return_type = record { first_set = Punctuation arrow ∷ []; nullable = true; never_follow = [] }
 start_of generic_arguments = record { first_set = Punctuation less ∷ Punctuation less_less_equals ∷ Punctuation less_equals ∷ Punctuation less_less ∷ []; nullable = false; never_follow = [] }
-start_of generic_argument = record { first_set = Name ∷ Word w_union ∷ Word w_auto ∷ Word w_default ∷ Word w_safe ∷ Literal Byte ∷ Literal ByteStr ∷ Literal CStr ∷ Literal Char ∷ Literal Float ∷ Literal Int ∷ Literal Str ∷ Word w_false ∷ Word w_true ∷ Delimited Bracket ∷ Delimited None ∷ Delimited Paren ∷ Punctuation exclamation ∷ Punctuation not_equals ∷ Punctuation ampersand ∷ Punctuation and_and ∷ Punctuation ampersand_equals ∷ Punctuation star ∷ Punctuation star_equals ∷ Punctuation colons ∷ Punctuation less ∷ Punctuation less_less ∷ Punctuation less_less_equals ∷ Punctuation less_equals ∷ Word w_Self_type ∷ Word w_crate ∷ Word w_self ∷ Word w_super ∷ []; nullable = false; never_follow = [] }
+start_of generic_argument = record { first_set = Name ∷ Word w_union ∷ Word w_auto ∷ Word w_default ∷ Word w_safe ∷ Literal Byte ∷ Literal ByteStr ∷ Literal CStr ∷ Literal Char ∷ Literal Float ∷ Literal Int ∷ Literal Str ∷ Word w_false ∷ Word w_true ∷ Delimited Bracket false ∷ Delimited None false ∷ Delimited None true ∷ Delimited Paren false ∷ Punctuation exclamation ∷ Punctuation not_equals ∷ Punctuation ampersand ∷ Punctuation and_and ∷ Punctuation ampersand_equals ∷ Punctuation star ∷ Punctuation star_equals ∷ Punctuation colons ∷ Punctuation less ∷ Punctuation less_less ∷ Punctuation less_less_equals ∷ Punctuation less_equals ∷ Word w_Self_type ∷ Word w_crate ∷ Word w_self ∷ Word w_super ∷ []; nullable = false; never_follow = [] }
 start_of qualified_path = record { first_set = Punctuation less ∷ Punctuation less_less_equals ∷ Punctuation less_equals ∷ Punctuation less_less ∷ []; nullable = false; never_follow = at_colons ∷ [] }
 start_of path_as_type = record { first_set = Punctuation less ∷ Punctuation less_less ∷ Punctuation less_less_equals ∷ Punctuation less_equals ∷ Name ∷ Punctuation colons ∷ Word w_Self_type ∷ Word w_auto ∷ Word w_crate ∷ Word w_default ∷ Word w_safe ∷ Word w_self ∷ Word w_super ∷ Word w_union ∷ []; nullable = false; never_follow = at_colons ∷ [] }
-start_of type = record { first_set = Punctuation ampersand ∷ Punctuation and_and ∷ Punctuation ampersand_equals ∷ Punctuation star ∷ Punctuation star_equals ∷ Delimited Paren ∷ Delimited Bracket ∷ Punctuation exclamation ∷ Punctuation not_equals ∷ Delimited None ∷ Name ∷ Punctuation colons ∷ Punctuation less ∷ Punctuation less_less ∷ Punctuation less_less_equals ∷ Punctuation less_equals ∷ Word w_Self_type ∷ Word w_auto ∷ Word w_crate ∷ Word w_default ∷ Word w_safe ∷ Word w_self ∷ Word w_super ∷ Word w_union ∷ []; nullable = false; never_follow = [] }
-start_of types = record { first_set = Delimited Bracket ∷ Delimited None ∷ Delimited Paren ∷ Name ∷ Punctuation exclamation ∷ Punctuation not_equals ∷ Punctuation ampersand ∷ Punctuation and_and ∷ Punctuation ampersand_equals ∷ Punctuation star ∷ Punctuation star_equals ∷ Punctuation colons ∷ Punctuation less ∷ Punctuation less_less ∷ Punctuation less_less_equals ∷ Punctuation less_equals ∷ Word w_Self_type ∷ Word w_auto ∷ Word w_crate ∷ Word w_default ∷ Word w_safe ∷ Word w_self ∷ Word w_super ∷ Word w_union ∷ []; nullable = true; never_follow = [] }
+start_of type = record { first_set = Punctuation ampersand ∷ Punctuation and_and ∷ Punctuation ampersand_equals ∷ Punctuation star ∷ Punctuation star_equals ∷ Delimited Paren false ∷ Delimited Bracket false ∷ Punctuation exclamation ∷ Punctuation not_equals ∷ Delimited None false ∷ Delimited None true ∷ Name ∷ Punctuation colons ∷ Punctuation less ∷ Punctuation less_less ∷ Punctuation less_less_equals ∷ Punctuation less_equals ∷ Word w_Self_type ∷ Word w_auto ∷ Word w_crate ∷ Word w_default ∷ Word w_safe ∷ Word w_self ∷ Word w_super ∷ Word w_union ∷ []; nullable = false; never_follow = [] }
+start_of types = record { first_set = Delimited Bracket false ∷ Delimited None false ∷ Delimited None true ∷ Delimited Paren false ∷ Name ∷ Punctuation exclamation ∷ Punctuation not_equals ∷ Punctuation ampersand ∷ Punctuation and_and ∷ Punctuation ampersand_equals ∷ Punctuation star ∷ Punctuation star_equals ∷ Punctuation colons ∷ Punctuation less ∷ Punctuation less_less ∷ Punctuation less_less_equals ∷ Punctuation less_equals ∷ Word w_Self_type ∷ Word w_auto ∷ Word w_crate ∷ Word w_default ∷ Word w_safe ∷ Word w_self ∷ Word w_super ∷ Word w_union ∷ []; nullable = true; never_follow = [] }
 start_of expression = record { first_set = Word w_true ∷ Word w_false ∷ Literal Str ∷ Literal ByteStr ∷ Literal CStr ∷ Literal Byte ∷ Literal Char ∷ Literal Int ∷ Literal Float ∷ []; nullable = false; never_follow = [] }
 start_of generics = record { first_set = Punctuation less ∷ Punctuation less_less_equals ∷ Punctuation less_equals ∷ Punctuation less_less ∷ []; nullable = true; never_follow = [] }
 start_of lifetime_parameter = record { first_set = Punctuation pound ∷ Punctuation lifetime_mark ∷ []; nullable = false; never_follow = [] }
 start_of lifetimes = record { first_set = Punctuation lifetime_mark ∷ []; nullable = true; never_follow = [] }
-start_of parameter_bounds = record { first_set = Delimited Paren ∷ Name ∷ Punctuation lifetime_mark ∷ Punctuation colons ∷ Punctuation question ∷ Word w_Self_type ∷ Word w_auto ∷ Word w_crate ∷ Word w_default ∷ Word w_for ∷ Word w_safe ∷ Word w_self ∷ Word w_super ∷ Word w_union ∷ []; nullable = true; never_follow = [] }
-start_of bound = record { first_set = Punctuation lifetime_mark ∷ Delimited Paren ∷ Name ∷ Punctuation colons ∷ Punctuation question ∷ Word w_Self_type ∷ Word w_auto ∷ Word w_crate ∷ Word w_default ∷ Word w_for ∷ Word w_safe ∷ Word w_self ∷ Word w_super ∷ Word w_union ∷ []; nullable = false; never_follow = [] }
+start_of parameter_bounds = record { first_set = Delimited Paren false ∷ Name ∷ Punctuation lifetime_mark ∷ Punctuation colons ∷ Punctuation question ∷ Word w_Self_type ∷ Word w_auto ∷ Word w_crate ∷ Word w_default ∷ Word w_for ∷ Word w_safe ∷ Word w_self ∷ Word w_super ∷ Word w_union ∷ []; nullable = true; never_follow = [] }
+start_of bound = record { first_set = Punctuation lifetime_mark ∷ Delimited Paren false ∷ Name ∷ Punctuation colons ∷ Punctuation question ∷ Word w_Self_type ∷ Word w_auto ∷ Word w_crate ∷ Word w_default ∷ Word w_for ∷ Word w_safe ∷ Word w_self ∷ Word w_super ∷ Word w_union ∷ []; nullable = false; never_follow = [] }
 start_of trait_bound = record { first_set = Punctuation question ∷ Word w_for ∷ Name ∷ Punctuation colons ∷ Word w_Self_type ∷ Word w_auto ∷ Word w_crate ∷ Word w_default ∷ Word w_safe ∷ Word w_self ∷ Word w_super ∷ Word w_union ∷ []; nullable = false; never_follow = at_colons ∷ [] }
 start_of bound_lifetimes = record { first_set = Punctuation less ∷ Punctuation less_less_equals ∷ Punctuation less_equals ∷ Punctuation less_less ∷ []; nullable = false; never_follow = [] }
 start_of lifetime_parameters = record { first_set = Punctuation pound ∷ Punctuation lifetime_mark ∷ []; nullable = true; never_follow = [] }
 start_of where_clause = record { first_set = Word w_where ∷ []; nullable = true; never_follow = [] }
-start_of predicates = record { first_set = Delimited Bracket ∷ Delimited None ∷ Delimited Paren ∷ Name ∷ Punctuation exclamation ∷ Punctuation not_equals ∷ Punctuation ampersand ∷ Punctuation and_and ∷ Punctuation ampersand_equals ∷ Punctuation lifetime_mark ∷ Punctuation star ∷ Punctuation star_equals ∷ Punctuation colons ∷ Punctuation less ∷ Punctuation less_less ∷ Punctuation less_less_equals ∷ Punctuation less_equals ∷ Word w_Self_type ∷ Word w_auto ∷ Word w_crate ∷ Word w_default ∷ Word w_for ∷ Word w_safe ∷ Word w_self ∷ Word w_super ∷ Word w_union ∷ []; nullable = true; never_follow = [] }
-start_of predicate = record { first_set = Punctuation lifetime_mark ∷ Word w_for ∷ Delimited Bracket ∷ Delimited None ∷ Delimited Paren ∷ Name ∷ Punctuation exclamation ∷ Punctuation not_equals ∷ Punctuation ampersand ∷ Punctuation and_and ∷ Punctuation ampersand_equals ∷ Punctuation star ∷ Punctuation star_equals ∷ Punctuation colons ∷ Punctuation less ∷ Punctuation less_less ∷ Punctuation less_less_equals ∷ Punctuation less_equals ∷ Word w_Self_type ∷ Word w_auto ∷ Word w_crate ∷ Word w_default ∷ Word w_safe ∷ Word w_self ∷ Word w_super ∷ Word w_union ∷ []; nullable = false; never_follow = [] }
-start_of predicate_bounds = record { first_set = Delimited Paren ∷ Name ∷ Punctuation lifetime_mark ∷ Punctuation colons ∷ Punctuation question ∷ Word w_Self_type ∷ Word w_auto ∷ Word w_crate ∷ Word w_default ∷ Word w_for ∷ Word w_safe ∷ Word w_self ∷ Word w_super ∷ Word w_union ∷ []; nullable = true; never_follow = [] }
-start_of fields_named = record { first_set = Delimited Brace ∷ []; nullable = false; never_follow = [] }
-start_of named_fields = record { first_set = Name ∷ Punctuation pound ∷ Word w_underscore ∷ Word w_auto ∷ Word w_default ∷ Word w_pub ∷ Word w_safe ∷ Word w_union ∷ []; nullable = true; never_follow = [] }
-start_of named_field = record { first_set = Punctuation pound ∷ Word w_pub ∷ Word w_underscore ∷ Name ∷ Word w_union ∷ Word w_auto ∷ Word w_default ∷ Word w_safe ∷ []; nullable = false; never_follow = [] }
+start_of predicates = record { first_set = Delimited Bracket false ∷ Delimited None false ∷ Delimited None true ∷ Delimited Paren false ∷ Name ∷ Punctuation exclamation ∷ Punctuation not_equals ∷ Punctuation ampersand ∷ Punctuation and_and ∷ Punctuation ampersand_equals ∷ Punctuation lifetime_mark ∷ Punctuation star ∷ Punctuation star_equals ∷ Punctuation colons ∷ Punctuation less ∷ Punctuation less_less ∷ Punctuation less_less_equals ∷ Punctuation less_equals ∷ Word w_Self_type ∷ Word w_auto ∷ Word w_crate ∷ Word w_default ∷ Word w_for ∷ Word w_safe ∷ Word w_self ∷ Word w_super ∷ Word w_union ∷ []; nullable = true; never_follow = [] }
+start_of predicate = record { first_set = Punctuation lifetime_mark ∷ Word w_for ∷ Delimited Bracket false ∷ Delimited None false ∷ Delimited None true ∷ Delimited Paren false ∷ Name ∷ Punctuation exclamation ∷ Punctuation not_equals ∷ Punctuation ampersand ∷ Punctuation and_and ∷ Punctuation ampersand_equals ∷ Punctuation star ∷ Punctuation star_equals ∷ Punctuation colons ∷ Punctuation less ∷ Punctuation less_less ∷ Punctuation less_less_equals ∷ Punctuation less_equals ∷ Word w_Self_type ∷ Word w_auto ∷ Word w_crate ∷ Word w_default ∷ Word w_safe ∷ Word w_self ∷ Word w_super ∷ Word w_union ∷ []; nullable = false; never_follow = [] }
+start_of predicate_bounds = record { first_set = Delimited Paren false ∷ Name ∷ Punctuation lifetime_mark ∷ Punctuation colons ∷ Punctuation question ∷ Word w_Self_type ∷ Word w_auto ∷ Word w_crate ∷ Word w_default ∷ Word w_for ∷ Word w_safe ∷ Word w_self ∷ Word w_super ∷ Word w_union ∷ []; nullable = true; never_follow = [] }
+start_of fields_named = record { first_set = Delimited Brace false ∷ []; nullable = false; never_follow = [] }
+start_of named_fields = record { first_set = Delimited None true ∷ Name ∷ Punctuation pound ∷ Word w_underscore ∷ Word w_auto ∷ Word w_default ∷ Word w_pub ∷ Word w_safe ∷ Word w_union ∷ []; nullable = true; never_follow = [] }
+start_of named_field = record { first_set = Punctuation pound ∷ Delimited None true ∷ Word w_pub ∷ Word w_underscore ∷ Name ∷ Word w_union ∷ Word w_auto ∷ Word w_default ∷ Word w_safe ∷ []; nullable = false; never_follow = [] }
 start_of nameless_fields = record { first_set = Word w_struct ∷ Word w_union ∷ []; nullable = false; never_follow = [] }
-start_of unnamed_field = record { first_set = Punctuation pound ∷ Word w_pub ∷ Delimited Bracket ∷ Delimited None ∷ Delimited Paren ∷ Name ∷ Punctuation exclamation ∷ Punctuation not_equals ∷ Punctuation ampersand ∷ Punctuation and_and ∷ Punctuation ampersand_equals ∷ Punctuation star ∷ Punctuation star_equals ∷ Punctuation colons ∷ Punctuation less ∷ Punctuation less_less ∷ Punctuation less_less_equals ∷ Punctuation less_equals ∷ Word w_Self_type ∷ Word w_auto ∷ Word w_crate ∷ Word w_default ∷ Word w_safe ∷ Word w_self ∷ Word w_super ∷ Word w_union ∷ []; nullable = false; never_follow = at_equals ∷ [] }
-start_of unnamed_fields = record { first_set = Delimited Bracket ∷ Delimited None ∷ Delimited Paren ∷ Name ∷ Punctuation exclamation ∷ Punctuation not_equals ∷ Punctuation pound ∷ Punctuation ampersand ∷ Punctuation and_and ∷ Punctuation ampersand_equals ∷ Punctuation star ∷ Punctuation star_equals ∷ Punctuation colons ∷ Punctuation less ∷ Punctuation less_less ∷ Punctuation less_less_equals ∷ Punctuation less_equals ∷ Word w_Self_type ∷ Word w_auto ∷ Word w_crate ∷ Word w_default ∷ Word w_pub ∷ Word w_safe ∷ Word w_self ∷ Word w_super ∷ Word w_union ∷ []; nullable = true; never_follow = [] }
-start_of fields_unnamed = record { first_set = Delimited Paren ∷ []; nullable = false; never_follow = [] }
-start_of variant = record { first_set = Punctuation pound ∷ Word w_pub ∷ Name ∷ Word w_union ∷ Word w_auto ∷ Word w_default ∷ Word w_safe ∷ []; nullable = false; never_follow = [] }
-start_of variants = record { first_set = Name ∷ Punctuation pound ∷ Word w_auto ∷ Word w_default ∷ Word w_pub ∷ Word w_safe ∷ Word w_union ∷ []; nullable = true; never_follow = [] }
-start_of structure = record { first_set = Punctuation pound ∷ Word w_pub ∷ Word w_struct ∷ []; nullable = false; never_follow = [] }
-start_of structure_rest = record { first_set = Word w_pub ∷ Word w_struct ∷ []; nullable = false; never_follow = [] }
-start_of structure_body = record { first_set = Delimited Paren ∷ Word w_where ∷ Delimited Brace ∷ Punctuation semicolon ∷ []; nullable = false; never_follow = [] }
-start_of enumeration = record { first_set = Punctuation pound ∷ Word w_enum ∷ Word w_pub ∷ []; nullable = false; never_follow = [] }
-start_of enumeration_rest = record { first_set = Word w_pub ∷ Word w_enum ∷ []; nullable = false; never_follow = [] }
-start_of union_item = record { first_set = Punctuation pound ∷ Word w_pub ∷ Word w_union ∷ []; nullable = false; never_follow = [] }
-start_of union_item_rest = record { first_set = Word w_pub ∷ Word w_union ∷ []; nullable = false; never_follow = [] }
-start_of derive_input = record { first_set = Punctuation pound ∷ Word w_pub ∷ Word w_struct ∷ Word w_enum ∷ Word w_union ∷ []; nullable = false; never_follow = [] }
+start_of unnamed_field = record { first_set = Punctuation pound ∷ Delimited None true ∷ Word w_pub ∷ Delimited Bracket false ∷ Delimited None false ∷ Delimited Paren false ∷ Name ∷ Punctuation exclamation ∷ Punctuation not_equals ∷ Punctuation ampersand ∷ Punctuation and_and ∷ Punctuation ampersand_equals ∷ Punctuation star ∷ Punctuation star_equals ∷ Punctuation colons ∷ Punctuation less ∷ Punctuation less_less ∷ Punctuation less_less_equals ∷ Punctuation less_equals ∷ Word w_Self_type ∷ Word w_auto ∷ Word w_crate ∷ Word w_default ∷ Word w_safe ∷ Word w_self ∷ Word w_super ∷ Word w_union ∷ []; nullable = false; never_follow = at_equals ∷ [] }
+start_of unnamed_fields = record { first_set = Delimited Bracket false ∷ Delimited None false ∷ Delimited None true ∷ Delimited Paren false ∷ Name ∷ Punctuation exclamation ∷ Punctuation not_equals ∷ Punctuation pound ∷ Punctuation ampersand ∷ Punctuation and_and ∷ Punctuation ampersand_equals ∷ Punctuation star ∷ Punctuation star_equals ∷ Punctuation colons ∷ Punctuation less ∷ Punctuation less_less ∷ Punctuation less_less_equals ∷ Punctuation less_equals ∷ Word w_Self_type ∷ Word w_auto ∷ Word w_crate ∷ Word w_default ∷ Word w_pub ∷ Word w_safe ∷ Word w_self ∷ Word w_super ∷ Word w_union ∷ []; nullable = true; never_follow = [] }
+start_of fields_unnamed = record { first_set = Delimited Paren false ∷ []; nullable = false; never_follow = [] }
+start_of variant = record { first_set = Punctuation pound ∷ Word w_pub ∷ Delimited None true ∷ Name ∷ Word w_union ∷ Word w_auto ∷ Word w_default ∷ Word w_safe ∷ []; nullable = false; never_follow = [] }
+start_of variants = record { first_set = Delimited None true ∷ Name ∷ Punctuation pound ∷ Word w_auto ∷ Word w_default ∷ Word w_pub ∷ Word w_safe ∷ Word w_union ∷ []; nullable = true; never_follow = [] }
+start_of structure = record { first_set = Punctuation pound ∷ Delimited None true ∷ Word w_pub ∷ Word w_struct ∷ []; nullable = false; never_follow = [] }
+start_of structure_rest = record { first_set = Delimited None true ∷ Word w_pub ∷ Word w_struct ∷ []; nullable = false; never_follow = [] }
+start_of structure_body = record { first_set = Delimited Paren false ∷ Word w_where ∷ Delimited Brace false ∷ Punctuation semicolon ∷ []; nullable = false; never_follow = [] }
+start_of enumeration = record { first_set = Punctuation pound ∷ Delimited None true ∷ Word w_enum ∷ Word w_pub ∷ []; nullable = false; never_follow = [] }
+start_of enumeration_rest = record { first_set = Delimited None true ∷ Word w_pub ∷ Word w_enum ∷ []; nullable = false; never_follow = [] }
+start_of union_item = record { first_set = Punctuation pound ∷ Delimited None true ∷ Word w_pub ∷ Word w_union ∷ []; nullable = false; never_follow = [] }
+start_of union_item_rest = record { first_set = Delimited None true ∷ Word w_pub ∷ Word w_union ∷ []; nullable = false; never_follow = [] }
+start_of derive_input = record { first_set = Delimited None true ∷ Punctuation pound ∷ Word w_pub ∷ Word w_struct ∷ Word w_enum ∷ Word w_union ∷ []; nullable = false; never_follow = [] }
 
 -- it ends by itself
 abbrev pub closed_of : Rule → Bool
@@ -183,51 +183,51 @@ summary_of false no_attributes = record { stays = []; moves = []; nullable = tru
 summary_of false meta = record { stays = []; moves = move (Word w_unsafe) (Word w_unsafe) [] ∷ move (Punctuation colons) (Punctuation colons) [] ∷ move Name Name [] ∷ move (Word w_union) (Word w_union) [] ∷ move (Word w_auto) (Word w_auto) [] ∷ move (Word w_default) (Word w_default) [] ∷ move (Word w_safe) (Word w_safe) [] ∷ move (Word w_self) (Word w_self) [] ∷ move (Word w_Self_type) (Word w_Self_type) [] ∷ move (Word w_super) (Word w_super) [] ∷ move (Word w_crate) (Word w_crate) [] ∷ []; nullable = false; gone = []; ends = ended ∷ []; halts = at_equals ∷ at_bracket ∷ at_brace ∷ at_paren ∷ at_colons ∷ []; shuns = [] }
 summary_of false unsafe_path = record { stays = []; moves = move (Word w_unsafe) (Word w_unsafe) [] ∷ []; nullable = false; gone = []; ends = []; halts = at_colons ∷ []; shuns = [] }
 summary_of false unsafe_word = record { stays = []; moves = move (Word w_unsafe) (Word w_unsafe) [] ∷ []; nullable = false; gone = []; ends = []; halts = at_colons ∷ []; shuns = [] }
-summary_of false meta_value = record { stays = Delimited Paren ∷ Delimited Brace ∷ Delimited Bracket ∷ Punctuation equals ∷ []; moves = move (Punctuation (61 ∷ 62 ∷ [])) (Punctuation equals) [] ∷ move (Punctuation equal_equal) (Punctuation equals) [] ∷ []; nullable = true; gone = []; ends = ended ∷ []; halts = at_equals ∷ at_bracket ∷ at_brace ∷ at_paren ∷ []; shuns = [] }
+summary_of false meta_value = record { stays = Delimited Paren false ∷ Delimited Brace false ∷ Delimited Bracket false ∷ Punctuation equals ∷ []; moves = move (Punctuation (61 ∷ 62 ∷ [])) (Punctuation equals) [] ∷ move (Punctuation equal_equal) (Punctuation equals) [] ∷ []; nullable = true; gone = []; ends = ended ∷ []; halts = at_equals ∷ at_bracket ∷ at_brace ∷ at_paren ∷ []; shuns = [] }
 summary_of false module_path = record { stays = []; moves = move (Punctuation colons) (Punctuation colons) [] ∷ move Name Name [] ∷ move (Word w_union) (Word w_union) [] ∷ move (Word w_auto) (Word w_auto) [] ∷ move (Word w_default) (Word w_default) [] ∷ move (Word w_safe) (Word w_safe) [] ∷ move (Word w_self) (Word w_self) [] ∷ move (Word w_Self_type) (Word w_Self_type) [] ∷ move (Word w_super) (Word w_super) [] ∷ move (Word w_crate) (Word w_crate) [] ∷ []; nullable = false; gone = []; ends = []; halts = at_colons ∷ []; shuns = [] }
 summary_of false module_words = record { stays = []; moves = move Name Name [] ∷ move (Word w_union) (Word w_union) [] ∷ move (Word w_auto) (Word w_auto) [] ∷ move (Word w_default) (Word w_default) [] ∷ move (Word w_safe) (Word w_safe) [] ∷ move (Word w_self) (Word w_self) [] ∷ move (Word w_Self_type) (Word w_Self_type) [] ∷ move (Word w_super) (Word w_super) [] ∷ move (Word w_crate) (Word w_crate) [] ∷ []; nullable = false; gone = []; ends = []; halts = at_colons ∷ []; shuns = [] }
-summary_of false visibility = record { stays = Word w_pub ∷ []; moves = []; nullable = true; gone = []; ends = []; halts = at_restriction ∷ at_word w_pub ∷ []; shuns = [] }
+summary_of false visibility = record { stays = Word w_pub ∷ []; moves = []; nullable = true; gone = Delimited None true ∷ []; ends = []; halts = at_restriction ∷ at_empty_group ∷ at_word w_pub ∷ []; shuns = at_empty_group ∷ at_word w_pub ∷ [] }
 summary_of false restriction = record { stays = Word w_in ∷ []; moves = move (Punctuation colons) (Punctuation colons) [] ∷ move Name Name [] ∷ move (Word w_union) (Word w_union) [] ∷ move (Word w_auto) (Word w_auto) [] ∷ move (Word w_default) (Word w_default) [] ∷ move (Word w_safe) (Word w_safe) [] ∷ move (Word w_self) (Word w_self) [] ∷ move (Word w_Self_type) (Word w_Self_type) [] ∷ move (Word w_super) (Word w_super) [] ∷ move (Word w_crate) (Word w_crate) [] ∷ []; nullable = false; gone = []; ends = []; halts = at_colons ∷ []; shuns = [] }
 summary_of false type_path = record { stays = []; moves = move (Punctuation colons) (Punctuation colons) [] ∷ move Name Name [] ∷ move (Word w_union) (Word w_union) [] ∷ move (Word w_auto) (Word w_auto) [] ∷ move (Word w_default) (Word w_default) [] ∷ move (Word w_safe) (Word w_safe) [] ∷ move (Word w_Self_type) (Word w_Self_type) [] ∷ move (Word w_self) (Word w_self) [] ∷ move (Word w_super) (Word w_super) [] ∷ move (Word w_crate) (Word w_crate) [] ∷ []; nullable = false; gone = []; ends = at_equals ∷ at_paren ∷ at_less ∷ ((at_colons or_else at_less_only or_else at_paren or_else at_word w_as) but_not at_colons) ∷ (at_colons but_not at_colons) ∷ ((at_path_rest and_also ahead Bang_brace) but_not at_colons) ∷ ((at_path_rest and_also ahead Bang_name) but_not at_colons) ∷ ((at_path_rest and_also ahead Bang_group) but_not at_colons) ∷ at_name ∷ at_brace ∷ at_word w_trait ∷ (at_word w_unsafe or_else at_word w_impl) ∷ ended ∷ []; halts = at_colons ∷ at_arguments ∷ at_arrow ∷ []; shuns = [] }
 summary_of false type_words = record { stays = []; moves = move Name Name [] ∷ move (Word w_union) (Word w_union) [] ∷ move (Word w_auto) (Word w_auto) [] ∷ move (Word w_default) (Word w_default) [] ∷ move (Word w_safe) (Word w_safe) [] ∷ move (Word w_Self_type) (Word w_Self_type) [] ∷ move (Word w_self) (Word w_self) [] ∷ move (Word w_super) (Word w_super) [] ∷ move (Word w_crate) (Word w_crate) [] ∷ []; nullable = false; gone = []; ends = at_equals ∷ at_paren ∷ at_less ∷ ((at_colons or_else at_less_only or_else at_paren or_else at_word w_as) but_not at_colons) ∷ (at_colons but_not at_colons) ∷ ((at_path_rest and_also ahead Bang_brace) but_not at_colons) ∷ ((at_path_rest and_also ahead Bang_name) but_not at_colons) ∷ ((at_path_rest and_also ahead Bang_group) but_not at_colons) ∷ at_name ∷ at_brace ∷ at_word w_trait ∷ (at_word w_unsafe or_else at_word w_impl) ∷ ended ∷ []; halts = at_colons ∷ at_arguments ∷ at_arrow ∷ []; shuns = [] }
-summary_of false type_arguments = record { stays = Delimited Paren ∷ []; moves = move (Punctuation colons) (Punctuation colons) [] ∷ move (Punctuation less) (Punctuation less) [] ∷ move (Punctuation less_less_equals) (Punctuation less) [] ∷ move (Punctuation less_equals) (Punctuation less) [] ∷ move (Punctuation less_less) (Punctuation less) [] ∷ []; nullable = false; gone = []; ends = at_equals ∷ at_paren ∷ at_less ∷ ((at_colons or_else at_less_only or_else at_paren or_else at_word w_as) but_not at_colons) ∷ (at_colons but_not at_colons) ∷ ((at_path_rest and_also ahead Bang_brace) but_not at_colons) ∷ ((at_path_rest and_also ahead Bang_name) but_not at_colons) ∷ ((at_path_rest and_also ahead Bang_group) but_not at_colons) ∷ at_name ∷ at_brace ∷ at_word w_trait ∷ (at_word w_unsafe or_else at_word w_impl) ∷ ended ∷ []; halts = at_colons ∷ at_arguments ∷ at_arrow ∷ []; shuns = [] }
+summary_of false type_arguments = record { stays = Delimited Paren false ∷ []; moves = move (Punctuation colons) (Punctuation colons) [] ∷ move (Punctuation less) (Punctuation less) [] ∷ move (Punctuation less_less_equals) (Punctuation less) [] ∷ move (Punctuation less_equals) (Punctuation less) [] ∷ move (Punctuation less_less) (Punctuation less) [] ∷ []; nullable = false; gone = []; ends = at_equals ∷ at_paren ∷ at_less ∷ ((at_colons or_else at_less_only or_else at_paren or_else at_word w_as) but_not at_colons) ∷ (at_colons but_not at_colons) ∷ ((at_path_rest and_also ahead Bang_brace) but_not at_colons) ∷ ((at_path_rest and_also ahead Bang_name) but_not at_colons) ∷ ((at_path_rest and_also ahead Bang_group) but_not at_colons) ∷ at_name ∷ at_brace ∷ at_word w_trait ∷ (at_word w_unsafe or_else at_word w_impl) ∷ ended ∷ []; halts = at_colons ∷ at_arguments ∷ at_arrow ∷ []; shuns = [] }
 summary_of false return_type = record { stays = Punctuation arrow ∷ []; moves = []; nullable = true; gone = []; ends = at_equals ∷ at_paren ∷ at_less ∷ ((at_colons or_else at_less_only or_else at_paren or_else at_word w_as) but_not at_colons) ∷ (at_colons but_not at_colons) ∷ ((at_path_rest and_also ahead Bang_brace) but_not at_colons) ∷ ((at_path_rest and_also ahead Bang_name) but_not at_colons) ∷ ((at_path_rest and_also ahead Bang_group) but_not at_colons) ∷ at_name ∷ at_brace ∷ at_word w_trait ∷ (at_word w_unsafe or_else at_word w_impl) ∷ ended ∷ []; halts = at_colons ∷ at_arguments ∷ at_arrow ∷ []; shuns = [] }
 summary_of false generic_arguments = record { stays = []; moves = move (Punctuation less) (Punctuation less) [] ∷ move (Punctuation less_less_equals) (Punctuation less) [] ∷ move (Punctuation less_equals) (Punctuation less) [] ∷ move (Punctuation less_less) (Punctuation less) [] ∷ []; nullable = false; gone = []; ends = []; halts = []; shuns = [] }
-summary_of false generic_argument = record { stays = Word w_true ∷ Word w_false ∷ Literal Str ∷ Literal ByteStr ∷ Literal CStr ∷ Literal Byte ∷ Literal Char ∷ Literal Int ∷ Literal Float ∷ Punctuation ampersand ∷ Punctuation star ∷ Delimited Paren ∷ Delimited Bracket ∷ Delimited None ∷ Name ∷ Word w_union ∷ Word w_auto ∷ Word w_default ∷ Word w_safe ∷ Word w_Self_type ∷ Word w_self ∷ Word w_super ∷ Word w_crate ∷ []; moves = move Name Name (Before_equals ∷ []) ∷ move (Word w_union) (Word w_union) (Before_equals ∷ []) ∷ move (Word w_auto) (Word w_auto) (Before_equals ∷ []) ∷ move (Word w_default) (Word w_default) (Before_equals ∷ []) ∷ move (Word w_safe) (Word w_safe) (Before_equals ∷ []) ∷ move (Punctuation and_and) (Punctuation ampersand) [] ∷ move (Punctuation ampersand_equals) (Punctuation ampersand) [] ∷ move (Punctuation star_equals) (Punctuation star) [] ∷ move (Punctuation exclamation) (Punctuation exclamation) [] ∷ move (Punctuation not_equals) (Punctuation exclamation) [] ∷ move (Punctuation less) (Punctuation less) [] ∷ move (Punctuation less_less_equals) (Punctuation less) [] ∷ move (Punctuation less_equals) (Punctuation less) [] ∷ move (Punctuation less_less) (Punctuation less) [] ∷ move (Punctuation colons) (Punctuation colons) [] ∷ []; nullable = false; gone = []; ends = at_equals ∷ at_paren ∷ at_less ∷ ((at_colons or_else at_less_only or_else at_paren or_else at_word w_as) but_not at_colons) ∷ (at_colons but_not at_colons) ∷ ((at_path_rest and_also ahead Bang_brace) but_not at_colons) ∷ ((at_path_rest and_also ahead Bang_name) but_not at_colons) ∷ ((at_path_rest and_also ahead Bang_group) but_not at_colons) ∷ at_name ∷ at_brace ∷ at_word w_trait ∷ (at_word w_unsafe or_else at_word w_impl) ∷ ended ∷ []; halts = at_colons ∷ at_arguments ∷ at_arrow ∷ []; shuns = [] }
+summary_of false generic_argument = record { stays = Word w_true ∷ Word w_false ∷ Literal Str ∷ Literal ByteStr ∷ Literal CStr ∷ Literal Byte ∷ Literal Char ∷ Literal Int ∷ Literal Float ∷ Punctuation ampersand ∷ Punctuation star ∷ Delimited Paren false ∷ Delimited Bracket false ∷ Delimited None false ∷ Name ∷ Word w_union ∷ Word w_auto ∷ Word w_default ∷ Word w_safe ∷ Word w_Self_type ∷ Word w_self ∷ Word w_super ∷ Word w_crate ∷ []; moves = move Name Name (Before_equals ∷ []) ∷ move (Word w_union) (Word w_union) (Before_equals ∷ []) ∷ move (Word w_auto) (Word w_auto) (Before_equals ∷ []) ∷ move (Word w_default) (Word w_default) (Before_equals ∷ []) ∷ move (Word w_safe) (Word w_safe) (Before_equals ∷ []) ∷ move (Punctuation and_and) (Punctuation ampersand) [] ∷ move (Punctuation ampersand_equals) (Punctuation ampersand) [] ∷ move (Punctuation star_equals) (Punctuation star) [] ∷ move (Punctuation exclamation) (Punctuation exclamation) [] ∷ move (Punctuation not_equals) (Punctuation exclamation) [] ∷ move (Punctuation less) (Punctuation less) [] ∷ move (Punctuation less_less_equals) (Punctuation less) [] ∷ move (Punctuation less_equals) (Punctuation less) [] ∷ move (Punctuation less_less) (Punctuation less) [] ∷ move (Punctuation colons) (Punctuation colons) [] ∷ []; nullable = false; gone = []; ends = at_equals ∷ at_paren ∷ at_less ∷ ((at_colons or_else at_less_only or_else at_paren or_else at_word w_as) but_not at_colons) ∷ (at_colons but_not at_colons) ∷ ((at_path_rest and_also ahead Bang_brace) but_not at_colons) ∷ ((at_path_rest and_also ahead Bang_name) but_not at_colons) ∷ ((at_path_rest and_also ahead Bang_group) but_not at_colons) ∷ at_name ∷ at_brace ∷ at_word w_trait ∷ (at_word w_unsafe or_else at_word w_impl) ∷ ended ∷ []; halts = at_colons ∷ at_arguments ∷ at_arrow ∷ []; shuns = [] }
 summary_of false qualified_path = record { stays = []; moves = move (Punctuation less) (Punctuation less) [] ∷ move (Punctuation less_less_equals) (Punctuation less) [] ∷ move (Punctuation less_equals) (Punctuation less) [] ∷ move (Punctuation less_less) (Punctuation less) [] ∷ []; nullable = false; gone = []; ends = at_equals ∷ at_paren ∷ at_less ∷ ((at_colons or_else at_less_only or_else at_paren or_else at_word w_as) but_not at_colons) ∷ (at_colons but_not at_colons) ∷ ((at_path_rest and_also ahead Bang_brace) but_not at_colons) ∷ ((at_path_rest and_also ahead Bang_name) but_not at_colons) ∷ ((at_path_rest and_also ahead Bang_group) but_not at_colons) ∷ at_name ∷ at_brace ∷ at_word w_trait ∷ (at_word w_unsafe or_else at_word w_impl) ∷ ended ∷ []; halts = at_colons ∷ at_arguments ∷ at_arrow ∷ []; shuns = [] }
 summary_of false path_as_type = record { stays = []; moves = move (Punctuation less) (Punctuation less) [] ∷ move (Punctuation less_less_equals) (Punctuation less) [] ∷ move (Punctuation less_equals) (Punctuation less) [] ∷ move (Punctuation less_less) (Punctuation less) [] ∷ move (Punctuation colons) (Punctuation colons) [] ∷ move Name Name [] ∷ move (Word w_union) (Word w_union) [] ∷ move (Word w_auto) (Word w_auto) [] ∷ move (Word w_default) (Word w_default) [] ∷ move (Word w_safe) (Word w_safe) [] ∷ move (Word w_Self_type) (Word w_Self_type) [] ∷ move (Word w_self) (Word w_self) [] ∷ move (Word w_super) (Word w_super) [] ∷ move (Word w_crate) (Word w_crate) [] ∷ []; nullable = false; gone = []; ends = at_equals ∷ at_paren ∷ at_less ∷ ((at_colons or_else at_less_only or_else at_paren or_else at_word w_as) but_not at_colons) ∷ (at_colons but_not at_colons) ∷ ((at_path_rest and_also ahead Bang_brace) but_not at_colons) ∷ ((at_path_rest and_also ahead Bang_name) but_not at_colons) ∷ ((at_path_rest and_also ahead Bang_group) but_not at_colons) ∷ at_name ∷ at_brace ∷ at_word w_trait ∷ (at_word w_unsafe or_else at_word w_impl) ∷ ended ∷ []; halts = at_colons ∷ at_arguments ∷ at_arrow ∷ []; shuns = [] }
-summary_of false type = record { stays = Punctuation ampersand ∷ Punctuation star ∷ Delimited Paren ∷ Delimited Bracket ∷ Delimited None ∷ []; moves = move (Punctuation and_and) (Punctuation ampersand) [] ∷ move (Punctuation ampersand_equals) (Punctuation ampersand) [] ∷ move (Punctuation star_equals) (Punctuation star) [] ∷ move (Punctuation exclamation) (Punctuation exclamation) [] ∷ move (Punctuation not_equals) (Punctuation exclamation) [] ∷ move (Punctuation less) (Punctuation less) [] ∷ move (Punctuation less_less_equals) (Punctuation less) [] ∷ move (Punctuation less_equals) (Punctuation less) [] ∷ move (Punctuation less_less) (Punctuation less) [] ∷ move (Punctuation colons) (Punctuation colons) [] ∷ move Name Name [] ∷ move (Word w_union) (Word w_union) [] ∷ move (Word w_auto) (Word w_auto) [] ∷ move (Word w_default) (Word w_default) [] ∷ move (Word w_safe) (Word w_safe) [] ∷ move (Word w_Self_type) (Word w_Self_type) [] ∷ move (Word w_self) (Word w_self) [] ∷ move (Word w_super) (Word w_super) [] ∷ move (Word w_crate) (Word w_crate) [] ∷ []; nullable = false; gone = []; ends = at_equals ∷ at_paren ∷ at_less ∷ ((at_colons or_else at_less_only or_else at_paren or_else at_word w_as) but_not at_colons) ∷ (at_colons but_not at_colons) ∷ ((at_path_rest and_also ahead Bang_brace) but_not at_colons) ∷ ((at_path_rest and_also ahead Bang_name) but_not at_colons) ∷ ((at_path_rest and_also ahead Bang_group) but_not at_colons) ∷ at_name ∷ at_brace ∷ at_word w_trait ∷ (at_word w_unsafe or_else at_word w_impl) ∷ ended ∷ []; halts = at_colons ∷ at_arguments ∷ at_arrow ∷ []; shuns = [] }
-summary_of false types = record { stays = Punctuation ampersand ∷ Punctuation star ∷ Delimited Paren ∷ Delimited Bracket ∷ Delimited None ∷ []; moves = move (Punctuation and_and) (Punctuation ampersand) [] ∷ move (Punctuation ampersand_equals) (Punctuation ampersand) [] ∷ move (Punctuation star_equals) (Punctuation star) [] ∷ move (Punctuation exclamation) (Punctuation exclamation) [] ∷ move (Punctuation not_equals) (Punctuation exclamation) [] ∷ move (Punctuation less) (Punctuation less) [] ∷ move (Punctuation less_less_equals) (Punctuation less) [] ∷ move (Punctuation less_equals) (Punctuation less) [] ∷ move (Punctuation less_less) (Punctuation less) [] ∷ move (Punctuation colons) (Punctuation colons) [] ∷ move Name Name [] ∷ move (Word w_union) (Word w_union) [] ∷ move (Word w_auto) (Word w_auto) [] ∷ move (Word w_default) (Word w_default) [] ∷ move (Word w_safe) (Word w_safe) [] ∷ move (Word w_Self_type) (Word w_Self_type) [] ∷ move (Word w_self) (Word w_self) [] ∷ move (Word w_super) (Word w_super) [] ∷ move (Word w_crate) (Word w_crate) [] ∷ []; nullable = true; gone = []; ends = ended ∷ at_equals ∷ at_paren ∷ at_less ∷ ((at_colons or_else at_less_only or_else at_paren or_else at_word w_as) but_not at_colons) ∷ (at_colons but_not at_colons) ∷ ((at_path_rest and_also ahead Bang_brace) but_not at_colons) ∷ ((at_path_rest and_also ahead Bang_name) but_not at_colons) ∷ ((at_path_rest and_also ahead Bang_group) but_not at_colons) ∷ at_name ∷ at_brace ∷ at_word w_trait ∷ (at_word w_unsafe or_else at_word w_impl) ∷ []; halts = at_comma ∷ at_colons ∷ at_arguments ∷ at_arrow ∷ []; shuns = [] }
+summary_of false type = record { stays = Punctuation ampersand ∷ Punctuation star ∷ Delimited Paren false ∷ Delimited Bracket false ∷ Delimited None false ∷ []; moves = move (Punctuation and_and) (Punctuation ampersand) [] ∷ move (Punctuation ampersand_equals) (Punctuation ampersand) [] ∷ move (Punctuation star_equals) (Punctuation star) [] ∷ move (Punctuation exclamation) (Punctuation exclamation) [] ∷ move (Punctuation not_equals) (Punctuation exclamation) [] ∷ move (Punctuation less) (Punctuation less) [] ∷ move (Punctuation less_less_equals) (Punctuation less) [] ∷ move (Punctuation less_equals) (Punctuation less) [] ∷ move (Punctuation less_less) (Punctuation less) [] ∷ move (Punctuation colons) (Punctuation colons) [] ∷ move Name Name [] ∷ move (Word w_union) (Word w_union) [] ∷ move (Word w_auto) (Word w_auto) [] ∷ move (Word w_default) (Word w_default) [] ∷ move (Word w_safe) (Word w_safe) [] ∷ move (Word w_Self_type) (Word w_Self_type) [] ∷ move (Word w_self) (Word w_self) [] ∷ move (Word w_super) (Word w_super) [] ∷ move (Word w_crate) (Word w_crate) [] ∷ []; nullable = false; gone = []; ends = at_equals ∷ at_paren ∷ at_less ∷ ((at_colons or_else at_less_only or_else at_paren or_else at_word w_as) but_not at_colons) ∷ (at_colons but_not at_colons) ∷ ((at_path_rest and_also ahead Bang_brace) but_not at_colons) ∷ ((at_path_rest and_also ahead Bang_name) but_not at_colons) ∷ ((at_path_rest and_also ahead Bang_group) but_not at_colons) ∷ at_name ∷ at_brace ∷ at_word w_trait ∷ (at_word w_unsafe or_else at_word w_impl) ∷ ended ∷ []; halts = at_colons ∷ at_arguments ∷ at_arrow ∷ []; shuns = [] }
+summary_of false types = record { stays = Punctuation ampersand ∷ Punctuation star ∷ Delimited Paren false ∷ Delimited Bracket false ∷ Delimited None false ∷ []; moves = move (Punctuation and_and) (Punctuation ampersand) [] ∷ move (Punctuation ampersand_equals) (Punctuation ampersand) [] ∷ move (Punctuation star_equals) (Punctuation star) [] ∷ move (Punctuation exclamation) (Punctuation exclamation) [] ∷ move (Punctuation not_equals) (Punctuation exclamation) [] ∷ move (Punctuation less) (Punctuation less) [] ∷ move (Punctuation less_less_equals) (Punctuation less) [] ∷ move (Punctuation less_equals) (Punctuation less) [] ∷ move (Punctuation less_less) (Punctuation less) [] ∷ move (Punctuation colons) (Punctuation colons) [] ∷ move Name Name [] ∷ move (Word w_union) (Word w_union) [] ∷ move (Word w_auto) (Word w_auto) [] ∷ move (Word w_default) (Word w_default) [] ∷ move (Word w_safe) (Word w_safe) [] ∷ move (Word w_Self_type) (Word w_Self_type) [] ∷ move (Word w_self) (Word w_self) [] ∷ move (Word w_super) (Word w_super) [] ∷ move (Word w_crate) (Word w_crate) [] ∷ []; nullable = true; gone = []; ends = ended ∷ at_equals ∷ at_paren ∷ at_less ∷ ((at_colons or_else at_less_only or_else at_paren or_else at_word w_as) but_not at_colons) ∷ (at_colons but_not at_colons) ∷ ((at_path_rest and_also ahead Bang_brace) but_not at_colons) ∷ ((at_path_rest and_also ahead Bang_name) but_not at_colons) ∷ ((at_path_rest and_also ahead Bang_group) but_not at_colons) ∷ at_name ∷ at_brace ∷ at_word w_trait ∷ (at_word w_unsafe or_else at_word w_impl) ∷ []; halts = at_comma ∷ at_colons ∷ at_arguments ∷ at_arrow ∷ []; shuns = [] }
 summary_of false expression = record { stays = Word w_true ∷ Word w_false ∷ Literal Str ∷ Literal ByteStr ∷ Literal CStr ∷ Literal Byte ∷ Literal Char ∷ Literal Int ∷ Literal Float ∷ []; moves = []; nullable = false; gone = []; ends = []; halts = []; shuns = [] }
 summary_of false generics = record { stays = []; moves = move (Punctuation less) (Punctuation less) [] ∷ move (Punctuation less_less_equals) (Punctuation less) [] ∷ move (Punctuation less_equals) (Punctuation less) [] ∷ move (Punctuation less_less) (Punctuation less) [] ∷ []; nullable = true; gone = Punctuation less ∷ Punctuation less_less_equals ∷ Punctuation less_equals ∷ Punctuation less_less ∷ []; ends = []; halts = at_less ∷ []; shuns = at_less ∷ [] }
 summary_of false lifetime_parameter = record { stays = Punctuation lifetime_mark ∷ []; moves = move (Punctuation pound) (Punctuation pound) [] ∷ []; nullable = false; gone = []; ends = []; halts = at_plus ∷ at_lifetime ∷ at_colon ∷ []; shuns = at_colon ∷ [] }
 summary_of false lifetimes = record { stays = Punctuation lifetime_mark ∷ []; moves = []; nullable = true; gone = []; ends = []; halts = at_plus ∷ at_lifetime ∷ []; shuns = [] }
-summary_of false parameter_bounds = record { stays = Punctuation lifetime_mark ∷ Delimited Paren ∷ Punctuation question ∷ Word w_for ∷ []; moves = move (Punctuation colons) (Punctuation colons) [] ∷ move Name Name [] ∷ move (Word w_union) (Word w_union) [] ∷ move (Word w_auto) (Word w_auto) [] ∷ move (Word w_default) (Word w_default) [] ∷ move (Word w_safe) (Word w_safe) [] ∷ move (Word w_Self_type) (Word w_Self_type) [] ∷ move (Word w_self) (Word w_self) [] ∷ move (Word w_super) (Word w_super) [] ∷ move (Word w_crate) (Word w_crate) [] ∷ []; nullable = true; gone = []; ends = at_parameter_end ∷ at_equals ∷ at_paren ∷ at_less ∷ ((at_colons or_else at_less_only or_else at_paren or_else at_word w_as) but_not at_colons) ∷ (at_colons but_not at_colons) ∷ ((at_path_rest and_also ahead Bang_brace) but_not at_colons) ∷ ((at_path_rest and_also ahead Bang_name) but_not at_colons) ∷ ((at_path_rest and_also ahead Bang_group) but_not at_colons) ∷ at_name ∷ at_brace ∷ at_word w_trait ∷ (at_word w_unsafe or_else at_word w_impl) ∷ ended ∷ []; halts = at_plus ∷ at_colons ∷ at_arguments ∷ at_arrow ∷ []; shuns = [] }
-summary_of false bound = record { stays = Punctuation lifetime_mark ∷ Delimited Paren ∷ Punctuation question ∷ Word w_for ∷ []; moves = move (Punctuation colons) (Punctuation colons) [] ∷ move Name Name [] ∷ move (Word w_union) (Word w_union) [] ∷ move (Word w_auto) (Word w_auto) [] ∷ move (Word w_default) (Word w_default) [] ∷ move (Word w_safe) (Word w_safe) [] ∷ move (Word w_Self_type) (Word w_Self_type) [] ∷ move (Word w_self) (Word w_self) [] ∷ move (Word w_super) (Word w_super) [] ∷ move (Word w_crate) (Word w_crate) [] ∷ []; nullable = false; gone = []; ends = at_equals ∷ at_paren ∷ at_less ∷ ((at_colons or_else at_less_only or_else at_paren or_else at_word w_as) but_not at_colons) ∷ (at_colons but_not at_colons) ∷ ((at_path_rest and_also ahead Bang_brace) but_not at_colons) ∷ ((at_path_rest and_also ahead Bang_name) but_not at_colons) ∷ ((at_path_rest and_also ahead Bang_group) but_not at_colons) ∷ at_name ∷ at_brace ∷ at_word w_trait ∷ (at_word w_unsafe or_else at_word w_impl) ∷ ended ∷ []; halts = at_colons ∷ at_arguments ∷ at_arrow ∷ []; shuns = [] }
+summary_of false parameter_bounds = record { stays = Punctuation lifetime_mark ∷ Delimited Paren false ∷ Punctuation question ∷ Word w_for ∷ []; moves = move (Punctuation colons) (Punctuation colons) [] ∷ move Name Name [] ∷ move (Word w_union) (Word w_union) [] ∷ move (Word w_auto) (Word w_auto) [] ∷ move (Word w_default) (Word w_default) [] ∷ move (Word w_safe) (Word w_safe) [] ∷ move (Word w_Self_type) (Word w_Self_type) [] ∷ move (Word w_self) (Word w_self) [] ∷ move (Word w_super) (Word w_super) [] ∷ move (Word w_crate) (Word w_crate) [] ∷ []; nullable = true; gone = []; ends = at_parameter_end ∷ at_equals ∷ at_paren ∷ at_less ∷ ((at_colons or_else at_less_only or_else at_paren or_else at_word w_as) but_not at_colons) ∷ (at_colons but_not at_colons) ∷ ((at_path_rest and_also ahead Bang_brace) but_not at_colons) ∷ ((at_path_rest and_also ahead Bang_name) but_not at_colons) ∷ ((at_path_rest and_also ahead Bang_group) but_not at_colons) ∷ at_name ∷ at_brace ∷ at_word w_trait ∷ (at_word w_unsafe or_else at_word w_impl) ∷ ended ∷ []; halts = at_plus ∷ at_colons ∷ at_arguments ∷ at_arrow ∷ []; shuns = [] }
+summary_of false bound = record { stays = Punctuation lifetime_mark ∷ Delimited Paren false ∷ Punctuation question ∷ Word w_for ∷ []; moves = move (Punctuation colons) (Punctuation colons) [] ∷ move Name Name [] ∷ move (Word w_union) (Word w_union) [] ∷ move (Word w_auto) (Word w_auto) [] ∷ move (Word w_default) (Word w_default) [] ∷ move (Word w_safe) (Word w_safe) [] ∷ move (Word w_Self_type) (Word w_Self_type) [] ∷ move (Word w_self) (Word w_self) [] ∷ move (Word w_super) (Word w_super) [] ∷ move (Word w_crate) (Word w_crate) [] ∷ []; nullable = false; gone = []; ends = at_equals ∷ at_paren ∷ at_less ∷ ((at_colons or_else at_less_only or_else at_paren or_else at_word w_as) but_not at_colons) ∷ (at_colons but_not at_colons) ∷ ((at_path_rest and_also ahead Bang_brace) but_not at_colons) ∷ ((at_path_rest and_also ahead Bang_name) but_not at_colons) ∷ ((at_path_rest and_also ahead Bang_group) but_not at_colons) ∷ at_name ∷ at_brace ∷ at_word w_trait ∷ (at_word w_unsafe or_else at_word w_impl) ∷ ended ∷ []; halts = at_colons ∷ at_arguments ∷ at_arrow ∷ []; shuns = [] }
 summary_of false trait_bound = record { stays = Punctuation question ∷ Word w_for ∷ []; moves = move (Punctuation colons) (Punctuation colons) [] ∷ move Name Name [] ∷ move (Word w_union) (Word w_union) [] ∷ move (Word w_auto) (Word w_auto) [] ∷ move (Word w_default) (Word w_default) [] ∷ move (Word w_safe) (Word w_safe) [] ∷ move (Word w_Self_type) (Word w_Self_type) [] ∷ move (Word w_self) (Word w_self) [] ∷ move (Word w_super) (Word w_super) [] ∷ move (Word w_crate) (Word w_crate) [] ∷ []; nullable = false; gone = []; ends = at_equals ∷ at_paren ∷ at_less ∷ ((at_colons or_else at_less_only or_else at_paren or_else at_word w_as) but_not at_colons) ∷ (at_colons but_not at_colons) ∷ ((at_path_rest and_also ahead Bang_brace) but_not at_colons) ∷ ((at_path_rest and_also ahead Bang_name) but_not at_colons) ∷ ((at_path_rest and_also ahead Bang_group) but_not at_colons) ∷ at_name ∷ at_brace ∷ at_word w_trait ∷ (at_word w_unsafe or_else at_word w_impl) ∷ ended ∷ []; halts = at_colons ∷ at_arguments ∷ at_arrow ∷ []; shuns = [] }
 summary_of false bound_lifetimes = record { stays = []; moves = move (Punctuation less) (Punctuation less) [] ∷ move (Punctuation less_less_equals) (Punctuation less) [] ∷ move (Punctuation less_equals) (Punctuation less) [] ∷ move (Punctuation less_less) (Punctuation less) [] ∷ []; nullable = false; gone = []; ends = []; halts = []; shuns = [] }
 summary_of false lifetime_parameters = record { stays = Punctuation lifetime_mark ∷ []; moves = move (Punctuation pound) (Punctuation pound) [] ∷ []; nullable = true; gone = []; ends = at_greater ∷ []; halts = at_comma ∷ at_colon ∷ at_plus ∷ at_lifetime ∷ []; shuns = at_colon ∷ [] }
 summary_of false where_clause = record { stays = Word w_where ∷ []; moves = []; nullable = true; gone = Word w_where ∷ []; ends = at_predicate_end ∷ at_equals ∷ at_paren ∷ at_less ∷ ((at_colons or_else at_less_only or_else at_paren or_else at_word w_as) but_not at_colons) ∷ (at_colons but_not at_colons) ∷ ((at_path_rest and_also ahead Bang_brace) but_not at_colons) ∷ ((at_path_rest and_also ahead Bang_name) but_not at_colons) ∷ ((at_path_rest and_also ahead Bang_group) but_not at_colons) ∷ at_name ∷ at_brace ∷ at_word w_trait ∷ (at_word w_unsafe or_else at_word w_impl) ∷ ended ∷ []; halts = at_comma ∷ at_plus ∷ at_lifetime ∷ at_colons ∷ at_arguments ∷ at_arrow ∷ at_word w_where ∷ []; shuns = at_word w_where ∷ [] }
-summary_of false predicates = record { stays = Punctuation lifetime_mark ∷ Word w_for ∷ Punctuation ampersand ∷ Punctuation star ∷ Delimited Paren ∷ Delimited Bracket ∷ Delimited None ∷ []; moves = move (Punctuation and_and) (Punctuation ampersand) [] ∷ move (Punctuation ampersand_equals) (Punctuation ampersand) [] ∷ move (Punctuation star_equals) (Punctuation star) [] ∷ move (Punctuation exclamation) (Punctuation exclamation) [] ∷ move (Punctuation not_equals) (Punctuation exclamation) [] ∷ move (Punctuation less) (Punctuation less) [] ∷ move (Punctuation less_less_equals) (Punctuation less) [] ∷ move (Punctuation less_equals) (Punctuation less) [] ∷ move (Punctuation less_less) (Punctuation less) [] ∷ move (Punctuation colons) (Punctuation colons) [] ∷ move Name Name [] ∷ move (Word w_union) (Word w_union) [] ∷ move (Word w_auto) (Word w_auto) [] ∷ move (Word w_default) (Word w_default) [] ∷ move (Word w_safe) (Word w_safe) [] ∷ move (Word w_Self_type) (Word w_Self_type) [] ∷ move (Word w_self) (Word w_self) [] ∷ move (Word w_super) (Word w_super) [] ∷ move (Word w_crate) (Word w_crate) [] ∷ []; nullable = true; gone = []; ends = at_predicate_end ∷ at_equals ∷ at_paren ∷ at_less ∷ ((at_colons or_else at_less_only or_else at_paren or_else at_word w_as) but_not at_colons) ∷ (at_colons but_not at_colons) ∷ ((at_path_rest and_also ahead Bang_brace) but_not at_colons) ∷ ((at_path_rest and_also ahead Bang_name) but_not at_colons) ∷ ((at_path_rest and_also ahead Bang_group) but_not at_colons) ∷ at_name ∷ at_brace ∷ at_word w_trait ∷ (at_word w_unsafe or_else at_word w_impl) ∷ ended ∷ []; halts = at_comma ∷ at_plus ∷ at_lifetime ∷ at_colons ∷ at_arguments ∷ at_arrow ∷ []; shuns = [] }
-summary_of false predicate = record { stays = Punctuation lifetime_mark ∷ Word w_for ∷ Punctuation ampersand ∷ Punctuation star ∷ Delimited Paren ∷ Delimited Bracket ∷ Delimited None ∷ []; moves = move (Punctuation and_and) (Punctuation ampersand) [] ∷ move (Punctuation ampersand_equals) (Punctuation ampersand) [] ∷ move (Punctuation star_equals) (Punctuation star) [] ∷ move (Punctuation exclamation) (Punctuation exclamation) [] ∷ move (Punctuation not_equals) (Punctuation exclamation) [] ∷ move (Punctuation less) (Punctuation less) [] ∷ move (Punctuation less_less_equals) (Punctuation less) [] ∷ move (Punctuation less_equals) (Punctuation less) [] ∷ move (Punctuation less_less) (Punctuation less) [] ∷ move (Punctuation colons) (Punctuation colons) [] ∷ move Name Name [] ∷ move (Word w_union) (Word w_union) [] ∷ move (Word w_auto) (Word w_auto) [] ∷ move (Word w_default) (Word w_default) [] ∷ move (Word w_safe) (Word w_safe) [] ∷ move (Word w_Self_type) (Word w_Self_type) [] ∷ move (Word w_self) (Word w_self) [] ∷ move (Word w_super) (Word w_super) [] ∷ move (Word w_crate) (Word w_crate) [] ∷ []; nullable = false; gone = []; ends = at_predicate_end ∷ at_equals ∷ at_paren ∷ at_less ∷ ((at_colons or_else at_less_only or_else at_paren or_else at_word w_as) but_not at_colons) ∷ (at_colons but_not at_colons) ∷ ((at_path_rest and_also ahead Bang_brace) but_not at_colons) ∷ ((at_path_rest and_also ahead Bang_name) but_not at_colons) ∷ ((at_path_rest and_also ahead Bang_group) but_not at_colons) ∷ at_name ∷ at_brace ∷ at_word w_trait ∷ (at_word w_unsafe or_else at_word w_impl) ∷ ended ∷ []; halts = at_plus ∷ at_lifetime ∷ at_colons ∷ at_arguments ∷ at_arrow ∷ []; shuns = [] }
-summary_of false predicate_bounds = record { stays = Punctuation lifetime_mark ∷ Delimited Paren ∷ Punctuation question ∷ Word w_for ∷ []; moves = move (Punctuation colons) (Punctuation colons) [] ∷ move Name Name [] ∷ move (Word w_union) (Word w_union) [] ∷ move (Word w_auto) (Word w_auto) [] ∷ move (Word w_default) (Word w_default) [] ∷ move (Word w_safe) (Word w_safe) [] ∷ move (Word w_Self_type) (Word w_Self_type) [] ∷ move (Word w_self) (Word w_self) [] ∷ move (Word w_super) (Word w_super) [] ∷ move (Word w_crate) (Word w_crate) [] ∷ []; nullable = true; gone = []; ends = at_predicate_end ∷ at_equals ∷ at_paren ∷ at_less ∷ ((at_colons or_else at_less_only or_else at_paren or_else at_word w_as) but_not at_colons) ∷ (at_colons but_not at_colons) ∷ ((at_path_rest and_also ahead Bang_brace) but_not at_colons) ∷ ((at_path_rest and_also ahead Bang_name) but_not at_colons) ∷ ((at_path_rest and_also ahead Bang_group) but_not at_colons) ∷ at_name ∷ at_brace ∷ at_word w_trait ∷ (at_word w_unsafe or_else at_word w_impl) ∷ ended ∷ []; halts = at_plus ∷ at_colons ∷ at_arguments ∷ at_arrow ∷ []; shuns = [] }
-summary_of false fields_named = record { stays = Delimited Brace ∷ []; moves = []; nullable = false; gone = []; ends = []; halts = []; shuns = [] }
-summary_of false named_fields = record { stays = Word w_pub ∷ Word w_underscore ∷ []; moves = move (Punctuation pound) (Punctuation pound) [] ∷ move Name Name [] ∷ move (Word w_union) (Word w_union) [] ∷ move (Word w_auto) (Word w_auto) [] ∷ move (Word w_default) (Word w_default) [] ∷ move (Word w_safe) (Word w_safe) [] ∷ []; nullable = true; gone = []; ends = ended ∷ at_equals ∷ at_paren ∷ at_less ∷ ((at_colons or_else at_less_only or_else at_paren or_else at_word w_as) but_not at_colons) ∷ (at_colons but_not at_colons) ∷ ((at_path_rest and_also ahead Bang_brace) but_not at_colons) ∷ ((at_path_rest and_also ahead Bang_name) but_not at_colons) ∷ ((at_path_rest and_also ahead Bang_group) but_not at_colons) ∷ at_name ∷ at_brace ∷ at_word w_trait ∷ (at_word w_unsafe or_else at_word w_impl) ∷ []; halts = at_comma ∷ at_equals ∷ at_colons ∷ at_arguments ∷ at_arrow ∷ []; shuns = [] }
-summary_of false named_field = record { stays = Word w_pub ∷ Word w_underscore ∷ []; moves = move (Punctuation pound) (Punctuation pound) [] ∷ move Name Name [] ∷ move (Word w_union) (Word w_union) [] ∷ move (Word w_auto) (Word w_auto) [] ∷ move (Word w_default) (Word w_default) [] ∷ move (Word w_safe) (Word w_safe) [] ∷ []; nullable = false; gone = []; ends = at_equals ∷ at_paren ∷ at_less ∷ ((at_colons or_else at_less_only or_else at_paren or_else at_word w_as) but_not at_colons) ∷ (at_colons but_not at_colons) ∷ ((at_path_rest and_also ahead Bang_brace) but_not at_colons) ∷ ((at_path_rest and_also ahead Bang_name) but_not at_colons) ∷ ((at_path_rest and_also ahead Bang_group) but_not at_colons) ∷ at_name ∷ at_brace ∷ at_word w_trait ∷ (at_word w_unsafe or_else at_word w_impl) ∷ ended ∷ []; halts = at_equals ∷ at_colons ∷ at_arguments ∷ at_arrow ∷ []; shuns = [] }
+summary_of false predicates = record { stays = Punctuation lifetime_mark ∷ Word w_for ∷ Punctuation ampersand ∷ Punctuation star ∷ Delimited Paren false ∷ Delimited Bracket false ∷ Delimited None false ∷ []; moves = move (Punctuation and_and) (Punctuation ampersand) [] ∷ move (Punctuation ampersand_equals) (Punctuation ampersand) [] ∷ move (Punctuation star_equals) (Punctuation star) [] ∷ move (Punctuation exclamation) (Punctuation exclamation) [] ∷ move (Punctuation not_equals) (Punctuation exclamation) [] ∷ move (Punctuation less) (Punctuation less) [] ∷ move (Punctuation less_less_equals) (Punctuation less) [] ∷ move (Punctuation less_equals) (Punctuation less) [] ∷ move (Punctuation less_less) (Punctuation less) [] ∷ move (Punctuation colons) (Punctuation colons) [] ∷ move Name Name [] ∷ move (Word w_union) (Word w_union) [] ∷ move (Word w_auto) (Word w_auto) [] ∷ move (Word w_default) (Word w_default) [] ∷ move (Word w_safe) (Word w_safe) [] ∷ move (Word w_Self_type) (Word w_Self_type) [] ∷ move (Word w_self) (Word w_self) [] ∷ move (Word w_super) (Word w_super) [] ∷ move (Word w_crate) (Word w_crate) [] ∷ []; nullable = true; gone = []; ends = at_predicate_end ∷ at_equals ∷ at_paren ∷ at_less ∷ ((at_colons or_else at_less_only or_else at_paren or_else at_word w_as) but_not at_colons) ∷ (at_colons but_not at_colons) ∷ ((at_path_rest and_also ahead Bang_brace) but_not at_colons) ∷ ((at_path_rest and_also ahead Bang_name) but_not at_colons) ∷ ((at_path_rest and_also ahead Bang_group) but_not at_colons) ∷ at_name ∷ at_brace ∷ at_word w_trait ∷ (at_word w_unsafe or_else at_word w_impl) ∷ ended ∷ []; halts = at_comma ∷ at_plus ∷ at_lifetime ∷ at_colons ∷ at_arguments ∷ at_arrow ∷ []; shuns = [] }
+summary_of false predicate = record { stays = Punctuation lifetime_mark ∷ Word w_for ∷ Punctuation ampersand ∷ Punctuation star ∷ Delimited Paren false ∷ Delimited Bracket false ∷ Delimited None false ∷ []; moves = move (Punctuation and_and) (Punctuation ampersand) [] ∷ move (Punctuation ampersand_equals) (Punctuation ampersand) [] ∷ move (Punctuation star_equals) (Punctuation star) [] ∷ move (Punctuation exclamation) (Punctuation exclamation) [] ∷ move (Punctuation not_equals) (Punctuation exclamation) [] ∷ move (Punctuation less) (Punctuation less) [] ∷ move (Punctuation less_less_equals) (Punctuation less) [] ∷ move (Punctuation less_equals) (Punctuation less) [] ∷ move (Punctuation less_less) (Punctuation less) [] ∷ move (Punctuation colons) (Punctuation colons) [] ∷ move Name Name [] ∷ move (Word w_union) (Word w_union) [] ∷ move (Word w_auto) (Word w_auto) [] ∷ move (Word w_default) (Word w_default) [] ∷ move (Word w_safe) (Word w_safe) [] ∷ move (Word w_Self_type) (Word w_Self_type) [] ∷ move (Word w_self) (Word w_self) [] ∷ move (Word w_super) (Word w_super) [] ∷ move (Word w_crate) (Word w_crate) [] ∷ []; nullable = false; gone = []; ends = at_predicate_end ∷ at_equals ∷ at_paren ∷ at_less ∷ ((at_colons or_else at_less_only or_else at_paren or_else at_word w_as) but_not at_colons) ∷ (at_colons but_not at_colons) ∷ ((at_path_rest and_also ahead Bang_brace) but_not at_colons) ∷ ((at_path_rest and_also ahead Bang_name) but_not at_colons) ∷ ((at_path_rest and_also ahead Bang_group) but_not at_colons) ∷ at_name ∷ at_brace ∷ at_word w_trait ∷ (at_word w_unsafe or_else at_word w_impl) ∷ ended ∷ []; halts = at_plus ∷ at_lifetime ∷ at_colons ∷ at_arguments ∷ at_arrow ∷ []; shuns = [] }
+summary_of false predicate_bounds = record { stays = Punctuation lifetime_mark ∷ Delimited Paren false ∷ Punctuation question ∷ Word w_for ∷ []; moves = move (Punctuation colons) (Punctuation colons) [] ∷ move Name Name [] ∷ move (Word w_union) (Word w_union) [] ∷ move (Word w_auto) (Word w_auto) [] ∷ move (Word w_default) (Word w_default) [] ∷ move (Word w_safe) (Word w_safe) [] ∷ move (Word w_Self_type) (Word w_Self_type) [] ∷ move (Word w_self) (Word w_self) [] ∷ move (Word w_super) (Word w_super) [] ∷ move (Word w_crate) (Word w_crate) [] ∷ []; nullable = true; gone = []; ends = at_predicate_end ∷ at_equals ∷ at_paren ∷ at_less ∷ ((at_colons or_else at_less_only or_else at_paren or_else at_word w_as) but_not at_colons) ∷ (at_colons but_not at_colons) ∷ ((at_path_rest and_also ahead Bang_brace) but_not at_colons) ∷ ((at_path_rest and_also ahead Bang_name) but_not at_colons) ∷ ((at_path_rest and_also ahead Bang_group) but_not at_colons) ∷ at_name ∷ at_brace ∷ at_word w_trait ∷ (at_word w_unsafe or_else at_word w_impl) ∷ ended ∷ []; halts = at_plus ∷ at_colons ∷ at_arguments ∷ at_arrow ∷ []; shuns = [] }
+summary_of false fields_named = record { stays = Delimited Brace false ∷ []; moves = []; nullable = false; gone = []; ends = []; halts = []; shuns = [] }
+summary_of false named_fields = record { stays = Word w_pub ∷ Word w_underscore ∷ []; moves = move (Punctuation pound) (Punctuation pound) [] ∷ move Name Name [] ∷ move (Word w_union) (Word w_union) [] ∷ move (Word w_auto) (Word w_auto) [] ∷ move (Word w_default) (Word w_default) [] ∷ move (Word w_safe) (Word w_safe) [] ∷ move (Delimited None true) (Word w_underscore) [] ∷ move (Delimited None true) Name [] ∷ move (Delimited None true) (Word w_union) [] ∷ move (Delimited None true) (Word w_auto) [] ∷ move (Delimited None true) (Word w_default) [] ∷ move (Delimited None true) (Word w_safe) [] ∷ []; nullable = true; gone = []; ends = ended ∷ at_equals ∷ at_paren ∷ at_less ∷ ((at_colons or_else at_less_only or_else at_paren or_else at_word w_as) but_not at_colons) ∷ (at_colons but_not at_colons) ∷ ((at_path_rest and_also ahead Bang_brace) but_not at_colons) ∷ ((at_path_rest and_also ahead Bang_name) but_not at_colons) ∷ ((at_path_rest and_also ahead Bang_group) but_not at_colons) ∷ at_name ∷ at_brace ∷ at_word w_trait ∷ (at_word w_unsafe or_else at_word w_impl) ∷ []; halts = at_comma ∷ at_equals ∷ at_colons ∷ at_arguments ∷ at_arrow ∷ []; shuns = [] }
+summary_of false named_field = record { stays = Word w_pub ∷ Word w_underscore ∷ []; moves = move (Punctuation pound) (Punctuation pound) [] ∷ move Name Name [] ∷ move (Word w_union) (Word w_union) [] ∷ move (Word w_auto) (Word w_auto) [] ∷ move (Word w_default) (Word w_default) [] ∷ move (Word w_safe) (Word w_safe) [] ∷ move (Delimited None true) (Word w_underscore) [] ∷ move (Delimited None true) Name [] ∷ move (Delimited None true) (Word w_union) [] ∷ move (Delimited None true) (Word w_auto) [] ∷ move (Delimited None true) (Word w_default) [] ∷ move (Delimited None true) (Word w_safe) [] ∷ []; nullable = false; gone = []; ends = at_equals ∷ at_paren ∷ at_less ∷ ((at_colons or_else at_less_only or_else at_paren or_else at_word w_as) but_not at_colons) ∷ (at_colons but_not at_colons) ∷ ((at_path_rest and_also ahead Bang_brace) but_not at_colons) ∷ ((at_path_rest and_also ahead Bang_name) but_not at_colons) ∷ ((at_path_rest and_also ahead Bang_group) but_not at_colons) ∷ at_name ∷ at_brace ∷ at_word w_trait ∷ (at_word w_unsafe or_else at_word w_impl) ∷ ended ∷ []; halts = at_equals ∷ at_colons ∷ at_arguments ∷ at_arrow ∷ []; shuns = [] }
 summary_of false nameless_fields = record { stays = Word w_struct ∷ Word w_union ∷ []; moves = []; nullable = false; gone = []; ends = []; halts = []; shuns = [] }
-summary_of false unnamed_field = record { stays = Word w_pub ∷ Punctuation ampersand ∷ Punctuation star ∷ Delimited Paren ∷ Delimited Bracket ∷ Delimited None ∷ Name ∷ Word w_union ∷ Word w_auto ∷ Word w_default ∷ Word w_safe ∷ Word w_Self_type ∷ Word w_self ∷ Word w_super ∷ Word w_crate ∷ []; moves = move (Punctuation pound) (Punctuation pound) [] ∷ move (Punctuation and_and) (Punctuation ampersand) [] ∷ move (Punctuation ampersand_equals) (Punctuation ampersand) [] ∷ move (Punctuation star_equals) (Punctuation star) [] ∷ move (Punctuation exclamation) (Punctuation exclamation) [] ∷ move (Punctuation not_equals) (Punctuation exclamation) [] ∷ move (Punctuation less) (Punctuation less) [] ∷ move (Punctuation less_less_equals) (Punctuation less) [] ∷ move (Punctuation less_equals) (Punctuation less) [] ∷ move (Punctuation less_less) (Punctuation less) [] ∷ move (Punctuation colons) (Punctuation colons) [] ∷ []; nullable = false; gone = []; ends = (at_equals but_not at_equals) ∷ at_paren ∷ at_less ∷ ((at_colons or_else at_less_only or_else at_paren or_else at_word w_as) but_not at_colons) ∷ (at_colons but_not at_colons) ∷ ((at_path_rest and_also ahead Bang_brace) but_not at_colons) ∷ ((at_path_rest and_also ahead Bang_name) but_not at_colons) ∷ ((at_path_rest and_also ahead Bang_group) but_not at_colons) ∷ at_name ∷ at_brace ∷ at_word w_trait ∷ (at_word w_unsafe or_else at_word w_impl) ∷ ended ∷ []; halts = at_equals ∷ at_colons ∷ at_arguments ∷ at_arrow ∷ []; shuns = [] }
-summary_of false unnamed_fields = record { stays = Word w_pub ∷ Punctuation ampersand ∷ Punctuation star ∷ Delimited Paren ∷ Delimited Bracket ∷ Delimited None ∷ Name ∷ Word w_union ∷ Word w_auto ∷ Word w_default ∷ Word w_safe ∷ Word w_Self_type ∷ Word w_self ∷ Word w_super ∷ Word w_crate ∷ []; moves = move (Punctuation pound) (Punctuation pound) [] ∷ move (Punctuation and_and) (Punctuation ampersand) [] ∷ move (Punctuation ampersand_equals) (Punctuation ampersand) [] ∷ move (Punctuation star_equals) (Punctuation star) [] ∷ move (Punctuation exclamation) (Punctuation exclamation) [] ∷ move (Punctuation not_equals) (Punctuation exclamation) [] ∷ move (Punctuation less) (Punctuation less) [] ∷ move (Punctuation less_less_equals) (Punctuation less) [] ∷ move (Punctuation less_equals) (Punctuation less) [] ∷ move (Punctuation less_less) (Punctuation less) [] ∷ move (Punctuation colons) (Punctuation colons) [] ∷ []; nullable = true; gone = []; ends = ended ∷ (at_equals but_not at_equals) ∷ at_paren ∷ at_less ∷ ((at_colons or_else at_less_only or_else at_paren or_else at_word w_as) but_not at_colons) ∷ (at_colons but_not at_colons) ∷ ((at_path_rest and_also ahead Bang_brace) but_not at_colons) ∷ ((at_path_rest and_also ahead Bang_name) but_not at_colons) ∷ ((at_path_rest and_also ahead Bang_group) but_not at_colons) ∷ at_name ∷ at_brace ∷ at_word w_trait ∷ (at_word w_unsafe or_else at_word w_impl) ∷ []; halts = at_comma ∷ at_equals ∷ at_colons ∷ at_arguments ∷ at_arrow ∷ []; shuns = [] }
-summary_of false fields_unnamed = record { stays = Delimited Paren ∷ []; moves = []; nullable = false; gone = []; ends = []; halts = []; shuns = [] }
-summary_of false variant = record { stays = []; moves = move (Punctuation pound) (Punctuation pound) [] ∷ move Name Name [] ∷ move (Word w_union) (Word w_union) [] ∷ move (Word w_auto) (Word w_auto) [] ∷ move (Word w_default) (Word w_default) [] ∷ move (Word w_safe) (Word w_safe) [] ∷ move (Word w_pub) Name [] ∷ move (Word w_pub) (Word w_union) [] ∷ move (Word w_pub) (Word w_auto) [] ∷ move (Word w_pub) (Word w_default) [] ∷ move (Word w_pub) (Word w_safe) [] ∷ []; nullable = false; gone = []; ends = []; halts = at_equals ∷ at_paren ∷ at_brace ∷ []; shuns = [] }
-summary_of false variants = record { stays = []; moves = move (Punctuation pound) (Punctuation pound) [] ∷ move Name Name [] ∷ move (Word w_union) (Word w_union) [] ∷ move (Word w_auto) (Word w_auto) [] ∷ move (Word w_default) (Word w_default) [] ∷ move (Word w_safe) (Word w_safe) [] ∷ move (Word w_pub) Name [] ∷ move (Word w_pub) (Word w_union) [] ∷ move (Word w_pub) (Word w_auto) [] ∷ move (Word w_pub) (Word w_default) [] ∷ move (Word w_pub) (Word w_safe) [] ∷ []; nullable = true; gone = []; ends = ended ∷ []; halts = at_comma ∷ at_equals ∷ at_paren ∷ at_brace ∷ []; shuns = [] }
-summary_of false structure = record { stays = Word w_pub ∷ Word w_struct ∷ []; moves = move (Punctuation pound) (Punctuation pound) [] ∷ []; nullable = false; gone = []; ends = []; halts = []; shuns = [] }
-summary_of false structure_rest = record { stays = Word w_pub ∷ Word w_struct ∷ []; moves = []; nullable = false; gone = []; ends = []; halts = []; shuns = [] }
-summary_of false structure_body = record { stays = Delimited Paren ∷ Word w_where ∷ Delimited Brace ∷ Punctuation semicolon ∷ []; moves = move (Word w_where) (Delimited Brace) [] ∷ move (Word w_where) (Punctuation semicolon) [] ∷ []; nullable = false; gone = []; ends = []; halts = []; shuns = [] }
-summary_of false enumeration = record { stays = Word w_pub ∷ Word w_enum ∷ []; moves = move (Punctuation pound) (Punctuation pound) [] ∷ []; nullable = false; gone = []; ends = []; halts = []; shuns = [] }
-summary_of false enumeration_rest = record { stays = Word w_pub ∷ Word w_enum ∷ []; moves = []; nullable = false; gone = []; ends = []; halts = []; shuns = [] }
-summary_of false union_item = record { stays = Word w_pub ∷ []; moves = move (Punctuation pound) (Punctuation pound) [] ∷ move (Word w_union) (Word w_union) [] ∷ []; nullable = false; gone = []; ends = []; halts = []; shuns = [] }
-summary_of false union_item_rest = record { stays = Word w_pub ∷ []; moves = move (Word w_union) (Word w_union) [] ∷ []; nullable = false; gone = []; ends = []; halts = []; shuns = [] }
-summary_of false derive_input = record { stays = Word w_pub ∷ Word w_struct ∷ Word w_enum ∷ []; moves = move (Punctuation pound) (Punctuation pound) [] ∷ move (Word w_union) (Word w_union) [] ∷ []; nullable = false; gone = []; ends = []; halts = []; shuns = [] }
+summary_of false unnamed_field = record { stays = Word w_pub ∷ Punctuation ampersand ∷ Punctuation star ∷ Delimited Paren false ∷ Delimited Bracket false ∷ Delimited None false ∷ Name ∷ Word w_union ∷ Word w_auto ∷ Word w_default ∷ Word w_safe ∷ Word w_Self_type ∷ Word w_self ∷ Word w_super ∷ Word w_crate ∷ []; moves = move (Punctuation pound) (Punctuation pound) [] ∷ move (Punctuation and_and) (Punctuation ampersand) [] ∷ move (Punctuation ampersand_equals) (Punctuation ampersand) [] ∷ move (Punctuation star_equals) (Punctuation star) [] ∷ move (Punctuation exclamation) (Punctuation exclamation) [] ∷ move (Punctuation not_equals) (Punctuation exclamation) [] ∷ move (Punctuation less) (Punctuation less) [] ∷ move (Punctuation less_less_equals) (Punctuation less) [] ∷ move (Punctuation less_equals) (Punctuation less) [] ∷ move (Punctuation less_less) (Punctuation less) [] ∷ move (Punctuation colons) (Punctuation colons) [] ∷ move (Delimited None true) (Punctuation ampersand) [] ∷ move (Delimited None true) (Punctuation star) [] ∷ move (Delimited None true) (Delimited Paren false) [] ∷ move (Delimited None true) (Delimited Bracket false) [] ∷ move (Delimited None true) (Delimited None false) [] ∷ move (Delimited None true) Name [] ∷ move (Delimited None true) (Word w_union) [] ∷ move (Delimited None true) (Word w_auto) [] ∷ move (Delimited None true) (Word w_default) [] ∷ move (Delimited None true) (Word w_safe) [] ∷ move (Delimited None true) (Word w_Self_type) [] ∷ move (Delimited None true) (Word w_self) [] ∷ move (Delimited None true) (Word w_super) [] ∷ move (Delimited None true) (Word w_crate) [] ∷ move (Delimited None true) (Punctuation exclamation) [] ∷ move (Delimited None true) (Punctuation less) [] ∷ move (Delimited None true) (Punctuation colons) [] ∷ []; nullable = false; gone = []; ends = (at_equals but_not at_equals) ∷ at_paren ∷ at_less ∷ ((at_colons or_else at_less_only or_else at_paren or_else at_word w_as) but_not at_colons) ∷ (at_colons but_not at_colons) ∷ ((at_path_rest and_also ahead Bang_brace) but_not at_colons) ∷ ((at_path_rest and_also ahead Bang_name) but_not at_colons) ∷ ((at_path_rest and_also ahead Bang_group) but_not at_colons) ∷ at_name ∷ at_brace ∷ at_word w_trait ∷ (at_word w_unsafe or_else at_word w_impl) ∷ ended ∷ []; halts = at_equals ∷ at_colons ∷ at_arguments ∷ at_arrow ∷ []; shuns = [] }
+summary_of false unnamed_fields = record { stays = Word w_pub ∷ Punctuation ampersand ∷ Punctuation star ∷ Delimited Paren false ∷ Delimited Bracket false ∷ Delimited None false ∷ Name ∷ Word w_union ∷ Word w_auto ∷ Word w_default ∷ Word w_safe ∷ Word w_Self_type ∷ Word w_self ∷ Word w_super ∷ Word w_crate ∷ []; moves = move (Punctuation pound) (Punctuation pound) [] ∷ move (Punctuation and_and) (Punctuation ampersand) [] ∷ move (Punctuation ampersand_equals) (Punctuation ampersand) [] ∷ move (Punctuation star_equals) (Punctuation star) [] ∷ move (Punctuation exclamation) (Punctuation exclamation) [] ∷ move (Punctuation not_equals) (Punctuation exclamation) [] ∷ move (Punctuation less) (Punctuation less) [] ∷ move (Punctuation less_less_equals) (Punctuation less) [] ∷ move (Punctuation less_equals) (Punctuation less) [] ∷ move (Punctuation less_less) (Punctuation less) [] ∷ move (Punctuation colons) (Punctuation colons) [] ∷ move (Delimited None true) (Punctuation ampersand) [] ∷ move (Delimited None true) (Punctuation star) [] ∷ move (Delimited None true) (Delimited Paren false) [] ∷ move (Delimited None true) (Delimited Bracket false) [] ∷ move (Delimited None true) (Delimited None false) [] ∷ move (Delimited None true) Name [] ∷ move (Delimited None true) (Word w_union) [] ∷ move (Delimited None true) (Word w_auto) [] ∷ move (Delimited None true) (Word w_default) [] ∷ move (Delimited None true) (Word w_safe) [] ∷ move (Delimited None true) (Word w_Self_type) [] ∷ move (Delimited None true) (Word w_self) [] ∷ move (Delimited None true) (Word w_super) [] ∷ move (Delimited None true) (Word w_crate) [] ∷ move (Delimited None true) (Punctuation exclamation) [] ∷ move (Delimited None true) (Punctuation less) [] ∷ move (Delimited None true) (Punctuation colons) [] ∷ []; nullable = true; gone = []; ends = ended ∷ (at_equals but_not at_equals) ∷ at_paren ∷ at_less ∷ ((at_colons or_else at_less_only or_else at_paren or_else at_word w_as) but_not at_colons) ∷ (at_colons but_not at_colons) ∷ ((at_path_rest and_also ahead Bang_brace) but_not at_colons) ∷ ((at_path_rest and_also ahead Bang_name) but_not at_colons) ∷ ((at_path_rest and_also ahead Bang_group) but_not at_colons) ∷ at_name ∷ at_brace ∷ at_word w_trait ∷ (at_word w_unsafe or_else at_word w_impl) ∷ []; halts = at_comma ∷ at_equals ∷ at_colons ∷ at_arguments ∷ at_arrow ∷ []; shuns = [] }
+summary_of false fields_unnamed = record { stays = []; moves = move (Delimited Paren false) (Delimited Paren false) [] ∷ []; nullable = false; gone = []; ends = []; halts = []; shuns = [] }
+summary_of false variant = record { stays = []; moves = move (Punctuation pound) (Punctuation pound) [] ∷ move Name Name [] ∷ move (Word w_union) (Word w_union) [] ∷ move (Word w_auto) (Word w_auto) [] ∷ move (Word w_default) (Word w_default) [] ∷ move (Word w_safe) (Word w_safe) [] ∷ move (Word w_pub) Name [] ∷ move (Word w_pub) (Word w_union) [] ∷ move (Word w_pub) (Word w_auto) [] ∷ move (Word w_pub) (Word w_default) [] ∷ move (Word w_pub) (Word w_safe) [] ∷ move (Delimited None true) Name [] ∷ move (Delimited None true) (Word w_union) [] ∷ move (Delimited None true) (Word w_auto) [] ∷ move (Delimited None true) (Word w_default) [] ∷ move (Delimited None true) (Word w_safe) [] ∷ []; nullable = false; gone = []; ends = []; halts = at_equals ∷ at_paren ∷ at_brace ∷ []; shuns = [] }
+summary_of false variants = record { stays = []; moves = move (Punctuation pound) (Punctuation pound) [] ∷ move Name Name [] ∷ move (Word w_union) (Word w_union) [] ∷ move (Word w_auto) (Word w_auto) [] ∷ move (Word w_default) (Word w_default) [] ∷ move (Word w_safe) (Word w_safe) [] ∷ move (Word w_pub) Name [] ∷ move (Word w_pub) (Word w_union) [] ∷ move (Word w_pub) (Word w_auto) [] ∷ move (Word w_pub) (Word w_default) [] ∷ move (Word w_pub) (Word w_safe) [] ∷ move (Delimited None true) Name [] ∷ move (Delimited None true) (Word w_union) [] ∷ move (Delimited None true) (Word w_auto) [] ∷ move (Delimited None true) (Word w_default) [] ∷ move (Delimited None true) (Word w_safe) [] ∷ []; nullable = true; gone = []; ends = ended ∷ []; halts = at_comma ∷ at_equals ∷ at_paren ∷ at_brace ∷ []; shuns = [] }
+summary_of false structure = record { stays = Word w_pub ∷ Word w_struct ∷ []; moves = move (Punctuation pound) (Punctuation pound) [] ∷ move (Delimited None true) (Word w_struct) [] ∷ []; nullable = false; gone = []; ends = []; halts = []; shuns = [] }
+summary_of false structure_rest = record { stays = Word w_pub ∷ Word w_struct ∷ []; moves = move (Delimited None true) (Word w_struct) [] ∷ []; nullable = false; gone = []; ends = []; halts = []; shuns = [] }
+summary_of false structure_body = record { stays = Word w_where ∷ Delimited Brace false ∷ Punctuation semicolon ∷ []; moves = move (Delimited Paren false) (Delimited Paren false) [] ∷ move (Word w_where) (Delimited Brace false) [] ∷ move (Word w_where) (Punctuation semicolon) [] ∷ []; nullable = false; gone = []; ends = []; halts = []; shuns = [] }
+summary_of false enumeration = record { stays = Word w_pub ∷ Word w_enum ∷ []; moves = move (Punctuation pound) (Punctuation pound) [] ∷ move (Delimited None true) (Word w_enum) [] ∷ []; nullable = false; gone = []; ends = []; halts = []; shuns = [] }
+summary_of false enumeration_rest = record { stays = Word w_pub ∷ Word w_enum ∷ []; moves = move (Delimited None true) (Word w_enum) [] ∷ []; nullable = false; gone = []; ends = []; halts = []; shuns = [] }
+summary_of false union_item = record { stays = Word w_pub ∷ []; moves = move (Punctuation pound) (Punctuation pound) [] ∷ move (Word w_union) (Word w_union) [] ∷ move (Delimited None true) (Word w_union) [] ∷ []; nullable = false; gone = []; ends = []; halts = []; shuns = [] }
+summary_of false union_item_rest = record { stays = Word w_pub ∷ []; moves = move (Word w_union) (Word w_union) [] ∷ move (Delimited None true) (Word w_union) [] ∷ []; nullable = false; gone = []; ends = []; halts = []; shuns = [] }
+summary_of false derive_input = record { stays = Word w_pub ∷ Word w_struct ∷ Word w_enum ∷ []; moves = move (Punctuation pound) (Punctuation pound) [] ∷ move (Delimited None true) (Word w_struct) [] ∷ move (Delimited None true) (Word w_enum) [] ∷ move (Word w_union) (Word w_union) [] ∷ move (Delimited None true) (Word w_union) [] ∷ []; nullable = false; gone = []; ends = []; halts = []; shuns = [] }
 summary_of true attributes = record { stays = []; moves = move (Punctuation pound) (Punctuation pound) [] ∷ []; nullable = true; gone = []; ends = []; halts = at_pound ∷ []; shuns = [] }
 summary_of true inner_attributes = record { stays = []; moves = []; nullable = false; gone = []; ends = []; halts = []; shuns = [] }
 summary_of true no_attributes = record { stays = []; moves = []; nullable = true; gone = []; ends = []; halts = at_pound ∷ []; shuns = [] }
@@ -237,18 +237,18 @@ summary_of true unsafe_word = record { stays = []; moves = []; nullable = false;
 summary_of true meta_value = record { stays = []; moves = []; nullable = false; gone = []; ends = []; halts = []; shuns = [] }
 summary_of true module_path = record { stays = Punctuation colons ∷ Name ∷ Word w_union ∷ Word w_auto ∷ Word w_default ∷ Word w_safe ∷ Word w_self ∷ Word w_Self_type ∷ Word w_super ∷ Word w_crate ∷ []; moves = []; nullable = false; gone = []; ends = at_equals ∷ at_paren ∷ at_less ∷ ((at_colons or_else at_less_only or_else at_paren or_else at_word w_as) but_not at_colons) ∷ (at_colons but_not at_colons) ∷ ((at_path_rest and_also ahead Bang_brace) but_not at_colons) ∷ ((at_path_rest and_also ahead Bang_name) but_not at_colons) ∷ ((at_path_rest and_also ahead Bang_group) but_not at_colons) ∷ at_name ∷ at_brace ∷ at_word w_trait ∷ (at_word w_unsafe or_else at_word w_impl) ∷ ended ∷ []; halts = at_colons ∷ []; shuns = [] }
 summary_of true module_words = record { stays = Name ∷ Word w_union ∷ Word w_auto ∷ Word w_default ∷ Word w_safe ∷ Word w_self ∷ Word w_Self_type ∷ Word w_super ∷ Word w_crate ∷ []; moves = []; nullable = false; gone = []; ends = at_equals ∷ at_paren ∷ at_less ∷ ((at_colons or_else at_less_only or_else at_paren or_else at_word w_as) but_not at_colons) ∷ (at_colons but_not at_colons) ∷ ((at_path_rest and_also ahead Bang_brace) but_not at_colons) ∷ ((at_path_rest and_also ahead Bang_name) but_not at_colons) ∷ ((at_path_rest and_also ahead Bang_group) but_not at_colons) ∷ at_name ∷ at_brace ∷ at_word w_trait ∷ (at_word w_unsafe or_else at_word w_impl) ∷ ended ∷ []; halts = at_colons ∷ []; shuns = [] }
-summary_of true visibility = record { stays = Word w_pub ∷ []; moves = []; nullable = true; gone = []; ends = []; halts = at_restriction ∷ at_word w_pub ∷ []; shuns = [] }
+summary_of true visibility = record { stays = Word w_pub ∷ []; moves = []; nullable = true; gone = Delimited None true ∷ []; ends = []; halts = at_restriction ∷ at_empty_group ∷ at_word w_pub ∷ []; shuns = at_empty_group ∷ at_word w_pub ∷ [] }
 summary_of true restriction = record { stays = Word w_in ∷ Punctuation colons ∷ Name ∷ Word w_union ∷ Word w_auto ∷ Word w_default ∷ Word w_safe ∷ Word w_self ∷ Word w_Self_type ∷ Word w_super ∷ Word w_crate ∷ []; moves = []; nullable = false; gone = []; ends = at_equals ∷ at_paren ∷ at_less ∷ ((at_colons or_else at_less_only or_else at_paren or_else at_word w_as) but_not at_colons) ∷ (at_colons but_not at_colons) ∷ ((at_path_rest and_also ahead Bang_brace) but_not at_colons) ∷ ((at_path_rest and_also ahead Bang_name) but_not at_colons) ∷ ((at_path_rest and_also ahead Bang_group) but_not at_colons) ∷ at_name ∷ at_brace ∷ at_word w_trait ∷ (at_word w_unsafe or_else at_word w_impl) ∷ ended ∷ []; halts = at_colons ∷ []; shuns = [] }
 summary_of true type_path = record { stays = Name ∷ Word w_union ∷ Word w_auto ∷ Word w_default ∷ Word w_safe ∷ Word w_Self_type ∷ Word w_self ∷ Word w_super ∷ Word w_crate ∷ []; moves = move (Punctuation colons) (Punctuation colons) [] ∷ []; nullable = false; gone = []; ends = at_equals ∷ at_paren ∷ at_less ∷ ((at_colons or_else at_less_only or_else at_paren or_else at_word w_as) but_not at_colons) ∷ (at_colons but_not at_colons) ∷ ((at_path_rest and_also ahead Bang_brace) but_not at_colons) ∷ ((at_path_rest and_also ahead Bang_name) but_not at_colons) ∷ ((at_path_rest and_also ahead Bang_group) but_not at_colons) ∷ at_name ∷ at_brace ∷ at_word w_trait ∷ (at_word w_unsafe or_else at_word w_impl) ∷ ended ∷ []; halts = at_colons ∷ at_arguments ∷ at_arrow ∷ []; shuns = [] }
 summary_of true type_words = record { stays = Name ∷ Word w_union ∷ Word w_auto ∷ Word w_default ∷ Word w_safe ∷ Word w_Self_type ∷ Word w_self ∷ Word w_super ∷ Word w_crate ∷ []; moves = []; nullable = false; gone = []; ends = at_equals ∷ at_paren ∷ at_less ∷ ((at_colons or_else at_less_only or_else at_paren or_else at_word w_as) but_not at_colons) ∷ (at_colons but_not at_colons) ∷ ((at_path_rest and_also ahead Bang_brace) but_not at_colons) ∷ ((at_path_rest and_also ahead Bang_name) but_not at_colons) ∷ ((at_path_rest and_also ahead Bang_group) but_not at_colons) ∷ at_name ∷ at_brace ∷ at_word w_trait ∷ (at_word w_unsafe or_else at_word w_impl) ∷ ended ∷ []; halts = at_colons ∷ at_arguments ∷ at_arrow ∷ []; shuns = [] }
-summary_of true type_arguments = record { stays = Delimited Paren ∷ Punctuation colons ∷ []; moves = move (Punctuation less) (Punctuation less) [] ∷ move (Punctuation less_less_equals) (Punctuation less) [] ∷ move (Punctuation less_equals) (Punctuation less) [] ∷ move (Punctuation less_less) (Punctuation less) [] ∷ []; nullable = false; gone = []; ends = at_equals ∷ at_paren ∷ at_less ∷ ((at_colons or_else at_less_only or_else at_paren or_else at_word w_as) but_not at_colons) ∷ (at_colons but_not at_colons) ∷ ((at_path_rest and_also ahead Bang_brace) but_not at_colons) ∷ ((at_path_rest and_also ahead Bang_name) but_not at_colons) ∷ ((at_path_rest and_also ahead Bang_group) but_not at_colons) ∷ at_name ∷ at_brace ∷ at_word w_trait ∷ (at_word w_unsafe or_else at_word w_impl) ∷ ended ∷ []; halts = at_colons ∷ at_arguments ∷ at_arrow ∷ []; shuns = [] }
+summary_of true type_arguments = record { stays = Delimited Paren false ∷ Punctuation colons ∷ []; moves = move (Punctuation less) (Punctuation less) [] ∷ move (Punctuation less_less_equals) (Punctuation less) [] ∷ move (Punctuation less_equals) (Punctuation less) [] ∷ move (Punctuation less_less) (Punctuation less) [] ∷ []; nullable = false; gone = []; ends = at_equals ∷ at_paren ∷ at_less ∷ ((at_colons or_else at_less_only or_else at_paren or_else at_word w_as) but_not at_colons) ∷ (at_colons but_not at_colons) ∷ ((at_path_rest and_also ahead Bang_brace) but_not at_colons) ∷ ((at_path_rest and_also ahead Bang_name) but_not at_colons) ∷ ((at_path_rest and_also ahead Bang_group) but_not at_colons) ∷ at_name ∷ at_brace ∷ at_word w_trait ∷ (at_word w_unsafe or_else at_word w_impl) ∷ ended ∷ []; halts = at_colons ∷ at_arguments ∷ at_arrow ∷ []; shuns = [] }
 summary_of true return_type = record { stays = []; moves = []; nullable = false; gone = []; ends = []; halts = []; shuns = [] }
 summary_of true generic_arguments = record { stays = []; moves = move (Punctuation less) (Punctuation less) [] ∷ move (Punctuation less_less_equals) (Punctuation less) [] ∷ move (Punctuation less_equals) (Punctuation less) [] ∷ move (Punctuation less_less) (Punctuation less) [] ∷ []; nullable = false; gone = []; ends = []; halts = []; shuns = [] }
 summary_of true generic_argument = record { stays = []; moves = []; nullable = false; gone = []; ends = []; halts = []; shuns = [] }
 summary_of true qualified_path = record { stays = []; moves = move (Punctuation less) (Punctuation less) [] ∷ move (Punctuation less_less_equals) (Punctuation less) [] ∷ move (Punctuation less_equals) (Punctuation less) [] ∷ move (Punctuation less_less) (Punctuation less) [] ∷ []; nullable = false; gone = []; ends = at_equals ∷ at_paren ∷ at_less ∷ ((at_colons or_else at_less_only or_else at_paren or_else at_word w_as) but_not at_colons) ∷ (at_colons but_not at_colons) ∷ ((at_path_rest and_also ahead Bang_brace) but_not at_colons) ∷ ((at_path_rest and_also ahead Bang_name) but_not at_colons) ∷ ((at_path_rest and_also ahead Bang_group) but_not at_colons) ∷ at_name ∷ at_brace ∷ at_word w_trait ∷ (at_word w_unsafe or_else at_word w_impl) ∷ ended ∷ []; halts = at_colons ∷ at_arguments ∷ at_arrow ∷ []; shuns = [] }
 summary_of true path_as_type = record { stays = Name ∷ Word w_union ∷ Word w_auto ∷ Word w_default ∷ Word w_safe ∷ Word w_Self_type ∷ Word w_self ∷ Word w_super ∷ Word w_crate ∷ []; moves = move (Punctuation less) (Punctuation less) [] ∷ move (Punctuation less_less_equals) (Punctuation less) [] ∷ move (Punctuation less_equals) (Punctuation less) [] ∷ move (Punctuation less_less) (Punctuation less) [] ∷ move (Punctuation colons) (Punctuation colons) [] ∷ []; nullable = false; gone = []; ends = at_equals ∷ at_paren ∷ at_less ∷ ((at_colons or_else at_less_only or_else at_paren or_else at_word w_as) but_not at_colons) ∷ (at_colons but_not at_colons) ∷ ((at_path_rest and_also ahead Bang_brace) but_not at_colons) ∷ ((at_path_rest and_also ahead Bang_name) but_not at_colons) ∷ ((at_path_rest and_also ahead Bang_group) but_not at_colons) ∷ at_name ∷ at_brace ∷ at_word w_trait ∷ (at_word w_unsafe or_else at_word w_impl) ∷ ended ∷ []; halts = at_colons ∷ at_arguments ∷ at_arrow ∷ []; shuns = [] }
-summary_of true type = record { stays = Punctuation ampersand ∷ Punctuation star ∷ Delimited Paren ∷ Delimited Bracket ∷ Delimited None ∷ Name ∷ Word w_union ∷ Word w_auto ∷ Word w_default ∷ Word w_safe ∷ Word w_Self_type ∷ Word w_self ∷ Word w_super ∷ Word w_crate ∷ []; moves = move (Punctuation and_and) (Punctuation ampersand) [] ∷ move (Punctuation ampersand_equals) (Punctuation ampersand) [] ∷ move (Punctuation star_equals) (Punctuation star) [] ∷ move (Punctuation exclamation) (Punctuation exclamation) [] ∷ move (Punctuation not_equals) (Punctuation exclamation) [] ∷ move (Punctuation less) (Punctuation less) [] ∷ move (Punctuation less_less_equals) (Punctuation less) [] ∷ move (Punctuation less_equals) (Punctuation less) [] ∷ move (Punctuation less_less) (Punctuation less) [] ∷ move (Punctuation colons) (Punctuation colons) [] ∷ []; nullable = false; gone = []; ends = at_equals ∷ at_paren ∷ at_less ∷ ((at_colons or_else at_less_only or_else at_paren or_else at_word w_as) but_not at_colons) ∷ (at_colons but_not at_colons) ∷ ((at_path_rest and_also ahead Bang_brace) but_not at_colons) ∷ ((at_path_rest and_also ahead Bang_name) but_not at_colons) ∷ ((at_path_rest and_also ahead Bang_group) but_not at_colons) ∷ at_name ∷ at_brace ∷ at_word w_trait ∷ (at_word w_unsafe or_else at_word w_impl) ∷ ended ∷ []; halts = at_colons ∷ at_arguments ∷ at_arrow ∷ []; shuns = [] }
-summary_of true types = record { stays = Punctuation ampersand ∷ Punctuation star ∷ Delimited Paren ∷ Delimited Bracket ∷ Delimited None ∷ Name ∷ Word w_union ∷ Word w_auto ∷ Word w_default ∷ Word w_safe ∷ Word w_Self_type ∷ Word w_self ∷ Word w_super ∷ Word w_crate ∷ []; moves = move (Punctuation and_and) (Punctuation ampersand) [] ∷ move (Punctuation ampersand_equals) (Punctuation ampersand) [] ∷ move (Punctuation star_equals) (Punctuation star) [] ∷ move (Punctuation exclamation) (Punctuation exclamation) [] ∷ move (Punctuation not_equals) (Punctuation exclamation) [] ∷ move (Punctuation less) (Punctuation less) [] ∷ move (Punctuation less_less_equals) (Punctuation less) [] ∷ move (Punctuation less_equals) (Punctuation less) [] ∷ move (Punctuation less_less) (Punctuation less) [] ∷ move (Punctuation colons) (Punctuation colons) [] ∷ []; nullable = true; gone = []; ends = ended ∷ at_equals ∷ at_paren ∷ at_less ∷ ((at_colons or_else at_less_only or_else at_paren or_else at_word w_as) but_not at_colons) ∷ (at_colons but_not at_colons) ∷ ((at_path_rest and_also ahead Bang_brace) but_not at_colons) ∷ ((at_path_rest and_also ahead Bang_name) but_not at_colons) ∷ ((at_path_rest and_also ahead Bang_group) but_not at_colons) ∷ at_name ∷ at_brace ∷ at_word w_trait ∷ (at_word w_unsafe or_else at_word w_impl) ∷ []; halts = at_comma ∷ at_colons ∷ at_arguments ∷ at_arrow ∷ []; shuns = [] }
+summary_of true type = record { stays = Punctuation ampersand ∷ Punctuation star ∷ Delimited Paren false ∷ Delimited Bracket false ∷ Delimited None false ∷ Name ∷ Word w_union ∷ Word w_auto ∷ Word w_default ∷ Word w_safe ∷ Word w_Self_type ∷ Word w_self ∷ Word w_super ∷ Word w_crate ∷ []; moves = move (Punctuation and_and) (Punctuation ampersand) [] ∷ move (Punctuation ampersand_equals) (Punctuation ampersand) [] ∷ move (Punctuation star_equals) (Punctuation star) [] ∷ move (Punctuation exclamation) (Punctuation exclamation) [] ∷ move (Punctuation not_equals) (Punctuation exclamation) [] ∷ move (Punctuation less) (Punctuation less) [] ∷ move (Punctuation less_less_equals) (Punctuation less) [] ∷ move (Punctuation less_equals) (Punctuation less) [] ∷ move (Punctuation less_less) (Punctuation less) [] ∷ move (Punctuation colons) (Punctuation colons) [] ∷ []; nullable = false; gone = []; ends = at_equals ∷ at_paren ∷ at_less ∷ ((at_colons or_else at_less_only or_else at_paren or_else at_word w_as) but_not at_colons) ∷ (at_colons but_not at_colons) ∷ ((at_path_rest and_also ahead Bang_brace) but_not at_colons) ∷ ((at_path_rest and_also ahead Bang_name) but_not at_colons) ∷ ((at_path_rest and_also ahead Bang_group) but_not at_colons) ∷ at_name ∷ at_brace ∷ at_word w_trait ∷ (at_word w_unsafe or_else at_word w_impl) ∷ ended ∷ []; halts = at_colons ∷ at_arguments ∷ at_arrow ∷ []; shuns = [] }
+summary_of true types = record { stays = Punctuation ampersand ∷ Punctuation star ∷ Delimited Paren false ∷ Delimited Bracket false ∷ Delimited None false ∷ Name ∷ Word w_union ∷ Word w_auto ∷ Word w_default ∷ Word w_safe ∷ Word w_Self_type ∷ Word w_self ∷ Word w_super ∷ Word w_crate ∷ []; moves = move (Punctuation and_and) (Punctuation ampersand) [] ∷ move (Punctuation ampersand_equals) (Punctuation ampersand) [] ∷ move (Punctuation star_equals) (Punctuation star) [] ∷ move (Punctuation exclamation) (Punctuation exclamation) [] ∷ move (Punctuation not_equals) (Punctuation exclamation) [] ∷ move (Punctuation less) (Punctuation less) [] ∷ move (Punctuation less_less_equals) (Punctuation less) [] ∷ move (Punctuation less_equals) (Punctuation less) [] ∷ move (Punctuation less_less) (Punctuation less) [] ∷ move (Punctuation colons) (Punctuation colons) [] ∷ []; nullable = true; gone = []; ends = ended ∷ at_equals ∷ at_paren ∷ at_less ∷ ((at_colons or_else at_less_only or_else at_paren or_else at_word w_as) but_not at_colons) ∷ (at_colons but_not at_colons) ∷ ((at_path_rest and_also ahead Bang_brace) but_not at_colons) ∷ ((at_path_rest and_also ahead Bang_name) but_not at_colons) ∷ ((at_path_rest and_also ahead Bang_group) but_not at_colons) ∷ at_name ∷ at_brace ∷ at_word w_trait ∷ (at_word w_unsafe or_else at_word w_impl) ∷ []; halts = at_comma ∷ at_colons ∷ at_arguments ∷ at_arrow ∷ []; shuns = [] }
 summary_of true expression = record { stays = Word w_true ∷ Word w_false ∷ Literal Str ∷ Literal ByteStr ∷ Literal CStr ∷ Literal Byte ∷ Literal Char ∷ Literal Int ∷ Literal Float ∷ []; moves = []; nullable = false; gone = []; ends = []; halts = []; shuns = [] }
 summary_of true generics = record { stays = []; moves = []; nullable = false; gone = []; ends = []; halts = []; shuns = [] }
 summary_of true lifetime_parameter = record { stays = []; moves = []; nullable = false; gone = []; ends = []; halts = []; shuns = [] }
@@ -262,12 +262,12 @@ summary_of true where_clause = record { stays = []; moves = []; nullable = false
 summary_of true predicates = record { stays = []; moves = []; nullable = false; gone = []; ends = []; halts = []; shuns = [] }
 summary_of true predicate = record { stays = []; moves = []; nullable = false; gone = []; ends = []; halts = []; shuns = [] }
 summary_of true predicate_bounds = record { stays = []; moves = []; nullable = false; gone = []; ends = []; halts = []; shuns = [] }
-summary_of true fields_named = record { stays = Delimited Brace ∷ []; moves = []; nullable = false; gone = []; ends = []; halts = []; shuns = [] }
+summary_of true fields_named = record { stays = Delimited Brace false ∷ []; moves = []; nullable = false; gone = []; ends = []; halts = []; shuns = [] }
 summary_of true named_fields = record { stays = []; moves = []; nullable = false; gone = []; ends = []; halts = []; shuns = [] }
 summary_of true named_field = record { stays = []; moves = []; nullable = false; gone = []; ends = []; halts = []; shuns = [] }
 summary_of true nameless_fields = record { stays = Word w_struct ∷ Word w_union ∷ []; moves = []; nullable = false; gone = []; ends = []; halts = []; shuns = [] }
-summary_of true unnamed_field = record { stays = Word w_pub ∷ Punctuation ampersand ∷ Punctuation star ∷ Delimited Paren ∷ Delimited Bracket ∷ Delimited None ∷ Name ∷ Word w_union ∷ Word w_auto ∷ Word w_default ∷ Word w_safe ∷ Word w_Self_type ∷ Word w_self ∷ Word w_super ∷ Word w_crate ∷ []; moves = move (Punctuation pound) (Punctuation pound) [] ∷ move (Punctuation and_and) (Punctuation ampersand) [] ∷ move (Punctuation ampersand_equals) (Punctuation ampersand) [] ∷ move (Punctuation star_equals) (Punctuation star) [] ∷ move (Punctuation exclamation) (Punctuation exclamation) [] ∷ move (Punctuation not_equals) (Punctuation exclamation) [] ∷ move (Punctuation less) (Punctuation less) [] ∷ move (Punctuation less_less_equals) (Punctuation less) [] ∷ move (Punctuation less_equals) (Punctuation less) [] ∷ move (Punctuation less_less) (Punctuation less) [] ∷ move (Punctuation colons) (Punctuation colons) [] ∷ []; nullable = false; gone = []; ends = (at_equals but_not at_equals) ∷ at_paren ∷ at_less ∷ ((at_colons or_else at_less_only or_else at_paren or_else at_word w_as) but_not at_colons) ∷ (at_colons but_not at_colons) ∷ ((at_path_rest and_also ahead Bang_brace) but_not at_colons) ∷ ((at_path_rest and_also ahead Bang_name) but_not at_colons) ∷ ((at_path_rest and_also ahead Bang_group) but_not at_colons) ∷ at_name ∷ at_brace ∷ at_word w_trait ∷ (at_word w_unsafe or_else at_word w_impl) ∷ ended ∷ []; halts = at_equals ∷ at_colons ∷ at_arguments ∷ at_arrow ∷ []; shuns = [] }
-summary_of true unnamed_fields = record { stays = Word w_pub ∷ Punctuation ampersand ∷ Punctuation star ∷ Delimited Paren ∷ Delimited Bracket ∷ Delimited None ∷ Name ∷ Word w_union ∷ Word w_auto ∷ Word w_default ∷ Word w_safe ∷ Word w_Self_type ∷ Word w_self ∷ Word w_super ∷ Word w_crate ∷ []; moves = move (Punctuation pound) (Punctuation pound) [] ∷ move (Punctuation and_and) (Punctuation ampersand) [] ∷ move (Punctuation ampersand_equals) (Punctuation ampersand) [] ∷ move (Punctuation star_equals) (Punctuation star) [] ∷ move (Punctuation exclamation) (Punctuation exclamation) [] ∷ move (Punctuation not_equals) (Punctuation exclamation) [] ∷ move (Punctuation less) (Punctuation less) [] ∷ move (Punctuation less_less_equals) (Punctuation less) [] ∷ move (Punctuation less_equals) (Punctuation less) [] ∷ move (Punctuation less_less) (Punctuation less) [] ∷ move (Punctuation colons) (Punctuation colons) [] ∷ []; nullable = true; gone = []; ends = ended ∷ (at_equals but_not at_equals) ∷ at_paren ∷ at_less ∷ ((at_colons or_else at_less_only or_else at_paren or_else at_word w_as) but_not at_colons) ∷ (at_colons but_not at_colons) ∷ ((at_path_rest and_also ahead Bang_brace) but_not at_colons) ∷ ((at_path_rest and_also ahead Bang_name) but_not at_colons) ∷ ((at_path_rest and_also ahead Bang_group) but_not at_colons) ∷ at_name ∷ at_brace ∷ at_word w_trait ∷ (at_word w_unsafe or_else at_word w_impl) ∷ []; halts = at_comma ∷ at_equals ∷ at_colons ∷ at_arguments ∷ at_arrow ∷ []; shuns = [] }
+summary_of true unnamed_field = record { stays = Word w_pub ∷ Punctuation ampersand ∷ Punctuation star ∷ Delimited Paren false ∷ Delimited Bracket false ∷ Delimited None false ∷ Name ∷ Word w_union ∷ Word w_auto ∷ Word w_default ∷ Word w_safe ∷ Word w_Self_type ∷ Word w_self ∷ Word w_super ∷ Word w_crate ∷ []; moves = move (Punctuation pound) (Punctuation pound) [] ∷ move (Punctuation and_and) (Punctuation ampersand) [] ∷ move (Punctuation ampersand_equals) (Punctuation ampersand) [] ∷ move (Punctuation star_equals) (Punctuation star) [] ∷ move (Punctuation exclamation) (Punctuation exclamation) [] ∷ move (Punctuation not_equals) (Punctuation exclamation) [] ∷ move (Punctuation less) (Punctuation less) [] ∷ move (Punctuation less_less_equals) (Punctuation less) [] ∷ move (Punctuation less_equals) (Punctuation less) [] ∷ move (Punctuation less_less) (Punctuation less) [] ∷ move (Punctuation colons) (Punctuation colons) [] ∷ move (Delimited None true) (Punctuation ampersand) [] ∷ move (Delimited None true) (Punctuation star) [] ∷ move (Delimited None true) (Delimited Paren false) [] ∷ move (Delimited None true) (Delimited Bracket false) [] ∷ move (Delimited None true) (Delimited None false) [] ∷ move (Delimited None true) Name [] ∷ move (Delimited None true) (Word w_union) [] ∷ move (Delimited None true) (Word w_auto) [] ∷ move (Delimited None true) (Word w_default) [] ∷ move (Delimited None true) (Word w_safe) [] ∷ move (Delimited None true) (Word w_Self_type) [] ∷ move (Delimited None true) (Word w_self) [] ∷ move (Delimited None true) (Word w_super) [] ∷ move (Delimited None true) (Word w_crate) [] ∷ move (Delimited None true) (Punctuation exclamation) [] ∷ move (Delimited None true) (Punctuation less) [] ∷ move (Delimited None true) (Punctuation colons) [] ∷ []; nullable = false; gone = []; ends = (at_equals but_not at_equals) ∷ at_paren ∷ at_less ∷ ((at_colons or_else at_less_only or_else at_paren or_else at_word w_as) but_not at_colons) ∷ (at_colons but_not at_colons) ∷ ((at_path_rest and_also ahead Bang_brace) but_not at_colons) ∷ ((at_path_rest and_also ahead Bang_name) but_not at_colons) ∷ ((at_path_rest and_also ahead Bang_group) but_not at_colons) ∷ at_name ∷ at_brace ∷ at_word w_trait ∷ (at_word w_unsafe or_else at_word w_impl) ∷ ended ∷ []; halts = at_equals ∷ at_colons ∷ at_arguments ∷ at_arrow ∷ []; shuns = [] }
+summary_of true unnamed_fields = record { stays = Word w_pub ∷ Punctuation ampersand ∷ Punctuation star ∷ Delimited Paren false ∷ Delimited Bracket false ∷ Delimited None false ∷ Name ∷ Word w_union ∷ Word w_auto ∷ Word w_default ∷ Word w_safe ∷ Word w_Self_type ∷ Word w_self ∷ Word w_super ∷ Word w_crate ∷ []; moves = move (Punctuation pound) (Punctuation pound) [] ∷ move (Punctuation and_and) (Punctuation ampersand) [] ∷ move (Punctuation ampersand_equals) (Punctuation ampersand) [] ∷ move (Punctuation star_equals) (Punctuation star) [] ∷ move (Punctuation exclamation) (Punctuation exclamation) [] ∷ move (Punctuation not_equals) (Punctuation exclamation) [] ∷ move (Punctuation less) (Punctuation less) [] ∷ move (Punctuation less_less_equals) (Punctuation less) [] ∷ move (Punctuation less_equals) (Punctuation less) [] ∷ move (Punctuation less_less) (Punctuation less) [] ∷ move (Punctuation colons) (Punctuation colons) [] ∷ move (Delimited None true) (Punctuation ampersand) [] ∷ move (Delimited None true) (Punctuation star) [] ∷ move (Delimited None true) (Delimited Paren false) [] ∷ move (Delimited None true) (Delimited Bracket false) [] ∷ move (Delimited None true) (Delimited None false) [] ∷ move (Delimited None true) Name [] ∷ move (Delimited None true) (Word w_union) [] ∷ move (Delimited None true) (Word w_auto) [] ∷ move (Delimited None true) (Word w_default) [] ∷ move (Delimited None true) (Word w_safe) [] ∷ move (Delimited None true) (Word w_Self_type) [] ∷ move (Delimited None true) (Word w_self) [] ∷ move (Delimited None true) (Word w_super) [] ∷ move (Delimited None true) (Word w_crate) [] ∷ move (Delimited None true) (Punctuation exclamation) [] ∷ move (Delimited None true) (Punctuation less) [] ∷ move (Delimited None true) (Punctuation colons) [] ∷ []; nullable = true; gone = []; ends = ended ∷ (at_equals but_not at_equals) ∷ at_paren ∷ at_less ∷ ((at_colons or_else at_less_only or_else at_paren or_else at_word w_as) but_not at_colons) ∷ (at_colons but_not at_colons) ∷ ((at_path_rest and_also ahead Bang_brace) but_not at_colons) ∷ ((at_path_rest and_also ahead Bang_name) but_not at_colons) ∷ ((at_path_rest and_also ahead Bang_group) but_not at_colons) ∷ at_name ∷ at_brace ∷ at_word w_trait ∷ (at_word w_unsafe or_else at_word w_impl) ∷ []; halts = at_comma ∷ at_equals ∷ at_colons ∷ at_arguments ∷ at_arrow ∷ []; shuns = [] }
 summary_of true fields_unnamed = record { stays = []; moves = []; nullable = false; gone = []; ends = []; halts = []; shuns = [] }
 summary_of true variant = record { stays = []; moves = []; nullable = false; gone = []; ends = []; halts = []; shuns = [] }
 summary_of true variants = record { stays = []; moves = []; nullable = false; gone = []; ends = []; halts = []; shuns = [] }

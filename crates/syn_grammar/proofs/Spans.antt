@@ -1,6 +1,6 @@
 -- Spans decide nothing: what is read of one stream is read of every stream that differs in its spans alone.
 use Rattle.std.proofs.Common.{◌≡◌, ℕ, Bool, true, List, [], ◌∷◌, refl, sym, ap, ◌∙◌, ap₂, subst, inl, inr}
-use Rattle.syn_grammar.specs.Tokens.{Span, Delimiter, Leaf, Stream, end, leaf, ident, punct, group, ◌⧺◌, call_site, plain, lookahead_with, punctuation_lookahead, answers, lookahead, facts_for, asked, asked_inside, Delimited, leaf_terminal}
+use Rattle.syn_grammar.specs.Tokens.{Span, Delimiter, Leaf, Stream, end, leaf, ident, punct, group, ◌⧺◌, call_site, plain, lookahead_with, punctuation_lookahead, answers, lookahead, facts_for, asked, leaf_terminal, group_lookahead}
 use Rattle.syn_grammar.specs.Rules.{Rule}
 use Rattle.syn_grammar.specs.Grammar.{Syntax, Nothing, Token, Mark, Lifetime, Both, Left, Right, Node, Vanishing, Group, Raw, Rest, Case, Captured, Unshown, Impl, Done, Last, More, Order, Such, some_tree, plain_mark, plain_syntax, chars, Spelled, DerivesPrefix, Grammar, empty, token, mark, lifetime, ◌&◌, when◌then◌else◌, vanishing, inside, raw, rest_after, either, one_of, rule, such, captured, unshown, supplied, generics_before, opt_generics, holds, row, ordered, choose, at_unnamed, underscore, at_row_end, at_row_comma, Shaped, shaped}
 use Rattle.syn_grammar.proofs.Plain.{holds_plain, plain_append}
@@ -43,7 +43,7 @@ lookahead_like end end h = refl
 lookahead_like (leaf x sp m) (leaf y sp' m') h = ap₂ (λ v n. lookahead_with (leaf_terminal v) (facts_for (asked (leaf_terminal v)) n)) h.0 (lookahead_like m m' h.1)
 lookahead_like (punct c j sp m) (punct c' j' sp' m') h =
     ap₂ (λ v w. punctuation_lookahead v w (lookahead m)) h.0 h.1 ∙ ap (punctuation_lookahead c' j') (lookahead_like m m' h.2)
-lookahead_like (group d o c i m) (group d' o' c' i' m') h = ap₂ (λ v n. lookahead_with (Delimited v) (facts_for (asked_inside v) n)) h.0 (lookahead_like i i' h.1)
+lookahead_like (group d o c i m) (group d' o' c' i' m') h = ap₂ group_lookahead h.0 (lookahead_like i i' h.1)
 lookahead_like _ _ h = elim h [ ]
 
 -- what stands before rests that differ in spans alone

@@ -1,6 +1,6 @@
 -- What is printed for sure: looks that every lookahead with a terminal meets, or never meets, whatever stands behind it.
 use Rattle.std.proofs.Common.{◌≡◌, Bool, true, false, List, [], ◌∷◌, refl, sym, ap, ◌∙◌, ap₂, true≢false, ◌⊎◌, inl, inr}
-use Rattle.syn_grammar.specs.Tokens.{or, and, no, pick, Terminal, Lookahead, lookahead_with, Fact, same_fact, has_fact, mem, Look, ended, at_name, at_word, at_mark, at_literal, at_group, ahead, ◌or_else◌, ◌and_also◌, ◌but_not◌, answers, Asked, facts_for}
+use Rattle.syn_grammar.specs.Tokens.{or, and, no, pick, Terminal, Lookahead, lookahead_with, Fact, same_fact, has_fact, mem, Look, ended, at_name, at_word, at_mark, at_literal, at_group, at_empty_group, ahead, ◌or_else◌, ◌and_also◌, ◌but_not◌, answers, Asked, facts_for}
 use Rattle.syn_grammar.proofs.Sets.{or_left, or_split, and_left, and_right, no_true, every, every_at, may, must, off_of, on_of, or_right}
 use Rattle.syn_grammar.proofs.Marks.{and_off_left, and_off_right}
 
@@ -61,9 +61,11 @@ surely_sound true l A (at_word x) f z e w = on_of (at_word x) (lookahead_with f 
 surely_sound true l A (at_mark x) f z e w = on_of (at_mark x) (lookahead_with f (facts_for l z)) w
 surely_sound true l A (at_literal x) f z e w = on_of (at_literal x) (lookahead_with f (facts_for l z)) w
 surely_sound true l A (at_group x) f z e w = on_of (at_group x) (lookahead_with f (facts_for l z)) w
+surely_sound true l A at_empty_group f z e w = on_of at_empty_group (lookahead_with f (facts_for l z)) w
 surely_sound false l A ended f z e w = off_of ended (lookahead_with f (facts_for l z)) w
 surely_sound false l A at_name f z e w = off_of at_name (lookahead_with f (facts_for l z)) w
 surely_sound false l A (at_word x) f z e w = off_of (at_word x) (lookahead_with f (facts_for l z)) w
 surely_sound false l A (at_mark x) f z e w = off_of (at_mark x) (lookahead_with f (facts_for l z)) w
 surely_sound false l A (at_literal x) f z e w = off_of (at_literal x) (lookahead_with f (facts_for l z)) w
 surely_sound false l A (at_group x) f z e w = off_of (at_group x) (lookahead_with f (facts_for l z)) w
+surely_sound false l A at_empty_group f z e w = off_of at_empty_group (lookahead_with f (facts_for l z)) w

@@ -4,10 +4,10 @@ use Rattle.std.proofs.Common.{◌≡◌, ℕ, ◌+◌, ◌-◌, ◌<◌, ◌≤�
 use Rattle.std.specs.Prelude.{nat_lt}
 use Rattle.std.proofs.lemmas.Bool.{eqb-true, eq-eqb, ltb-true, lt-ltb}
 use Rattle.syn_grammar.specs.Words.{Text, keywords, contextual, lifetime_mark}
-use Rattle.syn_grammar.specs.Tokens.{Span, Delimiter, delimiter_number, Leaf, ident, literal, Stream, end, leaf, punct, group, ◌⧺◌, weight, no, pick, one_of_texts, Name, Word, Punctuation, Delimited, join, mem, Look, answers, lookahead, stands, visible}
+use Rattle.syn_grammar.specs.Tokens.{Span, Delimiter, delimiter_number, Leaf, ident, literal, Stream, end, leaf, punct, group, ◌⧺◌, weight, no, pick, one_of_texts, Name, Word, Punctuation, Delimited, join, mem, Look, answers, lookahead, stands, visible, holds_nothing}
 use Rattle.syn_grammar.specs.Grammar.{Kind, terminals, suits, fits, underscore, Syntax, Token, Mark, Lifetime, chars, Spelled, some_tree}
 use Rattle.syn_grammar.specs.Take.{only, left, is_end, lookahead_at, sees, take_token, take_lifetime, Chars, add_char, take_chars, marked, take_mark, Opened, same_delimiter, take_group, length, first, before, leaf_span, first_span}
-use Rattle.syn_grammar.proofs.Sets.{same_delimiter_eq, mem_here, and_right}
+use Rattle.syn_grammar.proofs.Sets.{same_delimiter_eq, and_right, group_terminals, group_terminal}
 use Rattle.syn_grammar.proofs.FirstSets.{mark_first_set, mark_head}
 use Rattle.syn_grammar.proofs.Streams.{weight_append}
 
@@ -290,9 +290,10 @@ lifetime_begins end x e = absurd (cc e)
 lifetime_begins (leaf y sp m) x e = absurd (cc e)
 lifetime_begins (group d o c i m) x e = absurd (cc e)
 
-pub group_begins : (d : Delimiter) (ts : Stream) (g : Opened) → take_group d ts ≡ Some g → mem (lookahead_at ts).terminal (Delimited d ∷ []) ≡ true
+pub group_begins : (d : Delimiter) (ts : Stream) (g : Opened) → take_group d ts ≡ Some g → mem (lookahead_at ts).terminal (group_terminals d) ≡ true
 unfolding take_group lookahead_at
 group_begins d end g e = absurd (cc e)
 group_begins d (leaf x sp m) g e = absurd (cc e)
 group_begins d (punct c j sp m) g e = absurd (cc e)
-group_begins d (group d' o c i r) g e = ap (λ z. mem (Delimited z) (Delimited d ∷ [])) (sym (same_delimiter_eq d d' (inv_only (same_delimiter d d') _ g e).0)) ∙ mem_here (Delimited d) []
+group_begins d (group d' o c i r) g e =
+    ap (λ z. mem (Delimited z (holds_nothing z (lookahead i).terminal)) (group_terminals d)) (sym (same_delimiter_eq d d' (inv_only (same_delimiter d d') _ g e).0)) ∙ group_terminal d (lookahead i).terminal

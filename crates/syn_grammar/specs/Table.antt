@@ -5,7 +5,7 @@
 -- A comment directly above a look or a rule says it in words.
 use Rattle.std.specs.Prelude.{true, false, [], ◌∷◌}
 use Rattle.syn_grammar.specs.Words.{w_underscore, w_as, w_const, w_crate, w_enum, w_false, w_for, w_in, w_mut, w_pub, w_Self_type, w_self, w_struct, w_super, w_true, w_unsafe, w_where, w_union, comma, semicolon, colon, equals, plus, star, less, greater, pound, ampersand, question, exclamation, colons, arrow, less_equals}
-use Rattle.syn_grammar.specs.Tokens.{Paren, Brace, Bracket, None, Str, ByteStr, CStr, Byte, Char, Int, Float, Before_equals, Before_less, Before_bang, Lone_word, Begins_in, Before_brace, Look, ended, at_name, at_word, at_mark, at_literal, at_group, ahead, ◌or_else◌, ◌and_also◌, ◌but_not◌, at_lifetime}
+use Rattle.syn_grammar.specs.Tokens.{Paren, Brace, Bracket, None, Str, ByteStr, CStr, Byte, Char, Int, Float, Before_equals, Before_less, Before_bang, Lone_word, Begins_in, Before_brace, Look, ended, at_name, at_word, at_mark, at_literal, at_group, at_empty_group, ahead, ◌or_else◌, ◌and_also◌, ◌but_not◌, at_lifetime}
 use Rattle.syn_grammar.specs.Rules.{Rule, attributes, inner_attributes, no_attributes, meta, unsafe_path, unsafe_word, meta_value, module_path, module_words, visibility, restriction, type_path, type_words, type_arguments, return_type, generic_arguments, generic_argument, qualified_path, path_as_type, type, types, expression, generics, lifetime_parameter, lifetimes, parameter_bounds, bound, trait_bound, bound_lifetimes, lifetime_parameters, where_clause, predicates, predicate, predicate_bounds, fields_named, named_fields, named_field, nameless_fields, unnamed_field, unnamed_fields, fields_unnamed, variant, variants, structure, structure_rest, structure_body, enumeration, enumeration_rest, union_item, union_item_rest, derive_input}
 use Rattle.syn_grammar.specs.Shape.{untagged}
 use Rattle.syn_grammar.specs.Grammar.{name, word, name_or, any_literal, Grammar, empty, lifetime, ◌&◌, when◌then◌else◌, vanishing, inside, raw, rest_after, one_of, rule, shaped, captured, unshown, ordered}
@@ -96,6 +96,10 @@ at_bracket = at_group Bracket
 -- An invisible group stands next: a group whose delimiters no text shows.
 abbrev pub at_invisible : Look
 at_invisible = at_group None
+
+-- `pub` stands next, or an invisible group without content, which stands for a visibility that isn't written.
+abbrev pub at_visibility : Look
+at_visibility = at_word w_pub or_else at_empty_group
 
 -- A literal of any kind stands next.
 abbrev pub at_any_literal : Look
@@ -208,10 +212,11 @@ table module_words =
 --
 -- A visibility: `pub` with its restriction in parentheses, `pub` alone, or nothing. Parentheses belong to it
 -- where they hold `crate`, `self` or `super` alone, or begin with `in`; then they must hold a restriction. Any others are left.
+-- An invisible group without content stands for one that isn't written, and is never printed.
 table visibility =
     when at_word w_pub
     then plainly (word w_pub) & (when at_restriction then inside Paren (rule restriction) else empty)
-    else empty
+    else vanishing true at_empty_group (inside None empty)
 --
 -- What the parentheses of a visibility hold: `in` where it stands next, and a path in module style.
 -- (A visibility asks for it only before `in`, or where `crate`, `self` or `super` stands alone.)
@@ -398,7 +403,7 @@ table fields_unnamed =
 -- and perhaps a value behind `=`.
 table variant =
     rule attributes
-    & vanishing true (at_word w_pub) (rule visibility)
+    & vanishing true at_visibility (when at_word w_pub then rule visibility else inside None empty)
     & plainly name
     & (when at_brace then rule fields_named else when at_paren then rule fields_unnamed else empty)
     & (when at_equals then punctuation equals & rule expression else empty)

@@ -106,7 +106,7 @@ pub data Terminal : Type 0 where
   Word : Text → Terminal  -- an identifier whose text some rule asks for
   Punctuation : Text → Terminal  -- a punctuation character: the longest mark that begins there; of a lifetime `lifetime_mark`
   Literal : LitKind → Terminal
-  Delimited : Delimiter → Terminal  -- a group
+  Delimited : Delimiter → Bool → Terminal  -- a group (true: an invisible one without content)
 
 -- Facts: what the lookahead of a stream tells besides its terminal. A token tells something only where `asked` says so, so that the
 -- lookahead depends on the next one alone and lookahead stays short.
@@ -190,7 +190,7 @@ same_terminal Name Name = true
 same_terminal (Word x) (Word y) = same_text x y
 same_terminal (Punctuation x) (Punctuation y) = same_text x y
 same_terminal (Literal a) (Literal b) = nat_eq (kind_number a) (kind_number b)
-same_terminal (Delimited a) (Delimited b) = nat_eq (delimiter_number a) (delimiter_number b)
+same_terminal (Delimited a v) (Delimited b w) = and (nat_eq (delimiter_number a) (delimiter_number b)) (pick v w (no w))
 same_terminal _ _ = false
 
 abbrev pub mem : Terminal → List Terminal → Bool
@@ -206,6 +206,7 @@ pub data Look : Type 0 where
   at_mark : Text → Look  -- this mark stands next: its characters, all but the last Joint; the spacing of the last isn't looked at
   at_literal : LitKind → Look  -- a literal of this kind stands next
   at_group : Delimiter → Look  -- a group with this delimiter stands next
+  at_empty_group : Look  -- an invisible group without content stands next
   ahead : Fact → Look  -- the lookahead tells this fact
   ◌or_else◌ ◌and_also◌ ◌but_not◌ : Look → Look → Look  -- one or the other; both; the first and not the second
 
@@ -234,8 +235,12 @@ is_literal k (Literal l) = nat_eq (kind_number k) (kind_number l)
 is_literal k _ = false
 
 abbrev pub is_group : Delimiter → Terminal → Bool
-is_group d (Delimited e) = nat_eq (delimiter_number d) (delimiter_number e)
+is_group d (Delimited e v) = nat_eq (delimiter_number d) (delimiter_number e)
 is_group d _ = false
+
+abbrev pub is_empty_group : Terminal → Bool
+is_empty_group (Delimited e v) = v
+is_empty_group _ = false
 
 -- the lookahead meets the look
 abbrev pub answers : Look → Lookahead → Bool
@@ -245,6 +250,7 @@ answers (at_word x) f = is_word x f.terminal
 answers (at_mark x) f = starts_mark x f.terminal
 answers (at_literal k) f = is_literal k f.terminal
 answers (at_group d) f = is_group d f.terminal
+answers at_empty_group f = is_empty_group f.terminal
 answers (ahead n) f = has_fact n f.facts
 answers (a or_else b) f = or (answers a f) (answers b f)
 answers (a and_also b) f = and (answers a f) (answers b f)
@@ -368,12 +374,21 @@ punctuation_facts c _ f = []
 abbrev pub punctuation_lookahead : ℕ → Bool → Lookahead → Lookahead
 punctuation_lookahead c j f = lookahead_with (char_terminal c j f.terminal) (punctuation_facts c (char_terminal c j f.terminal) f)
 
+-- the delimiters are invisible, and the content that has this terminal is none
+abbrev pub holds_nothing : Delimiter → Terminal → Bool
+holds_nothing None f = is_ended f
+holds_nothing _ f = false
+
+-- the lookahead of a group whose content has this lookahead
+abbrev pub group_lookahead : Delimiter → Lookahead → Lookahead
+group_lookahead d f = lookahead_with (Delimited d (holds_nothing d f.terminal)) (facts_for (asked_inside d) f)
+
 -- the lookahead of a stream
 abbrev pub lookahead : Stream → Lookahead
 lookahead end = lookahead_with Ended []
 lookahead (leaf x sp m) = lookahead_with (leaf_terminal x) (facts_for (asked (leaf_terminal x)) (lookahead m))
 lookahead (punct c j sp m) = punctuation_lookahead c j (lookahead m)
-lookahead (group d o c i m) = lookahead_with (Delimited d) (facts_for (asked_inside d) (lookahead i))
+lookahead (group d o c i m) = group_lookahead d (lookahead i)
 
 -- the look holds of the lookahead of this stream
 abbrev pub stands : Look → Stream → Bool

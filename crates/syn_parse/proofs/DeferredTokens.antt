@@ -1,8 +1,8 @@
 -- Deferred tokens, and what they stand for.
-use Rattle.std.proofs.Common.{◌≡◌, Bool, true, false, Some, refl, sym, ap, ap₂, ◌∙◌, true≢false}
+use Rattle.std.proofs.Common.{◌≡◌, Bool, true, false, Some, refl, sym, ap, ap₂, ◌∙◌, subst, true≢false}
 use Rattle.syn_grammar.specs.Tokens.{Stream, end, group, ◌⧺◌, plain}
 use Rattle.syn_grammar.specs.Rules.{Rule}
-use Rattle.syn_grammar.specs.Grammar.{Syntax, Nothing, Token, Mark, Lifetime, Both, Left, Right, Node, Group, Raw, Rest, Case, Such, Shaped, Captured, Unshown, show, renew, print, plain_syntax, Grammar, empty, token, mark, lifetime, ◌&◌, when◌then◌else◌, inside, raw, rest_after, either, one_of, rule, such, shaped, captured, unshown, vanishing, supplied, generics_before, row, ordered, DerivesPrefix}
+use Rattle.syn_grammar.specs.Grammar.{Syntax, Nothing, Token, Mark, Lifetime, Both, Left, Right, Node, Vanishing, Group, Raw, Rest, Case, Such, Shaped, Captured, Unshown, show, renew, print, plain_syntax, Grammar, empty, token, mark, lifetime, ◌&◌, when◌then◌else◌, inside, raw, rest_after, either, one_of, rule, such, shaped, captured, unshown, vanishing, supplied, generics_before, row, ordered, DerivesPrefix}
 use Rattle.syn_grammar.specs.Table.{table}
 use Rattle.syn_grammar.specs.Take.{only, is_end}
 use Rattle.syn_grammar.specs.Run.{parse_rule, value_of}
@@ -31,6 +31,7 @@ shown_of (g & h) (Both s t) ts r w (m, a, b) =
     ap₂ (λ x y. x ⧺ y) (shown_of g s ts m (and_left (prints_all prints_shown g) _ w) a) (shown_of h t m r (and_right (prints_all prints_shown g) _ w) b)
 shown_of (when c then g else h) (Left s) ts r w (e, a) = shown_of g s ts r (and_left (prints_all prints_shown g) _ w) a
 shown_of (when c then g else h) (Right s) ts r w (e, a) = shown_of h s ts r (and_right (prints_all prints_shown g) _ w) a
+shown_of (vanishing true c g) (Vanishing b s) ts r w (e, a) = subst (λ b. show (value_of (Vanishing b s)) ≡ show (renew (Vanishing b s))) e refl
 shown_of (inside d g) (Group d' o c s) ts r w (e, i, f, a) = ap (λ z. group d' o c z end) (shown_of g s i end w a)
 shown_of (raw d) (Raw d' o c i) ts r w a = refl
 shown_of (rest_after cs) (Rest xs i) ts r w a = refl
@@ -42,7 +43,7 @@ shown_of (such q g) (Such s) ts r w (e, a) = shown_of g s ts r w a
 shown_of (shaped j g) (Shaped j' s) ts r w (e, a) = sum_shape show_sum j' (value_of s) ∙ shown_of g s ts r w a
 shown_of (captured g) (Captured s i) ts r w a = refl
 shown_of unshown (Unshown s) ts r w a = refl
-shown_of (vanishing b c g) t ts r w a = absurd (true≢false (sym w))
+shown_of (vanishing false c g) t ts r w a = absurd (true≢false (sym w))
 shown_of (supplied n p g) t ts r w a = absurd (true≢false (sym w))
 shown_of (generics_before x y h) t ts r w a = absurd (true≢false (sym w))
 shown_of (row g h) t ts r w a = absurd (true≢false (sym w))

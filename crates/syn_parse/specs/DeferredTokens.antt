@@ -2,14 +2,14 @@
 use Rattle.std.specs.Prelude.{◌≡◌, Bool, true, false, List, [], ◌∷◌, Some, None}
 use Rattle.syn_grammar.specs.Tokens.{Stream, end, and}
 use Rattle.syn_grammar.specs.Rules.{Rule, attributes, inner_attributes, no_attributes, meta, unsafe_path, unsafe_word, meta_value, module_path, module_words, visibility, restriction, expression}
-use Rattle.syn_grammar.specs.Grammar.{Syntax, Nothing, show, Grammar, empty, token, mark, lifetime, ◌&◌, when◌then◌else◌, inside, raw, rest_after, either, one_of, rule, such, shaped, captured, unshown, among}
+use Rattle.syn_grammar.specs.Grammar.{Syntax, Nothing, show, Grammar, empty, token, mark, lifetime, ◌&◌, when◌then◌else◌, vanishing, inside, raw, rest_after, either, one_of, rule, such, shaped, captured, unshown, among}
 use Rattle.syn_grammar.specs.Take.{Out, only, is_end}
 use Rattle.syn_grammar.specs.Run.{parse_rule}
 use Rattle.syn_grammar.specs.Alone.{all_of}
 
 -- WHICH RULES PRINT WHAT IS SHOWN: all tokens in their order, nothing left out, added or sorted
 
--- the form has no optional part that vanishes and no list that is sorted
+-- the form has no list that is sorted, and no optional part that vanishes but what is never kept
 abbrev pub prints_all : (Rule → Bool) → Grammar → Bool
 prints_all said empty = true
 prints_all said (token b k) = true
@@ -17,6 +17,7 @@ prints_all said (mark b cs) = true
 prints_all said lifetime = true
 prints_all said (g & h) = and (prints_all said g) (prints_all said h)
 prints_all said (when c then g else h) = and (prints_all said g) (prints_all said h)
+prints_all said (vanishing true c g) = true
 prints_all said (inside d g) = prints_all said g
 prints_all said (raw d) = true
 prints_all said (rest_after cs) = true

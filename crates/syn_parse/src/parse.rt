@@ -1,6 +1,6 @@
 //! What callers parse.
-ghost use Rattle.std.specs.Prelude.{◌≡◌, OnErr};
-ghost use Rattle.syn_grammar.specs.Promises.{Computes, Kept};
+ghost use Rattle.std.specs.Prelude.{◌≡◌, ℕ, OnErr};
+ghost use Rattle.syn_grammar.specs.Promises.{Computes, Takes, Kept};
 ghost use Rattle.syn_parse.specs.Form.{Form, parse, Meaning, Outcome, WholeOutcome};
 ghost use Rattle.syn_tokens.specs.Faults.{IsSyntaxError};
 
@@ -19,13 +19,17 @@ pub trait Parse: Syntactic {
     /// What it is read by: a form of the grammar, or one made of forms.
     ghost form: { Form };
 
+    /// How many tokens are read at least.
+    ghost takes: { ℕ } = { 0 };
+
     /// Parses it from the front of the buffer. Where the tokens are no such thing, or memory is refused, the buffer
     /// stands where it stood.
     fn parse(input: &mut ParseBuffer<'_>) -> Result<Self>
         ensures outcome { Outcome IsSyntaxError Self.syntax form input.old result input.new }
         ensures reads { Computes IsSyntaxError Self.syntax (parse form input.old) result input.new }
         ensures unchanged { OnErr result (input.new ≡ input.old) }
-        ensures kept { Kept input.old result input.new };
+        ensures kept { Kept input.old result input.new }
+        ensures moved { Takes takes input.old result input.new };
 
     /// What is computed of the form is what it reads.
     ghost meaning: { Meaning form };
@@ -33,6 +37,8 @@ pub trait Parse: Syntactic {
 
 impl<T: Read> Parse for T {
     ghost form = { T.form };
+
+    ghost takes = { T.takes };
 
     #[tactic(auto, using(crate::proofs::Refused::refused_by_syntax))]
     fn parse(input: &mut ParseBuffer<'_>) -> Result<T> {

@@ -13,9 +13,9 @@ use syn::lower::{
 use syn::punctuated::Punctuated;
 use syn::restriction::{VisRestricted, Visibility};
 use syn::token::{Comma, Eq, Ident, Mark, Span, TokenStream};
+use syn_lower::kind;
 use syn_outlines::{add_place, add_stream, add_token, add_word};
 use syn_parse::deferred::{Deferred, Kind};
-use syn_tree::kind;
 
 /// A tree that can be shown.
 pub trait Outlined {
@@ -204,9 +204,23 @@ impl Outlined for ReturnType {
     }
 }
 
+/// What a literal is called.
+fn name_of(lit: &Lit) -> &'static str {
+    match lit {
+        Lit::Str(_) => "LitStr",
+        Lit::ByteStr(_) => "LitByteStr",
+        Lit::CStr(_) => "LitCStr",
+        Lit::Byte(_) => "LitByte",
+        Lit::Char(_) => "LitChar",
+        Lit::Int(_) => "LitInt",
+        Lit::Float(_) => "LitFloat",
+        Lit::Bool(_) => "LitBool",
+    }
+}
+
 impl Outlined for Lit {
     fn show(&self, out: &mut TreeText) -> Result<(), AllocError> {
-        out.printed("Lit", self)
+        out.printed(name_of(self), self)
     }
 }
 
@@ -258,6 +272,12 @@ impl Outlined for Attribute {
         out.token("[", self.bracket_token.opening)?;
         self.meta.show(out)?;
         out.token("]", self.bracket_token.closing)
+    }
+}
+
+impl Outlined for Vec<Attribute> {
+    fn show(&self, out: &mut TreeText) -> Result<(), AllocError> {
+        out.attributes(self)
     }
 }
 

@@ -1,4 +1,5 @@
-//! Tests of `syn` by its public calls: of items and fields. They are a crate of their own, since a crate with tests is proved twice.
+//! Tests of `syn` by its public calls, but for what is a row of `check_rows`. They are a crate of their own, since a crate with
+//! tests is proved twice.
 #![tactic(auto)]
 
 #[cfg(test)]

@@ -1,12 +1,18 @@
-//! Fields, variants, items, inputs of derives and deferred trees, by examples.
+//! What is no row of `check_rows`: trees and tokens made by hand, copies of parts, walks from both ends, nested texts, deferred
+//! trees and scarce memory, by examples.
 mod asserts;
+mod attributes;
 mod canonical_prints;
-mod conversions;
 mod copies;
+mod deep;
 mod deferred;
-mod derive_inputs;
-mod fields;
 mod handmade;
-mod items;
+mod handmade_generics;
+mod handmade_items;
+mod handmade_types;
+mod literals;
 mod members;
+mod modifiers;
 mod scarce_memory;
+mod type_groups;
+mod visibilities;

@@ -1,6 +1,7 @@
 -- THE SYNTAX OF A LIST with separators: elements with their separators, and perhaps a last one without
 use Rattle.std.specs.Prelude.{List, [], ◌∷◌, Option, Some, None}
 use Rattle.syn_grammar.specs.Grammar.{Syntax, Nothing, Node, Right, Left, Both}
+use Rattle.syn_tokens.specs.Lists.{Sequence}
 
 module _ {T P : Type 0} (tag : Syntax → Syntax) (view : T → Syntax) (separator_view : P → Syntax) where
   -- a list that begins with these, before its other members
@@ -25,3 +26,7 @@ list_of view separator_view = listed Right view separator_view (Node (Left Nothi
 -- of a rule that reads one at least
 abbrev pub joined_of : {T P : Type 0} → (T → Syntax) → (P → Syntax) → List (T × P) → Option T → Syntax
 joined_of view separator_view = listed untagged view separator_view Nothing
+
+-- a list by itself, whatever rule it is of: as of one that may read nothing
+abbrev pub syntax_of_list : {T P : Type 0} → (T → Syntax) → (P → Syntax) → Sequence T P → Syntax
+syntax_of_list view separator_view s = list_of view separator_view s.pairs s.last

@@ -3,9 +3,11 @@ ghost use Rattle.std.specs.Prelude.{[]};
 ghost use Rattle.syn_grammar.specs.Grammar.{Rest, Syntax};
 ghost use Rattle.syn_tokens.specs.InOrder.{in_order, pair_of};
 ghost use Rattle.syn_tokens.specs.Leaves.{maybe, syntax_of_ident, syntax_of_literal};
+ghost use Rattle.syn_tokens.specs.Listing.{syntax_of_list};
 
 use crate::ident::Ident;
 use crate::literal::Literal;
+use crate::punctuated::Punctuated;
 use crate::stream::TokenStream;
 
 pub mod compare;
@@ -43,4 +45,9 @@ impl<T: Syntactic, P: Syntactic> Syntactic for (T, P) {
 
 impl<T: Syntactic> Syntactic for Vec<T> {
     ghost syntax = { λ v. in_order T.syntax v.items };
+}
+
+/// A list is the same syntax by itself, whichever rule of the grammar it is of.
+impl<T: Syntactic, P: Syntactic> Syntactic for Punctuated<T, P> {
+    ghost syntax = { syntax_of_list T.syntax P.syntax };
 }

@@ -14,9 +14,9 @@ use Rattle.syn_tokens.specs.Idents.{IdentValue}
 use Rattle.syn_tokens.specs.Kinds.{Colon, colon_syntax}
 use Rattle.syn_parse.specs.Form.{by, of}
 use Rattle.syn_parse.specs.Listing.{IsList}
-use Rattle.syn_tree.specs.Parts.{first, second, or_added}
+use Rattle.syn_lower.specs.Parts.{first, second, or_added}
 use Rattle.syn_tree.specs.Data.{field_name, field_parts}
-use Rattle.syn_tree.proofs.Compared.{told}
+use Rattle.syn_lower.proofs.Compared.{told}
 
 -- fields with names are a list with commas
 pub named_fields_list : IsList named_fields (of (rule named_field)) (by ended) (by (at_mark comma)) (of (mark false comma))

@@ -13,12 +13,12 @@ use Rattle.syn_grammar.proofs.Begins.{not_here, not_there}
 use Rattle.syn_grammar.proofs.Looks.{sees_word}
 use Rattle.syn_tokens.specs.Leaves.{maybe}
 use Rattle.syn_tokens.specs.Kinds.{Semi, semi_syntax, struct_syntax}
-use Rattle.syn_tree.specs.Parts.{first, second}
+use Rattle.syn_lower.specs.Parts.{first, second}
 use Rattle.syn_tree.specs.Data.{syntax_of_Fields}
 use Rattle.syn_tree.specs.Derive.{structure_body_of, shape_of, input_of, syntax_of_Data, structure_form, enumeration_form, union_form, shape_form, placed}
 use Rattle.syn_tree.specs.declared.data.Fields.TheVariants as Fields-m
 use Rattle.syn_tree.specs.declared.derive.Data.TheVariants as Data-m
-use Rattle.syn_tree.proofs.Compared.{told}
+use Rattle.syn_lower.proofs.Compared.{told}
 
 -- AS THEY ARE READ: the three rules begin alike, so the beginning is read once, and then the next word tells which it is
 

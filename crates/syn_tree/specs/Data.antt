@@ -1,25 +1,25 @@
 -- WHAT SYNTAX FIELDS AND VARIANTS STAND FOR, one level at a time, every field of a struct.
 use Rattle.std.specs.Prelude.{true}
 use Rattle.syn_grammar.specs.Words.{w_pub, w_underscore, colon, equals}
-use Rattle.syn_grammar.specs.Tokens.{at_word}
+use Rattle.syn_grammar.specs.Tokens.{None as Invisible, at_word}
 use Rattle.syn_grammar.specs.Rules.{type, visibility, expression, fields_named, fields_unnamed}
 use Rattle.syn_grammar.specs.Shape.{untagged}
-use Rattle.syn_grammar.specs.Grammar.{Grammar, name, word, empty, ◌&◌, when◌then◌else◌, vanishing, rule, shaped, Syntax, Nothing, Both, Left, Right, Node, Vanishing, Shaped, Unshown}
+use Rattle.syn_grammar.specs.Grammar.{Grammar, name, word, empty, ◌&◌, when◌then◌else◌, vanishing, inside, rule, shaped, Syntax, Nothing, Both, Left, Right, Node, Vanishing, Shaped, Unshown}
 use Rattle.syn_grammar.specs.Forms.{plainly, punctuation}
-use Rattle.syn_grammar.specs.Table.{at_brace, at_paren, at_equals, nameless_type}
+use Rattle.syn_grammar.specs.Table.{at_brace, at_paren, at_equals, at_visibility, nameless_type}
 use Rattle.syn_grammar.specs.Promises.{itself}
 use Rattle.syn_tokens.specs.InOrder.{pair_of}
 use Rattle.syn_tokens.specs.Leaves.{maybe, syntax_of_ident}
 use Rattle.syn_tokens.specs.Idents.{IdentValue}
 use Rattle.syn_tokens.specs.Kinds.{Colon, colon_syntax, eq_syntax}
-use Rattle.syn_tree.specs.Parts.{or_else, or_added}
-use Rattle.syn_tree.specs.Attributes.{all_attributes_syntax}
-use Rattle.syn_tree.specs.Types.{syntax_of_Type}
+use Rattle.syn_lower.specs.Parts.{or_else, or_added}
+use Rattle.syn_lower.specs.Attributes.{all_attributes_syntax}
+use Rattle.syn_lower.specs.Types.{syntax_of_Type}
 use Rattle.syn_tree.specs.Restriction.{syntax_of_Visibility}
 use Rattle.syn_tree.specs.declared.data.Field.TheInside as Field-in
 use Rattle.syn_tree.specs.declared.data.Fields.TheVariants as Fields-m
 use Rattle.syn_tree.specs.declared.data.Variant.TheInside as Variant-in
-use Rattle.syn_tree.specs.declared.lower.ty.Type.TheVariants as Type-m
+use Rattle.syn_lower.specs.declared.ty.Type.TheVariants as Type-m
 
 -- a field's name with its colon, which is printed in any case; without a name a colon is never printed
 abbrev pub field_name : Syntax → Syntax → Syntax
@@ -60,7 +60,7 @@ value_form = when at_equals then punctuation equals & rule expression else empty
 
 -- the visibility of a variant
 abbrev pub unshown_visibility : Grammar
-unshown_visibility = vanishing true (at_word w_pub) (rule visibility)
+unshown_visibility = vanishing true at_visibility (when at_word w_pub then rule visibility else inside Invisible empty)
 
 -- the fields of a variant
 abbrev pub fields_form : Grammar

@@ -13,10 +13,10 @@ use Rattle.syn_tokens.specs.Kinds.{Comma, Semi, comma_syntax, enum_syntax, semi_
 use Rattle.syn_tokens.specs.Listing.{list_of}
 use Rattle.syn_tokens.specs.Lists.{Sequence}
 use Rattle.syn_tokens.specs.Kinds as kinds
-use Rattle.syn_tree.specs.Parts.{group_syntax, or_added, or_else, first, second}
-use Rattle.syn_tree.specs.Attributes.{attributes_syntax}
+use Rattle.syn_lower.specs.Parts.{group_syntax, or_added, or_else, first, second}
+use Rattle.syn_lower.specs.Attributes.{attributes_syntax}
 use Rattle.syn_tree.specs.Restriction.{syntax_of_Visibility}
-use Rattle.syn_tree.specs.Generics.{clause_of, where_part}
+use Rattle.syn_lower.specs.Generics.{clause_of, where_part}
 use Rattle.syn_tree.specs.Data.{syntax_of_Fields}
 use Rattle.syn_tree.specs.declared.data.Fields.TheVariants as Fields-m
 use Rattle.syn_tree.specs.declared.derive.DataStruct.{DataStruct}

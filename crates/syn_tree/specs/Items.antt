@@ -8,10 +8,10 @@ use Rattle.syn_tokens.specs.Leaves.{maybe, syntax_of_ident}
 use Rattle.syn_tokens.specs.Idents.{IdentValue}
 use Rattle.syn_tokens.specs.Kinds.{comma_syntax, enum_syntax, semi_syntax, struct_syntax, union_syntax}
 use Rattle.syn_tokens.specs.Listing.{list_of}
-use Rattle.syn_tree.specs.Parts.{group_syntax, first}
-use Rattle.syn_tree.specs.Attributes.{attributes_syntax}
+use Rattle.syn_lower.specs.Parts.{group_syntax, first}
+use Rattle.syn_lower.specs.Attributes.{attributes_syntax}
 use Rattle.syn_tree.specs.Restriction.{syntax_of_Visibility}
-use Rattle.syn_tree.specs.Generics.{clause_of}
+use Rattle.syn_lower.specs.Generics.{clause_of}
 use Rattle.syn_tree.specs.Data.{syntax_of_Fields}
 use Rattle.syn_tree.specs.Derive.{braced_of, enumeration_syntax, item_of, structure_of, structure_syntax, union_item_syntax}
 use Rattle.syn_tree.specs.declared.restriction.Visibility.TheVariants as Visibility-m

@@ -2,7 +2,7 @@
 //!
 //! The rules of the grammar that are comma lists to the end of a group.
 ghost use Rattle.syn_grammar.specs.Rules as rules;
-ghost use Rattle.syn_tree.specs.Parsing.{parse_rule, Computes, Kept, IsSyntax, list_of};
+ghost use Rattle.syn_lower.specs.Parsing.{parse_rule, Computes, Kept, IsSyntax, list_of};
 ghost use Rattle.syn_tokens.specs.Kinds.{comma_syntax};
 ghost use Rattle.syn_grammar.specs.Promises.{itself};
 

@@ -5,5 +5,5 @@
 mod data;
 mod derive;
 mod item;
-mod lower;
 mod restriction;
+mod stmt;

@@ -1,6 +1,6 @@
 //! Fields and variants.
 ghost use Rattle.syn_grammar.specs.Rules as rules;
-ghost use Rattle.syn_tree.specs.Parsing.{of, rule, meaning_of_rule, parse_rule, Computes, Parses, Moved, Outcome, itself, IsSyntax, IsSyntaxError};
+ghost use Rattle.syn_lower.specs.Parsing.{of, rule, meaning_of_rule, parse_rule, Computes, Parses, Moved, Outcome, itself, IsSyntax, IsSyntaxError};
 ghost use Rattle.std.specs.Prelude.{◌≡◌, IsOk, OnErr, OnOk};
 ghost use Rattle.syn_grammar.specs.Grammar.{print};
 ghost use Rattle.syn_tokens.specs.Building.{added};
@@ -17,12 +17,11 @@ mod members;
 mod parsing;
 
 use crate::comma_lists::unnamed_fields;
-use crate::kind;
-use crate::lower::attr::{all_outer_attributes, print_all};
-use crate::lower::{Attribute, Type};
 use crate::restriction::Visibility;
 pub use members::{Index, MemberRef, Members};
 use std::alloc::AllocError;
+use syn_lower::attr::{all_outer_attributes, print_all};
+use syn_lower::{Attribute, Type, kind};
 use syn_parse::buffer::ParseBuffer;
 use syn_parse::deferred::Deferred;
 use syn_parse::read::Read;
@@ -84,7 +83,7 @@ pub struct Field {
 }
 
 /// The modifiers of a field. There are none.
-#[derive(Clone, Copy, Debug, Default, PartialEq, Eq)]
+#[derive(Clone, Copy, Debug, Default)]
 pub struct FieldModifiers {}
 
 impl FieldModifiers {
@@ -233,7 +232,7 @@ impl From<FieldsUnnamed> for Fields {
 
 /// A name and its colon are compared by what they are together.
 impl Compared for Field {
-    #[tactic(auto, using(crate::proofs::Attributes::same_all_attributes, crate::proofs::Fields::same_field, syn_grammar::proofs::Same::and_true))]
+    #[tactic(auto, using(syn_lower::proofs::Attributes::same_all_attributes, crate::proofs::Fields::same_field, syn_grammar::proofs::Same::and_true))]
     fn is_same(&self, other: &Field) -> bool {
         self.attrs.is_same(&other.attrs)
             && self.vis.is_same(&other.vis)
@@ -245,7 +244,7 @@ impl Compared for Field {
 }
 
 impl Compared for Variant {
-    #[tactic(auto, using(crate::proofs::Attributes::same_all_attributes))]
+    #[tactic(auto, using(syn_lower::proofs::Attributes::same_all_attributes))]
     fn is_same(&self, other: &Variant) -> bool {
         self.attrs.is_same(&other.attrs)
             && self.ident.is_same(&other.ident)
@@ -397,4 +396,10 @@ impl syn_tokens::syntactic::Syntactic for Field {
     ghost use Rattle.syn_grammar.specs.Promises.{itself};
 
     ghost syntax = { itself };
+}
+
+impl syn_tokens::syntactic::Syntactic for FieldModifiers {
+    ghost use Rattle.syn_tree.specs.Modifiers.{syntax_of_FieldModifiers};
+
+    ghost syntax = { syntax_of_FieldModifiers };
 }

@@ -9,19 +9,19 @@ ghost use Rattle.syn_tokens.specs.Building.{added};
 ghost use Rattle.syn_tokens.specs.Kinds.{comma_syntax, enum_syntax, semi_syntax, struct_syntax, union_syntax};
 ghost use Rattle.syn_tokens.specs.Leaves.{maybe, syntax_of_ident};
 ghost use Rattle.syn_tokens.specs.Listing.{list_of};
-ghost use Rattle.syn_tree.specs.Parsing.{of, rule, meaning_of_rule};
-ghost use Rattle.syn_tree.specs.Parts.{first, group_syntax, or_added};
+ghost use Rattle.syn_lower.specs.Parsing.{of, rule, meaning_of_rule};
+ghost use Rattle.syn_lower.specs.Parts.{first, group_syntax, or_added};
 ghost use Rattle.syn_tree.specs.Data.{syntax_of_Fields};
-ghost use Rattle.syn_tree.specs.Generics.{clause_of};
+ghost use Rattle.syn_lower.specs.Generics.{clause_of};
 ghost use Rattle.syn_tree.specs.Derive.{braced_of, structure_body_of, structure_of};
 
 pub(crate) mod parsing;
 
 use crate::data::{Fields, FieldsNamed, Variant};
-use crate::lower::attr::{outer_attributes, print_outer};
-use crate::lower::{Attribute, Generics};
 use crate::restriction::Visibility;
 use std::alloc::AllocError;
+use syn_lower::attr::{outer_attributes, print_outer};
+use syn_lower::{Attribute, Generics};
 use syn_parse::buffer::ParseBuffer;
 use syn_parse::read::Read;
 use syn_parse::read::refusal::Parsed;
@@ -97,7 +97,7 @@ impl Read for DeriveInput {
 
 /// The kind is told by the word, and the parts of a struct's body by which fields it has.
 impl Compared for DeriveInput {
-    #[tactic(auto, using(crate::proofs::Attributes::same_attributes, crate::proofs::Inputs::same_input))]
+    #[tactic(auto, using(syn_lower::proofs::Attributes::same_attributes, crate::proofs::Inputs::same_input))]
     fn is_same(&self, other: &DeriveInput) -> bool {
         self.attrs.is_same(&other.attrs)
             && self.vis.is_same(&other.vis)

@@ -2,12 +2,12 @@
 ghost use Rattle.std.specs.Prelude.{◌≡◌};
 ghost use Rattle.syn_grammar.specs.Rules as rules;
 ghost use Rattle.syn_grammar.specs.Grammar.{Case, Node};
-ghost use Rattle.syn_tree.specs.Parsing.{of, rule, meaning_of_rule, parse_rule, Computes, Moved, IsSyntax};
+ghost use Rattle.syn_lower.specs.Parsing.{of, rule, meaning_of_rule, parse_rule, Computes, Moved, IsSyntax};
 ghost use Rattle.syn_tokens.specs.Leaves.{syntax_of_ident};
-ghost use Rattle.syn_tree.specs.Parts.{first};
-ghost use Rattle.syn_tree.specs.Attributes.{attributes_syntax};
+ghost use Rattle.syn_lower.specs.Parts.{first};
+ghost use Rattle.syn_lower.specs.Attributes.{attributes_syntax};
 ghost use Rattle.syn_tree.specs.Restriction.{syntax_of_Visibility};
-ghost use Rattle.syn_tree.specs.Generics.{clause_of};
+ghost use Rattle.syn_lower.specs.Generics.{clause_of};
 ghost use Rattle.syn_tree.specs.Derive.{braced_of, item_of, structure_of, syntax_of_DataEnum, syntax_of_DataStruct, syntax_of_DataUnion};
 ghost use Rattle.syn_tree.specs.Items.{enumeration_rest_syntax, structure_rest_syntax, union_item_rest_syntax};
 
@@ -19,11 +19,11 @@ use crate::derive::{
     Data, DataEnum, DataStruct, DataUnion, DeriveInput, print_enumeration, print_structure,
     print_union,
 };
-use crate::lower::attr::{outer_attributes, print_outer};
-use crate::lower::{Attribute, Generics};
 use crate::restriction::Visibility;
 pub use modifiers::{ConstModifiers, FnModifiers, ImplModifiers, TraitModifiers, TypeModifiers};
 use std::alloc::AllocError;
+use syn_lower::attr::{outer_attributes, print_outer};
+use syn_lower::{Attribute, Generics};
 use syn_parse::buffer::ParseBuffer;
 use syn_parse::read::Read;
 use syn_parse::read::refusal::Parsed;
@@ -354,7 +354,7 @@ impl From<DeriveInput> for Item {
 
 /// The where clause stands before the braces.
 impl Compared for ItemEnum {
-    #[tactic(auto, using(crate::proofs::Attributes::same_attributes))]
+    #[tactic(auto, using(syn_lower::proofs::Attributes::same_attributes))]
     fn is_same(&self, other: &ItemEnum) -> bool {
         self.attrs.is_same(&other.attrs)
             && self.vis.is_same(&other.vis)
@@ -368,7 +368,7 @@ impl Compared for ItemEnum {
 
 /// Where the where clause stands is told by the fields.
 impl Compared for ItemStruct {
-    #[tactic(auto, using(crate::proofs::Attributes::same_attributes, crate::proofs::Inputs::same_body))]
+    #[tactic(auto, using(syn_lower::proofs::Attributes::same_attributes, crate::proofs::Inputs::same_body))]
     fn is_same(&self, other: &ItemStruct) -> bool {
         self.attrs.is_same(&other.attrs)
             && self.vis.is_same(&other.vis)
@@ -383,7 +383,7 @@ impl Compared for ItemStruct {
 
 /// The where clause stands before the fields.
 impl Compared for ItemUnion {
-    #[tactic(auto, using(crate::proofs::Attributes::same_attributes))]
+    #[tactic(auto, using(syn_lower::proofs::Attributes::same_attributes))]
     fn is_same(&self, other: &ItemUnion) -> bool {
         self.attrs.is_same(&other.attrs)
             && self.vis.is_same(&other.vis)

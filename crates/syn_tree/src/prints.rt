@@ -6,5 +6,4 @@
 mod data;
 mod derive;
 mod item;
-mod lower;
 mod restriction;

@@ -1,13 +1,15 @@
 //! Visibilities.
 ghost use Rattle.syn_grammar.specs.Rules as rules;
 ghost use Rattle.syn_grammar.specs.Tokens as grammar;
-ghost use Rattle.syn_tree.specs.Parsing.{of, rule, inside, meaning_of_rule, parse_rule, parse_form, Computes, Moved, IsSyntax};
-ghost use Rattle.syn_tree.specs.Parts.{group_syntax};
-ghost use Rattle.syn_tree.specs.Restriction.{restriction_syntax};
+ghost use Rattle.std.specs.Prelude.{true};
+ghost use Rattle.syn_grammar.specs.Grammar.{Nothing, Right, Vanishing};
+ghost use Rattle.syn_lower.specs.Parsing.{of, rule, inside, meaning_of_rule, parse_rule, parse_form, Computes, Moved, Kept, IsSyntax};
+ghost use Rattle.syn_lower.specs.Parts.{group_syntax};
+ghost use Rattle.syn_tree.specs.Restriction.{restriction_syntax, unshown_group};
 
-use crate::looks::at_restriction;
-use crate::lower::Path;
-use crate::lower::parsing::module_path;
+use syn_lower::Path;
+use syn_lower::looks::{at_empty_group, at_restriction};
+use syn_lower::parsing::module_path;
 use syn_parse::buffer::ParseBuffer;
 use syn_parse::read::Read;
 use syn_parse::read::refusal::Parsed;
@@ -34,7 +36,7 @@ pub struct VisRestricted {
     pub path: Box<Path>,
 }
 
-/// `pub`, `pub` and a restriction, or nothing.
+/// `pub`, `pub` and a restriction, or nothing, which an invisible group without content may stand for.
 impl Read for Visibility {
     ghost form = { of (rule rules.visibility) };
 
@@ -45,6 +47,7 @@ impl Read for Visibility {
     #[tactic(auto, using(syn_grammar::proofs::Each::visibility_is))]
     fn read(input: &mut ParseBuffer<'_>) -> Parsed<Visibility> {
         if !input.peek::<Pub>() {
+            skip_empty_group(input)?;
             return Ok(Visibility::Inherited);
         }
         let pub_token = input.read()?;
@@ -59,6 +62,20 @@ impl Read for Visibility {
             path: Box::new(input.alloc(), path)?,
         }))
     }
+}
+
+/// An invisible group without content, where one stands next. It isn't kept.
+#[tactic(auto, unfolding(syn_grammar::specs::Take::is_end))]
+fn skip_empty_group(input: &mut ParseBuffer<'_>) -> Parsed<()>
+    ensures reads { Computes IsSyntax (λ _. Vanishing true (Right Nothing)) (parse_form unshown_group input.old) result input.new }
+    ensures kept { Kept input.old result input.new }
+{
+    if !at_empty_group(input) {
+        return Ok(());
+    }
+    let (_group, content) = input.read_group::<kind::Group>()?;
+    content.read_end()?;
+    Ok(())
 }
 
 /// A path in parentheses, with or without `in`.

@@ -4,7 +4,7 @@ ghost use Rattle.std.specs.Prelude.{IsOk};
 use syn_tokens::error::Result;
 
 /// The modifiers of a `let` statement. There are none.
-#[derive(Clone, Copy, Debug, Default, PartialEq, Eq)]
+#[derive(Clone, Copy, Debug, Default)]
 pub struct LocalModifiers {}
 
 impl LocalModifiers {
@@ -14,4 +14,12 @@ impl LocalModifiers {
     {
         Ok(())
     }
+}
+
+// Written by tools/kinds.py from here to the end; edits are lost.
+
+impl syn_tokens::syntactic::Syntactic for LocalModifiers {
+    ghost use Rattle.syn_tree.specs.Modifiers.{syntax_of_LocalModifiers};
+
+    ghost syntax = { syntax_of_LocalModifiers };
 }

@@ -22,6 +22,7 @@ impl<'a> ParseBuffer<'a> {
         ensures reads { Computes IsSyntaxError T.syntax (forms.parse T.form self.old) result self.new }
         ensures unchanged { OnErr result (self.new ≡ self.old) }
         ensures kept { Kept self.old result self.new }
+        ensures moved { Takes T.takes self.old result self.new }
     {
         T::parse(self)
     }

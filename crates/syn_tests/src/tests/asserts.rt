@@ -10,8 +10,3 @@ pub fn assert_text(rt: &impl Abort, found: &str, want: &str) {
 pub fn assert_text_of(rt: &impl Abort, text: &str, found: &str, want: &str) {
     assert_eq!(rt; found, want, "of {text:?}");
 }
-
-/// Fails where the number that came of a text isn't the one that it should be.
-pub fn assert_place(rt: &impl Abort, text: &str, found: usize, want: usize) {
-    assert_eq!(rt; found, want, "of {text:?}");
-}

@@ -1,7 +1,7 @@
-//! Deferred trees, by examples: of visibilities.
+//! Deferred trees that are made by hand, of the rest of a group, and of a type that leads back to itself.
 ghost use Rattle.std.specs.Prelude.{refl};
 ghost use Rattle.syn_grammar.specs.Rules as rules;
-ghost use Rattle.syn_tree.specs.Parsing.{of, rule, itself, meaning_of_rule};
+ghost use Rattle.syn_lower.specs.Parsing.{of, rule, itself, meaning_of_rule};
 
 use crate::tests::asserts::assert_text_of;
 use std::alloc::{AllocError, Global};
@@ -9,95 +9,12 @@ use std::marker::Model;
 use syn::deferred::{Deferred, Kind, TreeKind, read_deferred_rest};
 use syn::parse::{ParseBuffer, Parsed, Read};
 use syn::print::{Print, ToTokens};
-use syn::reader::{read_tokens, token_text};
+use syn::reader::read_tokens;
 use syn::restriction::Visibility;
 use syn::token::StreamBuilder;
-use syn::{Result, Syntactic, TryClone};
+use syn::{Result, Syntactic};
 use syn_test_support::visibilities::Visibilities;
 use syn_test_support::{fault, parsed, printed};
-
-/// The deferred visibility at the front of the text.
-fn front(alloc: Global, text: &str) -> Result<Deferred<Visibilities>> {
-    let tokens = read_tokens(alloc, text)?;
-    ParseBuffer::new(&tokens).parse()
-}
-
-/// Where a visibility's `pub` stands; 0 where it has none.
-fn place_of(vis: &Visibility) -> usize {
-    match vis {
-        Visibility::Public(pub_token) => pub_token.span.start,
-        Visibility::Restricted(vis) => vis.pub_token.span.start,
-        Visibility::Inherited => 0,
-    }
-}
-
-/// Where it stands in the tree that is opened.
-fn place_in(deferred: &Deferred<Visibilities>) -> Result<usize> {
-    let tree = deferred.open()?;
-    Ok(place_of(&tree))
-}
-
-/// Whether the tree that is opened is the one that is parsed at once.
-fn opens_as_parsed(alloc: Global, text: &str) -> Result<bool> {
-    let deferred = parsed::<Deferred<Visibilities>>(alloc, text)?;
-    Ok(deferred.open()? == parsed::<Visibility>(alloc, text)?)
-}
-
-/// The tree has the spans of the text.
-#[test]
-fn opened(rt: HostRuntime) -> Result<()> {
-    let deferred = front(rt.alloc(), "  pub(self) rest")?;
-    assert_eq!(rt; place_in(&deferred)?, 2);
-    assert_eq!(rt; place_in(&deferred.try_clone(rt.alloc())?)?, 2);
-    assert!(rt; opens_as_parsed(rt.alloc(), "pub(in a::b)")?);
-    Ok(())
-}
-
-/// Whether those at the fronts of two texts are equal.
-fn are_equal(alloc: Global, left: &str, right: &str) -> Result<bool> {
-    let left = front(alloc, left)?;
-    let right = front(alloc, right)?;
-    Ok(left == right && right == left)
-}
-
-/// Spans and the spacing of last characters don't count, every token does.
-#[test]
-fn equality(rt: HostRuntime) -> Result<()> {
-    for (left, right, want) in [
-        ("pub(in a::b)", " pub ( in a :: b )", true),
-        ("pub;", "pub", true),
-        ("pub", "pub(self)", false),
-        ("pub(crate)", "pub(in crate)", false),
-        ("pub(in a::b)", "pub(in a)", false),
-        ("pub(in a)", "pub(in ::a)", false),
-    ] {
-        assert_eq!(rt;
-            are_equal(rt.alloc(), left, right)?,
-            want,
-            "{left:?} {right:?}"
-        );
-    }
-    Ok(())
-}
-
-/// The text of the tokens that are kept.
-fn source_text(alloc: Global, text: &str) -> Result<String> {
-    token_text(front(alloc, text)?.source())
-}
-
-/// They have canonical spacing, whatever the text had.
-#[test]
-fn sources(rt: HostRuntime) -> Result<()> {
-    for text in ["pub(in::a);", "pub ( in :: a ) x"] {
-        assert_text_of(
-            &rt,
-            text,
-            source_text(rt.alloc(), text)?.as_str(),
-            "pub ( in :: a )",
-        );
-    }
-    Ok(())
-}
 
 /// A visibility that is made by hand of this text's: its `in` is left out.
 fn without_in(alloc: Global, text: &str) -> Result<Visibility> {

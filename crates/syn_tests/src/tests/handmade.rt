@@ -2,17 +2,18 @@
 use crate::tests::asserts::assert_text;
 use std::alloc::Global;
 use syn::Result;
-use syn::data::{Field, FieldModifiers, Fields};
+use syn::data::Fields;
 use syn::derive::{Data, DataStruct, DeriveInput};
-use syn::lower::{Generics, Path, PathArguments, PathSegment, Type, TypePath};
+use syn::lower::{Generics, Path, PathArguments, PathSegment};
 use syn::print::ToTokens;
 use syn::punctuated::Punctuated;
 use syn::restriction::{VisRestricted, Visibility};
-use syn::token::{Colon, Comma, Gt, Ident, Lt, Paren, PathSep, Pub, Semi, Struct, TokenStream};
+use syn::token::{Gt, Ident, Lt, Paren, PathSep, Pub, Semi, Struct, TokenStream};
 use syn_test_support::outline::outline;
 use syn_test_support::{parsed, print_shown, printed, span};
 
-fn segment(alloc: Global, text: &str) -> Result<PathSegment> {
+/// A word of a path, at 0 to 1.
+pub fn segment(alloc: Global, text: &str) -> Result<PathSegment> {
     Ok(PathSegment {
         ident: Ident::new(alloc, text, span(0, 1))?,
         arguments: PathArguments::None,
@@ -29,22 +30,6 @@ fn word_path(alloc: Global, text: &str) -> Result<Path> {
     })
 }
 
-/// A field of the type `ty`, at 0 to 1.
-fn field(alloc: Global, ident: Option<Ident>, colon_token: Option<Colon>) -> Result<Field> {
-    Ok(Field {
-        attrs: Vec::new(alloc),
-        vis: Visibility::Inherited,
-        modifiers: FieldModifiers {},
-        ident,
-        colon_token,
-        ty: Type::Path(TypePath {
-            qself: None,
-            path: word_path(alloc, "ty")?,
-        }),
-        default: None,
-    })
-}
-
 /// `struct S;`, at 0 to 1.
 fn unit_struct(alloc: Global, generics: Generics, semi_token: Option<Semi>) -> Result<DeriveInput> {
     Ok(DeriveInput {
@@ -58,34 +43,6 @@ fn unit_struct(alloc: Global, generics: Generics, semi_token: Option<Semi>) -> R
             semi_token,
         }),
     })
-}
-
-/// What a field prints, with a name or none, and a colon or none.
-fn field_shown(alloc: Global, named: bool, colon: bool) -> Result<String> {
-    let ident = if named {
-        Some(Ident::new(alloc, "name", span(0, 1))?)
-    } else {
-        None
-    };
-    let colon_token = if colon {
-        Some(Colon::new([span(5, 6)]))
-    } else {
-        None
-    };
-    print_shown(alloc, &field(alloc, ident, colon_token)?)
-}
-
-#[test]
-fn field_names(rt: HostRuntime) -> Result<()> {
-    for (named, colon, want) in [
-        (false, false, "ty@0..1"),
-        (false, true, "ty@0..1"),
-        (true, false, "name@0..1 :@0..0 ty@0..1"),
-        (true, true, "name@0..1 :@5..6 ty@0..1"),
-    ] {
-        assert_text(&rt, field_shown(rt.alloc(), named, colon)?.as_str(), want);
-    }
-    Ok(())
 }
 
 /// What `struct S` prints with this `;`.
@@ -106,7 +63,7 @@ fn absent_semicolon(rt: HostRuntime) -> Result<()> {
 }
 
 /// `<` and `>`, without parameters.
-fn signs(alloc: Global) -> Generics {
+pub fn signs(alloc: Global) -> Generics {
     Generics {
         lt_token: Some(Lt::new([span(1, 2)])),
         params: Punctuated::new(alloc),
@@ -182,20 +139,13 @@ fn trailing_separator(rt: HostRuntime) -> Result<()> {
     Ok(())
 }
 
-/// A word of a path, its arguments, and a path as a type print what they have.
+/// A word of a path prints itself; no arguments and no fields print nothing.
 #[test]
-fn parts_of_paths(rt: HostRuntime) -> Result<()> {
+fn small_parts(rt: HostRuntime) -> Result<()> {
     let word = segment(rt.alloc(), "a")?;
     assert_text(&rt, print_shown(rt.alloc(), &word)?.as_str(), "a@0..1");
     assert_text(&rt, print_shown(rt.alloc(), &word.arguments)?.as_str(), "");
-    Ok(())
-}
-
-#[test]
-fn paths_as_types(rt: HostRuntime) -> Result<()> {
-    let ty: TypePath = parsed(rt.alloc(), "a::b")?;
-    let want = "a@0..1 :+@1..2 :@2..3 b@3..4";
-    assert_text(&rt, print_shown(rt.alloc(), &ty)?.as_str(), want);
+    assert_text(&rt, printed(rt.alloc(), &Fields::Unit)?.as_str(), "");
     Ok(())
 }
 
@@ -221,65 +171,6 @@ fn restriction(rt: HostRuntime) -> Result<()> {
     let vis = Visibility::Restricted(restricted);
     let want = "pub@0..0 (@3..4 a@0..1 :+@1..2 :@2..3 b@3..4 )@8..9";
     assert_text(&rt, print_shown(rt.alloc(), &vis)?.as_str(), want);
-    Ok(())
-}
-
-#[test]
-fn fields(rt: HostRuntime) -> Result<()> {
-    assert_text(&rt, printed(rt.alloc(), &Fields::Unit)?.as_str(), "");
-    let fields = Fields::Unnamed(parsed(rt.alloc(), "(pub a, b)")?);
-    assert_text(&rt, printed(rt.alloc(), &fields)?.as_str(), "( pub a , b )");
-    Ok(())
-}
-
-/// The fields of a struct, moved out of it; none where it has none.
-fn moved_out(tree: DeriveInput) -> Option<Punctuated<Field, Comma>> {
-    let DeriveInput { shape, .. } = tree;
-    match shape {
-        Data::Struct(data) => match data.fields {
-            Fields::Unnamed(fields) => Some(fields.unnamed),
-            Fields::Named(fields) => Some(fields.named),
-            Fields::Unit => None,
-        },
-        Data::Enum(_) => None,
-        Data::Union(_) => None,
-    }
-}
-
-/// Adds the text of what the field prints, and a `;`.
-fn add_printed(out: &mut String, alloc: Global, field: &Field) -> Result<()> {
-    out.push_str(printed(alloc, field)?.as_str())?;
-    out.push(';')?;
-    Ok(())
-}
-
-/// The text with that of a field behind it, where neither was refused.
-fn with_printed(alloc: Global, text: Result<String>, field: &Field) -> Result<String> {
-    let mut out = text?;
-    add_printed(&mut out, alloc, field)?;
-    Ok(out)
-}
-
-/// The texts of the fields' prints, a `;` behind each.
-fn all_printed(alloc: Global, fields: Punctuated<Field, Comma>) -> Result<String> {
-    let mut out = Ok(String::new(alloc));
-    for field in fields {
-        out = with_printed(alloc, out, &field);
-    }
-    out
-}
-
-/// The fields of a struct, moved out of it, are what they were.
-#[test]
-fn moved(rt: HostRuntime) -> Result<()> {
-    let Some(fields) = moved_out(parsed(rt.alloc(), "struct S(pub a::b, c,);")?) else {
-        panic!(rt; "no fields");
-    };
-    assert_text(
-        &rt,
-        all_printed(rt.alloc(), fields)?.as_str(),
-        "pub a :: b;c;",
-    );
     Ok(())
 }
 

@@ -1,15 +1,15 @@
-//! The fields of structs from both ends, and what they are called.
+//! The fields of structs from both ends, and what they are called: names and places, their copies, equality and prints.
 use crate::tests::asserts::{assert_text, assert_text_of};
 use std::alloc::{AllocError, Global};
 use std::fmt::Write as _;
-use syn::data::{Field, Fields, MemberRef, Members};
+use syn::data::{Field, Fields, Index, MemberRef, Members};
 use syn::derive::{Data, DeriveInput};
-use syn::item::ItemStruct;
 use syn::lower::{Type, TypeTuple};
 use syn::punctuated::{IntoIter, Punctuated};
 use syn::token::{Comma, Paren, Span};
-use syn::{Error, Result};
+use syn::{Error, Result, TryClone};
 use syn_test_support::{parsed, printed, span};
+use syn_tokens::syntactic::compare::Compared;
 
 /// The fields of the struct that the text spells.
 fn fields_of(alloc: Global, text: &str) -> Result<Fields> {
@@ -60,20 +60,113 @@ const MEMBERS: &[(&str, usize, &str)] = &[
     ("struct S(u8, &'a str);", 3, ""),
     ("struct S { a: u8, b: u8 }", 0, "a;b;"),
     ("struct S { a: u8, r#in: u8 }", 1, "r#in;"),
-    ("struct S { _: union { a: u8 } }", 0, "_;"),
-    ("struct S;", 0, ""),
-    ("struct S();", 0, ""),
-    (
-        "struct S(#[a] pub ::b, *const c, (d,), [e], !, <f>::g);",
-        0,
-        "0@18..19;1@23..24;2@33..34;3@39..40;4@44..45;5@47..48;",
-    ),
 ];
 
 #[test]
 fn members(rt: HostRuntime) -> Result<()> {
     for (text, taken, want) in MEMBERS {
         let found = members_behind(rt.alloc(), text, *taken)?;
+        assert_text_of(&rt, text, found.as_str(), want);
+    }
+    Ok(())
+}
+
+/// What the last field is called, where there are few.
+fn last_member(fields: &Fields) -> Option<MemberRef<'_>> {
+    if fields.len() > 1000 {
+        return None;
+    }
+    let mut last = None;
+    for member in fields.members() {
+        last = Some(member);
+    }
+    last
+}
+
+/// Whether two members are equal, which they are by both ways to ask that, or by neither.
+fn are_equal(left: &MemberRef<'_>, right: &MemberRef<'_>) -> Option<bool> {
+    let is_equal = left == right;
+    if left.is_same(right) == is_equal {
+        Some(is_equal)
+    } else {
+        None
+    }
+}
+
+/// Whether a copy of what the last field of a struct is called equals what that of another is called.
+fn last_members_equal(alloc: Global, left: &str, right: &str) -> Result<Option<bool>> {
+    let left = fields_of(alloc, left)?;
+    let right = fields_of(alloc, right)?;
+    match (last_member(&left), last_member(&right)) {
+        (Some(left), Some(right)) => Ok(are_equal(&left.try_clone(alloc)?, &right)),
+        _ => Ok(None),
+    }
+}
+
+/// Where the fields' types begin doesn't count.
+#[test]
+fn equality_of_members(rt: HostRuntime) -> Result<()> {
+    for (left, right, want) in [
+        ("struct S(u8, u16);", "struct Other(u8, bool);", true),
+        ("struct S(u8);", "struct S(u8, u16);", false),
+        ("struct S { a: u8 }", "struct S { b: u8, a: u8 }", true),
+        ("struct S { a: u8 }", "struct S { b: u8 }", false),
+        ("struct S { a: u8 }", "struct S(u8);", false),
+    ] {
+        let found = last_members_equal(rt.alloc(), left, right)?;
+        assert_eq!(rt; found, Some(want), "{left:?} {right:?}");
+    }
+    Ok(())
+}
+
+/// The place of this number, at this byte.
+fn place(index: u32, start: usize) -> Index {
+    Index {
+        index,
+        span: span(start, 40),
+    }
+}
+
+#[test]
+fn places(rt: HostRuntime) -> Result<()> {
+    let copy = TryClone::try_clone(&place(10, 2), rt.alloc())?;
+    assert_eq!(rt; copy.span.start, 2);
+    assert!(rt; copy == place(10, 7), "wherever it stands");
+    assert!(rt; copy != place(1, 2));
+    assert!(rt; copy != place(0, 2));
+    Ok(())
+}
+
+#[test]
+fn prints_of_places(rt: HostRuntime) -> Result<()> {
+    for (index, want) in [
+        (0, "0"),
+        (7, "7"),
+        (10, "10"),
+        (4_294_967_295, "4294967295"),
+    ] {
+        let text = printed(rt.alloc(), &place(index, 3))?;
+        assert_text(&rt, text.as_str(), want);
+    }
+    Ok(())
+}
+
+/// What the last field of a struct is called, printed.
+fn last_member_printed(alloc: Global, text: &str) -> Result<String> {
+    let fields = fields_of(alloc, text)?;
+    match last_member(&fields) {
+        Some(member) => printed(alloc, &member),
+        None => Ok(String::new(alloc)),
+    }
+}
+
+#[test]
+fn prints_of_members(rt: HostRuntime) -> Result<()> {
+    for (text, want) in [
+        ("struct S(u8, u16);", "1"),
+        ("struct S { a: u8, r#in: u8 }", "r#in"),
+    ] {
+        let found = last_member_printed(rt.alloc(), text)?;
         assert_text_of(&rt, text, found.as_str(), want);
     }
     Ok(())
@@ -158,54 +251,12 @@ fn both_ends(rt: HostRuntime) -> Result<()> {
     Ok(())
 }
 
-/// How many fields there are, and whether there are none.
-fn counted(alloc: Global, text: &str) -> Result<(usize, bool)> {
-    let fields = fields_of(alloc, text)?;
-    Ok((fields.len(), fields.is_empty()))
-}
-
-#[test]
-fn counts(rt: HostRuntime) -> Result<()> {
-    for (text, want) in [
-        ("struct S;", (0, true)),
-        ("struct S();", (0, true)),
-        ("struct S {}", (0, true)),
-        ("struct S(a, b,);", (2, false)),
-        ("struct S { a: b }", (1, false)),
-    ] {
-        assert_eq!(rt; counted(rt.alloc(), text)?, want, "of {text:?}");
-    }
-    Ok(())
-}
-
 /// The type of no values.
 fn unit_type(alloc: Global) -> Type {
     Type::Tuple(TypeTuple {
         paren_token: Paren::new(span(0, 1), span(1, 2)),
         elems: Punctuated::new(alloc),
     })
-}
-
-/// The print of the struct once the type of each of its fields is `()`.
-fn unit_struct(alloc: Global, text: &str) -> Result<String> {
-    let mut item: ItemStruct = parsed(alloc, text)?;
-    for field in item.fields.iter_mut() {
-        field.ty = unit_type(alloc);
-    }
-    printed(alloc, &item)
-}
-
-#[test]
-fn changed_in_a_struct(rt: HostRuntime) -> Result<()> {
-    for (text, want) in [
-        ("struct S(u8, u16);", "struct S ( ( ) , ( ) ) ;"),
-        ("struct S { pub a: u8 }", "struct S { pub a : ( ) }"),
-        ("struct S;", "struct S ;"),
-    ] {
-        let found = unit_struct(rt.alloc(), text)?;
-        assert_text_of(&rt, text, found.as_str(), want);
-    }
-    Ok(())
 }
 
 /// Makes `()` the type of a field, where there is one.
@@ -235,48 +286,5 @@ fn changed_at_both_ends(rt: HostRuntime) -> Result<()> {
         let found = unit_ends(rt.alloc(), text)?;
         assert_text_of(&rt, text, found.as_str(), want);
     }
-    Ok(())
-}
-
-/// The names of the fields of the struct, which are walked as they are lent.
-fn names_of(alloc: Global, text: &str) -> Result<String> {
-    let fields = fields_of(alloc, text)?;
-    let mut names = String::new(alloc);
-    for field in &fields {
-        add_name(&mut names, Some(field))?;
-    }
-    Ok(names)
-}
-
-#[test]
-fn lent(rt: HostRuntime) -> Result<()> {
-    for (text, want) in [
-        ("struct S { a: u8, _: u8, b: u8 }", "a_b"),
-        ("struct S(u8);", ""),
-        ("struct S;", ""),
-    ] {
-        let found = names_of(rt.alloc(), text)?;
-        assert_text_of(&rt, text, found.as_str(), want);
-    }
-    Ok(())
-}
-
-/// The print of the fields once the type of each is `()`.
-fn unit_fields(alloc: Global, text: &str) -> Result<String> {
-    let mut fields = fields_of(alloc, text)?;
-    for field in &mut fields {
-        field.ty = unit_type(alloc);
-    }
-    printed(alloc, &fields)
-}
-
-#[test]
-fn changed(rt: HostRuntime) -> Result<()> {
-    let text = unit_fields(rt.alloc(), "struct S(u8, u16);")?;
-    assert_text(&rt, text.as_str(), "( ( ) , ( ) )");
-    let text = unit_fields(rt.alloc(), "struct S { a: u8, pub b: u16, }")?;
-    assert_text(&rt, text.as_str(), "{ a : ( ) , pub b : ( ) , }");
-    let text = unit_fields(rt.alloc(), "struct S;")?;
-    assert_text(&rt, text.as_str(), "");
     Ok(())
 }

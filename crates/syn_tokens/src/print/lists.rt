@@ -5,7 +5,7 @@ ghost use Rattle.syn_tokens.specs.Building.{added};
 ghost use Rattle.syn_tokens.specs.Listing.{list_of, joined_of};
 ghost use Rattle.syn_tokens.specs.Rows.{row};
 
-use crate::print::Print;
+use crate::print::{Print, ToTokens};
 use crate::punctuated::Punctuated;
 use crate::stream::builder::StreamBuilder;
 use std::alloc::AllocError;
@@ -41,3 +41,11 @@ fn print_row<T: Print, P: Print>(
     }
     Ok(())
 }
+
+impl<T: Print, P: Print> Print for Punctuated<T, P> {
+    fn print_in(&self, out: &mut StreamBuilder) -> Result<(), AllocError> {
+        print_list(self, out)
+    }
+}
+
+impl<T: ToTokens, P: ToTokens> ToTokens for Punctuated<T, P> {}

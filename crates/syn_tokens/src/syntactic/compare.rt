@@ -1,7 +1,10 @@
 //! Comparisons that take no account of spans.
-ghost use Rattle.std.specs.Prelude.{◌≡◌};
+ghost use Rattle.std.specs.Prelude.{◌≡◌, ◌↔◌, IsTrue};
+ghost use Rattle.syn_grammar.specs.Grammar.{plain_syntax};
 ghost use Rattle.syn_grammar.specs.Same.{same_syntax};
+ghost use Rattle.syn_tokens.specs.Comparison.{same_by, same_equiv, same_per};
 ghost use Rattle.syn_tokens.specs.InOrder.{in_order};
+ghost use Rattle.syn_tokens.specs.Listing.{syntax_of_list};
 
 use crate::ident::Ident;
 use crate::lifetime::Lifetime;
@@ -117,4 +120,29 @@ impl<T: Compared, P: Compared> Punctuated<T, P> {
             (None, Some(_)) => false,
         }
     }
+}
+
+impl<T: Compared, P: Compared> Compared for Punctuated<T, P> {
+    fn is_same(&self, other: &Punctuated<T, P>) -> bool {
+        self.is_same(other)
+    }
+}
+
+/// Two are equal exactly where they are once every span is 0 to 0: the same values and separators in turn.
+impl<T: Compared, P: Compared> PartialEq for Punctuated<T, P> {
+    ghost eq = { same_by (syntax_of_list T.syntax P.syntax) };
+
+    ghost laws = { same_per (syntax_of_list T.syntax P.syntax) };
+
+    #[tactic(auto, using(syn_grammar::proofs::Same::same_syntax_plain))]
+    fn eq(&self, other: &Punctuated<T, P>) -> bool
+        ensures same { result ≡ same_syntax (syntax_of_list T.syntax P.syntax self.now) (syntax_of_list T.syntax P.syntax other.now) }
+        ensures equal { IsTrue result ↔ (plain_syntax (syntax_of_list T.syntax P.syntax self.now) ≡ plain_syntax (syntax_of_list T.syntax P.syntax other.now)) }
+    {
+        self.is_same(other)
+    }
+}
+
+impl<T: Compared, P: Compared> Eq for Punctuated<T, P> {
+    ghost laws = { same_equiv (syntax_of_list T.syntax P.syntax) };
 }

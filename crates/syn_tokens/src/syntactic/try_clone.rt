@@ -123,3 +123,9 @@ impl<T: TryClone + Drop, P: TryClone + Drop> Punctuated<T, P> {
         Ok(copy)
     }
 }
+
+impl<T: TryClone + Drop, P: TryClone + Drop> TryClone for Punctuated<T, P> {
+    fn try_clone(&self, alloc: Global) -> Result<Punctuated<T, P>> {
+        self.try_clone(alloc)
+    }
+}

@@ -1,15 +1,17 @@
-//! Prints of what has no table of its own: leaves, optional and boxed ones, streams, and the delimiters of groups.
+//! Prints of what has no table of its own: leaves, optional and boxed ones, streams, lists, and the delimiters of groups.
 use crate::tests::support::{assert_text, at, shown, tokens};
 use std::alloc::Global;
+use syn_parse::buffer::ParseBuffer;
 use syn_parse::parse::{Parse, parse2};
 use syn_tokens::error::Result;
 use syn_tokens::ident::Ident;
 use syn_tokens::lifetime::Lifetime;
 use syn_tokens::literal::Literal;
 use syn_tokens::print::ToTokens;
+use syn_tokens::punctuated::Punctuated;
 use syn_tokens::stream::TokenStream;
 use syn_tokens::stream::builder::StreamBuilder;
-use syn_tokens::token::{DelimiterKind, Delimiters, Pub, kind};
+use syn_tokens::token::{Comma, DelimiterKind, Delimiters, Pub, kind};
 
 /// What a value prints behind an `x`.
 fn printed<T: ToTokens>(alloc: Global, value: &T) -> Result<String> {
@@ -73,6 +75,27 @@ fn stream_printed(alloc: Global, text: &str) -> Result<String> {
 fn streams(rt: HostRuntime) -> Result<()> {
     let stream = stream_printed(rt.alloc(), "a ( b )")?;
     assert_text(&rt, stream.as_str(), "x@0..1 a@0..1 (@1..2 b@2..3 )@3..4");
+    Ok(())
+}
+
+/// What the list of names that a text spells prints.
+fn list_printed(alloc: Global, text: &str) -> Result<String> {
+    let stream = tokens(alloc, text)?;
+    let mut input = ParseBuffer::new(&stream);
+    let list: Punctuated<Ident, Comma> = input.parse_terminated()?;
+    printed(alloc, &list)
+}
+
+#[test]
+fn lists(rt: HostRuntime) -> Result<()> {
+    for (text, want) in [
+        ("", "x@0..1"),
+        ("a", "x@0..1 a@0..1"),
+        ("a ,", "x@0..1 a@0..1 ,@1..2"),
+        ("a , b", "x@0..1 a@0..1 ,@1..2 b@2..3"),
+    ] {
+        assert_text(&rt, list_printed(rt.alloc(), text)?.as_str(), want);
+    }
     Ok(())
 }
 

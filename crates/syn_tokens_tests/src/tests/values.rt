@@ -1,5 +1,5 @@
 //! Values that were read: copies, comparisons, delimiters of groups and refusals.
-use crate::tests::support::{at, tokens};
+use crate::tests::support::{at, tokens, tokens_from};
 use std::alloc::Global;
 use syn_parse::buffer::ParseBuffer;
 use syn_parse::read::refusal::Refusal;
@@ -153,6 +153,55 @@ fn are_lists_copied(alloc: Global) -> Result<bool> {
 #[test]
 fn lists(rt: HostRuntime) -> Result<()> {
     assert!(rt; are_lists_copied(rt.alloc())?);
+    Ok(())
+}
+
+/// The list of names that a text spells, from this byte on.
+fn list_at(alloc: Global, text: &str, start: usize) -> Result<Punctuated<Ident, Comma>> {
+    let stream = tokens_from(alloc, text, start)?;
+    let mut input = ParseBuffer::new(&stream);
+    input.parse_terminated()
+}
+
+/// Whether the copy of a text's list is the same as it, and not the same as that of another text.
+fn is_whole_list_copied(alloc: Global, text: &str, other: &str) -> Result<bool> {
+    is_copied(alloc, &list_at(alloc, text, 0)?, &list_at(alloc, other, 0)?)
+}
+
+#[test]
+fn lists_as_values(rt: HostRuntime) -> Result<()> {
+    for (text, other) in [
+        ("", "a"),
+        ("a", "a ,"),
+        ("a , b ,", "a , b"),
+        ("a , b", "a , c"),
+    ] {
+        assert!(rt; is_whole_list_copied(rt.alloc(), text, other)?, "{text:?}");
+    }
+    Ok(())
+}
+
+/// Whether the lists of two texts are equal, though they stand elsewhere.
+fn are_equal_lists(alloc: Global, left: &str, right: &str) -> Result<bool> {
+    Ok(list_at(alloc, left, 0)? == list_at(alloc, right, 20)?)
+}
+
+#[test]
+fn equality_of_lists(rt: HostRuntime) -> Result<()> {
+    for (left, right, want) in [
+        ("", "", true),
+        ("a", "a", true),
+        ("a , b", "a , b", true),
+        ("a , b ,", "a , b ,", true),
+        ("", "a", false),
+        ("a", "b", false),
+        ("a , b ,", "a , b", false),
+        ("a , b", "a", false),
+        ("a , b ,", "b , a ,", false),
+    ] {
+        let found = are_equal_lists(rt.alloc(), left, right)?;
+        assert_eq!(rt; found, want, "{left:?} {right:?}");
+    }
     Ok(())
 }
 

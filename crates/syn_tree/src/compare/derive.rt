@@ -2,7 +2,7 @@
 //!
 //! Comparisons of `derive`.
 ghost use Rattle.syn_grammar.specs.Promises.{itself};
-ghost use Rattle.syn_tree.specs.Equality.{IsSame, IsEqual, PrintsAlike};
+ghost use Rattle.syn_lower.specs.Equality.{IsSame, IsEqual, PrintsAlike};
 ghost use Rattle.syn_tokens.specs.Comparison.{same_by, same_equiv, same_per};
 ghost use Rattle.syn_tree.specs.Derive.{syntax_of_Data, syntax_of_DataStruct, syntax_of_DataEnum, syntax_of_DataUnion};
 
@@ -15,7 +15,7 @@ impl PartialEq for DeriveInput {
 
     ghost laws = { same_per itself };
 
-    #[tactic(auto, using(crate::proofs::Equality::equals))]
+    #[tactic(auto, using(syn_lower::proofs::Equality::equals))]
     fn eq(&self, other: &DeriveInput) -> bool
         ensures same { IsSame itself self.now other.now result }
         ensures equal { IsEqual itself self.now other.now result }
@@ -46,7 +46,7 @@ impl PartialEq for Data {
 
     ghost laws = { same_per syntax_of_Data };
 
-    #[tactic(auto, using(crate::proofs::Equality::equals))]
+    #[tactic(auto, using(syn_lower::proofs::Equality::equals))]
     fn eq(&self, other: &Data) -> bool
         ensures same { IsSame syntax_of_Data self.now other.now result }
         ensures equal { IsEqual syntax_of_Data self.now other.now result }
@@ -74,7 +74,7 @@ impl PartialEq for DataStruct {
 
     ghost laws = { same_per syntax_of_DataStruct };
 
-    #[tactic(auto, using(crate::proofs::Equality::equals))]
+    #[tactic(auto, using(syn_lower::proofs::Equality::equals))]
     fn eq(&self, other: &DataStruct) -> bool
         ensures same { IsSame syntax_of_DataStruct self.now other.now result }
         ensures equal { IsEqual syntax_of_DataStruct self.now other.now result }
@@ -100,7 +100,7 @@ impl PartialEq for DataEnum {
 
     ghost laws = { same_per syntax_of_DataEnum };
 
-    #[tactic(auto, using(crate::proofs::Equality::equals))]
+    #[tactic(auto, using(syn_lower::proofs::Equality::equals))]
     fn eq(&self, other: &DataEnum) -> bool
         ensures same { IsSame syntax_of_DataEnum self.now other.now result }
         ensures equal { IsEqual syntax_of_DataEnum self.now other.now result }
@@ -126,7 +126,7 @@ impl PartialEq for DataUnion {
 
     ghost laws = { same_per syntax_of_DataUnion };
 
-    #[tactic(auto, using(crate::proofs::Equality::equals))]
+    #[tactic(auto, using(syn_lower::proofs::Equality::equals))]
     fn eq(&self, other: &DataUnion) -> bool
         ensures same { IsSame syntax_of_DataUnion self.now other.now result }
         ensures equal { IsEqual syntax_of_DataUnion self.now other.now result }

@@ -2,7 +2,7 @@
 //!
 //! Comparisons of `item`.
 ghost use Rattle.syn_tree.specs.Items.{syntax_of_Item, syntax_of_ItemEnum, syntax_of_ItemStruct, syntax_of_ItemUnion};
-ghost use Rattle.syn_tree.specs.Equality.{IsSame, IsEqual, PrintsAlike};
+ghost use Rattle.syn_lower.specs.Equality.{IsSame, IsEqual, PrintsAlike};
 ghost use Rattle.syn_tokens.specs.Comparison.{same_by, same_equiv, same_per};
 
 mod modifiers;
@@ -27,7 +27,7 @@ impl PartialEq for Item {
 
     ghost laws = { same_per syntax_of_Item };
 
-    #[tactic(auto, using(crate::proofs::Equality::equals))]
+    #[tactic(auto, using(syn_lower::proofs::Equality::equals))]
     fn eq(&self, other: &Item) -> bool
         ensures same { IsSame syntax_of_Item self.now other.now result }
         ensures equal { IsEqual syntax_of_Item self.now other.now result }
@@ -47,7 +47,7 @@ impl PartialEq for ItemEnum {
 
     ghost laws = { same_per syntax_of_ItemEnum };
 
-    #[tactic(auto, using(crate::proofs::Equality::equals))]
+    #[tactic(auto, using(syn_lower::proofs::Equality::equals))]
     fn eq(&self, other: &ItemEnum) -> bool
         ensures same { IsSame syntax_of_ItemEnum self.now other.now result }
         ensures equal { IsEqual syntax_of_ItemEnum self.now other.now result }
@@ -67,7 +67,7 @@ impl PartialEq for ItemStruct {
 
     ghost laws = { same_per syntax_of_ItemStruct };
 
-    #[tactic(auto, using(crate::proofs::Equality::equals))]
+    #[tactic(auto, using(syn_lower::proofs::Equality::equals))]
     fn eq(&self, other: &ItemStruct) -> bool
         ensures same { IsSame syntax_of_ItemStruct self.now other.now result }
         ensures equal { IsEqual syntax_of_ItemStruct self.now other.now result }
@@ -87,7 +87,7 @@ impl PartialEq for ItemUnion {
 
     ghost laws = { same_per syntax_of_ItemUnion };
 
-    #[tactic(auto, using(crate::proofs::Equality::equals))]
+    #[tactic(auto, using(syn_lower::proofs::Equality::equals))]
     fn eq(&self, other: &ItemUnion) -> bool
         ensures same { IsSame syntax_of_ItemUnion self.now other.now result }
         ensures equal { IsEqual syntax_of_ItemUnion self.now other.now result }

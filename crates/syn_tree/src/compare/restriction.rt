@@ -2,7 +2,7 @@
 //!
 //! Comparisons of `restriction`.
 ghost use Rattle.syn_tree.specs.Restriction.{syntax_of_Visibility};
-ghost use Rattle.syn_tree.specs.Equality.{IsSame, IsEqual, PrintsAlike};
+ghost use Rattle.syn_lower.specs.Equality.{IsSame, IsEqual, PrintsAlike};
 ghost use Rattle.syn_tokens.specs.Comparison.{same_by, same_equiv, same_per};
 ghost use Rattle.syn_grammar.specs.Promises.{itself};
 
@@ -15,7 +15,7 @@ impl PartialEq for Visibility {
 
     ghost laws = { same_per syntax_of_Visibility };
 
-    #[tactic(auto, using(crate::proofs::Equality::equals))]
+    #[tactic(auto, using(syn_lower::proofs::Equality::equals))]
     fn eq(&self, other: &Visibility) -> bool
         ensures same { IsSame syntax_of_Visibility self.now other.now result }
         ensures equal { IsEqual syntax_of_Visibility self.now other.now result }
@@ -43,7 +43,7 @@ impl PartialEq for VisRestricted {
 
     ghost laws = { same_per itself };
 
-    #[tactic(auto, using(crate::proofs::Equality::equals))]
+    #[tactic(auto, using(syn_lower::proofs::Equality::equals))]
     fn eq(&self, other: &VisRestricted) -> bool
         ensures same { IsSame itself self.now other.now result }
         ensures equal { IsEqual itself self.now other.now result }

@@ -2,7 +2,9 @@
 //!
 //! Copies of `data`.
 
-use crate::data::{Field, Fields, FieldsNamed, FieldsUnnamed, Variant};
+mod members;
+
+use crate::data::{Field, FieldModifiers, Fields, FieldsNamed, FieldsUnnamed, Variant};
 use std::alloc::Global;
 use syn_tokens::error::Result;
 use syn_tokens::syntactic::try_clone::TryClone;
@@ -57,5 +59,11 @@ impl TryClone for Field {
             ty: self.ty.try_clone(alloc)?,
             default: self.default.try_clone(alloc)?,
         })
+    }
+}
+
+impl TryClone for FieldModifiers {
+    fn try_clone(&self, _alloc: Global) -> Result<FieldModifiers> {
+        Ok(FieldModifiers {})
     }
 }

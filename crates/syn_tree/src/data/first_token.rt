@@ -2,10 +2,10 @@
 ghost use Rattle.std.specs.Prelude.{◌≡◌, ◌∷◌, []};
 ghost use Rattle.syn_grammar.specs.Grammar.{print};
 ghost use Rattle.syn_tree.specs.Members.{first_place};
-ghost use Rattle.syn_tree.specs.QualifiedPaths.{syntax_of_TypePath};
-ghost use Rattle.syn_tree.specs.Types.{syntax_of_Type};
+ghost use Rattle.syn_lower.specs.QualifiedPaths.{syntax_of_TypePath};
+ghost use Rattle.syn_lower.specs.Types.{syntax_of_Type};
 
-use crate::lower::{Path, Type, TypePath};
+use syn_lower::{Path, Type, TypePath};
 use syn_tokens::span::Span;
 use syn_tokens::stream::TokenStream;
 use syn_tokens::token::Mark;

@@ -1,18 +1,27 @@
 //! What the fields of a struct or variant are called.
 ghost use Rattle.std.specs.Prelude.{◌≡◌, ◌<◌, ◌^◌, length};
 ghost use Rattle.std.specs.Iterator.{YieldsFirstBy, item_count};
-ghost use Rattle.syn_tree.specs.Members.{fields_of, member_of, member_value, members_from};
+ghost use Rattle.syn_tokens.specs.Comparison.{same_by, same_equiv, same_per};
+ghost use Rattle.syn_lower.specs.Equality.{IsSame, IsEqual, PrintsAlike};
+ghost use Rattle.syn_tree.specs.Members.{fields_of, member_of, member_value, members_from, syntax_of_MemberRef};
 
 use crate::data::first_token::first_span;
 use crate::data::{Field, Fields};
-use std::alloc::AllocError;
+use std::alloc::{AllocError, Global};
 use std::marker::Model;
+use syn_tokens::error;
 use syn_tokens::ident::Ident;
+use syn_tokens::literal::{LitKind, Literal};
+use syn_tokens::print::{Print, ToTokens};
 use syn_tokens::punctuated::iterators::Iter;
 use syn_tokens::span::Span;
+use syn_tokens::stream::builder::StreamBuilder;
+use syn_tokens::syntactic::Syntactic;
+use syn_tokens::syntactic::compare::Compared;
+use syn_tokens::syntactic::try_clone::TryClone;
 use syn_tokens::token::Comma;
 
-/// What a field is called: its name, or its place among the fields.
+/// What a field is called: its name, or its place among the fields. A copy lends the same name.
 #[derive(Drop)]
 pub enum MemberRef<'a> {
     Named(&'a Ident),
@@ -98,4 +107,87 @@ fn member<'a>(field: &'a Field, index: u32) -> MemberRef<'a>
             span: first_span(&field.ty),
         }),
     }
+}
+
+/// Two places are the same where their numbers are, wherever the types begin.
+impl Compared for Index {
+    #[tactic(auto, using(crate::proofs::Members::same_number))]
+    fn is_same(&self, other: &Index) -> bool {
+        self.index == other.index
+    }
+}
+
+/// A literal of its decimal digits.
+impl Print for Index {
+    fn print_in(&self, out: &mut StreamBuilder) -> Result<(), AllocError> {
+        let alloc = out.alloc();
+        let digits = self.index.to_string(alloc)?;
+        match Literal::new(alloc, LitKind::Int, digits.as_str(), self.span) {
+            Ok(literal) => out.add_literal(literal),
+            Err(_) => Err(AllocError),
+        }
+    }
+}
+
+impl<'a> Syntactic for MemberRef<'a> {
+    ghost syntax = { syntax_of_MemberRef };
+}
+
+impl<'a> TryClone for MemberRef<'a> {
+    fn try_clone(&self, _alloc: Global) -> error::Result<MemberRef<'a>> {
+        match self {
+            MemberRef::Named(ident) => Ok(MemberRef::Named(*ident)),
+            MemberRef::Unnamed(index) => Ok(MemberRef::Unnamed(*index)),
+        }
+    }
+}
+
+/// Two are the same where both are one name, or one place, wherever they stand.
+impl<'a> Compared for MemberRef<'a> {
+    fn is_same(&self, other: &MemberRef<'a>) -> bool {
+        match (self, other) {
+            (MemberRef::Named(a), MemberRef::Named(b)) => a.is_same(*b),
+            (MemberRef::Unnamed(a), MemberRef::Unnamed(b)) => a.is_same(b),
+            _ => false,
+        }
+    }
+}
+
+/// Two are equal exactly where they are once every span is 0 to 0.
+impl<'a> PartialEq for MemberRef<'a> {
+    ghost eq = { same_by syntax_of_MemberRef };
+
+    ghost laws = { same_per syntax_of_MemberRef };
+
+    #[tactic(auto, using(syn_lower::proofs::Equality::equals))]
+    fn eq(&self, other: &MemberRef<'a>) -> bool
+        ensures same { IsSame syntax_of_MemberRef self.now other.now result }
+        ensures equal { IsEqual syntax_of_MemberRef self.now other.now result }
+        ensures prints { PrintsAlike syntax_of_MemberRef self.now other.now result }
+    {
+        self.is_same(other)
+    }
+}
+
+impl<'a> Eq for MemberRef<'a> {
+    ghost laws = { same_equiv syntax_of_MemberRef };
+}
+
+impl<'a> Print for MemberRef<'a> {
+    fn print_in(&self, out: &mut StreamBuilder) -> Result<(), AllocError> {
+        match self {
+            MemberRef::Named(ident) => ident.print_in(out),
+            MemberRef::Unnamed(index) => index.print_in(out),
+        }
+    }
+}
+
+impl<'a> ToTokens for MemberRef<'a> {}
+
+// Written by tools/kinds.py from here to the end; edits are lost.
+
+impl syn_tokens::syntactic::Syntactic for Index {
+    ghost use Rattle.syn_tree.specs.Members.{syntax_of_Index};
+
+    ghost syntax = { syntax_of_Index };
 }

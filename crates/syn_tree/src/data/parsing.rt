@@ -10,20 +10,20 @@ ghost use Rattle.syn_grammar.specs.Promises.{MayBelow};
 ghost use Rattle.syn_tokens.specs.InOrder.{pair_of};
 ghost use Rattle.syn_tokens.specs.Kinds.{comma_syntax, eq_syntax};
 ghost use Rattle.syn_tokens.specs.Leaves.{maybe, syntax_of_ident};
-ghost use Rattle.syn_tree.specs.Parsing.{parse_rule, parse_form, take_token, Computes, Parses, Moved, Kept, itself, IsSyntax, list_of};
+ghost use Rattle.syn_lower.specs.Parsing.{parse_rule, parse_form, take_token, Computes, Parses, Moved, Kept, itself, IsSyntax, list_of};
 ghost use Rattle.syn_tree.specs.Data.{fields_form, named_type_form, named_type_syntax, syntax_of_Fields, value_form, unshown_visibility};
-ghost use Rattle.syn_tree.specs.Types.{syntax_of_Type};
+ghost use Rattle.syn_lower.specs.Types.{syntax_of_Type};
 ghost use Rattle.syn_tree.specs.Nameless.{keyword_form, syntax_of_Keyword};
-ghost use Rattle.syn_tree.specs.ParseTies.{Ties};
+ghost use Rattle.syn_lower.specs.ParseTies.{Ties};
 
-use crate::carrier::Carrier;
 use crate::data::{Field, FieldModifiers, Fields, FieldsNamed};
-use crate::kind::Expr;
-use crate::looks::at_nameless_fields;
-use crate::lower::Type;
-use crate::lower::attr::all_outer_attributes;
 use crate::restriction::Visibility;
 use std::marker::PhantomData;
+use syn_lower::Type;
+use syn_lower::attr::all_outer_attributes;
+use syn_lower::carrier::Carrier;
+use syn_lower::kind::Expr;
+use syn_lower::looks::at_nameless_fields;
 use syn_parse::buffer::ParseBuffer;
 use syn_parse::deferred::Deferred;
 use syn_parse::read::End;
@@ -32,7 +32,7 @@ use syn_parse::read::refusal::{Parsed, Refusal};
 use syn_tokens::ident::Ident;
 use syn_tokens::punctuated::Punctuated;
 use syn_tokens::stream::TokenStream;
-use syn_tokens::token::{Brace, Colon, Comma, Eq, Paren, Pub, Struct, Underscore, Union, kind};
+use syn_tokens::token::{Brace, Colon, Comma, Eq, Paren, Struct, Underscore, Union, kind};
 
 /// What reads fields in braces that stand inside of fields in braces: as the type of a field named `_`. It may be called
 /// where fewer tokens are left.
@@ -237,14 +237,12 @@ pub(crate) fn value(input: &mut ParseBuffer<'_>) -> Parsed<Option<(Eq, Deferred<
 }
 
 /// A visibility, which is not kept.
+#[tactic(auto, using(crate::proofs::Skipped::visibility_skipped))]
 pub(crate) fn skip_visibility(input: &mut ParseBuffer<'_>) -> Parsed<()>
     ensures reads { Computes IsSyntax (λ _. Vanishing true (Right Nothing)) (parse_form unshown_visibility input.old) result input.new }
     ensures kept { Kept input.old result input.new }
 {
-    if input.peek::<Pub>() {
-        let _vis: Visibility = input.read()?;
-        return Ok(());
-    }
+    let _vis: Visibility = input.read()?;
     Ok(())
 }
 

@@ -2,6 +2,8 @@
 //!
 //! Prints of `data`.
 
+mod members;
+
 use crate::data::{Field, Fields, FieldsNamed, FieldsUnnamed, Variant};
 use std::alloc::AllocError;
 use syn_tokens::print::{Print, ToTokens, print_list};

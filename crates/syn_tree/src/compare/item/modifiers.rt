@@ -2,7 +2,7 @@
 //!
 //! Comparisons of `item/modifiers`.
 ghost use Rattle.syn_tree.specs.Modifiers.{syntax_of_ConstModifiers, syntax_of_FnModifiers, syntax_of_TypeModifiers, syntax_of_ImplModifiers, syntax_of_TraitModifiers};
-ghost use Rattle.syn_tree.specs.Equality.{IsSame, IsEqual, PrintsAlike};
+ghost use Rattle.syn_lower.specs.Equality.{IsSame, IsEqual, PrintsAlike};
 ghost use Rattle.syn_tokens.specs.Comparison.{same_by, same_equiv, same_per};
 
 use crate::item::{ConstModifiers, FnModifiers, ImplModifiers, TraitModifiers, TypeModifiers};
@@ -20,7 +20,7 @@ impl PartialEq for ConstModifiers {
 
     ghost laws = { same_per syntax_of_ConstModifiers };
 
-    #[tactic(auto, using(crate::proofs::Equality::equals))]
+    #[tactic(auto, using(syn_lower::proofs::Equality::equals))]
     fn eq(&self, other: &ConstModifiers) -> bool
         ensures same { IsSame syntax_of_ConstModifiers self.now other.now result }
         ensures equal { IsEqual syntax_of_ConstModifiers self.now other.now result }
@@ -46,7 +46,7 @@ impl PartialEq for FnModifiers {
 
     ghost laws = { same_per syntax_of_FnModifiers };
 
-    #[tactic(auto, using(crate::proofs::Equality::equals))]
+    #[tactic(auto, using(syn_lower::proofs::Equality::equals))]
     fn eq(&self, other: &FnModifiers) -> bool
         ensures same { IsSame syntax_of_FnModifiers self.now other.now result }
         ensures equal { IsEqual syntax_of_FnModifiers self.now other.now result }
@@ -72,7 +72,7 @@ impl PartialEq for TypeModifiers {
 
     ghost laws = { same_per syntax_of_TypeModifiers };
 
-    #[tactic(auto, using(crate::proofs::Equality::equals))]
+    #[tactic(auto, using(syn_lower::proofs::Equality::equals))]
     fn eq(&self, other: &TypeModifiers) -> bool
         ensures same { IsSame syntax_of_TypeModifiers self.now other.now result }
         ensures equal { IsEqual syntax_of_TypeModifiers self.now other.now result }
@@ -98,7 +98,7 @@ impl PartialEq for ImplModifiers {
 
     ghost laws = { same_per syntax_of_ImplModifiers };
 
-    #[tactic(auto, using(crate::proofs::Equality::equals))]
+    #[tactic(auto, using(syn_lower::proofs::Equality::equals))]
     fn eq(&self, other: &ImplModifiers) -> bool
         ensures same { IsSame syntax_of_ImplModifiers self.now other.now result }
         ensures equal { IsEqual syntax_of_ImplModifiers self.now other.now result }
@@ -124,7 +124,7 @@ impl PartialEq for TraitModifiers {
 
     ghost laws = { same_per syntax_of_TraitModifiers };
 
-    #[tactic(auto, using(crate::proofs::Equality::equals))]
+    #[tactic(auto, using(syn_lower::proofs::Equality::equals))]
     fn eq(&self, other: &TraitModifiers) -> bool
         ensures same { IsSame syntax_of_TraitModifiers self.now other.now result }
         ensures equal { IsEqual syntax_of_TraitModifiers self.now other.now result }

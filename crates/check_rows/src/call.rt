@@ -1,0 +1,145 @@
+//! What calls read at the front of a text.
+
+use std::alloc::Global;
+use std::convert::From;
+use std::marker::PhantomData;
+use syn::data::Field;
+use syn::deferred::Deferred;
+use syn::lower::{Attribute, Path};
+use syn::parse::{Parse, ParseBuffer};
+use syn::restriction::Visibility;
+use syn::token::TokenStream;
+use syn::{Result, ToTokens, TryClone};
+use syn_test_support::outline::Outlined;
+use syn_test_support::visibilities::Visibilities;
+use syn_tokens::syntactic::compare::Compared;
+
+/// A call that reads a tree at the front of a buffer.
+pub(crate) trait Call {
+    type Tree: Outlined + TryClone + Compared + PartialEq + Drop;
+
+    fn read(input: &mut ParseBuffer<'_>) -> Result<Self::Tree>;
+
+    /// Adds what the tree prints.
+    fn print(tree: &Self::Tree, tokens: &mut TokenStream) -> Result<()>;
+}
+
+/// `Field::parse_named`
+pub(crate) struct NamedField;
+
+impl Call for NamedField {
+    type Tree = Field;
+
+    fn read(input: &mut ParseBuffer<'_>) -> Result<Field> {
+        Field::parse_named(input)
+    }
+
+    fn print(tree: &Field, tokens: &mut TokenStream) -> Result<()> {
+        tree.to_tokens(tokens)
+    }
+}
+
+/// `Field::parse_unnamed`
+pub(crate) struct UnnamedField;
+
+impl Call for UnnamedField {
+    type Tree = Field;
+
+    fn read(input: &mut ParseBuffer<'_>) -> Result<Field> {
+        Field::parse_unnamed(input)
+    }
+
+    fn print(tree: &Field, tokens: &mut TokenStream) -> Result<()> {
+        tree.to_tokens(tokens)
+    }
+}
+
+/// `Path::parse_mod_style`
+pub(crate) struct ModStyle;
+
+impl Call for ModStyle {
+    type Tree = Path;
+
+    fn read(input: &mut ParseBuffer<'_>) -> Result<Path> {
+        Path::parse_mod_style(input)
+    }
+
+    fn print(tree: &Path, tokens: &mut TokenStream) -> Result<()> {
+        tree.to_tokens(tokens)
+    }
+}
+
+/// `Attribute::parse_outer`
+pub(crate) struct OuterAttributes;
+
+impl Call for OuterAttributes {
+    type Tree = Vec<Attribute>;
+
+    fn read(input: &mut ParseBuffer<'_>) -> Result<Vec<Attribute>> {
+        Attribute::parse_outer(input)
+    }
+
+    fn print(tree: &Vec<Attribute>, tokens: &mut TokenStream) -> Result<()> {
+        print_all(tree, tokens)
+    }
+}
+
+/// `Attribute::parse_inner`
+pub(crate) struct InnerAttributes;
+
+impl Call for InnerAttributes {
+    type Tree = Vec<Attribute>;
+
+    fn read(input: &mut ParseBuffer<'_>) -> Result<Vec<Attribute>> {
+        Attribute::parse_inner(input)
+    }
+
+    fn print(tree: &Vec<Attribute>, tokens: &mut TokenStream) -> Result<()> {
+        print_all(tree, tokens)
+    }
+}
+
+/// Adds what attributes print.
+fn print_all(attrs: &Vec<Attribute>, tokens: &mut TokenStream) -> Result<()> {
+    for attr in attrs {
+        attr.to_tokens(tokens)?;
+    }
+    Ok(())
+}
+
+/// `Deferred::open`
+pub(crate) struct Opened;
+
+impl Call for Opened {
+    type Tree = Visibility;
+
+    fn read(input: &mut ParseBuffer<'_>) -> Result<Visibility> {
+        let deferred: Deferred<Visibilities> = input.parse()?;
+        deferred.open()
+    }
+
+    fn print(tree: &Visibility, tokens: &mut TokenStream) -> Result<()> {
+        tree.to_tokens(tokens)
+    }
+}
+
+/// `U::from` of a `T`
+pub(crate) struct Converted<T, U> {
+    from: PhantomData<T>,
+    into: PhantomData<U>,
+}
+
+impl<
+    T: Parse + Drop,
+    U: From<T> + ToTokens + Outlined + TryClone + Compared + PartialEq + Drop,
+> Call for Converted<T, U> {
+    type Tree = U;
+
+    fn read(input: &mut ParseBuffer<'_>) -> Result<U> {
+        Ok(U::from(input.parse::<T>()?))
+    }
+
+    fn print(tree: &U, tokens: &mut TokenStream) -> Result<()> {
+        tree.to_tokens(tokens)
+    }
+}

@@ -1,0 +1,29 @@
+mod AttributeLists
+pub mod Attributes
+mod BoundLists
+pub mod Compared
+pub mod Equality
+mod GenericPrints
+mod GenericsCompared
+pub mod InnerAttributes
+mod LifetimePrints
+mod Lifetimes
+mod Lists
+mod Literals
+pub mod Nameless
+pub mod Ordered
+mod Ordering
+mod ParameterRows
+mod Parameters
+mod PathWords
+pub mod QualifiedPaths
+mod QualifiedWords
+pub mod Restricted
+pub mod SameLists
+pub mod SameQualified
+pub mod Smaller
+mod Solid
+mod Tuples
+pub mod TypeLooks
+pub mod Types
+mod WhereClauses

@@ -1,0 +1,151 @@
+//! The conditions of the grammar on what stands next, by their names.
+ghost use Rattle.std.specs.Prelude.{◌≡◌, codes};
+ghost use Rattle.syn_grammar.specs.Take.{sees};
+ghost use Rattle.syn_grammar.specs.Table as table;
+ghost use Rattle.syn_grammar.specs.Tokens as grammar;
+ghost use Rattle.syn_parse.specs.Form.{by};
+ghost use Rattle.syn_lower.specs.Looks.{lone_word};
+
+use syn_parse::buffer::ParseBuffer;
+use syn_parse::read::{End, Peek};
+use syn_tokens::ident::Ident;
+use syn_tokens::literal::Literal;
+use syn_tokens::token::{
+    Brace, Colon, Comma, Crate, Eq, False, Gt, In, Le, Lt, Not, Paren, PathSep, Pound, SelfType,
+    SelfValue, Semi, Struct, Super, True, Union, kind,
+};
+
+/// Whether parentheses stand next that hold `crate`, `self` or `super` alone, or begin with `in`.
+#[tactic(auto, using(crate::proofs::Restricted::restriction_seen))]
+pub fn at_restriction(input: &ParseBuffer<'_>) -> bool
+    ensures { result ≡ sees table.at_restriction input.now }
+{
+    match input.peek_group::<kind::Paren>() {
+        Some(content) => content.peek::<In>() || is_lone_word(&content),
+        None => false,
+    }
+}
+
+/// Whether `crate`, `self` or `super` is all that is left.
+fn is_lone_word(content: &ParseBuffer<'_>) -> bool
+    ensures { result ≡ lone_word content.now }
+{
+    (content.peek::<Crate>() || content.peek::<SelfValue>() || content.peek::<Super>())
+        && content.peek2::<End>()
+}
+
+/// Whether an invisible group without content stands next, which stands for a visibility that isn't written.
+#[tactic(auto, using(crate::proofs::Restricted::empty_group_seen))]
+pub fn at_empty_group(input: &ParseBuffer<'_>) -> bool
+    ensures { result ≡ sees grammar.at_empty_group input.now }
+{
+    match input.peek_group::<kind::Group>() {
+        Some(content) => content.is_empty(),
+        None => false,
+    }
+}
+
+/// Whether `#` stands next, and `!` behind it.
+#[tactic(auto, using(crate::proofs::InnerAttributes::inner_attribute_seen))]
+pub(crate) fn at_inner_attribute(input: &ParseBuffer<'_>) -> bool
+    ensures { result ≡ sees table.at_inner_attribute input.now }
+{
+    input.peek::<Pound>() && input.peek2::<Not>()
+}
+
+/// Whether `struct` stands next, or `union` with a group in braces behind it.
+#[tactic(auto, using(crate::proofs::Nameless::nameless_seen))]
+pub fn at_nameless_fields(input: &ParseBuffer<'_>) -> bool
+    ensures { result ≡ sees table.at_nameless_fields input.now }
+{
+    input.peek::<Struct>() || (input.peek::<Union>() && input.peek2::<Brace>())
+}
+
+/// What ends the bounds of a parameter.
+pub(crate) struct ParameterEnd;
+
+impl Peek for ParameterEnd {
+    ghost look = { by table.at_parameter_end };
+
+    ghost fault = { codes "expected `,`, `>` or `=`" };
+
+    #[tactic(auto, using(syn_grammar::proofs::Looks::sees_or))]
+    fn peek(input: &ParseBuffer<'_>) -> bool {
+        input.peek::<Comma>() || input.peek::<Gt>() || input.peek::<Eq>()
+    }
+
+    fn expected() -> &'static str {
+        "expected `,`, `>` or `=`"
+    }
+}
+
+/// What ends a where clause, or the bounds of its predicates.
+pub(crate) struct PredicateEnd;
+
+impl Peek for PredicateEnd {
+    ghost look = { by table.at_predicate_end };
+
+    ghost fault = { codes "expected the end of a where clause" };
+
+    #[tactic(auto, using(syn_grammar::proofs::Looks::sees_or))]
+    fn peek(input: &ParseBuffer<'_>) -> bool {
+        input.is_empty()
+            || input.peek::<Brace>()
+            || input.peek::<Comma>()
+            || input.peek::<Semi>()
+            || input.peek::<Eq>()
+            || at_lone_colon(input)
+    }
+
+    fn expected() -> &'static str {
+        "expected the end of a where clause"
+    }
+}
+
+/// Whether `:` stands next, and not `::`.
+#[tactic(auto, using(syn_grammar::proofs::Looks::sees_but))]
+fn at_lone_colon(input: &ParseBuffer<'_>) -> bool
+    ensures { result ≡ sees table.at_lone_colon input.now }
+{
+    input.peek::<Colon>() && !input.peek::<PathSep>()
+}
+
+/// Whether an identifier that is no keyword, or `Self`, stands next: a word of a path behind which arguments may stand.
+#[tactic(auto, using(syn_grammar::proofs::Looks::sees_or))]
+pub(crate) fn at_named_word(input: &ParseBuffer<'_>) -> bool
+    ensures { result ≡ sees table.at_named_word input.now }
+{
+    input.peek::<Ident>() || input.peek::<SelfType>()
+}
+
+/// Whether `<` stands next, and not `<=`.
+#[tactic(auto, using(syn_grammar::proofs::Looks::sees_but))]
+pub(crate) fn at_less_only(input: &ParseBuffer<'_>) -> bool
+    ensures { result ≡ sees table.at_less_only input.now }
+{
+    input.peek::<Lt>() && !input.peek::<Le>()
+}
+
+/// Whether arguments of a path's word stand next: `<` and not `<=`, a group in parentheses, or `::` with `<` behind it.
+#[tactic(auto, using(crate::proofs::TypeLooks::arguments_seen))]
+pub(crate) fn at_arguments(input: &ParseBuffer<'_>) -> bool
+    ensures { result ≡ sees table.at_arguments input.now }
+{
+    at_less_only(input) || input.peek::<Paren>() || (input.peek::<PathSep>() && input.peek3::<Lt>())
+}
+
+/// Whether an identifier stands next that is no keyword, and `=` behind it.
+#[tactic(auto, using(crate::proofs::TypeLooks::association_seen))]
+pub(crate) fn at_association(input: &ParseBuffer<'_>) -> bool
+    ensures { result ≡ sees table.at_association input.now }
+{
+    input.peek::<Ident>() && input.peek2::<Eq>()
+}
+
+/// Whether an expression stands next, as far as any is read yet: a literal, `true` or `false`.
+#[tactic(auto, using(syn_grammar::proofs::Looks::sees_or))]
+pub(crate) fn at_expression(input: &ParseBuffer<'_>) -> bool
+    ensures { result ≡ sees table.at_expression input.now }
+{
+    input.peek::<True>() || input.peek::<False>() || input.peek::<Literal>()
+}

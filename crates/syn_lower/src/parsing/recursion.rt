@@ -1,0 +1,121 @@
+//! Where the parser of types leads back to itself.
+ghost use Rattle.syn_grammar.specs.Rules as rules;
+ghost use Rattle.syn_lower.specs.Parsing.{of, rule, meaning_of_rule, Parses, IsSyntax};
+ghost use Rattle.syn_lower.specs.ParseTies.{Ties};
+ghost use Rattle.syn_lower.specs.Types.{syntax_of_Type};
+
+use super::Nested;
+use super::arguments::return_type;
+use super::path::{path_as_type, type_path};
+use super::ty::ty;
+use crate::carrier::Carrier;
+use crate::{Path, ReturnType, Type, TypePath};
+use std::marker::PhantomData;
+use syn_parse::buffer::ParseBuffer;
+use syn_parse::read::Read;
+use syn_parse::read::refusal::{Parsed, Refusal};
+
+/// How many types may stand inside each other. The stack is memory too, and is refused for what is deeper: a type takes up to 35 KB of
+/// it in a trial build, which isn't optimized, and a main thread usually has 8 MB.
+const LEVELS: u32 = 200;
+
+/// How many types may still stand inside, and what carries a refusal.
+type Inside<E> = (u32, PhantomData<E>);
+
+/// The function that reads a nested type, and what it is told.
+#[derive(Drop)]
+struct Knot<E, T> {
+    ty: T,
+    inside: Inside<E>,
+}
+
+impl<E: Carrier, T: Fn(&mut ParseBuffer<'_>, Inside<E>) -> std::result::Result<Type, E>> Nested
+    for Knot<E, T> {
+    ghost may = { λ k ts. Ties E.is_syntax syntax_of_Type rules.type ts (T.pre k.ty) (T.post k.ty) };
+
+    fn ty(&self, input: &mut ParseBuffer<'_>) -> Parsed<Type> {
+        match (self.ty)(input, (self.inside.0, PhantomData)) {
+            Ok(value) => Ok(value),
+            Err(carried) => Err(carried.refusal()),
+        }
+    }
+}
+
+/// A type inside of another.
+#[cycle(knot)]
+fn nested_type<E: Carrier>(
+    input: &mut ParseBuffer<'_>,
+    inside: Inside<E>,
+) -> std::result::Result<Type, E>
+    ensures parses { Parses E.is_syntax syntax_of_Type rules.type input.old result input.new }
+{
+    let Some(left) = inside.0.checked_sub(1) else {
+        return Err(E::carry(Refusal::Memory));
+    };
+    let knot = Knot {
+        ty: nested_type::<E>,
+        inside: (left, inside.1),
+    };
+    match ty(&knot, input) {
+        Ok(value) => Ok(value),
+        Err(refusal) => Err(E::carry(refusal)),
+    }
+}
+
+/// A type.
+impl Read for Type {
+    ghost form = { of (rule rules.type) };
+
+    ghost meaning = { meaning_of_rule rules.type };
+
+    fn read(input: &mut ParseBuffer<'_>) -> Parsed<Type> {
+        nested_type::<Refusal>(input, (LEVELS, PhantomData))
+    }
+}
+
+/// A path as a type: a qualified path where `<` stands next, or a path.
+impl Read for TypePath {
+    ghost form = { of (rule rules.path_as_type) };
+
+    ghost meaning = { meaning_of_rule rules.path_as_type };
+
+    fn read(input: &mut ParseBuffer<'_>) -> Parsed<TypePath> {
+        let knot = Knot {
+            ty: nested_type::<Refusal>,
+            inside: (LEVELS, PhantomData),
+        };
+        path_as_type(&knot, input)
+    }
+}
+
+/// A path in a type: its words may have arguments. `Path::parse_mod_style` parses one in module style.
+impl Read for Path {
+    ghost form = { of (rule rules.type_path) };
+
+    ghost meaning = { meaning_of_rule rules.type_path };
+
+    fn read(input: &mut ParseBuffer<'_>) -> Parsed<Path> {
+        let knot = Knot {
+            ty: nested_type::<Refusal>,
+            inside: (LEVELS, PhantomData),
+        };
+        type_path(&knot, input)
+    }
+}
+
+/// `->` and a type, or nothing.
+impl Read for ReturnType {
+    ghost form = { of (rule rules.return_type) };
+
+    ghost takes = { 0 };
+
+    ghost meaning = { meaning_of_rule rules.return_type };
+
+    fn read(input: &mut ParseBuffer<'_>) -> Parsed<ReturnType> {
+        let knot = Knot {
+            ty: nested_type::<Refusal>,
+            inside: (LEVELS, PhantomData),
+        };
+        return_type(&knot, input)
+    }
+}

@@ -1,0 +1,13 @@
+//! Written by tools/kinds.py; edits are lost.
+//!
+//! Prints of trees.
+#![tactic(auto, using(syn_tokens::proofs::Prints::prints))]
+
+mod attr;
+mod bounds;
+mod expr;
+mod generics;
+mod lit;
+mod path;
+mod ty;
+mod where_clause;

@@ -1,9 +1,0 @@
-use Rattle.std.proofs.Common.{◌≡◌, drop}
-use Rattle.syn_tokens.specs.Building.{added}
-use Rattle.syn_tree.specs.GenericPrints.{pairs_part}
-use Rattle.syn_tree.proofs.lower.generics.printing.print_pairs.Given as goal
-
-abbrev pub invariant-loop-param : goal.invariant-loop-param
-invariant-loop-param l =
-    (added l.out (pairs_part l.lifetimes (drop l.param-index l.pairs)) ≡ added l.initial.out (pairs_part l.lifetimes l.pairs))
-    × (l.out.before ≡ l.initial.out.before)

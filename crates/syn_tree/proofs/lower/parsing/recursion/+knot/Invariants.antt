@@ -1,5 +1,0 @@
-use Rattle.syn_grammar.specs.Take.{left}
-use Rattle.syn_tree.proofs.lower.parsing.recursion.+knot.Given as goal
-
-abbrev pub decreases-nested_type : goal.decreases-nested_type
-decreases-nested_type g l = left l.input.now

@@ -1,6 +1,0 @@
-use Rattle.syn_tree.specs.Sizes.{tree_size}
-use Rattle.syn_tree.specs.Types.{syntax_of_Type}
-use Rattle.syn_tree.proofs.nested.compare.knot.+compare.Given as goal
-
-abbrev pub decreases-is_same_type : goal.decreases-is_same_type
-decreases-is_same_type l = tree_size (syntax_of_Type l.ty.now)

@@ -1,6 +1,0 @@
-use Rattle.syn_tree.specs.Sizes.{tree_size}
-use Rattle.syn_tree.specs.Types.{syntax_of_Type}
-use Rattle.syn_tree.proofs.nested.print.knot.+print.Given as goal
-
-abbrev pub decreases-print_type : goal.decreases-print_type
-decreases-print_type l = tree_size (syntax_of_Type l.ty.now)

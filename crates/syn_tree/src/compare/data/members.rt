@@ -1,0 +1,29 @@
+//! Written by tools/kinds.py; edits are lost.
+//!
+//! Comparisons of `data/members`.
+ghost use Rattle.syn_tree.specs.Members.{syntax_of_Index};
+ghost use Rattle.syn_lower.specs.Equality.{IsSame, IsEqual, PrintsAlike};
+ghost use Rattle.syn_tokens.specs.Comparison.{same_by, same_equiv, same_per};
+
+use crate::data::Index;
+use syn_tokens::syntactic::compare::Compared;
+
+/// Two are equal exactly where they are once every span is 0 to 0.
+impl PartialEq for Index {
+    ghost eq = { same_by syntax_of_Index };
+
+    ghost laws = { same_per syntax_of_Index };
+
+    #[tactic(auto, using(syn_lower::proofs::Equality::equals))]
+    fn eq(&self, other: &Index) -> bool
+        ensures same { IsSame syntax_of_Index self.now other.now result }
+        ensures equal { IsEqual syntax_of_Index self.now other.now result }
+        ensures prints { PrintsAlike syntax_of_Index self.now other.now result }
+    {
+        self.is_same(other)
+    }
+}
+
+impl Eq for Index {
+    ghost laws = { same_equiv syntax_of_Index };
+}
