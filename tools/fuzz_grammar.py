@@ -7,7 +7,8 @@ The repository holds no oracle. Give the folder of one by --oracle, or in the en
 and the status is 2. It must have oracle.py (with KINDS, parse2, parse_prefix, flat, SynErr, the token classes, and a function for each
 part below) and gen.py (random sentences of its own).
 
-A stage says how far the oracle builds the grammar: the rules of whole derive inputs are compared at stage 2.
+A stage says how far the oracle builds the grammar: the rules of whole derive inputs are compared at stage 2, those of patterns, expressions,
+blocks and statements at stage 4. Types and generic arguments are read as at stage 2 there, since the table reads no expressions in them yet.
 
 Random token trees, from sentences of the table and of the oracle's own, unchanged and changed, are read by the table
 (by a reader in Python of specs/Table.antt) and by the oracle. They must agree whether the whole is read, on its print, token by token
@@ -34,6 +35,7 @@ KINDS = {
     2: {'derive': 'derive_input', 'visibility': 'visibility', 'fields-unnamed': 'fields_unnamed', 'unnamed-field': 'unnamed_field',
         'fields-named': 'fields_named', 'variant': 'variant', 'named-field': 'named_field', 'item-struct': 'structure',
         'item-enum': 'enumeration', 'item-union': 'union_item', 'type': 'type', 'expr': 'expression'},
+    4: {'expr': 'whole_expression', 'block': 'block', 'stmt': 'statement', 'stmts': 'statements'},
 }
 # of each stage, the rules of parts, which the oracle reads by a function and not by a kind
 PARTS = {
@@ -41,9 +43,17 @@ PARTS = {
         'qualified_path', 'path_as_type', 'types', 'generics', 'lifetime_parameter', 'lifetimes', 'parameter_bounds', 'bound', 'trait_bound',
         'where_clause', 'predicate', 'predicate_bounds', 'named_fields', 'unnamed_fields', 'variants', 'structure_rest',
         'enumeration_rest', 'union_item_rest'],
+    4: ['inner_attributes', 'expression_path', 'expression_words', 'qualified_expression_path', 'path_as_expression', 'macro_invocation',
+        'pattern', 'patterns', 'expressions', 'body', 'plain_body', 'primary', 'block_like', 'if_expression', 'loop_expression', 'postfixes',
+        'unary', 'casts', 'cast', 'products', 'product', 'sum', 'shift', 'bit_and', 'bit_xor', 'bit_or', 'comparison', 'conjunction',
+        'disjunction', 'operand_rest', 'local'],
 }
-# parts that the oracle reads to the end of a group alone: of these no beginnings are compared
-TO_THE_END = ['meta', 'types', 'named_fields', 'unnamed_fields', 'variants']
+# functions of the oracle that read as at an earlier stage, since the table does
+EARLIER = {4: {'p_type': 2, 'p_angle': 2}}
+# parts that the oracle reads to the end of a group alone, or refuses where the table leaves what can't follow: of these no beginnings are
+# compared
+TO_THE_END = ['meta', 'types', 'named_fields', 'unnamed_fields', 'variants', 'patterns', 'expressions', 'casts', 'cast', 'products', 'product',
+              'sum', 'shift', 'bit_and', 'bit_xor', 'bit_or', 'comparison', 'conjunction', 'disjunction', 'operand_rest']
 SHOWN = 20
 
 
@@ -63,13 +73,48 @@ def part_readers(o):
         'where_clause': lambda c: where_of(o, c), 'predicate': o.p_predicate, 'predicate_bounds': bounds(o.end_where),
         'named_fields': members(o.p_named_field), 'unnamed_fields': members(o.p_unnamed_field),
         'variants': members(o.p_variant),
-        'structure_rest': bare(o.p_struct), 'enumeration_rest': bare(o.p_enum), 'union_item_rest': bare(o.p_union)}
+        'structure_rest': bare(o.p_struct), 'enumeration_rest': bare(o.p_enum), 'union_item_rest': bare(o.p_union),
+        **expression_readers(o)}
 
 
-def words_of(o, c):
+def expression_readers(o):
+    """The same of patterns, expressions and statements."""
+    path, members = lambda style: lambda c: o.p_path(c, style), lambda read: lambda c: o.commas(c, read)
+    expression, unary = lambda c: o.p_expr(c, False), lambda c: o.p_unary(c, False)
+    cast = lambda c: o.p_cast(c, unary(c))
+    level = lambda lowest: lambda c: o.p_levels(c, cast(c), lowest, False)
+    nothing = o.N('ExprVerbatim', tokens=[])
+    return {
+        'inner_attributes': o.p_inner, 'expression_path': path('expr'), 'expression_words': lambda c: words_of(o, c, 'expr'),
+        'qualified_expression_path': lambda c: qualified_of(o, c, 'expr'),
+        'path_as_expression': lambda c: qualified_of(o, c, 'expr') if c.mark('<') else path('expr')(c),
+        'macro_invocation': lambda c: macro_of(o, c), 'pattern': o.p_pat, 'patterns': members(o.p_pat), 'expressions': members(expression),
+        'body': lambda c: o.p_ia_block(c, 'ExprBlock', label=None), 'plain_body': o.p_block, 'primary': lambda c: o.p_primary(c, False),
+        'block_like': lambda c: block_like_of(o, c), 'if_expression': o.p_if, 'loop_expression': lambda c: o.p_loop(c, None),
+        'postfixes': lambda c: o.p_postfix(c, nothing), 'unary': unary, 'casts': lambda c: o.p_cast(c, nothing), 'cast': cast,
+        'products': lambda c: o.p_levels(c, nothing, o.MUL, False), 'product': level(o.MUL), 'sum': level(o.ADD), 'shift': level(o.SHIFT),
+        'bit_and': level(o.BAND), 'bit_xor': level(o.BXOR), 'bit_or': level(o.BOR), 'comparison': level(o.CMP), 'conjunction': level(o.ANDAND),
+        'disjunction': level(o.OROR), 'local': lambda c: o.p_local(c, []),
+        'operand_rest': lambda c: o.p_levels(c, o.p_cast(c, o.p_postfix(c, nothing)), o.ASSIGN, False)}
+
+
+def words_of(o, c, style='type'):
     words = o.Pun()
-    o.p_segments(c, 'type', words)
+    o.p_segments(c, style, words)
     return words
+
+
+def macro_of(o, c):
+    path = o.p_path(c, 'mod')
+    if c.mark('!='):
+        raise c.err()
+    return o.p_macro_rest(c, path)
+
+
+def block_like_of(o, c):
+    if not o.block_like_next(c):
+        raise c.err()
+    return o.p_primary(c, False)
 
 
 def argument_of(o, c):
@@ -79,8 +124,8 @@ def argument_of(o, c):
     return o.p_generic_arg(c)
 
 
-def qualified_of(o, c):
-    before, path = o.p_qpath(c, 'type')
+def qualified_of(o, c, style='type'):
+    before, path = o.p_qpath(c, style)
     return o.N('TypePath', qself=before, path=path)
 
 
@@ -97,7 +142,11 @@ PART_SENTENCES = {
     'qualified_path': lambda g, d: g.qpath(d, 'type'), 'path_as_type': lambda g, d: g.path(d, 'type'), 'generics': lambda g, d: g.gen(d, 0.95),
     'lifetime_parameter': lambda g, d: g.ltparam(d), 'lifetimes': lambda g, d: g.lifetimes(), 'parameter_bounds': lambda g, d: g.bounds(d),
     'bound': lambda g, d: g.bound(d), 'where_clause': lambda g, d: g.where(d, 0.95), 'predicate': lambda g, d: g.pred(d),
-    'predicate_bounds': lambda g, d: g.bounds(d)}
+    'predicate_bounds': lambda g, d: g.bounds(d),
+    'inner_attributes': lambda g, d: g.ia(0.5), 'expression_path': lambda g, d: g.path(d, 'expr'),
+    'qualified_expression_path': lambda g, d: g.qpath(d, 'expr'), 'path_as_expression': lambda g, d: g.path(d, 'expr'),
+    'macro_invocation': lambda g, d: g.macro(d), 'pattern': lambda g, d: g.pat(d), 'body': lambda g, d: g.iablock(d),
+    'primary': lambda g, d: g.primary(d), 'if_expression': lambda g, d: g.if_(d), 'unary': lambda g, d: g.unary(d, False)}
 
 
 class Oracle:
@@ -109,8 +158,20 @@ class Oracle:
         self.o, self.own = oracle, gen
         self.signs = {d: '' if d == 'None' else texts[0] for d, texts in DELIMITER_TEXTS.items()}
         self.delimiters = {sign: d for d, sign in self.signs.items()}
+        for name, earlier in EARLIER.get(stage, {}).items():
+            setattr(oracle, name, self.as_at(earlier, getattr(oracle, name)))
         readers = part_readers(oracle)
         oracle.API_KINDS.update({rule: (readers[rule], stage) for rule in PARTS[stage]})
+
+    def as_at(self, stage, read):
+        """A function of the oracle, as it is at this stage."""
+        def reads(*words):
+            now, self.o.STAGE = self.o.STAGE, stage
+            try:
+                return read(*words)
+            finally:
+                self.o.STAGE = now
+        return reads
 
     def to(self, trees):
         o = self.o
@@ -175,8 +236,8 @@ def holds_invisible(trees):
 
 def random_trees(sentences, oracle, generator, rule, kind):
     r = sentences.random
-    is_known = kind in PART_SENTENCES or kind != rule
-    if (is_known or kind == 'visibility') and r.random() < 0.25:
+    is_known = kind in PART_SENTENCES or any(kind in kinds for kinds in KINDS.values())
+    if is_known and r.random() < 0.25:
         trees = oracle.sentence(generator, kind)
     else:
         trees = sentences.sentence(rule, r.choice([3, 5, 7, 9]))

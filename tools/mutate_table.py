@@ -65,8 +65,9 @@ def telling_text(borders, mutant, dice):
     """A short random text that the changed table reads otherwise, or None."""
     right, wrong, found = Reader(borders.lookaheads, borders.table), borders.reader(mutant), None
     tables = [borders.table, {**borders.table, mutant.rule: mutant.form}]
+    makers = [Sentences(borders.lookaheads, table, dice) for table in tables]
     for _ in range(TRIES):
-        sentences = Sentences(borders.lookaheads, dice.choice(tables), dice)
+        sentences = dice.choice(makers)
         try:
             trees = sentences.sentence(mutant.rule, dice.choice([1, 3, 5]))
         except (TooDeep, AttributeError, IndexError, RecursionError):

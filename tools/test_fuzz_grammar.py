@@ -6,8 +6,9 @@ import sys
 import tempfile
 import unittest
 from pathlib import Path
+from types import SimpleNamespace
 
-from fuzz_grammar import KINDS, PART_SENTENCES, PARTS, TO_THE_END, pairs
+from fuzz_grammar import KINDS, Oracle, PART_SENTENCES, PARTS, TO_THE_END, pairs
 from grammarlib.source import Source
 
 HERE = Path(__file__).resolve().parent
@@ -42,7 +43,9 @@ class Mirror(Oracle):
 
 def __getattr__(name):
     if name.startswith(('p_', 'end_')) or name in ('commas', 'Pun', 'N'):
-        return lambda *words: None
+        return lambda *words, **parts: None
+    if name in ('MUL', 'ADD', 'SHIFT', 'BAND', 'BXOR', 'BOR', 'CMP', 'ANDAND', 'OROR'):
+        return 0
     raise AttributeError(name)
 
 
@@ -109,6 +112,17 @@ class Fuzz(unittest.TestCase):
         self.assertEqual((status, faults), (0, ''), said)
         self.assertIn(' worked examples and 60 inputs, ', said)
         self.assertRegex(said, r' 0 differ \(\d+ s, seed 1, stage 2\)')
+
+    def test_expressions_and_statements(self):
+        status, said, faults = fuzz('--oracle', self.oracle(), '--stage', '4', '--count', '60')
+        self.assertEqual((status, faults), (0, ''), said)
+        self.assertRegex(said, r' 0 differ \(\d+ s, seed 1, stage 4\)')
+
+    def test_a_part_is_read_as_at_an_earlier_stage(self):
+        oracle = Oracle.__new__(Oracle)
+        oracle.o = SimpleNamespace(STAGE=4)
+        self.assertEqual(oracle.as_at(2, lambda: oracle.o.STAGE)(), 2)
+        self.assertEqual(oracle.o.STAGE, 4)
 
     def test_a_difference(self):
         status, said, _ = fuzz('--oracle', self.oracle('visibility'), '--count', '1')

@@ -9,9 +9,10 @@ from grammar import checked
 from grammarlib.antt import Fault
 from grammarlib.complaints import EXPLAINED
 from grammarlib.examples import Theorems, parse
-from grammarlib.lookaheads import Lookaheads
+from grammarlib.lookaheads import Lookaheads, barred
+from grammarlib.reader import Reader
 from grammarlib.source import Source
-from grammarlib.tokens import Group, Ident, Literal, Punct, read_text, shown
+from grammarlib.tokens import Group, Ident, Literal, Punct, read_text, shown, stream
 
 HERE = Path(__file__).resolve().parent
 CRATE = HERE.parent / 'crates' / 'syn_grammar'
@@ -69,6 +70,17 @@ class Table(unittest.TestCase):
 
     def test_every_rule_and_look_has_a_sentence(self):
         self.assertEqual(Source(CRATE).without_sentence(), [])
+
+    def test_a_rule_that_calls_itself_is_read_to_an_end(self):
+        source = self.write(HEAD + 'table a = when at_name then rule a else empty\n')
+        with self.assertRaises(RecursionError):
+            Reader(Lookaheads(source), source.table).read(('rule', ('a',)), stream(read_text('b')))
+
+    def test_a_look_is_taken_out_of_another_once(self):
+        look = ('but_not', ('but_not', ('at_name',), ('ended',)), ('at_mark', ','))
+        self.assertTrue(barred(('ended',), look))
+        self.assertTrue(barred(('at_mark', ','), look))
+        self.assertFalse(barred(('at_name',), look))
 
     def test_a_good_table(self):
         self.assertEqual(self.codes(['table a = asking name & (when at_mark colons then asking_punctuation colons & rule a else empty)']), set())

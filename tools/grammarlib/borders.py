@@ -81,10 +81,10 @@ class Borders:
         found = Tests(starts, Writer(self.lookaheads.source).look).complaints() + Apart(starts).complaints() + ranks(starts)[1]
         return found[0].code if found else None
 
-    def lacking(self):
-        """What tools/examples.txt and the list of equivalent changes lack, one line each."""
-        lines, known = [], set()
-        for rule in self.table:
+    def lacking(self, rules=None):
+        """What tools/examples.txt and the list of equivalent changes lack of these rules, else of all, one line each."""
+        lines, known, rules = [], set(), rules or list(self.table)
+        for rule in rules:
             for mutant in self.mutants.of(rule):
                 known.add((rule, mutant.change))
                 listed, told = (rule, mutant.change) in self.equivalent, self.told(mutant)
@@ -93,4 +93,4 @@ class Borders:
                 elif not listed and not told:
                     lines.append(f'`{rule}`: no example tells the table from one in which {mutant.change}')
         return lines + [f'`{rule}`: "{change}" is listed as a change that alters nothing, but is no change of this rule'
-                        for rule, change in self.equivalent if (rule, change) not in known]
+                        for rule, change in self.equivalent if rule in rules and (rule, change) not in known]

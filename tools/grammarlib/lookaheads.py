@@ -5,6 +5,8 @@ A terminal is ('Ended',), ('Name',), ('Word', text), ('Punctuation', text), ('Li
 A lookahead is a terminal and the facts that it tells.
 """
 
+from functools import lru_cache
+
 ENDED, NAME = ('Ended',), ('Name',)
 NEVER = ('one_of', ())
 EMPTY = ('empty',)
@@ -27,12 +29,19 @@ def group_terminals(delimiter):
     return [('Delimited', delimiter, empty) for empty in ([False, True] if delimiter == INVISIBLE else [False])]
 
 
+@lru_cache(maxsize=None)
 def mentions_fact(look):
     return look[0] == 'ahead' or any(map(mentions_fact, parts(look)))
 
 
+@lru_cache(maxsize=None)
 def occurs(part, look):
     return look == part or any(occurs(part, x) for x in parts(look))
+
+
+def barred(off, look):
+    """It is taken out of the look already."""
+    return look[0] == 'but_not' and (look[2] == off or barred(off, look[1]))
 
 
 class Lookaheads:

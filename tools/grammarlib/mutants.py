@@ -161,12 +161,17 @@ class Mutants:
 
     def guard(self, form, path):
         """The terminals with which what stands at this place may begin, where a choice has seen to it; else None."""
-        if not path:
-            return None
-        above = [f for p, f in places(form) if p == path[:-1]][0]
-        if above[0] != 'when' or path[-1] != 2:
+        above = self.above(form, path)
+        while above and (above[0] == 'shaped' or (above[0] == '&' and path[-1] == 1)):
+            path = path[:-1]
+            above = self.above(form, path)
+        if not above or above[0] != 'when' or path[-1] != 2:
             return None
         return {f for f in self.terminals() if self.lookaheads.may(above[1], f)}
+
+    def above(self, form, path):
+        """The form in which what stands at this place is a part."""
+        return next((f for p, f in places(form) if path and p == path[:-1]), None)
 
     def of_members(self, parts, guard):
         for n, part in enumerate(parts):
@@ -287,12 +292,27 @@ class Mutants:
 
     def is_idle(self, look, new, yes, other):
         """The two conditions differ only before what neither way reads."""
-        lookaheads, starts = self.lookaheads, self.starts
-        alike = lambda f: (lookaheads.must(look, f) and lookaheads.must(new, f)) or not (lookaheads.may(look, f) or lookaheads.may(new, f))
-        differ = [f for f in self.terminals() if not alike(f)]
+        starts = self.starts
+        differ = [f for f in self.terminals() if self.may_differ(look, new, f)]
         if starts.nullable(yes) or starts.nullable(other):
             return not differ
         return not any(f in starts.first_set(yes) or f in starts.first_set(other) for f in differ)
+
+    def may_differ(self, look, new, terminal):
+        """Lookaheads with this terminal may answer the two conditions differently."""
+        lookaheads, kind = self.lookaheads, look[0]
+        if look == new:
+            return False
+        if new[:2] == ('or_else', look):
+            return lookaheads.may(new[2], terminal) and not lookaheads.must(look, terminal)
+        if kind in JOINED and new[0] == kind and look[1] == new[1]:
+            decides = lookaheads.must(look[1], terminal) if kind == 'or_else' else not lookaheads.may(look[1], terminal)
+            return not decides and self.may_differ(look[2], new[2], terminal)
+        if kind in JOINED and new[0] == kind and look[2] == new[2]:
+            decides = not lookaheads.may(look[2], terminal) if kind == 'and_also' else lookaheads.must(look[2], terminal)
+            return not decides and self.may_differ(look[1], new[1], terminal)
+        both = lookaheads.must(look, terminal) and lookaheads.must(new, terminal)
+        return not both and (lookaheads.may(look, terminal) or lookaheads.may(new, terminal))
 
     # WORDS, MARKS AND DELIMITERS, in tokens and conditions alike
 
@@ -387,8 +407,6 @@ class Mutants:
 
     def comes_there(self, form, path):
         """Whether a terminal may come to the token at this place: not where a choice in whose first way it stands first has seen to it."""
-        while path and path[-1] == 1 and [f for p, f in places(form) if p == path[:-1]][0][0] == '&':
-            path = path[:-1]
         guard = self.guard(form, path)
         return lambda terminal: guard is None or terminal in guard
 

@@ -3,6 +3,7 @@ from .lookaheads import ENDED
 from .tokens import Group, Ident, Literal, Punct, Stream, mark, stream
 
 LARGEST_INDEX = 2 ** 32 - 1
+LONGEST_CHAIN = 500  # of forms that read what another does
 
 
 class Refused(Exception):
@@ -38,10 +39,14 @@ class Reader:
             return ('Literal', (token.kind,)), []
         if isinstance(token, Punct):
             return lookaheads.punctuation_lookahead(token.character, token.joint, self.lookahead(here.rest))
-        return lookaheads.group_lookahead((token.delimiter,), self.lookahead(stream(token.content)))
+        return lookaheads.group_lookahead((token.delimiter,), self.lookahead(here.content()))
 
     def sees(self, look, here):
-        return self.lookaheads.answers(look, self.lookahead(here))
+        """The look holds of what stands next. Each stream keeps its answers, with the looks, since it is read by many tables."""
+        known = here.known_looks.get(id(look))
+        if known is None:
+            known = here.known_looks[id(look)] = look, self.lookaheads.answers(look, self.lookahead(here))
+        return known[1]
 
     # READING: each gives the tree and what is left, or raises Refused
 
@@ -53,8 +58,20 @@ class Reader:
         return tree
 
     def read(self, form, here):
-        method = self.methods.get(form[0]) or getattr(self, f'read_{form[0]}')
-        return method(form, here)
+        for _ in range(LONGEST_CHAIN):
+            kind = form[0]
+            if kind == 'when':
+                form = form[2] if self.sees(form[1], here) else form[3]
+            elif kind == 'rule':
+                form = self.table[form[1][0]]
+            elif kind == 'shaped':
+                form = form[2]
+            else:
+                method = self.methods.get(kind)
+                if method is None:
+                    method = self.methods[kind] = getattr(self, f'read_{kind}')
+                return method(form, here)
+        raise RecursionError('a rule calls itself')
 
     def read_empty(self, form, here):
         return ('nothing',), here
@@ -97,9 +114,6 @@ class Reader:
         second, rest = self.read(form[2], rest)
         return ('both', first, second), rest
 
-    def read_when(self, form, here):
-        return self.read(form[2] if self.sees(form[1], here) else form[3], here)
-
     def read_vanishing(self, form, here):
         if not self.sees(form[2], here):
             return ('nothing',), here
@@ -116,7 +130,7 @@ class Reader:
 
     def read_inside(self, form, here):
         group = self.open_group(form[1], here)
-        tree, rest = self.read(form[2], stream(group.content))
+        tree, rest = self.read(form[2], here.content())
         if rest.token is not None:
             raise Refused()
         return ('group', form[1][0], tree), here.rest
@@ -135,12 +149,6 @@ class Reader:
             return self.read(form[1], here)
         except Refused:
             return self.read(form[2], here)
-
-    def read_rule(self, form, here):
-        return self.read(self.table[form[1][0]], here)
-
-    def read_shaped(self, form, here):
-        return self.read(form[2], here)
 
     def read_captured(self, form, here):
         tree, rest = self.read(form[1], here)

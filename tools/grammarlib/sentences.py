@@ -7,14 +7,25 @@ LIFETIMES = ['a', 'a', 'b', 'static', '_', 'where', 'mut', 'r#in']  # an identif
 LITERALS = {'Int': ['0', '1', '01', '7u8'], 'Float': ['1.5'], 'Char': ["'c'"], 'Byte': ["b'x'"],
             'Str': ['"s"'], 'ByteStr': ['b"x"'], 'CStr': ['c"x"']}
 STRAY = (
-    [Ident(x) for x in 'pub crate self Self super in struct union where const fn _ a r#in'.split()]
-    + [Punct(c, joint) for c in ":,;=<>#!&'+-.?" for joint in (False, True)]
+    [Ident(x) for x in 'pub crate self Self super in struct union where const fn _ a r#in as if else let loop unsafe return break mut'.split()]
+    + [Punct(c, joint) for c in ":,;=<>#!&'+-.?*/%^|" for joint in (False, True)]
     + [Literal('Int', '1')] + [Group(d, ()) for d in ('Paren', 'Brace', 'Bracket', 'None')])
 LONGEST = 60
+ENDLESS = 1000  # more token trees than any form reads at least
+SHORT = 0.95  # how often a deep sentence ends as soon as it can
 
 
 class TooDeep(Exception):
     """A sentence grew without an end."""
+
+
+def branches(form):
+    """The forms that a chain of choices leads to."""
+    found = []
+    while form[0] == 'when':
+        found.append(form[2])
+        form = form[3]
+    return found + [form]
 
 
 class Sentences:
@@ -22,6 +33,39 @@ class Sentences:
 
     def __init__(self, lookaheads, table, random):
         self.lookaheads, self.table, self.random = lookaheads, table, random
+        self.lengths, self.length_of = {}, dict.fromkeys(table, ENDLESS)
+        while True:  # the lengths of all rules, until nothing changes
+            new = {k: self.length(form) for k, form in table.items()}
+            self.lengths.clear()
+            if new == self.length_of:
+                break
+            self.length_of = new
+
+    def length(self, form):
+        """How many token trees the form reads at least."""
+        if id(form) not in self.lengths:
+            self.lengths[id(form)] = self.computed_length(form)
+        return self.lengths[id(form)]
+
+    def computed_length(self, form):
+        kind = form[0]
+        if kind in ('empty', 'unshown', 'vanishing'):
+            return 0
+        if form == NEVER:
+            return ENDLESS
+        if kind == '&':
+            return min(self.length(form[1]) + self.length(form[2]), ENDLESS)
+        if kind in ('when', 'either'):
+            return min(map(self.length, form[-2:]))
+        if kind in ('one_of', 'rule'):
+            return min(self.length_of[k[0]] for k in (form[1] if kind == 'one_of' else [form[1]]))
+        if kind == 'inside':
+            return min(1 + self.length(form[2]), ENDLESS)
+        if kind in ('such', 'shaped', 'captured', 'generics_before'):
+            return self.length(form[-1])
+        if kind == 'supplied':
+            return self.length(form[-1]) + 2
+        return len(form[2]) if kind == 'mark' else 2 if kind in ('lifetime', 'rest_after', 'ordered') else 1
 
     def sentence(self, rule, depth):
         return self.of(('rule', (rule,)), depth)
@@ -38,9 +82,9 @@ class Sentences:
         if kind == '&':
             return self.of(form[1], depth) + self.of(form[2], depth)
         if kind == 'when':
-            return self.choice(form[2], form[3], depth)
+            return self.choice(branches(form), depth)
         if kind == 'vanishing':
-            return self.choice(form[3], EMPTY, depth)
+            return self.choice([form[3], EMPTY], depth)
         if kind == 'inside':
             return [Group(form[1][0], tuple(self.of(form[2], depth - 1)))]
         if kind == 'either':
@@ -68,12 +112,19 @@ class Sentences:
             return [Group(form[1][0], (r.choice(STRAY),))]
         return self.mark(form[1]) + [r.choice(STRAY)]
 
-    def choice(self, yes, other, depth):
-        if yes == NEVER or (other != NEVER and depth <= 0 and other == EMPTY):
-            return self.of(other, depth)
-        if other == NEVER or (depth <= 0 and yes == EMPTY and self.random.random() < 0.5):
-            return self.of(yes, depth)
-        return self.of(yes if self.random.random() < 0.45 else other, depth - 1)
+    def choice(self, forms, depth):
+        """One of these forms: one of the shortest where it is deep enough, nothing now and then where that may be."""
+        r, forms = self.random, [form for form in forms if self.length(form) < ENDLESS]
+        if not forms:
+            raise TooDeep()
+        if depth <= 0 and r.random() < SHORT:
+            least = min(map(self.length, forms))
+            forms = [form for form in forms if self.length(form) == least]
+        elif EMPTY in forms and len(forms) > 1:
+            if r.random() < 0.4:
+                return []
+            forms.remove(EMPTY)
+        return self.of(r.choice(forms), depth - 1)
 
     def list(self, members, depth):
         count = self.random.choice([0, 1, 1, 2, 3]) if depth > 0 else 0

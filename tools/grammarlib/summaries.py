@@ -10,7 +10,7 @@ shuns   looks that no lookahead behind the print may meet
 """
 from dataclasses import dataclass, field
 
-from .lookaheads import ENDED, INVISIBLE, group_terminals, mentions_fact, occurs, unique
+from .lookaheads import ENDED, INVISIBLE, barred, group_terminals, mentions_fact, occurs, unique
 from .starts import opt_generics
 
 WILD = ('Word', '_')
@@ -50,18 +50,27 @@ class Summaries:
     def __init__(self, starts):
         self.starts, self.lookaheads, self.table = starts, starts.lookaheads, starts.table
         self.said = {(k, False): Summary() for k in self.table}
-        self.grown = True
+        self.grown = True  # a summary was asked for that isn't solved yet
+        self.asked_for = set()
 
     def solve(self):
-        """The summaries of all rules, until nothing changes."""
-        while True:
-            self.grown = False
-            new = {(k, told): self.summary(self.table[k], told) for k, told in list(self.said)}
-            if not self.grown and all(new[x].key() == self.said[x].key() for x in new):
-                return
+        """The summaries of all rules, until nothing changes. One is computed again where one that it was made of has changed."""
+        changed, used = set(self.said), {}
+        while changed:
+            new = {}
+            for x in list(self.said):
+                if x not in used or used[x] & changed:
+                    self.asked_for = used[x] = set()
+                    new[x] = self.summary(self.table[x[0]], x[1])
+            added = {x for x in self.said if x not in used}
+            if not added and all(new[x].key() == self.said[x].key() for x in new):
+                break
+            changed = added | {x for x in new if new[x] != self.said[x]}
             self.said.update(new)
+        self.grown = False
 
     def of_rule(self, rule, told):
+        self.asked_for.add((rule, told))
         if (rule, told) not in self.said:
             self.said[rule, told] = Summary()
             self.grown = True
@@ -161,7 +170,7 @@ class Summaries:
         guarded = []
         for look in looks:
             for off in never_follow:
-                if occurs(off, look) and not (look[0] == 'but_not' and look[2] == off):
+                if occurs(off, look) and not barred(off, look):
                     look = ('but_not', look, off)
             guarded.append(look)
         return guarded

@@ -44,10 +44,17 @@ class Group:
 
 class Stream:
     """Token trees in a row, and their lookahead (computed once)."""
-    __slots__ = ('token', 'rest', 'known_lookahead')
+    __slots__ = ('token', 'rest', 'known_lookahead', 'known_looks', 'known_content')
 
     def __init__(self, token=None, rest=None):
-        self.token, self.rest, self.known_lookahead = token, rest, None
+        self.token, self.rest = token, rest
+        self.known_lookahead, self.known_looks, self.known_content = None, {}, None
+
+    def content(self):
+        """The content of the group that stands first."""
+        if self.known_content is None:
+            self.known_content = stream(self.token.content)
+        return self.known_content
 
     def trees(self, stop=None):
         """The trees before the rest `stop`, else all."""

@@ -2,7 +2,7 @@
 -- What each rule reads is what its form reads.
 use Rattle.std.specs.Prelude.{◌≡◌}
 use Rattle.syn_grammar.specs.Tokens.{Stream}
-use Rattle.syn_grammar.specs.Rules.{attributes, inner_attributes, no_attributes, meta, unsafe_path, unsafe_word, meta_value, module_path, module_words, visibility, restriction, type_path, type_words, type_arguments, return_type, generic_arguments, generic_argument, qualified_path, path_as_type, type, types, expression, generics, lifetime_parameter, lifetimes, parameter_bounds, bound, trait_bound, bound_lifetimes, lifetime_parameters, where_clause, predicates, predicate, predicate_bounds, fields_named, named_fields, named_field, nameless_fields, unnamed_field, unnamed_fields, fields_unnamed, variant, variants, structure, structure_rest, structure_body, enumeration, enumeration_rest, union_item, union_item_rest, derive_input}
+use Rattle.syn_grammar.specs.Rules.{attributes, inner_attributes, no_attributes, meta, unsafe_path, unsafe_word, meta_value, module_path, module_words, visibility, restriction, type_path, type_words, type_arguments, return_type, generic_arguments, generic_argument, qualified_path, path_as_type, type, types, expression, generics, lifetime_parameter, lifetimes, parameter_bounds, bound, trait_bound, bound_lifetimes, lifetime_parameters, where_clause, predicates, predicate, predicate_bounds, fields_named, named_fields, named_field, nameless_fields, unnamed_field, unnamed_fields, fields_unnamed, variant, variants, structure, structure_rest, structure_body, enumeration, enumeration_rest, union_item, union_item_rest, derive_input, expression_path, expression_words, qualified_expression_path, path_as_expression, macro_invocation, pattern, patterns, expressions, array_content, block, body, plain_body, no_inner_attributes, primary, block_like, if_expression, loop_expression, postfixes, member, unary, casts, cast, products, product, sums, sum, shifts, shift, bit_ands, bit_and, bit_xors, bit_xor, bit_ors, bit_or, compared, comparison, conjunctions, conjunction, disjunctions, disjunction, assigned, whole_expression, operand_rest, statements, statement_rest, after_block, after_expression, statement, statement_end, local}
 use Rattle.syn_grammar.specs.Grammar.{Node}
 use Rattle.syn_grammar.specs.Table.{table}
 use Rattle.syn_grammar.specs.Run.{wrap, parse_rule, parse_form}
@@ -160,3 +160,153 @@ union_item_rest_is = parse_rule_is union_item_rest
 
 pub derive_input_is : (ts : Stream) → parse_rule derive_input ts ≡ wrap Node (parse_form (table derive_input) ts)
 derive_input_is = parse_rule_is derive_input
+
+pub expression_path_is : (ts : Stream) → parse_rule expression_path ts ≡ wrap Node (parse_form (table expression_path) ts)
+expression_path_is = parse_rule_is expression_path
+
+pub expression_words_is : (ts : Stream) → parse_rule expression_words ts ≡ wrap Node (parse_form (table expression_words) ts)
+expression_words_is = parse_rule_is expression_words
+
+pub qualified_expression_path_is : (ts : Stream) → parse_rule qualified_expression_path ts ≡ wrap Node (parse_form (table qualified_expression_path) ts)
+qualified_expression_path_is = parse_rule_is qualified_expression_path
+
+pub path_as_expression_is : (ts : Stream) → parse_rule path_as_expression ts ≡ wrap Node (parse_form (table path_as_expression) ts)
+path_as_expression_is = parse_rule_is path_as_expression
+
+pub macro_invocation_is : (ts : Stream) → parse_rule macro_invocation ts ≡ wrap Node (parse_form (table macro_invocation) ts)
+macro_invocation_is = parse_rule_is macro_invocation
+
+pub pattern_is : (ts : Stream) → parse_rule pattern ts ≡ wrap Node (parse_form (table pattern) ts)
+pattern_is = parse_rule_is pattern
+
+pub patterns_is : (ts : Stream) → parse_rule patterns ts ≡ wrap Node (parse_form (table patterns) ts)
+patterns_is = parse_rule_is patterns
+
+pub expressions_is : (ts : Stream) → parse_rule expressions ts ≡ wrap Node (parse_form (table expressions) ts)
+expressions_is = parse_rule_is expressions
+
+pub array_content_is : (ts : Stream) → parse_rule array_content ts ≡ wrap Node (parse_form (table array_content) ts)
+array_content_is = parse_rule_is array_content
+
+pub block_is : (ts : Stream) → parse_rule block ts ≡ wrap Node (parse_form (table block) ts)
+block_is = parse_rule_is block
+
+pub body_is : (ts : Stream) → parse_rule body ts ≡ wrap Node (parse_form (table body) ts)
+body_is = parse_rule_is body
+
+pub plain_body_is : (ts : Stream) → parse_rule plain_body ts ≡ wrap Node (parse_form (table plain_body) ts)
+plain_body_is = parse_rule_is plain_body
+
+pub no_inner_attributes_is : (ts : Stream) → parse_rule no_inner_attributes ts ≡ wrap Node (parse_form (table no_inner_attributes) ts)
+no_inner_attributes_is = parse_rule_is no_inner_attributes
+
+pub primary_is : (ts : Stream) → parse_rule primary ts ≡ wrap Node (parse_form (table primary) ts)
+primary_is = parse_rule_is primary
+
+pub block_like_is : (ts : Stream) → parse_rule block_like ts ≡ wrap Node (parse_form (table block_like) ts)
+block_like_is = parse_rule_is block_like
+
+pub if_expression_is : (ts : Stream) → parse_rule if_expression ts ≡ wrap Node (parse_form (table if_expression) ts)
+if_expression_is = parse_rule_is if_expression
+
+pub loop_expression_is : (ts : Stream) → parse_rule loop_expression ts ≡ wrap Node (parse_form (table loop_expression) ts)
+loop_expression_is = parse_rule_is loop_expression
+
+pub postfixes_is : (ts : Stream) → parse_rule postfixes ts ≡ wrap Node (parse_form (table postfixes) ts)
+postfixes_is = parse_rule_is postfixes
+
+pub member_is : (ts : Stream) → parse_rule member ts ≡ wrap Node (parse_form (table member) ts)
+member_is = parse_rule_is member
+
+pub unary_is : (ts : Stream) → parse_rule unary ts ≡ wrap Node (parse_form (table unary) ts)
+unary_is = parse_rule_is unary
+
+pub casts_is : (ts : Stream) → parse_rule casts ts ≡ wrap Node (parse_form (table casts) ts)
+casts_is = parse_rule_is casts
+
+pub cast_is : (ts : Stream) → parse_rule cast ts ≡ wrap Node (parse_form (table cast) ts)
+cast_is = parse_rule_is cast
+
+pub products_is : (ts : Stream) → parse_rule products ts ≡ wrap Node (parse_form (table products) ts)
+products_is = parse_rule_is products
+
+pub product_is : (ts : Stream) → parse_rule product ts ≡ wrap Node (parse_form (table product) ts)
+product_is = parse_rule_is product
+
+pub sums_is : (ts : Stream) → parse_rule sums ts ≡ wrap Node (parse_form (table sums) ts)
+sums_is = parse_rule_is sums
+
+pub sum_is : (ts : Stream) → parse_rule sum ts ≡ wrap Node (parse_form (table sum) ts)
+sum_is = parse_rule_is sum
+
+pub shifts_is : (ts : Stream) → parse_rule shifts ts ≡ wrap Node (parse_form (table shifts) ts)
+shifts_is = parse_rule_is shifts
+
+pub shift_is : (ts : Stream) → parse_rule shift ts ≡ wrap Node (parse_form (table shift) ts)
+shift_is = parse_rule_is shift
+
+pub bit_ands_is : (ts : Stream) → parse_rule bit_ands ts ≡ wrap Node (parse_form (table bit_ands) ts)
+bit_ands_is = parse_rule_is bit_ands
+
+pub bit_and_is : (ts : Stream) → parse_rule bit_and ts ≡ wrap Node (parse_form (table bit_and) ts)
+bit_and_is = parse_rule_is bit_and
+
+pub bit_xors_is : (ts : Stream) → parse_rule bit_xors ts ≡ wrap Node (parse_form (table bit_xors) ts)
+bit_xors_is = parse_rule_is bit_xors
+
+pub bit_xor_is : (ts : Stream) → parse_rule bit_xor ts ≡ wrap Node (parse_form (table bit_xor) ts)
+bit_xor_is = parse_rule_is bit_xor
+
+pub bit_ors_is : (ts : Stream) → parse_rule bit_ors ts ≡ wrap Node (parse_form (table bit_ors) ts)
+bit_ors_is = parse_rule_is bit_ors
+
+pub bit_or_is : (ts : Stream) → parse_rule bit_or ts ≡ wrap Node (parse_form (table bit_or) ts)
+bit_or_is = parse_rule_is bit_or
+
+pub compared_is : (ts : Stream) → parse_rule compared ts ≡ wrap Node (parse_form (table compared) ts)
+compared_is = parse_rule_is compared
+
+pub comparison_is : (ts : Stream) → parse_rule comparison ts ≡ wrap Node (parse_form (table comparison) ts)
+comparison_is = parse_rule_is comparison
+
+pub conjunctions_is : (ts : Stream) → parse_rule conjunctions ts ≡ wrap Node (parse_form (table conjunctions) ts)
+conjunctions_is = parse_rule_is conjunctions
+
+pub conjunction_is : (ts : Stream) → parse_rule conjunction ts ≡ wrap Node (parse_form (table conjunction) ts)
+conjunction_is = parse_rule_is conjunction
+
+pub disjunctions_is : (ts : Stream) → parse_rule disjunctions ts ≡ wrap Node (parse_form (table disjunctions) ts)
+disjunctions_is = parse_rule_is disjunctions
+
+pub disjunction_is : (ts : Stream) → parse_rule disjunction ts ≡ wrap Node (parse_form (table disjunction) ts)
+disjunction_is = parse_rule_is disjunction
+
+pub assigned_is : (ts : Stream) → parse_rule assigned ts ≡ wrap Node (parse_form (table assigned) ts)
+assigned_is = parse_rule_is assigned
+
+pub whole_expression_is : (ts : Stream) → parse_rule whole_expression ts ≡ wrap Node (parse_form (table whole_expression) ts)
+whole_expression_is = parse_rule_is whole_expression
+
+pub operand_rest_is : (ts : Stream) → parse_rule operand_rest ts ≡ wrap Node (parse_form (table operand_rest) ts)
+operand_rest_is = parse_rule_is operand_rest
+
+pub statements_is : (ts : Stream) → parse_rule statements ts ≡ wrap Node (parse_form (table statements) ts)
+statements_is = parse_rule_is statements
+
+pub statement_rest_is : (ts : Stream) → parse_rule statement_rest ts ≡ wrap Node (parse_form (table statement_rest) ts)
+statement_rest_is = parse_rule_is statement_rest
+
+pub after_block_is : (ts : Stream) → parse_rule after_block ts ≡ wrap Node (parse_form (table after_block) ts)
+after_block_is = parse_rule_is after_block
+
+pub after_expression_is : (ts : Stream) → parse_rule after_expression ts ≡ wrap Node (parse_form (table after_expression) ts)
+after_expression_is = parse_rule_is after_expression
+
+pub statement_is : (ts : Stream) → parse_rule statement ts ≡ wrap Node (parse_form (table statement) ts)
+statement_is = parse_rule_is statement
+
+pub statement_end_is : (ts : Stream) → parse_rule statement_end ts ≡ wrap Node (parse_form (table statement_end) ts)
+statement_end_is = parse_rule_is statement_end
+
+pub local_is : (ts : Stream) → parse_rule local ts ≡ wrap Node (parse_form (table local) ts)
+local_is = parse_rule_is local

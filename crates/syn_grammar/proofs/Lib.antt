@@ -32,12 +32,17 @@ pub mod Turns
 pub mod PrintedValues
 pub mod Shown
 pub mod ExamplesOfAttributes
+mod ExamplesOfExpressions
 mod ExamplesOfFields
 mod ExamplesOfGenerics
 mod ExamplesOfItems
+mod ExamplesOfOperators
 mod ExamplesOfPaths
+mod ExamplesOfPatterns
+mod ExamplesOfStatements
 mod ExamplesOfTypes
 pub mod Shapes
+mod WorkedValues
 pub mod Same
 pub mod PlainValues
 pub mod Alone

@@ -38,8 +38,8 @@ onto_plain a (Shaped _ p) = refl
 onto_plain a _ = refl
 
 attributes_plain : (a b : Syntax) → plain_syntax (attributes_before a b) ≡ attributes_before (plain_syntax a) (plain_syntax b)
-attributes_plain (Node (Right Nothing)) b = refl
-attributes_plain (Node (Left (Both x (Both y k)))) b = ap (λ z. Node (Left (Both (plain_syntax x) (Both (plain_syntax y) z)))) (attributes_plain k b)
+attributes_plain (Node (Right (Unshown Nothing))) b = refl
+attributes_plain (Node (Left (Both x k))) b = ap (λ z. Node (Left (Both (plain_syntax x) z))) (attributes_plain k b)
 attributes_plain _ b = refl
 
 with_attributes_plain : (a s : Syntax) → plain_syntax (with_attributes a s) ≡ with_attributes (plain_syntax a) (plain_syntax s)
@@ -47,13 +47,13 @@ with_attributes_plain a (Shaped (expr v) (Both b s)) = ap (λ z. Shaped (expr v)
 with_attributes_plain a _ = refl
 
 with_label_plain : (a s : Syntax) → plain_syntax (with_label a s) ≡ with_label (plain_syntax a) (plain_syntax s)
-with_label_plain a (Shaped (expr v) (Both (Node (Right Nothing)) s)) = refl
+with_label_plain a (Shaped (expr v) (Both (Node (Right (Unshown Nothing))) s)) = refl
 with_label_plain a _ = refl
 
 moved_plain : (a s : Syntax) → plain_syntax (moved a s) ≡ moved (plain_syntax a) (plain_syntax s)
-moved_plain a (Shaped (expr Binary) (Both (Node (Right Nothing)) (Both l p))) = ap (λ z. new Binary (Both z (plain_syntax p))) (moved_plain a l)
-moved_plain a (Shaped (expr Assign) (Both (Node (Right Nothing)) (Both l p))) = ap (λ z. new Assign (Both z (plain_syntax p))) (moved_plain a l)
-moved_plain a (Shaped (expr Cast) (Both (Node (Right Nothing)) (Both l p))) = ap (λ z. new Cast (Both z (plain_syntax p))) (moved_plain a l)
+moved_plain a (Shaped (expr Binary) (Both (Node (Right (Unshown Nothing))) (Both l p))) = ap (λ z. new Binary (Both z (plain_syntax p))) (moved_plain a l)
+moved_plain a (Shaped (expr Assign) (Both (Node (Right (Unshown Nothing))) (Both l p))) = ap (λ z. new Assign (Both z (plain_syntax p))) (moved_plain a l)
+moved_plain a (Shaped (expr Cast) (Both (Node (Right (Unshown Nothing))) (Both l p))) = ap (λ z. new Cast (Both z (plain_syntax p))) (moved_plain a l)
 moved_plain a s = with_attributes_plain a s
 
 sentence_plain : (b : Bool) (e k : Syntax) → plain_syntax (sentence b e k) ≡ sentence b (plain_syntax e) (plain_syntax k)
@@ -66,9 +66,11 @@ moved_sentence b a e k = sentence_plain b (moved a e) k ∙ ap (λ z. sentence b
 
 alone_plain : (b : Bool) (a e t : Syntax) → plain_syntax (alone b a e t) ≡ alone b (plain_syntax a) (plain_syntax e) (plain_syntax t)
 alone_plain b a e (Mark xs) = moved_sentence b a e (Left (Mark xs))
+alone_plain b a e (Node t) = alone_plain b a e t
 alone_plain b a e (Left k) = moved_sentence b a e (Left k)
 alone_plain b a e (Right (Left (Both more t))) = alone_plain b a (onto e more) t ∙ ap (λ z. alone b (plain_syntax a) z (plain_syntax t)) (onto_plain e more)
 alone_plain b a e (Right (Right t)) = moved_sentence b a e (Right t)
+alone_plain b a e (Right (Node t)) = alone_plain b a e t
 alone_plain b a e t = moved_sentence b a e t
 
 going_on_plain : (b : Bool) (a e t : Syntax) → plain_syntax (going_on b a e t) ≡ going_on b (plain_syntax a) (plain_syntax e) (plain_syntax t)
@@ -76,6 +78,8 @@ going_on_plain b a e (Node t) = going_on_plain b a e t
 going_on_plain b a e (Left (Both k l)) = ap (λ z. listing z (plain_syntax l)) (moved_sentence b a e (Left k))
 going_on_plain b a e (Right (Left (Both more t))) = going_on_plain b a (onto e more) t ∙ ap (λ z. going_on b (plain_syntax a) z (plain_syntax t)) (onto_plain e more)
 going_on_plain b a e (Right (Right l)) = ap (λ z. listing z (plain_syntax l)) (moved_sentence b a e (Right Nothing))
+going_on_plain b a e (Right (Left Nothing)) = ap (λ z. listing z no_statements) (moved_sentence b a e (Right Nothing))
+going_on_plain b a e (Right (Node t)) = going_on_plain b a e t
 going_on_plain b a e t = ap (λ z. listing z no_statements) (moved_sentence b a e t)
 
 state_plain : (a s : Syntax) → plain_syntax (state a s) ≡ state (plain_syntax a) (plain_syntax s)

@@ -1,10 +1,10 @@
 -- Written by tools/grammar.py from specs/Table.antt; edits are lost.
 -- What the proofs say of each rule; the checker computes each line again.
 use Rattle.std.proofs.Common.{◌≡◌, Bool, true, false, [], ◌∷◌, refl, sym, true≢false}
-use Rattle.syn_grammar.specs.Words.{w_underscore, w_as, w_crate, w_enum, w_false, w_for, w_impl, w_in, w_pub, w_Self_type, w_self, w_struct, w_super, w_trait, w_true, w_unsafe, w_where, w_union, w_auto, w_default, w_safe, semicolon, equals, star, less, pound, ampersand, question, lifetime_mark, exclamation, colons, arrow, equal_equal, not_equals, less_less, less_equals, and_and, star_equals, ampersand_equals, less_less_equals}
-use Rattle.syn_grammar.specs.Tokens.{Paren, Brace, Bracket, None, Str, ByteStr, CStr, Byte, Char, Int, Float, Ended, Name, Word, Punctuation, Literal, Delimited, Before_equals, Bang_brace, Bang_name, Bang_group, ended, at_name, at_word, at_empty_group, ahead, ◌or_else◌, ◌and_also◌, ◌but_not◌, at_lifetime, at_path_rest}
-use Rattle.syn_grammar.specs.Rules.{Rule, attributes, inner_attributes, no_attributes, meta, unsafe_path, unsafe_word, meta_value, module_path, module_words, visibility, restriction, type_path, type_words, type_arguments, return_type, generic_arguments, generic_argument, qualified_path, path_as_type, type, types, expression, generics, lifetime_parameter, lifetimes, parameter_bounds, bound, trait_bound, bound_lifetimes, lifetime_parameters, where_clause, predicates, predicate, predicate_bounds, fields_named, named_fields, named_field, nameless_fields, unnamed_field, unnamed_fields, fields_unnamed, variant, variants, structure, structure_rest, structure_body, enumeration, enumeration_rest, union_item, union_item_rest, derive_input}
-use Rattle.syn_grammar.specs.Table.{at_colons, at_colon, at_equals, at_comma, at_pound, at_inner_attribute, at_plus, at_less, at_less_only, at_greater, at_arrow, at_paren, at_brace, at_bracket, at_arguments, at_restriction, at_parameter_end, at_predicate_end, table}
+use Rattle.syn_grammar.specs.Words.{w_underscore, w_as, w_break, w_continue, w_crate, w_else, w_enum, w_false, w_for, w_if, w_impl, w_in, w_let, w_loop, w_mut, w_pub, w_ref, w_return, w_Self_type, w_self, w_struct, w_super, w_trait, w_true, w_unsafe, w_where, w_while, w_union, w_auto, w_default, w_safe, semicolon, equals, plus, star, less, greater, pound, ampersand, question, lifetime_mark, exclamation, minus, dot, colons, arrow, equal_equal, not_equals, less_less, less_equals, bar, slash, percent, and_and, or_or, greater_greater, greater_equals, plus_equals, minus_equals, star_equals, slash_equals, percent_equals, caret_equals, ampersand_equals, bar_equals, less_less_equals, greater_greater_equals, caret}
+use Rattle.syn_grammar.specs.Tokens.{Paren, Brace, Bracket, None, Str, ByteStr, CStr, Byte, Char, Int, Float, Ended, Name, Word, Punctuation, Literal, Delimited, Before_equals, Bang_brace, Bang_name, Before_macro, ended, at_name, at_word, at_mark, at_empty_group, ahead, ◌or_else◌, ◌and_also◌, ◌but_not◌, at_lifetime, at_path_rest}
+use Rattle.syn_grammar.specs.Rules.{Rule, attributes, inner_attributes, no_attributes, meta, unsafe_path, unsafe_word, meta_value, module_path, module_words, visibility, restriction, type_path, type_words, type_arguments, return_type, generic_arguments, generic_argument, qualified_path, path_as_type, type, types, expression, generics, lifetime_parameter, lifetimes, parameter_bounds, bound, trait_bound, bound_lifetimes, lifetime_parameters, where_clause, predicates, predicate, predicate_bounds, fields_named, named_fields, named_field, nameless_fields, unnamed_field, unnamed_fields, fields_unnamed, variant, variants, structure, structure_rest, structure_body, enumeration, enumeration_rest, union_item, union_item_rest, derive_input, expression_path, expression_words, qualified_expression_path, path_as_expression, macro_invocation, pattern, patterns, expressions, array_content, block, body, plain_body, no_inner_attributes, primary, block_like, if_expression, loop_expression, postfixes, member, unary, casts, cast, products, product, sums, sum, shifts, shift, bit_ands, bit_and, bit_xors, bit_xor, bit_ors, bit_or, compared, comparison, conjunctions, conjunction, disjunctions, disjunction, assigned, whole_expression, operand_rest, statements, statement_rest, after_block, after_expression, statement, statement_end, local}
+use Rattle.syn_grammar.specs.Table.{at_colons, at_colon, at_equals, at_comma, at_semicolon, at_pound, at_inner_attribute, at_plus, at_less, at_less_only, at_greater, at_question, at_arrow, at_paren, at_brace, at_bracket, at_arguments, at_restriction, at_parameter_end, at_predicate_end, at_bang, at_dot, at_postfix_mark, at_turbofish, at_whole_expression, at_unfinished, at_star_operator, at_slash_operator, at_percent_operator, at_plus_operator, at_minus_operator, at_less_less_operator, at_greater_greater_operator, at_ampersand_operator, at_caret_operator, at_bar_operator, at_less_operator, at_greater_operator, at_equals_operator, table}
 use Rattle.syn_grammar.proofs.FirstSets.{Start, IsSaid}
 use Rattle.syn_grammar.proofs.NeverFollow.{IsOff}
 use Rattle.syn_grammar.proofs.Extend.{closes}
@@ -66,6 +66,56 @@ start_of enumeration_rest = record { first_set = Delimited None true ∷ Word w_
 start_of union_item = record { first_set = Punctuation pound ∷ Delimited None true ∷ Word w_pub ∷ Word w_union ∷ []; nullable = false; never_follow = [] }
 start_of union_item_rest = record { first_set = Delimited None true ∷ Word w_pub ∷ Word w_union ∷ []; nullable = false; never_follow = [] }
 start_of derive_input = record { first_set = Delimited None true ∷ Punctuation pound ∷ Word w_pub ∷ Word w_struct ∷ Word w_enum ∷ Word w_union ∷ []; nullable = false; never_follow = [] }
+start_of expression_path = record { first_set = Punctuation colons ∷ Name ∷ Word w_Self_type ∷ Word w_auto ∷ Word w_crate ∷ Word w_default ∷ Word w_safe ∷ Word w_self ∷ Word w_super ∷ Word w_union ∷ []; nullable = false; never_follow = at_colons ∷ [] }
+start_of expression_words = record { first_set = Name ∷ Word w_union ∷ Word w_auto ∷ Word w_default ∷ Word w_safe ∷ Word w_Self_type ∷ Word w_self ∷ Word w_super ∷ Word w_crate ∷ []; nullable = false; never_follow = at_colons ∷ [] }
+start_of qualified_expression_path = record { first_set = Punctuation less ∷ Punctuation less_less_equals ∷ Punctuation less_equals ∷ Punctuation less_less ∷ []; nullable = false; never_follow = at_colons ∷ [] }
+start_of path_as_expression = record { first_set = Punctuation less ∷ Punctuation less_less ∷ Punctuation less_less_equals ∷ Punctuation less_equals ∷ Name ∷ Punctuation colons ∷ Word w_Self_type ∷ Word w_auto ∷ Word w_crate ∷ Word w_default ∷ Word w_safe ∷ Word w_self ∷ Word w_super ∷ Word w_union ∷ []; nullable = false; never_follow = at_colons ∷ [] }
+start_of macro_invocation = record { first_set = Name ∷ Punctuation colons ∷ Word w_Self_type ∷ Word w_auto ∷ Word w_crate ∷ Word w_default ∷ Word w_safe ∷ Word w_self ∷ Word w_super ∷ Word w_union ∷ []; nullable = false; never_follow = [] }
+start_of pattern = record { first_set = Word w_underscore ∷ Delimited Paren false ∷ Name ∷ Punctuation colons ∷ Punctuation less ∷ Punctuation less_less ∷ Punctuation less_less_equals ∷ Punctuation less_equals ∷ Word w_Self_type ∷ Word w_auto ∷ Word w_crate ∷ Word w_default ∷ Word w_safe ∷ Word w_self ∷ Word w_super ∷ Word w_union ∷ Word w_ref ∷ Word w_mut ∷ []; nullable = false; never_follow = [] }
+start_of patterns = record { first_set = Delimited Paren false ∷ Name ∷ Punctuation colons ∷ Punctuation less ∷ Punctuation less_less ∷ Punctuation less_less_equals ∷ Punctuation less_equals ∷ Word w_Self_type ∷ Word w_underscore ∷ Word w_auto ∷ Word w_crate ∷ Word w_default ∷ Word w_mut ∷ Word w_ref ∷ Word w_safe ∷ Word w_self ∷ Word w_super ∷ Word w_union ∷ []; nullable = true; never_follow = [] }
+start_of expressions = record { first_set = Delimited Brace false ∷ Delimited Bracket false ∷ Delimited None false ∷ Delimited None true ∷ Delimited Paren false ∷ Literal Byte ∷ Literal ByteStr ∷ Literal CStr ∷ Literal Char ∷ Literal Float ∷ Literal Int ∷ Literal Str ∷ Name ∷ Punctuation exclamation ∷ Punctuation not_equals ∷ Punctuation pound ∷ Punctuation ampersand ∷ Punctuation and_and ∷ Punctuation ampersand_equals ∷ Punctuation lifetime_mark ∷ Punctuation star ∷ Punctuation star_equals ∷ Punctuation minus ∷ Punctuation minus_equals ∷ Punctuation arrow ∷ Punctuation colons ∷ Punctuation less ∷ Punctuation less_less ∷ Punctuation less_less_equals ∷ Punctuation less_equals ∷ Word w_Self_type ∷ Word w_auto ∷ Word w_break ∷ Word w_continue ∷ Word w_crate ∷ Word w_default ∷ Word w_false ∷ Word w_for ∷ Word w_if ∷ Word w_loop ∷ Word w_return ∷ Word w_safe ∷ Word w_self ∷ Word w_super ∷ Word w_true ∷ Word w_union ∷ Word w_unsafe ∷ Word w_while ∷ []; nullable = true; never_follow = [] }
+start_of array_content = record { first_set = Delimited Brace false ∷ Delimited Bracket false ∷ Delimited None false ∷ Delimited None true ∷ Delimited Paren false ∷ Literal Byte ∷ Literal ByteStr ∷ Literal CStr ∷ Literal Char ∷ Literal Float ∷ Literal Int ∷ Literal Str ∷ Name ∷ Punctuation exclamation ∷ Punctuation not_equals ∷ Punctuation pound ∷ Punctuation ampersand ∷ Punctuation and_and ∷ Punctuation ampersand_equals ∷ Punctuation lifetime_mark ∷ Punctuation star ∷ Punctuation star_equals ∷ Punctuation minus ∷ Punctuation minus_equals ∷ Punctuation arrow ∷ Punctuation colons ∷ Punctuation less ∷ Punctuation less_less ∷ Punctuation less_less_equals ∷ Punctuation less_equals ∷ Word w_Self_type ∷ Word w_auto ∷ Word w_break ∷ Word w_continue ∷ Word w_crate ∷ Word w_default ∷ Word w_false ∷ Word w_for ∷ Word w_if ∷ Word w_loop ∷ Word w_return ∷ Word w_safe ∷ Word w_self ∷ Word w_super ∷ Word w_true ∷ Word w_union ∷ Word w_unsafe ∷ Word w_while ∷ []; nullable = true; never_follow = [] }
+start_of block = record { first_set = Delimited Brace false ∷ []; nullable = false; never_follow = [] }
+start_of body = record { first_set = Delimited Brace false ∷ []; nullable = false; never_follow = [] }
+start_of plain_body = record { first_set = Delimited Brace false ∷ []; nullable = false; never_follow = [] }
+start_of no_inner_attributes = record { first_set = []; nullable = true; never_follow = at_inner_attribute ∷ [] }
+start_of primary = record { first_set = Word w_true ∷ Word w_false ∷ Literal Str ∷ Literal ByteStr ∷ Literal CStr ∷ Literal Byte ∷ Literal Char ∷ Literal Int ∷ Literal Float ∷ Name ∷ Punctuation colons ∷ Word w_Self_type ∷ Word w_auto ∷ Word w_crate ∷ Word w_default ∷ Word w_safe ∷ Word w_self ∷ Word w_super ∷ Word w_union ∷ Delimited Paren false ∷ Delimited Bracket false ∷ Delimited None false ∷ Delimited None true ∷ Delimited Brace false ∷ Punctuation lifetime_mark ∷ Word w_for ∷ Word w_if ∷ Word w_loop ∷ Word w_unsafe ∷ Word w_while ∷ Word w_return ∷ Word w_break ∷ Word w_continue ∷ Punctuation less ∷ Punctuation less_less ∷ Punctuation less_less_equals ∷ Punctuation less_equals ∷ []; nullable = false; never_follow = [] }
+start_of block_like = record { first_set = Word w_if ∷ Word w_unsafe ∷ Punctuation lifetime_mark ∷ Delimited Brace false ∷ Word w_for ∷ Word w_loop ∷ Word w_while ∷ []; nullable = false; never_follow = [] }
+start_of if_expression = record { first_set = Word w_if ∷ []; nullable = false; never_follow = [] }
+start_of loop_expression = record { first_set = Word w_loop ∷ Word w_while ∷ Word w_for ∷ []; nullable = false; never_follow = [] }
+start_of postfixes = record { first_set = Delimited Paren false ∷ Delimited Bracket false ∷ Punctuation question ∷ Punctuation dot ∷ []; nullable = true; never_follow = at_paren ∷ at_bracket ∷ at_question ∷ at_dot ∷ [] }
+start_of member = record { first_set = Literal Int ∷ Name ∷ Word w_union ∷ Word w_auto ∷ Word w_default ∷ Word w_safe ∷ []; nullable = false; never_follow = [] }
+start_of unary = record { first_set = Punctuation pound ∷ Punctuation minus ∷ Punctuation arrow ∷ Punctuation minus_equals ∷ Punctuation exclamation ∷ Punctuation not_equals ∷ Punctuation star ∷ Punctuation star_equals ∷ Punctuation ampersand ∷ Punctuation and_and ∷ Punctuation ampersand_equals ∷ Delimited Brace false ∷ Delimited Bracket false ∷ Delimited None false ∷ Delimited None true ∷ Delimited Paren false ∷ Literal Byte ∷ Literal ByteStr ∷ Literal CStr ∷ Literal Char ∷ Literal Float ∷ Literal Int ∷ Literal Str ∷ Name ∷ Punctuation lifetime_mark ∷ Punctuation colons ∷ Punctuation less ∷ Punctuation less_less ∷ Punctuation less_less_equals ∷ Punctuation less_equals ∷ Word w_Self_type ∷ Word w_auto ∷ Word w_break ∷ Word w_continue ∷ Word w_crate ∷ Word w_default ∷ Word w_false ∷ Word w_for ∷ Word w_if ∷ Word w_loop ∷ Word w_return ∷ Word w_safe ∷ Word w_self ∷ Word w_super ∷ Word w_true ∷ Word w_union ∷ Word w_unsafe ∷ Word w_while ∷ []; nullable = false; never_follow = at_paren ∷ at_bracket ∷ at_question ∷ at_dot ∷ [] }
+start_of casts = record { first_set = Word w_as ∷ []; nullable = true; never_follow = at_word w_as ∷ [] }
+start_of cast = record { first_set = Delimited Brace false ∷ Delimited Bracket false ∷ Delimited None false ∷ Delimited None true ∷ Delimited Paren false ∷ Literal Byte ∷ Literal ByteStr ∷ Literal CStr ∷ Literal Char ∷ Literal Float ∷ Literal Int ∷ Literal Str ∷ Name ∷ Punctuation exclamation ∷ Punctuation not_equals ∷ Punctuation pound ∷ Punctuation ampersand ∷ Punctuation and_and ∷ Punctuation ampersand_equals ∷ Punctuation lifetime_mark ∷ Punctuation star ∷ Punctuation star_equals ∷ Punctuation minus ∷ Punctuation minus_equals ∷ Punctuation arrow ∷ Punctuation colons ∷ Punctuation less ∷ Punctuation less_less ∷ Punctuation less_less_equals ∷ Punctuation less_equals ∷ Word w_Self_type ∷ Word w_auto ∷ Word w_break ∷ Word w_continue ∷ Word w_crate ∷ Word w_default ∷ Word w_false ∷ Word w_for ∷ Word w_if ∷ Word w_loop ∷ Word w_return ∷ Word w_safe ∷ Word w_self ∷ Word w_super ∷ Word w_true ∷ Word w_union ∷ Word w_unsafe ∷ Word w_while ∷ []; nullable = false; never_follow = at_word w_as ∷ [] }
+start_of products = record { first_set = Punctuation star ∷ Punctuation slash ∷ Punctuation percent ∷ []; nullable = true; never_follow = at_star_operator ∷ at_slash_operator ∷ at_percent_operator ∷ [] }
+start_of product = record { first_set = Delimited Brace false ∷ Delimited Bracket false ∷ Delimited None false ∷ Delimited None true ∷ Delimited Paren false ∷ Literal Byte ∷ Literal ByteStr ∷ Literal CStr ∷ Literal Char ∷ Literal Float ∷ Literal Int ∷ Literal Str ∷ Name ∷ Punctuation exclamation ∷ Punctuation not_equals ∷ Punctuation pound ∷ Punctuation ampersand ∷ Punctuation and_and ∷ Punctuation ampersand_equals ∷ Punctuation lifetime_mark ∷ Punctuation star ∷ Punctuation star_equals ∷ Punctuation minus ∷ Punctuation minus_equals ∷ Punctuation arrow ∷ Punctuation colons ∷ Punctuation less ∷ Punctuation less_less ∷ Punctuation less_less_equals ∷ Punctuation less_equals ∷ Word w_Self_type ∷ Word w_auto ∷ Word w_break ∷ Word w_continue ∷ Word w_crate ∷ Word w_default ∷ Word w_false ∷ Word w_for ∷ Word w_if ∷ Word w_loop ∷ Word w_return ∷ Word w_safe ∷ Word w_self ∷ Word w_super ∷ Word w_true ∷ Word w_union ∷ Word w_unsafe ∷ Word w_while ∷ []; nullable = false; never_follow = at_star_operator ∷ at_slash_operator ∷ at_percent_operator ∷ [] }
+start_of sums = record { first_set = Punctuation plus ∷ Punctuation minus ∷ Punctuation arrow ∷ []; nullable = true; never_follow = at_plus_operator ∷ at_minus_operator ∷ [] }
+start_of sum = record { first_set = Delimited Brace false ∷ Delimited Bracket false ∷ Delimited None false ∷ Delimited None true ∷ Delimited Paren false ∷ Literal Byte ∷ Literal ByteStr ∷ Literal CStr ∷ Literal Char ∷ Literal Float ∷ Literal Int ∷ Literal Str ∷ Name ∷ Punctuation exclamation ∷ Punctuation not_equals ∷ Punctuation pound ∷ Punctuation ampersand ∷ Punctuation and_and ∷ Punctuation ampersand_equals ∷ Punctuation lifetime_mark ∷ Punctuation star ∷ Punctuation star_equals ∷ Punctuation minus ∷ Punctuation minus_equals ∷ Punctuation arrow ∷ Punctuation colons ∷ Punctuation less ∷ Punctuation less_less ∷ Punctuation less_less_equals ∷ Punctuation less_equals ∷ Word w_Self_type ∷ Word w_auto ∷ Word w_break ∷ Word w_continue ∷ Word w_crate ∷ Word w_default ∷ Word w_false ∷ Word w_for ∷ Word w_if ∷ Word w_loop ∷ Word w_return ∷ Word w_safe ∷ Word w_self ∷ Word w_super ∷ Word w_true ∷ Word w_union ∷ Word w_unsafe ∷ Word w_while ∷ []; nullable = false; never_follow = at_plus_operator ∷ at_minus_operator ∷ [] }
+start_of shifts = record { first_set = Punctuation less_less ∷ Punctuation greater_greater ∷ []; nullable = true; never_follow = at_less_less_operator ∷ at_greater_greater_operator ∷ [] }
+start_of shift = record { first_set = Delimited Brace false ∷ Delimited Bracket false ∷ Delimited None false ∷ Delimited None true ∷ Delimited Paren false ∷ Literal Byte ∷ Literal ByteStr ∷ Literal CStr ∷ Literal Char ∷ Literal Float ∷ Literal Int ∷ Literal Str ∷ Name ∷ Punctuation exclamation ∷ Punctuation not_equals ∷ Punctuation pound ∷ Punctuation ampersand ∷ Punctuation and_and ∷ Punctuation ampersand_equals ∷ Punctuation lifetime_mark ∷ Punctuation star ∷ Punctuation star_equals ∷ Punctuation minus ∷ Punctuation minus_equals ∷ Punctuation arrow ∷ Punctuation colons ∷ Punctuation less ∷ Punctuation less_less ∷ Punctuation less_less_equals ∷ Punctuation less_equals ∷ Word w_Self_type ∷ Word w_auto ∷ Word w_break ∷ Word w_continue ∷ Word w_crate ∷ Word w_default ∷ Word w_false ∷ Word w_for ∷ Word w_if ∷ Word w_loop ∷ Word w_return ∷ Word w_safe ∷ Word w_self ∷ Word w_super ∷ Word w_true ∷ Word w_union ∷ Word w_unsafe ∷ Word w_while ∷ []; nullable = false; never_follow = at_less_less_operator ∷ at_greater_greater_operator ∷ [] }
+start_of bit_ands = record { first_set = Punctuation ampersand ∷ []; nullable = true; never_follow = at_ampersand_operator ∷ [] }
+start_of bit_and = record { first_set = Delimited Brace false ∷ Delimited Bracket false ∷ Delimited None false ∷ Delimited None true ∷ Delimited Paren false ∷ Literal Byte ∷ Literal ByteStr ∷ Literal CStr ∷ Literal Char ∷ Literal Float ∷ Literal Int ∷ Literal Str ∷ Name ∷ Punctuation exclamation ∷ Punctuation not_equals ∷ Punctuation pound ∷ Punctuation ampersand ∷ Punctuation and_and ∷ Punctuation ampersand_equals ∷ Punctuation lifetime_mark ∷ Punctuation star ∷ Punctuation star_equals ∷ Punctuation minus ∷ Punctuation minus_equals ∷ Punctuation arrow ∷ Punctuation colons ∷ Punctuation less ∷ Punctuation less_less ∷ Punctuation less_less_equals ∷ Punctuation less_equals ∷ Word w_Self_type ∷ Word w_auto ∷ Word w_break ∷ Word w_continue ∷ Word w_crate ∷ Word w_default ∷ Word w_false ∷ Word w_for ∷ Word w_if ∷ Word w_loop ∷ Word w_return ∷ Word w_safe ∷ Word w_self ∷ Word w_super ∷ Word w_true ∷ Word w_union ∷ Word w_unsafe ∷ Word w_while ∷ []; nullable = false; never_follow = at_ampersand_operator ∷ [] }
+start_of bit_xors = record { first_set = Punctuation caret ∷ []; nullable = true; never_follow = at_caret_operator ∷ [] }
+start_of bit_xor = record { first_set = Delimited Brace false ∷ Delimited Bracket false ∷ Delimited None false ∷ Delimited None true ∷ Delimited Paren false ∷ Literal Byte ∷ Literal ByteStr ∷ Literal CStr ∷ Literal Char ∷ Literal Float ∷ Literal Int ∷ Literal Str ∷ Name ∷ Punctuation exclamation ∷ Punctuation not_equals ∷ Punctuation pound ∷ Punctuation ampersand ∷ Punctuation and_and ∷ Punctuation ampersand_equals ∷ Punctuation lifetime_mark ∷ Punctuation star ∷ Punctuation star_equals ∷ Punctuation minus ∷ Punctuation minus_equals ∷ Punctuation arrow ∷ Punctuation colons ∷ Punctuation less ∷ Punctuation less_less ∷ Punctuation less_less_equals ∷ Punctuation less_equals ∷ Word w_Self_type ∷ Word w_auto ∷ Word w_break ∷ Word w_continue ∷ Word w_crate ∷ Word w_default ∷ Word w_false ∷ Word w_for ∷ Word w_if ∷ Word w_loop ∷ Word w_return ∷ Word w_safe ∷ Word w_self ∷ Word w_super ∷ Word w_true ∷ Word w_union ∷ Word w_unsafe ∷ Word w_while ∷ []; nullable = false; never_follow = at_caret_operator ∷ [] }
+start_of bit_ors = record { first_set = Punctuation bar ∷ []; nullable = true; never_follow = at_bar_operator ∷ [] }
+start_of bit_or = record { first_set = Delimited Brace false ∷ Delimited Bracket false ∷ Delimited None false ∷ Delimited None true ∷ Delimited Paren false ∷ Literal Byte ∷ Literal ByteStr ∷ Literal CStr ∷ Literal Char ∷ Literal Float ∷ Literal Int ∷ Literal Str ∷ Name ∷ Punctuation exclamation ∷ Punctuation not_equals ∷ Punctuation pound ∷ Punctuation ampersand ∷ Punctuation and_and ∷ Punctuation ampersand_equals ∷ Punctuation lifetime_mark ∷ Punctuation star ∷ Punctuation star_equals ∷ Punctuation minus ∷ Punctuation minus_equals ∷ Punctuation arrow ∷ Punctuation colons ∷ Punctuation less ∷ Punctuation less_less ∷ Punctuation less_less_equals ∷ Punctuation less_equals ∷ Word w_Self_type ∷ Word w_auto ∷ Word w_break ∷ Word w_continue ∷ Word w_crate ∷ Word w_default ∷ Word w_false ∷ Word w_for ∷ Word w_if ∷ Word w_loop ∷ Word w_return ∷ Word w_safe ∷ Word w_self ∷ Word w_super ∷ Word w_true ∷ Word w_union ∷ Word w_unsafe ∷ Word w_while ∷ []; nullable = false; never_follow = at_bar_operator ∷ [] }
+start_of compared = record { first_set = Punctuation equal_equal ∷ Punctuation not_equals ∷ Punctuation less ∷ Punctuation greater ∷ Punctuation less_equals ∷ Punctuation greater_equals ∷ []; nullable = true; never_follow = [] }
+start_of comparison = record { first_set = Delimited Brace false ∷ Delimited Bracket false ∷ Delimited None false ∷ Delimited None true ∷ Delimited Paren false ∷ Literal Byte ∷ Literal ByteStr ∷ Literal CStr ∷ Literal Char ∷ Literal Float ∷ Literal Int ∷ Literal Str ∷ Name ∷ Punctuation exclamation ∷ Punctuation not_equals ∷ Punctuation pound ∷ Punctuation ampersand ∷ Punctuation and_and ∷ Punctuation ampersand_equals ∷ Punctuation lifetime_mark ∷ Punctuation star ∷ Punctuation star_equals ∷ Punctuation minus ∷ Punctuation minus_equals ∷ Punctuation arrow ∷ Punctuation colons ∷ Punctuation less ∷ Punctuation less_less ∷ Punctuation less_less_equals ∷ Punctuation less_equals ∷ Word w_Self_type ∷ Word w_auto ∷ Word w_break ∷ Word w_continue ∷ Word w_crate ∷ Word w_default ∷ Word w_false ∷ Word w_for ∷ Word w_if ∷ Word w_loop ∷ Word w_return ∷ Word w_safe ∷ Word w_self ∷ Word w_super ∷ Word w_true ∷ Word w_union ∷ Word w_unsafe ∷ Word w_while ∷ []; nullable = false; never_follow = [] }
+start_of conjunctions = record { first_set = Punctuation and_and ∷ []; nullable = true; never_follow = at_mark and_and ∷ [] }
+start_of conjunction = record { first_set = Delimited Brace false ∷ Delimited Bracket false ∷ Delimited None false ∷ Delimited None true ∷ Delimited Paren false ∷ Literal Byte ∷ Literal ByteStr ∷ Literal CStr ∷ Literal Char ∷ Literal Float ∷ Literal Int ∷ Literal Str ∷ Name ∷ Punctuation exclamation ∷ Punctuation not_equals ∷ Punctuation pound ∷ Punctuation ampersand ∷ Punctuation and_and ∷ Punctuation ampersand_equals ∷ Punctuation lifetime_mark ∷ Punctuation star ∷ Punctuation star_equals ∷ Punctuation minus ∷ Punctuation minus_equals ∷ Punctuation arrow ∷ Punctuation colons ∷ Punctuation less ∷ Punctuation less_less ∷ Punctuation less_less_equals ∷ Punctuation less_equals ∷ Word w_Self_type ∷ Word w_auto ∷ Word w_break ∷ Word w_continue ∷ Word w_crate ∷ Word w_default ∷ Word w_false ∷ Word w_for ∷ Word w_if ∷ Word w_loop ∷ Word w_return ∷ Word w_safe ∷ Word w_self ∷ Word w_super ∷ Word w_true ∷ Word w_union ∷ Word w_unsafe ∷ Word w_while ∷ []; nullable = false; never_follow = at_mark and_and ∷ [] }
+start_of disjunctions = record { first_set = Punctuation or_or ∷ []; nullable = true; never_follow = at_mark or_or ∷ [] }
+start_of disjunction = record { first_set = Delimited Brace false ∷ Delimited Bracket false ∷ Delimited None false ∷ Delimited None true ∷ Delimited Paren false ∷ Literal Byte ∷ Literal ByteStr ∷ Literal CStr ∷ Literal Char ∷ Literal Float ∷ Literal Int ∷ Literal Str ∷ Name ∷ Punctuation exclamation ∷ Punctuation not_equals ∷ Punctuation pound ∷ Punctuation ampersand ∷ Punctuation and_and ∷ Punctuation ampersand_equals ∷ Punctuation lifetime_mark ∷ Punctuation star ∷ Punctuation star_equals ∷ Punctuation minus ∷ Punctuation minus_equals ∷ Punctuation arrow ∷ Punctuation colons ∷ Punctuation less ∷ Punctuation less_less ∷ Punctuation less_less_equals ∷ Punctuation less_equals ∷ Word w_Self_type ∷ Word w_auto ∷ Word w_break ∷ Word w_continue ∷ Word w_crate ∷ Word w_default ∷ Word w_false ∷ Word w_for ∷ Word w_if ∷ Word w_loop ∷ Word w_return ∷ Word w_safe ∷ Word w_self ∷ Word w_super ∷ Word w_true ∷ Word w_union ∷ Word w_unsafe ∷ Word w_while ∷ []; nullable = false; never_follow = at_mark or_or ∷ [] }
+start_of assigned = record { first_set = Punctuation equals ∷ Punctuation (61 ∷ 62 ∷ []) ∷ Punctuation plus_equals ∷ Punctuation minus_equals ∷ Punctuation star_equals ∷ Punctuation slash_equals ∷ Punctuation percent_equals ∷ Punctuation caret_equals ∷ Punctuation ampersand_equals ∷ Punctuation bar_equals ∷ Punctuation less_less_equals ∷ Punctuation greater_greater_equals ∷ []; nullable = true; never_follow = [] }
+start_of whole_expression = record { first_set = Delimited Brace false ∷ Delimited Bracket false ∷ Delimited None false ∷ Delimited None true ∷ Delimited Paren false ∷ Literal Byte ∷ Literal ByteStr ∷ Literal CStr ∷ Literal Char ∷ Literal Float ∷ Literal Int ∷ Literal Str ∷ Name ∷ Punctuation exclamation ∷ Punctuation not_equals ∷ Punctuation pound ∷ Punctuation ampersand ∷ Punctuation and_and ∷ Punctuation ampersand_equals ∷ Punctuation lifetime_mark ∷ Punctuation star ∷ Punctuation star_equals ∷ Punctuation minus ∷ Punctuation minus_equals ∷ Punctuation arrow ∷ Punctuation colons ∷ Punctuation less ∷ Punctuation less_less ∷ Punctuation less_less_equals ∷ Punctuation less_equals ∷ Word w_Self_type ∷ Word w_auto ∷ Word w_break ∷ Word w_continue ∷ Word w_crate ∷ Word w_default ∷ Word w_false ∷ Word w_for ∷ Word w_if ∷ Word w_loop ∷ Word w_return ∷ Word w_safe ∷ Word w_self ∷ Word w_super ∷ Word w_true ∷ Word w_union ∷ Word w_unsafe ∷ Word w_while ∷ []; nullable = false; never_follow = at_unfinished ∷ [] }
+start_of operand_rest = record { first_set = Delimited Bracket false ∷ Delimited Paren false ∷ Punctuation dot ∷ Punctuation question ∷ Word w_as ∷ Punctuation percent ∷ Punctuation star ∷ Punctuation slash ∷ Punctuation plus ∷ Punctuation minus ∷ Punctuation arrow ∷ Punctuation less_less ∷ Punctuation greater_greater ∷ Punctuation ampersand ∷ Punctuation caret ∷ Punctuation bar ∷ Punctuation not_equals ∷ Punctuation less ∷ Punctuation less_equals ∷ Punctuation equal_equal ∷ Punctuation greater ∷ Punctuation greater_equals ∷ Punctuation and_and ∷ Punctuation or_or ∷ Punctuation percent_equals ∷ Punctuation ampersand_equals ∷ Punctuation star_equals ∷ Punctuation plus_equals ∷ Punctuation minus_equals ∷ Punctuation slash_equals ∷ Punctuation less_less_equals ∷ Punctuation equals ∷ Punctuation (61 ∷ 62 ∷ []) ∷ Punctuation greater_greater_equals ∷ Punctuation caret_equals ∷ Punctuation bar_equals ∷ []; nullable = true; never_follow = [] }
+start_of statements = record { first_set = Punctuation semicolon ∷ Punctuation pound ∷ Delimited Brace false ∷ Delimited Bracket false ∷ Delimited None false ∷ Delimited None true ∷ Delimited Paren false ∷ Literal Byte ∷ Literal ByteStr ∷ Literal CStr ∷ Literal Char ∷ Literal Float ∷ Literal Int ∷ Literal Str ∷ Name ∷ Punctuation exclamation ∷ Punctuation not_equals ∷ Punctuation ampersand ∷ Punctuation and_and ∷ Punctuation ampersand_equals ∷ Punctuation lifetime_mark ∷ Punctuation star ∷ Punctuation star_equals ∷ Punctuation minus ∷ Punctuation minus_equals ∷ Punctuation arrow ∷ Punctuation colons ∷ Punctuation less ∷ Punctuation less_less ∷ Punctuation less_less_equals ∷ Punctuation less_equals ∷ Word w_Self_type ∷ Word w_auto ∷ Word w_break ∷ Word w_continue ∷ Word w_crate ∷ Word w_default ∷ Word w_false ∷ Word w_for ∷ Word w_if ∷ Word w_let ∷ Word w_loop ∷ Word w_return ∷ Word w_safe ∷ Word w_self ∷ Word w_super ∷ Word w_true ∷ Word w_union ∷ Word w_unsafe ∷ Word w_while ∷ []; nullable = true; never_follow = [] }
+start_of statement_rest = record { first_set = Word w_crate ∷ Name ∷ Punctuation colons ∷ Word w_Self_type ∷ Word w_auto ∷ Word w_default ∷ Word w_safe ∷ Word w_self ∷ Word w_super ∷ Word w_union ∷ Word w_let ∷ Delimited Brace false ∷ Punctuation lifetime_mark ∷ Word w_for ∷ Word w_if ∷ Word w_loop ∷ Word w_unsafe ∷ Word w_while ∷ Delimited Bracket false ∷ Delimited None false ∷ Delimited None true ∷ Delimited Paren false ∷ Literal Byte ∷ Literal ByteStr ∷ Literal CStr ∷ Literal Char ∷ Literal Float ∷ Literal Int ∷ Literal Str ∷ Punctuation exclamation ∷ Punctuation not_equals ∷ Punctuation pound ∷ Punctuation ampersand ∷ Punctuation and_and ∷ Punctuation ampersand_equals ∷ Punctuation star ∷ Punctuation star_equals ∷ Punctuation minus ∷ Punctuation minus_equals ∷ Punctuation arrow ∷ Punctuation less ∷ Punctuation less_less ∷ Punctuation less_less_equals ∷ Punctuation less_equals ∷ Word w_break ∷ Word w_continue ∷ Word w_false ∷ Word w_return ∷ Word w_true ∷ []; nullable = false; never_follow = [] }
+start_of after_block = record { first_set = Punctuation semicolon ∷ Punctuation dot ∷ Punctuation question ∷ Delimited Brace false ∷ Delimited Bracket false ∷ Delimited None false ∷ Delimited None true ∷ Delimited Paren false ∷ Literal Byte ∷ Literal ByteStr ∷ Literal CStr ∷ Literal Char ∷ Literal Float ∷ Literal Int ∷ Literal Str ∷ Name ∷ Punctuation exclamation ∷ Punctuation not_equals ∷ Punctuation pound ∷ Punctuation ampersand ∷ Punctuation and_and ∷ Punctuation ampersand_equals ∷ Punctuation lifetime_mark ∷ Punctuation star ∷ Punctuation star_equals ∷ Punctuation minus ∷ Punctuation minus_equals ∷ Punctuation arrow ∷ Punctuation colons ∷ Punctuation less ∷ Punctuation less_less ∷ Punctuation less_less_equals ∷ Punctuation less_equals ∷ Word w_Self_type ∷ Word w_auto ∷ Word w_break ∷ Word w_continue ∷ Word w_crate ∷ Word w_default ∷ Word w_false ∷ Word w_for ∷ Word w_if ∷ Word w_let ∷ Word w_loop ∷ Word w_return ∷ Word w_safe ∷ Word w_self ∷ Word w_super ∷ Word w_true ∷ Word w_union ∷ Word w_unsafe ∷ Word w_while ∷ []; nullable = true; never_follow = [] }
+start_of after_expression = record { first_set = Punctuation semicolon ∷ []; nullable = true; never_follow = [] }
+start_of statement = record { first_set = Punctuation pound ∷ Word w_crate ∷ Name ∷ Punctuation colons ∷ Word w_Self_type ∷ Word w_auto ∷ Word w_default ∷ Word w_safe ∷ Word w_self ∷ Word w_super ∷ Word w_union ∷ Word w_let ∷ Delimited Brace false ∷ Punctuation lifetime_mark ∷ Word w_for ∷ Word w_if ∷ Word w_loop ∷ Word w_unsafe ∷ Word w_while ∷ Delimited Bracket false ∷ Delimited None false ∷ Delimited None true ∷ Delimited Paren false ∷ Literal Byte ∷ Literal ByteStr ∷ Literal CStr ∷ Literal Char ∷ Literal Float ∷ Literal Int ∷ Literal Str ∷ Punctuation exclamation ∷ Punctuation not_equals ∷ Punctuation ampersand ∷ Punctuation and_and ∷ Punctuation ampersand_equals ∷ Punctuation star ∷ Punctuation star_equals ∷ Punctuation minus ∷ Punctuation minus_equals ∷ Punctuation arrow ∷ Punctuation less ∷ Punctuation less_less ∷ Punctuation less_less_equals ∷ Punctuation less_equals ∷ Word w_break ∷ Word w_continue ∷ Word w_false ∷ Word w_return ∷ Word w_true ∷ []; nullable = false; never_follow = [] }
+start_of statement_end = record { first_set = Punctuation semicolon ∷ Punctuation dot ∷ Punctuation question ∷ []; nullable = true; never_follow = [] }
+start_of local = record { first_set = Word w_let ∷ []; nullable = false; never_follow = [] }
 
 -- it ends by itself
 abbrev pub closed_of : Rule → Bool
@@ -120,6 +170,56 @@ closed_of enumeration_rest = true
 closed_of union_item = true
 closed_of union_item_rest = true
 closed_of derive_input = true
+closed_of expression_path = false
+closed_of expression_words = false
+closed_of qualified_expression_path = false
+closed_of path_as_expression = false
+closed_of macro_invocation = true
+closed_of pattern = false
+closed_of patterns = false
+closed_of expressions = false
+closed_of array_content = false
+closed_of block = true
+closed_of body = true
+closed_of plain_body = true
+closed_of no_inner_attributes = false
+closed_of primary = false
+closed_of block_like = false
+closed_of if_expression = false
+closed_of loop_expression = true
+closed_of postfixes = false
+closed_of member = false
+closed_of unary = false
+closed_of casts = false
+closed_of cast = false
+closed_of products = false
+closed_of product = false
+closed_of sums = false
+closed_of sum = false
+closed_of shifts = false
+closed_of shift = false
+closed_of bit_ands = false
+closed_of bit_and = false
+closed_of bit_xors = false
+closed_of bit_xor = false
+closed_of bit_ors = false
+closed_of bit_or = false
+closed_of compared = false
+closed_of comparison = false
+closed_of conjunctions = false
+closed_of conjunction = false
+closed_of disjunctions = false
+closed_of disjunction = false
+closed_of assigned = false
+closed_of whole_expression = false
+closed_of operand_rest = false
+closed_of statements = false
+closed_of statement_rest = false
+closed_of after_block = false
+closed_of after_expression = false
+closed_of statement = false
+closed_of statement_end = false
+closed_of local = true
 
 -- somebody asks for the facts of its lookahead
 abbrev pub heard_of : Rule → Bool
@@ -174,6 +274,56 @@ heard_of enumeration_rest = false
 heard_of union_item = false
 heard_of union_item_rest = false
 heard_of derive_input = false
+heard_of expression_path = true
+heard_of expression_words = true
+heard_of qualified_expression_path = true
+heard_of path_as_expression = true
+heard_of macro_invocation = true
+heard_of pattern = true
+heard_of patterns = true
+heard_of expressions = true
+heard_of array_content = false
+heard_of block = true
+heard_of body = true
+heard_of plain_body = false
+heard_of no_inner_attributes = false
+heard_of primary = true
+heard_of block_like = true
+heard_of if_expression = true
+heard_of loop_expression = true
+heard_of postfixes = true
+heard_of member = false
+heard_of unary = true
+heard_of casts = true
+heard_of cast = true
+heard_of products = true
+heard_of product = true
+heard_of sums = true
+heard_of sum = true
+heard_of shifts = true
+heard_of shift = true
+heard_of bit_ands = true
+heard_of bit_and = true
+heard_of bit_xors = true
+heard_of bit_xor = true
+heard_of bit_ors = true
+heard_of bit_or = true
+heard_of compared = true
+heard_of comparison = true
+heard_of conjunctions = true
+heard_of conjunction = true
+heard_of disjunctions = true
+heard_of disjunction = true
+heard_of assigned = true
+heard_of whole_expression = true
+heard_of operand_rest = false
+heard_of statements = true
+heard_of statement_rest = true
+heard_of after_block = false
+heard_of after_expression = true
+heard_of statement = false
+heard_of statement_end = false
+heard_of local = true
 
 -- how its print may differ from what it read
 abbrev pub summary_of : Bool → Rule → Summary
@@ -188,35 +338,35 @@ summary_of false module_path = record { stays = []; moves = move (Punctuation co
 summary_of false module_words = record { stays = []; moves = move Name Name [] ∷ move (Word w_union) (Word w_union) [] ∷ move (Word w_auto) (Word w_auto) [] ∷ move (Word w_default) (Word w_default) [] ∷ move (Word w_safe) (Word w_safe) [] ∷ move (Word w_self) (Word w_self) [] ∷ move (Word w_Self_type) (Word w_Self_type) [] ∷ move (Word w_super) (Word w_super) [] ∷ move (Word w_crate) (Word w_crate) [] ∷ []; nullable = false; gone = []; ends = []; halts = at_colons ∷ []; shuns = [] }
 summary_of false visibility = record { stays = Word w_pub ∷ []; moves = []; nullable = true; gone = Delimited None true ∷ []; ends = []; halts = at_restriction ∷ at_empty_group ∷ at_word w_pub ∷ []; shuns = at_empty_group ∷ at_word w_pub ∷ [] }
 summary_of false restriction = record { stays = Word w_in ∷ []; moves = move (Punctuation colons) (Punctuation colons) [] ∷ move Name Name [] ∷ move (Word w_union) (Word w_union) [] ∷ move (Word w_auto) (Word w_auto) [] ∷ move (Word w_default) (Word w_default) [] ∷ move (Word w_safe) (Word w_safe) [] ∷ move (Word w_self) (Word w_self) [] ∷ move (Word w_Self_type) (Word w_Self_type) [] ∷ move (Word w_super) (Word w_super) [] ∷ move (Word w_crate) (Word w_crate) [] ∷ []; nullable = false; gone = []; ends = []; halts = at_colons ∷ []; shuns = [] }
-summary_of false type_path = record { stays = []; moves = move (Punctuation colons) (Punctuation colons) [] ∷ move Name Name [] ∷ move (Word w_union) (Word w_union) [] ∷ move (Word w_auto) (Word w_auto) [] ∷ move (Word w_default) (Word w_default) [] ∷ move (Word w_safe) (Word w_safe) [] ∷ move (Word w_Self_type) (Word w_Self_type) [] ∷ move (Word w_self) (Word w_self) [] ∷ move (Word w_super) (Word w_super) [] ∷ move (Word w_crate) (Word w_crate) [] ∷ []; nullable = false; gone = []; ends = at_equals ∷ at_paren ∷ at_less ∷ ((at_colons or_else at_less_only or_else at_paren or_else at_word w_as) but_not at_colons) ∷ (at_colons but_not at_colons) ∷ ((at_path_rest and_also ahead Bang_brace) but_not at_colons) ∷ ((at_path_rest and_also ahead Bang_name) but_not at_colons) ∷ ((at_path_rest and_also ahead Bang_group) but_not at_colons) ∷ at_name ∷ at_brace ∷ at_word w_trait ∷ (at_word w_unsafe or_else at_word w_impl) ∷ ended ∷ []; halts = at_colons ∷ at_arguments ∷ at_arrow ∷ []; shuns = [] }
-summary_of false type_words = record { stays = []; moves = move Name Name [] ∷ move (Word w_union) (Word w_union) [] ∷ move (Word w_auto) (Word w_auto) [] ∷ move (Word w_default) (Word w_default) [] ∷ move (Word w_safe) (Word w_safe) [] ∷ move (Word w_Self_type) (Word w_Self_type) [] ∷ move (Word w_self) (Word w_self) [] ∷ move (Word w_super) (Word w_super) [] ∷ move (Word w_crate) (Word w_crate) [] ∷ []; nullable = false; gone = []; ends = at_equals ∷ at_paren ∷ at_less ∷ ((at_colons or_else at_less_only or_else at_paren or_else at_word w_as) but_not at_colons) ∷ (at_colons but_not at_colons) ∷ ((at_path_rest and_also ahead Bang_brace) but_not at_colons) ∷ ((at_path_rest and_also ahead Bang_name) but_not at_colons) ∷ ((at_path_rest and_also ahead Bang_group) but_not at_colons) ∷ at_name ∷ at_brace ∷ at_word w_trait ∷ (at_word w_unsafe or_else at_word w_impl) ∷ ended ∷ []; halts = at_colons ∷ at_arguments ∷ at_arrow ∷ []; shuns = [] }
-summary_of false type_arguments = record { stays = Delimited Paren false ∷ []; moves = move (Punctuation colons) (Punctuation colons) [] ∷ move (Punctuation less) (Punctuation less) [] ∷ move (Punctuation less_less_equals) (Punctuation less) [] ∷ move (Punctuation less_equals) (Punctuation less) [] ∷ move (Punctuation less_less) (Punctuation less) [] ∷ []; nullable = false; gone = []; ends = at_equals ∷ at_paren ∷ at_less ∷ ((at_colons or_else at_less_only or_else at_paren or_else at_word w_as) but_not at_colons) ∷ (at_colons but_not at_colons) ∷ ((at_path_rest and_also ahead Bang_brace) but_not at_colons) ∷ ((at_path_rest and_also ahead Bang_name) but_not at_colons) ∷ ((at_path_rest and_also ahead Bang_group) but_not at_colons) ∷ at_name ∷ at_brace ∷ at_word w_trait ∷ (at_word w_unsafe or_else at_word w_impl) ∷ ended ∷ []; halts = at_colons ∷ at_arguments ∷ at_arrow ∷ []; shuns = [] }
-summary_of false return_type = record { stays = Punctuation arrow ∷ []; moves = []; nullable = true; gone = []; ends = at_equals ∷ at_paren ∷ at_less ∷ ((at_colons or_else at_less_only or_else at_paren or_else at_word w_as) but_not at_colons) ∷ (at_colons but_not at_colons) ∷ ((at_path_rest and_also ahead Bang_brace) but_not at_colons) ∷ ((at_path_rest and_also ahead Bang_name) but_not at_colons) ∷ ((at_path_rest and_also ahead Bang_group) but_not at_colons) ∷ at_name ∷ at_brace ∷ at_word w_trait ∷ (at_word w_unsafe or_else at_word w_impl) ∷ ended ∷ []; halts = at_colons ∷ at_arguments ∷ at_arrow ∷ []; shuns = [] }
+summary_of false type_path = record { stays = []; moves = move (Punctuation colons) (Punctuation colons) [] ∷ move Name Name [] ∷ move (Word w_union) (Word w_union) [] ∷ move (Word w_auto) (Word w_auto) [] ∷ move (Word w_default) (Word w_default) [] ∷ move (Word w_safe) (Word w_safe) [] ∷ move (Word w_Self_type) (Word w_Self_type) [] ∷ move (Word w_self) (Word w_self) [] ∷ move (Word w_super) (Word w_super) [] ∷ move (Word w_crate) (Word w_crate) [] ∷ []; nullable = false; gone = []; ends = at_equals ∷ at_paren ∷ at_less ∷ ((at_colons or_else at_less_only or_else at_paren or_else at_word w_as) but_not at_colons) ∷ (at_colons but_not at_colons) ∷ ((at_bang or_else at_colons and_also ahead Before_macro) but_not at_colons) ∷ ((at_path_rest and_also ahead Bang_brace) but_not at_colons) ∷ ((at_path_rest and_also ahead Bang_name) but_not at_colons) ∷ at_name ∷ at_brace ∷ at_word w_trait ∷ (at_word w_unsafe or_else at_word w_impl) ∷ ended ∷ []; halts = at_colons ∷ at_arguments ∷ at_arrow ∷ []; shuns = [] }
+summary_of false type_words = record { stays = []; moves = move Name Name [] ∷ move (Word w_union) (Word w_union) [] ∷ move (Word w_auto) (Word w_auto) [] ∷ move (Word w_default) (Word w_default) [] ∷ move (Word w_safe) (Word w_safe) [] ∷ move (Word w_Self_type) (Word w_Self_type) [] ∷ move (Word w_self) (Word w_self) [] ∷ move (Word w_super) (Word w_super) [] ∷ move (Word w_crate) (Word w_crate) [] ∷ []; nullable = false; gone = []; ends = at_equals ∷ at_paren ∷ at_less ∷ ((at_colons or_else at_less_only or_else at_paren or_else at_word w_as) but_not at_colons) ∷ (at_colons but_not at_colons) ∷ ((at_bang or_else at_colons and_also ahead Before_macro) but_not at_colons) ∷ ((at_path_rest and_also ahead Bang_brace) but_not at_colons) ∷ ((at_path_rest and_also ahead Bang_name) but_not at_colons) ∷ at_name ∷ at_brace ∷ at_word w_trait ∷ (at_word w_unsafe or_else at_word w_impl) ∷ ended ∷ []; halts = at_colons ∷ at_arguments ∷ at_arrow ∷ []; shuns = [] }
+summary_of false type_arguments = record { stays = Delimited Paren false ∷ []; moves = move (Punctuation colons) (Punctuation colons) [] ∷ move (Punctuation less) (Punctuation less) [] ∷ move (Punctuation less_less_equals) (Punctuation less) [] ∷ move (Punctuation less_equals) (Punctuation less) [] ∷ move (Punctuation less_less) (Punctuation less) [] ∷ []; nullable = false; gone = []; ends = at_equals ∷ at_paren ∷ at_less ∷ ((at_colons or_else at_less_only or_else at_paren or_else at_word w_as) but_not at_colons) ∷ (at_colons but_not at_colons) ∷ ((at_bang or_else at_colons and_also ahead Before_macro) but_not at_colons) ∷ ((at_path_rest and_also ahead Bang_brace) but_not at_colons) ∷ ((at_path_rest and_also ahead Bang_name) but_not at_colons) ∷ at_name ∷ at_brace ∷ at_word w_trait ∷ (at_word w_unsafe or_else at_word w_impl) ∷ ended ∷ []; halts = at_colons ∷ at_arguments ∷ at_arrow ∷ []; shuns = [] }
+summary_of false return_type = record { stays = Punctuation arrow ∷ []; moves = []; nullable = true; gone = []; ends = at_equals ∷ at_paren ∷ at_less ∷ ((at_colons or_else at_less_only or_else at_paren or_else at_word w_as) but_not at_colons) ∷ (at_colons but_not at_colons) ∷ ((at_bang or_else at_colons and_also ahead Before_macro) but_not at_colons) ∷ ((at_path_rest and_also ahead Bang_brace) but_not at_colons) ∷ ((at_path_rest and_also ahead Bang_name) but_not at_colons) ∷ at_name ∷ at_brace ∷ at_word w_trait ∷ (at_word w_unsafe or_else at_word w_impl) ∷ ended ∷ []; halts = at_colons ∷ at_arguments ∷ at_arrow ∷ []; shuns = [] }
 summary_of false generic_arguments = record { stays = []; moves = move (Punctuation less) (Punctuation less) [] ∷ move (Punctuation less_less_equals) (Punctuation less) [] ∷ move (Punctuation less_equals) (Punctuation less) [] ∷ move (Punctuation less_less) (Punctuation less) [] ∷ []; nullable = false; gone = []; ends = []; halts = []; shuns = [] }
-summary_of false generic_argument = record { stays = Word w_true ∷ Word w_false ∷ Literal Str ∷ Literal ByteStr ∷ Literal CStr ∷ Literal Byte ∷ Literal Char ∷ Literal Int ∷ Literal Float ∷ Punctuation ampersand ∷ Punctuation star ∷ Delimited Paren false ∷ Delimited Bracket false ∷ Delimited None false ∷ Name ∷ Word w_union ∷ Word w_auto ∷ Word w_default ∷ Word w_safe ∷ Word w_Self_type ∷ Word w_self ∷ Word w_super ∷ Word w_crate ∷ []; moves = move Name Name (Before_equals ∷ []) ∷ move (Word w_union) (Word w_union) (Before_equals ∷ []) ∷ move (Word w_auto) (Word w_auto) (Before_equals ∷ []) ∷ move (Word w_default) (Word w_default) (Before_equals ∷ []) ∷ move (Word w_safe) (Word w_safe) (Before_equals ∷ []) ∷ move (Punctuation and_and) (Punctuation ampersand) [] ∷ move (Punctuation ampersand_equals) (Punctuation ampersand) [] ∷ move (Punctuation star_equals) (Punctuation star) [] ∷ move (Punctuation exclamation) (Punctuation exclamation) [] ∷ move (Punctuation not_equals) (Punctuation exclamation) [] ∷ move (Punctuation less) (Punctuation less) [] ∷ move (Punctuation less_less_equals) (Punctuation less) [] ∷ move (Punctuation less_equals) (Punctuation less) [] ∷ move (Punctuation less_less) (Punctuation less) [] ∷ move (Punctuation colons) (Punctuation colons) [] ∷ []; nullable = false; gone = []; ends = at_equals ∷ at_paren ∷ at_less ∷ ((at_colons or_else at_less_only or_else at_paren or_else at_word w_as) but_not at_colons) ∷ (at_colons but_not at_colons) ∷ ((at_path_rest and_also ahead Bang_brace) but_not at_colons) ∷ ((at_path_rest and_also ahead Bang_name) but_not at_colons) ∷ ((at_path_rest and_also ahead Bang_group) but_not at_colons) ∷ at_name ∷ at_brace ∷ at_word w_trait ∷ (at_word w_unsafe or_else at_word w_impl) ∷ ended ∷ []; halts = at_colons ∷ at_arguments ∷ at_arrow ∷ []; shuns = [] }
-summary_of false qualified_path = record { stays = []; moves = move (Punctuation less) (Punctuation less) [] ∷ move (Punctuation less_less_equals) (Punctuation less) [] ∷ move (Punctuation less_equals) (Punctuation less) [] ∷ move (Punctuation less_less) (Punctuation less) [] ∷ []; nullable = false; gone = []; ends = at_equals ∷ at_paren ∷ at_less ∷ ((at_colons or_else at_less_only or_else at_paren or_else at_word w_as) but_not at_colons) ∷ (at_colons but_not at_colons) ∷ ((at_path_rest and_also ahead Bang_brace) but_not at_colons) ∷ ((at_path_rest and_also ahead Bang_name) but_not at_colons) ∷ ((at_path_rest and_also ahead Bang_group) but_not at_colons) ∷ at_name ∷ at_brace ∷ at_word w_trait ∷ (at_word w_unsafe or_else at_word w_impl) ∷ ended ∷ []; halts = at_colons ∷ at_arguments ∷ at_arrow ∷ []; shuns = [] }
-summary_of false path_as_type = record { stays = []; moves = move (Punctuation less) (Punctuation less) [] ∷ move (Punctuation less_less_equals) (Punctuation less) [] ∷ move (Punctuation less_equals) (Punctuation less) [] ∷ move (Punctuation less_less) (Punctuation less) [] ∷ move (Punctuation colons) (Punctuation colons) [] ∷ move Name Name [] ∷ move (Word w_union) (Word w_union) [] ∷ move (Word w_auto) (Word w_auto) [] ∷ move (Word w_default) (Word w_default) [] ∷ move (Word w_safe) (Word w_safe) [] ∷ move (Word w_Self_type) (Word w_Self_type) [] ∷ move (Word w_self) (Word w_self) [] ∷ move (Word w_super) (Word w_super) [] ∷ move (Word w_crate) (Word w_crate) [] ∷ []; nullable = false; gone = []; ends = at_equals ∷ at_paren ∷ at_less ∷ ((at_colons or_else at_less_only or_else at_paren or_else at_word w_as) but_not at_colons) ∷ (at_colons but_not at_colons) ∷ ((at_path_rest and_also ahead Bang_brace) but_not at_colons) ∷ ((at_path_rest and_also ahead Bang_name) but_not at_colons) ∷ ((at_path_rest and_also ahead Bang_group) but_not at_colons) ∷ at_name ∷ at_brace ∷ at_word w_trait ∷ (at_word w_unsafe or_else at_word w_impl) ∷ ended ∷ []; halts = at_colons ∷ at_arguments ∷ at_arrow ∷ []; shuns = [] }
-summary_of false type = record { stays = Punctuation ampersand ∷ Punctuation star ∷ Delimited Paren false ∷ Delimited Bracket false ∷ Delimited None false ∷ []; moves = move (Punctuation and_and) (Punctuation ampersand) [] ∷ move (Punctuation ampersand_equals) (Punctuation ampersand) [] ∷ move (Punctuation star_equals) (Punctuation star) [] ∷ move (Punctuation exclamation) (Punctuation exclamation) [] ∷ move (Punctuation not_equals) (Punctuation exclamation) [] ∷ move (Punctuation less) (Punctuation less) [] ∷ move (Punctuation less_less_equals) (Punctuation less) [] ∷ move (Punctuation less_equals) (Punctuation less) [] ∷ move (Punctuation less_less) (Punctuation less) [] ∷ move (Punctuation colons) (Punctuation colons) [] ∷ move Name Name [] ∷ move (Word w_union) (Word w_union) [] ∷ move (Word w_auto) (Word w_auto) [] ∷ move (Word w_default) (Word w_default) [] ∷ move (Word w_safe) (Word w_safe) [] ∷ move (Word w_Self_type) (Word w_Self_type) [] ∷ move (Word w_self) (Word w_self) [] ∷ move (Word w_super) (Word w_super) [] ∷ move (Word w_crate) (Word w_crate) [] ∷ []; nullable = false; gone = []; ends = at_equals ∷ at_paren ∷ at_less ∷ ((at_colons or_else at_less_only or_else at_paren or_else at_word w_as) but_not at_colons) ∷ (at_colons but_not at_colons) ∷ ((at_path_rest and_also ahead Bang_brace) but_not at_colons) ∷ ((at_path_rest and_also ahead Bang_name) but_not at_colons) ∷ ((at_path_rest and_also ahead Bang_group) but_not at_colons) ∷ at_name ∷ at_brace ∷ at_word w_trait ∷ (at_word w_unsafe or_else at_word w_impl) ∷ ended ∷ []; halts = at_colons ∷ at_arguments ∷ at_arrow ∷ []; shuns = [] }
-summary_of false types = record { stays = Punctuation ampersand ∷ Punctuation star ∷ Delimited Paren false ∷ Delimited Bracket false ∷ Delimited None false ∷ []; moves = move (Punctuation and_and) (Punctuation ampersand) [] ∷ move (Punctuation ampersand_equals) (Punctuation ampersand) [] ∷ move (Punctuation star_equals) (Punctuation star) [] ∷ move (Punctuation exclamation) (Punctuation exclamation) [] ∷ move (Punctuation not_equals) (Punctuation exclamation) [] ∷ move (Punctuation less) (Punctuation less) [] ∷ move (Punctuation less_less_equals) (Punctuation less) [] ∷ move (Punctuation less_equals) (Punctuation less) [] ∷ move (Punctuation less_less) (Punctuation less) [] ∷ move (Punctuation colons) (Punctuation colons) [] ∷ move Name Name [] ∷ move (Word w_union) (Word w_union) [] ∷ move (Word w_auto) (Word w_auto) [] ∷ move (Word w_default) (Word w_default) [] ∷ move (Word w_safe) (Word w_safe) [] ∷ move (Word w_Self_type) (Word w_Self_type) [] ∷ move (Word w_self) (Word w_self) [] ∷ move (Word w_super) (Word w_super) [] ∷ move (Word w_crate) (Word w_crate) [] ∷ []; nullable = true; gone = []; ends = ended ∷ at_equals ∷ at_paren ∷ at_less ∷ ((at_colons or_else at_less_only or_else at_paren or_else at_word w_as) but_not at_colons) ∷ (at_colons but_not at_colons) ∷ ((at_path_rest and_also ahead Bang_brace) but_not at_colons) ∷ ((at_path_rest and_also ahead Bang_name) but_not at_colons) ∷ ((at_path_rest and_also ahead Bang_group) but_not at_colons) ∷ at_name ∷ at_brace ∷ at_word w_trait ∷ (at_word w_unsafe or_else at_word w_impl) ∷ []; halts = at_comma ∷ at_colons ∷ at_arguments ∷ at_arrow ∷ []; shuns = [] }
+summary_of false generic_argument = record { stays = Word w_true ∷ Word w_false ∷ Literal Str ∷ Literal ByteStr ∷ Literal CStr ∷ Literal Byte ∷ Literal Char ∷ Literal Int ∷ Literal Float ∷ Punctuation ampersand ∷ Punctuation star ∷ Delimited Paren false ∷ Delimited Bracket false ∷ Delimited None false ∷ Name ∷ Word w_union ∷ Word w_auto ∷ Word w_default ∷ Word w_safe ∷ Word w_Self_type ∷ Word w_self ∷ Word w_super ∷ Word w_crate ∷ []; moves = move Name Name (Before_equals ∷ []) ∷ move (Word w_union) (Word w_union) (Before_equals ∷ []) ∷ move (Word w_auto) (Word w_auto) (Before_equals ∷ []) ∷ move (Word w_default) (Word w_default) (Before_equals ∷ []) ∷ move (Word w_safe) (Word w_safe) (Before_equals ∷ []) ∷ move (Punctuation and_and) (Punctuation ampersand) [] ∷ move (Punctuation ampersand_equals) (Punctuation ampersand) [] ∷ move (Punctuation star_equals) (Punctuation star) [] ∷ move (Punctuation exclamation) (Punctuation exclamation) [] ∷ move (Punctuation not_equals) (Punctuation exclamation) [] ∷ move (Punctuation less) (Punctuation less) [] ∷ move (Punctuation less_less_equals) (Punctuation less) [] ∷ move (Punctuation less_equals) (Punctuation less) [] ∷ move (Punctuation less_less) (Punctuation less) [] ∷ move (Punctuation colons) (Punctuation colons) [] ∷ []; nullable = false; gone = []; ends = at_equals ∷ at_paren ∷ at_less ∷ ((at_colons or_else at_less_only or_else at_paren or_else at_word w_as) but_not at_colons) ∷ (at_colons but_not at_colons) ∷ ((at_bang or_else at_colons and_also ahead Before_macro) but_not at_colons) ∷ ((at_path_rest and_also ahead Bang_brace) but_not at_colons) ∷ ((at_path_rest and_also ahead Bang_name) but_not at_colons) ∷ at_name ∷ at_brace ∷ at_word w_trait ∷ (at_word w_unsafe or_else at_word w_impl) ∷ ended ∷ []; halts = at_colons ∷ at_arguments ∷ at_arrow ∷ []; shuns = [] }
+summary_of false qualified_path = record { stays = []; moves = move (Punctuation less) (Punctuation less) [] ∷ move (Punctuation less_less_equals) (Punctuation less) [] ∷ move (Punctuation less_equals) (Punctuation less) [] ∷ move (Punctuation less_less) (Punctuation less) [] ∷ []; nullable = false; gone = []; ends = at_equals ∷ at_paren ∷ at_less ∷ ((at_colons or_else at_less_only or_else at_paren or_else at_word w_as) but_not at_colons) ∷ (at_colons but_not at_colons) ∷ ((at_bang or_else at_colons and_also ahead Before_macro) but_not at_colons) ∷ ((at_path_rest and_also ahead Bang_brace) but_not at_colons) ∷ ((at_path_rest and_also ahead Bang_name) but_not at_colons) ∷ at_name ∷ at_brace ∷ at_word w_trait ∷ (at_word w_unsafe or_else at_word w_impl) ∷ ended ∷ []; halts = at_colons ∷ at_arguments ∷ at_arrow ∷ []; shuns = [] }
+summary_of false path_as_type = record { stays = []; moves = move (Punctuation less) (Punctuation less) [] ∷ move (Punctuation less_less_equals) (Punctuation less) [] ∷ move (Punctuation less_equals) (Punctuation less) [] ∷ move (Punctuation less_less) (Punctuation less) [] ∷ move (Punctuation colons) (Punctuation colons) [] ∷ move Name Name [] ∷ move (Word w_union) (Word w_union) [] ∷ move (Word w_auto) (Word w_auto) [] ∷ move (Word w_default) (Word w_default) [] ∷ move (Word w_safe) (Word w_safe) [] ∷ move (Word w_Self_type) (Word w_Self_type) [] ∷ move (Word w_self) (Word w_self) [] ∷ move (Word w_super) (Word w_super) [] ∷ move (Word w_crate) (Word w_crate) [] ∷ []; nullable = false; gone = []; ends = at_equals ∷ at_paren ∷ at_less ∷ ((at_colons or_else at_less_only or_else at_paren or_else at_word w_as) but_not at_colons) ∷ (at_colons but_not at_colons) ∷ ((at_bang or_else at_colons and_also ahead Before_macro) but_not at_colons) ∷ ((at_path_rest and_also ahead Bang_brace) but_not at_colons) ∷ ((at_path_rest and_also ahead Bang_name) but_not at_colons) ∷ at_name ∷ at_brace ∷ at_word w_trait ∷ (at_word w_unsafe or_else at_word w_impl) ∷ ended ∷ []; halts = at_colons ∷ at_arguments ∷ at_arrow ∷ []; shuns = [] }
+summary_of false type = record { stays = Punctuation ampersand ∷ Punctuation star ∷ Delimited Paren false ∷ Delimited Bracket false ∷ Delimited None false ∷ []; moves = move (Punctuation and_and) (Punctuation ampersand) [] ∷ move (Punctuation ampersand_equals) (Punctuation ampersand) [] ∷ move (Punctuation star_equals) (Punctuation star) [] ∷ move (Punctuation exclamation) (Punctuation exclamation) [] ∷ move (Punctuation not_equals) (Punctuation exclamation) [] ∷ move (Punctuation less) (Punctuation less) [] ∷ move (Punctuation less_less_equals) (Punctuation less) [] ∷ move (Punctuation less_equals) (Punctuation less) [] ∷ move (Punctuation less_less) (Punctuation less) [] ∷ move (Punctuation colons) (Punctuation colons) [] ∷ move Name Name [] ∷ move (Word w_union) (Word w_union) [] ∷ move (Word w_auto) (Word w_auto) [] ∷ move (Word w_default) (Word w_default) [] ∷ move (Word w_safe) (Word w_safe) [] ∷ move (Word w_Self_type) (Word w_Self_type) [] ∷ move (Word w_self) (Word w_self) [] ∷ move (Word w_super) (Word w_super) [] ∷ move (Word w_crate) (Word w_crate) [] ∷ []; nullable = false; gone = []; ends = at_equals ∷ at_paren ∷ at_less ∷ ((at_colons or_else at_less_only or_else at_paren or_else at_word w_as) but_not at_colons) ∷ (at_colons but_not at_colons) ∷ ((at_bang or_else at_colons and_also ahead Before_macro) but_not at_colons) ∷ ((at_path_rest and_also ahead Bang_brace) but_not at_colons) ∷ ((at_path_rest and_also ahead Bang_name) but_not at_colons) ∷ at_name ∷ at_brace ∷ at_word w_trait ∷ (at_word w_unsafe or_else at_word w_impl) ∷ ended ∷ []; halts = at_colons ∷ at_arguments ∷ at_arrow ∷ []; shuns = [] }
+summary_of false types = record { stays = Punctuation ampersand ∷ Punctuation star ∷ Delimited Paren false ∷ Delimited Bracket false ∷ Delimited None false ∷ []; moves = move (Punctuation and_and) (Punctuation ampersand) [] ∷ move (Punctuation ampersand_equals) (Punctuation ampersand) [] ∷ move (Punctuation star_equals) (Punctuation star) [] ∷ move (Punctuation exclamation) (Punctuation exclamation) [] ∷ move (Punctuation not_equals) (Punctuation exclamation) [] ∷ move (Punctuation less) (Punctuation less) [] ∷ move (Punctuation less_less_equals) (Punctuation less) [] ∷ move (Punctuation less_equals) (Punctuation less) [] ∷ move (Punctuation less_less) (Punctuation less) [] ∷ move (Punctuation colons) (Punctuation colons) [] ∷ move Name Name [] ∷ move (Word w_union) (Word w_union) [] ∷ move (Word w_auto) (Word w_auto) [] ∷ move (Word w_default) (Word w_default) [] ∷ move (Word w_safe) (Word w_safe) [] ∷ move (Word w_Self_type) (Word w_Self_type) [] ∷ move (Word w_self) (Word w_self) [] ∷ move (Word w_super) (Word w_super) [] ∷ move (Word w_crate) (Word w_crate) [] ∷ []; nullable = true; gone = []; ends = ended ∷ at_equals ∷ at_paren ∷ at_less ∷ ((at_colons or_else at_less_only or_else at_paren or_else at_word w_as) but_not at_colons) ∷ (at_colons but_not at_colons) ∷ ((at_bang or_else at_colons and_also ahead Before_macro) but_not at_colons) ∷ ((at_path_rest and_also ahead Bang_brace) but_not at_colons) ∷ ((at_path_rest and_also ahead Bang_name) but_not at_colons) ∷ at_name ∷ at_brace ∷ at_word w_trait ∷ (at_word w_unsafe or_else at_word w_impl) ∷ []; halts = at_comma ∷ at_colons ∷ at_arguments ∷ at_arrow ∷ []; shuns = [] }
 summary_of false expression = record { stays = Word w_true ∷ Word w_false ∷ Literal Str ∷ Literal ByteStr ∷ Literal CStr ∷ Literal Byte ∷ Literal Char ∷ Literal Int ∷ Literal Float ∷ []; moves = []; nullable = false; gone = []; ends = []; halts = []; shuns = [] }
 summary_of false generics = record { stays = []; moves = move (Punctuation less) (Punctuation less) [] ∷ move (Punctuation less_less_equals) (Punctuation less) [] ∷ move (Punctuation less_equals) (Punctuation less) [] ∷ move (Punctuation less_less) (Punctuation less) [] ∷ []; nullable = true; gone = Punctuation less ∷ Punctuation less_less_equals ∷ Punctuation less_equals ∷ Punctuation less_less ∷ []; ends = []; halts = at_less ∷ []; shuns = at_less ∷ [] }
 summary_of false lifetime_parameter = record { stays = Punctuation lifetime_mark ∷ []; moves = move (Punctuation pound) (Punctuation pound) [] ∷ []; nullable = false; gone = []; ends = []; halts = at_plus ∷ at_lifetime ∷ at_colon ∷ []; shuns = at_colon ∷ [] }
 summary_of false lifetimes = record { stays = Punctuation lifetime_mark ∷ []; moves = []; nullable = true; gone = []; ends = []; halts = at_plus ∷ at_lifetime ∷ []; shuns = [] }
-summary_of false parameter_bounds = record { stays = Punctuation lifetime_mark ∷ Delimited Paren false ∷ Punctuation question ∷ Word w_for ∷ []; moves = move (Punctuation colons) (Punctuation colons) [] ∷ move Name Name [] ∷ move (Word w_union) (Word w_union) [] ∷ move (Word w_auto) (Word w_auto) [] ∷ move (Word w_default) (Word w_default) [] ∷ move (Word w_safe) (Word w_safe) [] ∷ move (Word w_Self_type) (Word w_Self_type) [] ∷ move (Word w_self) (Word w_self) [] ∷ move (Word w_super) (Word w_super) [] ∷ move (Word w_crate) (Word w_crate) [] ∷ []; nullable = true; gone = []; ends = at_parameter_end ∷ at_equals ∷ at_paren ∷ at_less ∷ ((at_colons or_else at_less_only or_else at_paren or_else at_word w_as) but_not at_colons) ∷ (at_colons but_not at_colons) ∷ ((at_path_rest and_also ahead Bang_brace) but_not at_colons) ∷ ((at_path_rest and_also ahead Bang_name) but_not at_colons) ∷ ((at_path_rest and_also ahead Bang_group) but_not at_colons) ∷ at_name ∷ at_brace ∷ at_word w_trait ∷ (at_word w_unsafe or_else at_word w_impl) ∷ ended ∷ []; halts = at_plus ∷ at_colons ∷ at_arguments ∷ at_arrow ∷ []; shuns = [] }
-summary_of false bound = record { stays = Punctuation lifetime_mark ∷ Delimited Paren false ∷ Punctuation question ∷ Word w_for ∷ []; moves = move (Punctuation colons) (Punctuation colons) [] ∷ move Name Name [] ∷ move (Word w_union) (Word w_union) [] ∷ move (Word w_auto) (Word w_auto) [] ∷ move (Word w_default) (Word w_default) [] ∷ move (Word w_safe) (Word w_safe) [] ∷ move (Word w_Self_type) (Word w_Self_type) [] ∷ move (Word w_self) (Word w_self) [] ∷ move (Word w_super) (Word w_super) [] ∷ move (Word w_crate) (Word w_crate) [] ∷ []; nullable = false; gone = []; ends = at_equals ∷ at_paren ∷ at_less ∷ ((at_colons or_else at_less_only or_else at_paren or_else at_word w_as) but_not at_colons) ∷ (at_colons but_not at_colons) ∷ ((at_path_rest and_also ahead Bang_brace) but_not at_colons) ∷ ((at_path_rest and_also ahead Bang_name) but_not at_colons) ∷ ((at_path_rest and_also ahead Bang_group) but_not at_colons) ∷ at_name ∷ at_brace ∷ at_word w_trait ∷ (at_word w_unsafe or_else at_word w_impl) ∷ ended ∷ []; halts = at_colons ∷ at_arguments ∷ at_arrow ∷ []; shuns = [] }
-summary_of false trait_bound = record { stays = Punctuation question ∷ Word w_for ∷ []; moves = move (Punctuation colons) (Punctuation colons) [] ∷ move Name Name [] ∷ move (Word w_union) (Word w_union) [] ∷ move (Word w_auto) (Word w_auto) [] ∷ move (Word w_default) (Word w_default) [] ∷ move (Word w_safe) (Word w_safe) [] ∷ move (Word w_Self_type) (Word w_Self_type) [] ∷ move (Word w_self) (Word w_self) [] ∷ move (Word w_super) (Word w_super) [] ∷ move (Word w_crate) (Word w_crate) [] ∷ []; nullable = false; gone = []; ends = at_equals ∷ at_paren ∷ at_less ∷ ((at_colons or_else at_less_only or_else at_paren or_else at_word w_as) but_not at_colons) ∷ (at_colons but_not at_colons) ∷ ((at_path_rest and_also ahead Bang_brace) but_not at_colons) ∷ ((at_path_rest and_also ahead Bang_name) but_not at_colons) ∷ ((at_path_rest and_also ahead Bang_group) but_not at_colons) ∷ at_name ∷ at_brace ∷ at_word w_trait ∷ (at_word w_unsafe or_else at_word w_impl) ∷ ended ∷ []; halts = at_colons ∷ at_arguments ∷ at_arrow ∷ []; shuns = [] }
+summary_of false parameter_bounds = record { stays = Punctuation lifetime_mark ∷ Delimited Paren false ∷ Punctuation question ∷ Word w_for ∷ []; moves = move (Punctuation colons) (Punctuation colons) [] ∷ move Name Name [] ∷ move (Word w_union) (Word w_union) [] ∷ move (Word w_auto) (Word w_auto) [] ∷ move (Word w_default) (Word w_default) [] ∷ move (Word w_safe) (Word w_safe) [] ∷ move (Word w_Self_type) (Word w_Self_type) [] ∷ move (Word w_self) (Word w_self) [] ∷ move (Word w_super) (Word w_super) [] ∷ move (Word w_crate) (Word w_crate) [] ∷ []; nullable = true; gone = []; ends = at_parameter_end ∷ at_equals ∷ at_paren ∷ at_less ∷ ((at_colons or_else at_less_only or_else at_paren or_else at_word w_as) but_not at_colons) ∷ (at_colons but_not at_colons) ∷ ((at_bang or_else at_colons and_also ahead Before_macro) but_not at_colons) ∷ ((at_path_rest and_also ahead Bang_brace) but_not at_colons) ∷ ((at_path_rest and_also ahead Bang_name) but_not at_colons) ∷ at_name ∷ at_brace ∷ at_word w_trait ∷ (at_word w_unsafe or_else at_word w_impl) ∷ ended ∷ []; halts = at_plus ∷ at_colons ∷ at_arguments ∷ at_arrow ∷ []; shuns = [] }
+summary_of false bound = record { stays = Punctuation lifetime_mark ∷ Delimited Paren false ∷ Punctuation question ∷ Word w_for ∷ []; moves = move (Punctuation colons) (Punctuation colons) [] ∷ move Name Name [] ∷ move (Word w_union) (Word w_union) [] ∷ move (Word w_auto) (Word w_auto) [] ∷ move (Word w_default) (Word w_default) [] ∷ move (Word w_safe) (Word w_safe) [] ∷ move (Word w_Self_type) (Word w_Self_type) [] ∷ move (Word w_self) (Word w_self) [] ∷ move (Word w_super) (Word w_super) [] ∷ move (Word w_crate) (Word w_crate) [] ∷ []; nullable = false; gone = []; ends = at_equals ∷ at_paren ∷ at_less ∷ ((at_colons or_else at_less_only or_else at_paren or_else at_word w_as) but_not at_colons) ∷ (at_colons but_not at_colons) ∷ ((at_bang or_else at_colons and_also ahead Before_macro) but_not at_colons) ∷ ((at_path_rest and_also ahead Bang_brace) but_not at_colons) ∷ ((at_path_rest and_also ahead Bang_name) but_not at_colons) ∷ at_name ∷ at_brace ∷ at_word w_trait ∷ (at_word w_unsafe or_else at_word w_impl) ∷ ended ∷ []; halts = at_colons ∷ at_arguments ∷ at_arrow ∷ []; shuns = [] }
+summary_of false trait_bound = record { stays = Punctuation question ∷ Word w_for ∷ []; moves = move (Punctuation colons) (Punctuation colons) [] ∷ move Name Name [] ∷ move (Word w_union) (Word w_union) [] ∷ move (Word w_auto) (Word w_auto) [] ∷ move (Word w_default) (Word w_default) [] ∷ move (Word w_safe) (Word w_safe) [] ∷ move (Word w_Self_type) (Word w_Self_type) [] ∷ move (Word w_self) (Word w_self) [] ∷ move (Word w_super) (Word w_super) [] ∷ move (Word w_crate) (Word w_crate) [] ∷ []; nullable = false; gone = []; ends = at_equals ∷ at_paren ∷ at_less ∷ ((at_colons or_else at_less_only or_else at_paren or_else at_word w_as) but_not at_colons) ∷ (at_colons but_not at_colons) ∷ ((at_bang or_else at_colons and_also ahead Before_macro) but_not at_colons) ∷ ((at_path_rest and_also ahead Bang_brace) but_not at_colons) ∷ ((at_path_rest and_also ahead Bang_name) but_not at_colons) ∷ at_name ∷ at_brace ∷ at_word w_trait ∷ (at_word w_unsafe or_else at_word w_impl) ∷ ended ∷ []; halts = at_colons ∷ at_arguments ∷ at_arrow ∷ []; shuns = [] }
 summary_of false bound_lifetimes = record { stays = []; moves = move (Punctuation less) (Punctuation less) [] ∷ move (Punctuation less_less_equals) (Punctuation less) [] ∷ move (Punctuation less_equals) (Punctuation less) [] ∷ move (Punctuation less_less) (Punctuation less) [] ∷ []; nullable = false; gone = []; ends = []; halts = []; shuns = [] }
 summary_of false lifetime_parameters = record { stays = Punctuation lifetime_mark ∷ []; moves = move (Punctuation pound) (Punctuation pound) [] ∷ []; nullable = true; gone = []; ends = at_greater ∷ []; halts = at_comma ∷ at_colon ∷ at_plus ∷ at_lifetime ∷ []; shuns = at_colon ∷ [] }
-summary_of false where_clause = record { stays = Word w_where ∷ []; moves = []; nullable = true; gone = Word w_where ∷ []; ends = at_predicate_end ∷ at_equals ∷ at_paren ∷ at_less ∷ ((at_colons or_else at_less_only or_else at_paren or_else at_word w_as) but_not at_colons) ∷ (at_colons but_not at_colons) ∷ ((at_path_rest and_also ahead Bang_brace) but_not at_colons) ∷ ((at_path_rest and_also ahead Bang_name) but_not at_colons) ∷ ((at_path_rest and_also ahead Bang_group) but_not at_colons) ∷ at_name ∷ at_brace ∷ at_word w_trait ∷ (at_word w_unsafe or_else at_word w_impl) ∷ ended ∷ []; halts = at_comma ∷ at_plus ∷ at_lifetime ∷ at_colons ∷ at_arguments ∷ at_arrow ∷ at_word w_where ∷ []; shuns = at_word w_where ∷ [] }
-summary_of false predicates = record { stays = Punctuation lifetime_mark ∷ Word w_for ∷ Punctuation ampersand ∷ Punctuation star ∷ Delimited Paren false ∷ Delimited Bracket false ∷ Delimited None false ∷ []; moves = move (Punctuation and_and) (Punctuation ampersand) [] ∷ move (Punctuation ampersand_equals) (Punctuation ampersand) [] ∷ move (Punctuation star_equals) (Punctuation star) [] ∷ move (Punctuation exclamation) (Punctuation exclamation) [] ∷ move (Punctuation not_equals) (Punctuation exclamation) [] ∷ move (Punctuation less) (Punctuation less) [] ∷ move (Punctuation less_less_equals) (Punctuation less) [] ∷ move (Punctuation less_equals) (Punctuation less) [] ∷ move (Punctuation less_less) (Punctuation less) [] ∷ move (Punctuation colons) (Punctuation colons) [] ∷ move Name Name [] ∷ move (Word w_union) (Word w_union) [] ∷ move (Word w_auto) (Word w_auto) [] ∷ move (Word w_default) (Word w_default) [] ∷ move (Word w_safe) (Word w_safe) [] ∷ move (Word w_Self_type) (Word w_Self_type) [] ∷ move (Word w_self) (Word w_self) [] ∷ move (Word w_super) (Word w_super) [] ∷ move (Word w_crate) (Word w_crate) [] ∷ []; nullable = true; gone = []; ends = at_predicate_end ∷ at_equals ∷ at_paren ∷ at_less ∷ ((at_colons or_else at_less_only or_else at_paren or_else at_word w_as) but_not at_colons) ∷ (at_colons but_not at_colons) ∷ ((at_path_rest and_also ahead Bang_brace) but_not at_colons) ∷ ((at_path_rest and_also ahead Bang_name) but_not at_colons) ∷ ((at_path_rest and_also ahead Bang_group) but_not at_colons) ∷ at_name ∷ at_brace ∷ at_word w_trait ∷ (at_word w_unsafe or_else at_word w_impl) ∷ ended ∷ []; halts = at_comma ∷ at_plus ∷ at_lifetime ∷ at_colons ∷ at_arguments ∷ at_arrow ∷ []; shuns = [] }
-summary_of false predicate = record { stays = Punctuation lifetime_mark ∷ Word w_for ∷ Punctuation ampersand ∷ Punctuation star ∷ Delimited Paren false ∷ Delimited Bracket false ∷ Delimited None false ∷ []; moves = move (Punctuation and_and) (Punctuation ampersand) [] ∷ move (Punctuation ampersand_equals) (Punctuation ampersand) [] ∷ move (Punctuation star_equals) (Punctuation star) [] ∷ move (Punctuation exclamation) (Punctuation exclamation) [] ∷ move (Punctuation not_equals) (Punctuation exclamation) [] ∷ move (Punctuation less) (Punctuation less) [] ∷ move (Punctuation less_less_equals) (Punctuation less) [] ∷ move (Punctuation less_equals) (Punctuation less) [] ∷ move (Punctuation less_less) (Punctuation less) [] ∷ move (Punctuation colons) (Punctuation colons) [] ∷ move Name Name [] ∷ move (Word w_union) (Word w_union) [] ∷ move (Word w_auto) (Word w_auto) [] ∷ move (Word w_default) (Word w_default) [] ∷ move (Word w_safe) (Word w_safe) [] ∷ move (Word w_Self_type) (Word w_Self_type) [] ∷ move (Word w_self) (Word w_self) [] ∷ move (Word w_super) (Word w_super) [] ∷ move (Word w_crate) (Word w_crate) [] ∷ []; nullable = false; gone = []; ends = at_predicate_end ∷ at_equals ∷ at_paren ∷ at_less ∷ ((at_colons or_else at_less_only or_else at_paren or_else at_word w_as) but_not at_colons) ∷ (at_colons but_not at_colons) ∷ ((at_path_rest and_also ahead Bang_brace) but_not at_colons) ∷ ((at_path_rest and_also ahead Bang_name) but_not at_colons) ∷ ((at_path_rest and_also ahead Bang_group) but_not at_colons) ∷ at_name ∷ at_brace ∷ at_word w_trait ∷ (at_word w_unsafe or_else at_word w_impl) ∷ ended ∷ []; halts = at_plus ∷ at_lifetime ∷ at_colons ∷ at_arguments ∷ at_arrow ∷ []; shuns = [] }
-summary_of false predicate_bounds = record { stays = Punctuation lifetime_mark ∷ Delimited Paren false ∷ Punctuation question ∷ Word w_for ∷ []; moves = move (Punctuation colons) (Punctuation colons) [] ∷ move Name Name [] ∷ move (Word w_union) (Word w_union) [] ∷ move (Word w_auto) (Word w_auto) [] ∷ move (Word w_default) (Word w_default) [] ∷ move (Word w_safe) (Word w_safe) [] ∷ move (Word w_Self_type) (Word w_Self_type) [] ∷ move (Word w_self) (Word w_self) [] ∷ move (Word w_super) (Word w_super) [] ∷ move (Word w_crate) (Word w_crate) [] ∷ []; nullable = true; gone = []; ends = at_predicate_end ∷ at_equals ∷ at_paren ∷ at_less ∷ ((at_colons or_else at_less_only or_else at_paren or_else at_word w_as) but_not at_colons) ∷ (at_colons but_not at_colons) ∷ ((at_path_rest and_also ahead Bang_brace) but_not at_colons) ∷ ((at_path_rest and_also ahead Bang_name) but_not at_colons) ∷ ((at_path_rest and_also ahead Bang_group) but_not at_colons) ∷ at_name ∷ at_brace ∷ at_word w_trait ∷ (at_word w_unsafe or_else at_word w_impl) ∷ ended ∷ []; halts = at_plus ∷ at_colons ∷ at_arguments ∷ at_arrow ∷ []; shuns = [] }
+summary_of false where_clause = record { stays = Word w_where ∷ []; moves = []; nullable = true; gone = Word w_where ∷ []; ends = at_predicate_end ∷ at_equals ∷ at_paren ∷ at_less ∷ ((at_colons or_else at_less_only or_else at_paren or_else at_word w_as) but_not at_colons) ∷ (at_colons but_not at_colons) ∷ ((at_bang or_else at_colons and_also ahead Before_macro) but_not at_colons) ∷ ((at_path_rest and_also ahead Bang_brace) but_not at_colons) ∷ ((at_path_rest and_also ahead Bang_name) but_not at_colons) ∷ at_name ∷ at_brace ∷ at_word w_trait ∷ (at_word w_unsafe or_else at_word w_impl) ∷ ended ∷ []; halts = at_comma ∷ at_plus ∷ at_lifetime ∷ at_colons ∷ at_arguments ∷ at_arrow ∷ at_word w_where ∷ []; shuns = at_word w_where ∷ [] }
+summary_of false predicates = record { stays = Punctuation lifetime_mark ∷ Word w_for ∷ Punctuation ampersand ∷ Punctuation star ∷ Delimited Paren false ∷ Delimited Bracket false ∷ Delimited None false ∷ []; moves = move (Punctuation and_and) (Punctuation ampersand) [] ∷ move (Punctuation ampersand_equals) (Punctuation ampersand) [] ∷ move (Punctuation star_equals) (Punctuation star) [] ∷ move (Punctuation exclamation) (Punctuation exclamation) [] ∷ move (Punctuation not_equals) (Punctuation exclamation) [] ∷ move (Punctuation less) (Punctuation less) [] ∷ move (Punctuation less_less_equals) (Punctuation less) [] ∷ move (Punctuation less_equals) (Punctuation less) [] ∷ move (Punctuation less_less) (Punctuation less) [] ∷ move (Punctuation colons) (Punctuation colons) [] ∷ move Name Name [] ∷ move (Word w_union) (Word w_union) [] ∷ move (Word w_auto) (Word w_auto) [] ∷ move (Word w_default) (Word w_default) [] ∷ move (Word w_safe) (Word w_safe) [] ∷ move (Word w_Self_type) (Word w_Self_type) [] ∷ move (Word w_self) (Word w_self) [] ∷ move (Word w_super) (Word w_super) [] ∷ move (Word w_crate) (Word w_crate) [] ∷ []; nullable = true; gone = []; ends = at_predicate_end ∷ at_equals ∷ at_paren ∷ at_less ∷ ((at_colons or_else at_less_only or_else at_paren or_else at_word w_as) but_not at_colons) ∷ (at_colons but_not at_colons) ∷ ((at_bang or_else at_colons and_also ahead Before_macro) but_not at_colons) ∷ ((at_path_rest and_also ahead Bang_brace) but_not at_colons) ∷ ((at_path_rest and_also ahead Bang_name) but_not at_colons) ∷ at_name ∷ at_brace ∷ at_word w_trait ∷ (at_word w_unsafe or_else at_word w_impl) ∷ ended ∷ []; halts = at_comma ∷ at_plus ∷ at_lifetime ∷ at_colons ∷ at_arguments ∷ at_arrow ∷ []; shuns = [] }
+summary_of false predicate = record { stays = Punctuation lifetime_mark ∷ Word w_for ∷ Punctuation ampersand ∷ Punctuation star ∷ Delimited Paren false ∷ Delimited Bracket false ∷ Delimited None false ∷ []; moves = move (Punctuation and_and) (Punctuation ampersand) [] ∷ move (Punctuation ampersand_equals) (Punctuation ampersand) [] ∷ move (Punctuation star_equals) (Punctuation star) [] ∷ move (Punctuation exclamation) (Punctuation exclamation) [] ∷ move (Punctuation not_equals) (Punctuation exclamation) [] ∷ move (Punctuation less) (Punctuation less) [] ∷ move (Punctuation less_less_equals) (Punctuation less) [] ∷ move (Punctuation less_equals) (Punctuation less) [] ∷ move (Punctuation less_less) (Punctuation less) [] ∷ move (Punctuation colons) (Punctuation colons) [] ∷ move Name Name [] ∷ move (Word w_union) (Word w_union) [] ∷ move (Word w_auto) (Word w_auto) [] ∷ move (Word w_default) (Word w_default) [] ∷ move (Word w_safe) (Word w_safe) [] ∷ move (Word w_Self_type) (Word w_Self_type) [] ∷ move (Word w_self) (Word w_self) [] ∷ move (Word w_super) (Word w_super) [] ∷ move (Word w_crate) (Word w_crate) [] ∷ []; nullable = false; gone = []; ends = at_predicate_end ∷ at_equals ∷ at_paren ∷ at_less ∷ ((at_colons or_else at_less_only or_else at_paren or_else at_word w_as) but_not at_colons) ∷ (at_colons but_not at_colons) ∷ ((at_bang or_else at_colons and_also ahead Before_macro) but_not at_colons) ∷ ((at_path_rest and_also ahead Bang_brace) but_not at_colons) ∷ ((at_path_rest and_also ahead Bang_name) but_not at_colons) ∷ at_name ∷ at_brace ∷ at_word w_trait ∷ (at_word w_unsafe or_else at_word w_impl) ∷ ended ∷ []; halts = at_plus ∷ at_lifetime ∷ at_colons ∷ at_arguments ∷ at_arrow ∷ []; shuns = [] }
+summary_of false predicate_bounds = record { stays = Punctuation lifetime_mark ∷ Delimited Paren false ∷ Punctuation question ∷ Word w_for ∷ []; moves = move (Punctuation colons) (Punctuation colons) [] ∷ move Name Name [] ∷ move (Word w_union) (Word w_union) [] ∷ move (Word w_auto) (Word w_auto) [] ∷ move (Word w_default) (Word w_default) [] ∷ move (Word w_safe) (Word w_safe) [] ∷ move (Word w_Self_type) (Word w_Self_type) [] ∷ move (Word w_self) (Word w_self) [] ∷ move (Word w_super) (Word w_super) [] ∷ move (Word w_crate) (Word w_crate) [] ∷ []; nullable = true; gone = []; ends = at_predicate_end ∷ at_equals ∷ at_paren ∷ at_less ∷ ((at_colons or_else at_less_only or_else at_paren or_else at_word w_as) but_not at_colons) ∷ (at_colons but_not at_colons) ∷ ((at_bang or_else at_colons and_also ahead Before_macro) but_not at_colons) ∷ ((at_path_rest and_also ahead Bang_brace) but_not at_colons) ∷ ((at_path_rest and_also ahead Bang_name) but_not at_colons) ∷ at_name ∷ at_brace ∷ at_word w_trait ∷ (at_word w_unsafe or_else at_word w_impl) ∷ ended ∷ []; halts = at_plus ∷ at_colons ∷ at_arguments ∷ at_arrow ∷ []; shuns = [] }
 summary_of false fields_named = record { stays = Delimited Brace false ∷ []; moves = []; nullable = false; gone = []; ends = []; halts = []; shuns = [] }
-summary_of false named_fields = record { stays = Word w_pub ∷ Word w_underscore ∷ []; moves = move (Punctuation pound) (Punctuation pound) [] ∷ move Name Name [] ∷ move (Word w_union) (Word w_union) [] ∷ move (Word w_auto) (Word w_auto) [] ∷ move (Word w_default) (Word w_default) [] ∷ move (Word w_safe) (Word w_safe) [] ∷ move (Delimited None true) (Word w_underscore) [] ∷ move (Delimited None true) Name [] ∷ move (Delimited None true) (Word w_union) [] ∷ move (Delimited None true) (Word w_auto) [] ∷ move (Delimited None true) (Word w_default) [] ∷ move (Delimited None true) (Word w_safe) [] ∷ []; nullable = true; gone = []; ends = ended ∷ at_equals ∷ at_paren ∷ at_less ∷ ((at_colons or_else at_less_only or_else at_paren or_else at_word w_as) but_not at_colons) ∷ (at_colons but_not at_colons) ∷ ((at_path_rest and_also ahead Bang_brace) but_not at_colons) ∷ ((at_path_rest and_also ahead Bang_name) but_not at_colons) ∷ ((at_path_rest and_also ahead Bang_group) but_not at_colons) ∷ at_name ∷ at_brace ∷ at_word w_trait ∷ (at_word w_unsafe or_else at_word w_impl) ∷ []; halts = at_comma ∷ at_equals ∷ at_colons ∷ at_arguments ∷ at_arrow ∷ []; shuns = [] }
-summary_of false named_field = record { stays = Word w_pub ∷ Word w_underscore ∷ []; moves = move (Punctuation pound) (Punctuation pound) [] ∷ move Name Name [] ∷ move (Word w_union) (Word w_union) [] ∷ move (Word w_auto) (Word w_auto) [] ∷ move (Word w_default) (Word w_default) [] ∷ move (Word w_safe) (Word w_safe) [] ∷ move (Delimited None true) (Word w_underscore) [] ∷ move (Delimited None true) Name [] ∷ move (Delimited None true) (Word w_union) [] ∷ move (Delimited None true) (Word w_auto) [] ∷ move (Delimited None true) (Word w_default) [] ∷ move (Delimited None true) (Word w_safe) [] ∷ []; nullable = false; gone = []; ends = at_equals ∷ at_paren ∷ at_less ∷ ((at_colons or_else at_less_only or_else at_paren or_else at_word w_as) but_not at_colons) ∷ (at_colons but_not at_colons) ∷ ((at_path_rest and_also ahead Bang_brace) but_not at_colons) ∷ ((at_path_rest and_also ahead Bang_name) but_not at_colons) ∷ ((at_path_rest and_also ahead Bang_group) but_not at_colons) ∷ at_name ∷ at_brace ∷ at_word w_trait ∷ (at_word w_unsafe or_else at_word w_impl) ∷ ended ∷ []; halts = at_equals ∷ at_colons ∷ at_arguments ∷ at_arrow ∷ []; shuns = [] }
+summary_of false named_fields = record { stays = Word w_pub ∷ Word w_underscore ∷ []; moves = move (Punctuation pound) (Punctuation pound) [] ∷ move Name Name [] ∷ move (Word w_union) (Word w_union) [] ∷ move (Word w_auto) (Word w_auto) [] ∷ move (Word w_default) (Word w_default) [] ∷ move (Word w_safe) (Word w_safe) [] ∷ move (Delimited None true) (Word w_underscore) [] ∷ move (Delimited None true) Name [] ∷ move (Delimited None true) (Word w_union) [] ∷ move (Delimited None true) (Word w_auto) [] ∷ move (Delimited None true) (Word w_default) [] ∷ move (Delimited None true) (Word w_safe) [] ∷ []; nullable = true; gone = []; ends = ended ∷ at_equals ∷ at_paren ∷ at_less ∷ ((at_colons or_else at_less_only or_else at_paren or_else at_word w_as) but_not at_colons) ∷ (at_colons but_not at_colons) ∷ ((at_bang or_else at_colons and_also ahead Before_macro) but_not at_colons) ∷ ((at_path_rest and_also ahead Bang_brace) but_not at_colons) ∷ ((at_path_rest and_also ahead Bang_name) but_not at_colons) ∷ at_name ∷ at_brace ∷ at_word w_trait ∷ (at_word w_unsafe or_else at_word w_impl) ∷ []; halts = at_comma ∷ at_equals ∷ at_colons ∷ at_arguments ∷ at_arrow ∷ []; shuns = [] }
+summary_of false named_field = record { stays = Word w_pub ∷ Word w_underscore ∷ []; moves = move (Punctuation pound) (Punctuation pound) [] ∷ move Name Name [] ∷ move (Word w_union) (Word w_union) [] ∷ move (Word w_auto) (Word w_auto) [] ∷ move (Word w_default) (Word w_default) [] ∷ move (Word w_safe) (Word w_safe) [] ∷ move (Delimited None true) (Word w_underscore) [] ∷ move (Delimited None true) Name [] ∷ move (Delimited None true) (Word w_union) [] ∷ move (Delimited None true) (Word w_auto) [] ∷ move (Delimited None true) (Word w_default) [] ∷ move (Delimited None true) (Word w_safe) [] ∷ []; nullable = false; gone = []; ends = at_equals ∷ at_paren ∷ at_less ∷ ((at_colons or_else at_less_only or_else at_paren or_else at_word w_as) but_not at_colons) ∷ (at_colons but_not at_colons) ∷ ((at_bang or_else at_colons and_also ahead Before_macro) but_not at_colons) ∷ ((at_path_rest and_also ahead Bang_brace) but_not at_colons) ∷ ((at_path_rest and_also ahead Bang_name) but_not at_colons) ∷ at_name ∷ at_brace ∷ at_word w_trait ∷ (at_word w_unsafe or_else at_word w_impl) ∷ ended ∷ []; halts = at_equals ∷ at_colons ∷ at_arguments ∷ at_arrow ∷ []; shuns = [] }
 summary_of false nameless_fields = record { stays = Word w_struct ∷ Word w_union ∷ []; moves = []; nullable = false; gone = []; ends = []; halts = []; shuns = [] }
-summary_of false unnamed_field = record { stays = Word w_pub ∷ Punctuation ampersand ∷ Punctuation star ∷ Delimited Paren false ∷ Delimited Bracket false ∷ Delimited None false ∷ Name ∷ Word w_union ∷ Word w_auto ∷ Word w_default ∷ Word w_safe ∷ Word w_Self_type ∷ Word w_self ∷ Word w_super ∷ Word w_crate ∷ []; moves = move (Punctuation pound) (Punctuation pound) [] ∷ move (Punctuation and_and) (Punctuation ampersand) [] ∷ move (Punctuation ampersand_equals) (Punctuation ampersand) [] ∷ move (Punctuation star_equals) (Punctuation star) [] ∷ move (Punctuation exclamation) (Punctuation exclamation) [] ∷ move (Punctuation not_equals) (Punctuation exclamation) [] ∷ move (Punctuation less) (Punctuation less) [] ∷ move (Punctuation less_less_equals) (Punctuation less) [] ∷ move (Punctuation less_equals) (Punctuation less) [] ∷ move (Punctuation less_less) (Punctuation less) [] ∷ move (Punctuation colons) (Punctuation colons) [] ∷ move (Delimited None true) (Punctuation ampersand) [] ∷ move (Delimited None true) (Punctuation star) [] ∷ move (Delimited None true) (Delimited Paren false) [] ∷ move (Delimited None true) (Delimited Bracket false) [] ∷ move (Delimited None true) (Delimited None false) [] ∷ move (Delimited None true) Name [] ∷ move (Delimited None true) (Word w_union) [] ∷ move (Delimited None true) (Word w_auto) [] ∷ move (Delimited None true) (Word w_default) [] ∷ move (Delimited None true) (Word w_safe) [] ∷ move (Delimited None true) (Word w_Self_type) [] ∷ move (Delimited None true) (Word w_self) [] ∷ move (Delimited None true) (Word w_super) [] ∷ move (Delimited None true) (Word w_crate) [] ∷ move (Delimited None true) (Punctuation exclamation) [] ∷ move (Delimited None true) (Punctuation less) [] ∷ move (Delimited None true) (Punctuation colons) [] ∷ []; nullable = false; gone = []; ends = (at_equals but_not at_equals) ∷ at_paren ∷ at_less ∷ ((at_colons or_else at_less_only or_else at_paren or_else at_word w_as) but_not at_colons) ∷ (at_colons but_not at_colons) ∷ ((at_path_rest and_also ahead Bang_brace) but_not at_colons) ∷ ((at_path_rest and_also ahead Bang_name) but_not at_colons) ∷ ((at_path_rest and_also ahead Bang_group) but_not at_colons) ∷ at_name ∷ at_brace ∷ at_word w_trait ∷ (at_word w_unsafe or_else at_word w_impl) ∷ ended ∷ []; halts = at_equals ∷ at_colons ∷ at_arguments ∷ at_arrow ∷ []; shuns = [] }
-summary_of false unnamed_fields = record { stays = Word w_pub ∷ Punctuation ampersand ∷ Punctuation star ∷ Delimited Paren false ∷ Delimited Bracket false ∷ Delimited None false ∷ Name ∷ Word w_union ∷ Word w_auto ∷ Word w_default ∷ Word w_safe ∷ Word w_Self_type ∷ Word w_self ∷ Word w_super ∷ Word w_crate ∷ []; moves = move (Punctuation pound) (Punctuation pound) [] ∷ move (Punctuation and_and) (Punctuation ampersand) [] ∷ move (Punctuation ampersand_equals) (Punctuation ampersand) [] ∷ move (Punctuation star_equals) (Punctuation star) [] ∷ move (Punctuation exclamation) (Punctuation exclamation) [] ∷ move (Punctuation not_equals) (Punctuation exclamation) [] ∷ move (Punctuation less) (Punctuation less) [] ∷ move (Punctuation less_less_equals) (Punctuation less) [] ∷ move (Punctuation less_equals) (Punctuation less) [] ∷ move (Punctuation less_less) (Punctuation less) [] ∷ move (Punctuation colons) (Punctuation colons) [] ∷ move (Delimited None true) (Punctuation ampersand) [] ∷ move (Delimited None true) (Punctuation star) [] ∷ move (Delimited None true) (Delimited Paren false) [] ∷ move (Delimited None true) (Delimited Bracket false) [] ∷ move (Delimited None true) (Delimited None false) [] ∷ move (Delimited None true) Name [] ∷ move (Delimited None true) (Word w_union) [] ∷ move (Delimited None true) (Word w_auto) [] ∷ move (Delimited None true) (Word w_default) [] ∷ move (Delimited None true) (Word w_safe) [] ∷ move (Delimited None true) (Word w_Self_type) [] ∷ move (Delimited None true) (Word w_self) [] ∷ move (Delimited None true) (Word w_super) [] ∷ move (Delimited None true) (Word w_crate) [] ∷ move (Delimited None true) (Punctuation exclamation) [] ∷ move (Delimited None true) (Punctuation less) [] ∷ move (Delimited None true) (Punctuation colons) [] ∷ []; nullable = true; gone = []; ends = ended ∷ (at_equals but_not at_equals) ∷ at_paren ∷ at_less ∷ ((at_colons or_else at_less_only or_else at_paren or_else at_word w_as) but_not at_colons) ∷ (at_colons but_not at_colons) ∷ ((at_path_rest and_also ahead Bang_brace) but_not at_colons) ∷ ((at_path_rest and_also ahead Bang_name) but_not at_colons) ∷ ((at_path_rest and_also ahead Bang_group) but_not at_colons) ∷ at_name ∷ at_brace ∷ at_word w_trait ∷ (at_word w_unsafe or_else at_word w_impl) ∷ []; halts = at_comma ∷ at_equals ∷ at_colons ∷ at_arguments ∷ at_arrow ∷ []; shuns = [] }
+summary_of false unnamed_field = record { stays = Word w_pub ∷ Punctuation ampersand ∷ Punctuation star ∷ Delimited Paren false ∷ Delimited Bracket false ∷ Delimited None false ∷ Name ∷ Word w_union ∷ Word w_auto ∷ Word w_default ∷ Word w_safe ∷ Word w_Self_type ∷ Word w_self ∷ Word w_super ∷ Word w_crate ∷ []; moves = move (Punctuation pound) (Punctuation pound) [] ∷ move (Punctuation and_and) (Punctuation ampersand) [] ∷ move (Punctuation ampersand_equals) (Punctuation ampersand) [] ∷ move (Punctuation star_equals) (Punctuation star) [] ∷ move (Punctuation exclamation) (Punctuation exclamation) [] ∷ move (Punctuation not_equals) (Punctuation exclamation) [] ∷ move (Punctuation less) (Punctuation less) [] ∷ move (Punctuation less_less_equals) (Punctuation less) [] ∷ move (Punctuation less_equals) (Punctuation less) [] ∷ move (Punctuation less_less) (Punctuation less) [] ∷ move (Punctuation colons) (Punctuation colons) [] ∷ move (Delimited None true) (Punctuation ampersand) [] ∷ move (Delimited None true) (Punctuation star) [] ∷ move (Delimited None true) (Delimited Paren false) [] ∷ move (Delimited None true) (Delimited Bracket false) [] ∷ move (Delimited None true) (Delimited None false) [] ∷ move (Delimited None true) Name [] ∷ move (Delimited None true) (Word w_union) [] ∷ move (Delimited None true) (Word w_auto) [] ∷ move (Delimited None true) (Word w_default) [] ∷ move (Delimited None true) (Word w_safe) [] ∷ move (Delimited None true) (Word w_Self_type) [] ∷ move (Delimited None true) (Word w_self) [] ∷ move (Delimited None true) (Word w_super) [] ∷ move (Delimited None true) (Word w_crate) [] ∷ move (Delimited None true) (Punctuation exclamation) [] ∷ move (Delimited None true) (Punctuation less) [] ∷ move (Delimited None true) (Punctuation colons) [] ∷ []; nullable = false; gone = []; ends = (at_equals but_not at_equals) ∷ at_paren ∷ at_less ∷ ((at_colons or_else at_less_only or_else at_paren or_else at_word w_as) but_not at_colons) ∷ (at_colons but_not at_colons) ∷ ((at_bang or_else at_colons and_also ahead Before_macro) but_not at_colons) ∷ ((at_path_rest and_also ahead Bang_brace) but_not at_colons) ∷ ((at_path_rest and_also ahead Bang_name) but_not at_colons) ∷ at_name ∷ at_brace ∷ at_word w_trait ∷ (at_word w_unsafe or_else at_word w_impl) ∷ ended ∷ []; halts = at_equals ∷ at_colons ∷ at_arguments ∷ at_arrow ∷ []; shuns = [] }
+summary_of false unnamed_fields = record { stays = Word w_pub ∷ Punctuation ampersand ∷ Punctuation star ∷ Delimited Paren false ∷ Delimited Bracket false ∷ Delimited None false ∷ Name ∷ Word w_union ∷ Word w_auto ∷ Word w_default ∷ Word w_safe ∷ Word w_Self_type ∷ Word w_self ∷ Word w_super ∷ Word w_crate ∷ []; moves = move (Punctuation pound) (Punctuation pound) [] ∷ move (Punctuation and_and) (Punctuation ampersand) [] ∷ move (Punctuation ampersand_equals) (Punctuation ampersand) [] ∷ move (Punctuation star_equals) (Punctuation star) [] ∷ move (Punctuation exclamation) (Punctuation exclamation) [] ∷ move (Punctuation not_equals) (Punctuation exclamation) [] ∷ move (Punctuation less) (Punctuation less) [] ∷ move (Punctuation less_less_equals) (Punctuation less) [] ∷ move (Punctuation less_equals) (Punctuation less) [] ∷ move (Punctuation less_less) (Punctuation less) [] ∷ move (Punctuation colons) (Punctuation colons) [] ∷ move (Delimited None true) (Punctuation ampersand) [] ∷ move (Delimited None true) (Punctuation star) [] ∷ move (Delimited None true) (Delimited Paren false) [] ∷ move (Delimited None true) (Delimited Bracket false) [] ∷ move (Delimited None true) (Delimited None false) [] ∷ move (Delimited None true) Name [] ∷ move (Delimited None true) (Word w_union) [] ∷ move (Delimited None true) (Word w_auto) [] ∷ move (Delimited None true) (Word w_default) [] ∷ move (Delimited None true) (Word w_safe) [] ∷ move (Delimited None true) (Word w_Self_type) [] ∷ move (Delimited None true) (Word w_self) [] ∷ move (Delimited None true) (Word w_super) [] ∷ move (Delimited None true) (Word w_crate) [] ∷ move (Delimited None true) (Punctuation exclamation) [] ∷ move (Delimited None true) (Punctuation less) [] ∷ move (Delimited None true) (Punctuation colons) [] ∷ []; nullable = true; gone = []; ends = ended ∷ (at_equals but_not at_equals) ∷ at_paren ∷ at_less ∷ ((at_colons or_else at_less_only or_else at_paren or_else at_word w_as) but_not at_colons) ∷ (at_colons but_not at_colons) ∷ ((at_bang or_else at_colons and_also ahead Before_macro) but_not at_colons) ∷ ((at_path_rest and_also ahead Bang_brace) but_not at_colons) ∷ ((at_path_rest and_also ahead Bang_name) but_not at_colons) ∷ at_name ∷ at_brace ∷ at_word w_trait ∷ (at_word w_unsafe or_else at_word w_impl) ∷ []; halts = at_comma ∷ at_equals ∷ at_colons ∷ at_arguments ∷ at_arrow ∷ []; shuns = [] }
 summary_of false fields_unnamed = record { stays = []; moves = move (Delimited Paren false) (Delimited Paren false) [] ∷ []; nullable = false; gone = []; ends = []; halts = []; shuns = [] }
 summary_of false variant = record { stays = []; moves = move (Punctuation pound) (Punctuation pound) [] ∷ move Name Name [] ∷ move (Word w_union) (Word w_union) [] ∷ move (Word w_auto) (Word w_auto) [] ∷ move (Word w_default) (Word w_default) [] ∷ move (Word w_safe) (Word w_safe) [] ∷ move (Word w_pub) Name [] ∷ move (Word w_pub) (Word w_union) [] ∷ move (Word w_pub) (Word w_auto) [] ∷ move (Word w_pub) (Word w_default) [] ∷ move (Word w_pub) (Word w_safe) [] ∷ move (Delimited None true) Name [] ∷ move (Delimited None true) (Word w_union) [] ∷ move (Delimited None true) (Word w_auto) [] ∷ move (Delimited None true) (Word w_default) [] ∷ move (Delimited None true) (Word w_safe) [] ∷ []; nullable = false; gone = []; ends = []; halts = at_equals ∷ at_paren ∷ at_brace ∷ []; shuns = [] }
 summary_of false variants = record { stays = []; moves = move (Punctuation pound) (Punctuation pound) [] ∷ move Name Name [] ∷ move (Word w_union) (Word w_union) [] ∷ move (Word w_auto) (Word w_auto) [] ∷ move (Word w_default) (Word w_default) [] ∷ move (Word w_safe) (Word w_safe) [] ∷ move (Word w_pub) Name [] ∷ move (Word w_pub) (Word w_union) [] ∷ move (Word w_pub) (Word w_auto) [] ∷ move (Word w_pub) (Word w_default) [] ∷ move (Word w_pub) (Word w_safe) [] ∷ move (Delimited None true) Name [] ∷ move (Delimited None true) (Word w_union) [] ∷ move (Delimited None true) (Word w_auto) [] ∷ move (Delimited None true) (Word w_default) [] ∷ move (Delimited None true) (Word w_safe) [] ∷ []; nullable = true; gone = []; ends = ended ∷ []; halts = at_comma ∷ at_equals ∷ at_paren ∷ at_brace ∷ []; shuns = [] }
@@ -228,34 +378,84 @@ summary_of false enumeration_rest = record { stays = Word w_pub ∷ Word w_enum 
 summary_of false union_item = record { stays = Word w_pub ∷ []; moves = move (Punctuation pound) (Punctuation pound) [] ∷ move (Word w_union) (Word w_union) [] ∷ move (Delimited None true) (Word w_union) [] ∷ []; nullable = false; gone = []; ends = []; halts = []; shuns = [] }
 summary_of false union_item_rest = record { stays = Word w_pub ∷ []; moves = move (Word w_union) (Word w_union) [] ∷ move (Delimited None true) (Word w_union) [] ∷ []; nullable = false; gone = []; ends = []; halts = []; shuns = [] }
 summary_of false derive_input = record { stays = Word w_pub ∷ Word w_struct ∷ Word w_enum ∷ []; moves = move (Punctuation pound) (Punctuation pound) [] ∷ move (Delimited None true) (Word w_struct) [] ∷ move (Delimited None true) (Word w_enum) [] ∷ move (Word w_union) (Word w_union) [] ∷ move (Delimited None true) (Word w_union) [] ∷ []; nullable = false; gone = []; ends = []; halts = []; shuns = [] }
-summary_of true attributes = record { stays = []; moves = move (Punctuation pound) (Punctuation pound) [] ∷ []; nullable = true; gone = []; ends = []; halts = at_pound ∷ []; shuns = [] }
+summary_of false expression_path = record { stays = []; moves = move (Punctuation colons) (Punctuation colons) [] ∷ move Name Name [] ∷ move (Word w_union) (Word w_union) [] ∷ move (Word w_auto) (Word w_auto) [] ∷ move (Word w_default) (Word w_default) [] ∷ move (Word w_safe) (Word w_safe) [] ∷ move (Word w_Self_type) (Word w_Self_type) [] ∷ move (Word w_self) (Word w_self) [] ∷ move (Word w_super) (Word w_super) [] ∷ move (Word w_crate) (Word w_crate) [] ∷ []; nullable = false; gone = []; ends = at_equals ∷ at_paren ∷ at_less ∷ ((at_colons or_else at_less_only or_else at_paren or_else at_word w_as) but_not at_colons) ∷ (at_colons but_not at_colons) ∷ ((at_bang or_else at_colons and_also ahead Before_macro) but_not at_colons) ∷ ((at_path_rest and_also ahead Bang_brace) but_not at_colons) ∷ ((at_path_rest and_also ahead Bang_name) but_not at_colons) ∷ at_name ∷ at_brace ∷ at_word w_trait ∷ (at_word w_unsafe or_else at_word w_impl) ∷ ended ∷ []; halts = at_colons ∷ at_turbofish ∷ at_arrow ∷ at_arguments ∷ []; shuns = [] }
+summary_of false expression_words = record { stays = []; moves = move Name Name [] ∷ move (Word w_union) (Word w_union) [] ∷ move (Word w_auto) (Word w_auto) [] ∷ move (Word w_default) (Word w_default) [] ∷ move (Word w_safe) (Word w_safe) [] ∷ move (Word w_Self_type) (Word w_Self_type) [] ∷ move (Word w_self) (Word w_self) [] ∷ move (Word w_super) (Word w_super) [] ∷ move (Word w_crate) (Word w_crate) [] ∷ []; nullable = false; gone = []; ends = at_equals ∷ at_paren ∷ at_less ∷ ((at_colons or_else at_less_only or_else at_paren or_else at_word w_as) but_not at_colons) ∷ (at_colons but_not at_colons) ∷ ((at_bang or_else at_colons and_also ahead Before_macro) but_not at_colons) ∷ ((at_path_rest and_also ahead Bang_brace) but_not at_colons) ∷ ((at_path_rest and_also ahead Bang_name) but_not at_colons) ∷ at_name ∷ at_brace ∷ at_word w_trait ∷ (at_word w_unsafe or_else at_word w_impl) ∷ ended ∷ []; halts = at_colons ∷ at_turbofish ∷ at_arrow ∷ at_arguments ∷ []; shuns = [] }
+summary_of false qualified_expression_path = record { stays = []; moves = move (Punctuation less) (Punctuation less) [] ∷ move (Punctuation less_less_equals) (Punctuation less) [] ∷ move (Punctuation less_equals) (Punctuation less) [] ∷ move (Punctuation less_less) (Punctuation less) [] ∷ []; nullable = false; gone = []; ends = at_equals ∷ at_paren ∷ at_less ∷ ((at_colons or_else at_less_only or_else at_paren or_else at_word w_as) but_not at_colons) ∷ (at_colons but_not at_colons) ∷ ((at_bang or_else at_colons and_also ahead Before_macro) but_not at_colons) ∷ ((at_path_rest and_also ahead Bang_brace) but_not at_colons) ∷ ((at_path_rest and_also ahead Bang_name) but_not at_colons) ∷ at_name ∷ at_brace ∷ at_word w_trait ∷ (at_word w_unsafe or_else at_word w_impl) ∷ ended ∷ []; halts = at_colons ∷ at_turbofish ∷ at_arrow ∷ at_arguments ∷ []; shuns = [] }
+summary_of false path_as_expression = record { stays = []; moves = move (Punctuation less) (Punctuation less) [] ∷ move (Punctuation less_less_equals) (Punctuation less) [] ∷ move (Punctuation less_equals) (Punctuation less) [] ∷ move (Punctuation less_less) (Punctuation less) [] ∷ move (Punctuation colons) (Punctuation colons) [] ∷ move Name Name [] ∷ move (Word w_union) (Word w_union) [] ∷ move (Word w_auto) (Word w_auto) [] ∷ move (Word w_default) (Word w_default) [] ∷ move (Word w_safe) (Word w_safe) [] ∷ move (Word w_Self_type) (Word w_Self_type) [] ∷ move (Word w_self) (Word w_self) [] ∷ move (Word w_super) (Word w_super) [] ∷ move (Word w_crate) (Word w_crate) [] ∷ []; nullable = false; gone = []; ends = at_equals ∷ at_paren ∷ at_less ∷ ((at_colons or_else at_less_only or_else at_paren or_else at_word w_as) but_not at_colons) ∷ (at_colons but_not at_colons) ∷ ((at_bang or_else at_colons and_also ahead Before_macro) but_not at_colons) ∷ ((at_path_rest and_also ahead Bang_brace) but_not at_colons) ∷ ((at_path_rest and_also ahead Bang_name) but_not at_colons) ∷ at_name ∷ at_brace ∷ at_word w_trait ∷ (at_word w_unsafe or_else at_word w_impl) ∷ ended ∷ []; halts = at_colons ∷ at_turbofish ∷ at_arrow ∷ at_arguments ∷ []; shuns = [] }
+summary_of false macro_invocation = record { stays = []; moves = move (Punctuation colons) (Punctuation colons) [] ∷ move Name Name [] ∷ move (Word w_union) (Word w_union) [] ∷ move (Word w_auto) (Word w_auto) [] ∷ move (Word w_default) (Word w_default) [] ∷ move (Word w_safe) (Word w_safe) [] ∷ move (Word w_self) (Word w_self) [] ∷ move (Word w_Self_type) (Word w_Self_type) [] ∷ move (Word w_super) (Word w_super) [] ∷ move (Word w_crate) (Word w_crate) [] ∷ []; nullable = false; gone = []; ends = []; halts = []; shuns = [] }
+summary_of false pattern = record { stays = Word w_underscore ∷ Delimited Paren false ∷ Punctuation colons ∷ Name ∷ Word w_union ∷ Word w_auto ∷ Word w_default ∷ Word w_safe ∷ Word w_Self_type ∷ Word w_self ∷ Word w_super ∷ Word w_crate ∷ Word w_ref ∷ []; moves = move (Punctuation less) (Punctuation less) [] ∷ move (Punctuation less_less_equals) (Punctuation less) [] ∷ move (Punctuation less_equals) (Punctuation less) [] ∷ move (Punctuation less_less) (Punctuation less) [] ∷ move (Word w_mut) (Word w_mut) [] ∷ []; nullable = false; gone = []; ends = at_equals ∷ at_paren ∷ at_less ∷ ((at_colons or_else at_less_only or_else at_paren or_else at_word w_as) but_not at_colons) ∷ (at_colons but_not at_colons) ∷ ((at_bang or_else at_colons and_also ahead Before_macro) but_not at_colons) ∷ ((at_path_rest and_also ahead Bang_brace) but_not at_colons) ∷ ((at_path_rest and_also ahead Bang_name) but_not at_colons) ∷ at_name ∷ at_brace ∷ at_word w_trait ∷ (at_word w_unsafe or_else at_word w_impl) ∷ ended ∷ []; halts = at_paren ∷ at_colons ∷ at_turbofish ∷ at_arrow ∷ at_arguments ∷ []; shuns = [] }
+summary_of false patterns = record { stays = Word w_underscore ∷ Delimited Paren false ∷ Punctuation colons ∷ Name ∷ Word w_union ∷ Word w_auto ∷ Word w_default ∷ Word w_safe ∷ Word w_Self_type ∷ Word w_self ∷ Word w_super ∷ Word w_crate ∷ Word w_ref ∷ []; moves = move (Punctuation less) (Punctuation less) [] ∷ move (Punctuation less_less_equals) (Punctuation less) [] ∷ move (Punctuation less_equals) (Punctuation less) [] ∷ move (Punctuation less_less) (Punctuation less) [] ∷ move (Word w_mut) (Word w_mut) [] ∷ []; nullable = true; gone = []; ends = ended ∷ at_equals ∷ at_paren ∷ at_less ∷ ((at_colons or_else at_less_only or_else at_paren or_else at_word w_as) but_not at_colons) ∷ (at_colons but_not at_colons) ∷ ((at_bang or_else at_colons and_also ahead Before_macro) but_not at_colons) ∷ ((at_path_rest and_also ahead Bang_brace) but_not at_colons) ∷ ((at_path_rest and_also ahead Bang_name) but_not at_colons) ∷ at_name ∷ at_brace ∷ at_word w_trait ∷ (at_word w_unsafe or_else at_word w_impl) ∷ []; halts = at_comma ∷ at_paren ∷ at_colons ∷ at_turbofish ∷ at_arrow ∷ at_arguments ∷ []; shuns = [] }
+summary_of false expressions = record { stays = Punctuation minus ∷ Punctuation star ∷ Punctuation ampersand ∷ Word w_true ∷ Word w_false ∷ Literal Str ∷ Literal ByteStr ∷ Literal CStr ∷ Literal Byte ∷ Literal Char ∷ Literal Int ∷ Literal Float ∷ Punctuation colons ∷ Name ∷ Word w_union ∷ Word w_auto ∷ Word w_default ∷ Word w_safe ∷ Word w_self ∷ Word w_Self_type ∷ Word w_super ∷ Word w_crate ∷ Delimited Paren false ∷ Delimited Bracket false ∷ Delimited None false ∷ Word w_if ∷ Punctuation lifetime_mark ∷ Delimited Brace false ∷ Word w_loop ∷ Word w_while ∷ Word w_for ∷ Word w_return ∷ Word w_break ∷ Word w_continue ∷ []; moves = move (Punctuation pound) (Punctuation pound) [] ∷ move (Punctuation arrow) (Punctuation minus) [] ∷ move (Punctuation minus_equals) (Punctuation minus) [] ∷ move (Punctuation exclamation) (Punctuation exclamation) [] ∷ move (Punctuation not_equals) (Punctuation exclamation) [] ∷ move (Punctuation star_equals) (Punctuation star) [] ∷ move (Punctuation and_and) (Punctuation ampersand) [] ∷ move (Punctuation ampersand_equals) (Punctuation ampersand) [] ∷ move (Word w_unsafe) (Word w_unsafe) [] ∷ move (Punctuation less) (Punctuation less) [] ∷ move (Punctuation less_less_equals) (Punctuation less) [] ∷ move (Punctuation less_equals) (Punctuation less) [] ∷ move (Punctuation less_less) (Punctuation less) [] ∷ []; nullable = true; gone = []; ends = ended ∷ at_equals ∷ at_paren ∷ at_less ∷ (((at_colons or_else at_less_only or_else at_paren or_else at_word w_as) but_not at_colons) but_not at_word w_as) ∷ (at_colons but_not at_colons) ∷ ((at_bang or_else at_colons and_also ahead Before_macro) but_not at_colons) ∷ ((at_path_rest and_also ahead Bang_brace) but_not at_colons) ∷ ((at_path_rest and_also ahead Bang_name) but_not at_colons) ∷ at_name ∷ at_brace ∷ at_word w_trait ∷ (at_word w_unsafe or_else at_word w_impl) ∷ (at_paren but_not at_paren) ∷ ((((at_colons or_else at_less_only or_else at_paren or_else at_word w_as) but_not at_colons) but_not at_paren) but_not at_word w_as) ∷ ((((at_colons or_else at_less_only or_else at_paren or_else at_word w_as) but_not at_colons) but_not at_word w_as) but_not at_paren) ∷ []; halts = at_comma ∷ at_unfinished ∷ at_mark greater_greater_equals ∷ at_mark less_less_equals ∷ at_mark bar_equals ∷ at_mark ampersand_equals ∷ at_mark caret_equals ∷ at_mark percent_equals ∷ at_mark slash_equals ∷ at_mark star_equals ∷ at_mark minus_equals ∷ at_mark plus_equals ∷ at_equals_operator ∷ at_mark or_or ∷ at_mark and_and ∷ at_mark greater_equals ∷ at_mark less_equals ∷ at_greater_operator ∷ at_less_operator ∷ at_mark not_equals ∷ at_mark equal_equal ∷ at_bar_operator ∷ at_caret_operator ∷ at_ampersand_operator ∷ at_greater_greater_operator ∷ at_less_less_operator ∷ at_minus_operator ∷ at_plus_operator ∷ at_percent_operator ∷ at_slash_operator ∷ at_star_operator ∷ at_word w_as ∷ at_dot ∷ at_question ∷ at_bracket ∷ at_paren ∷ at_whole_expression ∷ at_lifetime ∷ at_colons ∷ at_arguments ∷ at_arrow ∷ at_word w_else ∷ at_turbofish ∷ []; shuns = [] }
+summary_of false array_content = record { stays = Punctuation minus ∷ Punctuation star ∷ Punctuation ampersand ∷ Word w_true ∷ Word w_false ∷ Literal Str ∷ Literal ByteStr ∷ Literal CStr ∷ Literal Byte ∷ Literal Char ∷ Literal Int ∷ Literal Float ∷ Punctuation colons ∷ Name ∷ Word w_union ∷ Word w_auto ∷ Word w_default ∷ Word w_safe ∷ Word w_self ∷ Word w_Self_type ∷ Word w_super ∷ Word w_crate ∷ Delimited Paren false ∷ Delimited Bracket false ∷ Delimited None false ∷ Word w_if ∷ Punctuation lifetime_mark ∷ Delimited Brace false ∷ Word w_loop ∷ Word w_while ∷ Word w_for ∷ Word w_return ∷ Word w_break ∷ Word w_continue ∷ []; moves = move (Punctuation pound) (Punctuation pound) [] ∷ move (Punctuation arrow) (Punctuation minus) [] ∷ move (Punctuation minus_equals) (Punctuation minus) [] ∷ move (Punctuation exclamation) (Punctuation exclamation) [] ∷ move (Punctuation not_equals) (Punctuation exclamation) [] ∷ move (Punctuation star_equals) (Punctuation star) [] ∷ move (Punctuation and_and) (Punctuation ampersand) [] ∷ move (Punctuation ampersand_equals) (Punctuation ampersand) [] ∷ move (Word w_unsafe) (Word w_unsafe) [] ∷ move (Punctuation less) (Punctuation less) [] ∷ move (Punctuation less_less_equals) (Punctuation less) [] ∷ move (Punctuation less_equals) (Punctuation less) [] ∷ move (Punctuation less_less) (Punctuation less) [] ∷ []; nullable = true; gone = []; ends = at_equals ∷ at_paren ∷ at_less ∷ (((at_colons or_else at_less_only or_else at_paren or_else at_word w_as) but_not at_colons) but_not at_word w_as) ∷ (at_colons but_not at_colons) ∷ ((at_bang or_else at_colons and_also ahead Before_macro) but_not at_colons) ∷ ((at_path_rest and_also ahead Bang_brace) but_not at_colons) ∷ ((at_path_rest and_also ahead Bang_name) but_not at_colons) ∷ at_name ∷ at_brace ∷ at_word w_trait ∷ (at_word w_unsafe or_else at_word w_impl) ∷ ended ∷ (at_paren but_not at_paren) ∷ ((((at_colons or_else at_less_only or_else at_paren or_else at_word w_as) but_not at_colons) but_not at_paren) but_not at_word w_as) ∷ ((((at_colons or_else at_less_only or_else at_paren or_else at_word w_as) but_not at_colons) but_not at_word w_as) but_not at_paren) ∷ []; halts = at_unfinished ∷ at_mark greater_greater_equals ∷ at_mark less_less_equals ∷ at_mark bar_equals ∷ at_mark ampersand_equals ∷ at_mark caret_equals ∷ at_mark percent_equals ∷ at_mark slash_equals ∷ at_mark star_equals ∷ at_mark minus_equals ∷ at_mark plus_equals ∷ at_equals_operator ∷ at_mark or_or ∷ at_mark and_and ∷ at_bar_operator ∷ at_caret_operator ∷ at_ampersand_operator ∷ at_greater_greater_operator ∷ at_less_less_operator ∷ at_minus_operator ∷ at_plus_operator ∷ at_percent_operator ∷ at_slash_operator ∷ at_star_operator ∷ at_word w_as ∷ at_colons ∷ at_arguments ∷ at_arrow ∷ at_dot ∷ at_question ∷ at_bracket ∷ at_paren ∷ at_whole_expression ∷ at_lifetime ∷ at_word w_else ∷ at_mark greater_equals ∷ at_mark less_equals ∷ at_greater_operator ∷ at_less_operator ∷ at_mark not_equals ∷ at_mark equal_equal ∷ at_turbofish ∷ at_comma ∷ at_semicolon ∷ []; shuns = [] }
+summary_of false block = record { stays = Delimited Brace false ∷ []; moves = []; nullable = false; gone = []; ends = []; halts = []; shuns = [] }
+summary_of false body = record { stays = Delimited Brace false ∷ []; moves = []; nullable = false; gone = []; ends = []; halts = []; shuns = [] }
+summary_of false plain_body = record { stays = Delimited Brace false ∷ []; moves = []; nullable = false; gone = []; ends = []; halts = []; shuns = [] }
+summary_of false no_inner_attributes = record { stays = []; moves = []; nullable = true; gone = []; ends = []; halts = at_inner_attribute ∷ []; shuns = [] }
+summary_of false primary = record { stays = Word w_true ∷ Word w_false ∷ Literal Str ∷ Literal ByteStr ∷ Literal CStr ∷ Literal Byte ∷ Literal Char ∷ Literal Int ∷ Literal Float ∷ Punctuation colons ∷ Name ∷ Word w_union ∷ Word w_auto ∷ Word w_default ∷ Word w_safe ∷ Word w_self ∷ Word w_Self_type ∷ Word w_super ∷ Word w_crate ∷ Delimited Paren false ∷ Delimited Bracket false ∷ Delimited None false ∷ Word w_if ∷ Punctuation lifetime_mark ∷ Delimited Brace false ∷ Word w_loop ∷ Word w_while ∷ Word w_for ∷ Word w_return ∷ Word w_break ∷ Word w_continue ∷ []; moves = move (Word w_unsafe) (Word w_unsafe) [] ∷ move (Punctuation less) (Punctuation less) [] ∷ move (Punctuation less_less_equals) (Punctuation less) [] ∷ move (Punctuation less_equals) (Punctuation less) [] ∷ move (Punctuation less_less) (Punctuation less) [] ∷ []; nullable = false; gone = []; ends = at_equals ∷ at_paren ∷ at_less ∷ (((at_colons or_else at_less_only or_else at_paren or_else at_word w_as) but_not at_colons) but_not at_word w_as) ∷ (at_colons but_not at_colons) ∷ ((at_bang or_else at_colons and_also ahead Before_macro) but_not at_colons) ∷ ((at_path_rest and_also ahead Bang_brace) but_not at_colons) ∷ ((at_path_rest and_also ahead Bang_name) but_not at_colons) ∷ at_name ∷ at_brace ∷ at_word w_trait ∷ (at_word w_unsafe or_else at_word w_impl) ∷ ended ∷ (at_paren but_not at_paren) ∷ ((((at_colons or_else at_less_only or_else at_paren or_else at_word w_as) but_not at_colons) but_not at_paren) but_not at_word w_as) ∷ ((((at_colons or_else at_less_only or_else at_paren or_else at_word w_as) but_not at_colons) but_not at_word w_as) but_not at_paren) ∷ ((at_colons or_else at_less_only or_else at_paren or_else at_word w_as) but_not at_colons) ∷ []; halts = at_word w_else ∷ at_unfinished ∷ at_mark greater_greater_equals ∷ at_mark less_less_equals ∷ at_mark bar_equals ∷ at_mark ampersand_equals ∷ at_mark caret_equals ∷ at_mark percent_equals ∷ at_mark slash_equals ∷ at_mark star_equals ∷ at_mark minus_equals ∷ at_mark plus_equals ∷ at_equals_operator ∷ at_mark or_or ∷ at_mark and_and ∷ at_bar_operator ∷ at_caret_operator ∷ at_ampersand_operator ∷ at_greater_greater_operator ∷ at_less_less_operator ∷ at_minus_operator ∷ at_plus_operator ∷ at_percent_operator ∷ at_slash_operator ∷ at_star_operator ∷ at_word w_as ∷ at_colons ∷ at_arguments ∷ at_arrow ∷ at_dot ∷ at_question ∷ at_bracket ∷ at_paren ∷ at_whole_expression ∷ at_lifetime ∷ at_mark greater_equals ∷ at_mark less_equals ∷ at_greater_operator ∷ at_less_operator ∷ at_mark not_equals ∷ at_mark equal_equal ∷ at_turbofish ∷ []; shuns = [] }
+summary_of false block_like = record { stays = Word w_if ∷ Punctuation lifetime_mark ∷ Delimited Brace false ∷ Word w_loop ∷ Word w_while ∷ Word w_for ∷ []; moves = move (Word w_unsafe) (Word w_unsafe) [] ∷ []; nullable = false; gone = []; ends = []; halts = at_word w_else ∷ []; shuns = [] }
+summary_of false if_expression = record { stays = Word w_if ∷ []; moves = []; nullable = false; gone = []; ends = []; halts = at_word w_else ∷ []; shuns = [] }
+summary_of false loop_expression = record { stays = Word w_loop ∷ Word w_while ∷ Word w_for ∷ []; moves = []; nullable = false; gone = []; ends = []; halts = []; shuns = [] }
+summary_of false postfixes = record { stays = Delimited Paren false ∷ Delimited Bracket false ∷ Punctuation question ∷ Punctuation dot ∷ []; moves = []; nullable = true; gone = []; ends = []; halts = at_dot ∷ at_question ∷ at_bracket ∷ at_paren ∷ at_colons ∷ []; shuns = [] }
+summary_of false member = record { stays = Literal Int ∷ []; moves = move Name Name [] ∷ move (Word w_union) (Word w_union) [] ∷ move (Word w_auto) (Word w_auto) [] ∷ move (Word w_default) (Word w_default) [] ∷ move (Word w_safe) (Word w_safe) [] ∷ []; nullable = false; gone = []; ends = []; halts = at_paren ∷ at_colons ∷ []; shuns = [] }
+summary_of false unary = record { stays = Punctuation minus ∷ Punctuation star ∷ Punctuation ampersand ∷ Word w_true ∷ Word w_false ∷ Literal Str ∷ Literal ByteStr ∷ Literal CStr ∷ Literal Byte ∷ Literal Char ∷ Literal Int ∷ Literal Float ∷ Punctuation colons ∷ Name ∷ Word w_union ∷ Word w_auto ∷ Word w_default ∷ Word w_safe ∷ Word w_self ∷ Word w_Self_type ∷ Word w_super ∷ Word w_crate ∷ Delimited Paren false ∷ Delimited Bracket false ∷ Delimited None false ∷ Word w_if ∷ Punctuation lifetime_mark ∷ Delimited Brace false ∷ Word w_loop ∷ Word w_while ∷ Word w_for ∷ Word w_return ∷ Word w_break ∷ Word w_continue ∷ []; moves = move (Punctuation pound) (Punctuation pound) [] ∷ move (Punctuation arrow) (Punctuation minus) [] ∷ move (Punctuation minus_equals) (Punctuation minus) [] ∷ move (Punctuation exclamation) (Punctuation exclamation) [] ∷ move (Punctuation not_equals) (Punctuation exclamation) [] ∷ move (Punctuation star_equals) (Punctuation star) [] ∷ move (Punctuation and_and) (Punctuation ampersand) [] ∷ move (Punctuation ampersand_equals) (Punctuation ampersand) [] ∷ move (Word w_unsafe) (Word w_unsafe) [] ∷ move (Punctuation less) (Punctuation less) [] ∷ move (Punctuation less_less_equals) (Punctuation less) [] ∷ move (Punctuation less_equals) (Punctuation less) [] ∷ move (Punctuation less_less) (Punctuation less) [] ∷ []; nullable = false; gone = []; ends = at_equals ∷ (at_paren but_not at_paren) ∷ at_less ∷ (((at_colons or_else at_less_only or_else at_paren or_else at_word w_as) but_not at_colons) but_not at_paren) ∷ (at_colons but_not at_colons) ∷ ((at_bang or_else at_colons and_also ahead Before_macro) but_not at_colons) ∷ ((at_path_rest and_also ahead Bang_brace) but_not at_colons) ∷ ((at_path_rest and_also ahead Bang_name) but_not at_colons) ∷ at_name ∷ at_brace ∷ at_word w_trait ∷ (at_word w_unsafe or_else at_word w_impl) ∷ ended ∷ ((((at_colons or_else at_less_only or_else at_paren or_else at_word w_as) but_not at_colons) but_not at_word w_as) but_not at_paren) ∷ ((((at_colons or_else at_less_only or_else at_paren or_else at_word w_as) but_not at_colons) but_not at_paren) but_not at_word w_as) ∷ []; halts = at_dot ∷ at_question ∷ at_bracket ∷ at_paren ∷ at_whole_expression ∷ at_lifetime ∷ at_colons ∷ at_unfinished ∷ at_mark greater_greater_equals ∷ at_mark less_less_equals ∷ at_mark bar_equals ∷ at_mark ampersand_equals ∷ at_mark caret_equals ∷ at_mark percent_equals ∷ at_mark slash_equals ∷ at_mark star_equals ∷ at_mark minus_equals ∷ at_mark plus_equals ∷ at_equals_operator ∷ at_mark or_or ∷ at_word w_else ∷ at_mark and_and ∷ at_mark greater_equals ∷ at_mark less_equals ∷ at_greater_operator ∷ at_less_operator ∷ at_mark not_equals ∷ at_mark equal_equal ∷ at_bar_operator ∷ at_turbofish ∷ at_arrow ∷ at_caret_operator ∷ at_ampersand_operator ∷ at_greater_greater_operator ∷ at_less_less_operator ∷ at_arguments ∷ at_minus_operator ∷ at_plus_operator ∷ at_percent_operator ∷ at_slash_operator ∷ at_star_operator ∷ at_word w_as ∷ []; shuns = [] }
+summary_of false casts = record { stays = Word w_as ∷ []; moves = []; nullable = true; gone = []; ends = at_equals ∷ at_paren ∷ at_less ∷ (((at_colons or_else at_less_only or_else at_paren or_else at_word w_as) but_not at_colons) but_not at_word w_as) ∷ (at_colons but_not at_colons) ∷ ((at_bang or_else at_colons and_also ahead Before_macro) but_not at_colons) ∷ ((at_path_rest and_also ahead Bang_brace) but_not at_colons) ∷ ((at_path_rest and_also ahead Bang_name) but_not at_colons) ∷ at_name ∷ at_brace ∷ at_word w_trait ∷ (at_word w_unsafe or_else at_word w_impl) ∷ ended ∷ []; halts = at_word w_as ∷ at_colons ∷ at_arguments ∷ at_arrow ∷ []; shuns = [] }
+summary_of false cast = record { stays = Punctuation minus ∷ Punctuation star ∷ Punctuation ampersand ∷ Word w_true ∷ Word w_false ∷ Literal Str ∷ Literal ByteStr ∷ Literal CStr ∷ Literal Byte ∷ Literal Char ∷ Literal Int ∷ Literal Float ∷ Punctuation colons ∷ Name ∷ Word w_union ∷ Word w_auto ∷ Word w_default ∷ Word w_safe ∷ Word w_self ∷ Word w_Self_type ∷ Word w_super ∷ Word w_crate ∷ Delimited Paren false ∷ Delimited Bracket false ∷ Delimited None false ∷ Word w_if ∷ Punctuation lifetime_mark ∷ Delimited Brace false ∷ Word w_loop ∷ Word w_while ∷ Word w_for ∷ Word w_return ∷ Word w_break ∷ Word w_continue ∷ []; moves = move (Punctuation pound) (Punctuation pound) [] ∷ move (Punctuation arrow) (Punctuation minus) [] ∷ move (Punctuation minus_equals) (Punctuation minus) [] ∷ move (Punctuation exclamation) (Punctuation exclamation) [] ∷ move (Punctuation not_equals) (Punctuation exclamation) [] ∷ move (Punctuation star_equals) (Punctuation star) [] ∷ move (Punctuation and_and) (Punctuation ampersand) [] ∷ move (Punctuation ampersand_equals) (Punctuation ampersand) [] ∷ move (Word w_unsafe) (Word w_unsafe) [] ∷ move (Punctuation less) (Punctuation less) [] ∷ move (Punctuation less_less_equals) (Punctuation less) [] ∷ move (Punctuation less_equals) (Punctuation less) [] ∷ move (Punctuation less_less) (Punctuation less) [] ∷ []; nullable = false; gone = []; ends = at_equals ∷ at_paren ∷ at_less ∷ (((at_colons or_else at_less_only or_else at_paren or_else at_word w_as) but_not at_colons) but_not at_word w_as) ∷ (at_colons but_not at_colons) ∷ ((at_bang or_else at_colons and_also ahead Before_macro) but_not at_colons) ∷ ((at_path_rest and_also ahead Bang_brace) but_not at_colons) ∷ ((at_path_rest and_also ahead Bang_name) but_not at_colons) ∷ at_name ∷ at_brace ∷ at_word w_trait ∷ (at_word w_unsafe or_else at_word w_impl) ∷ ended ∷ (at_paren but_not at_paren) ∷ ((((at_colons or_else at_less_only or_else at_paren or_else at_word w_as) but_not at_colons) but_not at_paren) but_not at_word w_as) ∷ ((((at_colons or_else at_less_only or_else at_paren or_else at_word w_as) but_not at_colons) but_not at_word w_as) but_not at_paren) ∷ []; halts = at_word w_as ∷ at_colons ∷ at_arguments ∷ at_arrow ∷ at_dot ∷ at_question ∷ at_bracket ∷ at_paren ∷ at_whole_expression ∷ at_lifetime ∷ at_unfinished ∷ at_mark greater_greater_equals ∷ at_mark less_less_equals ∷ at_mark bar_equals ∷ at_mark ampersand_equals ∷ at_mark caret_equals ∷ at_mark percent_equals ∷ at_mark slash_equals ∷ at_mark star_equals ∷ at_mark minus_equals ∷ at_mark plus_equals ∷ at_equals_operator ∷ at_mark or_or ∷ at_word w_else ∷ at_mark and_and ∷ at_mark greater_equals ∷ at_mark less_equals ∷ at_greater_operator ∷ at_less_operator ∷ at_mark not_equals ∷ at_mark equal_equal ∷ at_bar_operator ∷ at_turbofish ∷ at_caret_operator ∷ at_ampersand_operator ∷ at_greater_greater_operator ∷ at_less_less_operator ∷ at_minus_operator ∷ at_plus_operator ∷ at_percent_operator ∷ at_slash_operator ∷ at_star_operator ∷ []; shuns = [] }
+summary_of false products = record { stays = Punctuation star ∷ Punctuation slash ∷ Punctuation percent ∷ []; moves = []; nullable = true; gone = []; ends = at_equals ∷ at_paren ∷ at_less ∷ (((at_colons or_else at_less_only or_else at_paren or_else at_word w_as) but_not at_colons) but_not at_word w_as) ∷ (at_colons but_not at_colons) ∷ ((at_bang or_else at_colons and_also ahead Before_macro) but_not at_colons) ∷ ((at_path_rest and_also ahead Bang_brace) but_not at_colons) ∷ ((at_path_rest and_also ahead Bang_name) but_not at_colons) ∷ at_name ∷ at_brace ∷ at_word w_trait ∷ (at_word w_unsafe or_else at_word w_impl) ∷ ended ∷ (at_paren but_not at_paren) ∷ ((((at_colons or_else at_less_only or_else at_paren or_else at_word w_as) but_not at_colons) but_not at_paren) but_not at_word w_as) ∷ ((((at_colons or_else at_less_only or_else at_paren or_else at_word w_as) but_not at_colons) but_not at_word w_as) but_not at_paren) ∷ []; halts = at_percent_operator ∷ at_slash_operator ∷ at_star_operator ∷ at_word w_as ∷ at_colons ∷ at_arguments ∷ at_arrow ∷ at_dot ∷ at_question ∷ at_bracket ∷ at_paren ∷ at_whole_expression ∷ at_lifetime ∷ at_unfinished ∷ at_mark greater_greater_equals ∷ at_mark less_less_equals ∷ at_mark bar_equals ∷ at_mark ampersand_equals ∷ at_mark caret_equals ∷ at_mark percent_equals ∷ at_mark slash_equals ∷ at_mark star_equals ∷ at_mark minus_equals ∷ at_mark plus_equals ∷ at_equals_operator ∷ at_mark or_or ∷ at_word w_else ∷ at_mark and_and ∷ at_mark greater_equals ∷ at_mark less_equals ∷ at_greater_operator ∷ at_less_operator ∷ at_mark not_equals ∷ at_mark equal_equal ∷ at_bar_operator ∷ at_turbofish ∷ at_caret_operator ∷ at_ampersand_operator ∷ at_greater_greater_operator ∷ at_less_less_operator ∷ at_minus_operator ∷ at_plus_operator ∷ []; shuns = [] }
+summary_of false product = record { stays = Punctuation minus ∷ Punctuation star ∷ Punctuation ampersand ∷ Word w_true ∷ Word w_false ∷ Literal Str ∷ Literal ByteStr ∷ Literal CStr ∷ Literal Byte ∷ Literal Char ∷ Literal Int ∷ Literal Float ∷ Punctuation colons ∷ Name ∷ Word w_union ∷ Word w_auto ∷ Word w_default ∷ Word w_safe ∷ Word w_self ∷ Word w_Self_type ∷ Word w_super ∷ Word w_crate ∷ Delimited Paren false ∷ Delimited Bracket false ∷ Delimited None false ∷ Word w_if ∷ Punctuation lifetime_mark ∷ Delimited Brace false ∷ Word w_loop ∷ Word w_while ∷ Word w_for ∷ Word w_return ∷ Word w_break ∷ Word w_continue ∷ []; moves = move (Punctuation pound) (Punctuation pound) [] ∷ move (Punctuation arrow) (Punctuation minus) [] ∷ move (Punctuation minus_equals) (Punctuation minus) [] ∷ move (Punctuation exclamation) (Punctuation exclamation) [] ∷ move (Punctuation not_equals) (Punctuation exclamation) [] ∷ move (Punctuation star_equals) (Punctuation star) [] ∷ move (Punctuation and_and) (Punctuation ampersand) [] ∷ move (Punctuation ampersand_equals) (Punctuation ampersand) [] ∷ move (Word w_unsafe) (Word w_unsafe) [] ∷ move (Punctuation less) (Punctuation less) [] ∷ move (Punctuation less_less_equals) (Punctuation less) [] ∷ move (Punctuation less_equals) (Punctuation less) [] ∷ move (Punctuation less_less) (Punctuation less) [] ∷ []; nullable = false; gone = []; ends = at_equals ∷ at_paren ∷ at_less ∷ (((at_colons or_else at_less_only or_else at_paren or_else at_word w_as) but_not at_colons) but_not at_word w_as) ∷ (at_colons but_not at_colons) ∷ ((at_bang or_else at_colons and_also ahead Before_macro) but_not at_colons) ∷ ((at_path_rest and_also ahead Bang_brace) but_not at_colons) ∷ ((at_path_rest and_also ahead Bang_name) but_not at_colons) ∷ at_name ∷ at_brace ∷ at_word w_trait ∷ (at_word w_unsafe or_else at_word w_impl) ∷ ended ∷ (at_paren but_not at_paren) ∷ ((((at_colons or_else at_less_only or_else at_paren or_else at_word w_as) but_not at_colons) but_not at_paren) but_not at_word w_as) ∷ ((((at_colons or_else at_less_only or_else at_paren or_else at_word w_as) but_not at_colons) but_not at_word w_as) but_not at_paren) ∷ []; halts = at_percent_operator ∷ at_slash_operator ∷ at_star_operator ∷ at_word w_as ∷ at_colons ∷ at_arguments ∷ at_arrow ∷ at_dot ∷ at_question ∷ at_bracket ∷ at_paren ∷ at_whole_expression ∷ at_lifetime ∷ at_unfinished ∷ at_mark greater_greater_equals ∷ at_mark less_less_equals ∷ at_mark bar_equals ∷ at_mark ampersand_equals ∷ at_mark caret_equals ∷ at_mark percent_equals ∷ at_mark slash_equals ∷ at_mark star_equals ∷ at_mark minus_equals ∷ at_mark plus_equals ∷ at_equals_operator ∷ at_mark or_or ∷ at_word w_else ∷ at_mark and_and ∷ at_mark greater_equals ∷ at_mark less_equals ∷ at_greater_operator ∷ at_less_operator ∷ at_mark not_equals ∷ at_mark equal_equal ∷ at_bar_operator ∷ at_turbofish ∷ at_caret_operator ∷ at_ampersand_operator ∷ at_greater_greater_operator ∷ at_less_less_operator ∷ at_minus_operator ∷ at_plus_operator ∷ []; shuns = [] }
+summary_of false sums = record { stays = Punctuation plus ∷ Punctuation minus ∷ []; moves = move (Punctuation arrow) (Punctuation minus) [] ∷ []; nullable = true; gone = []; ends = at_equals ∷ at_paren ∷ at_less ∷ (((at_colons or_else at_less_only or_else at_paren or_else at_word w_as) but_not at_colons) but_not at_word w_as) ∷ (at_colons but_not at_colons) ∷ ((at_bang or_else at_colons and_also ahead Before_macro) but_not at_colons) ∷ ((at_path_rest and_also ahead Bang_brace) but_not at_colons) ∷ ((at_path_rest and_also ahead Bang_name) but_not at_colons) ∷ at_name ∷ at_brace ∷ at_word w_trait ∷ (at_word w_unsafe or_else at_word w_impl) ∷ ended ∷ (at_paren but_not at_paren) ∷ ((((at_colons or_else at_less_only or_else at_paren or_else at_word w_as) but_not at_colons) but_not at_paren) but_not at_word w_as) ∷ ((((at_colons or_else at_less_only or_else at_paren or_else at_word w_as) but_not at_colons) but_not at_word w_as) but_not at_paren) ∷ []; halts = at_minus_operator ∷ at_plus_operator ∷ at_percent_operator ∷ at_slash_operator ∷ at_star_operator ∷ at_word w_as ∷ at_colons ∷ at_arguments ∷ at_arrow ∷ at_dot ∷ at_question ∷ at_bracket ∷ at_paren ∷ at_whole_expression ∷ at_lifetime ∷ at_unfinished ∷ at_mark greater_greater_equals ∷ at_mark less_less_equals ∷ at_mark bar_equals ∷ at_mark ampersand_equals ∷ at_mark caret_equals ∷ at_mark percent_equals ∷ at_mark slash_equals ∷ at_mark star_equals ∷ at_mark minus_equals ∷ at_mark plus_equals ∷ at_equals_operator ∷ at_mark or_or ∷ at_word w_else ∷ at_mark and_and ∷ at_mark greater_equals ∷ at_mark less_equals ∷ at_greater_operator ∷ at_less_operator ∷ at_mark not_equals ∷ at_mark equal_equal ∷ at_bar_operator ∷ at_turbofish ∷ at_caret_operator ∷ at_ampersand_operator ∷ at_greater_greater_operator ∷ at_less_less_operator ∷ []; shuns = [] }
+summary_of false sum = record { stays = Punctuation minus ∷ Punctuation star ∷ Punctuation ampersand ∷ Word w_true ∷ Word w_false ∷ Literal Str ∷ Literal ByteStr ∷ Literal CStr ∷ Literal Byte ∷ Literal Char ∷ Literal Int ∷ Literal Float ∷ Punctuation colons ∷ Name ∷ Word w_union ∷ Word w_auto ∷ Word w_default ∷ Word w_safe ∷ Word w_self ∷ Word w_Self_type ∷ Word w_super ∷ Word w_crate ∷ Delimited Paren false ∷ Delimited Bracket false ∷ Delimited None false ∷ Word w_if ∷ Punctuation lifetime_mark ∷ Delimited Brace false ∷ Word w_loop ∷ Word w_while ∷ Word w_for ∷ Word w_return ∷ Word w_break ∷ Word w_continue ∷ []; moves = move (Punctuation pound) (Punctuation pound) [] ∷ move (Punctuation arrow) (Punctuation minus) [] ∷ move (Punctuation minus_equals) (Punctuation minus) [] ∷ move (Punctuation exclamation) (Punctuation exclamation) [] ∷ move (Punctuation not_equals) (Punctuation exclamation) [] ∷ move (Punctuation star_equals) (Punctuation star) [] ∷ move (Punctuation and_and) (Punctuation ampersand) [] ∷ move (Punctuation ampersand_equals) (Punctuation ampersand) [] ∷ move (Word w_unsafe) (Word w_unsafe) [] ∷ move (Punctuation less) (Punctuation less) [] ∷ move (Punctuation less_less_equals) (Punctuation less) [] ∷ move (Punctuation less_equals) (Punctuation less) [] ∷ move (Punctuation less_less) (Punctuation less) [] ∷ []; nullable = false; gone = []; ends = at_equals ∷ at_paren ∷ at_less ∷ (((at_colons or_else at_less_only or_else at_paren or_else at_word w_as) but_not at_colons) but_not at_word w_as) ∷ (at_colons but_not at_colons) ∷ ((at_bang or_else at_colons and_also ahead Before_macro) but_not at_colons) ∷ ((at_path_rest and_also ahead Bang_brace) but_not at_colons) ∷ ((at_path_rest and_also ahead Bang_name) but_not at_colons) ∷ at_name ∷ at_brace ∷ at_word w_trait ∷ (at_word w_unsafe or_else at_word w_impl) ∷ ended ∷ (at_paren but_not at_paren) ∷ ((((at_colons or_else at_less_only or_else at_paren or_else at_word w_as) but_not at_colons) but_not at_paren) but_not at_word w_as) ∷ ((((at_colons or_else at_less_only or_else at_paren or_else at_word w_as) but_not at_colons) but_not at_word w_as) but_not at_paren) ∷ []; halts = at_minus_operator ∷ at_plus_operator ∷ at_percent_operator ∷ at_slash_operator ∷ at_star_operator ∷ at_word w_as ∷ at_colons ∷ at_arguments ∷ at_arrow ∷ at_dot ∷ at_question ∷ at_bracket ∷ at_paren ∷ at_whole_expression ∷ at_lifetime ∷ at_unfinished ∷ at_mark greater_greater_equals ∷ at_mark less_less_equals ∷ at_mark bar_equals ∷ at_mark ampersand_equals ∷ at_mark caret_equals ∷ at_mark percent_equals ∷ at_mark slash_equals ∷ at_mark star_equals ∷ at_mark minus_equals ∷ at_mark plus_equals ∷ at_equals_operator ∷ at_mark or_or ∷ at_word w_else ∷ at_mark and_and ∷ at_mark greater_equals ∷ at_mark less_equals ∷ at_greater_operator ∷ at_less_operator ∷ at_mark not_equals ∷ at_mark equal_equal ∷ at_bar_operator ∷ at_turbofish ∷ at_caret_operator ∷ at_ampersand_operator ∷ at_greater_greater_operator ∷ at_less_less_operator ∷ []; shuns = [] }
+summary_of false shifts = record { stays = Punctuation greater_greater ∷ []; moves = move (Punctuation less_less) (Punctuation less_less) [] ∷ []; nullable = true; gone = []; ends = at_equals ∷ at_paren ∷ at_less ∷ (((at_colons or_else at_less_only or_else at_paren or_else at_word w_as) but_not at_colons) but_not at_word w_as) ∷ (at_colons but_not at_colons) ∷ ((at_bang or_else at_colons and_also ahead Before_macro) but_not at_colons) ∷ ((at_path_rest and_also ahead Bang_brace) but_not at_colons) ∷ ((at_path_rest and_also ahead Bang_name) but_not at_colons) ∷ at_name ∷ at_brace ∷ at_word w_trait ∷ (at_word w_unsafe or_else at_word w_impl) ∷ ended ∷ (at_paren but_not at_paren) ∷ ((((at_colons or_else at_less_only or_else at_paren or_else at_word w_as) but_not at_colons) but_not at_paren) but_not at_word w_as) ∷ ((((at_colons or_else at_less_only or_else at_paren or_else at_word w_as) but_not at_colons) but_not at_word w_as) but_not at_paren) ∷ []; halts = at_greater_greater_operator ∷ at_less_less_operator ∷ at_minus_operator ∷ at_plus_operator ∷ at_percent_operator ∷ at_slash_operator ∷ at_star_operator ∷ at_word w_as ∷ at_colons ∷ at_arguments ∷ at_arrow ∷ at_dot ∷ at_question ∷ at_bracket ∷ at_paren ∷ at_whole_expression ∷ at_lifetime ∷ at_unfinished ∷ at_mark greater_greater_equals ∷ at_mark less_less_equals ∷ at_mark bar_equals ∷ at_mark ampersand_equals ∷ at_mark caret_equals ∷ at_mark percent_equals ∷ at_mark slash_equals ∷ at_mark star_equals ∷ at_mark minus_equals ∷ at_mark plus_equals ∷ at_equals_operator ∷ at_mark or_or ∷ at_word w_else ∷ at_mark and_and ∷ at_mark greater_equals ∷ at_mark less_equals ∷ at_greater_operator ∷ at_less_operator ∷ at_mark not_equals ∷ at_mark equal_equal ∷ at_bar_operator ∷ at_turbofish ∷ at_caret_operator ∷ at_ampersand_operator ∷ []; shuns = [] }
+summary_of false shift = record { stays = Punctuation minus ∷ Punctuation star ∷ Punctuation ampersand ∷ Word w_true ∷ Word w_false ∷ Literal Str ∷ Literal ByteStr ∷ Literal CStr ∷ Literal Byte ∷ Literal Char ∷ Literal Int ∷ Literal Float ∷ Punctuation colons ∷ Name ∷ Word w_union ∷ Word w_auto ∷ Word w_default ∷ Word w_safe ∷ Word w_self ∷ Word w_Self_type ∷ Word w_super ∷ Word w_crate ∷ Delimited Paren false ∷ Delimited Bracket false ∷ Delimited None false ∷ Word w_if ∷ Punctuation lifetime_mark ∷ Delimited Brace false ∷ Word w_loop ∷ Word w_while ∷ Word w_for ∷ Word w_return ∷ Word w_break ∷ Word w_continue ∷ []; moves = move (Punctuation pound) (Punctuation pound) [] ∷ move (Punctuation arrow) (Punctuation minus) [] ∷ move (Punctuation minus_equals) (Punctuation minus) [] ∷ move (Punctuation exclamation) (Punctuation exclamation) [] ∷ move (Punctuation not_equals) (Punctuation exclamation) [] ∷ move (Punctuation star_equals) (Punctuation star) [] ∷ move (Punctuation and_and) (Punctuation ampersand) [] ∷ move (Punctuation ampersand_equals) (Punctuation ampersand) [] ∷ move (Word w_unsafe) (Word w_unsafe) [] ∷ move (Punctuation less) (Punctuation less) [] ∷ move (Punctuation less_less_equals) (Punctuation less) [] ∷ move (Punctuation less_equals) (Punctuation less) [] ∷ move (Punctuation less_less) (Punctuation less) [] ∷ []; nullable = false; gone = []; ends = at_equals ∷ at_paren ∷ at_less ∷ (((at_colons or_else at_less_only or_else at_paren or_else at_word w_as) but_not at_colons) but_not at_word w_as) ∷ (at_colons but_not at_colons) ∷ ((at_bang or_else at_colons and_also ahead Before_macro) but_not at_colons) ∷ ((at_path_rest and_also ahead Bang_brace) but_not at_colons) ∷ ((at_path_rest and_also ahead Bang_name) but_not at_colons) ∷ at_name ∷ at_brace ∷ at_word w_trait ∷ (at_word w_unsafe or_else at_word w_impl) ∷ ended ∷ (at_paren but_not at_paren) ∷ ((((at_colons or_else at_less_only or_else at_paren or_else at_word w_as) but_not at_colons) but_not at_paren) but_not at_word w_as) ∷ ((((at_colons or_else at_less_only or_else at_paren or_else at_word w_as) but_not at_colons) but_not at_word w_as) but_not at_paren) ∷ []; halts = at_greater_greater_operator ∷ at_less_less_operator ∷ at_minus_operator ∷ at_plus_operator ∷ at_percent_operator ∷ at_slash_operator ∷ at_star_operator ∷ at_word w_as ∷ at_colons ∷ at_arguments ∷ at_arrow ∷ at_dot ∷ at_question ∷ at_bracket ∷ at_paren ∷ at_whole_expression ∷ at_lifetime ∷ at_unfinished ∷ at_mark greater_greater_equals ∷ at_mark less_less_equals ∷ at_mark bar_equals ∷ at_mark ampersand_equals ∷ at_mark caret_equals ∷ at_mark percent_equals ∷ at_mark slash_equals ∷ at_mark star_equals ∷ at_mark minus_equals ∷ at_mark plus_equals ∷ at_equals_operator ∷ at_mark or_or ∷ at_word w_else ∷ at_mark and_and ∷ at_mark greater_equals ∷ at_mark less_equals ∷ at_greater_operator ∷ at_less_operator ∷ at_mark not_equals ∷ at_mark equal_equal ∷ at_bar_operator ∷ at_turbofish ∷ at_caret_operator ∷ at_ampersand_operator ∷ []; shuns = [] }
+summary_of false bit_ands = record { stays = Punctuation ampersand ∷ []; moves = []; nullable = true; gone = []; ends = at_equals ∷ at_paren ∷ at_less ∷ (((at_colons or_else at_less_only or_else at_paren or_else at_word w_as) but_not at_colons) but_not at_word w_as) ∷ (at_colons but_not at_colons) ∷ ((at_bang or_else at_colons and_also ahead Before_macro) but_not at_colons) ∷ ((at_path_rest and_also ahead Bang_brace) but_not at_colons) ∷ ((at_path_rest and_also ahead Bang_name) but_not at_colons) ∷ at_name ∷ at_brace ∷ at_word w_trait ∷ (at_word w_unsafe or_else at_word w_impl) ∷ ended ∷ (at_paren but_not at_paren) ∷ ((((at_colons or_else at_less_only or_else at_paren or_else at_word w_as) but_not at_colons) but_not at_paren) but_not at_word w_as) ∷ ((((at_colons or_else at_less_only or_else at_paren or_else at_word w_as) but_not at_colons) but_not at_word w_as) but_not at_paren) ∷ []; halts = at_ampersand_operator ∷ at_greater_greater_operator ∷ at_less_less_operator ∷ at_minus_operator ∷ at_plus_operator ∷ at_percent_operator ∷ at_slash_operator ∷ at_star_operator ∷ at_word w_as ∷ at_colons ∷ at_arguments ∷ at_arrow ∷ at_dot ∷ at_question ∷ at_bracket ∷ at_paren ∷ at_whole_expression ∷ at_lifetime ∷ at_unfinished ∷ at_mark greater_greater_equals ∷ at_mark less_less_equals ∷ at_mark bar_equals ∷ at_mark ampersand_equals ∷ at_mark caret_equals ∷ at_mark percent_equals ∷ at_mark slash_equals ∷ at_mark star_equals ∷ at_mark minus_equals ∷ at_mark plus_equals ∷ at_equals_operator ∷ at_mark or_or ∷ at_word w_else ∷ at_mark and_and ∷ at_mark greater_equals ∷ at_mark less_equals ∷ at_greater_operator ∷ at_less_operator ∷ at_mark not_equals ∷ at_mark equal_equal ∷ at_bar_operator ∷ at_turbofish ∷ at_caret_operator ∷ []; shuns = [] }
+summary_of false bit_and = record { stays = Punctuation minus ∷ Punctuation star ∷ Punctuation ampersand ∷ Word w_true ∷ Word w_false ∷ Literal Str ∷ Literal ByteStr ∷ Literal CStr ∷ Literal Byte ∷ Literal Char ∷ Literal Int ∷ Literal Float ∷ Punctuation colons ∷ Name ∷ Word w_union ∷ Word w_auto ∷ Word w_default ∷ Word w_safe ∷ Word w_self ∷ Word w_Self_type ∷ Word w_super ∷ Word w_crate ∷ Delimited Paren false ∷ Delimited Bracket false ∷ Delimited None false ∷ Word w_if ∷ Punctuation lifetime_mark ∷ Delimited Brace false ∷ Word w_loop ∷ Word w_while ∷ Word w_for ∷ Word w_return ∷ Word w_break ∷ Word w_continue ∷ []; moves = move (Punctuation pound) (Punctuation pound) [] ∷ move (Punctuation arrow) (Punctuation minus) [] ∷ move (Punctuation minus_equals) (Punctuation minus) [] ∷ move (Punctuation exclamation) (Punctuation exclamation) [] ∷ move (Punctuation not_equals) (Punctuation exclamation) [] ∷ move (Punctuation star_equals) (Punctuation star) [] ∷ move (Punctuation and_and) (Punctuation ampersand) [] ∷ move (Punctuation ampersand_equals) (Punctuation ampersand) [] ∷ move (Word w_unsafe) (Word w_unsafe) [] ∷ move (Punctuation less) (Punctuation less) [] ∷ move (Punctuation less_less_equals) (Punctuation less) [] ∷ move (Punctuation less_equals) (Punctuation less) [] ∷ move (Punctuation less_less) (Punctuation less) [] ∷ []; nullable = false; gone = []; ends = at_equals ∷ at_paren ∷ at_less ∷ (((at_colons or_else at_less_only or_else at_paren or_else at_word w_as) but_not at_colons) but_not at_word w_as) ∷ (at_colons but_not at_colons) ∷ ((at_bang or_else at_colons and_also ahead Before_macro) but_not at_colons) ∷ ((at_path_rest and_also ahead Bang_brace) but_not at_colons) ∷ ((at_path_rest and_also ahead Bang_name) but_not at_colons) ∷ at_name ∷ at_brace ∷ at_word w_trait ∷ (at_word w_unsafe or_else at_word w_impl) ∷ ended ∷ (at_paren but_not at_paren) ∷ ((((at_colons or_else at_less_only or_else at_paren or_else at_word w_as) but_not at_colons) but_not at_paren) but_not at_word w_as) ∷ ((((at_colons or_else at_less_only or_else at_paren or_else at_word w_as) but_not at_colons) but_not at_word w_as) but_not at_paren) ∷ []; halts = at_ampersand_operator ∷ at_greater_greater_operator ∷ at_less_less_operator ∷ at_minus_operator ∷ at_plus_operator ∷ at_percent_operator ∷ at_slash_operator ∷ at_star_operator ∷ at_word w_as ∷ at_colons ∷ at_arguments ∷ at_arrow ∷ at_dot ∷ at_question ∷ at_bracket ∷ at_paren ∷ at_whole_expression ∷ at_lifetime ∷ at_unfinished ∷ at_mark greater_greater_equals ∷ at_mark less_less_equals ∷ at_mark bar_equals ∷ at_mark ampersand_equals ∷ at_mark caret_equals ∷ at_mark percent_equals ∷ at_mark slash_equals ∷ at_mark star_equals ∷ at_mark minus_equals ∷ at_mark plus_equals ∷ at_equals_operator ∷ at_mark or_or ∷ at_word w_else ∷ at_mark and_and ∷ at_mark greater_equals ∷ at_mark less_equals ∷ at_greater_operator ∷ at_less_operator ∷ at_mark not_equals ∷ at_mark equal_equal ∷ at_bar_operator ∷ at_turbofish ∷ at_caret_operator ∷ []; shuns = [] }
+summary_of false bit_xors = record { stays = Punctuation caret ∷ []; moves = []; nullable = true; gone = []; ends = at_equals ∷ at_paren ∷ at_less ∷ (((at_colons or_else at_less_only or_else at_paren or_else at_word w_as) but_not at_colons) but_not at_word w_as) ∷ (at_colons but_not at_colons) ∷ ((at_bang or_else at_colons and_also ahead Before_macro) but_not at_colons) ∷ ((at_path_rest and_also ahead Bang_brace) but_not at_colons) ∷ ((at_path_rest and_also ahead Bang_name) but_not at_colons) ∷ at_name ∷ at_brace ∷ at_word w_trait ∷ (at_word w_unsafe or_else at_word w_impl) ∷ ended ∷ (at_paren but_not at_paren) ∷ ((((at_colons or_else at_less_only or_else at_paren or_else at_word w_as) but_not at_colons) but_not at_paren) but_not at_word w_as) ∷ ((((at_colons or_else at_less_only or_else at_paren or_else at_word w_as) but_not at_colons) but_not at_word w_as) but_not at_paren) ∷ []; halts = at_caret_operator ∷ at_ampersand_operator ∷ at_greater_greater_operator ∷ at_less_less_operator ∷ at_minus_operator ∷ at_plus_operator ∷ at_percent_operator ∷ at_slash_operator ∷ at_star_operator ∷ at_word w_as ∷ at_colons ∷ at_arguments ∷ at_arrow ∷ at_dot ∷ at_question ∷ at_bracket ∷ at_paren ∷ at_whole_expression ∷ at_lifetime ∷ at_unfinished ∷ at_mark greater_greater_equals ∷ at_mark less_less_equals ∷ at_mark bar_equals ∷ at_mark ampersand_equals ∷ at_mark caret_equals ∷ at_mark percent_equals ∷ at_mark slash_equals ∷ at_mark star_equals ∷ at_mark minus_equals ∷ at_mark plus_equals ∷ at_equals_operator ∷ at_mark or_or ∷ at_word w_else ∷ at_mark and_and ∷ at_mark greater_equals ∷ at_mark less_equals ∷ at_greater_operator ∷ at_less_operator ∷ at_mark not_equals ∷ at_mark equal_equal ∷ at_bar_operator ∷ at_turbofish ∷ []; shuns = [] }
+summary_of false bit_xor = record { stays = Punctuation minus ∷ Punctuation star ∷ Punctuation ampersand ∷ Word w_true ∷ Word w_false ∷ Literal Str ∷ Literal ByteStr ∷ Literal CStr ∷ Literal Byte ∷ Literal Char ∷ Literal Int ∷ Literal Float ∷ Punctuation colons ∷ Name ∷ Word w_union ∷ Word w_auto ∷ Word w_default ∷ Word w_safe ∷ Word w_self ∷ Word w_Self_type ∷ Word w_super ∷ Word w_crate ∷ Delimited Paren false ∷ Delimited Bracket false ∷ Delimited None false ∷ Word w_if ∷ Punctuation lifetime_mark ∷ Delimited Brace false ∷ Word w_loop ∷ Word w_while ∷ Word w_for ∷ Word w_return ∷ Word w_break ∷ Word w_continue ∷ []; moves = move (Punctuation pound) (Punctuation pound) [] ∷ move (Punctuation arrow) (Punctuation minus) [] ∷ move (Punctuation minus_equals) (Punctuation minus) [] ∷ move (Punctuation exclamation) (Punctuation exclamation) [] ∷ move (Punctuation not_equals) (Punctuation exclamation) [] ∷ move (Punctuation star_equals) (Punctuation star) [] ∷ move (Punctuation and_and) (Punctuation ampersand) [] ∷ move (Punctuation ampersand_equals) (Punctuation ampersand) [] ∷ move (Word w_unsafe) (Word w_unsafe) [] ∷ move (Punctuation less) (Punctuation less) [] ∷ move (Punctuation less_less_equals) (Punctuation less) [] ∷ move (Punctuation less_equals) (Punctuation less) [] ∷ move (Punctuation less_less) (Punctuation less) [] ∷ []; nullable = false; gone = []; ends = at_equals ∷ at_paren ∷ at_less ∷ (((at_colons or_else at_less_only or_else at_paren or_else at_word w_as) but_not at_colons) but_not at_word w_as) ∷ (at_colons but_not at_colons) ∷ ((at_bang or_else at_colons and_also ahead Before_macro) but_not at_colons) ∷ ((at_path_rest and_also ahead Bang_brace) but_not at_colons) ∷ ((at_path_rest and_also ahead Bang_name) but_not at_colons) ∷ at_name ∷ at_brace ∷ at_word w_trait ∷ (at_word w_unsafe or_else at_word w_impl) ∷ ended ∷ (at_paren but_not at_paren) ∷ ((((at_colons or_else at_less_only or_else at_paren or_else at_word w_as) but_not at_colons) but_not at_paren) but_not at_word w_as) ∷ ((((at_colons or_else at_less_only or_else at_paren or_else at_word w_as) but_not at_colons) but_not at_word w_as) but_not at_paren) ∷ []; halts = at_caret_operator ∷ at_ampersand_operator ∷ at_greater_greater_operator ∷ at_less_less_operator ∷ at_minus_operator ∷ at_plus_operator ∷ at_percent_operator ∷ at_slash_operator ∷ at_star_operator ∷ at_word w_as ∷ at_colons ∷ at_arguments ∷ at_arrow ∷ at_dot ∷ at_question ∷ at_bracket ∷ at_paren ∷ at_whole_expression ∷ at_lifetime ∷ at_unfinished ∷ at_mark greater_greater_equals ∷ at_mark less_less_equals ∷ at_mark bar_equals ∷ at_mark ampersand_equals ∷ at_mark caret_equals ∷ at_mark percent_equals ∷ at_mark slash_equals ∷ at_mark star_equals ∷ at_mark minus_equals ∷ at_mark plus_equals ∷ at_equals_operator ∷ at_mark or_or ∷ at_word w_else ∷ at_mark and_and ∷ at_mark greater_equals ∷ at_mark less_equals ∷ at_greater_operator ∷ at_less_operator ∷ at_mark not_equals ∷ at_mark equal_equal ∷ at_bar_operator ∷ at_turbofish ∷ []; shuns = [] }
+summary_of false bit_ors = record { stays = Punctuation bar ∷ []; moves = []; nullable = true; gone = []; ends = at_equals ∷ at_paren ∷ at_less ∷ (((at_colons or_else at_less_only or_else at_paren or_else at_word w_as) but_not at_colons) but_not at_word w_as) ∷ (at_colons but_not at_colons) ∷ ((at_bang or_else at_colons and_also ahead Before_macro) but_not at_colons) ∷ ((at_path_rest and_also ahead Bang_brace) but_not at_colons) ∷ ((at_path_rest and_also ahead Bang_name) but_not at_colons) ∷ at_name ∷ at_brace ∷ at_word w_trait ∷ (at_word w_unsafe or_else at_word w_impl) ∷ ended ∷ (at_paren but_not at_paren) ∷ ((((at_colons or_else at_less_only or_else at_paren or_else at_word w_as) but_not at_colons) but_not at_paren) but_not at_word w_as) ∷ ((((at_colons or_else at_less_only or_else at_paren or_else at_word w_as) but_not at_colons) but_not at_word w_as) but_not at_paren) ∷ []; halts = at_bar_operator ∷ at_caret_operator ∷ at_ampersand_operator ∷ at_greater_greater_operator ∷ at_less_less_operator ∷ at_minus_operator ∷ at_plus_operator ∷ at_percent_operator ∷ at_slash_operator ∷ at_star_operator ∷ at_word w_as ∷ at_colons ∷ at_arguments ∷ at_arrow ∷ at_dot ∷ at_question ∷ at_bracket ∷ at_paren ∷ at_whole_expression ∷ at_lifetime ∷ at_unfinished ∷ at_mark greater_greater_equals ∷ at_mark less_less_equals ∷ at_mark bar_equals ∷ at_mark ampersand_equals ∷ at_mark caret_equals ∷ at_mark percent_equals ∷ at_mark slash_equals ∷ at_mark star_equals ∷ at_mark minus_equals ∷ at_mark plus_equals ∷ at_equals_operator ∷ at_mark or_or ∷ at_word w_else ∷ at_mark and_and ∷ at_mark greater_equals ∷ at_mark less_equals ∷ at_greater_operator ∷ at_less_operator ∷ at_mark not_equals ∷ at_mark equal_equal ∷ at_turbofish ∷ []; shuns = [] }
+summary_of false bit_or = record { stays = Punctuation minus ∷ Punctuation star ∷ Punctuation ampersand ∷ Word w_true ∷ Word w_false ∷ Literal Str ∷ Literal ByteStr ∷ Literal CStr ∷ Literal Byte ∷ Literal Char ∷ Literal Int ∷ Literal Float ∷ Punctuation colons ∷ Name ∷ Word w_union ∷ Word w_auto ∷ Word w_default ∷ Word w_safe ∷ Word w_self ∷ Word w_Self_type ∷ Word w_super ∷ Word w_crate ∷ Delimited Paren false ∷ Delimited Bracket false ∷ Delimited None false ∷ Word w_if ∷ Punctuation lifetime_mark ∷ Delimited Brace false ∷ Word w_loop ∷ Word w_while ∷ Word w_for ∷ Word w_return ∷ Word w_break ∷ Word w_continue ∷ []; moves = move (Punctuation pound) (Punctuation pound) [] ∷ move (Punctuation arrow) (Punctuation minus) [] ∷ move (Punctuation minus_equals) (Punctuation minus) [] ∷ move (Punctuation exclamation) (Punctuation exclamation) [] ∷ move (Punctuation not_equals) (Punctuation exclamation) [] ∷ move (Punctuation star_equals) (Punctuation star) [] ∷ move (Punctuation and_and) (Punctuation ampersand) [] ∷ move (Punctuation ampersand_equals) (Punctuation ampersand) [] ∷ move (Word w_unsafe) (Word w_unsafe) [] ∷ move (Punctuation less) (Punctuation less) [] ∷ move (Punctuation less_less_equals) (Punctuation less) [] ∷ move (Punctuation less_equals) (Punctuation less) [] ∷ move (Punctuation less_less) (Punctuation less) [] ∷ []; nullable = false; gone = []; ends = at_equals ∷ at_paren ∷ at_less ∷ (((at_colons or_else at_less_only or_else at_paren or_else at_word w_as) but_not at_colons) but_not at_word w_as) ∷ (at_colons but_not at_colons) ∷ ((at_bang or_else at_colons and_also ahead Before_macro) but_not at_colons) ∷ ((at_path_rest and_also ahead Bang_brace) but_not at_colons) ∷ ((at_path_rest and_also ahead Bang_name) but_not at_colons) ∷ at_name ∷ at_brace ∷ at_word w_trait ∷ (at_word w_unsafe or_else at_word w_impl) ∷ ended ∷ (at_paren but_not at_paren) ∷ ((((at_colons or_else at_less_only or_else at_paren or_else at_word w_as) but_not at_colons) but_not at_paren) but_not at_word w_as) ∷ ((((at_colons or_else at_less_only or_else at_paren or_else at_word w_as) but_not at_colons) but_not at_word w_as) but_not at_paren) ∷ []; halts = at_bar_operator ∷ at_caret_operator ∷ at_ampersand_operator ∷ at_greater_greater_operator ∷ at_less_less_operator ∷ at_minus_operator ∷ at_plus_operator ∷ at_percent_operator ∷ at_slash_operator ∷ at_star_operator ∷ at_word w_as ∷ at_colons ∷ at_arguments ∷ at_arrow ∷ at_dot ∷ at_question ∷ at_bracket ∷ at_paren ∷ at_whole_expression ∷ at_lifetime ∷ at_unfinished ∷ at_mark greater_greater_equals ∷ at_mark less_less_equals ∷ at_mark bar_equals ∷ at_mark ampersand_equals ∷ at_mark caret_equals ∷ at_mark percent_equals ∷ at_mark slash_equals ∷ at_mark star_equals ∷ at_mark minus_equals ∷ at_mark plus_equals ∷ at_equals_operator ∷ at_mark or_or ∷ at_word w_else ∷ at_mark and_and ∷ at_mark greater_equals ∷ at_mark less_equals ∷ at_greater_operator ∷ at_less_operator ∷ at_mark not_equals ∷ at_mark equal_equal ∷ at_turbofish ∷ []; shuns = [] }
+summary_of false compared = record { stays = Punctuation equal_equal ∷ Punctuation greater ∷ Punctuation greater_equals ∷ []; moves = move (Punctuation not_equals) (Punctuation not_equals) [] ∷ move (Punctuation less) (Punctuation less) [] ∷ move (Punctuation less_equals) (Punctuation less_equals) [] ∷ []; nullable = true; gone = []; ends = at_equals ∷ at_paren ∷ at_less ∷ (((at_colons or_else at_less_only or_else at_paren or_else at_word w_as) but_not at_colons) but_not at_word w_as) ∷ (at_colons but_not at_colons) ∷ ((at_bang or_else at_colons and_also ahead Before_macro) but_not at_colons) ∷ ((at_path_rest and_also ahead Bang_brace) but_not at_colons) ∷ ((at_path_rest and_also ahead Bang_name) but_not at_colons) ∷ at_name ∷ at_brace ∷ at_word w_trait ∷ (at_word w_unsafe or_else at_word w_impl) ∷ ended ∷ (at_paren but_not at_paren) ∷ ((((at_colons or_else at_less_only or_else at_paren or_else at_word w_as) but_not at_colons) but_not at_paren) but_not at_word w_as) ∷ ((((at_colons or_else at_less_only or_else at_paren or_else at_word w_as) but_not at_colons) but_not at_word w_as) but_not at_paren) ∷ []; halts = at_bar_operator ∷ at_caret_operator ∷ at_ampersand_operator ∷ at_greater_greater_operator ∷ at_less_less_operator ∷ at_minus_operator ∷ at_plus_operator ∷ at_percent_operator ∷ at_slash_operator ∷ at_star_operator ∷ at_word w_as ∷ at_colons ∷ at_arguments ∷ at_arrow ∷ at_dot ∷ at_question ∷ at_bracket ∷ at_paren ∷ at_whole_expression ∷ at_lifetime ∷ at_unfinished ∷ at_mark greater_greater_equals ∷ at_mark less_less_equals ∷ at_mark bar_equals ∷ at_mark ampersand_equals ∷ at_mark caret_equals ∷ at_mark percent_equals ∷ at_mark slash_equals ∷ at_mark star_equals ∷ at_mark minus_equals ∷ at_mark plus_equals ∷ at_equals_operator ∷ at_mark or_or ∷ at_word w_else ∷ at_mark and_and ∷ at_mark greater_equals ∷ at_mark less_equals ∷ at_greater_operator ∷ at_less_operator ∷ at_mark not_equals ∷ at_mark equal_equal ∷ at_turbofish ∷ []; shuns = [] }
+summary_of false comparison = record { stays = Punctuation minus ∷ Punctuation star ∷ Punctuation ampersand ∷ Word w_true ∷ Word w_false ∷ Literal Str ∷ Literal ByteStr ∷ Literal CStr ∷ Literal Byte ∷ Literal Char ∷ Literal Int ∷ Literal Float ∷ Punctuation colons ∷ Name ∷ Word w_union ∷ Word w_auto ∷ Word w_default ∷ Word w_safe ∷ Word w_self ∷ Word w_Self_type ∷ Word w_super ∷ Word w_crate ∷ Delimited Paren false ∷ Delimited Bracket false ∷ Delimited None false ∷ Word w_if ∷ Punctuation lifetime_mark ∷ Delimited Brace false ∷ Word w_loop ∷ Word w_while ∷ Word w_for ∷ Word w_return ∷ Word w_break ∷ Word w_continue ∷ []; moves = move (Punctuation pound) (Punctuation pound) [] ∷ move (Punctuation arrow) (Punctuation minus) [] ∷ move (Punctuation minus_equals) (Punctuation minus) [] ∷ move (Punctuation exclamation) (Punctuation exclamation) [] ∷ move (Punctuation not_equals) (Punctuation exclamation) [] ∷ move (Punctuation star_equals) (Punctuation star) [] ∷ move (Punctuation and_and) (Punctuation ampersand) [] ∷ move (Punctuation ampersand_equals) (Punctuation ampersand) [] ∷ move (Word w_unsafe) (Word w_unsafe) [] ∷ move (Punctuation less) (Punctuation less) [] ∷ move (Punctuation less_less_equals) (Punctuation less) [] ∷ move (Punctuation less_equals) (Punctuation less) [] ∷ move (Punctuation less_less) (Punctuation less) [] ∷ []; nullable = false; gone = []; ends = at_equals ∷ at_paren ∷ at_less ∷ (((at_colons or_else at_less_only or_else at_paren or_else at_word w_as) but_not at_colons) but_not at_word w_as) ∷ (at_colons but_not at_colons) ∷ ((at_bang or_else at_colons and_also ahead Before_macro) but_not at_colons) ∷ ((at_path_rest and_also ahead Bang_brace) but_not at_colons) ∷ ((at_path_rest and_also ahead Bang_name) but_not at_colons) ∷ at_name ∷ at_brace ∷ at_word w_trait ∷ (at_word w_unsafe or_else at_word w_impl) ∷ ended ∷ (at_paren but_not at_paren) ∷ ((((at_colons or_else at_less_only or_else at_paren or_else at_word w_as) but_not at_colons) but_not at_paren) but_not at_word w_as) ∷ ((((at_colons or_else at_less_only or_else at_paren or_else at_word w_as) but_not at_colons) but_not at_word w_as) but_not at_paren) ∷ []; halts = at_bar_operator ∷ at_caret_operator ∷ at_ampersand_operator ∷ at_greater_greater_operator ∷ at_less_less_operator ∷ at_minus_operator ∷ at_plus_operator ∷ at_percent_operator ∷ at_slash_operator ∷ at_star_operator ∷ at_word w_as ∷ at_colons ∷ at_arguments ∷ at_arrow ∷ at_dot ∷ at_question ∷ at_bracket ∷ at_paren ∷ at_whole_expression ∷ at_lifetime ∷ at_unfinished ∷ at_mark greater_greater_equals ∷ at_mark less_less_equals ∷ at_mark bar_equals ∷ at_mark ampersand_equals ∷ at_mark caret_equals ∷ at_mark percent_equals ∷ at_mark slash_equals ∷ at_mark star_equals ∷ at_mark minus_equals ∷ at_mark plus_equals ∷ at_equals_operator ∷ at_mark or_or ∷ at_word w_else ∷ at_mark and_and ∷ at_mark greater_equals ∷ at_mark less_equals ∷ at_greater_operator ∷ at_less_operator ∷ at_mark not_equals ∷ at_mark equal_equal ∷ at_turbofish ∷ []; shuns = [] }
+summary_of false conjunctions = record { stays = Punctuation and_and ∷ []; moves = []; nullable = true; gone = []; ends = at_equals ∷ at_paren ∷ at_less ∷ (((at_colons or_else at_less_only or_else at_paren or_else at_word w_as) but_not at_colons) but_not at_word w_as) ∷ (at_colons but_not at_colons) ∷ ((at_bang or_else at_colons and_also ahead Before_macro) but_not at_colons) ∷ ((at_path_rest and_also ahead Bang_brace) but_not at_colons) ∷ ((at_path_rest and_also ahead Bang_name) but_not at_colons) ∷ at_name ∷ at_brace ∷ at_word w_trait ∷ (at_word w_unsafe or_else at_word w_impl) ∷ ended ∷ (at_paren but_not at_paren) ∷ ((((at_colons or_else at_less_only or_else at_paren or_else at_word w_as) but_not at_colons) but_not at_paren) but_not at_word w_as) ∷ ((((at_colons or_else at_less_only or_else at_paren or_else at_word w_as) but_not at_colons) but_not at_word w_as) but_not at_paren) ∷ []; halts = at_mark and_and ∷ at_bar_operator ∷ at_caret_operator ∷ at_ampersand_operator ∷ at_greater_greater_operator ∷ at_less_less_operator ∷ at_minus_operator ∷ at_plus_operator ∷ at_percent_operator ∷ at_slash_operator ∷ at_star_operator ∷ at_word w_as ∷ at_colons ∷ at_arguments ∷ at_arrow ∷ at_dot ∷ at_question ∷ at_bracket ∷ at_paren ∷ at_whole_expression ∷ at_lifetime ∷ at_unfinished ∷ at_mark greater_greater_equals ∷ at_mark less_less_equals ∷ at_mark bar_equals ∷ at_mark ampersand_equals ∷ at_mark caret_equals ∷ at_mark percent_equals ∷ at_mark slash_equals ∷ at_mark star_equals ∷ at_mark minus_equals ∷ at_mark plus_equals ∷ at_equals_operator ∷ at_mark or_or ∷ at_word w_else ∷ at_mark greater_equals ∷ at_mark less_equals ∷ at_greater_operator ∷ at_less_operator ∷ at_mark not_equals ∷ at_mark equal_equal ∷ at_turbofish ∷ []; shuns = [] }
+summary_of false conjunction = record { stays = Punctuation minus ∷ Punctuation star ∷ Punctuation ampersand ∷ Word w_true ∷ Word w_false ∷ Literal Str ∷ Literal ByteStr ∷ Literal CStr ∷ Literal Byte ∷ Literal Char ∷ Literal Int ∷ Literal Float ∷ Punctuation colons ∷ Name ∷ Word w_union ∷ Word w_auto ∷ Word w_default ∷ Word w_safe ∷ Word w_self ∷ Word w_Self_type ∷ Word w_super ∷ Word w_crate ∷ Delimited Paren false ∷ Delimited Bracket false ∷ Delimited None false ∷ Word w_if ∷ Punctuation lifetime_mark ∷ Delimited Brace false ∷ Word w_loop ∷ Word w_while ∷ Word w_for ∷ Word w_return ∷ Word w_break ∷ Word w_continue ∷ []; moves = move (Punctuation pound) (Punctuation pound) [] ∷ move (Punctuation arrow) (Punctuation minus) [] ∷ move (Punctuation minus_equals) (Punctuation minus) [] ∷ move (Punctuation exclamation) (Punctuation exclamation) [] ∷ move (Punctuation not_equals) (Punctuation exclamation) [] ∷ move (Punctuation star_equals) (Punctuation star) [] ∷ move (Punctuation and_and) (Punctuation ampersand) [] ∷ move (Punctuation ampersand_equals) (Punctuation ampersand) [] ∷ move (Word w_unsafe) (Word w_unsafe) [] ∷ move (Punctuation less) (Punctuation less) [] ∷ move (Punctuation less_less_equals) (Punctuation less) [] ∷ move (Punctuation less_equals) (Punctuation less) [] ∷ move (Punctuation less_less) (Punctuation less) [] ∷ []; nullable = false; gone = []; ends = at_equals ∷ at_paren ∷ at_less ∷ (((at_colons or_else at_less_only or_else at_paren or_else at_word w_as) but_not at_colons) but_not at_word w_as) ∷ (at_colons but_not at_colons) ∷ ((at_bang or_else at_colons and_also ahead Before_macro) but_not at_colons) ∷ ((at_path_rest and_also ahead Bang_brace) but_not at_colons) ∷ ((at_path_rest and_also ahead Bang_name) but_not at_colons) ∷ at_name ∷ at_brace ∷ at_word w_trait ∷ (at_word w_unsafe or_else at_word w_impl) ∷ ended ∷ (at_paren but_not at_paren) ∷ ((((at_colons or_else at_less_only or_else at_paren or_else at_word w_as) but_not at_colons) but_not at_paren) but_not at_word w_as) ∷ ((((at_colons or_else at_less_only or_else at_paren or_else at_word w_as) but_not at_colons) but_not at_word w_as) but_not at_paren) ∷ []; halts = at_mark and_and ∷ at_bar_operator ∷ at_caret_operator ∷ at_ampersand_operator ∷ at_greater_greater_operator ∷ at_less_less_operator ∷ at_minus_operator ∷ at_plus_operator ∷ at_percent_operator ∷ at_slash_operator ∷ at_star_operator ∷ at_word w_as ∷ at_colons ∷ at_arguments ∷ at_arrow ∷ at_dot ∷ at_question ∷ at_bracket ∷ at_paren ∷ at_whole_expression ∷ at_lifetime ∷ at_unfinished ∷ at_mark greater_greater_equals ∷ at_mark less_less_equals ∷ at_mark bar_equals ∷ at_mark ampersand_equals ∷ at_mark caret_equals ∷ at_mark percent_equals ∷ at_mark slash_equals ∷ at_mark star_equals ∷ at_mark minus_equals ∷ at_mark plus_equals ∷ at_equals_operator ∷ at_mark or_or ∷ at_word w_else ∷ at_mark greater_equals ∷ at_mark less_equals ∷ at_greater_operator ∷ at_less_operator ∷ at_mark not_equals ∷ at_mark equal_equal ∷ at_turbofish ∷ []; shuns = [] }
+summary_of false disjunctions = record { stays = Punctuation or_or ∷ []; moves = []; nullable = true; gone = []; ends = at_equals ∷ at_paren ∷ at_less ∷ (((at_colons or_else at_less_only or_else at_paren or_else at_word w_as) but_not at_colons) but_not at_word w_as) ∷ (at_colons but_not at_colons) ∷ ((at_bang or_else at_colons and_also ahead Before_macro) but_not at_colons) ∷ ((at_path_rest and_also ahead Bang_brace) but_not at_colons) ∷ ((at_path_rest and_also ahead Bang_name) but_not at_colons) ∷ at_name ∷ at_brace ∷ at_word w_trait ∷ (at_word w_unsafe or_else at_word w_impl) ∷ ended ∷ (at_paren but_not at_paren) ∷ ((((at_colons or_else at_less_only or_else at_paren or_else at_word w_as) but_not at_colons) but_not at_paren) but_not at_word w_as) ∷ ((((at_colons or_else at_less_only or_else at_paren or_else at_word w_as) but_not at_colons) but_not at_word w_as) but_not at_paren) ∷ []; halts = at_mark or_or ∷ at_mark and_and ∷ at_bar_operator ∷ at_caret_operator ∷ at_ampersand_operator ∷ at_greater_greater_operator ∷ at_less_less_operator ∷ at_minus_operator ∷ at_plus_operator ∷ at_percent_operator ∷ at_slash_operator ∷ at_star_operator ∷ at_word w_as ∷ at_colons ∷ at_arguments ∷ at_arrow ∷ at_dot ∷ at_question ∷ at_bracket ∷ at_paren ∷ at_whole_expression ∷ at_lifetime ∷ at_unfinished ∷ at_mark greater_greater_equals ∷ at_mark less_less_equals ∷ at_mark bar_equals ∷ at_mark ampersand_equals ∷ at_mark caret_equals ∷ at_mark percent_equals ∷ at_mark slash_equals ∷ at_mark star_equals ∷ at_mark minus_equals ∷ at_mark plus_equals ∷ at_equals_operator ∷ at_word w_else ∷ at_mark greater_equals ∷ at_mark less_equals ∷ at_greater_operator ∷ at_less_operator ∷ at_mark not_equals ∷ at_mark equal_equal ∷ at_turbofish ∷ []; shuns = [] }
+summary_of false disjunction = record { stays = Punctuation minus ∷ Punctuation star ∷ Punctuation ampersand ∷ Word w_true ∷ Word w_false ∷ Literal Str ∷ Literal ByteStr ∷ Literal CStr ∷ Literal Byte ∷ Literal Char ∷ Literal Int ∷ Literal Float ∷ Punctuation colons ∷ Name ∷ Word w_union ∷ Word w_auto ∷ Word w_default ∷ Word w_safe ∷ Word w_self ∷ Word w_Self_type ∷ Word w_super ∷ Word w_crate ∷ Delimited Paren false ∷ Delimited Bracket false ∷ Delimited None false ∷ Word w_if ∷ Punctuation lifetime_mark ∷ Delimited Brace false ∷ Word w_loop ∷ Word w_while ∷ Word w_for ∷ Word w_return ∷ Word w_break ∷ Word w_continue ∷ []; moves = move (Punctuation pound) (Punctuation pound) [] ∷ move (Punctuation arrow) (Punctuation minus) [] ∷ move (Punctuation minus_equals) (Punctuation minus) [] ∷ move (Punctuation exclamation) (Punctuation exclamation) [] ∷ move (Punctuation not_equals) (Punctuation exclamation) [] ∷ move (Punctuation star_equals) (Punctuation star) [] ∷ move (Punctuation and_and) (Punctuation ampersand) [] ∷ move (Punctuation ampersand_equals) (Punctuation ampersand) [] ∷ move (Word w_unsafe) (Word w_unsafe) [] ∷ move (Punctuation less) (Punctuation less) [] ∷ move (Punctuation less_less_equals) (Punctuation less) [] ∷ move (Punctuation less_equals) (Punctuation less) [] ∷ move (Punctuation less_less) (Punctuation less) [] ∷ []; nullable = false; gone = []; ends = at_equals ∷ at_paren ∷ at_less ∷ (((at_colons or_else at_less_only or_else at_paren or_else at_word w_as) but_not at_colons) but_not at_word w_as) ∷ (at_colons but_not at_colons) ∷ ((at_bang or_else at_colons and_also ahead Before_macro) but_not at_colons) ∷ ((at_path_rest and_also ahead Bang_brace) but_not at_colons) ∷ ((at_path_rest and_also ahead Bang_name) but_not at_colons) ∷ at_name ∷ at_brace ∷ at_word w_trait ∷ (at_word w_unsafe or_else at_word w_impl) ∷ ended ∷ (at_paren but_not at_paren) ∷ ((((at_colons or_else at_less_only or_else at_paren or_else at_word w_as) but_not at_colons) but_not at_paren) but_not at_word w_as) ∷ ((((at_colons or_else at_less_only or_else at_paren or_else at_word w_as) but_not at_colons) but_not at_word w_as) but_not at_paren) ∷ []; halts = at_mark or_or ∷ at_mark and_and ∷ at_bar_operator ∷ at_caret_operator ∷ at_ampersand_operator ∷ at_greater_greater_operator ∷ at_less_less_operator ∷ at_minus_operator ∷ at_plus_operator ∷ at_percent_operator ∷ at_slash_operator ∷ at_star_operator ∷ at_word w_as ∷ at_colons ∷ at_arguments ∷ at_arrow ∷ at_dot ∷ at_question ∷ at_bracket ∷ at_paren ∷ at_whole_expression ∷ at_lifetime ∷ at_unfinished ∷ at_mark greater_greater_equals ∷ at_mark less_less_equals ∷ at_mark bar_equals ∷ at_mark ampersand_equals ∷ at_mark caret_equals ∷ at_mark percent_equals ∷ at_mark slash_equals ∷ at_mark star_equals ∷ at_mark minus_equals ∷ at_mark plus_equals ∷ at_equals_operator ∷ at_word w_else ∷ at_mark greater_equals ∷ at_mark less_equals ∷ at_greater_operator ∷ at_less_operator ∷ at_mark not_equals ∷ at_mark equal_equal ∷ at_turbofish ∷ []; shuns = [] }
+summary_of false assigned = record { stays = Punctuation equals ∷ Punctuation plus_equals ∷ Punctuation minus_equals ∷ Punctuation star_equals ∷ Punctuation slash_equals ∷ Punctuation percent_equals ∷ Punctuation caret_equals ∷ Punctuation ampersand_equals ∷ Punctuation bar_equals ∷ Punctuation greater_greater_equals ∷ []; moves = move (Punctuation (61 ∷ 62 ∷ [])) (Punctuation equals) [] ∷ move (Punctuation less_less_equals) (Punctuation less_less_equals) [] ∷ []; nullable = true; gone = []; ends = at_equals ∷ at_paren ∷ at_less ∷ (((at_colons or_else at_less_only or_else at_paren or_else at_word w_as) but_not at_colons) but_not at_word w_as) ∷ (at_colons but_not at_colons) ∷ ((at_bang or_else at_colons and_also ahead Before_macro) but_not at_colons) ∷ ((at_path_rest and_also ahead Bang_brace) but_not at_colons) ∷ ((at_path_rest and_also ahead Bang_name) but_not at_colons) ∷ at_name ∷ at_brace ∷ at_word w_trait ∷ (at_word w_unsafe or_else at_word w_impl) ∷ ended ∷ (at_paren but_not at_paren) ∷ ((((at_colons or_else at_less_only or_else at_paren or_else at_word w_as) but_not at_colons) but_not at_paren) but_not at_word w_as) ∷ ((((at_colons or_else at_less_only or_else at_paren or_else at_word w_as) but_not at_colons) but_not at_word w_as) but_not at_paren) ∷ []; halts = at_unfinished ∷ at_mark greater_greater_equals ∷ at_mark less_less_equals ∷ at_mark bar_equals ∷ at_mark ampersand_equals ∷ at_mark caret_equals ∷ at_mark percent_equals ∷ at_mark slash_equals ∷ at_mark star_equals ∷ at_mark minus_equals ∷ at_mark plus_equals ∷ at_equals_operator ∷ at_mark or_or ∷ at_mark and_and ∷ at_bar_operator ∷ at_caret_operator ∷ at_ampersand_operator ∷ at_greater_greater_operator ∷ at_less_less_operator ∷ at_minus_operator ∷ at_plus_operator ∷ at_percent_operator ∷ at_slash_operator ∷ at_star_operator ∷ at_word w_as ∷ at_colons ∷ at_arguments ∷ at_arrow ∷ at_dot ∷ at_question ∷ at_bracket ∷ at_paren ∷ at_whole_expression ∷ at_lifetime ∷ at_word w_else ∷ at_mark greater_equals ∷ at_mark less_equals ∷ at_greater_operator ∷ at_less_operator ∷ at_mark not_equals ∷ at_mark equal_equal ∷ at_turbofish ∷ []; shuns = [] }
+summary_of false whole_expression = record { stays = Punctuation minus ∷ Punctuation star ∷ Punctuation ampersand ∷ Word w_true ∷ Word w_false ∷ Literal Str ∷ Literal ByteStr ∷ Literal CStr ∷ Literal Byte ∷ Literal Char ∷ Literal Int ∷ Literal Float ∷ Punctuation colons ∷ Name ∷ Word w_union ∷ Word w_auto ∷ Word w_default ∷ Word w_safe ∷ Word w_self ∷ Word w_Self_type ∷ Word w_super ∷ Word w_crate ∷ Delimited Paren false ∷ Delimited Bracket false ∷ Delimited None false ∷ Word w_if ∷ Punctuation lifetime_mark ∷ Delimited Brace false ∷ Word w_loop ∷ Word w_while ∷ Word w_for ∷ Word w_return ∷ Word w_break ∷ Word w_continue ∷ []; moves = move (Punctuation pound) (Punctuation pound) [] ∷ move (Punctuation arrow) (Punctuation minus) [] ∷ move (Punctuation minus_equals) (Punctuation minus) [] ∷ move (Punctuation exclamation) (Punctuation exclamation) [] ∷ move (Punctuation not_equals) (Punctuation exclamation) [] ∷ move (Punctuation star_equals) (Punctuation star) [] ∷ move (Punctuation and_and) (Punctuation ampersand) [] ∷ move (Punctuation ampersand_equals) (Punctuation ampersand) [] ∷ move (Word w_unsafe) (Word w_unsafe) [] ∷ move (Punctuation less) (Punctuation less) [] ∷ move (Punctuation less_less_equals) (Punctuation less) [] ∷ move (Punctuation less_equals) (Punctuation less) [] ∷ move (Punctuation less_less) (Punctuation less) [] ∷ []; nullable = false; gone = []; ends = at_equals ∷ at_paren ∷ at_less ∷ (((at_colons or_else at_less_only or_else at_paren or_else at_word w_as) but_not at_colons) but_not at_word w_as) ∷ (at_colons but_not at_colons) ∷ ((at_bang or_else at_colons and_also ahead Before_macro) but_not at_colons) ∷ ((at_path_rest and_also ahead Bang_brace) but_not at_colons) ∷ ((at_path_rest and_also ahead Bang_name) but_not at_colons) ∷ at_name ∷ at_brace ∷ at_word w_trait ∷ (at_word w_unsafe or_else at_word w_impl) ∷ ended ∷ (at_paren but_not at_paren) ∷ ((((at_colons or_else at_less_only or_else at_paren or_else at_word w_as) but_not at_colons) but_not at_paren) but_not at_word w_as) ∷ ((((at_colons or_else at_less_only or_else at_paren or_else at_word w_as) but_not at_colons) but_not at_word w_as) but_not at_paren) ∷ []; halts = at_unfinished ∷ at_mark greater_greater_equals ∷ at_mark less_less_equals ∷ at_mark bar_equals ∷ at_mark ampersand_equals ∷ at_mark caret_equals ∷ at_mark percent_equals ∷ at_mark slash_equals ∷ at_mark star_equals ∷ at_mark minus_equals ∷ at_mark plus_equals ∷ at_equals_operator ∷ at_mark or_or ∷ at_mark and_and ∷ at_mark greater_equals ∷ at_mark less_equals ∷ at_greater_operator ∷ at_less_operator ∷ at_mark not_equals ∷ at_mark equal_equal ∷ at_bar_operator ∷ at_caret_operator ∷ at_ampersand_operator ∷ at_greater_greater_operator ∷ at_less_less_operator ∷ at_minus_operator ∷ at_plus_operator ∷ at_percent_operator ∷ at_slash_operator ∷ at_star_operator ∷ at_word w_as ∷ at_dot ∷ at_question ∷ at_bracket ∷ at_paren ∷ at_whole_expression ∷ at_lifetime ∷ at_colons ∷ at_arguments ∷ at_arrow ∷ at_word w_else ∷ at_turbofish ∷ []; shuns = [] }
+summary_of false operand_rest = record { stays = Delimited Paren false ∷ Delimited Bracket false ∷ Punctuation question ∷ Punctuation dot ∷ Word w_as ∷ Punctuation star ∷ Punctuation slash ∷ Punctuation percent ∷ Punctuation plus ∷ Punctuation minus ∷ Punctuation greater_greater ∷ Punctuation ampersand ∷ Punctuation caret ∷ Punctuation bar ∷ Punctuation equal_equal ∷ Punctuation greater ∷ Punctuation greater_equals ∷ Punctuation and_and ∷ Punctuation or_or ∷ Punctuation equals ∷ Punctuation plus_equals ∷ Punctuation minus_equals ∷ Punctuation star_equals ∷ Punctuation slash_equals ∷ Punctuation percent_equals ∷ Punctuation caret_equals ∷ Punctuation ampersand_equals ∷ Punctuation bar_equals ∷ Punctuation greater_greater_equals ∷ []; moves = move (Punctuation arrow) (Punctuation minus) [] ∷ move (Punctuation less_less) (Punctuation less_less) [] ∷ move (Punctuation not_equals) (Punctuation not_equals) [] ∷ move (Punctuation less) (Punctuation less) [] ∷ move (Punctuation less_equals) (Punctuation less_equals) [] ∷ move (Punctuation (61 ∷ 62 ∷ [])) (Punctuation equals) [] ∷ move (Punctuation less_less_equals) (Punctuation less_less_equals) [] ∷ []; nullable = true; gone = []; ends = at_equals ∷ at_paren ∷ at_less ∷ (((at_colons or_else at_less_only or_else at_paren or_else at_word w_as) but_not at_colons) but_not at_word w_as) ∷ (at_colons but_not at_colons) ∷ ((at_bang or_else at_colons and_also ahead Before_macro) but_not at_colons) ∷ ((at_path_rest and_also ahead Bang_brace) but_not at_colons) ∷ ((at_path_rest and_also ahead Bang_name) but_not at_colons) ∷ at_name ∷ at_brace ∷ at_word w_trait ∷ (at_word w_unsafe or_else at_word w_impl) ∷ ended ∷ (at_paren but_not at_paren) ∷ ((((at_colons or_else at_less_only or_else at_paren or_else at_word w_as) but_not at_colons) but_not at_paren) but_not at_word w_as) ∷ ((((at_colons or_else at_less_only or_else at_paren or_else at_word w_as) but_not at_colons) but_not at_word w_as) but_not at_paren) ∷ []; halts = at_unfinished ∷ at_mark greater_greater_equals ∷ at_mark less_less_equals ∷ at_mark bar_equals ∷ at_mark ampersand_equals ∷ at_mark caret_equals ∷ at_mark percent_equals ∷ at_mark slash_equals ∷ at_mark star_equals ∷ at_mark minus_equals ∷ at_mark plus_equals ∷ at_equals_operator ∷ at_mark or_or ∷ at_mark and_and ∷ at_mark greater_equals ∷ at_mark less_equals ∷ at_greater_operator ∷ at_less_operator ∷ at_mark not_equals ∷ at_mark equal_equal ∷ at_bar_operator ∷ at_caret_operator ∷ at_ampersand_operator ∷ at_greater_greater_operator ∷ at_less_less_operator ∷ at_minus_operator ∷ at_plus_operator ∷ at_percent_operator ∷ at_slash_operator ∷ at_star_operator ∷ at_word w_as ∷ at_dot ∷ at_question ∷ at_bracket ∷ at_paren ∷ at_whole_expression ∷ at_lifetime ∷ at_colons ∷ at_arguments ∷ at_arrow ∷ at_word w_else ∷ at_turbofish ∷ []; shuns = [] }
+summary_of false statements = record { stays = Punctuation semicolon ∷ Word w_crate ∷ Punctuation colons ∷ Name ∷ Word w_union ∷ Word w_auto ∷ Word w_default ∷ Word w_safe ∷ Word w_self ∷ Word w_Self_type ∷ Word w_super ∷ Word w_let ∷ Word w_if ∷ Punctuation lifetime_mark ∷ Delimited Brace false ∷ Word w_loop ∷ Word w_while ∷ Word w_for ∷ Punctuation pound ∷ Punctuation minus ∷ Punctuation star ∷ Punctuation ampersand ∷ Word w_true ∷ Word w_false ∷ Literal Str ∷ Literal ByteStr ∷ Literal CStr ∷ Literal Byte ∷ Literal Char ∷ Literal Int ∷ Literal Float ∷ Delimited Paren false ∷ Delimited Bracket false ∷ Delimited None false ∷ Word w_return ∷ Word w_break ∷ Word w_continue ∷ []; moves = move (Punctuation pound) (Punctuation pound) [] ∷ move (Word w_unsafe) (Word w_unsafe) [] ∷ move (Punctuation arrow) (Punctuation minus) [] ∷ move (Punctuation minus_equals) (Punctuation minus) [] ∷ move (Punctuation exclamation) (Punctuation exclamation) [] ∷ move (Punctuation not_equals) (Punctuation exclamation) [] ∷ move (Punctuation star_equals) (Punctuation star) [] ∷ move (Punctuation and_and) (Punctuation ampersand) [] ∷ move (Punctuation ampersand_equals) (Punctuation ampersand) [] ∷ move (Punctuation less) (Punctuation less) [] ∷ move (Punctuation less_less_equals) (Punctuation less) [] ∷ move (Punctuation less_equals) (Punctuation less) [] ∷ move (Punctuation less_less) (Punctuation less) [] ∷ []; nullable = true; gone = []; ends = ended ∷ at_postfix_mark ∷ at_equals ∷ at_paren ∷ at_less ∷ (((at_colons or_else at_less_only or_else at_paren or_else at_word w_as) but_not at_colons) but_not at_word w_as) ∷ (at_colons but_not at_colons) ∷ ((at_bang or_else at_colons and_also ahead Before_macro) but_not at_colons) ∷ ((at_path_rest and_also ahead Bang_brace) but_not at_colons) ∷ ((at_path_rest and_also ahead Bang_name) but_not at_colons) ∷ at_name ∷ at_brace ∷ at_word w_trait ∷ (at_word w_unsafe or_else at_word w_impl) ∷ (at_paren but_not at_paren) ∷ ((((at_colons or_else at_less_only or_else at_paren or_else at_word w_as) but_not at_colons) but_not at_paren) but_not at_word w_as) ∷ ((((at_colons or_else at_less_only or_else at_paren or_else at_word w_as) but_not at_colons) but_not at_word w_as) but_not at_paren) ∷ []; halts = at_semicolon ∷ at_postfix_mark ∷ at_unfinished ∷ at_mark greater_greater_equals ∷ at_mark less_less_equals ∷ at_mark bar_equals ∷ at_mark ampersand_equals ∷ at_mark caret_equals ∷ at_mark percent_equals ∷ at_mark slash_equals ∷ at_mark star_equals ∷ at_mark minus_equals ∷ at_mark plus_equals ∷ at_equals_operator ∷ at_mark or_or ∷ at_mark and_and ∷ at_mark greater_equals ∷ at_mark less_equals ∷ at_greater_operator ∷ at_less_operator ∷ at_mark not_equals ∷ at_mark equal_equal ∷ at_bar_operator ∷ at_caret_operator ∷ at_ampersand_operator ∷ at_greater_greater_operator ∷ at_less_less_operator ∷ at_minus_operator ∷ at_plus_operator ∷ at_percent_operator ∷ at_slash_operator ∷ at_star_operator ∷ at_word w_as ∷ at_dot ∷ at_question ∷ at_bracket ∷ at_paren ∷ at_colons ∷ at_word w_else ∷ at_whole_expression ∷ at_lifetime ∷ at_arguments ∷ at_arrow ∷ at_turbofish ∷ []; shuns = [] }
+summary_of false statement_rest = record { stays = Word w_crate ∷ Punctuation colons ∷ Name ∷ Word w_union ∷ Word w_auto ∷ Word w_default ∷ Word w_safe ∷ Word w_self ∷ Word w_Self_type ∷ Word w_super ∷ Word w_let ∷ Word w_if ∷ Punctuation lifetime_mark ∷ Delimited Brace false ∷ Word w_loop ∷ Word w_while ∷ Word w_for ∷ Punctuation pound ∷ Punctuation minus ∷ Punctuation star ∷ Punctuation ampersand ∷ Word w_true ∷ Word w_false ∷ Literal Str ∷ Literal ByteStr ∷ Literal CStr ∷ Literal Byte ∷ Literal Char ∷ Literal Int ∷ Literal Float ∷ Delimited Paren false ∷ Delimited Bracket false ∷ Delimited None false ∷ Word w_return ∷ Word w_break ∷ Word w_continue ∷ []; moves = move (Word w_unsafe) (Word w_unsafe) [] ∷ move (Punctuation arrow) (Punctuation minus) [] ∷ move (Punctuation minus_equals) (Punctuation minus) [] ∷ move (Punctuation exclamation) (Punctuation exclamation) [] ∷ move (Punctuation not_equals) (Punctuation exclamation) [] ∷ move (Punctuation star_equals) (Punctuation star) [] ∷ move (Punctuation and_and) (Punctuation ampersand) [] ∷ move (Punctuation ampersand_equals) (Punctuation ampersand) [] ∷ move (Punctuation less) (Punctuation less) [] ∷ move (Punctuation less_less_equals) (Punctuation less) [] ∷ move (Punctuation less_equals) (Punctuation less) [] ∷ move (Punctuation less_less) (Punctuation less) [] ∷ []; nullable = false; gone = []; ends = ended ∷ at_postfix_mark ∷ at_equals ∷ at_paren ∷ at_less ∷ (((at_colons or_else at_less_only or_else at_paren or_else at_word w_as) but_not at_colons) but_not at_word w_as) ∷ (at_colons but_not at_colons) ∷ ((at_bang or_else at_colons and_also ahead Before_macro) but_not at_colons) ∷ ((at_path_rest and_also ahead Bang_brace) but_not at_colons) ∷ ((at_path_rest and_also ahead Bang_name) but_not at_colons) ∷ at_name ∷ at_brace ∷ at_word w_trait ∷ (at_word w_unsafe or_else at_word w_impl) ∷ (at_paren but_not at_paren) ∷ ((((at_colons or_else at_less_only or_else at_paren or_else at_word w_as) but_not at_colons) but_not at_paren) but_not at_word w_as) ∷ ((((at_colons or_else at_less_only or_else at_paren or_else at_word w_as) but_not at_colons) but_not at_word w_as) but_not at_paren) ∷ []; halts = at_semicolon ∷ at_postfix_mark ∷ at_unfinished ∷ at_mark greater_greater_equals ∷ at_mark less_less_equals ∷ at_mark bar_equals ∷ at_mark ampersand_equals ∷ at_mark caret_equals ∷ at_mark percent_equals ∷ at_mark slash_equals ∷ at_mark star_equals ∷ at_mark minus_equals ∷ at_mark plus_equals ∷ at_equals_operator ∷ at_mark or_or ∷ at_mark and_and ∷ at_mark greater_equals ∷ at_mark less_equals ∷ at_greater_operator ∷ at_less_operator ∷ at_mark not_equals ∷ at_mark equal_equal ∷ at_bar_operator ∷ at_caret_operator ∷ at_ampersand_operator ∷ at_greater_greater_operator ∷ at_less_less_operator ∷ at_minus_operator ∷ at_plus_operator ∷ at_percent_operator ∷ at_slash_operator ∷ at_star_operator ∷ at_word w_as ∷ at_dot ∷ at_question ∷ at_bracket ∷ at_paren ∷ at_colons ∷ at_word w_else ∷ at_whole_expression ∷ at_lifetime ∷ at_arguments ∷ at_arrow ∷ at_turbofish ∷ []; shuns = [] }
+summary_of false after_block = record { stays = Punctuation semicolon ∷ Punctuation question ∷ Punctuation dot ∷ Word w_crate ∷ Punctuation colons ∷ Name ∷ Word w_union ∷ Word w_auto ∷ Word w_default ∷ Word w_safe ∷ Word w_self ∷ Word w_Self_type ∷ Word w_super ∷ Word w_let ∷ Word w_if ∷ Punctuation lifetime_mark ∷ Delimited Brace false ∷ Word w_loop ∷ Word w_while ∷ Word w_for ∷ Punctuation pound ∷ Punctuation minus ∷ Punctuation star ∷ Punctuation ampersand ∷ Word w_true ∷ Word w_false ∷ Literal Str ∷ Literal ByteStr ∷ Literal CStr ∷ Literal Byte ∷ Literal Char ∷ Literal Int ∷ Literal Float ∷ Delimited Paren false ∷ Delimited Bracket false ∷ Delimited None false ∷ Word w_return ∷ Word w_break ∷ Word w_continue ∷ []; moves = move (Punctuation pound) (Punctuation pound) [] ∷ move (Word w_unsafe) (Word w_unsafe) [] ∷ move (Punctuation arrow) (Punctuation minus) [] ∷ move (Punctuation minus_equals) (Punctuation minus) [] ∷ move (Punctuation exclamation) (Punctuation exclamation) [] ∷ move (Punctuation not_equals) (Punctuation exclamation) [] ∷ move (Punctuation star_equals) (Punctuation star) [] ∷ move (Punctuation and_and) (Punctuation ampersand) [] ∷ move (Punctuation ampersand_equals) (Punctuation ampersand) [] ∷ move (Punctuation less) (Punctuation less) [] ∷ move (Punctuation less_less_equals) (Punctuation less) [] ∷ move (Punctuation less_equals) (Punctuation less) [] ∷ move (Punctuation less_less) (Punctuation less) [] ∷ []; nullable = true; gone = []; ends = ended ∷ at_postfix_mark ∷ at_equals ∷ at_paren ∷ at_less ∷ (((at_colons or_else at_less_only or_else at_paren or_else at_word w_as) but_not at_colons) but_not at_word w_as) ∷ (at_colons but_not at_colons) ∷ ((at_bang or_else at_colons and_also ahead Before_macro) but_not at_colons) ∷ ((at_path_rest and_also ahead Bang_brace) but_not at_colons) ∷ ((at_path_rest and_also ahead Bang_name) but_not at_colons) ∷ at_name ∷ at_brace ∷ at_word w_trait ∷ (at_word w_unsafe or_else at_word w_impl) ∷ (at_paren but_not at_paren) ∷ ((((at_colons or_else at_less_only or_else at_paren or_else at_word w_as) but_not at_colons) but_not at_paren) but_not at_word w_as) ∷ ((((at_colons or_else at_less_only or_else at_paren or_else at_word w_as) but_not at_colons) but_not at_word w_as) but_not at_paren) ∷ []; halts = at_semicolon ∷ at_postfix_mark ∷ at_unfinished ∷ at_mark greater_greater_equals ∷ at_mark less_less_equals ∷ at_mark bar_equals ∷ at_mark ampersand_equals ∷ at_mark caret_equals ∷ at_mark percent_equals ∷ at_mark slash_equals ∷ at_mark star_equals ∷ at_mark minus_equals ∷ at_mark plus_equals ∷ at_equals_operator ∷ at_mark or_or ∷ at_mark and_and ∷ at_mark greater_equals ∷ at_mark less_equals ∷ at_greater_operator ∷ at_less_operator ∷ at_mark not_equals ∷ at_mark equal_equal ∷ at_bar_operator ∷ at_caret_operator ∷ at_ampersand_operator ∷ at_greater_greater_operator ∷ at_less_less_operator ∷ at_minus_operator ∷ at_plus_operator ∷ at_percent_operator ∷ at_slash_operator ∷ at_star_operator ∷ at_word w_as ∷ at_dot ∷ at_question ∷ at_bracket ∷ at_paren ∷ at_colons ∷ at_word w_else ∷ at_whole_expression ∷ at_lifetime ∷ at_arguments ∷ at_arrow ∷ at_turbofish ∷ []; shuns = [] }
+summary_of false after_expression = record { stays = Punctuation semicolon ∷ []; moves = []; nullable = true; gone = []; ends = ended ∷ at_postfix_mark ∷ at_equals ∷ at_paren ∷ at_less ∷ (((at_colons or_else at_less_only or_else at_paren or_else at_word w_as) but_not at_colons) but_not at_word w_as) ∷ (at_colons but_not at_colons) ∷ ((at_bang or_else at_colons and_also ahead Before_macro) but_not at_colons) ∷ ((at_path_rest and_also ahead Bang_brace) but_not at_colons) ∷ ((at_path_rest and_also ahead Bang_name) but_not at_colons) ∷ at_name ∷ at_brace ∷ at_word w_trait ∷ (at_word w_unsafe or_else at_word w_impl) ∷ (at_paren but_not at_paren) ∷ ((((at_colons or_else at_less_only or_else at_paren or_else at_word w_as) but_not at_colons) but_not at_paren) but_not at_word w_as) ∷ ((((at_colons or_else at_less_only or_else at_paren or_else at_word w_as) but_not at_colons) but_not at_word w_as) but_not at_paren) ∷ []; halts = at_semicolon ∷ at_postfix_mark ∷ at_unfinished ∷ at_mark greater_greater_equals ∷ at_mark less_less_equals ∷ at_mark bar_equals ∷ at_mark ampersand_equals ∷ at_mark caret_equals ∷ at_mark percent_equals ∷ at_mark slash_equals ∷ at_mark star_equals ∷ at_mark minus_equals ∷ at_mark plus_equals ∷ at_equals_operator ∷ at_mark or_or ∷ at_mark and_and ∷ at_mark greater_equals ∷ at_mark less_equals ∷ at_greater_operator ∷ at_less_operator ∷ at_mark not_equals ∷ at_mark equal_equal ∷ at_bar_operator ∷ at_caret_operator ∷ at_ampersand_operator ∷ at_greater_greater_operator ∷ at_less_less_operator ∷ at_minus_operator ∷ at_plus_operator ∷ at_percent_operator ∷ at_slash_operator ∷ at_star_operator ∷ at_word w_as ∷ at_dot ∷ at_question ∷ at_bracket ∷ at_paren ∷ at_colons ∷ at_word w_else ∷ at_whole_expression ∷ at_lifetime ∷ at_arguments ∷ at_arrow ∷ at_turbofish ∷ []; shuns = [] }
+summary_of false statement = record { stays = Word w_crate ∷ Punctuation colons ∷ Name ∷ Word w_union ∷ Word w_auto ∷ Word w_default ∷ Word w_safe ∷ Word w_self ∷ Word w_Self_type ∷ Word w_super ∷ Word w_let ∷ Word w_if ∷ Punctuation lifetime_mark ∷ Delimited Brace false ∷ Word w_loop ∷ Word w_while ∷ Word w_for ∷ Punctuation pound ∷ Punctuation minus ∷ Punctuation star ∷ Punctuation ampersand ∷ Word w_true ∷ Word w_false ∷ Literal Str ∷ Literal ByteStr ∷ Literal CStr ∷ Literal Byte ∷ Literal Char ∷ Literal Int ∷ Literal Float ∷ Delimited Paren false ∷ Delimited Bracket false ∷ Delimited None false ∷ Word w_return ∷ Word w_break ∷ Word w_continue ∷ []; moves = move (Punctuation pound) (Punctuation pound) [] ∷ move (Word w_unsafe) (Word w_unsafe) [] ∷ move (Punctuation arrow) (Punctuation minus) [] ∷ move (Punctuation minus_equals) (Punctuation minus) [] ∷ move (Punctuation exclamation) (Punctuation exclamation) [] ∷ move (Punctuation not_equals) (Punctuation exclamation) [] ∷ move (Punctuation star_equals) (Punctuation star) [] ∷ move (Punctuation and_and) (Punctuation ampersand) [] ∷ move (Punctuation ampersand_equals) (Punctuation ampersand) [] ∷ move (Punctuation less) (Punctuation less) [] ∷ move (Punctuation less_less_equals) (Punctuation less) [] ∷ move (Punctuation less_equals) (Punctuation less) [] ∷ move (Punctuation less_less) (Punctuation less) [] ∷ []; nullable = false; gone = []; ends = []; halts = at_postfix_mark ∷ at_semicolon ∷ at_word w_else ∷ []; shuns = [] }
+summary_of false statement_end = record { stays = Punctuation semicolon ∷ Punctuation question ∷ Punctuation dot ∷ []; moves = []; nullable = true; gone = []; ends = []; halts = at_postfix_mark ∷ at_semicolon ∷ []; shuns = [] }
+summary_of false local = record { stays = Word w_let ∷ []; moves = []; nullable = false; gone = []; ends = []; halts = []; shuns = [] }
+summary_of true attributes = record { stays = Punctuation pound ∷ []; moves = []; nullable = true; gone = []; ends = []; halts = at_pound ∷ []; shuns = [] }
 summary_of true inner_attributes = record { stays = []; moves = []; nullable = false; gone = []; ends = []; halts = []; shuns = [] }
 summary_of true no_attributes = record { stays = []; moves = []; nullable = true; gone = []; ends = []; halts = at_pound ∷ []; shuns = [] }
 summary_of true meta = record { stays = []; moves = []; nullable = false; gone = []; ends = []; halts = []; shuns = [] }
 summary_of true unsafe_path = record { stays = []; moves = []; nullable = false; gone = []; ends = []; halts = []; shuns = [] }
 summary_of true unsafe_word = record { stays = []; moves = []; nullable = false; gone = []; ends = []; halts = []; shuns = [] }
 summary_of true meta_value = record { stays = []; moves = []; nullable = false; gone = []; ends = []; halts = []; shuns = [] }
-summary_of true module_path = record { stays = Punctuation colons ∷ Name ∷ Word w_union ∷ Word w_auto ∷ Word w_default ∷ Word w_safe ∷ Word w_self ∷ Word w_Self_type ∷ Word w_super ∷ Word w_crate ∷ []; moves = []; nullable = false; gone = []; ends = at_equals ∷ at_paren ∷ at_less ∷ ((at_colons or_else at_less_only or_else at_paren or_else at_word w_as) but_not at_colons) ∷ (at_colons but_not at_colons) ∷ ((at_path_rest and_also ahead Bang_brace) but_not at_colons) ∷ ((at_path_rest and_also ahead Bang_name) but_not at_colons) ∷ ((at_path_rest and_also ahead Bang_group) but_not at_colons) ∷ at_name ∷ at_brace ∷ at_word w_trait ∷ (at_word w_unsafe or_else at_word w_impl) ∷ ended ∷ []; halts = at_colons ∷ []; shuns = [] }
-summary_of true module_words = record { stays = Name ∷ Word w_union ∷ Word w_auto ∷ Word w_default ∷ Word w_safe ∷ Word w_self ∷ Word w_Self_type ∷ Word w_super ∷ Word w_crate ∷ []; moves = []; nullable = false; gone = []; ends = at_equals ∷ at_paren ∷ at_less ∷ ((at_colons or_else at_less_only or_else at_paren or_else at_word w_as) but_not at_colons) ∷ (at_colons but_not at_colons) ∷ ((at_path_rest and_also ahead Bang_brace) but_not at_colons) ∷ ((at_path_rest and_also ahead Bang_name) but_not at_colons) ∷ ((at_path_rest and_also ahead Bang_group) but_not at_colons) ∷ at_name ∷ at_brace ∷ at_word w_trait ∷ (at_word w_unsafe or_else at_word w_impl) ∷ ended ∷ []; halts = at_colons ∷ []; shuns = [] }
+summary_of true module_path = record { stays = Punctuation colons ∷ Name ∷ Word w_union ∷ Word w_auto ∷ Word w_default ∷ Word w_safe ∷ Word w_self ∷ Word w_Self_type ∷ Word w_super ∷ Word w_crate ∷ []; moves = []; nullable = false; gone = []; ends = at_equals ∷ at_paren ∷ at_less ∷ ((at_colons or_else at_less_only or_else at_paren or_else at_word w_as) but_not at_colons) ∷ (at_colons but_not at_colons) ∷ ((at_bang or_else at_colons and_also ahead Before_macro) but_not at_colons) ∷ ((at_path_rest and_also ahead Bang_brace) but_not at_colons) ∷ ((at_path_rest and_also ahead Bang_name) but_not at_colons) ∷ at_name ∷ at_brace ∷ at_word w_trait ∷ (at_word w_unsafe or_else at_word w_impl) ∷ ended ∷ []; halts = at_colons ∷ []; shuns = [] }
+summary_of true module_words = record { stays = Name ∷ Word w_union ∷ Word w_auto ∷ Word w_default ∷ Word w_safe ∷ Word w_self ∷ Word w_Self_type ∷ Word w_super ∷ Word w_crate ∷ []; moves = []; nullable = false; gone = []; ends = at_equals ∷ at_paren ∷ at_less ∷ ((at_colons or_else at_less_only or_else at_paren or_else at_word w_as) but_not at_colons) ∷ (at_colons but_not at_colons) ∷ ((at_bang or_else at_colons and_also ahead Before_macro) but_not at_colons) ∷ ((at_path_rest and_also ahead Bang_brace) but_not at_colons) ∷ ((at_path_rest and_also ahead Bang_name) but_not at_colons) ∷ at_name ∷ at_brace ∷ at_word w_trait ∷ (at_word w_unsafe or_else at_word w_impl) ∷ ended ∷ []; halts = at_colons ∷ []; shuns = [] }
 summary_of true visibility = record { stays = Word w_pub ∷ []; moves = []; nullable = true; gone = Delimited None true ∷ []; ends = []; halts = at_restriction ∷ at_empty_group ∷ at_word w_pub ∷ []; shuns = at_empty_group ∷ at_word w_pub ∷ [] }
-summary_of true restriction = record { stays = Word w_in ∷ Punctuation colons ∷ Name ∷ Word w_union ∷ Word w_auto ∷ Word w_default ∷ Word w_safe ∷ Word w_self ∷ Word w_Self_type ∷ Word w_super ∷ Word w_crate ∷ []; moves = []; nullable = false; gone = []; ends = at_equals ∷ at_paren ∷ at_less ∷ ((at_colons or_else at_less_only or_else at_paren or_else at_word w_as) but_not at_colons) ∷ (at_colons but_not at_colons) ∷ ((at_path_rest and_also ahead Bang_brace) but_not at_colons) ∷ ((at_path_rest and_also ahead Bang_name) but_not at_colons) ∷ ((at_path_rest and_also ahead Bang_group) but_not at_colons) ∷ at_name ∷ at_brace ∷ at_word w_trait ∷ (at_word w_unsafe or_else at_word w_impl) ∷ ended ∷ []; halts = at_colons ∷ []; shuns = [] }
-summary_of true type_path = record { stays = Name ∷ Word w_union ∷ Word w_auto ∷ Word w_default ∷ Word w_safe ∷ Word w_Self_type ∷ Word w_self ∷ Word w_super ∷ Word w_crate ∷ []; moves = move (Punctuation colons) (Punctuation colons) [] ∷ []; nullable = false; gone = []; ends = at_equals ∷ at_paren ∷ at_less ∷ ((at_colons or_else at_less_only or_else at_paren or_else at_word w_as) but_not at_colons) ∷ (at_colons but_not at_colons) ∷ ((at_path_rest and_also ahead Bang_brace) but_not at_colons) ∷ ((at_path_rest and_also ahead Bang_name) but_not at_colons) ∷ ((at_path_rest and_also ahead Bang_group) but_not at_colons) ∷ at_name ∷ at_brace ∷ at_word w_trait ∷ (at_word w_unsafe or_else at_word w_impl) ∷ ended ∷ []; halts = at_colons ∷ at_arguments ∷ at_arrow ∷ []; shuns = [] }
-summary_of true type_words = record { stays = Name ∷ Word w_union ∷ Word w_auto ∷ Word w_default ∷ Word w_safe ∷ Word w_Self_type ∷ Word w_self ∷ Word w_super ∷ Word w_crate ∷ []; moves = []; nullable = false; gone = []; ends = at_equals ∷ at_paren ∷ at_less ∷ ((at_colons or_else at_less_only or_else at_paren or_else at_word w_as) but_not at_colons) ∷ (at_colons but_not at_colons) ∷ ((at_path_rest and_also ahead Bang_brace) but_not at_colons) ∷ ((at_path_rest and_also ahead Bang_name) but_not at_colons) ∷ ((at_path_rest and_also ahead Bang_group) but_not at_colons) ∷ at_name ∷ at_brace ∷ at_word w_trait ∷ (at_word w_unsafe or_else at_word w_impl) ∷ ended ∷ []; halts = at_colons ∷ at_arguments ∷ at_arrow ∷ []; shuns = [] }
-summary_of true type_arguments = record { stays = Delimited Paren false ∷ Punctuation colons ∷ []; moves = move (Punctuation less) (Punctuation less) [] ∷ move (Punctuation less_less_equals) (Punctuation less) [] ∷ move (Punctuation less_equals) (Punctuation less) [] ∷ move (Punctuation less_less) (Punctuation less) [] ∷ []; nullable = false; gone = []; ends = at_equals ∷ at_paren ∷ at_less ∷ ((at_colons or_else at_less_only or_else at_paren or_else at_word w_as) but_not at_colons) ∷ (at_colons but_not at_colons) ∷ ((at_path_rest and_also ahead Bang_brace) but_not at_colons) ∷ ((at_path_rest and_also ahead Bang_name) but_not at_colons) ∷ ((at_path_rest and_also ahead Bang_group) but_not at_colons) ∷ at_name ∷ at_brace ∷ at_word w_trait ∷ (at_word w_unsafe or_else at_word w_impl) ∷ ended ∷ []; halts = at_colons ∷ at_arguments ∷ at_arrow ∷ []; shuns = [] }
+summary_of true restriction = record { stays = Word w_in ∷ Punctuation colons ∷ Name ∷ Word w_union ∷ Word w_auto ∷ Word w_default ∷ Word w_safe ∷ Word w_self ∷ Word w_Self_type ∷ Word w_super ∷ Word w_crate ∷ []; moves = []; nullable = false; gone = []; ends = at_equals ∷ at_paren ∷ at_less ∷ ((at_colons or_else at_less_only or_else at_paren or_else at_word w_as) but_not at_colons) ∷ (at_colons but_not at_colons) ∷ ((at_bang or_else at_colons and_also ahead Before_macro) but_not at_colons) ∷ ((at_path_rest and_also ahead Bang_brace) but_not at_colons) ∷ ((at_path_rest and_also ahead Bang_name) but_not at_colons) ∷ at_name ∷ at_brace ∷ at_word w_trait ∷ (at_word w_unsafe or_else at_word w_impl) ∷ ended ∷ []; halts = at_colons ∷ []; shuns = [] }
+summary_of true type_path = record { stays = Name ∷ Word w_union ∷ Word w_auto ∷ Word w_default ∷ Word w_safe ∷ Word w_Self_type ∷ Word w_self ∷ Word w_super ∷ Word w_crate ∷ []; moves = move (Punctuation colons) (Punctuation colons) [] ∷ []; nullable = false; gone = []; ends = at_equals ∷ at_paren ∷ at_less ∷ ((at_colons or_else at_less_only or_else at_paren or_else at_word w_as) but_not at_colons) ∷ (at_colons but_not at_colons) ∷ ((at_bang or_else at_colons and_also ahead Before_macro) but_not at_colons) ∷ ((at_path_rest and_also ahead Bang_brace) but_not at_colons) ∷ ((at_path_rest and_also ahead Bang_name) but_not at_colons) ∷ at_name ∷ at_brace ∷ at_word w_trait ∷ (at_word w_unsafe or_else at_word w_impl) ∷ ended ∷ []; halts = at_colons ∷ at_arguments ∷ at_arrow ∷ []; shuns = [] }
+summary_of true type_words = record { stays = Name ∷ Word w_union ∷ Word w_auto ∷ Word w_default ∷ Word w_safe ∷ Word w_Self_type ∷ Word w_self ∷ Word w_super ∷ Word w_crate ∷ []; moves = []; nullable = false; gone = []; ends = at_equals ∷ at_paren ∷ at_less ∷ ((at_colons or_else at_less_only or_else at_paren or_else at_word w_as) but_not at_colons) ∷ (at_colons but_not at_colons) ∷ ((at_bang or_else at_colons and_also ahead Before_macro) but_not at_colons) ∷ ((at_path_rest and_also ahead Bang_brace) but_not at_colons) ∷ ((at_path_rest and_also ahead Bang_name) but_not at_colons) ∷ at_name ∷ at_brace ∷ at_word w_trait ∷ (at_word w_unsafe or_else at_word w_impl) ∷ ended ∷ []; halts = at_colons ∷ at_arguments ∷ at_arrow ∷ []; shuns = [] }
+summary_of true type_arguments = record { stays = Delimited Paren false ∷ Punctuation colons ∷ []; moves = move (Punctuation less) (Punctuation less) [] ∷ move (Punctuation less_less_equals) (Punctuation less) [] ∷ move (Punctuation less_equals) (Punctuation less) [] ∷ move (Punctuation less_less) (Punctuation less) [] ∷ []; nullable = false; gone = []; ends = at_equals ∷ at_paren ∷ at_less ∷ ((at_colons or_else at_less_only or_else at_paren or_else at_word w_as) but_not at_colons) ∷ (at_colons but_not at_colons) ∷ ((at_bang or_else at_colons and_also ahead Before_macro) but_not at_colons) ∷ ((at_path_rest and_also ahead Bang_brace) but_not at_colons) ∷ ((at_path_rest and_also ahead Bang_name) but_not at_colons) ∷ at_name ∷ at_brace ∷ at_word w_trait ∷ (at_word w_unsafe or_else at_word w_impl) ∷ ended ∷ []; halts = at_colons ∷ at_arguments ∷ at_arrow ∷ []; shuns = [] }
 summary_of true return_type = record { stays = []; moves = []; nullable = false; gone = []; ends = []; halts = []; shuns = [] }
 summary_of true generic_arguments = record { stays = []; moves = move (Punctuation less) (Punctuation less) [] ∷ move (Punctuation less_less_equals) (Punctuation less) [] ∷ move (Punctuation less_equals) (Punctuation less) [] ∷ move (Punctuation less_less) (Punctuation less) [] ∷ []; nullable = false; gone = []; ends = []; halts = []; shuns = [] }
 summary_of true generic_argument = record { stays = []; moves = []; nullable = false; gone = []; ends = []; halts = []; shuns = [] }
-summary_of true qualified_path = record { stays = []; moves = move (Punctuation less) (Punctuation less) [] ∷ move (Punctuation less_less_equals) (Punctuation less) [] ∷ move (Punctuation less_equals) (Punctuation less) [] ∷ move (Punctuation less_less) (Punctuation less) [] ∷ []; nullable = false; gone = []; ends = at_equals ∷ at_paren ∷ at_less ∷ ((at_colons or_else at_less_only or_else at_paren or_else at_word w_as) but_not at_colons) ∷ (at_colons but_not at_colons) ∷ ((at_path_rest and_also ahead Bang_brace) but_not at_colons) ∷ ((at_path_rest and_also ahead Bang_name) but_not at_colons) ∷ ((at_path_rest and_also ahead Bang_group) but_not at_colons) ∷ at_name ∷ at_brace ∷ at_word w_trait ∷ (at_word w_unsafe or_else at_word w_impl) ∷ ended ∷ []; halts = at_colons ∷ at_arguments ∷ at_arrow ∷ []; shuns = [] }
-summary_of true path_as_type = record { stays = Name ∷ Word w_union ∷ Word w_auto ∷ Word w_default ∷ Word w_safe ∷ Word w_Self_type ∷ Word w_self ∷ Word w_super ∷ Word w_crate ∷ []; moves = move (Punctuation less) (Punctuation less) [] ∷ move (Punctuation less_less_equals) (Punctuation less) [] ∷ move (Punctuation less_equals) (Punctuation less) [] ∷ move (Punctuation less_less) (Punctuation less) [] ∷ move (Punctuation colons) (Punctuation colons) [] ∷ []; nullable = false; gone = []; ends = at_equals ∷ at_paren ∷ at_less ∷ ((at_colons or_else at_less_only or_else at_paren or_else at_word w_as) but_not at_colons) ∷ (at_colons but_not at_colons) ∷ ((at_path_rest and_also ahead Bang_brace) but_not at_colons) ∷ ((at_path_rest and_also ahead Bang_name) but_not at_colons) ∷ ((at_path_rest and_also ahead Bang_group) but_not at_colons) ∷ at_name ∷ at_brace ∷ at_word w_trait ∷ (at_word w_unsafe or_else at_word w_impl) ∷ ended ∷ []; halts = at_colons ∷ at_arguments ∷ at_arrow ∷ []; shuns = [] }
-summary_of true type = record { stays = Punctuation ampersand ∷ Punctuation star ∷ Delimited Paren false ∷ Delimited Bracket false ∷ Delimited None false ∷ Name ∷ Word w_union ∷ Word w_auto ∷ Word w_default ∷ Word w_safe ∷ Word w_Self_type ∷ Word w_self ∷ Word w_super ∷ Word w_crate ∷ []; moves = move (Punctuation and_and) (Punctuation ampersand) [] ∷ move (Punctuation ampersand_equals) (Punctuation ampersand) [] ∷ move (Punctuation star_equals) (Punctuation star) [] ∷ move (Punctuation exclamation) (Punctuation exclamation) [] ∷ move (Punctuation not_equals) (Punctuation exclamation) [] ∷ move (Punctuation less) (Punctuation less) [] ∷ move (Punctuation less_less_equals) (Punctuation less) [] ∷ move (Punctuation less_equals) (Punctuation less) [] ∷ move (Punctuation less_less) (Punctuation less) [] ∷ move (Punctuation colons) (Punctuation colons) [] ∷ []; nullable = false; gone = []; ends = at_equals ∷ at_paren ∷ at_less ∷ ((at_colons or_else at_less_only or_else at_paren or_else at_word w_as) but_not at_colons) ∷ (at_colons but_not at_colons) ∷ ((at_path_rest and_also ahead Bang_brace) but_not at_colons) ∷ ((at_path_rest and_also ahead Bang_name) but_not at_colons) ∷ ((at_path_rest and_also ahead Bang_group) but_not at_colons) ∷ at_name ∷ at_brace ∷ at_word w_trait ∷ (at_word w_unsafe or_else at_word w_impl) ∷ ended ∷ []; halts = at_colons ∷ at_arguments ∷ at_arrow ∷ []; shuns = [] }
-summary_of true types = record { stays = Punctuation ampersand ∷ Punctuation star ∷ Delimited Paren false ∷ Delimited Bracket false ∷ Delimited None false ∷ Name ∷ Word w_union ∷ Word w_auto ∷ Word w_default ∷ Word w_safe ∷ Word w_Self_type ∷ Word w_self ∷ Word w_super ∷ Word w_crate ∷ []; moves = move (Punctuation and_and) (Punctuation ampersand) [] ∷ move (Punctuation ampersand_equals) (Punctuation ampersand) [] ∷ move (Punctuation star_equals) (Punctuation star) [] ∷ move (Punctuation exclamation) (Punctuation exclamation) [] ∷ move (Punctuation not_equals) (Punctuation exclamation) [] ∷ move (Punctuation less) (Punctuation less) [] ∷ move (Punctuation less_less_equals) (Punctuation less) [] ∷ move (Punctuation less_equals) (Punctuation less) [] ∷ move (Punctuation less_less) (Punctuation less) [] ∷ move (Punctuation colons) (Punctuation colons) [] ∷ []; nullable = true; gone = []; ends = ended ∷ at_equals ∷ at_paren ∷ at_less ∷ ((at_colons or_else at_less_only or_else at_paren or_else at_word w_as) but_not at_colons) ∷ (at_colons but_not at_colons) ∷ ((at_path_rest and_also ahead Bang_brace) but_not at_colons) ∷ ((at_path_rest and_also ahead Bang_name) but_not at_colons) ∷ ((at_path_rest and_also ahead Bang_group) but_not at_colons) ∷ at_name ∷ at_brace ∷ at_word w_trait ∷ (at_word w_unsafe or_else at_word w_impl) ∷ []; halts = at_comma ∷ at_colons ∷ at_arguments ∷ at_arrow ∷ []; shuns = [] }
+summary_of true qualified_path = record { stays = []; moves = move (Punctuation less) (Punctuation less) [] ∷ move (Punctuation less_less_equals) (Punctuation less) [] ∷ move (Punctuation less_equals) (Punctuation less) [] ∷ move (Punctuation less_less) (Punctuation less) [] ∷ []; nullable = false; gone = []; ends = at_equals ∷ at_paren ∷ at_less ∷ ((at_colons or_else at_less_only or_else at_paren or_else at_word w_as) but_not at_colons) ∷ (at_colons but_not at_colons) ∷ ((at_bang or_else at_colons and_also ahead Before_macro) but_not at_colons) ∷ ((at_path_rest and_also ahead Bang_brace) but_not at_colons) ∷ ((at_path_rest and_also ahead Bang_name) but_not at_colons) ∷ at_name ∷ at_brace ∷ at_word w_trait ∷ (at_word w_unsafe or_else at_word w_impl) ∷ ended ∷ []; halts = at_colons ∷ at_arguments ∷ at_arrow ∷ []; shuns = [] }
+summary_of true path_as_type = record { stays = Name ∷ Word w_union ∷ Word w_auto ∷ Word w_default ∷ Word w_safe ∷ Word w_Self_type ∷ Word w_self ∷ Word w_super ∷ Word w_crate ∷ []; moves = move (Punctuation less) (Punctuation less) [] ∷ move (Punctuation less_less_equals) (Punctuation less) [] ∷ move (Punctuation less_equals) (Punctuation less) [] ∷ move (Punctuation less_less) (Punctuation less) [] ∷ move (Punctuation colons) (Punctuation colons) [] ∷ []; nullable = false; gone = []; ends = at_equals ∷ at_paren ∷ at_less ∷ ((at_colons or_else at_less_only or_else at_paren or_else at_word w_as) but_not at_colons) ∷ (at_colons but_not at_colons) ∷ ((at_bang or_else at_colons and_also ahead Before_macro) but_not at_colons) ∷ ((at_path_rest and_also ahead Bang_brace) but_not at_colons) ∷ ((at_path_rest and_also ahead Bang_name) but_not at_colons) ∷ at_name ∷ at_brace ∷ at_word w_trait ∷ (at_word w_unsafe or_else at_word w_impl) ∷ ended ∷ []; halts = at_colons ∷ at_arguments ∷ at_arrow ∷ []; shuns = [] }
+summary_of true type = record { stays = Punctuation ampersand ∷ Punctuation star ∷ Delimited Paren false ∷ Delimited Bracket false ∷ Delimited None false ∷ Name ∷ Word w_union ∷ Word w_auto ∷ Word w_default ∷ Word w_safe ∷ Word w_Self_type ∷ Word w_self ∷ Word w_super ∷ Word w_crate ∷ []; moves = move (Punctuation and_and) (Punctuation ampersand) [] ∷ move (Punctuation ampersand_equals) (Punctuation ampersand) [] ∷ move (Punctuation star_equals) (Punctuation star) [] ∷ move (Punctuation exclamation) (Punctuation exclamation) [] ∷ move (Punctuation not_equals) (Punctuation exclamation) [] ∷ move (Punctuation less) (Punctuation less) [] ∷ move (Punctuation less_less_equals) (Punctuation less) [] ∷ move (Punctuation less_equals) (Punctuation less) [] ∷ move (Punctuation less_less) (Punctuation less) [] ∷ move (Punctuation colons) (Punctuation colons) [] ∷ []; nullable = false; gone = []; ends = at_equals ∷ at_paren ∷ at_less ∷ ((at_colons or_else at_less_only or_else at_paren or_else at_word w_as) but_not at_colons) ∷ (at_colons but_not at_colons) ∷ ((at_bang or_else at_colons and_also ahead Before_macro) but_not at_colons) ∷ ((at_path_rest and_also ahead Bang_brace) but_not at_colons) ∷ ((at_path_rest and_also ahead Bang_name) but_not at_colons) ∷ at_name ∷ at_brace ∷ at_word w_trait ∷ (at_word w_unsafe or_else at_word w_impl) ∷ ended ∷ []; halts = at_colons ∷ at_arguments ∷ at_arrow ∷ []; shuns = [] }
+summary_of true types = record { stays = Punctuation ampersand ∷ Punctuation star ∷ Delimited Paren false ∷ Delimited Bracket false ∷ Delimited None false ∷ Name ∷ Word w_union ∷ Word w_auto ∷ Word w_default ∷ Word w_safe ∷ Word w_Self_type ∷ Word w_self ∷ Word w_super ∷ Word w_crate ∷ []; moves = move (Punctuation and_and) (Punctuation ampersand) [] ∷ move (Punctuation ampersand_equals) (Punctuation ampersand) [] ∷ move (Punctuation star_equals) (Punctuation star) [] ∷ move (Punctuation exclamation) (Punctuation exclamation) [] ∷ move (Punctuation not_equals) (Punctuation exclamation) [] ∷ move (Punctuation less) (Punctuation less) [] ∷ move (Punctuation less_less_equals) (Punctuation less) [] ∷ move (Punctuation less_equals) (Punctuation less) [] ∷ move (Punctuation less_less) (Punctuation less) [] ∷ move (Punctuation colons) (Punctuation colons) [] ∷ []; nullable = true; gone = []; ends = ended ∷ at_equals ∷ at_paren ∷ at_less ∷ ((at_colons or_else at_less_only or_else at_paren or_else at_word w_as) but_not at_colons) ∷ (at_colons but_not at_colons) ∷ ((at_bang or_else at_colons and_also ahead Before_macro) but_not at_colons) ∷ ((at_path_rest and_also ahead Bang_brace) but_not at_colons) ∷ ((at_path_rest and_also ahead Bang_name) but_not at_colons) ∷ at_name ∷ at_brace ∷ at_word w_trait ∷ (at_word w_unsafe or_else at_word w_impl) ∷ []; halts = at_comma ∷ at_colons ∷ at_arguments ∷ at_arrow ∷ []; shuns = [] }
 summary_of true expression = record { stays = Word w_true ∷ Word w_false ∷ Literal Str ∷ Literal ByteStr ∷ Literal CStr ∷ Literal Byte ∷ Literal Char ∷ Literal Int ∷ Literal Float ∷ []; moves = []; nullable = false; gone = []; ends = []; halts = []; shuns = [] }
 summary_of true generics = record { stays = []; moves = []; nullable = false; gone = []; ends = []; halts = []; shuns = [] }
 summary_of true lifetime_parameter = record { stays = []; moves = []; nullable = false; gone = []; ends = []; halts = []; shuns = [] }
 summary_of true lifetimes = record { stays = []; moves = []; nullable = false; gone = []; ends = []; halts = []; shuns = [] }
 summary_of true parameter_bounds = record { stays = []; moves = []; nullable = false; gone = []; ends = []; halts = []; shuns = [] }
 summary_of true bound = record { stays = []; moves = []; nullable = false; gone = []; ends = []; halts = []; shuns = [] }
-summary_of true trait_bound = record { stays = Punctuation question ∷ Word w_for ∷ Name ∷ Word w_union ∷ Word w_auto ∷ Word w_default ∷ Word w_safe ∷ Word w_Self_type ∷ Word w_self ∷ Word w_super ∷ Word w_crate ∷ []; moves = move (Punctuation colons) (Punctuation colons) [] ∷ []; nullable = false; gone = []; ends = at_equals ∷ at_paren ∷ at_less ∷ ((at_colons or_else at_less_only or_else at_paren or_else at_word w_as) but_not at_colons) ∷ (at_colons but_not at_colons) ∷ ((at_path_rest and_also ahead Bang_brace) but_not at_colons) ∷ ((at_path_rest and_also ahead Bang_name) but_not at_colons) ∷ ((at_path_rest and_also ahead Bang_group) but_not at_colons) ∷ at_name ∷ at_brace ∷ at_word w_trait ∷ (at_word w_unsafe or_else at_word w_impl) ∷ ended ∷ []; halts = at_colons ∷ at_arguments ∷ at_arrow ∷ []; shuns = [] }
+summary_of true trait_bound = record { stays = Punctuation question ∷ Word w_for ∷ Name ∷ Word w_union ∷ Word w_auto ∷ Word w_default ∷ Word w_safe ∷ Word w_Self_type ∷ Word w_self ∷ Word w_super ∷ Word w_crate ∷ []; moves = move (Punctuation colons) (Punctuation colons) [] ∷ []; nullable = false; gone = []; ends = at_equals ∷ at_paren ∷ at_less ∷ ((at_colons or_else at_less_only or_else at_paren or_else at_word w_as) but_not at_colons) ∷ (at_colons but_not at_colons) ∷ ((at_bang or_else at_colons and_also ahead Before_macro) but_not at_colons) ∷ ((at_path_rest and_also ahead Bang_brace) but_not at_colons) ∷ ((at_path_rest and_also ahead Bang_name) but_not at_colons) ∷ at_name ∷ at_brace ∷ at_word w_trait ∷ (at_word w_unsafe or_else at_word w_impl) ∷ ended ∷ []; halts = at_colons ∷ at_arguments ∷ at_arrow ∷ []; shuns = [] }
 summary_of true bound_lifetimes = record { stays = []; moves = []; nullable = false; gone = []; ends = []; halts = []; shuns = [] }
 summary_of true lifetime_parameters = record { stays = []; moves = []; nullable = false; gone = []; ends = []; halts = []; shuns = [] }
 summary_of true where_clause = record { stays = []; moves = []; nullable = false; gone = []; ends = []; halts = []; shuns = [] }
@@ -266,8 +466,8 @@ summary_of true fields_named = record { stays = Delimited Brace false ∷ []; mo
 summary_of true named_fields = record { stays = []; moves = []; nullable = false; gone = []; ends = []; halts = []; shuns = [] }
 summary_of true named_field = record { stays = []; moves = []; nullable = false; gone = []; ends = []; halts = []; shuns = [] }
 summary_of true nameless_fields = record { stays = Word w_struct ∷ Word w_union ∷ []; moves = []; nullable = false; gone = []; ends = []; halts = []; shuns = [] }
-summary_of true unnamed_field = record { stays = Word w_pub ∷ Punctuation ampersand ∷ Punctuation star ∷ Delimited Paren false ∷ Delimited Bracket false ∷ Delimited None false ∷ Name ∷ Word w_union ∷ Word w_auto ∷ Word w_default ∷ Word w_safe ∷ Word w_Self_type ∷ Word w_self ∷ Word w_super ∷ Word w_crate ∷ []; moves = move (Punctuation pound) (Punctuation pound) [] ∷ move (Punctuation and_and) (Punctuation ampersand) [] ∷ move (Punctuation ampersand_equals) (Punctuation ampersand) [] ∷ move (Punctuation star_equals) (Punctuation star) [] ∷ move (Punctuation exclamation) (Punctuation exclamation) [] ∷ move (Punctuation not_equals) (Punctuation exclamation) [] ∷ move (Punctuation less) (Punctuation less) [] ∷ move (Punctuation less_less_equals) (Punctuation less) [] ∷ move (Punctuation less_equals) (Punctuation less) [] ∷ move (Punctuation less_less) (Punctuation less) [] ∷ move (Punctuation colons) (Punctuation colons) [] ∷ move (Delimited None true) (Punctuation ampersand) [] ∷ move (Delimited None true) (Punctuation star) [] ∷ move (Delimited None true) (Delimited Paren false) [] ∷ move (Delimited None true) (Delimited Bracket false) [] ∷ move (Delimited None true) (Delimited None false) [] ∷ move (Delimited None true) Name [] ∷ move (Delimited None true) (Word w_union) [] ∷ move (Delimited None true) (Word w_auto) [] ∷ move (Delimited None true) (Word w_default) [] ∷ move (Delimited None true) (Word w_safe) [] ∷ move (Delimited None true) (Word w_Self_type) [] ∷ move (Delimited None true) (Word w_self) [] ∷ move (Delimited None true) (Word w_super) [] ∷ move (Delimited None true) (Word w_crate) [] ∷ move (Delimited None true) (Punctuation exclamation) [] ∷ move (Delimited None true) (Punctuation less) [] ∷ move (Delimited None true) (Punctuation colons) [] ∷ []; nullable = false; gone = []; ends = (at_equals but_not at_equals) ∷ at_paren ∷ at_less ∷ ((at_colons or_else at_less_only or_else at_paren or_else at_word w_as) but_not at_colons) ∷ (at_colons but_not at_colons) ∷ ((at_path_rest and_also ahead Bang_brace) but_not at_colons) ∷ ((at_path_rest and_also ahead Bang_name) but_not at_colons) ∷ ((at_path_rest and_also ahead Bang_group) but_not at_colons) ∷ at_name ∷ at_brace ∷ at_word w_trait ∷ (at_word w_unsafe or_else at_word w_impl) ∷ ended ∷ []; halts = at_equals ∷ at_colons ∷ at_arguments ∷ at_arrow ∷ []; shuns = [] }
-summary_of true unnamed_fields = record { stays = Word w_pub ∷ Punctuation ampersand ∷ Punctuation star ∷ Delimited Paren false ∷ Delimited Bracket false ∷ Delimited None false ∷ Name ∷ Word w_union ∷ Word w_auto ∷ Word w_default ∷ Word w_safe ∷ Word w_Self_type ∷ Word w_self ∷ Word w_super ∷ Word w_crate ∷ []; moves = move (Punctuation pound) (Punctuation pound) [] ∷ move (Punctuation and_and) (Punctuation ampersand) [] ∷ move (Punctuation ampersand_equals) (Punctuation ampersand) [] ∷ move (Punctuation star_equals) (Punctuation star) [] ∷ move (Punctuation exclamation) (Punctuation exclamation) [] ∷ move (Punctuation not_equals) (Punctuation exclamation) [] ∷ move (Punctuation less) (Punctuation less) [] ∷ move (Punctuation less_less_equals) (Punctuation less) [] ∷ move (Punctuation less_equals) (Punctuation less) [] ∷ move (Punctuation less_less) (Punctuation less) [] ∷ move (Punctuation colons) (Punctuation colons) [] ∷ move (Delimited None true) (Punctuation ampersand) [] ∷ move (Delimited None true) (Punctuation star) [] ∷ move (Delimited None true) (Delimited Paren false) [] ∷ move (Delimited None true) (Delimited Bracket false) [] ∷ move (Delimited None true) (Delimited None false) [] ∷ move (Delimited None true) Name [] ∷ move (Delimited None true) (Word w_union) [] ∷ move (Delimited None true) (Word w_auto) [] ∷ move (Delimited None true) (Word w_default) [] ∷ move (Delimited None true) (Word w_safe) [] ∷ move (Delimited None true) (Word w_Self_type) [] ∷ move (Delimited None true) (Word w_self) [] ∷ move (Delimited None true) (Word w_super) [] ∷ move (Delimited None true) (Word w_crate) [] ∷ move (Delimited None true) (Punctuation exclamation) [] ∷ move (Delimited None true) (Punctuation less) [] ∷ move (Delimited None true) (Punctuation colons) [] ∷ []; nullable = true; gone = []; ends = ended ∷ (at_equals but_not at_equals) ∷ at_paren ∷ at_less ∷ ((at_colons or_else at_less_only or_else at_paren or_else at_word w_as) but_not at_colons) ∷ (at_colons but_not at_colons) ∷ ((at_path_rest and_also ahead Bang_brace) but_not at_colons) ∷ ((at_path_rest and_also ahead Bang_name) but_not at_colons) ∷ ((at_path_rest and_also ahead Bang_group) but_not at_colons) ∷ at_name ∷ at_brace ∷ at_word w_trait ∷ (at_word w_unsafe or_else at_word w_impl) ∷ []; halts = at_comma ∷ at_equals ∷ at_colons ∷ at_arguments ∷ at_arrow ∷ []; shuns = [] }
+summary_of true unnamed_field = record { stays = Punctuation pound ∷ Word w_pub ∷ Punctuation ampersand ∷ Punctuation star ∷ Delimited Paren false ∷ Delimited Bracket false ∷ Delimited None false ∷ Name ∷ Word w_union ∷ Word w_auto ∷ Word w_default ∷ Word w_safe ∷ Word w_Self_type ∷ Word w_self ∷ Word w_super ∷ Word w_crate ∷ []; moves = move (Punctuation and_and) (Punctuation ampersand) [] ∷ move (Punctuation ampersand_equals) (Punctuation ampersand) [] ∷ move (Punctuation star_equals) (Punctuation star) [] ∷ move (Punctuation exclamation) (Punctuation exclamation) [] ∷ move (Punctuation not_equals) (Punctuation exclamation) [] ∷ move (Punctuation less) (Punctuation less) [] ∷ move (Punctuation less_less_equals) (Punctuation less) [] ∷ move (Punctuation less_equals) (Punctuation less) [] ∷ move (Punctuation less_less) (Punctuation less) [] ∷ move (Punctuation colons) (Punctuation colons) [] ∷ move (Delimited None true) (Punctuation ampersand) [] ∷ move (Delimited None true) (Punctuation star) [] ∷ move (Delimited None true) (Delimited Paren false) [] ∷ move (Delimited None true) (Delimited Bracket false) [] ∷ move (Delimited None true) (Delimited None false) [] ∷ move (Delimited None true) Name [] ∷ move (Delimited None true) (Word w_union) [] ∷ move (Delimited None true) (Word w_auto) [] ∷ move (Delimited None true) (Word w_default) [] ∷ move (Delimited None true) (Word w_safe) [] ∷ move (Delimited None true) (Word w_Self_type) [] ∷ move (Delimited None true) (Word w_self) [] ∷ move (Delimited None true) (Word w_super) [] ∷ move (Delimited None true) (Word w_crate) [] ∷ move (Delimited None true) (Punctuation exclamation) [] ∷ move (Delimited None true) (Punctuation less) [] ∷ move (Delimited None true) (Punctuation colons) [] ∷ []; nullable = false; gone = []; ends = (at_equals but_not at_equals) ∷ at_paren ∷ at_less ∷ ((at_colons or_else at_less_only or_else at_paren or_else at_word w_as) but_not at_colons) ∷ (at_colons but_not at_colons) ∷ ((at_bang or_else at_colons and_also ahead Before_macro) but_not at_colons) ∷ ((at_path_rest and_also ahead Bang_brace) but_not at_colons) ∷ ((at_path_rest and_also ahead Bang_name) but_not at_colons) ∷ at_name ∷ at_brace ∷ at_word w_trait ∷ (at_word w_unsafe or_else at_word w_impl) ∷ ended ∷ []; halts = at_equals ∷ at_colons ∷ at_arguments ∷ at_arrow ∷ []; shuns = [] }
+summary_of true unnamed_fields = record { stays = Punctuation pound ∷ Word w_pub ∷ Punctuation ampersand ∷ Punctuation star ∷ Delimited Paren false ∷ Delimited Bracket false ∷ Delimited None false ∷ Name ∷ Word w_union ∷ Word w_auto ∷ Word w_default ∷ Word w_safe ∷ Word w_Self_type ∷ Word w_self ∷ Word w_super ∷ Word w_crate ∷ []; moves = move (Punctuation and_and) (Punctuation ampersand) [] ∷ move (Punctuation ampersand_equals) (Punctuation ampersand) [] ∷ move (Punctuation star_equals) (Punctuation star) [] ∷ move (Punctuation exclamation) (Punctuation exclamation) [] ∷ move (Punctuation not_equals) (Punctuation exclamation) [] ∷ move (Punctuation less) (Punctuation less) [] ∷ move (Punctuation less_less_equals) (Punctuation less) [] ∷ move (Punctuation less_equals) (Punctuation less) [] ∷ move (Punctuation less_less) (Punctuation less) [] ∷ move (Punctuation colons) (Punctuation colons) [] ∷ move (Delimited None true) (Punctuation ampersand) [] ∷ move (Delimited None true) (Punctuation star) [] ∷ move (Delimited None true) (Delimited Paren false) [] ∷ move (Delimited None true) (Delimited Bracket false) [] ∷ move (Delimited None true) (Delimited None false) [] ∷ move (Delimited None true) Name [] ∷ move (Delimited None true) (Word w_union) [] ∷ move (Delimited None true) (Word w_auto) [] ∷ move (Delimited None true) (Word w_default) [] ∷ move (Delimited None true) (Word w_safe) [] ∷ move (Delimited None true) (Word w_Self_type) [] ∷ move (Delimited None true) (Word w_self) [] ∷ move (Delimited None true) (Word w_super) [] ∷ move (Delimited None true) (Word w_crate) [] ∷ move (Delimited None true) (Punctuation exclamation) [] ∷ move (Delimited None true) (Punctuation less) [] ∷ move (Delimited None true) (Punctuation colons) [] ∷ []; nullable = true; gone = []; ends = ended ∷ (at_equals but_not at_equals) ∷ at_paren ∷ at_less ∷ ((at_colons or_else at_less_only or_else at_paren or_else at_word w_as) but_not at_colons) ∷ (at_colons but_not at_colons) ∷ ((at_bang or_else at_colons and_also ahead Before_macro) but_not at_colons) ∷ ((at_path_rest and_also ahead Bang_brace) but_not at_colons) ∷ ((at_path_rest and_also ahead Bang_name) but_not at_colons) ∷ at_name ∷ at_brace ∷ at_word w_trait ∷ (at_word w_unsafe or_else at_word w_impl) ∷ []; halts = at_comma ∷ at_equals ∷ at_colons ∷ at_arguments ∷ at_arrow ∷ []; shuns = [] }
 summary_of true fields_unnamed = record { stays = []; moves = []; nullable = false; gone = []; ends = []; halts = []; shuns = [] }
 summary_of true variant = record { stays = []; moves = []; nullable = false; gone = []; ends = []; halts = []; shuns = [] }
 summary_of true variants = record { stays = []; moves = []; nullable = false; gone = []; ends = []; halts = []; shuns = [] }
@@ -279,6 +479,56 @@ summary_of true enumeration_rest = record { stays = []; moves = []; nullable = f
 summary_of true union_item = record { stays = []; moves = []; nullable = false; gone = []; ends = []; halts = []; shuns = [] }
 summary_of true union_item_rest = record { stays = []; moves = []; nullable = false; gone = []; ends = []; halts = []; shuns = [] }
 summary_of true derive_input = record { stays = []; moves = []; nullable = false; gone = []; ends = []; halts = []; shuns = [] }
+summary_of true expression_path = record { stays = Punctuation colons ∷ Name ∷ Word w_union ∷ Word w_auto ∷ Word w_default ∷ Word w_safe ∷ Word w_Self_type ∷ Word w_self ∷ Word w_super ∷ Word w_crate ∷ []; moves = []; nullable = false; gone = []; ends = at_equals ∷ at_paren ∷ at_less ∷ ((at_colons or_else at_less_only or_else at_paren or_else at_word w_as) but_not at_colons) ∷ (at_colons but_not at_colons) ∷ ((at_bang or_else at_colons and_also ahead Before_macro) but_not at_colons) ∷ ((at_path_rest and_also ahead Bang_brace) but_not at_colons) ∷ ((at_path_rest and_also ahead Bang_name) but_not at_colons) ∷ at_name ∷ at_brace ∷ at_word w_trait ∷ (at_word w_unsafe or_else at_word w_impl) ∷ ended ∷ []; halts = at_colons ∷ at_turbofish ∷ at_arrow ∷ at_arguments ∷ []; shuns = [] }
+summary_of true expression_words = record { stays = Name ∷ Word w_union ∷ Word w_auto ∷ Word w_default ∷ Word w_safe ∷ Word w_Self_type ∷ Word w_self ∷ Word w_super ∷ Word w_crate ∷ []; moves = []; nullable = false; gone = []; ends = at_equals ∷ at_paren ∷ at_less ∷ ((at_colons or_else at_less_only or_else at_paren or_else at_word w_as) but_not at_colons) ∷ (at_colons but_not at_colons) ∷ ((at_bang or_else at_colons and_also ahead Before_macro) but_not at_colons) ∷ ((at_path_rest and_also ahead Bang_brace) but_not at_colons) ∷ ((at_path_rest and_also ahead Bang_name) but_not at_colons) ∷ at_name ∷ at_brace ∷ at_word w_trait ∷ (at_word w_unsafe or_else at_word w_impl) ∷ ended ∷ []; halts = at_colons ∷ at_turbofish ∷ at_arrow ∷ at_arguments ∷ []; shuns = [] }
+summary_of true qualified_expression_path = record { stays = []; moves = move (Punctuation less) (Punctuation less) [] ∷ move (Punctuation less_less_equals) (Punctuation less) [] ∷ move (Punctuation less_equals) (Punctuation less) [] ∷ move (Punctuation less_less) (Punctuation less) [] ∷ []; nullable = false; gone = []; ends = at_equals ∷ at_paren ∷ at_less ∷ ((at_colons or_else at_less_only or_else at_paren or_else at_word w_as) but_not at_colons) ∷ (at_colons but_not at_colons) ∷ ((at_bang or_else at_colons and_also ahead Before_macro) but_not at_colons) ∷ ((at_path_rest and_also ahead Bang_brace) but_not at_colons) ∷ ((at_path_rest and_also ahead Bang_name) but_not at_colons) ∷ at_name ∷ at_brace ∷ at_word w_trait ∷ (at_word w_unsafe or_else at_word w_impl) ∷ ended ∷ []; halts = at_colons ∷ at_turbofish ∷ at_arrow ∷ at_arguments ∷ []; shuns = [] }
+summary_of true path_as_expression = record { stays = Punctuation colons ∷ Name ∷ Word w_union ∷ Word w_auto ∷ Word w_default ∷ Word w_safe ∷ Word w_Self_type ∷ Word w_self ∷ Word w_super ∷ Word w_crate ∷ []; moves = move (Punctuation less) (Punctuation less) [] ∷ move (Punctuation less_less_equals) (Punctuation less) [] ∷ move (Punctuation less_equals) (Punctuation less) [] ∷ move (Punctuation less_less) (Punctuation less) [] ∷ []; nullable = false; gone = []; ends = at_equals ∷ at_paren ∷ at_less ∷ ((at_colons or_else at_less_only or_else at_paren or_else at_word w_as) but_not at_colons) ∷ (at_colons but_not at_colons) ∷ ((at_bang or_else at_colons and_also ahead Before_macro) but_not at_colons) ∷ ((at_path_rest and_also ahead Bang_brace) but_not at_colons) ∷ ((at_path_rest and_also ahead Bang_name) but_not at_colons) ∷ at_name ∷ at_brace ∷ at_word w_trait ∷ (at_word w_unsafe or_else at_word w_impl) ∷ ended ∷ []; halts = at_colons ∷ at_turbofish ∷ at_arrow ∷ at_arguments ∷ []; shuns = [] }
+summary_of true macro_invocation = record { stays = Punctuation colons ∷ Name ∷ Word w_union ∷ Word w_auto ∷ Word w_default ∷ Word w_safe ∷ Word w_self ∷ Word w_Self_type ∷ Word w_super ∷ Word w_crate ∷ []; moves = []; nullable = false; gone = []; ends = []; halts = []; shuns = [] }
+summary_of true pattern = record { stays = Word w_underscore ∷ Delimited Paren false ∷ Punctuation colons ∷ Name ∷ Word w_union ∷ Word w_auto ∷ Word w_default ∷ Word w_safe ∷ Word w_Self_type ∷ Word w_self ∷ Word w_super ∷ Word w_crate ∷ Word w_ref ∷ []; moves = move (Punctuation less) (Punctuation less) [] ∷ move (Punctuation less_less_equals) (Punctuation less) [] ∷ move (Punctuation less_equals) (Punctuation less) [] ∷ move (Punctuation less_less) (Punctuation less) [] ∷ move (Word w_mut) (Word w_mut) [] ∷ []; nullable = false; gone = []; ends = at_equals ∷ at_paren ∷ at_less ∷ ((at_colons or_else at_less_only or_else at_paren or_else at_word w_as) but_not at_colons) ∷ (at_colons but_not at_colons) ∷ ((at_bang or_else at_colons and_also ahead Before_macro) but_not at_colons) ∷ ((at_path_rest and_also ahead Bang_brace) but_not at_colons) ∷ ((at_path_rest and_also ahead Bang_name) but_not at_colons) ∷ at_name ∷ at_brace ∷ at_word w_trait ∷ (at_word w_unsafe or_else at_word w_impl) ∷ ended ∷ []; halts = at_paren ∷ at_colons ∷ at_turbofish ∷ at_arrow ∷ at_arguments ∷ []; shuns = [] }
+summary_of true patterns = record { stays = Word w_underscore ∷ Delimited Paren false ∷ Punctuation colons ∷ Name ∷ Word w_union ∷ Word w_auto ∷ Word w_default ∷ Word w_safe ∷ Word w_Self_type ∷ Word w_self ∷ Word w_super ∷ Word w_crate ∷ Word w_ref ∷ []; moves = move (Punctuation less) (Punctuation less) [] ∷ move (Punctuation less_less_equals) (Punctuation less) [] ∷ move (Punctuation less_equals) (Punctuation less) [] ∷ move (Punctuation less_less) (Punctuation less) [] ∷ move (Word w_mut) (Word w_mut) [] ∷ []; nullable = true; gone = []; ends = ended ∷ at_equals ∷ at_paren ∷ at_less ∷ ((at_colons or_else at_less_only or_else at_paren or_else at_word w_as) but_not at_colons) ∷ (at_colons but_not at_colons) ∷ ((at_bang or_else at_colons and_also ahead Before_macro) but_not at_colons) ∷ ((at_path_rest and_also ahead Bang_brace) but_not at_colons) ∷ ((at_path_rest and_also ahead Bang_name) but_not at_colons) ∷ at_name ∷ at_brace ∷ at_word w_trait ∷ (at_word w_unsafe or_else at_word w_impl) ∷ []; halts = at_comma ∷ at_paren ∷ at_colons ∷ at_turbofish ∷ at_arrow ∷ at_arguments ∷ []; shuns = [] }
+summary_of true expressions = record { stays = Punctuation pound ∷ Punctuation minus ∷ Punctuation star ∷ Punctuation ampersand ∷ Word w_true ∷ Word w_false ∷ Literal Str ∷ Literal ByteStr ∷ Literal CStr ∷ Literal Byte ∷ Literal Char ∷ Literal Int ∷ Literal Float ∷ Punctuation colons ∷ Name ∷ Word w_union ∷ Word w_auto ∷ Word w_default ∷ Word w_safe ∷ Word w_self ∷ Word w_Self_type ∷ Word w_super ∷ Word w_crate ∷ Delimited Paren false ∷ Delimited Bracket false ∷ Delimited None false ∷ Word w_if ∷ Punctuation lifetime_mark ∷ Delimited Brace false ∷ Word w_loop ∷ Word w_while ∷ Word w_for ∷ Word w_return ∷ Word w_break ∷ Word w_continue ∷ []; moves = move (Punctuation arrow) (Punctuation minus) [] ∷ move (Punctuation minus_equals) (Punctuation minus) [] ∷ move (Punctuation exclamation) (Punctuation exclamation) [] ∷ move (Punctuation not_equals) (Punctuation exclamation) [] ∷ move (Punctuation star_equals) (Punctuation star) [] ∷ move (Punctuation and_and) (Punctuation ampersand) [] ∷ move (Punctuation ampersand_equals) (Punctuation ampersand) [] ∷ move (Word w_unsafe) (Word w_unsafe) [] ∷ move (Punctuation less) (Punctuation less) [] ∷ move (Punctuation less_less_equals) (Punctuation less) [] ∷ move (Punctuation less_equals) (Punctuation less) [] ∷ move (Punctuation less_less) (Punctuation less) [] ∷ []; nullable = true; gone = []; ends = ended ∷ at_equals ∷ at_paren ∷ at_less ∷ (((at_colons or_else at_less_only or_else at_paren or_else at_word w_as) but_not at_colons) but_not at_word w_as) ∷ (at_colons but_not at_colons) ∷ ((at_bang or_else at_colons and_also ahead Before_macro) but_not at_colons) ∷ ((at_path_rest and_also ahead Bang_brace) but_not at_colons) ∷ ((at_path_rest and_also ahead Bang_name) but_not at_colons) ∷ at_name ∷ at_brace ∷ at_word w_trait ∷ (at_word w_unsafe or_else at_word w_impl) ∷ (at_paren but_not at_paren) ∷ ((((at_colons or_else at_less_only or_else at_paren or_else at_word w_as) but_not at_colons) but_not at_paren) but_not at_word w_as) ∷ ((((at_colons or_else at_less_only or_else at_paren or_else at_word w_as) but_not at_colons) but_not at_word w_as) but_not at_paren) ∷ []; halts = at_comma ∷ at_unfinished ∷ at_mark greater_greater_equals ∷ at_mark less_less_equals ∷ at_mark bar_equals ∷ at_mark ampersand_equals ∷ at_mark caret_equals ∷ at_mark percent_equals ∷ at_mark slash_equals ∷ at_mark star_equals ∷ at_mark minus_equals ∷ at_mark plus_equals ∷ at_equals_operator ∷ at_mark or_or ∷ at_mark and_and ∷ at_mark greater_equals ∷ at_mark less_equals ∷ at_greater_operator ∷ at_less_operator ∷ at_mark not_equals ∷ at_mark equal_equal ∷ at_bar_operator ∷ at_caret_operator ∷ at_ampersand_operator ∷ at_greater_greater_operator ∷ at_less_less_operator ∷ at_minus_operator ∷ at_plus_operator ∷ at_percent_operator ∷ at_slash_operator ∷ at_star_operator ∷ at_word w_as ∷ at_dot ∷ at_question ∷ at_bracket ∷ at_paren ∷ at_whole_expression ∷ at_lifetime ∷ at_colons ∷ at_arguments ∷ at_arrow ∷ at_word w_else ∷ at_turbofish ∷ []; shuns = [] }
+summary_of true array_content = record { stays = []; moves = []; nullable = false; gone = []; ends = []; halts = []; shuns = [] }
+summary_of true block = record { stays = Delimited Brace false ∷ []; moves = []; nullable = false; gone = []; ends = []; halts = []; shuns = [] }
+summary_of true body = record { stays = Delimited Brace false ∷ []; moves = []; nullable = false; gone = []; ends = []; halts = []; shuns = [] }
+summary_of true plain_body = record { stays = []; moves = []; nullable = false; gone = []; ends = []; halts = []; shuns = [] }
+summary_of true no_inner_attributes = record { stays = []; moves = []; nullable = false; gone = []; ends = []; halts = []; shuns = [] }
+summary_of true primary = record { stays = Word w_true ∷ Word w_false ∷ Literal Str ∷ Literal ByteStr ∷ Literal CStr ∷ Literal Byte ∷ Literal Char ∷ Literal Int ∷ Literal Float ∷ Punctuation colons ∷ Name ∷ Word w_union ∷ Word w_auto ∷ Word w_default ∷ Word w_safe ∷ Word w_self ∷ Word w_Self_type ∷ Word w_super ∷ Word w_crate ∷ Delimited Paren false ∷ Delimited Bracket false ∷ Delimited None false ∷ Word w_if ∷ Punctuation lifetime_mark ∷ Delimited Brace false ∷ Word w_loop ∷ Word w_while ∷ Word w_for ∷ Word w_return ∷ Word w_break ∷ Word w_continue ∷ []; moves = move (Word w_unsafe) (Word w_unsafe) [] ∷ move (Punctuation less) (Punctuation less) [] ∷ move (Punctuation less_less_equals) (Punctuation less) [] ∷ move (Punctuation less_equals) (Punctuation less) [] ∷ move (Punctuation less_less) (Punctuation less) [] ∷ []; nullable = false; gone = []; ends = at_equals ∷ at_paren ∷ at_less ∷ (((at_colons or_else at_less_only or_else at_paren or_else at_word w_as) but_not at_colons) but_not at_word w_as) ∷ (at_colons but_not at_colons) ∷ ((at_bang or_else at_colons and_also ahead Before_macro) but_not at_colons) ∷ ((at_path_rest and_also ahead Bang_brace) but_not at_colons) ∷ ((at_path_rest and_also ahead Bang_name) but_not at_colons) ∷ at_name ∷ at_brace ∷ at_word w_trait ∷ (at_word w_unsafe or_else at_word w_impl) ∷ ended ∷ (at_paren but_not at_paren) ∷ ((((at_colons or_else at_less_only or_else at_paren or_else at_word w_as) but_not at_colons) but_not at_paren) but_not at_word w_as) ∷ ((((at_colons or_else at_less_only or_else at_paren or_else at_word w_as) but_not at_colons) but_not at_word w_as) but_not at_paren) ∷ ((at_colons or_else at_less_only or_else at_paren or_else at_word w_as) but_not at_colons) ∷ []; halts = at_word w_else ∷ at_unfinished ∷ at_mark greater_greater_equals ∷ at_mark less_less_equals ∷ at_mark bar_equals ∷ at_mark ampersand_equals ∷ at_mark caret_equals ∷ at_mark percent_equals ∷ at_mark slash_equals ∷ at_mark star_equals ∷ at_mark minus_equals ∷ at_mark plus_equals ∷ at_equals_operator ∷ at_mark or_or ∷ at_mark and_and ∷ at_bar_operator ∷ at_caret_operator ∷ at_ampersand_operator ∷ at_greater_greater_operator ∷ at_less_less_operator ∷ at_minus_operator ∷ at_plus_operator ∷ at_percent_operator ∷ at_slash_operator ∷ at_star_operator ∷ at_word w_as ∷ at_colons ∷ at_arguments ∷ at_arrow ∷ at_dot ∷ at_question ∷ at_bracket ∷ at_paren ∷ at_whole_expression ∷ at_lifetime ∷ at_mark greater_equals ∷ at_mark less_equals ∷ at_greater_operator ∷ at_less_operator ∷ at_mark not_equals ∷ at_mark equal_equal ∷ at_turbofish ∷ []; shuns = [] }
+summary_of true block_like = record { stays = Word w_if ∷ Punctuation lifetime_mark ∷ Delimited Brace false ∷ Word w_loop ∷ Word w_while ∷ Word w_for ∷ []; moves = move (Word w_unsafe) (Word w_unsafe) [] ∷ []; nullable = false; gone = []; ends = []; halts = at_word w_else ∷ []; shuns = [] }
+summary_of true if_expression = record { stays = Word w_if ∷ []; moves = []; nullable = false; gone = []; ends = []; halts = at_word w_else ∷ []; shuns = [] }
+summary_of true loop_expression = record { stays = Word w_loop ∷ Word w_while ∷ Word w_for ∷ []; moves = []; nullable = false; gone = []; ends = []; halts = []; shuns = [] }
+summary_of true postfixes = record { stays = Delimited Paren false ∷ Delimited Bracket false ∷ Punctuation question ∷ Punctuation dot ∷ []; moves = []; nullable = true; gone = []; ends = []; halts = at_dot ∷ at_question ∷ at_bracket ∷ at_paren ∷ at_colons ∷ []; shuns = [] }
+summary_of true member = record { stays = []; moves = []; nullable = false; gone = []; ends = []; halts = []; shuns = [] }
+summary_of true unary = record { stays = Punctuation pound ∷ Punctuation minus ∷ Punctuation star ∷ Punctuation ampersand ∷ Word w_true ∷ Word w_false ∷ Literal Str ∷ Literal ByteStr ∷ Literal CStr ∷ Literal Byte ∷ Literal Char ∷ Literal Int ∷ Literal Float ∷ Punctuation colons ∷ Name ∷ Word w_union ∷ Word w_auto ∷ Word w_default ∷ Word w_safe ∷ Word w_self ∷ Word w_Self_type ∷ Word w_super ∷ Word w_crate ∷ Delimited Paren false ∷ Delimited Bracket false ∷ Delimited None false ∷ Word w_if ∷ Punctuation lifetime_mark ∷ Delimited Brace false ∷ Word w_loop ∷ Word w_while ∷ Word w_for ∷ Word w_return ∷ Word w_break ∷ Word w_continue ∷ []; moves = move (Punctuation arrow) (Punctuation minus) [] ∷ move (Punctuation minus_equals) (Punctuation minus) [] ∷ move (Punctuation exclamation) (Punctuation exclamation) [] ∷ move (Punctuation not_equals) (Punctuation exclamation) [] ∷ move (Punctuation star_equals) (Punctuation star) [] ∷ move (Punctuation and_and) (Punctuation ampersand) [] ∷ move (Punctuation ampersand_equals) (Punctuation ampersand) [] ∷ move (Word w_unsafe) (Word w_unsafe) [] ∷ move (Punctuation less) (Punctuation less) [] ∷ move (Punctuation less_less_equals) (Punctuation less) [] ∷ move (Punctuation less_equals) (Punctuation less) [] ∷ move (Punctuation less_less) (Punctuation less) [] ∷ []; nullable = false; gone = []; ends = at_equals ∷ (at_paren but_not at_paren) ∷ at_less ∷ (((at_colons or_else at_less_only or_else at_paren or_else at_word w_as) but_not at_colons) but_not at_paren) ∷ (at_colons but_not at_colons) ∷ ((at_bang or_else at_colons and_also ahead Before_macro) but_not at_colons) ∷ ((at_path_rest and_also ahead Bang_brace) but_not at_colons) ∷ ((at_path_rest and_also ahead Bang_name) but_not at_colons) ∷ at_name ∷ at_brace ∷ at_word w_trait ∷ (at_word w_unsafe or_else at_word w_impl) ∷ ended ∷ ((((at_colons or_else at_less_only or_else at_paren or_else at_word w_as) but_not at_colons) but_not at_word w_as) but_not at_paren) ∷ ((((at_colons or_else at_less_only or_else at_paren or_else at_word w_as) but_not at_colons) but_not at_paren) but_not at_word w_as) ∷ []; halts = at_dot ∷ at_question ∷ at_bracket ∷ at_paren ∷ at_whole_expression ∷ at_lifetime ∷ at_colons ∷ at_unfinished ∷ at_mark greater_greater_equals ∷ at_mark less_less_equals ∷ at_mark bar_equals ∷ at_mark ampersand_equals ∷ at_mark caret_equals ∷ at_mark percent_equals ∷ at_mark slash_equals ∷ at_mark star_equals ∷ at_mark minus_equals ∷ at_mark plus_equals ∷ at_equals_operator ∷ at_mark or_or ∷ at_word w_else ∷ at_mark and_and ∷ at_mark greater_equals ∷ at_mark less_equals ∷ at_greater_operator ∷ at_less_operator ∷ at_mark not_equals ∷ at_mark equal_equal ∷ at_bar_operator ∷ at_turbofish ∷ at_arrow ∷ at_caret_operator ∷ at_ampersand_operator ∷ at_greater_greater_operator ∷ at_less_less_operator ∷ at_arguments ∷ at_minus_operator ∷ at_plus_operator ∷ at_percent_operator ∷ at_slash_operator ∷ at_star_operator ∷ at_word w_as ∷ []; shuns = [] }
+summary_of true casts = record { stays = Word w_as ∷ []; moves = []; nullable = true; gone = []; ends = at_equals ∷ at_paren ∷ at_less ∷ (((at_colons or_else at_less_only or_else at_paren or_else at_word w_as) but_not at_colons) but_not at_word w_as) ∷ (at_colons but_not at_colons) ∷ ((at_bang or_else at_colons and_also ahead Before_macro) but_not at_colons) ∷ ((at_path_rest and_also ahead Bang_brace) but_not at_colons) ∷ ((at_path_rest and_also ahead Bang_name) but_not at_colons) ∷ at_name ∷ at_brace ∷ at_word w_trait ∷ (at_word w_unsafe or_else at_word w_impl) ∷ ended ∷ []; halts = at_word w_as ∷ at_colons ∷ at_arguments ∷ at_arrow ∷ []; shuns = [] }
+summary_of true cast = record { stays = Punctuation pound ∷ Punctuation minus ∷ Punctuation star ∷ Punctuation ampersand ∷ Word w_true ∷ Word w_false ∷ Literal Str ∷ Literal ByteStr ∷ Literal CStr ∷ Literal Byte ∷ Literal Char ∷ Literal Int ∷ Literal Float ∷ Punctuation colons ∷ Name ∷ Word w_union ∷ Word w_auto ∷ Word w_default ∷ Word w_safe ∷ Word w_self ∷ Word w_Self_type ∷ Word w_super ∷ Word w_crate ∷ Delimited Paren false ∷ Delimited Bracket false ∷ Delimited None false ∷ Word w_if ∷ Punctuation lifetime_mark ∷ Delimited Brace false ∷ Word w_loop ∷ Word w_while ∷ Word w_for ∷ Word w_return ∷ Word w_break ∷ Word w_continue ∷ []; moves = move (Punctuation arrow) (Punctuation minus) [] ∷ move (Punctuation minus_equals) (Punctuation minus) [] ∷ move (Punctuation exclamation) (Punctuation exclamation) [] ∷ move (Punctuation not_equals) (Punctuation exclamation) [] ∷ move (Punctuation star_equals) (Punctuation star) [] ∷ move (Punctuation and_and) (Punctuation ampersand) [] ∷ move (Punctuation ampersand_equals) (Punctuation ampersand) [] ∷ move (Word w_unsafe) (Word w_unsafe) [] ∷ move (Punctuation less) (Punctuation less) [] ∷ move (Punctuation less_less_equals) (Punctuation less) [] ∷ move (Punctuation less_equals) (Punctuation less) [] ∷ move (Punctuation less_less) (Punctuation less) [] ∷ []; nullable = false; gone = []; ends = at_equals ∷ at_paren ∷ at_less ∷ (((at_colons or_else at_less_only or_else at_paren or_else at_word w_as) but_not at_colons) but_not at_word w_as) ∷ (at_colons but_not at_colons) ∷ ((at_bang or_else at_colons and_also ahead Before_macro) but_not at_colons) ∷ ((at_path_rest and_also ahead Bang_brace) but_not at_colons) ∷ ((at_path_rest and_also ahead Bang_name) but_not at_colons) ∷ at_name ∷ at_brace ∷ at_word w_trait ∷ (at_word w_unsafe or_else at_word w_impl) ∷ ended ∷ (at_paren but_not at_paren) ∷ ((((at_colons or_else at_less_only or_else at_paren or_else at_word w_as) but_not at_colons) but_not at_paren) but_not at_word w_as) ∷ ((((at_colons or_else at_less_only or_else at_paren or_else at_word w_as) but_not at_colons) but_not at_word w_as) but_not at_paren) ∷ []; halts = at_word w_as ∷ at_colons ∷ at_arguments ∷ at_arrow ∷ at_dot ∷ at_question ∷ at_bracket ∷ at_paren ∷ at_whole_expression ∷ at_lifetime ∷ at_unfinished ∷ at_mark greater_greater_equals ∷ at_mark less_less_equals ∷ at_mark bar_equals ∷ at_mark ampersand_equals ∷ at_mark caret_equals ∷ at_mark percent_equals ∷ at_mark slash_equals ∷ at_mark star_equals ∷ at_mark minus_equals ∷ at_mark plus_equals ∷ at_equals_operator ∷ at_mark or_or ∷ at_word w_else ∷ at_mark and_and ∷ at_mark greater_equals ∷ at_mark less_equals ∷ at_greater_operator ∷ at_less_operator ∷ at_mark not_equals ∷ at_mark equal_equal ∷ at_bar_operator ∷ at_turbofish ∷ at_caret_operator ∷ at_ampersand_operator ∷ at_greater_greater_operator ∷ at_less_less_operator ∷ at_minus_operator ∷ at_plus_operator ∷ at_percent_operator ∷ at_slash_operator ∷ at_star_operator ∷ []; shuns = [] }
+summary_of true products = record { stays = Punctuation star ∷ Punctuation slash ∷ Punctuation percent ∷ []; moves = []; nullable = true; gone = []; ends = at_equals ∷ at_paren ∷ at_less ∷ (((at_colons or_else at_less_only or_else at_paren or_else at_word w_as) but_not at_colons) but_not at_word w_as) ∷ (at_colons but_not at_colons) ∷ ((at_bang or_else at_colons and_also ahead Before_macro) but_not at_colons) ∷ ((at_path_rest and_also ahead Bang_brace) but_not at_colons) ∷ ((at_path_rest and_also ahead Bang_name) but_not at_colons) ∷ at_name ∷ at_brace ∷ at_word w_trait ∷ (at_word w_unsafe or_else at_word w_impl) ∷ ended ∷ (at_paren but_not at_paren) ∷ ((((at_colons or_else at_less_only or_else at_paren or_else at_word w_as) but_not at_colons) but_not at_paren) but_not at_word w_as) ∷ ((((at_colons or_else at_less_only or_else at_paren or_else at_word w_as) but_not at_colons) but_not at_word w_as) but_not at_paren) ∷ []; halts = at_percent_operator ∷ at_slash_operator ∷ at_star_operator ∷ at_word w_as ∷ at_colons ∷ at_arguments ∷ at_arrow ∷ at_dot ∷ at_question ∷ at_bracket ∷ at_paren ∷ at_whole_expression ∷ at_lifetime ∷ at_unfinished ∷ at_mark greater_greater_equals ∷ at_mark less_less_equals ∷ at_mark bar_equals ∷ at_mark ampersand_equals ∷ at_mark caret_equals ∷ at_mark percent_equals ∷ at_mark slash_equals ∷ at_mark star_equals ∷ at_mark minus_equals ∷ at_mark plus_equals ∷ at_equals_operator ∷ at_mark or_or ∷ at_word w_else ∷ at_mark and_and ∷ at_mark greater_equals ∷ at_mark less_equals ∷ at_greater_operator ∷ at_less_operator ∷ at_mark not_equals ∷ at_mark equal_equal ∷ at_bar_operator ∷ at_turbofish ∷ at_caret_operator ∷ at_ampersand_operator ∷ at_greater_greater_operator ∷ at_less_less_operator ∷ at_minus_operator ∷ at_plus_operator ∷ []; shuns = [] }
+summary_of true product = record { stays = Punctuation pound ∷ Punctuation minus ∷ Punctuation star ∷ Punctuation ampersand ∷ Word w_true ∷ Word w_false ∷ Literal Str ∷ Literal ByteStr ∷ Literal CStr ∷ Literal Byte ∷ Literal Char ∷ Literal Int ∷ Literal Float ∷ Punctuation colons ∷ Name ∷ Word w_union ∷ Word w_auto ∷ Word w_default ∷ Word w_safe ∷ Word w_self ∷ Word w_Self_type ∷ Word w_super ∷ Word w_crate ∷ Delimited Paren false ∷ Delimited Bracket false ∷ Delimited None false ∷ Word w_if ∷ Punctuation lifetime_mark ∷ Delimited Brace false ∷ Word w_loop ∷ Word w_while ∷ Word w_for ∷ Word w_return ∷ Word w_break ∷ Word w_continue ∷ []; moves = move (Punctuation arrow) (Punctuation minus) [] ∷ move (Punctuation minus_equals) (Punctuation minus) [] ∷ move (Punctuation exclamation) (Punctuation exclamation) [] ∷ move (Punctuation not_equals) (Punctuation exclamation) [] ∷ move (Punctuation star_equals) (Punctuation star) [] ∷ move (Punctuation and_and) (Punctuation ampersand) [] ∷ move (Punctuation ampersand_equals) (Punctuation ampersand) [] ∷ move (Word w_unsafe) (Word w_unsafe) [] ∷ move (Punctuation less) (Punctuation less) [] ∷ move (Punctuation less_less_equals) (Punctuation less) [] ∷ move (Punctuation less_equals) (Punctuation less) [] ∷ move (Punctuation less_less) (Punctuation less) [] ∷ []; nullable = false; gone = []; ends = at_equals ∷ at_paren ∷ at_less ∷ (((at_colons or_else at_less_only or_else at_paren or_else at_word w_as) but_not at_colons) but_not at_word w_as) ∷ (at_colons but_not at_colons) ∷ ((at_bang or_else at_colons and_also ahead Before_macro) but_not at_colons) ∷ ((at_path_rest and_also ahead Bang_brace) but_not at_colons) ∷ ((at_path_rest and_also ahead Bang_name) but_not at_colons) ∷ at_name ∷ at_brace ∷ at_word w_trait ∷ (at_word w_unsafe or_else at_word w_impl) ∷ ended ∷ (at_paren but_not at_paren) ∷ ((((at_colons or_else at_less_only or_else at_paren or_else at_word w_as) but_not at_colons) but_not at_paren) but_not at_word w_as) ∷ ((((at_colons or_else at_less_only or_else at_paren or_else at_word w_as) but_not at_colons) but_not at_word w_as) but_not at_paren) ∷ []; halts = at_percent_operator ∷ at_slash_operator ∷ at_star_operator ∷ at_word w_as ∷ at_colons ∷ at_arguments ∷ at_arrow ∷ at_dot ∷ at_question ∷ at_bracket ∷ at_paren ∷ at_whole_expression ∷ at_lifetime ∷ at_unfinished ∷ at_mark greater_greater_equals ∷ at_mark less_less_equals ∷ at_mark bar_equals ∷ at_mark ampersand_equals ∷ at_mark caret_equals ∷ at_mark percent_equals ∷ at_mark slash_equals ∷ at_mark star_equals ∷ at_mark minus_equals ∷ at_mark plus_equals ∷ at_equals_operator ∷ at_mark or_or ∷ at_word w_else ∷ at_mark and_and ∷ at_mark greater_equals ∷ at_mark less_equals ∷ at_greater_operator ∷ at_less_operator ∷ at_mark not_equals ∷ at_mark equal_equal ∷ at_bar_operator ∷ at_turbofish ∷ at_caret_operator ∷ at_ampersand_operator ∷ at_greater_greater_operator ∷ at_less_less_operator ∷ at_minus_operator ∷ at_plus_operator ∷ []; shuns = [] }
+summary_of true sums = record { stays = Punctuation plus ∷ Punctuation minus ∷ []; moves = move (Punctuation arrow) (Punctuation minus) [] ∷ []; nullable = true; gone = []; ends = at_equals ∷ at_paren ∷ at_less ∷ (((at_colons or_else at_less_only or_else at_paren or_else at_word w_as) but_not at_colons) but_not at_word w_as) ∷ (at_colons but_not at_colons) ∷ ((at_bang or_else at_colons and_also ahead Before_macro) but_not at_colons) ∷ ((at_path_rest and_also ahead Bang_brace) but_not at_colons) ∷ ((at_path_rest and_also ahead Bang_name) but_not at_colons) ∷ at_name ∷ at_brace ∷ at_word w_trait ∷ (at_word w_unsafe or_else at_word w_impl) ∷ ended ∷ (at_paren but_not at_paren) ∷ ((((at_colons or_else at_less_only or_else at_paren or_else at_word w_as) but_not at_colons) but_not at_paren) but_not at_word w_as) ∷ ((((at_colons or_else at_less_only or_else at_paren or_else at_word w_as) but_not at_colons) but_not at_word w_as) but_not at_paren) ∷ []; halts = at_minus_operator ∷ at_plus_operator ∷ at_percent_operator ∷ at_slash_operator ∷ at_star_operator ∷ at_word w_as ∷ at_colons ∷ at_arguments ∷ at_arrow ∷ at_dot ∷ at_question ∷ at_bracket ∷ at_paren ∷ at_whole_expression ∷ at_lifetime ∷ at_unfinished ∷ at_mark greater_greater_equals ∷ at_mark less_less_equals ∷ at_mark bar_equals ∷ at_mark ampersand_equals ∷ at_mark caret_equals ∷ at_mark percent_equals ∷ at_mark slash_equals ∷ at_mark star_equals ∷ at_mark minus_equals ∷ at_mark plus_equals ∷ at_equals_operator ∷ at_mark or_or ∷ at_word w_else ∷ at_mark and_and ∷ at_mark greater_equals ∷ at_mark less_equals ∷ at_greater_operator ∷ at_less_operator ∷ at_mark not_equals ∷ at_mark equal_equal ∷ at_bar_operator ∷ at_turbofish ∷ at_caret_operator ∷ at_ampersand_operator ∷ at_greater_greater_operator ∷ at_less_less_operator ∷ []; shuns = [] }
+summary_of true sum = record { stays = Punctuation pound ∷ Punctuation minus ∷ Punctuation star ∷ Punctuation ampersand ∷ Word w_true ∷ Word w_false ∷ Literal Str ∷ Literal ByteStr ∷ Literal CStr ∷ Literal Byte ∷ Literal Char ∷ Literal Int ∷ Literal Float ∷ Punctuation colons ∷ Name ∷ Word w_union ∷ Word w_auto ∷ Word w_default ∷ Word w_safe ∷ Word w_self ∷ Word w_Self_type ∷ Word w_super ∷ Word w_crate ∷ Delimited Paren false ∷ Delimited Bracket false ∷ Delimited None false ∷ Word w_if ∷ Punctuation lifetime_mark ∷ Delimited Brace false ∷ Word w_loop ∷ Word w_while ∷ Word w_for ∷ Word w_return ∷ Word w_break ∷ Word w_continue ∷ []; moves = move (Punctuation arrow) (Punctuation minus) [] ∷ move (Punctuation minus_equals) (Punctuation minus) [] ∷ move (Punctuation exclamation) (Punctuation exclamation) [] ∷ move (Punctuation not_equals) (Punctuation exclamation) [] ∷ move (Punctuation star_equals) (Punctuation star) [] ∷ move (Punctuation and_and) (Punctuation ampersand) [] ∷ move (Punctuation ampersand_equals) (Punctuation ampersand) [] ∷ move (Word w_unsafe) (Word w_unsafe) [] ∷ move (Punctuation less) (Punctuation less) [] ∷ move (Punctuation less_less_equals) (Punctuation less) [] ∷ move (Punctuation less_equals) (Punctuation less) [] ∷ move (Punctuation less_less) (Punctuation less) [] ∷ []; nullable = false; gone = []; ends = at_equals ∷ at_paren ∷ at_less ∷ (((at_colons or_else at_less_only or_else at_paren or_else at_word w_as) but_not at_colons) but_not at_word w_as) ∷ (at_colons but_not at_colons) ∷ ((at_bang or_else at_colons and_also ahead Before_macro) but_not at_colons) ∷ ((at_path_rest and_also ahead Bang_brace) but_not at_colons) ∷ ((at_path_rest and_also ahead Bang_name) but_not at_colons) ∷ at_name ∷ at_brace ∷ at_word w_trait ∷ (at_word w_unsafe or_else at_word w_impl) ∷ ended ∷ (at_paren but_not at_paren) ∷ ((((at_colons or_else at_less_only or_else at_paren or_else at_word w_as) but_not at_colons) but_not at_paren) but_not at_word w_as) ∷ ((((at_colons or_else at_less_only or_else at_paren or_else at_word w_as) but_not at_colons) but_not at_word w_as) but_not at_paren) ∷ []; halts = at_minus_operator ∷ at_plus_operator ∷ at_percent_operator ∷ at_slash_operator ∷ at_star_operator ∷ at_word w_as ∷ at_colons ∷ at_arguments ∷ at_arrow ∷ at_dot ∷ at_question ∷ at_bracket ∷ at_paren ∷ at_whole_expression ∷ at_lifetime ∷ at_unfinished ∷ at_mark greater_greater_equals ∷ at_mark less_less_equals ∷ at_mark bar_equals ∷ at_mark ampersand_equals ∷ at_mark caret_equals ∷ at_mark percent_equals ∷ at_mark slash_equals ∷ at_mark star_equals ∷ at_mark minus_equals ∷ at_mark plus_equals ∷ at_equals_operator ∷ at_mark or_or ∷ at_word w_else ∷ at_mark and_and ∷ at_mark greater_equals ∷ at_mark less_equals ∷ at_greater_operator ∷ at_less_operator ∷ at_mark not_equals ∷ at_mark equal_equal ∷ at_bar_operator ∷ at_turbofish ∷ at_caret_operator ∷ at_ampersand_operator ∷ at_greater_greater_operator ∷ at_less_less_operator ∷ []; shuns = [] }
+summary_of true shifts = record { stays = Punctuation greater_greater ∷ []; moves = move (Punctuation less_less) (Punctuation less_less) [] ∷ []; nullable = true; gone = []; ends = at_equals ∷ at_paren ∷ at_less ∷ (((at_colons or_else at_less_only or_else at_paren or_else at_word w_as) but_not at_colons) but_not at_word w_as) ∷ (at_colons but_not at_colons) ∷ ((at_bang or_else at_colons and_also ahead Before_macro) but_not at_colons) ∷ ((at_path_rest and_also ahead Bang_brace) but_not at_colons) ∷ ((at_path_rest and_also ahead Bang_name) but_not at_colons) ∷ at_name ∷ at_brace ∷ at_word w_trait ∷ (at_word w_unsafe or_else at_word w_impl) ∷ ended ∷ (at_paren but_not at_paren) ∷ ((((at_colons or_else at_less_only or_else at_paren or_else at_word w_as) but_not at_colons) but_not at_paren) but_not at_word w_as) ∷ ((((at_colons or_else at_less_only or_else at_paren or_else at_word w_as) but_not at_colons) but_not at_word w_as) but_not at_paren) ∷ []; halts = at_greater_greater_operator ∷ at_less_less_operator ∷ at_minus_operator ∷ at_plus_operator ∷ at_percent_operator ∷ at_slash_operator ∷ at_star_operator ∷ at_word w_as ∷ at_colons ∷ at_arguments ∷ at_arrow ∷ at_dot ∷ at_question ∷ at_bracket ∷ at_paren ∷ at_whole_expression ∷ at_lifetime ∷ at_unfinished ∷ at_mark greater_greater_equals ∷ at_mark less_less_equals ∷ at_mark bar_equals ∷ at_mark ampersand_equals ∷ at_mark caret_equals ∷ at_mark percent_equals ∷ at_mark slash_equals ∷ at_mark star_equals ∷ at_mark minus_equals ∷ at_mark plus_equals ∷ at_equals_operator ∷ at_mark or_or ∷ at_word w_else ∷ at_mark and_and ∷ at_mark greater_equals ∷ at_mark less_equals ∷ at_greater_operator ∷ at_less_operator ∷ at_mark not_equals ∷ at_mark equal_equal ∷ at_bar_operator ∷ at_turbofish ∷ at_caret_operator ∷ at_ampersand_operator ∷ []; shuns = [] }
+summary_of true shift = record { stays = Punctuation pound ∷ Punctuation minus ∷ Punctuation star ∷ Punctuation ampersand ∷ Word w_true ∷ Word w_false ∷ Literal Str ∷ Literal ByteStr ∷ Literal CStr ∷ Literal Byte ∷ Literal Char ∷ Literal Int ∷ Literal Float ∷ Punctuation colons ∷ Name ∷ Word w_union ∷ Word w_auto ∷ Word w_default ∷ Word w_safe ∷ Word w_self ∷ Word w_Self_type ∷ Word w_super ∷ Word w_crate ∷ Delimited Paren false ∷ Delimited Bracket false ∷ Delimited None false ∷ Word w_if ∷ Punctuation lifetime_mark ∷ Delimited Brace false ∷ Word w_loop ∷ Word w_while ∷ Word w_for ∷ Word w_return ∷ Word w_break ∷ Word w_continue ∷ []; moves = move (Punctuation arrow) (Punctuation minus) [] ∷ move (Punctuation minus_equals) (Punctuation minus) [] ∷ move (Punctuation exclamation) (Punctuation exclamation) [] ∷ move (Punctuation not_equals) (Punctuation exclamation) [] ∷ move (Punctuation star_equals) (Punctuation star) [] ∷ move (Punctuation and_and) (Punctuation ampersand) [] ∷ move (Punctuation ampersand_equals) (Punctuation ampersand) [] ∷ move (Word w_unsafe) (Word w_unsafe) [] ∷ move (Punctuation less) (Punctuation less) [] ∷ move (Punctuation less_less_equals) (Punctuation less) [] ∷ move (Punctuation less_equals) (Punctuation less) [] ∷ move (Punctuation less_less) (Punctuation less) [] ∷ []; nullable = false; gone = []; ends = at_equals ∷ at_paren ∷ at_less ∷ (((at_colons or_else at_less_only or_else at_paren or_else at_word w_as) but_not at_colons) but_not at_word w_as) ∷ (at_colons but_not at_colons) ∷ ((at_bang or_else at_colons and_also ahead Before_macro) but_not at_colons) ∷ ((at_path_rest and_also ahead Bang_brace) but_not at_colons) ∷ ((at_path_rest and_also ahead Bang_name) but_not at_colons) ∷ at_name ∷ at_brace ∷ at_word w_trait ∷ (at_word w_unsafe or_else at_word w_impl) ∷ ended ∷ (at_paren but_not at_paren) ∷ ((((at_colons or_else at_less_only or_else at_paren or_else at_word w_as) but_not at_colons) but_not at_paren) but_not at_word w_as) ∷ ((((at_colons or_else at_less_only or_else at_paren or_else at_word w_as) but_not at_colons) but_not at_word w_as) but_not at_paren) ∷ []; halts = at_greater_greater_operator ∷ at_less_less_operator ∷ at_minus_operator ∷ at_plus_operator ∷ at_percent_operator ∷ at_slash_operator ∷ at_star_operator ∷ at_word w_as ∷ at_colons ∷ at_arguments ∷ at_arrow ∷ at_dot ∷ at_question ∷ at_bracket ∷ at_paren ∷ at_whole_expression ∷ at_lifetime ∷ at_unfinished ∷ at_mark greater_greater_equals ∷ at_mark less_less_equals ∷ at_mark bar_equals ∷ at_mark ampersand_equals ∷ at_mark caret_equals ∷ at_mark percent_equals ∷ at_mark slash_equals ∷ at_mark star_equals ∷ at_mark minus_equals ∷ at_mark plus_equals ∷ at_equals_operator ∷ at_mark or_or ∷ at_word w_else ∷ at_mark and_and ∷ at_mark greater_equals ∷ at_mark less_equals ∷ at_greater_operator ∷ at_less_operator ∷ at_mark not_equals ∷ at_mark equal_equal ∷ at_bar_operator ∷ at_turbofish ∷ at_caret_operator ∷ at_ampersand_operator ∷ []; shuns = [] }
+summary_of true bit_ands = record { stays = Punctuation ampersand ∷ []; moves = []; nullable = true; gone = []; ends = at_equals ∷ at_paren ∷ at_less ∷ (((at_colons or_else at_less_only or_else at_paren or_else at_word w_as) but_not at_colons) but_not at_word w_as) ∷ (at_colons but_not at_colons) ∷ ((at_bang or_else at_colons and_also ahead Before_macro) but_not at_colons) ∷ ((at_path_rest and_also ahead Bang_brace) but_not at_colons) ∷ ((at_path_rest and_also ahead Bang_name) but_not at_colons) ∷ at_name ∷ at_brace ∷ at_word w_trait ∷ (at_word w_unsafe or_else at_word w_impl) ∷ ended ∷ (at_paren but_not at_paren) ∷ ((((at_colons or_else at_less_only or_else at_paren or_else at_word w_as) but_not at_colons) but_not at_paren) but_not at_word w_as) ∷ ((((at_colons or_else at_less_only or_else at_paren or_else at_word w_as) but_not at_colons) but_not at_word w_as) but_not at_paren) ∷ []; halts = at_ampersand_operator ∷ at_greater_greater_operator ∷ at_less_less_operator ∷ at_minus_operator ∷ at_plus_operator ∷ at_percent_operator ∷ at_slash_operator ∷ at_star_operator ∷ at_word w_as ∷ at_colons ∷ at_arguments ∷ at_arrow ∷ at_dot ∷ at_question ∷ at_bracket ∷ at_paren ∷ at_whole_expression ∷ at_lifetime ∷ at_unfinished ∷ at_mark greater_greater_equals ∷ at_mark less_less_equals ∷ at_mark bar_equals ∷ at_mark ampersand_equals ∷ at_mark caret_equals ∷ at_mark percent_equals ∷ at_mark slash_equals ∷ at_mark star_equals ∷ at_mark minus_equals ∷ at_mark plus_equals ∷ at_equals_operator ∷ at_mark or_or ∷ at_word w_else ∷ at_mark and_and ∷ at_mark greater_equals ∷ at_mark less_equals ∷ at_greater_operator ∷ at_less_operator ∷ at_mark not_equals ∷ at_mark equal_equal ∷ at_bar_operator ∷ at_turbofish ∷ at_caret_operator ∷ []; shuns = [] }
+summary_of true bit_and = record { stays = Punctuation pound ∷ Punctuation minus ∷ Punctuation star ∷ Punctuation ampersand ∷ Word w_true ∷ Word w_false ∷ Literal Str ∷ Literal ByteStr ∷ Literal CStr ∷ Literal Byte ∷ Literal Char ∷ Literal Int ∷ Literal Float ∷ Punctuation colons ∷ Name ∷ Word w_union ∷ Word w_auto ∷ Word w_default ∷ Word w_safe ∷ Word w_self ∷ Word w_Self_type ∷ Word w_super ∷ Word w_crate ∷ Delimited Paren false ∷ Delimited Bracket false ∷ Delimited None false ∷ Word w_if ∷ Punctuation lifetime_mark ∷ Delimited Brace false ∷ Word w_loop ∷ Word w_while ∷ Word w_for ∷ Word w_return ∷ Word w_break ∷ Word w_continue ∷ []; moves = move (Punctuation arrow) (Punctuation minus) [] ∷ move (Punctuation minus_equals) (Punctuation minus) [] ∷ move (Punctuation exclamation) (Punctuation exclamation) [] ∷ move (Punctuation not_equals) (Punctuation exclamation) [] ∷ move (Punctuation star_equals) (Punctuation star) [] ∷ move (Punctuation and_and) (Punctuation ampersand) [] ∷ move (Punctuation ampersand_equals) (Punctuation ampersand) [] ∷ move (Word w_unsafe) (Word w_unsafe) [] ∷ move (Punctuation less) (Punctuation less) [] ∷ move (Punctuation less_less_equals) (Punctuation less) [] ∷ move (Punctuation less_equals) (Punctuation less) [] ∷ move (Punctuation less_less) (Punctuation less) [] ∷ []; nullable = false; gone = []; ends = at_equals ∷ at_paren ∷ at_less ∷ (((at_colons or_else at_less_only or_else at_paren or_else at_word w_as) but_not at_colons) but_not at_word w_as) ∷ (at_colons but_not at_colons) ∷ ((at_bang or_else at_colons and_also ahead Before_macro) but_not at_colons) ∷ ((at_path_rest and_also ahead Bang_brace) but_not at_colons) ∷ ((at_path_rest and_also ahead Bang_name) but_not at_colons) ∷ at_name ∷ at_brace ∷ at_word w_trait ∷ (at_word w_unsafe or_else at_word w_impl) ∷ ended ∷ (at_paren but_not at_paren) ∷ ((((at_colons or_else at_less_only or_else at_paren or_else at_word w_as) but_not at_colons) but_not at_paren) but_not at_word w_as) ∷ ((((at_colons or_else at_less_only or_else at_paren or_else at_word w_as) but_not at_colons) but_not at_word w_as) but_not at_paren) ∷ []; halts = at_ampersand_operator ∷ at_greater_greater_operator ∷ at_less_less_operator ∷ at_minus_operator ∷ at_plus_operator ∷ at_percent_operator ∷ at_slash_operator ∷ at_star_operator ∷ at_word w_as ∷ at_colons ∷ at_arguments ∷ at_arrow ∷ at_dot ∷ at_question ∷ at_bracket ∷ at_paren ∷ at_whole_expression ∷ at_lifetime ∷ at_unfinished ∷ at_mark greater_greater_equals ∷ at_mark less_less_equals ∷ at_mark bar_equals ∷ at_mark ampersand_equals ∷ at_mark caret_equals ∷ at_mark percent_equals ∷ at_mark slash_equals ∷ at_mark star_equals ∷ at_mark minus_equals ∷ at_mark plus_equals ∷ at_equals_operator ∷ at_mark or_or ∷ at_word w_else ∷ at_mark and_and ∷ at_mark greater_equals ∷ at_mark less_equals ∷ at_greater_operator ∷ at_less_operator ∷ at_mark not_equals ∷ at_mark equal_equal ∷ at_bar_operator ∷ at_turbofish ∷ at_caret_operator ∷ []; shuns = [] }
+summary_of true bit_xors = record { stays = Punctuation caret ∷ []; moves = []; nullable = true; gone = []; ends = at_equals ∷ at_paren ∷ at_less ∷ (((at_colons or_else at_less_only or_else at_paren or_else at_word w_as) but_not at_colons) but_not at_word w_as) ∷ (at_colons but_not at_colons) ∷ ((at_bang or_else at_colons and_also ahead Before_macro) but_not at_colons) ∷ ((at_path_rest and_also ahead Bang_brace) but_not at_colons) ∷ ((at_path_rest and_also ahead Bang_name) but_not at_colons) ∷ at_name ∷ at_brace ∷ at_word w_trait ∷ (at_word w_unsafe or_else at_word w_impl) ∷ ended ∷ (at_paren but_not at_paren) ∷ ((((at_colons or_else at_less_only or_else at_paren or_else at_word w_as) but_not at_colons) but_not at_paren) but_not at_word w_as) ∷ ((((at_colons or_else at_less_only or_else at_paren or_else at_word w_as) but_not at_colons) but_not at_word w_as) but_not at_paren) ∷ []; halts = at_caret_operator ∷ at_ampersand_operator ∷ at_greater_greater_operator ∷ at_less_less_operator ∷ at_minus_operator ∷ at_plus_operator ∷ at_percent_operator ∷ at_slash_operator ∷ at_star_operator ∷ at_word w_as ∷ at_colons ∷ at_arguments ∷ at_arrow ∷ at_dot ∷ at_question ∷ at_bracket ∷ at_paren ∷ at_whole_expression ∷ at_lifetime ∷ at_unfinished ∷ at_mark greater_greater_equals ∷ at_mark less_less_equals ∷ at_mark bar_equals ∷ at_mark ampersand_equals ∷ at_mark caret_equals ∷ at_mark percent_equals ∷ at_mark slash_equals ∷ at_mark star_equals ∷ at_mark minus_equals ∷ at_mark plus_equals ∷ at_equals_operator ∷ at_mark or_or ∷ at_word w_else ∷ at_mark and_and ∷ at_mark greater_equals ∷ at_mark less_equals ∷ at_greater_operator ∷ at_less_operator ∷ at_mark not_equals ∷ at_mark equal_equal ∷ at_bar_operator ∷ at_turbofish ∷ []; shuns = [] }
+summary_of true bit_xor = record { stays = Punctuation pound ∷ Punctuation minus ∷ Punctuation star ∷ Punctuation ampersand ∷ Word w_true ∷ Word w_false ∷ Literal Str ∷ Literal ByteStr ∷ Literal CStr ∷ Literal Byte ∷ Literal Char ∷ Literal Int ∷ Literal Float ∷ Punctuation colons ∷ Name ∷ Word w_union ∷ Word w_auto ∷ Word w_default ∷ Word w_safe ∷ Word w_self ∷ Word w_Self_type ∷ Word w_super ∷ Word w_crate ∷ Delimited Paren false ∷ Delimited Bracket false ∷ Delimited None false ∷ Word w_if ∷ Punctuation lifetime_mark ∷ Delimited Brace false ∷ Word w_loop ∷ Word w_while ∷ Word w_for ∷ Word w_return ∷ Word w_break ∷ Word w_continue ∷ []; moves = move (Punctuation arrow) (Punctuation minus) [] ∷ move (Punctuation minus_equals) (Punctuation minus) [] ∷ move (Punctuation exclamation) (Punctuation exclamation) [] ∷ move (Punctuation not_equals) (Punctuation exclamation) [] ∷ move (Punctuation star_equals) (Punctuation star) [] ∷ move (Punctuation and_and) (Punctuation ampersand) [] ∷ move (Punctuation ampersand_equals) (Punctuation ampersand) [] ∷ move (Word w_unsafe) (Word w_unsafe) [] ∷ move (Punctuation less) (Punctuation less) [] ∷ move (Punctuation less_less_equals) (Punctuation less) [] ∷ move (Punctuation less_equals) (Punctuation less) [] ∷ move (Punctuation less_less) (Punctuation less) [] ∷ []; nullable = false; gone = []; ends = at_equals ∷ at_paren ∷ at_less ∷ (((at_colons or_else at_less_only or_else at_paren or_else at_word w_as) but_not at_colons) but_not at_word w_as) ∷ (at_colons but_not at_colons) ∷ ((at_bang or_else at_colons and_also ahead Before_macro) but_not at_colons) ∷ ((at_path_rest and_also ahead Bang_brace) but_not at_colons) ∷ ((at_path_rest and_also ahead Bang_name) but_not at_colons) ∷ at_name ∷ at_brace ∷ at_word w_trait ∷ (at_word w_unsafe or_else at_word w_impl) ∷ ended ∷ (at_paren but_not at_paren) ∷ ((((at_colons or_else at_less_only or_else at_paren or_else at_word w_as) but_not at_colons) but_not at_paren) but_not at_word w_as) ∷ ((((at_colons or_else at_less_only or_else at_paren or_else at_word w_as) but_not at_colons) but_not at_word w_as) but_not at_paren) ∷ []; halts = at_caret_operator ∷ at_ampersand_operator ∷ at_greater_greater_operator ∷ at_less_less_operator ∷ at_minus_operator ∷ at_plus_operator ∷ at_percent_operator ∷ at_slash_operator ∷ at_star_operator ∷ at_word w_as ∷ at_colons ∷ at_arguments ∷ at_arrow ∷ at_dot ∷ at_question ∷ at_bracket ∷ at_paren ∷ at_whole_expression ∷ at_lifetime ∷ at_unfinished ∷ at_mark greater_greater_equals ∷ at_mark less_less_equals ∷ at_mark bar_equals ∷ at_mark ampersand_equals ∷ at_mark caret_equals ∷ at_mark percent_equals ∷ at_mark slash_equals ∷ at_mark star_equals ∷ at_mark minus_equals ∷ at_mark plus_equals ∷ at_equals_operator ∷ at_mark or_or ∷ at_word w_else ∷ at_mark and_and ∷ at_mark greater_equals ∷ at_mark less_equals ∷ at_greater_operator ∷ at_less_operator ∷ at_mark not_equals ∷ at_mark equal_equal ∷ at_bar_operator ∷ at_turbofish ∷ []; shuns = [] }
+summary_of true bit_ors = record { stays = Punctuation bar ∷ []; moves = []; nullable = true; gone = []; ends = at_equals ∷ at_paren ∷ at_less ∷ (((at_colons or_else at_less_only or_else at_paren or_else at_word w_as) but_not at_colons) but_not at_word w_as) ∷ (at_colons but_not at_colons) ∷ ((at_bang or_else at_colons and_also ahead Before_macro) but_not at_colons) ∷ ((at_path_rest and_also ahead Bang_brace) but_not at_colons) ∷ ((at_path_rest and_also ahead Bang_name) but_not at_colons) ∷ at_name ∷ at_brace ∷ at_word w_trait ∷ (at_word w_unsafe or_else at_word w_impl) ∷ ended ∷ (at_paren but_not at_paren) ∷ ((((at_colons or_else at_less_only or_else at_paren or_else at_word w_as) but_not at_colons) but_not at_paren) but_not at_word w_as) ∷ ((((at_colons or_else at_less_only or_else at_paren or_else at_word w_as) but_not at_colons) but_not at_word w_as) but_not at_paren) ∷ []; halts = at_bar_operator ∷ at_caret_operator ∷ at_ampersand_operator ∷ at_greater_greater_operator ∷ at_less_less_operator ∷ at_minus_operator ∷ at_plus_operator ∷ at_percent_operator ∷ at_slash_operator ∷ at_star_operator ∷ at_word w_as ∷ at_colons ∷ at_arguments ∷ at_arrow ∷ at_dot ∷ at_question ∷ at_bracket ∷ at_paren ∷ at_whole_expression ∷ at_lifetime ∷ at_unfinished ∷ at_mark greater_greater_equals ∷ at_mark less_less_equals ∷ at_mark bar_equals ∷ at_mark ampersand_equals ∷ at_mark caret_equals ∷ at_mark percent_equals ∷ at_mark slash_equals ∷ at_mark star_equals ∷ at_mark minus_equals ∷ at_mark plus_equals ∷ at_equals_operator ∷ at_mark or_or ∷ at_word w_else ∷ at_mark and_and ∷ at_mark greater_equals ∷ at_mark less_equals ∷ at_greater_operator ∷ at_less_operator ∷ at_mark not_equals ∷ at_mark equal_equal ∷ at_turbofish ∷ []; shuns = [] }
+summary_of true bit_or = record { stays = Punctuation pound ∷ Punctuation minus ∷ Punctuation star ∷ Punctuation ampersand ∷ Word w_true ∷ Word w_false ∷ Literal Str ∷ Literal ByteStr ∷ Literal CStr ∷ Literal Byte ∷ Literal Char ∷ Literal Int ∷ Literal Float ∷ Punctuation colons ∷ Name ∷ Word w_union ∷ Word w_auto ∷ Word w_default ∷ Word w_safe ∷ Word w_self ∷ Word w_Self_type ∷ Word w_super ∷ Word w_crate ∷ Delimited Paren false ∷ Delimited Bracket false ∷ Delimited None false ∷ Word w_if ∷ Punctuation lifetime_mark ∷ Delimited Brace false ∷ Word w_loop ∷ Word w_while ∷ Word w_for ∷ Word w_return ∷ Word w_break ∷ Word w_continue ∷ []; moves = move (Punctuation arrow) (Punctuation minus) [] ∷ move (Punctuation minus_equals) (Punctuation minus) [] ∷ move (Punctuation exclamation) (Punctuation exclamation) [] ∷ move (Punctuation not_equals) (Punctuation exclamation) [] ∷ move (Punctuation star_equals) (Punctuation star) [] ∷ move (Punctuation and_and) (Punctuation ampersand) [] ∷ move (Punctuation ampersand_equals) (Punctuation ampersand) [] ∷ move (Word w_unsafe) (Word w_unsafe) [] ∷ move (Punctuation less) (Punctuation less) [] ∷ move (Punctuation less_less_equals) (Punctuation less) [] ∷ move (Punctuation less_equals) (Punctuation less) [] ∷ move (Punctuation less_less) (Punctuation less) [] ∷ []; nullable = false; gone = []; ends = at_equals ∷ at_paren ∷ at_less ∷ (((at_colons or_else at_less_only or_else at_paren or_else at_word w_as) but_not at_colons) but_not at_word w_as) ∷ (at_colons but_not at_colons) ∷ ((at_bang or_else at_colons and_also ahead Before_macro) but_not at_colons) ∷ ((at_path_rest and_also ahead Bang_brace) but_not at_colons) ∷ ((at_path_rest and_also ahead Bang_name) but_not at_colons) ∷ at_name ∷ at_brace ∷ at_word w_trait ∷ (at_word w_unsafe or_else at_word w_impl) ∷ ended ∷ (at_paren but_not at_paren) ∷ ((((at_colons or_else at_less_only or_else at_paren or_else at_word w_as) but_not at_colons) but_not at_paren) but_not at_word w_as) ∷ ((((at_colons or_else at_less_only or_else at_paren or_else at_word w_as) but_not at_colons) but_not at_word w_as) but_not at_paren) ∷ []; halts = at_bar_operator ∷ at_caret_operator ∷ at_ampersand_operator ∷ at_greater_greater_operator ∷ at_less_less_operator ∷ at_minus_operator ∷ at_plus_operator ∷ at_percent_operator ∷ at_slash_operator ∷ at_star_operator ∷ at_word w_as ∷ at_colons ∷ at_arguments ∷ at_arrow ∷ at_dot ∷ at_question ∷ at_bracket ∷ at_paren ∷ at_whole_expression ∷ at_lifetime ∷ at_unfinished ∷ at_mark greater_greater_equals ∷ at_mark less_less_equals ∷ at_mark bar_equals ∷ at_mark ampersand_equals ∷ at_mark caret_equals ∷ at_mark percent_equals ∷ at_mark slash_equals ∷ at_mark star_equals ∷ at_mark minus_equals ∷ at_mark plus_equals ∷ at_equals_operator ∷ at_mark or_or ∷ at_word w_else ∷ at_mark and_and ∷ at_mark greater_equals ∷ at_mark less_equals ∷ at_greater_operator ∷ at_less_operator ∷ at_mark not_equals ∷ at_mark equal_equal ∷ at_turbofish ∷ []; shuns = [] }
+summary_of true compared = record { stays = Punctuation equal_equal ∷ Punctuation greater ∷ Punctuation greater_equals ∷ []; moves = move (Punctuation not_equals) (Punctuation not_equals) [] ∷ move (Punctuation less) (Punctuation less) [] ∷ move (Punctuation less_equals) (Punctuation less_equals) [] ∷ []; nullable = true; gone = []; ends = at_equals ∷ at_paren ∷ at_less ∷ (((at_colons or_else at_less_only or_else at_paren or_else at_word w_as) but_not at_colons) but_not at_word w_as) ∷ (at_colons but_not at_colons) ∷ ((at_bang or_else at_colons and_also ahead Before_macro) but_not at_colons) ∷ ((at_path_rest and_also ahead Bang_brace) but_not at_colons) ∷ ((at_path_rest and_also ahead Bang_name) but_not at_colons) ∷ at_name ∷ at_brace ∷ at_word w_trait ∷ (at_word w_unsafe or_else at_word w_impl) ∷ ended ∷ (at_paren but_not at_paren) ∷ ((((at_colons or_else at_less_only or_else at_paren or_else at_word w_as) but_not at_colons) but_not at_paren) but_not at_word w_as) ∷ ((((at_colons or_else at_less_only or_else at_paren or_else at_word w_as) but_not at_colons) but_not at_word w_as) but_not at_paren) ∷ []; halts = at_bar_operator ∷ at_caret_operator ∷ at_ampersand_operator ∷ at_greater_greater_operator ∷ at_less_less_operator ∷ at_minus_operator ∷ at_plus_operator ∷ at_percent_operator ∷ at_slash_operator ∷ at_star_operator ∷ at_word w_as ∷ at_colons ∷ at_arguments ∷ at_arrow ∷ at_dot ∷ at_question ∷ at_bracket ∷ at_paren ∷ at_whole_expression ∷ at_lifetime ∷ at_unfinished ∷ at_mark greater_greater_equals ∷ at_mark less_less_equals ∷ at_mark bar_equals ∷ at_mark ampersand_equals ∷ at_mark caret_equals ∷ at_mark percent_equals ∷ at_mark slash_equals ∷ at_mark star_equals ∷ at_mark minus_equals ∷ at_mark plus_equals ∷ at_equals_operator ∷ at_mark or_or ∷ at_word w_else ∷ at_mark and_and ∷ at_mark greater_equals ∷ at_mark less_equals ∷ at_greater_operator ∷ at_less_operator ∷ at_mark not_equals ∷ at_mark equal_equal ∷ at_turbofish ∷ []; shuns = [] }
+summary_of true comparison = record { stays = Punctuation pound ∷ Punctuation minus ∷ Punctuation star ∷ Punctuation ampersand ∷ Word w_true ∷ Word w_false ∷ Literal Str ∷ Literal ByteStr ∷ Literal CStr ∷ Literal Byte ∷ Literal Char ∷ Literal Int ∷ Literal Float ∷ Punctuation colons ∷ Name ∷ Word w_union ∷ Word w_auto ∷ Word w_default ∷ Word w_safe ∷ Word w_self ∷ Word w_Self_type ∷ Word w_super ∷ Word w_crate ∷ Delimited Paren false ∷ Delimited Bracket false ∷ Delimited None false ∷ Word w_if ∷ Punctuation lifetime_mark ∷ Delimited Brace false ∷ Word w_loop ∷ Word w_while ∷ Word w_for ∷ Word w_return ∷ Word w_break ∷ Word w_continue ∷ []; moves = move (Punctuation arrow) (Punctuation minus) [] ∷ move (Punctuation minus_equals) (Punctuation minus) [] ∷ move (Punctuation exclamation) (Punctuation exclamation) [] ∷ move (Punctuation not_equals) (Punctuation exclamation) [] ∷ move (Punctuation star_equals) (Punctuation star) [] ∷ move (Punctuation and_and) (Punctuation ampersand) [] ∷ move (Punctuation ampersand_equals) (Punctuation ampersand) [] ∷ move (Word w_unsafe) (Word w_unsafe) [] ∷ move (Punctuation less) (Punctuation less) [] ∷ move (Punctuation less_less_equals) (Punctuation less) [] ∷ move (Punctuation less_equals) (Punctuation less) [] ∷ move (Punctuation less_less) (Punctuation less) [] ∷ []; nullable = false; gone = []; ends = at_equals ∷ at_paren ∷ at_less ∷ (((at_colons or_else at_less_only or_else at_paren or_else at_word w_as) but_not at_colons) but_not at_word w_as) ∷ (at_colons but_not at_colons) ∷ ((at_bang or_else at_colons and_also ahead Before_macro) but_not at_colons) ∷ ((at_path_rest and_also ahead Bang_brace) but_not at_colons) ∷ ((at_path_rest and_also ahead Bang_name) but_not at_colons) ∷ at_name ∷ at_brace ∷ at_word w_trait ∷ (at_word w_unsafe or_else at_word w_impl) ∷ ended ∷ (at_paren but_not at_paren) ∷ ((((at_colons or_else at_less_only or_else at_paren or_else at_word w_as) but_not at_colons) but_not at_paren) but_not at_word w_as) ∷ ((((at_colons or_else at_less_only or_else at_paren or_else at_word w_as) but_not at_colons) but_not at_word w_as) but_not at_paren) ∷ []; halts = at_bar_operator ∷ at_caret_operator ∷ at_ampersand_operator ∷ at_greater_greater_operator ∷ at_less_less_operator ∷ at_minus_operator ∷ at_plus_operator ∷ at_percent_operator ∷ at_slash_operator ∷ at_star_operator ∷ at_word w_as ∷ at_colons ∷ at_arguments ∷ at_arrow ∷ at_dot ∷ at_question ∷ at_bracket ∷ at_paren ∷ at_whole_expression ∷ at_lifetime ∷ at_unfinished ∷ at_mark greater_greater_equals ∷ at_mark less_less_equals ∷ at_mark bar_equals ∷ at_mark ampersand_equals ∷ at_mark caret_equals ∷ at_mark percent_equals ∷ at_mark slash_equals ∷ at_mark star_equals ∷ at_mark minus_equals ∷ at_mark plus_equals ∷ at_equals_operator ∷ at_mark or_or ∷ at_word w_else ∷ at_mark and_and ∷ at_mark greater_equals ∷ at_mark less_equals ∷ at_greater_operator ∷ at_less_operator ∷ at_mark not_equals ∷ at_mark equal_equal ∷ at_turbofish ∷ []; shuns = [] }
+summary_of true conjunctions = record { stays = Punctuation and_and ∷ []; moves = []; nullable = true; gone = []; ends = at_equals ∷ at_paren ∷ at_less ∷ (((at_colons or_else at_less_only or_else at_paren or_else at_word w_as) but_not at_colons) but_not at_word w_as) ∷ (at_colons but_not at_colons) ∷ ((at_bang or_else at_colons and_also ahead Before_macro) but_not at_colons) ∷ ((at_path_rest and_also ahead Bang_brace) but_not at_colons) ∷ ((at_path_rest and_also ahead Bang_name) but_not at_colons) ∷ at_name ∷ at_brace ∷ at_word w_trait ∷ (at_word w_unsafe or_else at_word w_impl) ∷ ended ∷ (at_paren but_not at_paren) ∷ ((((at_colons or_else at_less_only or_else at_paren or_else at_word w_as) but_not at_colons) but_not at_paren) but_not at_word w_as) ∷ ((((at_colons or_else at_less_only or_else at_paren or_else at_word w_as) but_not at_colons) but_not at_word w_as) but_not at_paren) ∷ []; halts = at_mark and_and ∷ at_bar_operator ∷ at_caret_operator ∷ at_ampersand_operator ∷ at_greater_greater_operator ∷ at_less_less_operator ∷ at_minus_operator ∷ at_plus_operator ∷ at_percent_operator ∷ at_slash_operator ∷ at_star_operator ∷ at_word w_as ∷ at_colons ∷ at_arguments ∷ at_arrow ∷ at_dot ∷ at_question ∷ at_bracket ∷ at_paren ∷ at_whole_expression ∷ at_lifetime ∷ at_unfinished ∷ at_mark greater_greater_equals ∷ at_mark less_less_equals ∷ at_mark bar_equals ∷ at_mark ampersand_equals ∷ at_mark caret_equals ∷ at_mark percent_equals ∷ at_mark slash_equals ∷ at_mark star_equals ∷ at_mark minus_equals ∷ at_mark plus_equals ∷ at_equals_operator ∷ at_mark or_or ∷ at_word w_else ∷ at_mark greater_equals ∷ at_mark less_equals ∷ at_greater_operator ∷ at_less_operator ∷ at_mark not_equals ∷ at_mark equal_equal ∷ at_turbofish ∷ []; shuns = [] }
+summary_of true conjunction = record { stays = Punctuation pound ∷ Punctuation minus ∷ Punctuation star ∷ Punctuation ampersand ∷ Word w_true ∷ Word w_false ∷ Literal Str ∷ Literal ByteStr ∷ Literal CStr ∷ Literal Byte ∷ Literal Char ∷ Literal Int ∷ Literal Float ∷ Punctuation colons ∷ Name ∷ Word w_union ∷ Word w_auto ∷ Word w_default ∷ Word w_safe ∷ Word w_self ∷ Word w_Self_type ∷ Word w_super ∷ Word w_crate ∷ Delimited Paren false ∷ Delimited Bracket false ∷ Delimited None false ∷ Word w_if ∷ Punctuation lifetime_mark ∷ Delimited Brace false ∷ Word w_loop ∷ Word w_while ∷ Word w_for ∷ Word w_return ∷ Word w_break ∷ Word w_continue ∷ []; moves = move (Punctuation arrow) (Punctuation minus) [] ∷ move (Punctuation minus_equals) (Punctuation minus) [] ∷ move (Punctuation exclamation) (Punctuation exclamation) [] ∷ move (Punctuation not_equals) (Punctuation exclamation) [] ∷ move (Punctuation star_equals) (Punctuation star) [] ∷ move (Punctuation and_and) (Punctuation ampersand) [] ∷ move (Punctuation ampersand_equals) (Punctuation ampersand) [] ∷ move (Word w_unsafe) (Word w_unsafe) [] ∷ move (Punctuation less) (Punctuation less) [] ∷ move (Punctuation less_less_equals) (Punctuation less) [] ∷ move (Punctuation less_equals) (Punctuation less) [] ∷ move (Punctuation less_less) (Punctuation less) [] ∷ []; nullable = false; gone = []; ends = at_equals ∷ at_paren ∷ at_less ∷ (((at_colons or_else at_less_only or_else at_paren or_else at_word w_as) but_not at_colons) but_not at_word w_as) ∷ (at_colons but_not at_colons) ∷ ((at_bang or_else at_colons and_also ahead Before_macro) but_not at_colons) ∷ ((at_path_rest and_also ahead Bang_brace) but_not at_colons) ∷ ((at_path_rest and_also ahead Bang_name) but_not at_colons) ∷ at_name ∷ at_brace ∷ at_word w_trait ∷ (at_word w_unsafe or_else at_word w_impl) ∷ ended ∷ (at_paren but_not at_paren) ∷ ((((at_colons or_else at_less_only or_else at_paren or_else at_word w_as) but_not at_colons) but_not at_paren) but_not at_word w_as) ∷ ((((at_colons or_else at_less_only or_else at_paren or_else at_word w_as) but_not at_colons) but_not at_word w_as) but_not at_paren) ∷ []; halts = at_mark and_and ∷ at_bar_operator ∷ at_caret_operator ∷ at_ampersand_operator ∷ at_greater_greater_operator ∷ at_less_less_operator ∷ at_minus_operator ∷ at_plus_operator ∷ at_percent_operator ∷ at_slash_operator ∷ at_star_operator ∷ at_word w_as ∷ at_colons ∷ at_arguments ∷ at_arrow ∷ at_dot ∷ at_question ∷ at_bracket ∷ at_paren ∷ at_whole_expression ∷ at_lifetime ∷ at_unfinished ∷ at_mark greater_greater_equals ∷ at_mark less_less_equals ∷ at_mark bar_equals ∷ at_mark ampersand_equals ∷ at_mark caret_equals ∷ at_mark percent_equals ∷ at_mark slash_equals ∷ at_mark star_equals ∷ at_mark minus_equals ∷ at_mark plus_equals ∷ at_equals_operator ∷ at_mark or_or ∷ at_word w_else ∷ at_mark greater_equals ∷ at_mark less_equals ∷ at_greater_operator ∷ at_less_operator ∷ at_mark not_equals ∷ at_mark equal_equal ∷ at_turbofish ∷ []; shuns = [] }
+summary_of true disjunctions = record { stays = Punctuation or_or ∷ []; moves = []; nullable = true; gone = []; ends = at_equals ∷ at_paren ∷ at_less ∷ (((at_colons or_else at_less_only or_else at_paren or_else at_word w_as) but_not at_colons) but_not at_word w_as) ∷ (at_colons but_not at_colons) ∷ ((at_bang or_else at_colons and_also ahead Before_macro) but_not at_colons) ∷ ((at_path_rest and_also ahead Bang_brace) but_not at_colons) ∷ ((at_path_rest and_also ahead Bang_name) but_not at_colons) ∷ at_name ∷ at_brace ∷ at_word w_trait ∷ (at_word w_unsafe or_else at_word w_impl) ∷ ended ∷ (at_paren but_not at_paren) ∷ ((((at_colons or_else at_less_only or_else at_paren or_else at_word w_as) but_not at_colons) but_not at_paren) but_not at_word w_as) ∷ ((((at_colons or_else at_less_only or_else at_paren or_else at_word w_as) but_not at_colons) but_not at_word w_as) but_not at_paren) ∷ []; halts = at_mark or_or ∷ at_mark and_and ∷ at_bar_operator ∷ at_caret_operator ∷ at_ampersand_operator ∷ at_greater_greater_operator ∷ at_less_less_operator ∷ at_minus_operator ∷ at_plus_operator ∷ at_percent_operator ∷ at_slash_operator ∷ at_star_operator ∷ at_word w_as ∷ at_colons ∷ at_arguments ∷ at_arrow ∷ at_dot ∷ at_question ∷ at_bracket ∷ at_paren ∷ at_whole_expression ∷ at_lifetime ∷ at_unfinished ∷ at_mark greater_greater_equals ∷ at_mark less_less_equals ∷ at_mark bar_equals ∷ at_mark ampersand_equals ∷ at_mark caret_equals ∷ at_mark percent_equals ∷ at_mark slash_equals ∷ at_mark star_equals ∷ at_mark minus_equals ∷ at_mark plus_equals ∷ at_equals_operator ∷ at_word w_else ∷ at_mark greater_equals ∷ at_mark less_equals ∷ at_greater_operator ∷ at_less_operator ∷ at_mark not_equals ∷ at_mark equal_equal ∷ at_turbofish ∷ []; shuns = [] }
+summary_of true disjunction = record { stays = Punctuation pound ∷ Punctuation minus ∷ Punctuation star ∷ Punctuation ampersand ∷ Word w_true ∷ Word w_false ∷ Literal Str ∷ Literal ByteStr ∷ Literal CStr ∷ Literal Byte ∷ Literal Char ∷ Literal Int ∷ Literal Float ∷ Punctuation colons ∷ Name ∷ Word w_union ∷ Word w_auto ∷ Word w_default ∷ Word w_safe ∷ Word w_self ∷ Word w_Self_type ∷ Word w_super ∷ Word w_crate ∷ Delimited Paren false ∷ Delimited Bracket false ∷ Delimited None false ∷ Word w_if ∷ Punctuation lifetime_mark ∷ Delimited Brace false ∷ Word w_loop ∷ Word w_while ∷ Word w_for ∷ Word w_return ∷ Word w_break ∷ Word w_continue ∷ []; moves = move (Punctuation arrow) (Punctuation minus) [] ∷ move (Punctuation minus_equals) (Punctuation minus) [] ∷ move (Punctuation exclamation) (Punctuation exclamation) [] ∷ move (Punctuation not_equals) (Punctuation exclamation) [] ∷ move (Punctuation star_equals) (Punctuation star) [] ∷ move (Punctuation and_and) (Punctuation ampersand) [] ∷ move (Punctuation ampersand_equals) (Punctuation ampersand) [] ∷ move (Word w_unsafe) (Word w_unsafe) [] ∷ move (Punctuation less) (Punctuation less) [] ∷ move (Punctuation less_less_equals) (Punctuation less) [] ∷ move (Punctuation less_equals) (Punctuation less) [] ∷ move (Punctuation less_less) (Punctuation less) [] ∷ []; nullable = false; gone = []; ends = at_equals ∷ at_paren ∷ at_less ∷ (((at_colons or_else at_less_only or_else at_paren or_else at_word w_as) but_not at_colons) but_not at_word w_as) ∷ (at_colons but_not at_colons) ∷ ((at_bang or_else at_colons and_also ahead Before_macro) but_not at_colons) ∷ ((at_path_rest and_also ahead Bang_brace) but_not at_colons) ∷ ((at_path_rest and_also ahead Bang_name) but_not at_colons) ∷ at_name ∷ at_brace ∷ at_word w_trait ∷ (at_word w_unsafe or_else at_word w_impl) ∷ ended ∷ (at_paren but_not at_paren) ∷ ((((at_colons or_else at_less_only or_else at_paren or_else at_word w_as) but_not at_colons) but_not at_paren) but_not at_word w_as) ∷ ((((at_colons or_else at_less_only or_else at_paren or_else at_word w_as) but_not at_colons) but_not at_word w_as) but_not at_paren) ∷ []; halts = at_mark or_or ∷ at_mark and_and ∷ at_bar_operator ∷ at_caret_operator ∷ at_ampersand_operator ∷ at_greater_greater_operator ∷ at_less_less_operator ∷ at_minus_operator ∷ at_plus_operator ∷ at_percent_operator ∷ at_slash_operator ∷ at_star_operator ∷ at_word w_as ∷ at_colons ∷ at_arguments ∷ at_arrow ∷ at_dot ∷ at_question ∷ at_bracket ∷ at_paren ∷ at_whole_expression ∷ at_lifetime ∷ at_unfinished ∷ at_mark greater_greater_equals ∷ at_mark less_less_equals ∷ at_mark bar_equals ∷ at_mark ampersand_equals ∷ at_mark caret_equals ∷ at_mark percent_equals ∷ at_mark slash_equals ∷ at_mark star_equals ∷ at_mark minus_equals ∷ at_mark plus_equals ∷ at_equals_operator ∷ at_word w_else ∷ at_mark greater_equals ∷ at_mark less_equals ∷ at_greater_operator ∷ at_less_operator ∷ at_mark not_equals ∷ at_mark equal_equal ∷ at_turbofish ∷ []; shuns = [] }
+summary_of true assigned = record { stays = Punctuation equals ∷ Punctuation plus_equals ∷ Punctuation minus_equals ∷ Punctuation star_equals ∷ Punctuation slash_equals ∷ Punctuation percent_equals ∷ Punctuation caret_equals ∷ Punctuation ampersand_equals ∷ Punctuation bar_equals ∷ Punctuation greater_greater_equals ∷ []; moves = move (Punctuation (61 ∷ 62 ∷ [])) (Punctuation equals) [] ∷ move (Punctuation less_less_equals) (Punctuation less_less_equals) [] ∷ []; nullable = true; gone = []; ends = at_equals ∷ at_paren ∷ at_less ∷ (((at_colons or_else at_less_only or_else at_paren or_else at_word w_as) but_not at_colons) but_not at_word w_as) ∷ (at_colons but_not at_colons) ∷ ((at_bang or_else at_colons and_also ahead Before_macro) but_not at_colons) ∷ ((at_path_rest and_also ahead Bang_brace) but_not at_colons) ∷ ((at_path_rest and_also ahead Bang_name) but_not at_colons) ∷ at_name ∷ at_brace ∷ at_word w_trait ∷ (at_word w_unsafe or_else at_word w_impl) ∷ ended ∷ (at_paren but_not at_paren) ∷ ((((at_colons or_else at_less_only or_else at_paren or_else at_word w_as) but_not at_colons) but_not at_paren) but_not at_word w_as) ∷ ((((at_colons or_else at_less_only or_else at_paren or_else at_word w_as) but_not at_colons) but_not at_word w_as) but_not at_paren) ∷ []; halts = at_unfinished ∷ at_mark greater_greater_equals ∷ at_mark less_less_equals ∷ at_mark bar_equals ∷ at_mark ampersand_equals ∷ at_mark caret_equals ∷ at_mark percent_equals ∷ at_mark slash_equals ∷ at_mark star_equals ∷ at_mark minus_equals ∷ at_mark plus_equals ∷ at_equals_operator ∷ at_mark or_or ∷ at_mark and_and ∷ at_bar_operator ∷ at_caret_operator ∷ at_ampersand_operator ∷ at_greater_greater_operator ∷ at_less_less_operator ∷ at_minus_operator ∷ at_plus_operator ∷ at_percent_operator ∷ at_slash_operator ∷ at_star_operator ∷ at_word w_as ∷ at_colons ∷ at_arguments ∷ at_arrow ∷ at_dot ∷ at_question ∷ at_bracket ∷ at_paren ∷ at_whole_expression ∷ at_lifetime ∷ at_word w_else ∷ at_mark greater_equals ∷ at_mark less_equals ∷ at_greater_operator ∷ at_less_operator ∷ at_mark not_equals ∷ at_mark equal_equal ∷ at_turbofish ∷ []; shuns = [] }
+summary_of true whole_expression = record { stays = Punctuation pound ∷ Punctuation minus ∷ Punctuation star ∷ Punctuation ampersand ∷ Word w_true ∷ Word w_false ∷ Literal Str ∷ Literal ByteStr ∷ Literal CStr ∷ Literal Byte ∷ Literal Char ∷ Literal Int ∷ Literal Float ∷ Punctuation colons ∷ Name ∷ Word w_union ∷ Word w_auto ∷ Word w_default ∷ Word w_safe ∷ Word w_self ∷ Word w_Self_type ∷ Word w_super ∷ Word w_crate ∷ Delimited Paren false ∷ Delimited Bracket false ∷ Delimited None false ∷ Word w_if ∷ Punctuation lifetime_mark ∷ Delimited Brace false ∷ Word w_loop ∷ Word w_while ∷ Word w_for ∷ Word w_return ∷ Word w_break ∷ Word w_continue ∷ []; moves = move (Punctuation arrow) (Punctuation minus) [] ∷ move (Punctuation minus_equals) (Punctuation minus) [] ∷ move (Punctuation exclamation) (Punctuation exclamation) [] ∷ move (Punctuation not_equals) (Punctuation exclamation) [] ∷ move (Punctuation star_equals) (Punctuation star) [] ∷ move (Punctuation and_and) (Punctuation ampersand) [] ∷ move (Punctuation ampersand_equals) (Punctuation ampersand) [] ∷ move (Word w_unsafe) (Word w_unsafe) [] ∷ move (Punctuation less) (Punctuation less) [] ∷ move (Punctuation less_less_equals) (Punctuation less) [] ∷ move (Punctuation less_equals) (Punctuation less) [] ∷ move (Punctuation less_less) (Punctuation less) [] ∷ []; nullable = false; gone = []; ends = at_equals ∷ at_paren ∷ at_less ∷ (((at_colons or_else at_less_only or_else at_paren or_else at_word w_as) but_not at_colons) but_not at_word w_as) ∷ (at_colons but_not at_colons) ∷ ((at_bang or_else at_colons and_also ahead Before_macro) but_not at_colons) ∷ ((at_path_rest and_also ahead Bang_brace) but_not at_colons) ∷ ((at_path_rest and_also ahead Bang_name) but_not at_colons) ∷ at_name ∷ at_brace ∷ at_word w_trait ∷ (at_word w_unsafe or_else at_word w_impl) ∷ ended ∷ (at_paren but_not at_paren) ∷ ((((at_colons or_else at_less_only or_else at_paren or_else at_word w_as) but_not at_colons) but_not at_paren) but_not at_word w_as) ∷ ((((at_colons or_else at_less_only or_else at_paren or_else at_word w_as) but_not at_colons) but_not at_word w_as) but_not at_paren) ∷ []; halts = at_unfinished ∷ at_mark greater_greater_equals ∷ at_mark less_less_equals ∷ at_mark bar_equals ∷ at_mark ampersand_equals ∷ at_mark caret_equals ∷ at_mark percent_equals ∷ at_mark slash_equals ∷ at_mark star_equals ∷ at_mark minus_equals ∷ at_mark plus_equals ∷ at_equals_operator ∷ at_mark or_or ∷ at_mark and_and ∷ at_mark greater_equals ∷ at_mark less_equals ∷ at_greater_operator ∷ at_less_operator ∷ at_mark not_equals ∷ at_mark equal_equal ∷ at_bar_operator ∷ at_caret_operator ∷ at_ampersand_operator ∷ at_greater_greater_operator ∷ at_less_less_operator ∷ at_minus_operator ∷ at_plus_operator ∷ at_percent_operator ∷ at_slash_operator ∷ at_star_operator ∷ at_word w_as ∷ at_dot ∷ at_question ∷ at_bracket ∷ at_paren ∷ at_whole_expression ∷ at_lifetime ∷ at_colons ∷ at_arguments ∷ at_arrow ∷ at_word w_else ∷ at_turbofish ∷ []; shuns = [] }
+summary_of true operand_rest = record { stays = []; moves = []; nullable = false; gone = []; ends = []; halts = []; shuns = [] }
+summary_of true statements = record { stays = Punctuation semicolon ∷ Punctuation pound ∷ Word w_crate ∷ Punctuation colons ∷ Name ∷ Word w_union ∷ Word w_auto ∷ Word w_default ∷ Word w_safe ∷ Word w_self ∷ Word w_Self_type ∷ Word w_super ∷ Word w_let ∷ Word w_if ∷ Punctuation lifetime_mark ∷ Delimited Brace false ∷ Word w_loop ∷ Word w_while ∷ Word w_for ∷ Punctuation minus ∷ Punctuation star ∷ Punctuation ampersand ∷ Word w_true ∷ Word w_false ∷ Literal Str ∷ Literal ByteStr ∷ Literal CStr ∷ Literal Byte ∷ Literal Char ∷ Literal Int ∷ Literal Float ∷ Delimited Paren false ∷ Delimited Bracket false ∷ Delimited None false ∷ Word w_return ∷ Word w_break ∷ Word w_continue ∷ []; moves = move (Word w_unsafe) (Word w_unsafe) [] ∷ move (Punctuation arrow) (Punctuation minus) [] ∷ move (Punctuation minus_equals) (Punctuation minus) [] ∷ move (Punctuation exclamation) (Punctuation exclamation) [] ∷ move (Punctuation not_equals) (Punctuation exclamation) [] ∷ move (Punctuation star_equals) (Punctuation star) [] ∷ move (Punctuation and_and) (Punctuation ampersand) [] ∷ move (Punctuation ampersand_equals) (Punctuation ampersand) [] ∷ move (Punctuation less) (Punctuation less) [] ∷ move (Punctuation less_less_equals) (Punctuation less) [] ∷ move (Punctuation less_equals) (Punctuation less) [] ∷ move (Punctuation less_less) (Punctuation less) [] ∷ []; nullable = true; gone = []; ends = ended ∷ at_postfix_mark ∷ at_equals ∷ at_paren ∷ at_less ∷ (((at_colons or_else at_less_only or_else at_paren or_else at_word w_as) but_not at_colons) but_not at_word w_as) ∷ (at_colons but_not at_colons) ∷ ((at_bang or_else at_colons and_also ahead Before_macro) but_not at_colons) ∷ ((at_path_rest and_also ahead Bang_brace) but_not at_colons) ∷ ((at_path_rest and_also ahead Bang_name) but_not at_colons) ∷ at_name ∷ at_brace ∷ at_word w_trait ∷ (at_word w_unsafe or_else at_word w_impl) ∷ (at_paren but_not at_paren) ∷ ((((at_colons or_else at_less_only or_else at_paren or_else at_word w_as) but_not at_colons) but_not at_paren) but_not at_word w_as) ∷ ((((at_colons or_else at_less_only or_else at_paren or_else at_word w_as) but_not at_colons) but_not at_word w_as) but_not at_paren) ∷ []; halts = at_semicolon ∷ at_postfix_mark ∷ at_unfinished ∷ at_mark greater_greater_equals ∷ at_mark less_less_equals ∷ at_mark bar_equals ∷ at_mark ampersand_equals ∷ at_mark caret_equals ∷ at_mark percent_equals ∷ at_mark slash_equals ∷ at_mark star_equals ∷ at_mark minus_equals ∷ at_mark plus_equals ∷ at_equals_operator ∷ at_mark or_or ∷ at_mark and_and ∷ at_mark greater_equals ∷ at_mark less_equals ∷ at_greater_operator ∷ at_less_operator ∷ at_mark not_equals ∷ at_mark equal_equal ∷ at_bar_operator ∷ at_caret_operator ∷ at_ampersand_operator ∷ at_greater_greater_operator ∷ at_less_less_operator ∷ at_minus_operator ∷ at_plus_operator ∷ at_percent_operator ∷ at_slash_operator ∷ at_star_operator ∷ at_word w_as ∷ at_dot ∷ at_question ∷ at_bracket ∷ at_paren ∷ at_colons ∷ at_word w_else ∷ at_whole_expression ∷ at_lifetime ∷ at_arguments ∷ at_arrow ∷ at_turbofish ∷ []; shuns = [] }
+summary_of true statement_rest = record { stays = Word w_crate ∷ Punctuation colons ∷ Name ∷ Word w_union ∷ Word w_auto ∷ Word w_default ∷ Word w_safe ∷ Word w_self ∷ Word w_Self_type ∷ Word w_super ∷ Word w_let ∷ Word w_if ∷ Punctuation lifetime_mark ∷ Delimited Brace false ∷ Word w_loop ∷ Word w_while ∷ Word w_for ∷ Punctuation pound ∷ Punctuation minus ∷ Punctuation star ∷ Punctuation ampersand ∷ Word w_true ∷ Word w_false ∷ Literal Str ∷ Literal ByteStr ∷ Literal CStr ∷ Literal Byte ∷ Literal Char ∷ Literal Int ∷ Literal Float ∷ Delimited Paren false ∷ Delimited Bracket false ∷ Delimited None false ∷ Word w_return ∷ Word w_break ∷ Word w_continue ∷ []; moves = move (Word w_unsafe) (Word w_unsafe) [] ∷ move (Punctuation arrow) (Punctuation minus) [] ∷ move (Punctuation minus_equals) (Punctuation minus) [] ∷ move (Punctuation exclamation) (Punctuation exclamation) [] ∷ move (Punctuation not_equals) (Punctuation exclamation) [] ∷ move (Punctuation star_equals) (Punctuation star) [] ∷ move (Punctuation and_and) (Punctuation ampersand) [] ∷ move (Punctuation ampersand_equals) (Punctuation ampersand) [] ∷ move (Punctuation less) (Punctuation less) [] ∷ move (Punctuation less_less_equals) (Punctuation less) [] ∷ move (Punctuation less_equals) (Punctuation less) [] ∷ move (Punctuation less_less) (Punctuation less) [] ∷ []; nullable = false; gone = []; ends = ended ∷ at_postfix_mark ∷ at_equals ∷ at_paren ∷ at_less ∷ (((at_colons or_else at_less_only or_else at_paren or_else at_word w_as) but_not at_colons) but_not at_word w_as) ∷ (at_colons but_not at_colons) ∷ ((at_bang or_else at_colons and_also ahead Before_macro) but_not at_colons) ∷ ((at_path_rest and_also ahead Bang_brace) but_not at_colons) ∷ ((at_path_rest and_also ahead Bang_name) but_not at_colons) ∷ at_name ∷ at_brace ∷ at_word w_trait ∷ (at_word w_unsafe or_else at_word w_impl) ∷ (at_paren but_not at_paren) ∷ ((((at_colons or_else at_less_only or_else at_paren or_else at_word w_as) but_not at_colons) but_not at_paren) but_not at_word w_as) ∷ ((((at_colons or_else at_less_only or_else at_paren or_else at_word w_as) but_not at_colons) but_not at_word w_as) but_not at_paren) ∷ []; halts = at_semicolon ∷ at_postfix_mark ∷ at_unfinished ∷ at_mark greater_greater_equals ∷ at_mark less_less_equals ∷ at_mark bar_equals ∷ at_mark ampersand_equals ∷ at_mark caret_equals ∷ at_mark percent_equals ∷ at_mark slash_equals ∷ at_mark star_equals ∷ at_mark minus_equals ∷ at_mark plus_equals ∷ at_equals_operator ∷ at_mark or_or ∷ at_mark and_and ∷ at_mark greater_equals ∷ at_mark less_equals ∷ at_greater_operator ∷ at_less_operator ∷ at_mark not_equals ∷ at_mark equal_equal ∷ at_bar_operator ∷ at_caret_operator ∷ at_ampersand_operator ∷ at_greater_greater_operator ∷ at_less_less_operator ∷ at_minus_operator ∷ at_plus_operator ∷ at_percent_operator ∷ at_slash_operator ∷ at_star_operator ∷ at_word w_as ∷ at_dot ∷ at_question ∷ at_bracket ∷ at_paren ∷ at_colons ∷ at_word w_else ∷ at_whole_expression ∷ at_lifetime ∷ at_arguments ∷ at_arrow ∷ at_turbofish ∷ []; shuns = [] }
+summary_of true after_block = record { stays = []; moves = []; nullable = false; gone = []; ends = []; halts = []; shuns = [] }
+summary_of true after_expression = record { stays = Punctuation semicolon ∷ []; moves = []; nullable = true; gone = []; ends = ended ∷ at_postfix_mark ∷ at_equals ∷ at_paren ∷ at_less ∷ (((at_colons or_else at_less_only or_else at_paren or_else at_word w_as) but_not at_colons) but_not at_word w_as) ∷ (at_colons but_not at_colons) ∷ ((at_bang or_else at_colons and_also ahead Before_macro) but_not at_colons) ∷ ((at_path_rest and_also ahead Bang_brace) but_not at_colons) ∷ ((at_path_rest and_also ahead Bang_name) but_not at_colons) ∷ at_name ∷ at_brace ∷ at_word w_trait ∷ (at_word w_unsafe or_else at_word w_impl) ∷ (at_paren but_not at_paren) ∷ ((((at_colons or_else at_less_only or_else at_paren or_else at_word w_as) but_not at_colons) but_not at_paren) but_not at_word w_as) ∷ ((((at_colons or_else at_less_only or_else at_paren or_else at_word w_as) but_not at_colons) but_not at_word w_as) but_not at_paren) ∷ []; halts = at_semicolon ∷ at_postfix_mark ∷ at_unfinished ∷ at_mark greater_greater_equals ∷ at_mark less_less_equals ∷ at_mark bar_equals ∷ at_mark ampersand_equals ∷ at_mark caret_equals ∷ at_mark percent_equals ∷ at_mark slash_equals ∷ at_mark star_equals ∷ at_mark minus_equals ∷ at_mark plus_equals ∷ at_equals_operator ∷ at_mark or_or ∷ at_mark and_and ∷ at_mark greater_equals ∷ at_mark less_equals ∷ at_greater_operator ∷ at_less_operator ∷ at_mark not_equals ∷ at_mark equal_equal ∷ at_bar_operator ∷ at_caret_operator ∷ at_ampersand_operator ∷ at_greater_greater_operator ∷ at_less_less_operator ∷ at_minus_operator ∷ at_plus_operator ∷ at_percent_operator ∷ at_slash_operator ∷ at_star_operator ∷ at_word w_as ∷ at_dot ∷ at_question ∷ at_bracket ∷ at_paren ∷ at_colons ∷ at_word w_else ∷ at_whole_expression ∷ at_lifetime ∷ at_arguments ∷ at_arrow ∷ at_turbofish ∷ []; shuns = [] }
+summary_of true statement = record { stays = []; moves = []; nullable = false; gone = []; ends = []; halts = []; shuns = [] }
+summary_of true statement_end = record { stays = []; moves = []; nullable = false; gone = []; ends = []; halts = []; shuns = [] }
+summary_of true local = record { stays = Word w_let ∷ []; moves = []; nullable = false; gone = []; ends = []; halts = []; shuns = [] }
 
 -- so it is
 pub starts_hold : IsSaid start_of table
@@ -333,6 +583,56 @@ starts_hold enumeration_rest = (refl, λ e. e)
 starts_hold union_item = (refl, λ e. e)
 starts_hold union_item_rest = (refl, λ e. e)
 starts_hold derive_input = (refl, λ e. e)
+starts_hold expression_path = (refl, λ e. e)
+starts_hold expression_words = (refl, λ e. e)
+starts_hold qualified_expression_path = (refl, λ e. e)
+starts_hold path_as_expression = (refl, λ e. e)
+starts_hold macro_invocation = (refl, λ e. e)
+starts_hold pattern = (refl, λ e. e)
+starts_hold patterns = (refl, λ e. refl)
+starts_hold expressions = (refl, λ e. refl)
+starts_hold array_content = (refl, λ e. refl)
+starts_hold block = (refl, λ e. e)
+starts_hold body = (refl, λ e. e)
+starts_hold plain_body = (refl, λ e. e)
+starts_hold no_inner_attributes = (refl, λ e. refl)
+starts_hold primary = (refl, λ e. e)
+starts_hold block_like = (refl, λ e. e)
+starts_hold if_expression = (refl, λ e. e)
+starts_hold loop_expression = (refl, λ e. e)
+starts_hold postfixes = (refl, λ e. refl)
+starts_hold member = (refl, λ e. e)
+starts_hold unary = (refl, λ e. e)
+starts_hold casts = (refl, λ e. refl)
+starts_hold cast = (refl, λ e. e)
+starts_hold products = (refl, λ e. refl)
+starts_hold product = (refl, λ e. e)
+starts_hold sums = (refl, λ e. refl)
+starts_hold sum = (refl, λ e. e)
+starts_hold shifts = (refl, λ e. refl)
+starts_hold shift = (refl, λ e. e)
+starts_hold bit_ands = (refl, λ e. refl)
+starts_hold bit_and = (refl, λ e. e)
+starts_hold bit_xors = (refl, λ e. refl)
+starts_hold bit_xor = (refl, λ e. e)
+starts_hold bit_ors = (refl, λ e. refl)
+starts_hold bit_or = (refl, λ e. e)
+starts_hold compared = (refl, λ e. refl)
+starts_hold comparison = (refl, λ e. e)
+starts_hold conjunctions = (refl, λ e. refl)
+starts_hold conjunction = (refl, λ e. e)
+starts_hold disjunctions = (refl, λ e. refl)
+starts_hold disjunction = (refl, λ e. e)
+starts_hold assigned = (refl, λ e. refl)
+starts_hold whole_expression = (refl, λ e. e)
+starts_hold operand_rest = (refl, λ e. refl)
+starts_hold statements = (refl, λ e. refl)
+starts_hold statement_rest = (refl, λ e. e)
+starts_hold after_block = (refl, λ e. refl)
+starts_hold after_expression = (refl, λ e. refl)
+starts_hold statement = (refl, λ e. e)
+starts_hold statement_end = (refl, λ e. refl)
+starts_hold local = (refl, λ e. e)
 
 -- nor do these
 pub never_follow_hold : IsOff start_of table
@@ -387,6 +687,56 @@ never_follow_hold enumeration_rest = refl
 never_follow_hold union_item = refl
 never_follow_hold union_item_rest = refl
 never_follow_hold derive_input = refl
+never_follow_hold expression_path = refl
+never_follow_hold expression_words = refl
+never_follow_hold qualified_expression_path = refl
+never_follow_hold path_as_expression = refl
+never_follow_hold macro_invocation = refl
+never_follow_hold pattern = refl
+never_follow_hold patterns = refl
+never_follow_hold expressions = refl
+never_follow_hold array_content = refl
+never_follow_hold block = refl
+never_follow_hold body = refl
+never_follow_hold plain_body = refl
+never_follow_hold no_inner_attributes = refl
+never_follow_hold primary = refl
+never_follow_hold block_like = refl
+never_follow_hold if_expression = refl
+never_follow_hold loop_expression = refl
+never_follow_hold postfixes = refl
+never_follow_hold member = refl
+never_follow_hold unary = refl
+never_follow_hold casts = refl
+never_follow_hold cast = refl
+never_follow_hold products = refl
+never_follow_hold product = refl
+never_follow_hold sums = refl
+never_follow_hold sum = refl
+never_follow_hold shifts = refl
+never_follow_hold shift = refl
+never_follow_hold bit_ands = refl
+never_follow_hold bit_and = refl
+never_follow_hold bit_xors = refl
+never_follow_hold bit_xor = refl
+never_follow_hold bit_ors = refl
+never_follow_hold bit_or = refl
+never_follow_hold compared = refl
+never_follow_hold comparison = refl
+never_follow_hold conjunctions = refl
+never_follow_hold conjunction = refl
+never_follow_hold disjunctions = refl
+never_follow_hold disjunction = refl
+never_follow_hold assigned = refl
+never_follow_hold whole_expression = refl
+never_follow_hold operand_rest = refl
+never_follow_hold statements = refl
+never_follow_hold statement_rest = refl
+never_follow_hold after_block = refl
+never_follow_hold after_expression = refl
+never_follow_hold statement = refl
+never_follow_hold statement_end = refl
+never_follow_hold local = refl
 
 -- nothing is asked behind it
 pub closed_hold : (k : Rule) → closed_of k ≡ true → closes closed_of (table k) ≡ true
@@ -441,6 +791,56 @@ closed_hold enumeration_rest e = refl
 closed_hold union_item e = refl
 closed_hold union_item_rest e = refl
 closed_hold derive_input e = refl
+closed_hold expression_path e = absurd (true≢false (sym e))
+closed_hold expression_words e = absurd (true≢false (sym e))
+closed_hold qualified_expression_path e = absurd (true≢false (sym e))
+closed_hold path_as_expression e = absurd (true≢false (sym e))
+closed_hold macro_invocation e = refl
+closed_hold pattern e = absurd (true≢false (sym e))
+closed_hold patterns e = absurd (true≢false (sym e))
+closed_hold expressions e = absurd (true≢false (sym e))
+closed_hold array_content e = absurd (true≢false (sym e))
+closed_hold block e = refl
+closed_hold body e = refl
+closed_hold plain_body e = refl
+closed_hold no_inner_attributes e = absurd (true≢false (sym e))
+closed_hold primary e = absurd (true≢false (sym e))
+closed_hold block_like e = absurd (true≢false (sym e))
+closed_hold if_expression e = absurd (true≢false (sym e))
+closed_hold loop_expression e = refl
+closed_hold postfixes e = absurd (true≢false (sym e))
+closed_hold member e = absurd (true≢false (sym e))
+closed_hold unary e = absurd (true≢false (sym e))
+closed_hold casts e = absurd (true≢false (sym e))
+closed_hold cast e = absurd (true≢false (sym e))
+closed_hold products e = absurd (true≢false (sym e))
+closed_hold product e = absurd (true≢false (sym e))
+closed_hold sums e = absurd (true≢false (sym e))
+closed_hold sum e = absurd (true≢false (sym e))
+closed_hold shifts e = absurd (true≢false (sym e))
+closed_hold shift e = absurd (true≢false (sym e))
+closed_hold bit_ands e = absurd (true≢false (sym e))
+closed_hold bit_and e = absurd (true≢false (sym e))
+closed_hold bit_xors e = absurd (true≢false (sym e))
+closed_hold bit_xor e = absurd (true≢false (sym e))
+closed_hold bit_ors e = absurd (true≢false (sym e))
+closed_hold bit_or e = absurd (true≢false (sym e))
+closed_hold compared e = absurd (true≢false (sym e))
+closed_hold comparison e = absurd (true≢false (sym e))
+closed_hold conjunctions e = absurd (true≢false (sym e))
+closed_hold conjunction e = absurd (true≢false (sym e))
+closed_hold disjunctions e = absurd (true≢false (sym e))
+closed_hold disjunction e = absurd (true≢false (sym e))
+closed_hold assigned e = absurd (true≢false (sym e))
+closed_hold whole_expression e = absurd (true≢false (sym e))
+closed_hold operand_rest e = absurd (true≢false (sym e))
+closed_hold statements e = absurd (true≢false (sym e))
+closed_hold statement_rest e = absurd (true≢false (sym e))
+closed_hold after_block e = absurd (true≢false (sym e))
+closed_hold after_expression e = absurd (true≢false (sym e))
+closed_hold statement e = absurd (true≢false (sym e))
+closed_hold statement_end e = absurd (true≢false (sym e))
+closed_hold local e = refl
 
 -- no stream is read by two forms of a union
 pub unions_hold : (k : Rule) → sound table start_of (table k) ≡ true
@@ -495,6 +895,56 @@ unions_hold enumeration_rest = refl
 unions_hold union_item = refl
 unions_hold union_item_rest = refl
 unions_hold derive_input = refl
+unions_hold expression_path = refl
+unions_hold expression_words = refl
+unions_hold qualified_expression_path = refl
+unions_hold path_as_expression = refl
+unions_hold macro_invocation = refl
+unions_hold pattern = refl
+unions_hold patterns = refl
+unions_hold expressions = refl
+unions_hold array_content = refl
+unions_hold block = refl
+unions_hold body = refl
+unions_hold plain_body = refl
+unions_hold no_inner_attributes = refl
+unions_hold primary = refl
+unions_hold block_like = refl
+unions_hold if_expression = refl
+unions_hold loop_expression = refl
+unions_hold postfixes = refl
+unions_hold member = refl
+unions_hold unary = refl
+unions_hold casts = refl
+unions_hold cast = refl
+unions_hold products = refl
+unions_hold product = refl
+unions_hold sums = refl
+unions_hold sum = refl
+unions_hold shifts = refl
+unions_hold shift = refl
+unions_hold bit_ands = refl
+unions_hold bit_and = refl
+unions_hold bit_xors = refl
+unions_hold bit_xor = refl
+unions_hold bit_ors = refl
+unions_hold bit_or = refl
+unions_hold compared = refl
+unions_hold comparison = refl
+unions_hold conjunctions = refl
+unions_hold conjunction = refl
+unions_hold disjunctions = refl
+unions_hold disjunction = refl
+unions_hold assigned = refl
+unions_hold whole_expression = refl
+unions_hold operand_rest = refl
+unions_hold statements = refl
+unions_hold statement_rest = refl
+unions_hold after_block = refl
+unions_hold after_expression = refl
+unions_hold statement = refl
+unions_hold statement_end = refl
+unions_hold local = refl
 
 -- its summary covers what its form prints
 pub summaries_hold : IsSummary summary_of heard_of start_of closed_of table
@@ -549,6 +999,56 @@ summaries_hold false enumeration_rest e = (refl, refl)
 summaries_hold false union_item e = (refl, refl)
 summaries_hold false union_item_rest e = (refl, refl)
 summaries_hold false derive_input e = (refl, refl)
+summaries_hold false expression_path e = (refl, refl)
+summaries_hold false expression_words e = (refl, refl)
+summaries_hold false qualified_expression_path e = (refl, refl)
+summaries_hold false path_as_expression e = (refl, refl)
+summaries_hold false macro_invocation e = (refl, refl)
+summaries_hold false pattern e = (refl, refl)
+summaries_hold false patterns e = (refl, refl)
+summaries_hold false expressions e = (refl, refl)
+summaries_hold false array_content e = (refl, refl)
+summaries_hold false block e = (refl, refl)
+summaries_hold false body e = (refl, refl)
+summaries_hold false plain_body e = (refl, refl)
+summaries_hold false no_inner_attributes e = (refl, refl)
+summaries_hold false primary e = (refl, refl)
+summaries_hold false block_like e = (refl, refl)
+summaries_hold false if_expression e = (refl, refl)
+summaries_hold false loop_expression e = (refl, refl)
+summaries_hold false postfixes e = (refl, refl)
+summaries_hold false member e = (refl, refl)
+summaries_hold false unary e = (refl, refl)
+summaries_hold false casts e = (refl, refl)
+summaries_hold false cast e = (refl, refl)
+summaries_hold false products e = (refl, refl)
+summaries_hold false product e = (refl, refl)
+summaries_hold false sums e = (refl, refl)
+summaries_hold false sum e = (refl, refl)
+summaries_hold false shifts e = (refl, refl)
+summaries_hold false shift e = (refl, refl)
+summaries_hold false bit_ands e = (refl, refl)
+summaries_hold false bit_and e = (refl, refl)
+summaries_hold false bit_xors e = (refl, refl)
+summaries_hold false bit_xor e = (refl, refl)
+summaries_hold false bit_ors e = (refl, refl)
+summaries_hold false bit_or e = (refl, refl)
+summaries_hold false compared e = (refl, refl)
+summaries_hold false comparison e = (refl, refl)
+summaries_hold false conjunctions e = (refl, refl)
+summaries_hold false conjunction e = (refl, refl)
+summaries_hold false disjunctions e = (refl, refl)
+summaries_hold false disjunction e = (refl, refl)
+summaries_hold false assigned e = (refl, refl)
+summaries_hold false whole_expression e = (refl, refl)
+summaries_hold false operand_rest e = (refl, refl)
+summaries_hold false statements e = (refl, refl)
+summaries_hold false statement_rest e = (refl, refl)
+summaries_hold false after_block e = (refl, refl)
+summaries_hold false after_expression e = (refl, refl)
+summaries_hold false statement e = (refl, refl)
+summaries_hold false statement_end e = (refl, refl)
+summaries_hold false local e = (refl, refl)
 summaries_hold true attributes e = (refl, refl)
 summaries_hold true inner_attributes e = absurd (true≢false (sym e))
 summaries_hold true no_attributes e = (refl, refl)
@@ -600,6 +1100,56 @@ summaries_hold true enumeration_rest e = absurd (true≢false (sym e))
 summaries_hold true union_item e = absurd (true≢false (sym e))
 summaries_hold true union_item_rest e = absurd (true≢false (sym e))
 summaries_hold true derive_input e = absurd (true≢false (sym e))
+summaries_hold true expression_path e = (refl, refl)
+summaries_hold true expression_words e = (refl, refl)
+summaries_hold true qualified_expression_path e = (refl, refl)
+summaries_hold true path_as_expression e = (refl, refl)
+summaries_hold true macro_invocation e = (refl, refl)
+summaries_hold true pattern e = (refl, refl)
+summaries_hold true patterns e = (refl, refl)
+summaries_hold true expressions e = (refl, refl)
+summaries_hold true array_content e = absurd (true≢false (sym e))
+summaries_hold true block e = (refl, refl)
+summaries_hold true body e = (refl, refl)
+summaries_hold true plain_body e = absurd (true≢false (sym e))
+summaries_hold true no_inner_attributes e = absurd (true≢false (sym e))
+summaries_hold true primary e = (refl, refl)
+summaries_hold true block_like e = (refl, refl)
+summaries_hold true if_expression e = (refl, refl)
+summaries_hold true loop_expression e = (refl, refl)
+summaries_hold true postfixes e = (refl, refl)
+summaries_hold true member e = absurd (true≢false (sym e))
+summaries_hold true unary e = (refl, refl)
+summaries_hold true casts e = (refl, refl)
+summaries_hold true cast e = (refl, refl)
+summaries_hold true products e = (refl, refl)
+summaries_hold true product e = (refl, refl)
+summaries_hold true sums e = (refl, refl)
+summaries_hold true sum e = (refl, refl)
+summaries_hold true shifts e = (refl, refl)
+summaries_hold true shift e = (refl, refl)
+summaries_hold true bit_ands e = (refl, refl)
+summaries_hold true bit_and e = (refl, refl)
+summaries_hold true bit_xors e = (refl, refl)
+summaries_hold true bit_xor e = (refl, refl)
+summaries_hold true bit_ors e = (refl, refl)
+summaries_hold true bit_or e = (refl, refl)
+summaries_hold true compared e = (refl, refl)
+summaries_hold true comparison e = (refl, refl)
+summaries_hold true conjunctions e = (refl, refl)
+summaries_hold true conjunction e = (refl, refl)
+summaries_hold true disjunctions e = (refl, refl)
+summaries_hold true disjunction e = (refl, refl)
+summaries_hold true assigned e = (refl, refl)
+summaries_hold true whole_expression e = (refl, refl)
+summaries_hold true operand_rest e = absurd (true≢false (sym e))
+summaries_hold true statements e = (refl, refl)
+summaries_hold true statement_rest e = (refl, refl)
+summaries_hold true after_block e = absurd (true≢false (sym e))
+summaries_hold true after_expression e = (refl, refl)
+summaries_hold true statement e = absurd (true≢false (sym e))
+summaries_hold true statement_end e = absurd (true≢false (sym e))
+summaries_hold true local e = (refl, refl)
 
 -- nothing that may not follow is the end
 pub ends_hold : (k : Rule) → clear (summary_of false k).shuns Ended ≡ true
@@ -654,3 +1204,53 @@ ends_hold enumeration_rest = refl
 ends_hold union_item = refl
 ends_hold union_item_rest = refl
 ends_hold derive_input = refl
+ends_hold expression_path = refl
+ends_hold expression_words = refl
+ends_hold qualified_expression_path = refl
+ends_hold path_as_expression = refl
+ends_hold macro_invocation = refl
+ends_hold pattern = refl
+ends_hold patterns = refl
+ends_hold expressions = refl
+ends_hold array_content = refl
+ends_hold block = refl
+ends_hold body = refl
+ends_hold plain_body = refl
+ends_hold no_inner_attributes = refl
+ends_hold primary = refl
+ends_hold block_like = refl
+ends_hold if_expression = refl
+ends_hold loop_expression = refl
+ends_hold postfixes = refl
+ends_hold member = refl
+ends_hold unary = refl
+ends_hold casts = refl
+ends_hold cast = refl
+ends_hold products = refl
+ends_hold product = refl
+ends_hold sums = refl
+ends_hold sum = refl
+ends_hold shifts = refl
+ends_hold shift = refl
+ends_hold bit_ands = refl
+ends_hold bit_and = refl
+ends_hold bit_xors = refl
+ends_hold bit_xor = refl
+ends_hold bit_ors = refl
+ends_hold bit_or = refl
+ends_hold compared = refl
+ends_hold comparison = refl
+ends_hold conjunctions = refl
+ends_hold conjunction = refl
+ends_hold disjunctions = refl
+ends_hold disjunction = refl
+ends_hold assigned = refl
+ends_hold whole_expression = refl
+ends_hold operand_rest = refl
+ends_hold statements = refl
+ends_hold statement_rest = refl
+ends_hold after_block = refl
+ends_hold after_expression = refl
+ends_hold statement = refl
+ends_hold statement_end = refl
+ends_hold local = refl

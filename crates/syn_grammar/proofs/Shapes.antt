@@ -2,7 +2,7 @@
 use Rattle.std.proofs.Common.{◌≡◌, ℕ, Bool, true, false, List, refl, sym, ap, ap₂, ◌∙◌}
 use Rattle.syn_grammar.specs.Tokens.{Span, Stream, end, ◌⧺◌, and, pick, Paren, Bracket}
 use Rattle.syn_grammar.specs.Shape.{Variant, Path, Struct, Binary, Assign, Cast, Verbatim, Macro, Shape, expr, operand, bracketed, behind_it, operator, dotted, fields, choice, chain, leading, labelled, attributed, listed, lone, said, said_macro, a_local, an_item, untagged}
-use Rattle.syn_grammar.specs.Grammar.{Syntax, Nothing, Mark, Both, Left, Right, Node, Case, Such, Group, Raw, Captured, Shaped, More, vacant, ends_brace, show, sort, behind, renew}
+use Rattle.syn_grammar.specs.Grammar.{Syntax, Nothing, Mark, Both, Left, Right, Node, Case, Such, Group, Raw, Captured, Shaped, Unshown, More, vacant, ends_brace, show, sort, behind, renew}
 use Rattle.syn_grammar.specs.Values.{no_attributes, new, core, variant_of, member_variant, literal_of, onto, chained, attributes_before, with_attributes, led, with_label, label, moved, sentence, alone, state, stated, no_statements, listing, going_on, go_on, in_list, separated, untag, shape}
 use Rattle.syn_grammar.proofs.Streams.{append_end, append_append}
 
@@ -12,6 +12,7 @@ pub record IsSum (M : Type 0) (op : M → M → M) (m : Syntax → M) : Type 0 w
   pub right : (s : Syntax) → m (Right s) ≡ m s
   pub node : (s : Syntax) → m (Node s) ≡ m s
   pub shaped : (j : Shape) (s : Syntax) → m (Shaped j s) ≡ m s
+  pub unshown : m (Unshown Nothing) ≡ m Nothing
   pub then_none : (s : Syntax) → op (m s) (m Nothing) ≡ m s
   pub none_then : (s : Syntax) → op (m Nothing) (m s) ≡ m s
   pub regrouped : (s t u : Syntax) → op (op (m s) (m t)) (m u) ≡ op (m s) (op (m t) (m u))
@@ -32,7 +33,7 @@ module _ {M : Type 0} {op : M → M → M} {m : Syntax → M} (law : IsSum M op 
   none_after s n e = law.both s n ∙ ap (op (m s)) e ∙ law.then_none s
 
   no_attributes_sum : m no_attributes ≡ m Nothing
-  no_attributes_sum = law.node (Right Nothing) ∙ law.right Nothing
+  no_attributes_sum = law.node (Right (Unshown Nothing)) ∙ law.right (Unshown Nothing) ∙ law.unshown
 
   new_sum : (v : Variant) (s : Syntax) → m (new v s) ≡ m s
   new_sum v s = law.shaped (expr v) (Both no_attributes s) ∙ none_before no_attributes s no_attributes_sum
@@ -62,12 +63,11 @@ module _ {M : Type 0} {op : M → M → M} {m : Syntax → M} (law : IsSum M op 
   onto_sum a l = law.shaped chain (Both a l)
 
   attributes_sum : (a b : Syntax) → m (attributes_before a b) ≡ m (Both a b)
-  attributes_sum (Node (Right Nothing)) b = sym (none_before no_attributes b no_attributes_sum)
-  attributes_sum (Node (Left (Both x (Both y k)))) b =
-      law.node (Left (Both x (Both y (attributes_before k b)))) ∙ law.left (Both x (Both y (attributes_before k b)))
-      ∙ pair x x (Both y (attributes_before k b)) (Both (Both y k) b) refl (pair y y (attributes_before k b) (Both k b) refl (attributes_sum k b) ∙ sym (regroup y k b))
-      ∙ sym (regroup x (Both y k) b)
-      ∙ pair (Both x (Both y k)) (Node (Left (Both x (Both y k)))) b b (sym (law.node (Left (Both x (Both y k))) ∙ law.left (Both x (Both y k)))) refl
+  attributes_sum (Node (Right (Unshown Nothing))) b = sym (none_before no_attributes b no_attributes_sum)
+  attributes_sum (Node (Left (Both x k))) b =
+      law.node (Left (Both x (attributes_before k b))) ∙ law.left (Both x (attributes_before k b))
+      ∙ pair x x (attributes_before k b) (Both k b) refl (attributes_sum k b) ∙ sym (regroup x k b)
+      ∙ pair (Both x k) (Node (Left (Both x k))) b b (sym (law.node (Left (Both x k)) ∙ law.left (Both x k))) refl
   attributes_sum a b = refl
 
   with_attributes_sum : (a s : Syntax) → m (with_attributes a s) ≡ m (Both a s)
@@ -77,7 +77,7 @@ module _ {M : Type 0} {op : M → M → M} {m : Syntax → M} (law : IsSum M op 
   with_attributes_sum a s = law.shaped leading (Both a s)
 
   with_label_sum : (a s : Syntax) → m (with_label a s) ≡ m (Both a s)
-  with_label_sum a (Shaped (expr v) (Both (Node (Right Nothing)) s)) = new_sum v (Both a s) ∙ pair a a s (new v s) refl (sym (new_sum v s))
+  with_label_sum a (Shaped (expr v) (Both (Node (Right (Unshown Nothing))) s)) = new_sum v (Both a s) ∙ pair a a s (new v s) refl (sym (new_sum v s))
   with_label_sum a s = law.shaped labelled (Both a s)
 
   -- under an operator
@@ -85,9 +85,9 @@ module _ {M : Type 0} {op : M → M → M} {m : Syntax → M} (law : IsSum M op 
   under_sum v a l n p e = new_sum v (Both n p) ∙ pair n (Both a l) p p e refl ∙ regroup a l p ∙ pair a a (Both l p) (new v (Both l p)) refl (sym (new_sum v (Both l p)))
 
   moved_sum : (a s : Syntax) → m (moved a s) ≡ m (Both a s)
-  moved_sum a (Shaped (expr Binary) (Both (Node (Right Nothing)) (Both l p))) = under_sum Binary a l (moved a l) p (moved_sum a l)
-  moved_sum a (Shaped (expr Assign) (Both (Node (Right Nothing)) (Both l p))) = under_sum Assign a l (moved a l) p (moved_sum a l)
-  moved_sum a (Shaped (expr Cast) (Both (Node (Right Nothing)) (Both l p))) = under_sum Cast a l (moved a l) p (moved_sum a l)
+  moved_sum a (Shaped (expr Binary) (Both (Node (Right (Unshown Nothing))) (Both l p))) = under_sum Binary a l (moved a l) p (moved_sum a l)
+  moved_sum a (Shaped (expr Assign) (Both (Node (Right (Unshown Nothing))) (Both l p))) = under_sum Assign a l (moved a l) p (moved_sum a l)
+  moved_sum a (Shaped (expr Cast) (Both (Node (Right (Unshown Nothing))) (Both l p))) = under_sum Cast a l (moved a l) p (moved_sum a l)
   moved_sum a s = with_attributes_sum a s
 
   sentence_sum : (b : Bool) (e k : Syntax) → m (sentence b e k) ≡ m (Both e k)
@@ -106,9 +106,11 @@ module _ {M : Type 0} {op : M → M → M} {m : Syntax → M} (law : IsSum M op 
 
   alone_sum : (b : Bool) (a e t : Syntax) → m (alone b a e t) ≡ m (Both (Both a e) t)
   alone_sum b a e (Mark xs) = placed b a e (Left (Mark xs)) (Mark xs) (law.left (Mark xs))
+  alone_sum b a e (Node t) = alone_sum b a e t ∙ pair (Both a e) (Both a e) t (Node t) refl (sym (law.node t))
   alone_sum b a e (Left k) = placed b a e (Left k) (Left k) refl
   alone_sum b a e (Right (Left (Both more t))) = alone_sum b a (onto e more) t ∙ chain_sum a e more t
   alone_sum b a e (Right (Right t)) = placed b a e (Right t) (Right (Right t)) (sym (law.right (Right t)))
+  alone_sum b a e (Right (Node t)) = alone_sum b a e t ∙ pair (Both a e) (Both a e) t (Right (Node t)) refl (sym (law.right (Node t) ∙ law.node t))
   alone_sum b a e t = placed b a e t t refl
 
   going_on_sum : (b : Bool) (a e t : Syntax) → m (going_on b a e t) ≡ m (Both (Both a e) t)
@@ -123,6 +125,10 @@ module _ {M : Type 0} {op : M → M → M} {m : Syntax → M} (law : IsSum M op 
       ∙ pair (sentence b (moved a e) (Right Nothing)) (Both (Both a e) (Right Nothing)) l l (placed b a e (Right Nothing) (Right Nothing) refl) refl
       ∙ regroup (Both a e) (Right Nothing) l
       ∙ pair (Both a e) (Both a e) (Both (Right Nothing) l) (Right (Right l)) refl (none_before (Right Nothing) l (law.right Nothing) ∙ sym (law.right (Right l) ∙ law.right l))
+  going_on_sum b a e (Right (Left Nothing)) =
+      law.shaped listed (Both (sentence b (moved a e) (Right Nothing)) no_statements) ∙ none_after (sentence b (moved a e) (Right Nothing)) no_statements (law.node (Left Nothing) ∙ law.left Nothing)
+      ∙ placed b a e (Right Nothing) (Right (Left Nothing)) (law.right Nothing ∙ sym (law.right (Left Nothing) ∙ law.left Nothing))
+  going_on_sum b a e (Right (Node t)) = going_on_sum b a e t ∙ pair (Both a e) (Both a e) t (Right (Node t)) refl (sym (law.right (Node t) ∙ law.node t))
   going_on_sum b a e t =
       law.shaped listed (Both (sentence b (moved a e) t) no_statements) ∙ none_after (sentence b (moved a e) t) no_statements (law.node (Left Nothing) ∙ law.left Nothing) ∙ placed b a e t t refl
 
@@ -209,6 +215,7 @@ show_sum = record {
   right = λ s. refl;
   node = λ s. refl;
   shaped = λ j s. refl;
+  unshown = refl;
   then_none = λ s. append_end (show s);
   none_then = λ s. refl;
   regrouped = λ s t u. append_append (show s) (show t) (show u);
@@ -246,6 +253,7 @@ ends_sum = record {
   right = λ s. refl;
   node = λ s. refl;
   shaped = λ j s. refl;
+  unshown = refl;
   then_none = λ s. ap (λ v. (v, ends_brace s)) (and_true (vacant s));
   none_then = λ s. ap (λ v. (vacant s, v)) (none (vacant s) (ends_brace s) (vacant_ends s));
   regrouped = λ s t u. group (vacant s) (vacant t) (vacant u) (ends_brace s) (ends_brace t) (ends_brace u);
@@ -309,8 +317,8 @@ onto_renew a (Shaped _ p) = refl
 onto_renew a _ = refl
 
 attributes_renew : (a b : Syntax) → renew (attributes_before a b) ≡ attributes_before (renew a) (renew b)
-attributes_renew (Node (Right Nothing)) b = refl
-attributes_renew (Node (Left (Both x (Both y k)))) b = ap (λ z. Node (Left (Both (renew x) (Both (renew y) z)))) (attributes_renew k b)
+attributes_renew (Node (Right (Unshown Nothing))) b = refl
+attributes_renew (Node (Left (Both x k))) b = ap (λ z. Node (Left (Both (renew x) z))) (attributes_renew k b)
 attributes_renew _ b = refl
 
 with_attributes_renew : (a s : Syntax) → renew (with_attributes a s) ≡ with_attributes (renew a) (renew s)
@@ -318,13 +326,13 @@ with_attributes_renew a (Shaped (expr v) (Both b s)) = ap (λ z. Shaped (expr v)
 with_attributes_renew a _ = refl
 
 with_label_renew : (a s : Syntax) → renew (with_label a s) ≡ with_label (renew a) (renew s)
-with_label_renew a (Shaped (expr v) (Both (Node (Right Nothing)) s)) = refl
+with_label_renew a (Shaped (expr v) (Both (Node (Right (Unshown Nothing))) s)) = refl
 with_label_renew a _ = refl
 
 moved_renew : (a s : Syntax) → renew (moved a s) ≡ moved (renew a) (renew s)
-moved_renew a (Shaped (expr Binary) (Both (Node (Right Nothing)) (Both l p))) = ap (λ z. new Binary (Both z (renew p))) (moved_renew a l)
-moved_renew a (Shaped (expr Assign) (Both (Node (Right Nothing)) (Both l p))) = ap (λ z. new Assign (Both z (renew p))) (moved_renew a l)
-moved_renew a (Shaped (expr Cast) (Both (Node (Right Nothing)) (Both l p))) = ap (λ z. new Cast (Both z (renew p))) (moved_renew a l)
+moved_renew a (Shaped (expr Binary) (Both (Node (Right (Unshown Nothing))) (Both l p))) = ap (λ z. new Binary (Both z (renew p))) (moved_renew a l)
+moved_renew a (Shaped (expr Assign) (Both (Node (Right (Unshown Nothing))) (Both l p))) = ap (λ z. new Assign (Both z (renew p))) (moved_renew a l)
+moved_renew a (Shaped (expr Cast) (Both (Node (Right (Unshown Nothing))) (Both l p))) = ap (λ z. new Cast (Both z (renew p))) (moved_renew a l)
 moved_renew a s = with_attributes_renew a s
 
 sentence_renew : (b : Bool) (e k : Syntax) → renew (sentence b e k) ≡ sentence b (renew e) (renew k)
@@ -337,9 +345,11 @@ moved_sentence b a e k = sentence_renew b (moved a e) k ∙ ap (λ z. sentence b
 
 alone_renew : (b : Bool) (a e t : Syntax) → renew (alone b a e t) ≡ alone b (renew a) (renew e) (renew t)
 alone_renew b a e (Mark xs) = moved_sentence b a e (Left (Mark xs))
+alone_renew b a e (Node t) = alone_renew b a e t
 alone_renew b a e (Left k) = moved_sentence b a e (Left k)
 alone_renew b a e (Right (Left (Both more t))) = alone_renew b a (onto e more) t ∙ ap (λ z. alone b (renew a) z (renew t)) (onto_renew e more)
 alone_renew b a e (Right (Right t)) = moved_sentence b a e (Right t)
+alone_renew b a e (Right (Node t)) = alone_renew b a e t
 alone_renew b a e t = moved_sentence b a e t
 
 going_on_renew : (b : Bool) (a e t : Syntax) → renew (going_on b a e t) ≡ going_on b (renew a) (renew e) (renew t)
@@ -347,6 +357,8 @@ going_on_renew b a e (Node t) = going_on_renew b a e t
 going_on_renew b a e (Left (Both k l)) = ap (λ z. listing z (renew l)) (moved_sentence b a e (Left k))
 going_on_renew b a e (Right (Left (Both more t))) = going_on_renew b a (onto e more) t ∙ ap (λ z. going_on b (renew a) z (renew t)) (onto_renew e more)
 going_on_renew b a e (Right (Right l)) = ap (λ z. listing z (renew l)) (moved_sentence b a e (Right Nothing))
+going_on_renew b a e (Right (Left Nothing)) = ap (λ z. listing z no_statements) (moved_sentence b a e (Right Nothing))
+going_on_renew b a e (Right (Node t)) = going_on_renew b a e t
 going_on_renew b a e t = ap (λ z. listing z no_statements) (moved_sentence b a e t)
 
 state_renew : (a s : Syntax) → renew (state a s) ≡ state (renew a) (renew s)
@@ -407,7 +419,7 @@ with_attributes_shaped a (Shaped (expr v) (Both b s)) = (_, _, refl)
 with_attributes_shaped a s = (leading, Both a s, refl)
 
 with_label_shaped : (a s : Syntax) → IsShaped (with_label a s)
-with_label_shaped a (Shaped (expr v) (Both (Node (Right Nothing)) s)) = (_, _, refl)
+with_label_shaped a (Shaped (expr v) (Both (Node (Right (Unshown Nothing))) s)) = (_, _, refl)
 with_label_shaped a s = (labelled, Both a s, refl)
 
 sentence_shaped : (b : Bool) (e k : Syntax) → IsShaped (sentence b e k)
@@ -417,9 +429,11 @@ sentence_shaped b e k = (said, Both e k, refl)
 
 alone_shaped : (b : Bool) (a e t : Syntax) → IsShaped (alone b a e t)
 alone_shaped b a e (Mark xs) = sentence_shaped b (moved a e) (Left (Mark xs))
+alone_shaped b a e (Node t) = alone_shaped b a e t
 alone_shaped b a e (Left k) = sentence_shaped b (moved a e) (Left k)
 alone_shaped b a e (Right (Left (Both more t))) = alone_shaped b a (onto e more) t
 alone_shaped b a e (Right (Right t)) = sentence_shaped b (moved a e) (Right t)
+alone_shaped b a e (Right (Node t)) = alone_shaped b a e t
 alone_shaped b a e t = sentence_shaped b (moved a e) t
 
 going_on_shaped : (b : Bool) (a e t : Syntax) → IsShaped (going_on b a e t)
@@ -427,6 +441,8 @@ going_on_shaped b a e (Node t) = going_on_shaped b a e t
 going_on_shaped b a e (Left (Both k l)) = (_, _, refl)
 going_on_shaped b a e (Right (Left (Both more t))) = going_on_shaped b a (onto e more) t
 going_on_shaped b a e (Right (Right l)) = (_, _, refl)
+going_on_shaped b a e (Right (Left Nothing)) = (_, _, refl)
+going_on_shaped b a e (Right (Node t)) = going_on_shaped b a e t
 going_on_shaped b a e t = (listed, Both (sentence b (moved a e) t) no_statements, refl)
 
 state_shaped : (a s : Syntax) → IsShaped (state a s)

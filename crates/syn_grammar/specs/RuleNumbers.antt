@@ -1,7 +1,7 @@
 -- Written by tools/grammar.py from specs/Table.antt; edits are lost.
 -- Rules are told apart by their numbers.
 use Rattle.std.specs.Prelude.{◌≡◌, ℕ, zero, suc, Bool, List, [], ◌∷◌, nat_eq, refl}
-use Rattle.syn_grammar.specs.Rules.{Rule, attributes, inner_attributes, no_attributes, meta, unsafe_path, unsafe_word, meta_value, module_path, module_words, visibility, restriction, type_path, type_words, type_arguments, return_type, generic_arguments, generic_argument, qualified_path, path_as_type, type, types, expression, generics, lifetime_parameter, lifetimes, parameter_bounds, bound, trait_bound, bound_lifetimes, lifetime_parameters, where_clause, predicates, predicate, predicate_bounds, fields_named, named_fields, named_field, nameless_fields, unnamed_field, unnamed_fields, fields_unnamed, variant, variants, structure, structure_rest, structure_body, enumeration, enumeration_rest, union_item, union_item_rest, derive_input}
+use Rattle.syn_grammar.specs.Rules.{Rule, attributes, inner_attributes, no_attributes, meta, unsafe_path, unsafe_word, meta_value, module_path, module_words, visibility, restriction, type_path, type_words, type_arguments, return_type, generic_arguments, generic_argument, qualified_path, path_as_type, type, types, expression, generics, lifetime_parameter, lifetimes, parameter_bounds, bound, trait_bound, bound_lifetimes, lifetime_parameters, where_clause, predicates, predicate, predicate_bounds, fields_named, named_fields, named_field, nameless_fields, unnamed_field, unnamed_fields, fields_unnamed, variant, variants, structure, structure_rest, structure_body, enumeration, enumeration_rest, union_item, union_item_rest, derive_input, expression_path, expression_words, qualified_expression_path, path_as_expression, macro_invocation, pattern, patterns, expressions, array_content, block, body, plain_body, no_inner_attributes, primary, block_like, if_expression, loop_expression, postfixes, member, unary, casts, cast, products, product, sums, sum, shifts, shift, bit_ands, bit_and, bit_xors, bit_xor, bit_ors, bit_or, compared, comparison, conjunctions, conjunction, disjunctions, disjunction, assigned, whole_expression, operand_rest, statements, statement_rest, after_block, after_expression, statement, statement_end, local}
 
 abbrev pub place : Rule → ℕ
 place attributes = 0
@@ -55,12 +55,62 @@ place enumeration_rest = 47
 place union_item = 48
 place union_item_rest = 49
 place derive_input = 50
+place expression_path = 51
+place expression_words = 52
+place qualified_expression_path = 53
+place path_as_expression = 54
+place macro_invocation = 55
+place pattern = 56
+place patterns = 57
+place expressions = 58
+place array_content = 59
+place block = 60
+place body = 61
+place plain_body = 62
+place no_inner_attributes = 63
+place primary = 64
+place block_like = 65
+place if_expression = 66
+place loop_expression = 67
+place postfixes = 68
+place member = 69
+place unary = 70
+place casts = 71
+place cast = 72
+place products = 73
+place product = 74
+place sums = 75
+place sum = 76
+place shifts = 77
+place shift = 78
+place bit_ands = 79
+place bit_and = 80
+place bit_xors = 81
+place bit_xor = 82
+place bit_ors = 83
+place bit_or = 84
+place compared = 85
+place comparison = 86
+place conjunctions = 87
+place conjunction = 88
+place disjunctions = 89
+place disjunction = 90
+place assigned = 91
+place whole_expression = 92
+place operand_rest = 93
+place statements = 94
+place statement_rest = 95
+place after_block = 96
+place after_expression = 97
+place statement = 98
+place statement_end = 99
+place local = 100
 
 abbrev pub same_rule : Rule → Rule → Bool
 same_rule a b = nat_eq (place a) (place b)
 
 abbrev pub rules : List Rule
-rules = attributes ∷ inner_attributes ∷ no_attributes ∷ meta ∷ unsafe_path ∷ unsafe_word ∷ meta_value ∷ module_path ∷ module_words ∷ visibility ∷ restriction ∷ type_path ∷ type_words ∷ type_arguments ∷ return_type ∷ generic_arguments ∷ generic_argument ∷ qualified_path ∷ path_as_type ∷ type ∷ types ∷ expression ∷ generics ∷ lifetime_parameter ∷ lifetimes ∷ parameter_bounds ∷ bound ∷ trait_bound ∷ bound_lifetimes ∷ lifetime_parameters ∷ where_clause ∷ predicates ∷ predicate ∷ predicate_bounds ∷ fields_named ∷ named_fields ∷ named_field ∷ nameless_fields ∷ unnamed_field ∷ unnamed_fields ∷ fields_unnamed ∷ variant ∷ variants ∷ structure ∷ structure_rest ∷ structure_body ∷ enumeration ∷ enumeration_rest ∷ union_item ∷ union_item_rest ∷ derive_input ∷ []
+rules = attributes ∷ inner_attributes ∷ no_attributes ∷ meta ∷ unsafe_path ∷ unsafe_word ∷ meta_value ∷ module_path ∷ module_words ∷ visibility ∷ restriction ∷ type_path ∷ type_words ∷ type_arguments ∷ return_type ∷ generic_arguments ∷ generic_argument ∷ qualified_path ∷ path_as_type ∷ type ∷ types ∷ expression ∷ generics ∷ lifetime_parameter ∷ lifetimes ∷ parameter_bounds ∷ bound ∷ trait_bound ∷ bound_lifetimes ∷ lifetime_parameters ∷ where_clause ∷ predicates ∷ predicate ∷ predicate_bounds ∷ fields_named ∷ named_fields ∷ named_field ∷ nameless_fields ∷ unnamed_field ∷ unnamed_fields ∷ fields_unnamed ∷ variant ∷ variants ∷ structure ∷ structure_rest ∷ structure_body ∷ enumeration ∷ enumeration_rest ∷ union_item ∷ union_item_rest ∷ derive_input ∷ expression_path ∷ expression_words ∷ qualified_expression_path ∷ path_as_expression ∷ macro_invocation ∷ pattern ∷ patterns ∷ expressions ∷ array_content ∷ block ∷ body ∷ plain_body ∷ no_inner_attributes ∷ primary ∷ block_like ∷ if_expression ∷ loop_expression ∷ postfixes ∷ member ∷ unary ∷ casts ∷ cast ∷ products ∷ product ∷ sums ∷ sum ∷ shifts ∷ shift ∷ bit_ands ∷ bit_and ∷ bit_xors ∷ bit_xor ∷ bit_ors ∷ bit_or ∷ compared ∷ comparison ∷ conjunctions ∷ conjunction ∷ disjunctions ∷ disjunction ∷ assigned ∷ whole_expression ∷ operand_rest ∷ statements ∷ statement_rest ∷ after_block ∷ after_expression ∷ statement ∷ statement_end ∷ local ∷ []
 
 abbrev pub at_place : List Rule → ℕ → Rule
 at_place [] n = attributes
@@ -120,3 +170,53 @@ back enumeration_rest = refl
 back union_item = refl
 back union_item_rest = refl
 back derive_input = refl
+back expression_path = refl
+back expression_words = refl
+back qualified_expression_path = refl
+back path_as_expression = refl
+back macro_invocation = refl
+back pattern = refl
+back patterns = refl
+back expressions = refl
+back array_content = refl
+back block = refl
+back body = refl
+back plain_body = refl
+back no_inner_attributes = refl
+back primary = refl
+back block_like = refl
+back if_expression = refl
+back loop_expression = refl
+back postfixes = refl
+back member = refl
+back unary = refl
+back casts = refl
+back cast = refl
+back products = refl
+back product = refl
+back sums = refl
+back sum = refl
+back shifts = refl
+back shift = refl
+back bit_ands = refl
+back bit_and = refl
+back bit_xors = refl
+back bit_xor = refl
+back bit_ors = refl
+back bit_or = refl
+back compared = refl
+back comparison = refl
+back conjunctions = refl
+back conjunction = refl
+back disjunctions = refl
+back disjunction = refl
+back assigned = refl
+back whole_expression = refl
+back operand_rest = refl
+back statements = refl
+back statement_rest = refl
+back after_block = refl
+back after_expression = refl
+back statement = refl
+back statement_end = refl
+back local = refl

@@ -1,4 +1,4 @@
--- HOW THE VALUE OF A FORM IS BUILT: the names of the shapes (specs/Values.antt says what they do). No rule of this table has one.
+-- HOW THE VALUE OF A FORM IS BUILT: the names of the shapes (specs/Values.antt says what they do).
 use Rattle.std.specs.Prelude.{◌≡◌, ℕ, zero, suc, ◌==◌, Bool, List, [], ◌∷◌, nat_eq, cond, refl}
 use Rattle.std.proofs.Common.{ap}
 use Rattle.syn_grammar.specs.Tokens.{and}

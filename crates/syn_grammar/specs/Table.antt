@@ -4,11 +4,11 @@
 -- and writes the files that tell the rules by name and what the proofs need to know of each. docs/GRAMMAR.md says how to read it.
 -- A comment directly above a look or a rule says it in words.
 use Rattle.std.specs.Prelude.{true, false, [], ◌∷◌}
-use Rattle.syn_grammar.specs.Words.{w_underscore, w_as, w_const, w_crate, w_enum, w_false, w_for, w_in, w_mut, w_pub, w_Self_type, w_self, w_struct, w_super, w_true, w_unsafe, w_where, w_union, comma, semicolon, colon, equals, plus, star, less, greater, pound, ampersand, question, exclamation, colons, arrow, less_equals}
-use Rattle.syn_grammar.specs.Tokens.{Paren, Brace, Bracket, None, Str, ByteStr, CStr, Byte, Char, Int, Float, Before_equals, Before_less, Before_bang, Lone_word, Begins_in, Before_brace, Look, ended, at_name, at_word, at_mark, at_literal, at_group, at_empty_group, ahead, ◌or_else◌, ◌and_also◌, ◌but_not◌, at_lifetime}
-use Rattle.syn_grammar.specs.Rules.{Rule, attributes, inner_attributes, no_attributes, meta, unsafe_path, unsafe_word, meta_value, module_path, module_words, visibility, restriction, type_path, type_words, type_arguments, return_type, generic_arguments, generic_argument, qualified_path, path_as_type, type, types, expression, generics, lifetime_parameter, lifetimes, parameter_bounds, bound, trait_bound, bound_lifetimes, lifetime_parameters, where_clause, predicates, predicate, predicate_bounds, fields_named, named_fields, named_field, nameless_fields, unnamed_field, unnamed_fields, fields_unnamed, variant, variants, structure, structure_rest, structure_body, enumeration, enumeration_rest, union_item, union_item_rest, derive_input}
-use Rattle.syn_grammar.specs.Shape.{untagged}
-use Rattle.syn_grammar.specs.Grammar.{name, word, name_or, any_literal, Grammar, empty, lifetime, ◌&◌, when◌then◌else◌, vanishing, inside, raw, rest_after, one_of, rule, shaped, captured, unshown, ordered}
+use Rattle.syn_grammar.specs.Words.{w_underscore, w_as, w_break, w_const, w_continue, w_crate, w_else, w_enum, w_false, w_for, w_if, w_in, w_let, w_loop, w_mut, w_pub, w_ref, w_return, w_Self_type, w_self, w_struct, w_super, w_true, w_unsafe, w_where, w_while, w_union, comma, semicolon, colon, equals, plus, star, less, greater, pound, ampersand, question, exclamation, minus, dot, colons, arrow, equal_equal, not_equals, less_less, less_equals, bar, slash, percent, and_and, or_or, greater_greater, greater_equals, plus_equals, minus_equals, star_equals, slash_equals, percent_equals, caret_equals, ampersand_equals, bar_equals, less_less_equals, greater_greater_equals, dots, caret}
+use Rattle.syn_grammar.specs.Tokens.{Paren, Brace, Bracket, None, Str, ByteStr, CStr, Byte, Char, Int, Float, Before_equals, Before_colons, Before_paren, Before_less, Before_bang, Bang_brace, Before_macro, Lone_word, Begins_in, Before_brace, Look, ended, at_name, at_word, at_mark, at_literal, at_group, at_empty_group, ahead, ◌or_else◌, ◌and_also◌, ◌but_not◌, at_lifetime, at_path_word}
+use Rattle.syn_grammar.specs.Rules.{Rule, attributes, inner_attributes, no_attributes, meta, unsafe_path, unsafe_word, meta_value, module_path, module_words, visibility, restriction, type_path, type_words, type_arguments, return_type, generic_arguments, generic_argument, qualified_path, path_as_type, type, types, expression, generics, lifetime_parameter, lifetimes, parameter_bounds, bound, trait_bound, bound_lifetimes, lifetime_parameters, where_clause, predicates, predicate, predicate_bounds, fields_named, named_fields, named_field, nameless_fields, unnamed_field, unnamed_fields, fields_unnamed, variant, variants, structure, structure_rest, structure_body, enumeration, enumeration_rest, union_item, union_item_rest, derive_input, expression_path, expression_words, qualified_expression_path, path_as_expression, macro_invocation, pattern, patterns, expressions, array_content, block, body, plain_body, no_inner_attributes, primary, block_like, if_expression, loop_expression, postfixes, member, unary, casts, cast, products, product, sums, sum, shifts, shift, bit_ands, bit_and, bit_xors, bit_xor, bit_ors, bit_or, compared, comparison, conjunctions, conjunction, disjunctions, disjunction, assigned, whole_expression, operand_rest, statements, statement_rest, after_block, after_expression, statement, statement_end, local}
+use Rattle.syn_grammar.specs.Shape.{Assign, Binary, Block, Break, Call, Cast, Continue, ForLoop, Grouped, If, Index, Lit, Loop, Macro, Path, Reference, Return, Try, Unary, Unsafe, While, operand, bracketed, behind_it, operator, dotted, choice, chain, leading, labelled, attributed, listed, lone, said, said_macro, a_local, untagged}
+use Rattle.syn_grammar.specs.Grammar.{name, word, name_or, index, any_literal, trailing_brace, no_trailing_brace, Grammar, empty, lifetime, ◌&◌, when◌then◌else◌, vanishing, inside, raw, rest_after, either, one_of, rule, such, shaped, captured, unshown, ordered}
 use Rattle.syn_grammar.specs.Forms.{plainly, telling, asking, punctuation, asking_punctuation, never, optional}
 
 -- LOOKS: conditions on what stands next
@@ -137,6 +137,121 @@ at_parameter_end = at_comma or_else at_greater or_else at_equals
 abbrev pub at_predicate_end : Look
 at_predicate_end = ended or_else at_brace or_else at_comma or_else at_semicolon or_else at_equals or_else at_lone_colon
 
+-- LOOKS of patterns, expressions and statements
+
+-- The mark `!` stands next, and not `!=`.
+abbrev pub at_bang : Look
+at_bang = at_mark exclamation but_not at_mark not_equals
+
+-- The mark `.` stands next, and not `..`.
+abbrev pub at_dot : Look
+at_dot = at_mark dot but_not at_mark dots
+
+-- The character `-` stands next, alone or as the beginning of a longer mark.
+abbrev pub at_minus : Look
+at_minus = at_mark minus
+
+-- What goes on an expression that was read whole stands next: `?`, or a `.` that isn't `..`.
+abbrev pub at_postfix_mark : Look
+at_postfix_mark = at_question or_else at_dot
+
+-- Arguments of a word in an expression's path stand next: `::` with `<` behind it.
+abbrev pub at_turbofish : Look
+at_turbofish = at_colons and_also ahead Before_less
+
+-- A path in module style stands next, or its `::`.
+abbrev pub at_module_path : Look
+at_module_path = at_path_word or_else at_colons
+
+-- A macro stands next: a path in module style, and a `!` that isn't `!=`.
+abbrev pub at_macro : Look
+at_macro = at_module_path and_also ahead Before_macro
+
+-- A macro with a group in braces stands next.
+abbrev pub at_brace_macro : Look
+at_brace_macro = at_module_path and_also ahead Bang_brace
+
+-- What any expression may begin with stands next.
+abbrev pub at_whole_expression : Look
+at_whole_expression = at_any_literal or_else at_word w_true or_else at_word w_false or_else at_path_word or_else at_colons or_else at_less or_else at_word w_if or_else at_word w_loop or_else at_word w_while or_else at_word w_for or_else at_word w_unsafe or_else at_word w_return or_else at_word w_break or_else at_word w_continue or_else at_paren or_else at_bracket or_else at_brace or_else at_minus or_else at_exclamation or_else at_star or_else at_ampersand or_else at_pound or_else at_lifetime
+
+-- A path stands next where a pattern may stand: `::`, `<`, `Self`, `super`, `crate`, `self` before `::`, or an identifier that isn't a
+-- keyword before `::` or a group in parentheses.
+abbrev pub at_pattern_path : Look
+at_pattern_path = at_colons or_else at_less or_else at_word w_Self_type or_else at_word w_super or_else at_word w_crate or_else (at_word w_self and_also ahead Before_colons) or_else (at_name and_also (ahead Before_colons or_else ahead Before_paren))
+
+-- `ref` or `mut` stands next.
+abbrev pub at_binding_word : Look
+at_binding_word = at_word w_ref or_else at_word w_mut
+
+-- An expression stands next that may be a statement without a semicolon: a block, a label, `if`, `while`, `for`, `loop` or `unsafe`.
+abbrev pub at_block_like : Look
+at_block_like = at_brace or_else at_lifetime or_else at_word w_if or_else at_word w_while or_else at_word w_for or_else at_word w_loop or_else at_word w_unsafe
+
+-- What never stands behind a whole expression stands next: a postfix, or a comparison.
+abbrev pub at_unfinished : Look
+at_unfinished = at_paren or_else at_bracket or_else at_question or_else at_dot or_else at_mark equal_equal or_else at_mark not_equals or_else at_less or_else at_greater
+
+-- `crate` stands next, and `::` doesn't follow it: as a statement it begins an item.
+abbrev pub at_lone_crate : Look
+at_lone_crate = at_word w_crate but_not ahead Before_colons
+
+-- `crate` stands next as the whole path of a macro with a group in braces.
+abbrev pub at_crate_macro : Look
+at_crate_macro = at_lone_crate and_also ahead Bang_brace
+
+-- The operator `*` stands next, and not `*=`.
+abbrev pub at_star_operator : Look
+at_star_operator = at_mark star but_not at_mark star_equals
+
+-- The operator `/` stands next, and not `/=`.
+abbrev pub at_slash_operator : Look
+at_slash_operator = at_mark slash but_not at_mark slash_equals
+
+-- The operator `%` stands next, and not `%=`.
+abbrev pub at_percent_operator : Look
+at_percent_operator = at_mark percent but_not at_mark percent_equals
+
+-- The operator `+` stands next, and not `+=`.
+abbrev pub at_plus_operator : Look
+at_plus_operator = at_mark plus but_not at_mark plus_equals
+
+-- The operator `-` stands next, and not `-=`.
+abbrev pub at_minus_operator : Look
+at_minus_operator = at_mark minus but_not at_mark minus_equals
+
+-- The operator `<<` stands next, and not `<<=`.
+abbrev pub at_less_less_operator : Look
+at_less_less_operator = at_mark less_less but_not at_mark less_less_equals
+
+-- The operator `>>` stands next, and not `>>=`.
+abbrev pub at_greater_greater_operator : Look
+at_greater_greater_operator = at_mark greater_greater but_not at_mark greater_greater_equals
+
+-- The operator `&` stands next, and neither `&&` nor `&=`.
+abbrev pub at_ampersand_operator : Look
+at_ampersand_operator = at_mark ampersand but_not (at_mark and_and or_else at_mark ampersand_equals)
+
+-- The operator `^` stands next, and not `^=`.
+abbrev pub at_caret_operator : Look
+at_caret_operator = at_mark caret but_not at_mark caret_equals
+
+-- The operator `|` stands next, and neither `||` nor `|=`.
+abbrev pub at_bar_operator : Look
+at_bar_operator = at_mark bar but_not (at_mark or_or or_else at_mark bar_equals)
+
+-- The operator `<` stands next, and neither `<=` nor `<<`.
+abbrev pub at_less_operator : Look
+at_less_operator = at_mark less but_not (at_mark less_equals or_else at_mark less_less)
+
+-- The operator `>` stands next, and neither `>=` nor `>>`.
+abbrev pub at_greater_operator : Look
+at_greater_operator = at_mark greater but_not (at_mark greater_equals or_else at_mark greater_greater)
+
+-- The operator `=` stands next, and not `==`.
+abbrev pub at_equals_operator : Look
+at_equals_operator = at_mark equals but_not at_mark equal_equal
+
 -- FORMS that stand in several rules
 
 -- The type of a field that is named `_`: `struct`, or `union` where braces follow it, with fields in braces; or a type.
@@ -155,6 +270,14 @@ parameter =
     & (when at_word w_const then plainly (word w_const) & plainly name & punctuation colon & rule type & (when at_equals then punctuation equals & rule expression else empty)
     else plainly name & vanishing false at_colon (punctuation colon & rule parameter_bounds) & (when at_equals then punctuation equals & rule type else empty))
 
+-- Nothing where `else` and a block might stand.
+abbrev pub no_else : Grammar
+no_else = shaped untagged empty
+
+-- A block behind `else`, as an expression: no label stands before it, and no inner attributes stand in it.
+abbrev pub else_block : Grammar
+else_block = shaped (operand Block) ((when at_lifetime then never else empty) & rule plain_body)
+
 -- RULES
 
 abbrev pub table : Rule → Grammar
@@ -162,7 +285,7 @@ abbrev pub table : Rule → Grammar
 -- Outer attributes: as long as `#` stands next, `#` and a group in brackets with an attribute's meta.
 -- Inner attributes that a tree made by hand holds at a node without a place for them are not printed.
 table attributes =
-    when at_pound then (punctuation pound & inside Bracket (rule meta)) & rule attributes
+    when at_pound then (asking_punctuation pound & inside Bracket (rule meta)) & rule attributes
     else unshown
 --
 -- Inner attributes: as long as `#` stands next and `!` behind it, these and a group in brackets with an attribute's meta.
@@ -463,3 +586,322 @@ table union_item_rest =
 -- The input of a derive: a struct, an enum or a union.
 table derive_input =
     one_of (structure ∷ enumeration ∷ union_item ∷ [])
+--
+-- A path in an expression or a pattern: `::` where it stands next, and then its words.
+table expression_path =
+    (when at_colons then asking_punctuation colons else empty)
+    & rule expression_words
+--
+-- The words of a path in an expression or a pattern: each an identifier that isn't a keyword, or `Self`, with its arguments where `::` and
+-- `<` stand next; or `self`, `super` or `crate`; and where `::` stands next, that mark and more words.
+table expression_words =
+    shaped untagged (when at_named_word then asking (name_or (w_Self_type ∷ [])) & shaped untagged (when at_turbofish then rule type_arguments else empty)
+    else asking (name_or (w_self ∷ w_super ∷ w_crate ∷ [])) & no_arguments)
+    & (when at_colons then asking_punctuation colons & rule expression_words else empty)
+--
+-- A qualified path in an expression or a pattern: a type in `< >`, with `as` and a path behind it or without them; then `::` and words.
+-- An `as` that a tree made by hand holds without a path is not printed.
+table qualified_expression_path =
+    punctuation less
+    & rule type
+    & (when at_word w_as then plainly (word w_as) & rule type_path else unshown)
+    & punctuation greater
+    & punctuation colons
+    & rule expression_words
+--
+-- A path as an expression: a qualified path where `<` stands next, or a path.
+table path_as_expression =
+    when at_less then rule qualified_expression_path
+    else rule expression_path
+--
+-- A macro: a path in module style, `!` that isn't `!=`, and a group of any content.
+table macro_invocation =
+    rule module_path
+    & (when at_bang then asking_punctuation exclamation else never)
+    & (when at_paren then raw Paren else when at_bracket then raw Bracket else raw Brace)
+--
+-- A pattern: `_`; a tuple or a pattern in parentheses; a path, qualified or not, with patterns in parentheses behind it or without them;
+-- or a name, with `ref` or `mut` or both before it or without them, behind which no `::` stands.
+table pattern =
+    when at_word w_underscore then plainly (word w_underscore)
+    else when at_paren then inside Paren (rule patterns)
+    else when at_pattern_path then rule path_as_expression & (when at_paren then inside Paren (rule patterns) else empty)
+    else when at_binding_word then optional w_ref & optional w_mut & plainly name
+    else asking name & (when at_colons then never else empty)
+--
+-- Patterns, separated by commas; the last comma may stand or not.
+table patterns =
+    when ended then empty
+    else rule pattern & (when at_comma then punctuation comma & rule patterns else empty)
+--
+-- Expressions, separated by commas; the last comma may stand or not.
+table expressions =
+    when ended then empty
+    else rule whole_expression & (when at_comma then punctuation comma & rule expressions else empty)
+--
+-- What the brackets of an array hold: nothing; an expression, `;` and the number of its copies; or expressions, separated by commas, of which
+-- the last comma may stand or not.
+table array_content =
+    when ended then empty
+    else rule whole_expression & (when at_semicolon then punctuation semicolon & rule whole_expression else when at_comma then punctuation comma & rule expressions else empty)
+--
+-- A block without inner attributes: statements in braces.
+table block =
+    inside Brace (rule statements)
+--
+-- A block: inner attributes and statements, in braces.
+table body =
+    inside Brace (rule inner_attributes & rule statements)
+--
+-- A block where inner attributes aren't read; those that a tree made by hand holds are printed.
+table plain_body =
+    inside Brace (rule no_inner_attributes & rule statements)
+--
+-- No inner attributes: `#` must not stand next with `!` behind it. Inner attributes that a tree made by hand holds are printed.
+table no_inner_attributes =
+    when at_inner_attribute then never
+    else unshown
+--
+-- An expression without attributes, signs before it and what goes on it: a literal, a macro, a group in parentheses or brackets, an
+-- invisible group that holds an expression, a block or what ends with one, `return` with an expression or without it, `break` or `continue`
+-- with a lifetime or without it, or a path. Behind `break` and its lifetime nothing stands that an expression may begin with.
+table primary =
+    shaped choice (when at_word w_true then shaped (operand Lit) (plainly (word w_true))
+    else when at_word w_false then shaped (operand Lit) (plainly (word w_false))
+    else when at_any_literal then shaped (operand Lit) (plainly any_literal)
+    else when at_macro then shaped (operand Macro) (rule macro_invocation)
+    else when at_paren then shaped bracketed (inside Paren (rule expressions))
+    else when at_bracket then shaped bracketed (inside Bracket (rule array_content))
+    else when at_invisible then shaped (operand Grouped) (inside None (rule whole_expression))
+    else when at_block_like then rule block_like
+    else when at_word w_return then shaped (operand Return) (plainly (word w_return) & (when at_whole_expression then rule whole_expression else empty))
+    else when at_word w_break then shaped (operand Break) (plainly (word w_break) & (when at_lifetime then lifetime else empty) & (when at_whole_expression then never else empty))
+    else when at_word w_continue then shaped (operand Continue) (plainly (word w_continue) & (when at_lifetime then lifetime else empty))
+    else shaped (operand Path) (rule path_as_expression))
+--
+-- A block, or what ends with one: `if`, an `unsafe` block, or a block or a loop with a label or without it.
+table block_like =
+    shaped choice (when at_word w_if then rule if_expression
+    else when at_word w_unsafe then shaped (operand Unsafe) (plainly (word w_unsafe) & rule body)
+    else shaped labelled ((when at_lifetime then lifetime & punctuation colon else empty) & (when at_brace then shaped (operand Block) (rule body) else rule loop_expression)))
+--
+-- `if`: an expression and a block; and behind `else`, where it stands next, a block or another `if`.
+table if_expression =
+    shaped (operand If) (plainly (word w_if) & rule whole_expression & rule block
+    & (when at_word w_else then plainly (word w_else) & (when at_brace then else_block else rule if_expression) else empty))
+--
+-- A loop: `loop` and a block; `while`, an expression and a block; or `for`, a pattern, `in`, an expression and a block.
+table loop_expression =
+    shaped choice (when at_word w_loop then shaped (operand Loop) (plainly (word w_loop) & rule body)
+    else when at_word w_while then shaped (operand While) (plainly (word w_while) & rule whole_expression & rule body)
+    else shaped (operand ForLoop) (plainly (word w_for) & rule pattern & plainly (word w_in) & rule whole_expression & rule body))
+--
+-- What goes on an expression, any number of times: the arguments of a call, an index, `?`, or `.` and a member.
+table postfixes =
+    when at_paren then shaped (behind_it Call) (inside Paren (rule expressions)) & rule postfixes
+    else when at_bracket then shaped (behind_it Index) (inside Bracket (rule whole_expression)) & rule postfixes
+    else when at_question then shaped (behind_it Try) (punctuation question) & rule postfixes
+    else when at_dot then shaped dotted (punctuation dot & rule member) & rule postfixes
+    else empty
+--
+-- A member: the number or the name of a field; or the name of a method, generic arguments behind `::` or none, and arguments in parentheses.
+table member =
+    when at_literal Int then plainly index
+    else plainly name & (when at_colons then punctuation colons & rule generic_arguments & inside Paren (rule expressions) else when at_paren then inside Paren (rule expressions) else empty)
+--
+-- A unary level: attributes, which belong to all of it; and `-`, `!`, `*`, `&` or `&mut` before another, or an expression with what goes
+-- on it.
+table unary =
+    shaped leading (rule attributes
+    & (when at_minus then shaped (operand Unary) (punctuation minus & rule unary)
+    else when at_exclamation then shaped (operand Unary) (punctuation exclamation & rule unary)
+    else when at_star then shaped (operand Unary) (punctuation star & rule unary)
+    else when at_ampersand then shaped (operand Reference) (punctuation ampersand & optional w_mut & rule unary)
+    else shaped chain (rule primary & rule postfixes)))
+--
+-- Casts, any number of them: `as` and a type.
+table casts =
+    when at_word w_as then shaped (operator Cast) (plainly (word w_as) & rule type) & rule casts
+    else empty
+--
+-- A unary level and its casts.
+table cast =
+    shaped chain (rule unary & rule casts)
+--
+-- What an operand is multiplied with or divided by, any number of times.
+table products =
+    when at_star_operator then shaped (operator Binary) (punctuation star & rule cast) & rule products
+    else when at_slash_operator then shaped (operator Binary) (punctuation slash & rule cast) & rule products
+    else when at_percent_operator then shaped (operator Binary) (punctuation percent & rule cast) & rule products
+    else empty
+--
+-- A product: casts with `*`, `/` and `%` between them, grouped from the left.
+table product =
+    shaped chain (rule cast & rule products)
+--
+-- What is added to an operand or taken from it, any number of times.
+table sums =
+    when at_plus_operator then shaped (operator Binary) (punctuation plus & rule product) & rule sums
+    else when at_minus_operator then shaped (operator Binary) (punctuation minus & rule product) & rule sums
+    else empty
+--
+-- A sum: products with `+` and `-` between them, grouped from the left.
+table sum =
+    shaped chain (rule product & rule sums)
+--
+-- What an operand is shifted by, any number of times.
+table shifts =
+    when at_less_less_operator then shaped (operator Binary) (punctuation less_less & rule sum) & rule shifts
+    else when at_greater_greater_operator then shaped (operator Binary) (punctuation greater_greater & rule sum) & rule shifts
+    else empty
+--
+-- A shift: sums with `<<` and `>>` between them, grouped from the left.
+table shift =
+    shaped chain (rule sum & rule shifts)
+--
+-- The operands behind `&`, any number of them.
+table bit_ands =
+    when at_ampersand_operator then shaped (operator Binary) (punctuation ampersand & rule shift) & rule bit_ands
+    else empty
+--
+-- Shifts with `&` between them, grouped from the left.
+table bit_and =
+    shaped chain (rule shift & rule bit_ands)
+--
+-- The operands behind `^`, any number of them.
+table bit_xors =
+    when at_caret_operator then shaped (operator Binary) (punctuation caret & rule bit_and) & rule bit_xors
+    else empty
+--
+-- What `bit_and` reads with `^` between, grouped from the left.
+table bit_xor =
+    shaped chain (rule bit_and & rule bit_xors)
+--
+-- The operands behind `|`, any number of them.
+table bit_ors =
+    when at_bar_operator then shaped (operator Binary) (punctuation bar & rule bit_xor) & rule bit_ors
+    else empty
+--
+-- What `bit_xor` reads with `|` between, grouped from the left.
+table bit_or =
+    shaped chain (rule bit_xor & rule bit_ors)
+--
+-- What an operand is compared with, once at most.
+table compared =
+    when at_mark equal_equal then shaped (operator Binary) (punctuation equal_equal & rule bit_or)
+    else when at_mark not_equals then shaped (operator Binary) (punctuation not_equals & rule bit_or)
+    else when at_less_operator then shaped (operator Binary) (punctuation less & rule bit_or)
+    else when at_greater_operator then shaped (operator Binary) (punctuation greater & rule bit_or)
+    else when at_mark less_equals then shaped (operator Binary) (punctuation less_equals & rule bit_or)
+    else when at_mark greater_equals then shaped (operator Binary) (punctuation greater_equals & rule bit_or)
+    else empty
+--
+-- A comparison: an operand, or two with `==`, `!=`, `<`, `>`, `<=` or `>=` between them.
+table comparison =
+    shaped chain (rule bit_or & rule compared)
+--
+-- The operands behind `&&`, any number of them.
+table conjunctions =
+    when at_mark and_and then shaped (operator Binary) (punctuation and_and & rule comparison) & rule conjunctions
+    else empty
+--
+-- Comparisons with `&&` between them, grouped from the left.
+table conjunction =
+    shaped chain (rule comparison & rule conjunctions)
+--
+-- The operands behind `||`, any number of them.
+table disjunctions =
+    when at_mark or_or then shaped (operator Binary) (punctuation or_or & rule conjunction) & rule disjunctions
+    else empty
+--
+-- What `conjunction` reads with `||` between, grouped from the left.
+table disjunction =
+    shaped chain (rule conjunction & rule disjunctions)
+--
+-- What is assigned to an operand, by `=` or an operator with `=`; it groups from the right.
+table assigned =
+    when at_equals_operator then shaped (operator Assign) (punctuation equals & rule whole_expression)
+    else when at_mark plus_equals then shaped (operator Binary) (punctuation plus_equals & rule whole_expression)
+    else when at_mark minus_equals then shaped (operator Binary) (punctuation minus_equals & rule whole_expression)
+    else when at_mark star_equals then shaped (operator Binary) (punctuation star_equals & rule whole_expression)
+    else when at_mark slash_equals then shaped (operator Binary) (punctuation slash_equals & rule whole_expression)
+    else when at_mark percent_equals then shaped (operator Binary) (punctuation percent_equals & rule whole_expression)
+    else when at_mark caret_equals then shaped (operator Binary) (punctuation caret_equals & rule whole_expression)
+    else when at_mark ampersand_equals then shaped (operator Binary) (punctuation ampersand_equals & rule whole_expression)
+    else when at_mark bar_equals then shaped (operator Binary) (punctuation bar_equals & rule whole_expression)
+    else when at_mark less_less_equals then shaped (operator Binary) (punctuation less_less_equals & rule whole_expression)
+    else when at_mark greater_greater_equals then shaped (operator Binary) (punctuation greater_greater_equals & rule whole_expression)
+    else empty
+--
+-- Any expression. Behind it no postfix and no comparison stands: behind a cast, or behind a comparison, these are refused.
+table whole_expression =
+    shaped chain (rule disjunction & rule assigned & (when at_unfinished then never else empty))
+--
+-- What may follow the first operand of a statement that begins with a block or a macro in braces: postfixes, casts and operators of each
+-- level.
+table operand_rest =
+    rule postfixes
+    & rule casts
+    & rule products
+    & rule sums
+    & rule shifts
+    & rule bit_ands
+    & rule bit_xors
+    & rule bit_ors
+    & rule compared
+    & rule conjunctions
+    & rule disjunctions
+    & rule assigned
+--
+-- Statements to the end: none; `;` alone and more; or one, its attributes first, and more.
+table statements =
+    when ended then empty
+    else shaped choice (when at_semicolon then shaped lone (punctuation semicolon & rule statements)
+    else shaped listed (rule attributes & rule statement_rest))
+--
+-- A statement behind its attributes, and the statements that follow: a macro in braces, a local, a block or what ends with one, or an
+-- expression. What begins an item is refused, as long as none are read.
+table statement_rest =
+    when at_crate_macro then shaped said_macro (shaped (operand Macro) (rule macro_invocation) & (when at_postfix_mark then never else rule after_block))
+    else when at_brace_macro then shaped said_macro (shaped (operand Macro) (rule macro_invocation) & rule after_block)
+    else when at_word w_let then shaped a_local (rule local & rule statements)
+    else when at_lone_crate then never
+    else when at_block_like then shaped said (rule block_like & rule after_block)
+    else shaped said (rule whole_expression & rule after_expression)
+--
+-- What follows a block or a macro in braces, in a list of statements: `;` and more; what goes on it, and what follows an expression; or more.
+table after_block =
+    when at_semicolon then punctuation semicolon & rule statements
+    else when at_postfix_mark then rule operand_rest & rule after_expression
+    else rule statements
+--
+-- What follows an expression, in a list of statements: `;` and more, or the end.
+table after_expression =
+    when at_semicolon then punctuation semicolon & rule statements
+    else when ended then empty
+    else never
+--
+-- A statement alone: attributes; and a macro in braces, a block or what ends with one, with `;` or without it; one of these that goes on, or
+-- another expression, with `;`; or a local. What begins an item is refused, as long as none are read.
+table statement =
+    shaped attributed (rule attributes
+    & (when at_crate_macro then shaped said_macro (shaped (operand Macro) (rule macro_invocation) & (when at_postfix_mark then never else rule statement_end))
+    else when at_brace_macro then shaped said_macro (shaped (operand Macro) (rule macro_invocation) & rule statement_end)
+    else when at_word w_let then shaped a_local (rule local)
+    else when at_lone_crate then never
+    else when at_block_like then shaped said (rule block_like & rule statement_end)
+    else shaped said (rule whole_expression & punctuation semicolon)))
+--
+-- What follows a block or a macro in braces, in a statement alone: `;`; what goes on it, and `;`; or nothing.
+table statement_end =
+    when at_semicolon then punctuation semicolon
+    else when at_postfix_mark then rule operand_rest & punctuation semicolon
+    else empty
+--
+-- A local: `let`, a pattern with a type behind a colon or without one, `=` and an expression or none, and `;`. Behind an expression that
+-- doesn't end with braces, `else` and a block may stand.
+table local =
+    plainly (word w_let)
+    & (rule pattern & (when at_colon then punctuation colon & rule type else empty))
+    & (when at_equals then punctuation equals & shaped untagged (either (such trailing_brace (rule whole_expression) & no_else) (such no_trailing_brace (rule whole_expression) & shaped untagged (when at_word w_else then plainly (word w_else) & else_block else empty))) else empty)
+    & punctuation semicolon

@@ -124,7 +124,7 @@ pub data Fact : Type 0 where
   Not_item : Fact  -- a word that begins no item in a block because of what follows it
   Bang_brace : Fact  -- a path or `!`: `!` and a group in braces follow the path, or this group follows `!`
   Bang_name : Fact  -- the same with an identifier that isn't a keyword, or `try`, in place of the group
-  Bang_group : Fact  -- the same with a group in parentheses or brackets
+  Before_macro : Fact  -- a path: a `!` that isn't `!=` follows the path
   Lone_word : Fact  -- a group in parentheses: its content is `crate`, `self` or `super` alone
   Begins_in : Fact  -- a group in parentheses: its content begins with `in`
   Before_brace : Fact  -- `union`: a group in braces follows it
@@ -133,7 +133,7 @@ pub data Fact : Type 0 where
 abbrev pub every_fact : List Fact
 every_fact =
     Before_equals ∷ Before_end ∷ Before_colons ∷ Before_paren ∷ Before_less ∷ Before_bang ∷ Before_type_rest ∷ Before_own_self
-    ∷ Before_parameter ∷ Begins_item ∷ Not_item ∷ Bang_brace ∷ Bang_name ∷ Bang_group ∷ Lone_word ∷ Begins_in ∷ Before_brace ∷ []
+    ∷ Before_parameter ∷ Begins_item ∷ Not_item ∷ Bang_brace ∷ Bang_name ∷ Before_macro ∷ Lone_word ∷ Begins_in ∷ Before_brace ∷ []
 
 -- The lookahead of a stream.
 pub record Lookahead : Type 0 where
@@ -172,7 +172,7 @@ fact_number Begins_item = 9
 fact_number Not_item = 10
 fact_number Bang_brace = 11
 fact_number Bang_name = 12
-fact_number Bang_group = 13
+fact_number Before_macro = 13
 fact_number Lone_word = 14
 fact_number Begins_in = 15
 fact_number Before_brace = 16
@@ -284,11 +284,12 @@ at_path_rest = at_mark colons or_else at_mark exclamation but_not at_mark not_eq
 
 -- what stands behind the `!` of a path that goes on so
 abbrev pub asked_of_path : Look → Asked
-asked_of_path c = (c and_also ahead Bang_brace, Bang_brace) ∷ (c and_also ahead Bang_name, Bang_name) ∷ (c and_also ahead Bang_group, Bang_group) ∷ []
+asked_of_path c = (c and_also ahead Bang_brace, Bang_brace) ∷ (c and_also ahead Bang_name, Bang_name) ∷ []
 
 -- what a word of a path asks
 abbrev pub asked_by_path_word : Asked
-asked_by_path_word = (at_mark colons, Before_colons) ∷ asked_of_path at_path_rest
+asked_by_path_word = (at_mark colons, Before_colons)
+    ∷ (at_mark exclamation but_not at_mark not_equals or_else at_mark colons and_also ahead Before_macro, Before_macro) ∷ asked_of_path at_path_rest
 
 -- what an identifier that isn't a keyword asks of the token tree behind it
 abbrev pub asked_by_name : Asked
@@ -311,8 +312,8 @@ asked_by_word x = pick (one_of_texts x (w_crate ∷ w_self ∷ w_super ∷ [])) 
 
 -- what a mark asks by its last character
 abbrev pub asked_by_mark : Text → Asked
-asked_by_mark x = pick (same_text x exclamation) ((at_group Brace, Bang_brace) ∷ (at_name or_else at_word w_try, Bang_name) ∷ (at_group Paren or_else at_group Bracket, Bang_group) ∷ [])
-    (pick (same_text x colon) ((at_mark less, Before_less) ∷ asked_of_path at_path_word)
+asked_by_mark x = pick (same_text x exclamation) ((at_group Brace, Bang_brace) ∷ (at_name or_else at_word w_try, Bang_name) ∷ [])
+    (pick (same_text x colon) ((at_mark less, Before_less) ∷ (at_path_word and_also ahead Before_macro, Before_macro) ∷ asked_of_path at_path_word)
     (pick (same_text x pound) ((at_mark exclamation, Before_bang) ∷ [])
     (pick (same_text x less) ((at_mark greater or_else at_parameter, Before_parameter) ∷ []) [])))
 

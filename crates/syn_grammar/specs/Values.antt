@@ -1,14 +1,13 @@
--- THE VALUE OF A SHAPED FORM: of an expression or a statement, as the Rust types hold it. No rule of this table has a shape; the form `shaped`
--- and its proofs are for tables whose trees nest to the left.
+-- THE VALUE OF A SHAPED FORM: of an expression or a statement, as the Rust types hold it.
 -- An expression is `Shaped (expr variant) (Both attributes fields)`. What stands left of an operator, of a call's arguments and the like is a field, so chains nest to the left.
 use Rattle.std.specs.Prelude.{Bool, true, false}
 use Rattle.syn_grammar.specs.Tokens.{end, Paren, Bracket}
 use Rattle.syn_grammar.specs.Shape.{Variant, Path, Struct, Binary, Assign, Cast, Verbatim, Field, MethodCall, Parens, Tuple, Array, Repeat, Macro, Shape, expr, operand, bracketed, behind_it, operator, dotted, fields, choice, chain, leading, labelled, attributed, listed, lone, said, said_macro, a_local, an_item, untagged}
-use Rattle.syn_grammar.specs.Grammar.{Syntax, Nothing, Mark, Both, Left, Right, Node, Group, Captured, Shaped}
+use Rattle.syn_grammar.specs.Grammar.{Syntax, Nothing, Mark, Both, Left, Right, Node, Group, Captured, Unshown, Shaped}
 
 -- what is read where no attribute stands
 abbrev pub no_attributes : Syntax
-no_attributes = Node (Right Nothing)
+no_attributes = Node (Right (Unshown Nothing))
 
 -- an expression without attributes
 abbrev pub new : Variant → Syntax → Syntax
@@ -59,8 +58,8 @@ chained s = Shaped chain s
 
 -- some attributes before others
 abbrev pub attributes_before : Syntax → Syntax → Syntax
-attributes_before (Node (Right Nothing)) b = b
-attributes_before (Node (Left (Both punctuation (Both brackets more)))) b = Node (Left (Both punctuation (Both brackets (attributes_before more b))))
+attributes_before (Node (Right (Unshown Nothing))) b = b
+attributes_before (Node (Left (Both attribute more))) b = Node (Left (Both attribute (attributes_before more b)))
 attributes_before a b = Both a b
 
 -- attributes before an expression's own
@@ -74,7 +73,7 @@ led s = Shaped leading s
 
 -- a label, or none, is an expression's first field
 abbrev pub with_label : Syntax → Syntax → Syntax
-with_label a (Shaped (expr v) (Both (Node (Right Nothing)) s)) = new v (Both a s)
+with_label a (Shaped (expr v) (Both (Node (Right (Unshown Nothing))) s)) = new v (Both a s)
 with_label a s = Shaped labelled (Both a s)
 
 abbrev pub label : Syntax → Syntax
@@ -83,9 +82,9 @@ label s = Shaped labelled s
 
 -- attributes before those of the leftmost operand below operators
 abbrev pub moved : Syntax → Syntax → Syntax
-moved a (Shaped (expr Binary) (Both (Node (Right Nothing)) (Both l p))) = new Binary (Both (moved a l) p)
-moved a (Shaped (expr Assign) (Both (Node (Right Nothing)) (Both l p))) = new Assign (Both (moved a l) p)
-moved a (Shaped (expr Cast) (Both (Node (Right Nothing)) (Both l p))) = new Cast (Both (moved a l) p)
+moved a (Shaped (expr Binary) (Both (Node (Right (Unshown Nothing))) (Both l p))) = new Binary (Both (moved a l) p)
+moved a (Shaped (expr Assign) (Both (Node (Right (Unshown Nothing))) (Both l p))) = new Assign (Both (moved a l) p)
+moved a (Shaped (expr Cast) (Both (Node (Right (Unshown Nothing))) (Both l p))) = new Cast (Both (moved a l) p)
 moved a s = with_attributes a s
 
 -- STATEMENTS
@@ -99,9 +98,11 @@ sentence b e m = Shaped said (Both e m)
 -- with the attributes before it, by what follows it
 abbrev pub alone : Bool → Syntax → Syntax → Syntax → Syntax
 alone b a e (Mark xs) = sentence b (moved a e) (Left (Mark xs))
+alone b a e (Node t) = alone b a e t
 alone b a e (Left m) = sentence b (moved a e) (Left m)
 alone b a e (Right (Left (Both more t))) = alone b a (onto e more) t
 alone b a e (Right (Right t)) = sentence b (moved a e) (Right t)
+alone b a e (Right (Node t)) = alone b a e t
 alone b a e t = sentence b (moved a e) t
 
 abbrev pub state : Syntax → Syntax → Syntax
@@ -128,6 +129,8 @@ going_on b a e (Node t) = going_on b a e t
 going_on b a e (Left (Both m l)) = listing (sentence b (moved a e) (Left m)) l
 going_on b a e (Right (Left (Both more t))) = going_on b a (onto e more) t
 going_on b a e (Right (Right l)) = listing (sentence b (moved a e) (Right Nothing)) l
+going_on b a e (Right (Left Nothing)) = listing (sentence b (moved a e) (Right Nothing)) no_statements
+going_on b a e (Right (Node t)) = going_on b a e t
 going_on b a e t = listing (sentence b (moved a e) t) no_statements
 
 abbrev pub go_on : Syntax → Syntax → Syntax

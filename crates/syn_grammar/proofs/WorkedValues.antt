@@ -1,0 +1,129 @@
+-- Worked values: what a Rust value holds of what was read, where it is built in another way than it stands. The checker computes each.
+use Rattle.std.proofs.Common.{◌≡◌, ℕ, ◌+◌, true, false, [], ◌∷◌, Some, refl}
+use Rattle.syn_grammar.specs.Words.{w_crate, w_loop}
+use Rattle.syn_grammar.specs.Tokens.{Paren, Brace, Bracket, Int, ident, literal, Stream, end, leaf, punct, group}
+use Rattle.syn_grammar.specs.Rules.{Rule, product, block_like, primary, unary, whole_expression, statement, statements}
+use Rattle.syn_grammar.specs.Shape.{Variant, Array, Assign, Binary, Block, Field, Lit, Loop, MethodCall, Parens, Path, Repeat, Tuple, Unary, expr, said, said_macro, untagged}
+use Rattle.syn_grammar.specs.Grammar.{Syntax, Nothing, Token, Mark, Both, Left, Right, Node, Shaped}
+use Rattle.syn_grammar.specs.Values.{no_attributes, new, no_statements, listing}
+use Rattle.syn_grammar.specs.Take.{left, is_end, lookahead_at, sees, take_token, take_lifetime, take_mark, take_group, before}
+use Rattle.syn_grammar.specs.Run.{rows_for, rows, run, parse_rule}
+use Rattle.syn_grammar.proofs.Shown.{at}
+
+-- a name of one letter, before a stream
+abbrev letter : ℕ → ℕ → Stream → Stream
+letter c n r = leaf (ident (c ∷ [])) (at n (n + 1)) r
+
+-- a mark of one character, before a stream
+abbrev char : ℕ → ℕ → Stream → Stream
+char c n r = punct c false (at n (n + 1)) r
+
+-- the same as it is kept
+abbrev kept : ℕ → ℕ → Syntax
+kept c n = Mark ((c, at n (n + 1)) ∷ [])
+
+-- an expression of one name, without attributes
+abbrev path_of : ℕ → ℕ → Syntax
+path_of c n = new Path (Node (Right (Node (Both (Right Nothing) (Node (Both (Shaped untagged (Both (Token (ident (c ∷ [])) (at n (n + 1))) (Shaped untagged Nothing))) (Right Nothing)))))))
+
+-- an operator and its right operand
+abbrev behind : ℕ → ℕ → Syntax → Syntax
+behind c n s = Both (kept c n) (Node s)
+
+-- the rule reads an expression of this variant without attributes
+abbrev IsOf : Rule → Variant → Stream → Type 0
+IsOf k v ts = (s : Syntax) × (parse_rule k ts ≡ Some (Node (new v s), end))
+
+-- `a*b*c` is a product of a product and `c`
+left_nested : parse_rule product (letter 97 0 (char 42 1 (letter 98 2 (char 42 3 (letter 99 4 end)))))
+    ≡ Some (Node (new Binary (Both (new Binary (Both (path_of 97 0) (behind 42 1 (path_of 98 2)))) (behind 42 3 (path_of 99 4)))), end)
+unfolding left is_end lookahead_at sees take_token take_lifetime take_mark take_group before rows_for rows run parse_rule
+left_nested = refl
+
+-- `a+b*c` is a sum of `a` and a product
+tighter_first : parse_rule whole_expression (letter 97 0 (char 43 1 (letter 98 2 (char 42 3 (letter 99 4 end)))))
+    ≡ Some (Node (new Binary (Both (path_of 97 0) (behind 43 1 (new Binary (Both (path_of 98 2) (behind 42 3 (path_of 99 4))))))), end)
+unfolding left is_end lookahead_at sees take_token take_lifetime take_mark take_group before rows_for rows run parse_rule
+tighter_first = refl
+
+-- `a=b=c` assigns an assignment
+from_the_right : parse_rule whole_expression (letter 97 0 (char 61 1 (letter 98 2 (char 61 3 (letter 99 4 end)))))
+    ≡ Some (Node (new Assign (Both (path_of 97 0) (behind 61 1 (new Assign (Both (path_of 98 2) (behind 61 3 (path_of 99 4))))))), end)
+unfolding left is_end lookahead_at sees take_token take_lifetime take_mark take_group before rows_for rows run parse_rule
+from_the_right = refl
+
+-- `(a)` is an expression in parentheses, `(a,)` a tuple
+in_parentheses : IsOf primary Parens (group Paren (at 0 1) (at 2 3) (letter 97 1 end) end)
+unfolding left is_end lookahead_at sees take_token take_lifetime take_mark take_group before rows_for rows run parse_rule
+in_parentheses = (_, refl)
+
+tuple_of_one : IsOf primary Tuple (group Paren (at 0 1) (at 3 4) (letter 97 1 (char 44 2 end)) end)
+unfolding left is_end lookahead_at sees take_token take_lifetime take_mark take_group before rows_for rows run parse_rule
+tuple_of_one = (_, refl)
+
+-- `[a]` is an array, `[a;b]` repeats `a`
+array_of_one : IsOf primary Array (group Bracket (at 0 1) (at 2 3) (letter 97 1 end) end)
+unfolding left is_end lookahead_at sees take_token take_lifetime take_mark take_group before rows_for rows run parse_rule
+array_of_one = (_, refl)
+
+repeated : IsOf primary Repeat (group Bracket (at 0 1) (at 4 5) (letter 97 1 (char 59 2 (letter 98 3 end))) end)
+unfolding left is_end lookahead_at sees take_token take_lifetime take_mark take_group before rows_for rows run parse_rule
+repeated = (_, refl)
+
+-- `a.b` is a field, `a.b()` a call of a method
+field_of : IsOf unary Field (letter 97 0 (char 46 1 (letter 98 2 end)))
+unfolding left is_end lookahead_at sees take_token take_lifetime take_mark take_group before rows_for rows run parse_rule
+field_of = (_, refl)
+
+method_of : IsOf unary MethodCall (letter 97 0 (char 46 1 (letter 98 2 (group Paren (at 3 4) (at 4 5) end end))))
+unfolding left is_end lookahead_at sees take_token take_lifetime take_mark take_group before rows_for rows run parse_rule
+method_of = (_, refl)
+
+-- `-a()` is minus a call
+call_first : IsOf unary Unary (char 45 0 (letter 97 1 (group Paren (at 2 3) (at 3 4) end end)))
+unfolding left is_end lookahead_at sees take_token take_lifetime take_mark take_group before rows_for rows run parse_rule
+call_first = (_, refl)
+
+-- `'a:loop{}` is a loop that holds its label
+with_its_label : IsOf block_like Loop (punct 39 true (at 0 1) (letter 97 1 (char 58 2 (leaf (ident w_loop) (at 3 7) (group Brace (at 7 8) (at 8 9) end end)))))
+unfolding left is_end lookahead_at sees take_token take_lifetime take_mark take_group before rows_for rows run parse_rule
+with_its_label = (_, refl)
+
+-- `#[a]b=c;`: the attribute belongs to `b`
+attribute_moves : (a : Syntax) × (l : Syntax) × (r : Syntax)
+    × (parse_rule statement (char 35 0 (group Bracket (at 1 2) (at 3 4) (letter 97 2 end) (letter 98 4 (char 61 5 (letter 99 6 (char 59 7 end))))))
+    ≡ Some (Node (Shaped said (Both (new Assign (Both (Shaped (expr Path) (Both (Node (Left (Both a no_attributes))) l)) r)) (Left (kept 59 7)))), end))
+unfolding left is_end lookahead_at sees take_token take_lifetime take_mark take_group before rows_for rows run parse_rule
+attribute_moves = (_, _, _, refl)
+
+-- an expression of this variant is a statement alone and in a list, with this behind it
+abbrev Said : Variant → Syntax → Stream → Type 0
+Said v t ts =
+    (e : Syntax) × (parse_rule statement ts ≡ Some (Node (Shaped said (Both (new v e) t)), end))
+    × (parse_rule statements ts ≡ Some (Node (Right (listing (Shaped said (Both (new v e) t)) no_statements)), end))
+
+-- `{}.0;`: what goes on a block belongs to it
+block_goes_on : Said Field (Left (kept 59 4)) (group Brace (at 0 1) (at 1 2) end (char 46 2 (leaf (literal Int (48 ∷ [])) (at 3 4) (char 59 4 end))))
+unfolding left is_end lookahead_at sees take_token take_lifetime take_mark take_group before rows_for rows run parse_rule
+block_goes_on = (_, refl, refl)
+
+-- `{}`
+block_alone : Said Block (Right Nothing) (group Brace (at 0 1) (at 1 2) end end)
+unfolding left is_end lookahead_at sees take_token take_lifetime take_mark take_group before rows_for rows run parse_rule
+block_alone = (_, refl, refl)
+
+-- `0`, at the end of a list
+last_expression : (e : Syntax) × (parse_rule statements (leaf (literal Int (48 ∷ [])) (at 0 1) end) ≡ Some (Node (Right (listing (Shaped said (Both (new Lit e) (Right Nothing))) no_statements)), end))
+unfolding left is_end lookahead_at sees take_token take_lifetime take_mark take_group before rows_for rows run parse_rule
+last_expression = (_, refl)
+
+-- `crate!{}` is a macro alone, and so in a list, where `{}` may follow
+abbrev crate_macro : Stream → Stream
+crate_macro r = leaf (ident w_crate) (at 0 5) (char 33 5 (group Brace (at 6 7) (at 7 8) end r))
+
+crate_macro_alone : (s : Syntax) × (parse_rule statement (crate_macro end) ≡ Some (Node (Shaped said_macro (Both s (Right Nothing))), end))
+    × (e : Syntax)
+    × (parse_rule statements (crate_macro (group Brace (at 8 9) (at 9 10) end end))
+    ≡ Some (Node (Right (listing (Shaped said_macro (Both s (Right Nothing))) (Node (Right (listing (Shaped said (Both (new Block e) (Right Nothing))) no_statements))))), end))
+unfolding left is_end lookahead_at sees take_token take_lifetime take_mark take_group before rows_for rows run parse_rule
+crate_macro_alone = (_, refl, _, refl)
