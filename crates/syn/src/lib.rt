@@ -7,12 +7,13 @@ mod lawful;
 
 pub use syn_lower::{
     AngleBracketedGenericArguments, AssocType, AttrStyle, Attribute, BoundLifetimes, ConstParam,
-    Expr, ExprLit, GenericArgument, GenericParam, Generics, LifetimeParam, Lit, LitBool, LitByte,
-    LitByteStr, LitCStr, LitChar, LitFloat, LitInt, LitStr, LitToken, LiteralKind, MacroDelimiter,
-    Meta, MetaList, MetaNameValue, ParenthesizedGenericArguments, Path, PathArguments, PathSegment,
-    PredicateLifetime, PredicateType, QSelf, ReturnType, TraitBound, TraitBoundModifier, Type,
-    TypeArray, TypeGroup, TypeNever, TypeParam, TypeParamBound, TypeParen, TypePath, TypePtr,
-    TypeReference, TypeSlice, TypeTuple, WhereClause, WherePredicate, kind,
+    Expr, ExprLit, GenericArgument, GenericParam, Generics, Index, LifetimeParam, Lit, LitBool,
+    LitByte, LitByteStr, LitCStr, LitChar, LitFloat, LitInt, LitStr, LitToken, LiteralKind,
+    MacroDelimiter, Member, Meta, MetaList, MetaNameValue, ParenthesizedGenericArguments, Path,
+    PathArguments, PathSegment, PredicateLifetime, PredicateType, QSelf, ReturnType, TraitBound,
+    TraitBoundModifier, Type, TypeArray, TypeGroup, TypeNever, TypeParam, TypeParamBound,
+    TypeParen, TypePath, TypePtr, TypeReference, TypeSlice, TypeTuple, WhereClause, WherePredicate,
+    kind,
 };
 pub use syn_parse::deferred;
 pub use syn_parse::parse::parse2;
@@ -27,7 +28,7 @@ pub use syn_tokens::syntactic::Syntactic;
 pub use syn_tokens::syntactic::try_clone::TryClone;
 pub use syn_tokens::{error, print};
 pub use syn_tree::data::{
-    Field, FieldModifiers, Fields, FieldsNamed, FieldsUnnamed, Index, MemberRef, Members, Variant,
+    Field, FieldModifiers, Fields, FieldsNamed, FieldsUnnamed, MemberRef, Members, Variant,
 };
 pub use syn_tree::derive::{Data, DataEnum, DataStruct, DataUnion, DeriveInput};
 pub use syn_tree::item::{
@@ -59,13 +60,13 @@ pub mod punctuated {
 pub mod lower {
     pub use syn_lower::{
         AngleBracketedGenericArguments, AssocType, AttrStyle, Attribute, BoundLifetimes,
-        ConstParam, Expr, ExprLit, GenericArgument, GenericParam, Generics, LifetimeParam, Lit,
-        LitBool, LitByte, LitByteStr, LitCStr, LitChar, LitFloat, LitInt, LitStr, LitToken,
-        LiteralKind, MacroDelimiter, Meta, MetaList, MetaNameValue, ParenthesizedGenericArguments,
-        Path, PathArguments, PathSegment, PredicateLifetime, PredicateType, QSelf, ReturnType,
-        TraitBound, TraitBoundModifier, Type, TypeArray, TypeGroup, TypeNever, TypeParam,
-        TypeParamBound, TypeParen, TypePath, TypePtr, TypeReference, TypeSlice, TypeTuple,
-        WhereClause, WherePredicate,
+        ConstParam, Expr, ExprLit, GenericArgument, GenericParam, Generics, Index, LifetimeParam,
+        Lit, LitBool, LitByte, LitByteStr, LitCStr, LitChar, LitFloat, LitInt, LitStr, LitToken,
+        LiteralKind, MacroDelimiter, Member, Meta, MetaList, MetaNameValue,
+        ParenthesizedGenericArguments, Path, PathArguments, PathSegment, PredicateLifetime,
+        PredicateType, QSelf, ReturnType, TraitBound, TraitBoundModifier, Type, TypeArray,
+        TypeGroup, TypeNever, TypeParam, TypeParamBound, TypeParen, TypePath, TypePtr,
+        TypeReference, TypeSlice, TypeTuple, WhereClause, WherePredicate,
     };
 }
 

@@ -11,6 +11,7 @@ mod Lifetimes
 mod Lists
 mod Literals
 pub mod Nameless
+mod Numbers
 pub mod Ordered
 mod Ordering
 mod ParameterRows

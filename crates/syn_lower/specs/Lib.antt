@@ -7,6 +7,7 @@ pub mod GenericPrints
 pub mod Generics
 pub mod Literals
 pub mod Looks
+pub mod Members
 pub mod MetaValues
 pub mod Ordered
 pub mod OrderedPrints

@@ -11,7 +11,7 @@ ghost use Rattle.syn_lower.specs.Attributes.{all_attributes_syntax, all_row, att
 mod parsing;
 
 use crate::Path;
-pub use parsing::{all_outer_attributes, outer_attributes};
+pub use parsing::{all_outer_attributes, inner_attributes, outer_attributes};
 use std::alloc::AllocError;
 use syn_parse::buffer::ParseBuffer;
 use syn_parse::read::Peek;
@@ -77,7 +77,7 @@ pub enum MacroDelimiter {
 
 /// No attributes, where none are read yet: refused before `#`, as where a `T` was expected.
 #[tactic(auto, using(syn_grammar::proofs::Each::no_attributes_is))]
-pub(crate) fn no_attributes<T: Peek>(input: &ParseBuffer<'_>) -> Parsed<()>
+pub fn no_attributes<T: Peek>(input: &ParseBuffer<'_>) -> Parsed<()>
     ensures reads { Computes IsSyntax (λ _. none_listed) (parse_rule rules.no_attributes input.now) result input.now }
 {
     if input.peek::<Pound>() {

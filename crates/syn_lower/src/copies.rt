@@ -7,6 +7,7 @@ mod bounds;
 mod expr;
 mod generics;
 mod lit;
+mod member;
 mod path;
 mod ty;
 mod where_clause;

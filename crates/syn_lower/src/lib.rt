@@ -12,6 +12,7 @@ pub mod generics;
 pub mod kind;
 pub mod lit;
 pub mod looks;
+mod member;
 mod nested;
 pub mod parsing;
 mod path;
@@ -27,6 +28,7 @@ pub use lit::{
     Lit, LitBool, LitByte, LitByteStr, LitCStr, LitChar, LitFloat, LitInt, LitStr, LitToken,
     LiteralKind,
 };
+pub use member::{Index, Member};
 pub use path::{
     AngleBracketedGenericArguments, AssocType, GenericArgument, ParenthesizedGenericArguments,
     Path, PathArguments, PathSegment, QSelf, ReturnType,

@@ -47,7 +47,7 @@ pub fn at_empty_group(input: &ParseBuffer<'_>) -> bool
 
 /// Whether `#` stands next, and `!` behind it.
 #[tactic(auto, using(crate::proofs::InnerAttributes::inner_attribute_seen))]
-pub(crate) fn at_inner_attribute(input: &ParseBuffer<'_>) -> bool
+pub fn at_inner_attribute(input: &ParseBuffer<'_>) -> bool
     ensures { result ≡ sees table.at_inner_attribute input.now }
 {
     input.peek::<Pound>() && input.peek2::<Not>()
@@ -112,7 +112,7 @@ fn at_lone_colon(input: &ParseBuffer<'_>) -> bool
 
 /// Whether an identifier that is no keyword, or `Self`, stands next: a word of a path behind which arguments may stand.
 #[tactic(auto, using(syn_grammar::proofs::Looks::sees_or))]
-pub(crate) fn at_named_word(input: &ParseBuffer<'_>) -> bool
+pub fn at_named_word(input: &ParseBuffer<'_>) -> bool
     ensures { result ≡ sees table.at_named_word input.now }
 {
     input.peek::<Ident>() || input.peek::<SelfType>()
@@ -120,7 +120,7 @@ pub(crate) fn at_named_word(input: &ParseBuffer<'_>) -> bool
 
 /// Whether `<` stands next, and not `<=`.
 #[tactic(auto, using(syn_grammar::proofs::Looks::sees_but))]
-pub(crate) fn at_less_only(input: &ParseBuffer<'_>) -> bool
+pub fn at_less_only(input: &ParseBuffer<'_>) -> bool
     ensures { result ≡ sees table.at_less_only input.now }
 {
     input.peek::<Lt>() && !input.peek::<Le>()
@@ -128,7 +128,7 @@ pub(crate) fn at_less_only(input: &ParseBuffer<'_>) -> bool
 
 /// Whether arguments of a path's word stand next: `<` and not `<=`, a group in parentheses, or `::` with `<` behind it.
 #[tactic(auto, using(crate::proofs::TypeLooks::arguments_seen))]
-pub(crate) fn at_arguments(input: &ParseBuffer<'_>) -> bool
+pub fn at_arguments(input: &ParseBuffer<'_>) -> bool
     ensures { result ≡ sees table.at_arguments input.now }
 {
     at_less_only(input) || input.peek::<Paren>() || (input.peek::<PathSep>() && input.peek3::<Lt>())
@@ -136,7 +136,7 @@ pub(crate) fn at_arguments(input: &ParseBuffer<'_>) -> bool
 
 /// Whether an identifier stands next that is no keyword, and `=` behind it.
 #[tactic(auto, using(crate::proofs::TypeLooks::association_seen))]
-pub(crate) fn at_association(input: &ParseBuffer<'_>) -> bool
+pub fn at_association(input: &ParseBuffer<'_>) -> bool
     ensures { result ≡ sees table.at_association input.now }
 {
     input.peek::<Ident>() && input.peek2::<Eq>()
@@ -144,7 +144,7 @@ pub(crate) fn at_association(input: &ParseBuffer<'_>) -> bool
 
 /// Whether an expression stands next, as far as any is read yet: a literal, `true` or `false`.
 #[tactic(auto, using(syn_grammar::proofs::Looks::sees_or))]
-pub(crate) fn at_expression(input: &ParseBuffer<'_>) -> bool
+pub fn at_expression(input: &ParseBuffer<'_>) -> bool
     ensures { result ≡ sees table.at_expression input.now }
 {
     input.peek::<True>() || input.peek::<False>() || input.peek::<Literal>()

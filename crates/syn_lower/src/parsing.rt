@@ -15,6 +15,7 @@ mod recursion;
 mod ty;
 
 pub use path::module_path;
+pub use recursion::path_arguments;
 
 /// What reads a type inside of another.
 pub(crate) trait Nested {

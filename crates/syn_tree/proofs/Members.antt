@@ -1,12 +1,7 @@
--- The fields of a list in braces or parentheses, where paths begin, and numbers by their digits.
-use Rattle.std.proofs.Common.{◌≡◌, ℕ, ◌<◌, ◌^◌, true, ◌==◌, decimal, List, [], ◌∷◌, ◌++◌, Option, Some, None, refl, ap, subst, ◌∙◌, slice_get, length}
-use Rattle.std.specs.Cmp.{both_ways}
-use Rattle.std.proofs.lemmas.Bool.{eq-eqb, eqb-true}
-use Rattle.std.proofs.lemmas.Fmt.{decimal_injective}
-use Rattle.syn_grammar.specs.Tokens.{same_text}
+-- The fields of a list in braces or parentheses, and where paths begin.
+use Rattle.std.proofs.Common.{◌≡◌, List, [], ◌∷◌, ◌++◌, Option, Some, None, refl, ap, ◌∙◌, slice_get, length}
 use Rattle.syn_grammar.specs.Shape.{untagged}
 use Rattle.syn_grammar.specs.Grammar.{Syntax, Both, Shaped, print}
-use Rattle.syn_grammar.proofs.Sets.{same_text_eq, same_text_refl}
 use Rattle.syn_tokens.specs.Idents.{IdentValue}
 use Rattle.syn_tokens.specs.declared.span.Span.{Span}
 use Rattle.syn_tokens.specs.Kinds.{Comma, PathSep, comma_syntax, path_sep_syntax}
@@ -44,9 +39,3 @@ no_words_begin (x ∷ l) o e = absurd (cc e)
 pub nothing_in : {X : Type 0} (l : List X) → length l ≡ 0 → l ≡ []
 nothing_in [] e = refl
 nothing_in (x ∷ l) e = absurd (cc e)
-
--- two numbers are equal exactly where their decimal digits are
-pub same_number : (m n : ℕ) → m < 2 ^ 64 → n < 2 ^ 64 → (m == n) ≡ same_text (decimal m) (decimal n)
-same_number m n p q = both_ways (m == n) (same_text (decimal m) (decimal n))
-    (λ e. subst (λ k. same_text (decimal m) (decimal k) ≡ true) (eqb-true m n e) (same_text_refl (decimal m)))
-    (λ e. eq-eqb m n (decimal_injective m n p q (same_text_eq (decimal m) (decimal n) e)))

@@ -1,13 +1,13 @@
 -- THE FIELDS OF A STRUCT OR VARIANT IN ORDER, and what each is called.
-use Rattle.std.specs.Prelude.{ℕ, suc, List, [], ◌∷◌, decimal}
+use Rattle.std.specs.Prelude.{ℕ, suc, List, [], ◌∷◌}
 use Rattle.syn_grammar.specs.Tokens as grammar
-use Rattle.syn_grammar.specs.Tokens.{Int, ident, literal, Stream, end, leaf, punct, group}
+use Rattle.syn_grammar.specs.Tokens.{ident, Stream, end, leaf, punct, group}
 use Rattle.syn_grammar.specs.Grammar.{Syntax, Token, Both, Left, Right, Node, Group, Shaped, Unshown, print}
 use Rattle.syn_tokens.specs.Idents.{IdentValue}
 use Rattle.syn_tokens.specs.Leaves.{syntax_of_ident}
-use Rattle.syn_tokens.specs.Spans.{at}
 use Rattle.syn_tokens.specs.declared.span.Span.{Span}
-use Rattle.syn_tree.specs.declared.data.members.Index.{Index}
+use Rattle.syn_lower.specs.Members.{syntax_of_Index}
+use Rattle.syn_lower.specs.declared.member.Index.{Index}
 use Rattle.syn_tree.specs.declared.data.members.MemberRef.TheVariants as MemberRef-m
 use Rattle.syn_tree.specs.declared.data.Fields.TheVariants as Fields-m
 
@@ -65,10 +65,7 @@ abbrev pub members_from : ℕ → List Syntax → List MemberValue
 members_from n [] = []
 members_from n (f ∷ l) = member_of n f ∷ members_from (suc n) l
 
--- AS SYNTAX: a place is a literal of its decimal digits
-
-abbrev pub syntax_of_Index : Index → Syntax
-syntax_of_Index i = Token (literal Int (decimal i.index)) (at i.span)
+-- AS SYNTAX
 
 abbrev pub syntax_of_MemberRef : MemberRef-m.the_data → Syntax
 syntax_of_MemberRef (MemberRef-m.Named i) = syntax_of_ident i.now

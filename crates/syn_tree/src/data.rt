@@ -18,8 +18,9 @@ mod parsing;
 
 use crate::comma_lists::unnamed_fields;
 use crate::restriction::Visibility;
-pub use members::{Index, MemberRef, Members};
+pub use members::{MemberRef, Members};
 use std::alloc::AllocError;
+pub use syn_lower::Index;
 use syn_lower::attr::{all_outer_attributes, print_all};
 use syn_lower::{Attribute, Type, kind};
 use syn_parse::buffer::ParseBuffer;

@@ -96,7 +96,7 @@ pub fn all_outer_attributes(input: &mut ParseBuffer<'_>) -> Parsed<Vec<Attribute
 
 /// Inner attributes, as long as `#` stands next and `!` behind it.
 #[tactic(auto, using(crate::proofs::AttributeLists::inner_refused))]
-fn inner_attributes(input: &mut ParseBuffer<'_>) -> Parsed<Vec<Attribute>>
+pub fn inner_attributes(input: &mut ParseBuffer<'_>) -> Parsed<Vec<Attribute>>
     ensures reads { Computes IsSyntax (λ v. inner_attributes_syntax v.items) (parse_rule rules.inner_attributes input.old) result input.new }
     ensures kept { Kept input.old result input.new }
 {

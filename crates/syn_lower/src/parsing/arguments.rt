@@ -39,7 +39,10 @@ pub(super) fn arguments<N: Nested>(nested: &N, input: &mut ParseBuffer<'_>) -> P
 
 /// Types in parentheses and a return type; or generic arguments in `< >`.
 #[tactic(auto, using(syn_grammar::proofs::Each::type_arguments_is))]
-fn some_arguments<N: Nested>(nested: &N, input: &mut ParseBuffer<'_>) -> Parsed<PathArguments>
+pub(super) fn some_arguments<N: Nested>(
+    nested: &N,
+    input: &mut ParseBuffer<'_>,
+) -> Parsed<PathArguments>
     requires { MayBelow N.may nested.now input.old }
     ensures reads { Computes IsSyntax syntax_of_PathArguments (wrap (Shaped untagged) (parse_rule rules.type_arguments input.old)) result input.new }
     ensures moved { Moved input.old result input.new }
@@ -88,7 +91,7 @@ pub(super) fn return_type<N: Nested>(nested: &N, input: &mut ParseBuffer<'_>) ->
 
 /// Generic arguments in `< >`, with `::` before them or without it.
 #[tactic(auto, using(syn_grammar::proofs::Each::generic_arguments_is))]
-fn angle_bracketed<N: Nested>(
+pub(super) fn angle_bracketed<N: Nested>(
     nested: &N,
     input: &mut ParseBuffer<'_>,
 ) -> Parsed<AngleBracketedGenericArguments>

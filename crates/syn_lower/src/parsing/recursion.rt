@@ -1,15 +1,22 @@
 //! Where the parser of types leads back to itself.
 ghost use Rattle.syn_grammar.specs.Rules as rules;
-ghost use Rattle.syn_lower.specs.Parsing.{of, rule, meaning_of_rule, Parses, IsSyntax};
+ghost use Rattle.std.specs.Prelude.{refl};
+ghost use Rattle.syn_grammar.specs.Shape.{untagged};
+ghost use Rattle.syn_grammar.specs.Grammar.{Shaped};
+ghost use Rattle.syn_grammar.specs.Run.{wrap};
+ghost use Rattle.syn_parse.specs.Meanings.{meaning_of};
+ghost use Rattle.syn_lower.specs.Parsing.{of, rule, meaning_of_rule, parse_rule, Computes, Moved, Parses, IsSyntax};
 ghost use Rattle.syn_lower.specs.ParseTies.{Ties};
+ghost use Rattle.syn_lower.specs.Paths.{syntax_of_PathArguments};
+ghost use Rattle.syn_lower.specs.TypeForms.{angle_bracketed_form};
 ghost use Rattle.syn_lower.specs.Types.{syntax_of_Type};
 
 use super::Nested;
-use super::arguments::return_type;
+use super::arguments::{angle_bracketed, return_type, some_arguments};
 use super::path::{path_as_type, type_path};
 use super::ty::ty;
 use crate::carrier::Carrier;
-use crate::{Path, ReturnType, Type, TypePath};
+use crate::{AngleBracketedGenericArguments, Path, PathArguments, ReturnType, Type, TypePath};
 use std::marker::PhantomData;
 use syn_parse::buffer::ParseBuffer;
 use syn_parse::read::Read;
@@ -118,4 +125,31 @@ impl Read for ReturnType {
         };
         return_type(&knot, input)
     }
+}
+
+/// Generic arguments in `< >`, with `::` before them or without it.
+impl Read for AngleBracketedGenericArguments {
+    ghost form = { of angle_bracketed_form };
+
+    ghost meaning = { meaning_of _ refl };
+
+    fn read(input: &mut ParseBuffer<'_>) -> Parsed<AngleBracketedGenericArguments> {
+        let knot = Knot {
+            ty: nested_type::<Refusal>,
+            inside: (LEVELS, PhantomData),
+        };
+        angle_bracketed(&knot, input)
+    }
+}
+
+/// The arguments of a path's word: types in parentheses and a return type, or generic arguments in `< >`.
+pub fn path_arguments(input: &mut ParseBuffer<'_>) -> Parsed<PathArguments>
+    ensures reads { Computes IsSyntax syntax_of_PathArguments (wrap (Shaped untagged) (parse_rule rules.type_arguments input.old)) result input.new }
+    ensures moved { Moved input.old result input.new }
+{
+    let knot = Knot {
+        ty: nested_type::<Refusal>,
+        inside: (LEVELS, PhantomData),
+    };
+    some_arguments(&knot, input)
 }

@@ -8,7 +8,7 @@ use syn::lower::{Type, TypeTuple};
 use syn::punctuated::{IntoIter, Punctuated};
 use syn::token::{Comma, Paren, Span};
 use syn::{Error, Result, TryClone};
-use syn_test_support::{parsed, printed, span};
+use syn_test_support::{parsed, printed, refused, span};
 use syn_tokens::syntactic::compare::Compared;
 
 /// The fields of the struct that the text spells.
@@ -134,6 +134,20 @@ fn places(rt: HostRuntime) -> Result<()> {
     assert!(rt; copy == place(10, 7), "wherever it stands");
     assert!(rt; copy != place(1, 2));
     assert!(rt; copy != place(0, 2));
+    Ok(())
+}
+
+#[test]
+fn places_read(rt: HostRuntime) -> Result<()> {
+    for (text, want) in [("0", 0), ("10", 10), ("4294967295", 4_294_967_295)] {
+        let place: Index = parsed(rt.alloc(), text)?;
+        assert_eq!(rt; place.index, want);
+    }
+    for text in ["01", "4294967296", "1u8", "1_0", "1.2", "\"1\""] {
+        let fault = refused::<Index>(rt.alloc(), text)?;
+        assert_text(&rt, fault.text, "expected unsuffixed integer");
+        assert_eq!(rt; fault.span.start, 0);
+    }
     Ok(())
 }
 

@@ -7,8 +7,6 @@ ghost use Rattle.syn_tokens.specs.Comparison.{same_by, same_equiv, same_per};
 ghost use Rattle.syn_tree.specs.Data.{syntax_of_Fields};
 ghost use Rattle.syn_tree.specs.Modifiers.{syntax_of_FieldModifiers};
 
-mod members;
-
 use crate::data::{Field, FieldModifiers, Fields, FieldsNamed, FieldsUnnamed, Variant};
 use syn_tokens::syntactic::compare::Compared;
 

@@ -2,8 +2,6 @@
 //!
 //! Copies of `data`.
 
-mod members;
-
 use crate::data::{Field, FieldModifiers, Fields, FieldsNamed, FieldsUnnamed, Variant};
 use std::alloc::Global;
 use syn_tokens::error::Result;

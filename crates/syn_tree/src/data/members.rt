@@ -9,12 +9,11 @@ use crate::data::first_token::first_span;
 use crate::data::{Field, Fields};
 use std::alloc::{AllocError, Global};
 use std::marker::Model;
+use syn_lower::Index;
 use syn_tokens::error;
 use syn_tokens::ident::Ident;
-use syn_tokens::literal::{LitKind, Literal};
 use syn_tokens::print::{Print, ToTokens};
 use syn_tokens::punctuated::iterators::Iter;
-use syn_tokens::span::Span;
 use syn_tokens::stream::builder::StreamBuilder;
 use syn_tokens::syntactic::Syntactic;
 use syn_tokens::syntactic::compare::Compared;
@@ -26,13 +25,6 @@ use syn_tokens::token::Comma;
 pub enum MemberRef<'a> {
     Named(&'a Ident),
     Unnamed(Index),
-}
-
-/// The place of a field without a name among the fields, and where its type begins.
-#[derive(Clone, Copy, Debug)]
-pub struct Index {
-    pub index: u32,
-    pub span: Span,
 }
 
 /// What the fields are called, in order.
@@ -109,26 +101,6 @@ fn member<'a>(field: &'a Field, index: u32) -> MemberRef<'a>
     }
 }
 
-/// Two places are the same where their numbers are, wherever the types begin.
-impl Compared for Index {
-    #[tactic(auto, using(crate::proofs::Members::same_number))]
-    fn is_same(&self, other: &Index) -> bool {
-        self.index == other.index
-    }
-}
-
-/// A literal of its decimal digits.
-impl Print for Index {
-    fn print_in(&self, out: &mut StreamBuilder) -> Result<(), AllocError> {
-        let alloc = out.alloc();
-        let digits = self.index.to_string(alloc)?;
-        match Literal::new(alloc, LitKind::Int, digits.as_str(), self.span) {
-            Ok(literal) => out.add_literal(literal),
-            Err(_) => Err(AllocError),
-        }
-    }
-}
-
 impl<'a> Syntactic for MemberRef<'a> {
     ghost syntax = { syntax_of_MemberRef };
 }
@@ -183,11 +155,3 @@ impl<'a> Print for MemberRef<'a> {
 }
 
 impl<'a> ToTokens for MemberRef<'a> {}
-
-// Written by tools/kinds.py from here to the end; edits are lost.
-
-impl syn_tokens::syntactic::Syntactic for Index {
-    ghost use Rattle.syn_tree.specs.Members.{syntax_of_Index};
-
-    ghost syntax = { syntax_of_Index };
-}

@@ -2,8 +2,6 @@
 //!
 //! Prints of `data`.
 
-mod members;
-
 use crate::data::{Field, Fields, FieldsNamed, FieldsUnnamed, Variant};
 use std::alloc::AllocError;
 use syn_tokens::print::{Print, ToTokens, print_list};

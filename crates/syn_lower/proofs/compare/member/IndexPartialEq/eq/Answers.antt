@@ -1,8 +1,8 @@
 use Rattle.std.proofs.Common.{sym, ◌∙◌}
 use Rattle.syn_grammar.proofs.Same.{same_syntax_plain}
-use Rattle.syn_tree.specs.Members.{syntax_of_Index}
+use Rattle.syn_lower.specs.Members.{syntax_of_Index}
 use Rattle.syn_lower.proofs.Equality.{prints_alike}
-use Rattle.syn_tree.proofs.compare.data.members.IndexPartialEq.eq.Goals as goal
+use Rattle.syn_lower.proofs.compare.member.IndexPartialEq.eq.Goals as goal
 
 pub returns-clause-equal : goal.returns-clause-equal
 returns-clause-equal c =
