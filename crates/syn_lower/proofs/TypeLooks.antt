@@ -2,7 +2,7 @@
 use Rattle.std.proofs.Common.{◌≡◌, ℕ, Bool, true, false, List, [], ◌∷◌, ◌++◌, nat_eq, refl, sym, ap, ◌∙◌, subst, true≢false}
 use Rattle.std.proofs.lemmas.Bool.{eqb-true}
 use Rattle.syn_grammar.specs.Words.{Text, keywords, contextual, colons, equals, less, w_union, w_auto, w_default, w_safe, w_trait, w_unsafe, w_impl}
-use Rattle.syn_grammar.specs.Tokens.{Span, Stream, end, leaf, punct, group, ident, literal, or, and, pick, same_text, one_of_texts, begins_text, has_fact, same_fact, Fact, Before_equals, Before_less, Begins_item, Before_brace, Asked, asked, asked_by_name, asked_of_path, at_path_word, facts_for, Lookahead, lookahead, lookahead_with, punctuation_lookahead, answers, is_name, leaf_terminal, Terminal, Ended, Name, Word, Punctuation, Literal, Delimited, Look, at_mark, at_name, at_word, at_group, ahead, ◌or_else◌, Brace}
+use Rattle.syn_grammar.specs.Tokens.{Span, Stream, end, leaf, punct, group, ident, literal, or, and, pick, same_text, one_of_texts, begins_text, has_fact, same_fact, Fact, Before_equals, Before_less, Begins_item, Before_brace, Before_macro, asked, asked_by_name, asked_of_path, facts_for, Lookahead, lookahead, lookahead_with, punctuation_lookahead, answers, is_name, leaf_terminal, Terminal, Ended, Name, Word, Punctuation, Literal, Delimited, Look, at_mark, at_name, at_word, at_group, at_path_word, ahead, ◌or_else◌, ◌and_also◌, Brace}
 use Rattle.syn_grammar.specs.Take.{sees, lookahead_at, take_mark, take_token, taken}
 use Rattle.syn_grammar.specs.Table.{at_arguments, at_association, at_colons, at_less_only, at_paren}
 use Rattle.syn_grammar.proofs.Sets.{same_text_eq}
@@ -16,7 +16,7 @@ abbrev told_less : Stream → Stream → Type 0
 told_less ts n = has_fact Before_less (lookahead ts).facts ≡ answers (at_mark less) (lookahead n)
 
 behind_lone : (f : Lookahead) → has_fact Before_less (facts_for (asked (Punctuation (58 ∷ []))) f) ≡ answers (at_mark less) f
-behind_lone f = told_first Before_less (at_mark less) (asked_of_path at_path_word) f refl refl
+behind_lone f = told_first Before_less (at_mark less) ((at_path_word and_also ahead Before_macro, Before_macro) ∷ asked_of_path at_path_word) f refl refl
 
 abbrev told_of : Lookahead → Type 0
 told_of f = has_fact Before_less (punctuation_lookahead 58 true (punctuation_lookahead 58 true f)).facts ≡ answers (at_mark less) f
@@ -92,10 +92,6 @@ passed n k c l f e = go (answers c f)
     go : (a : Bool) → has_fact n (pick a (k ∷ facts_for l f) (facts_for l f)) ≡ has_fact n (facts_for l f)
     go true = ap (λ z. or z (has_fact n (facts_for l f))) e
     go false = refl
-
-abbrev others : Asked → Asked
-others [] = []
-others (p ∷ l) = l
 
 by_name : (f : Lookahead) → has_fact Before_equals (facts_for asked_by_name f) ≡ answers (at_mark equals) f
 by_name f = told_first Before_equals (at_mark equals) (others asked_by_name) f refl refl
