@@ -2,13 +2,18 @@
 use Rattle.std.proofs.Common.{◌≡◌, ℕ, Bool, true, false, List, [], ◌∷◌, ◌++◌, nat_eq, refl, sym, ap, ◌∙◌, subst, true≢false}
 use Rattle.std.proofs.lemmas.Bool.{eqb-true}
 use Rattle.syn_grammar.specs.Words.{Text, keywords, contextual, colons, equals, less, w_union, w_auto, w_default, w_safe, w_trait, w_unsafe, w_impl}
-use Rattle.syn_grammar.specs.Tokens.{Span, Stream, end, leaf, punct, group, ident, literal, or, and, pick, same_text, one_of_texts, begins_text, has_fact, same_fact, Fact, Before_equals, Before_less, Begins_item, Before_brace, Before_macro, asked, asked_by_name, asked_of_path, facts_for, Lookahead, lookahead, lookahead_with, punctuation_lookahead, answers, is_name, leaf_terminal, Terminal, Ended, Name, Word, Punctuation, Literal, Delimited, Look, at_mark, at_name, at_word, at_group, at_path_word, ahead, ◌or_else◌, ◌and_also◌, Brace}
+use Rattle.syn_grammar.specs.Tokens.{Span, Stream, end, leaf, punct, group, ident, literal, or, and, pick, same_text, one_of_texts, begins_text, has_fact, same_fact, Fact, Before_equals, Before_less, Begins_item, Before_brace, Before_macro, Asked, asked, asked_by_name, asked_of_path, facts_for, Lookahead, lookahead, lookahead_with, punctuation_lookahead, answers, is_name, leaf_terminal, Terminal, Ended, Name, Word, Punctuation, Literal, Delimited, Look, at_mark, at_name, at_word, at_group, at_path_word, ahead, ◌or_else◌, ◌and_also◌, Brace}
 use Rattle.syn_grammar.specs.Take.{sees, lookahead_at, take_mark, take_token, taken}
 use Rattle.syn_grammar.specs.Table.{at_arguments, at_association, at_colons, at_less_only, at_paren}
 use Rattle.syn_grammar.proofs.Sets.{same_text_eq}
 use Rattle.syn_grammar.proofs.Looks.{sees_and, sees_or, sees_mark, sees_name}
 use Rattle.syn_parse.specs.Peeks.{past}
 use Rattle.syn_lower.proofs.Restricted.{and_same, told_first}
+
+-- what is asked behind the first
+abbrev others : Asked → Asked
+others [] = []
+others (p ∷ l) = l
 
 -- WHAT STANDS BEHIND `::`
 
