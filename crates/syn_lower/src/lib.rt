@@ -13,7 +13,7 @@ pub mod kind;
 pub mod lit;
 pub mod looks;
 mod member;
-mod nested;
+pub mod nested;
 pub mod parsing;
 mod path;
 mod prints;
