@@ -79,9 +79,8 @@ def outputs():
     """What stands in each file that this script writes, or has a part of."""
     lower = Source(CRATES / LOWEST)
     source = Source(CRATES / "syn_tree", lower)
-    expressions = Source(CRATES / "syn_expr", lower)
     files = {}
-    for crate in (lower, expressions, source):
+    for crate in (lower, source):
         files.update(endings(crate))
         files.update(plain_views(crate, JOINED))
         files.update(copies(crate))

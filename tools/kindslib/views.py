@@ -37,7 +37,7 @@ impl std::marker::Model for {t.name} {{
 def size(t):
     """Of a struct that leads back to itself: more than that of each of its parts."""
     return f"""
-    ghost use Rattle.{LOWEST}.specs.Sizes.{{tree_size}};
+    ghost use Rattle.{t.crate}.specs.Sizes.{{tree_size}};
 
     ghost size = {{ tree_size }};
 
