@@ -218,6 +218,8 @@ def main():
     options = parser.parse_args()
     if options.apart and options.record:
         parser.error("--record writes into the repository, and --apart works in a copy")
+    if options.said:
+        options.said.mkdir(parents=True, exist_ok=True)
     with rooms.apart(TOP) if options.apart else nullcontext(TOP) as top:
         sys.exit(tell(options, trials_of(options, top)))
 
