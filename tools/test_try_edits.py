@@ -425,6 +425,13 @@ class Program(InCrate):
             with self.subTest(clause), self.program("--check") as (said, ended):
                 self.assertEqual(ended, status, said)
 
+    def test_the_folder_of_what_was_said_need_not_be_there(self):
+        (self.top / "crates.txt").write_text("low:\n")
+        self.edit("a", "clause: value", "old:         2", "new:         4")
+        folder = self.top / "said" / "today"
+        with self.program("--check", "--said", str(folder)) as (said, ended):
+            self.assertEqual((said, ended, folder.is_dir()), ("1 edits, 0 wrong\n", 0, True))
+
     def test_a_copy_apart_has_the_sources_and_nothing_that_was_kept(self):
         (self.top / "crates.txt").write_text("low:\n")
         (self.crate / "out").mkdir()
