@@ -1,11 +1,11 @@
 #!/usr/bin/env python3
-"""Writes what is the same for every type of syntax, from the structs and enums of the crates of trees (syn_lower, syn_tree) and the
+"""Writes what is the same for every type of syntax, from the structs and enums of the crates of trees (syn_lower, syn_pat, syn_tree) and the
 table of kinds below.
 
     tools/kinds.py            writes the files; run it at the top of the repository, and commit what it writes
     tools/kinds.py --check    writes nothing; fails where a file isn't as it would write it
 
-It writes, laid out as `rt fmt` wants it, in both crates of trees:
+It writes, laid out as `rt fmt` wants it, in the crates of trees:
 
     src/**.rt             at the end of each file, under a line that says so: `Model` and `Syntactic` (the language wants the
                           first in the module of its type)
@@ -75,12 +75,24 @@ UNPRINTED = {
 CRATES = Path("crates")
 
 
+class Together:
+    """The types of several crates of trees."""
+
+    def __init__(self, *sources):
+        self.sources = sources
+        self.types = {name: t for source in sources for name, t in source.types.items()}
+
+    def path_of(self, name):
+        return next(source for source in self.sources if name in source.types).path_of(name)
+
+
 def outputs():
     """What stands in each file that this script writes, or has a part of."""
     lower = Source(CRATES / LOWEST)
     source = Source(CRATES / "syn_tree", lower)
+    patterns = Source(CRATES / "syn_pat", lower)
     files = {}
-    for crate in (lower, source):
+    for crate in (lower, patterns, source):
         files.update(endings(crate))
         files.update(plain_views(crate, JOINED))
         files.update(copies(crate))
@@ -88,17 +100,18 @@ def outputs():
         files.update(prints(crate, UNPRINTED))
     table, page = CRATES / "syn_grammar/specs/Table.antt", Path("docs/GRAMMAR.md")
     files.update(comma_lists(source, table))
-    files[page] = rows(source, table, page)
-    files[CRATES / "syn/src/kinds.rt"] = canonical(source, KINDS)
+    files[page] = rows(source, table, page, patterns)
+    trees = Together(patterns, source)
+    files[CRATES / "syn/src/kinds.rt"] = canonical(trees, KINDS)
     files[CRATES / "syn_canon/src/kind.rt"] = kind_enum(KINDS)
-    files[CRATES / "syn_canon/src/by_kind.rt"] = dispatch(source, KINDS)
+    files[CRATES / "syn_canon/src/by_kind.rt"] = dispatch(trees, KINDS)
     files[CRATES / "syn_canon/specs/Kinds.antt"] = kind_specs(KINDS)
     return files
 
 
 def leftovers(files):
     """Files in the folders that are this script's alone which it wouldn't write."""
-    folders = [CRATES / crate / name for crate in (LOWEST, "syn_tree") for name in ("src/copies", "src/compare", "src/prints", "proofs/comma_lists")]
+    folders = [CRATES / crate / name for crate in (LOWEST, "syn_pat", "syn_tree") for name in ("src/copies", "src/compare", "src/prints", "proofs/comma_lists")]
     return [path for folder in folders for path in sorted(folder.rglob("*.*t*")) if path.is_file() and path not in files]
 
 

@@ -11,17 +11,17 @@ READ = re.compile(r"^impl Read for (\w+) \{\n    ghost form = \{ of \(rule rules
 FUNCTION = re.compile(r"^((?: *#\[[^\n]*\]\n)*)( *)(pub )?(?:pub\(\w+\) )?fn (\w+)(?:<[^(]*>)?(\(.*?(?:\{|\{\}|;))$", re.M | re.S)
 
 
-def by_hand(source):
-    """Each file of types that is written by hand, here and in the crate below, by its crate and its path there."""
-    return [(f"{it.crate.name}/{file.as_posix()}", text) for it in (source.below, source) if it for file, text in it.hand.items()]
+def by_hand(source, others):
+    """Each file of types that is written by hand, here, in the crate below and in those beside it, by its crate and its path there."""
+    return [(f"{it.crate.name}/{file.as_posix()}", text) for it in (source.below, source, *others) if it for file, text in it.hand.items()]
 
 
-def readers(source, lists):
+def readers(source, lists, others):
     """By each rule, the types that are read by it; or else the functions that promise it, the public ones if there are any; or
     else those whose proof opens its equation."""
     types, opened = {}, {}
     functions = {rule: [(False, f"`{rule}` of `{source.crate.name}/comma_lists.rt`")] for rule in lists}
-    for file, text in by_hand(source):
+    for file, text in by_hand(source, others):
         for name, rule in READ.findall(text):
             types.setdefault(rule, []).append(f"`{name}`")
         for match in FUNCTION.finditer(text):
@@ -36,10 +36,10 @@ def readers(source, lists):
     return opened | promised | types
 
 
-def rows(source, table, page):
-    """The page with its table of rules."""
+def rows(source, table, page, *others):
+    """The page with its table of rules, as they are read by this crate of trees, the one below and these others."""
     lists = [name for name, _, _ in read_lists(source, table)[0]]
-    text, found = page.read_text(), readers(source, lists)
+    text, found = page.read_text(), readers(source, lists, others)
     if HEAD not in text:
         raise Fault(f"{page} has no table of rules")
     before, behind = text.split(HEAD)

@@ -5,12 +5,79 @@ from dataclasses import dataclass
 from .source import ATTRIBUTES, DELIMITERS, LOWEST, Fault, wrapped
 from .views import syntax_of
 
-# the type by which what leads back to itself does so
-ENTRY = "Type"
+
+@dataclass
+class Family:
+    """Types that lead back to themselves: the one by which they do so, how the trait and the method of its help are called, the
+    function that makes a knot, and the functions for lists of that type."""
+
+    entry: str
+    bound: str
+    method: str
+    function: str
+    list: str
+    argument: str = ""
+
+    def knot(self, verb):
+        field = f"{verb}_{self.function}"
+        return f"Knot {{ {verb}: {field} }}" if self.argument else f"Knot {{ {field} }}"
+
+    def knot_call(self, method, verb, last):
+        """A call at a knot, in the layout of `rt fmt`: a field of more than 18 characters stands on a line of its own."""
+        field = f"{verb}: {verb}_{self.function}"
+        if not self.argument or len(field) <= 18:
+            return f"{method}(&{self.knot(verb)}, {last})"
+        return f"{method}(\n            &Knot {{\n                {field},\n            }},\n            {last},\n        )"
+
+    def uses(self, source, module, *names):
+        """What is imported of the module of these functions, and the type itself where their traits name it."""
+        own = [(source.own_path_of(self.entry), self.entry)] if self.argument else []
+        return own + [(f"crate::nested::{module}", name) for name in names]
+
+
+# by the name of their cycle
+FAMILIES = {
+    "types": Family("Type", "Type", "type", "type", "list"),
+    "patterns": Family("Pat", "Of", "one", "pat", "list", "<Pat>"),
+}
+
+# of the types that lead back to a pattern, those that are copied, compared and printed by themselves too: a variant's struct isn't,
+# as its `Pat` stands for it
+ALONE = {"Pat", "PatType"}
+
+
+def stands_alone(t):
+    """Whether a type has copies, comparisons and prints of its own, and not only those with the help of a family's."""
+    return not (t.is_nested and FAMILIES[t.family].argument) or t.name in ALONE
+
 
 # what says that the parts of such a type are smaller than it, where computing doesn't
-SMALLER_LISTS = "crate::proofs::Smaller::lists"
+SMALLER_LISTS = "proofs::Smaller::lists"
 SMALLER = {"TypePath": ["crate::proofs::Smaller::qself_smaller", "crate::proofs::Smaller::path_smaller"]}
+
+# what the proofs of a type want whose view is its fields in a form of its own: of its print, its copy and its comparison
+PATTERNS = "crate::proofs::Patterns"
+LEMMAS = {
+    "PatIdent": {"print": [f"{PATTERNS}::print_bound"], "compare": [f"{PATTERNS}::same_bound"]},
+    "PatParen": {"compare": ["syn_grammar::proofs::Same::and_true"]},
+    "PatType": {"print": [f"{PATTERNS}::print_behind"], "compare": [f"{PATTERNS}::same_typed"], "smaller": [f"{PATTERNS}::behind_smaller"]},
+    "PatWild": {"print": [f"{PATTERNS}::print_behind"], "compare": [f"{PATTERNS}::same_wild"]},
+}
+
+
+def lemmas(source, t, verb, body):
+    """What the proof of such a body is handed."""
+    of = LEMMAS.get(t.name, {}) if t.crate != LOWEST else {}
+    found = of.get(verb, []) + (of.get("smaller", []) if t.is_nested else [])
+    if verb != "print" and t.is_nested and t.crate == LOWEST:
+        found = SMALLER.get(t.name, []) + found
+    if re.search(r"_(list|exprs)\(nested", body):
+        found = found + [f"{source.root()}::{SMALLER_LISTS}"]
+    return found
+
+
+def tactic(lemmas):
+    return f"    #[tactic(auto, using({', '.join(lemmas)}))]\n" if lemmas else ""
 
 WRITTEN = "Written by tools/kinds.py; edits are lost."
 
@@ -101,16 +168,23 @@ def empty_copy(t, field, kind, uses):
 
 def nested_copy(source, t, place, kind, uses):
     """How a part of what leads back to itself is copied."""
+    family = FAMILIES[t.family]
     inner = kind.removeprefix("Option<").removesuffix(">")
-    if kind == ENTRY:
-        return f"nested.copy_type(&{place}, alloc)?"
-    if kind == f"Box<{ENTRY}>":
-        return f"Box::new(alloc, nested.copy_type(&{place}, alloc)?)?"
-    if source.is_nested(inner):
+    if kind == family.entry:
+        return f"nested.copy_{family.method}(&{place}, alloc)?"
+    if kind == f"Box<{family.entry}>" and family.argument:
+        uses.append(("crate::nested::copy", "copy_boxed"))
+        return f"copy_boxed(nested, &{place}, alloc)?"
+    if kind == f"Box<{family.entry}>":
+        return f"Box::new(alloc, nested.copy_{family.method}(&{place}, alloc)?)?"
+    if kind == f"Option<Box<{family.entry}>>":
+        uses.append(("crate::nested::copy", "copy_maybe"))
+        return f"copy_maybe(nested, &{place}, alloc)?"
+    if source.is_nested(t, inner):
         return f"{place}.copy_nested(nested, alloc)?"
-    if source.lists_nested(kind):
-        uses.append(("crate::nested::copy", "copy_list"))
-        return f"copy_list(nested, &{place}, alloc)?"
+    if source.lists_nested(t, kind):
+        uses.append(("crate::nested::copy", f"copy_{family.list}"))
+        return f"copy_{family.list}(nested, &{place}, alloc)?"
     uses.append(("crate::nested::copy", "copied"))
     return f"copied(&{place}, alloc)?"
 
@@ -139,7 +213,7 @@ def copied_payload(source, t, payload, uses):
         return "*value"
     if not t.is_nested:
         return "value.try_clone(alloc)?"
-    if source.is_nested(payload):
+    if source.is_nested(t, payload):
         return "value.copy_nested(nested, alloc)?"
     uses.append(("crate::nested::copy", "copied"))
     return "copied(value, alloc)?"
@@ -163,25 +237,23 @@ def copy_body(source, t, uses):
     return copy_enum(source, t, uses) if t.is_enum else copy_struct(source, t, uses)
 
 
-def smaller_tactic(t, body):
-    lemmas = SMALLER.get(t.name, []) + ([SMALLER_LISTS] if "_list(nested" in body else [])
-    return f"    #[tactic(auto, using({', '.join(lemmas)}))]\n" if lemmas else ""
-
-
 def nested_copy_text(source, t, uses):
     """The copy of a type that leads back to itself: with the help of the copy of a type, and then by itself."""
-    text = ""
-    uses += [("std::alloc", "AllocError"), ("crate::nested::copy", "copy_type")]
-    if not source.by_hand(f"impl CopyNested for {t.name}"):
-        uses += [("crate::nested::copy", name) for name in ("CopyNested", "CopyType")]
-        head = f"    fn copy_nested<N: CopyType>(&self, nested: &N, alloc: Global) -> Result<{t.name}, AllocError> {{\n"
+    text, family = "", FAMILIES[t.family]
+    if t.name != family.entry and not source.by_hand(f"impl CopyNested{family.argument} for {t.name}"):
+        bound = f"Copy{family.bound}"
+        uses += [*family.uses(source, "copy", "CopyNested", bound), ("std::alloc", "AllocError"), ("std::alloc", "Global")]
+        head = f"    fn copy_nested<N: {bound}{family.argument}>(&self, nested: &N, alloc: Global) -> Result<{t.name}, AllocError> {{\n"
         if len(head) > 101:
-            head = f"    fn copy_nested<N: CopyType>(\n        &self,\n        nested: &N,\n        alloc: Global,\n    ) -> Result<{t.name}, AllocError> {{\n"
+            head = f"    fn copy_nested<N: {bound}{family.argument}>(\n        &self,\n        nested: &N,\n        alloc: Global,\n    ) -> Result<{t.name}, AllocError> {{\n"
         body = copy_body(source, t, uses)
-        text = f"impl CopyNested for {t.name} {{\n{smaller_tactic(t, body)}{head}{body}    }}\n}}\n\n"
-    call = "copy_type(self, alloc)?"
-    if t.name != ENTRY:
-        call = "self.copy_nested(&Knot { copy_type }, alloc)?"
+        text = f"impl CopyNested{family.argument} for {t.name} {{\n{tactic(lemmas(source, t, 'copy', body))}{head}{body}    }}\n}}\n\n"
+    if not stands_alone(t):
+        return text
+    uses += [("crate::nested::copy", f"copy_{family.function}"), ("std::alloc", "Global"), ("syn_tokens", "error"), TRY_CLONE]
+    call = f"copy_{family.function}(self, alloc)?"
+    if t.name != family.entry:
+        call = f"self.copy_nested(&{family.knot('copy')}, alloc)?"
         uses += [("crate::nested::copy", name) for name in ("CopyNested", "Knot")]
     return text + f"""impl TryClone for {t.name} {{
     fn try_clone(&self, alloc: Global) -> error::Result<{t.name}> {{
@@ -191,13 +263,17 @@ def nested_copy_text(source, t, uses):
 """
 
 
+TRY_CLONE = ("syn_tokens::syntactic::try_clone", "TryClone")
+
+
 def copy_block(source, t):
     if source.by_hand(f"impl TryClone for {t.name}"):
         return None
-    uses = [(source.own_path_of(t.name), t.name), ("std::alloc", "Global"), ("syn_tokens::syntactic::try_clone", "TryClone")]
+    uses = [(source.own_path_of(t.name), t.name)]
     if t.is_nested:
-        uses.append(("syn_tokens", "error"))
-        return {"text": nested_copy_text(source, t, uses), "uses": uses, "ghosts": []}
+        text = nested_copy_text(source, t, uses)
+        return {"text": text.removesuffix("\n\n") + "\n" if text.endswith("\n\n") else text, "uses": uses, "ghosts": []} if text else None
+    uses += [("std::alloc", "Global"), TRY_CLONE]
     body = copy_body(source, t, uses)
     alloc = "alloc" if "alloc" in body else "_alloc"
     result = "error::Result" if source.leads_back(t.file) else "Result"
@@ -227,32 +303,37 @@ def is_compared(source, t, kind):
 @dataclass
 class Calls:
     """What is called of a field that leads back to the type that it stands in: where it is the first type of the circle, one of the
-    others, or a list of them; and where the function for lists stands."""
+    others, or an option or a list of the first; and where the functions for these stand."""
 
     entry: str
     type: str
-    list: str
-    list_from: tuple
+    several: str
+    word: str
+    module: str
 
     def of(self, source, t, field, kind, uses):
         """The call of this field; none where it doesn't lead back."""
         if not t.is_nested:
             return None
-        if kind in (ENTRY, f"Box<{ENTRY}>"):
-            return self.entry.format(field)
-        if source.is_nested(kind):
+        family = FAMILIES[t.family]
+        if kind in (family.entry, f"Box<{family.entry}>"):
+            return self.entry.format(field, family.method)
+        if source.is_nested(t, kind) or source.is_nested(t, kind.removeprefix("Option<").removesuffix(">")):
             return self.type.format(field)
-        if source.lists_nested(kind):
-            uses.append(self.list_from)
-            return self.list.format(field)
+        maybe = kind == f"Option<Box<{family.entry}>>"
+        if maybe or source.lists_nested(t, kind):
+            name = f"{self.word}_{'maybe' if maybe else family.list}"
+            uses.append((self.module, name))
+            return self.several.format(field, name)
         return None
 
 
 COMPARED = Calls(
-    "nested.is_same_type(&self.{0}, &other.{0})",
+    "nested.is_same_{1}(&self.{0}, &other.{0})",
     "self.{0}.is_same_nested(nested, &other.{0})",
-    "same_list(nested, &self.{0}, &other.{0})",
-    ("crate::nested::compare", "same_list"),
+    "{1}(nested, &self.{0}, &other.{0})",
+    "same",
+    "crate::nested::compare",
 )
 
 
@@ -282,7 +363,7 @@ def compare_enum(source, t):
     arms = ""
     for variant, payload in t.variants:
         name = f"{t.name}::{variant}"
-        is_nested = t.is_nested and source.is_nested(payload)
+        is_nested = source.is_nested(t, payload)
         if payload:
             arms += compared_arm(f"({name}(a), {name}(b))", *(("a.is_same_nested", "nested, b") if is_nested else ("a.is_same", "b")))
         else:
@@ -296,12 +377,18 @@ def compare_body(source, t, uses):
     return compare_enum(source, t) if t.is_enum else compare_struct(source, t, uses)
 
 
+def compared_lemmas(source, t, body):
+    """What the proof of such a comparison is handed."""
+    attributes = [f"{source.root()}::proofs::Attributes::same_attributes"] if t.has_attributes() else []
+    return attributes + lemmas(source, t, "compare", body)
+
+
 def compared_text(source, t, uses):
     body = compare_body(source, t, uses)
     other = "other" if "other" in body else "_other"
-    tactic = f"    #[tactic(auto, using({source.root()}::proofs::Attributes::same_attributes))]\n" if t.has_attributes() else ""
+    handed = compared_lemmas(source, t, body)
     return f"""impl Compared for {t.name} {{
-{tactic}    fn is_same(&self, {other}: &{t.name}) -> bool {{
+{tactic(handed)}    fn is_same(&self, {other}: &{t.name}) -> bool {{
 {body}    }}
 }}
 
@@ -310,18 +397,21 @@ def compared_text(source, t, uses):
 
 def nested_compared_text(source, t, uses):
     """The comparison of a type that leads back to itself: with the help of that of types, and then by itself."""
-    text = ""
-    uses.append(("crate::nested::compare", "is_same_type"))
-    if not source.by_hand(f"impl CompareNested for {t.name}"):
-        uses += [("crate::nested::compare", name) for name in ("CompareNested", "CompareType")]
+    text, family = "", FAMILIES[t.family]
+    if t.name != family.entry and not source.by_hand(f"impl CompareNested{family.argument} for {t.name}"):
+        bound = f"Compare{family.bound}"
+        uses += family.uses(source, "compare", "CompareNested", bound)
         body = compare_body(source, t, uses)
-        head = f"    fn is_same_nested<N: CompareType>(&self, nested: &N, other: &{t.name}) -> bool {{\n"
+        head = f"    fn is_same_nested<N: {bound}{family.argument}>(&self, nested: &N, other: &{t.name}) -> bool {{\n"
         if len(head) > 101:
-            head = f"    fn is_same_nested<N: CompareType>(\n        &self,\n        nested: &N,\n        other: &{t.name},\n    ) -> bool {{\n"
-        text = f"impl CompareNested for {t.name} {{\n{smaller_tactic(t, body)}{head}{body}    }}\n}}\n\n"
-    call = "is_same_type(self, other)"
-    if t.name != ENTRY:
-        call = "self.is_same_nested(&Knot { is_same_type }, other)"
+            head = f"    fn is_same_nested<N: {bound}{family.argument}>(\n        &self,\n        nested: &N,\n        other: &{t.name},\n    ) -> bool {{\n"
+        text = f"impl CompareNested{family.argument} for {t.name} {{\n{tactic(compared_lemmas(source, t, body))}{head}{body}    }}\n}}\n\n"
+    if not stands_alone(t):
+        return text
+    uses.append(("crate::nested::compare", f"is_same_{family.function}"))
+    call = f"is_same_{family.function}(self, other)"
+    if t.name != family.entry:
+        call = family.knot_call("self.is_same_nested", "is_same", "other")
         uses += [("crate::nested::compare", name) for name in ("CompareNested", "Knot")]
     return text + f"""impl Compared for {t.name} {{
     fn is_same(&self, other: &{t.name}) -> bool {{
@@ -355,13 +445,21 @@ impl Eq for {name} {{
 """
 
 
+COMPARED_TRAIT = ("syn_tokens::syntactic::compare", "Compared")
+
+
 def compare_block(source, t):
     syntax, module = syntax_of(source, t)
     odd = source.by_hand(f"impl Compared for {t.name}")
     ghosts = [(module, syntax)]
     ghosts += [(f"{LOWEST}.specs.Equality", name) for name in ("IsSame", "IsEqual", "PrintsAlike")]
     ghosts += [("syn_tokens.specs.Comparison", name) for name in ("same_by", "same_equiv", "same_per")]
-    uses = [(source.own_path_of(t.name), t.name), ("syn_tokens::syntactic::compare", "Compared")]
+    uses = [(source.own_path_of(t.name), t.name)]
+    if not stands_alone(t):
+        text = nested_compared_text(source, t, uses)
+        uses += [COMPARED_TRAIT] if ".is_same(" in text else []
+        return {"text": text.removesuffix("\n"), "uses": uses, "ghosts": []} if text else None
+    uses.append(COMPARED_TRAIT)
     compared = "" if odd else (nested_compared_text if t.is_nested else compared_text)(source, t, uses)
     return {"text": compared + equality_text(source, t.name, syntax), "uses": uses, "ghosts": ghosts}
 
@@ -374,10 +472,11 @@ def comparisons(source):
 
 
 PRINTED = Calls(
-    "nested.print_type(&self.{0}, out)",
+    "nested.print_{1}(&self.{0}, out)",
     "self.{0}.print_nested(nested, out)",
-    "print_list(nested, &self.{0}, out)",
-    ("crate::nested::print", "print_list"),
+    "{1}(nested, &self.{0}, out)",
+    "print",
+    "crate::nested::print",
 )
 
 
@@ -411,21 +510,21 @@ def print_enum(source, t):
     arms = ""
     for variant, payload in t.variants:
         name = f"{t.name}::{variant}"
-        call = "print_nested(nested, out)" if t.is_nested and source.is_nested(payload) else "print_in(out)"
+        call = "print_nested(nested, out)" if source.is_nested(t, payload) else "print_in(out)"
         arms += f"            {name}(value) => value.{call},\n" if payload else f"            {name} => Ok(()),\n"
     return f"        match self {{\n{arms}        }}\n"
 
 
 def print_tactic(source, t, body):
     """What the proof of a print is handed beside what all of them are."""
-    lemmas = ["syn_tokens::proofs::Prints::groups"] if ".open(out)" in body else []
-    if "print_list(nested" in body:
-        lemmas = lemmas or ["syn_tokens::proofs::Prints::prints"]
-        lemmas.append(SMALLER_LISTS)
-    return f"    #[tactic(auto, using({', '.join(lemmas)}))]\n" if lemmas else ""
+    groups, more = ".open(out)" in body, lemmas(source, t, "print", body)
+    steps = [f"syn_tokens::proofs::Prints::{'groups' if groups else 'prints'}"] if groups or more else []
+    return tactic(steps + more)
 
 
-PRINT_USES = [("std::alloc", "AllocError"), ("syn_tokens::stream::builder", "StreamBuilder"), ("syn_tokens::print", "Print")]
+WRITE_USES = [("std::alloc", "AllocError"), ("syn_tokens::stream::builder", "StreamBuilder")]
+PRINT_TRAIT = ("syn_tokens::print", "Print")
+PRINT_USES = [*WRITE_USES, PRINT_TRAIT]
 
 
 def print_body(source, t, uses):
@@ -445,12 +544,13 @@ def print_text(source, t, uses):
 
 def nested_print_text(source, t, uses):
     """The print of a type that leads back to itself: with the help of the print of a type, and then by itself."""
-    text = ""
-    if not source.by_hand(f"impl PrintNested for {t.name}"):
-        uses += [("crate::nested::print", "PrintType"), ("crate::nested::print", "PrintNested")]
+    text, family = "", FAMILIES[t.family]
+    if t.name != family.entry and not source.by_hand(f"impl PrintNested{family.argument} for {t.name}"):
+        bound = f"Print{family.bound}"
+        uses += [*family.uses(source, "print", "PrintNested", bound), *WRITE_USES]
         body = print_body(source, t, uses)
-        text = f"""impl PrintNested for {t.name} {{
-{print_tactic(source, t, body)}    fn print_nested<N: PrintType>(
+        text = f"""impl PrintNested{family.argument} for {t.name} {{
+{print_tactic(source, t, body)}    fn print_nested<N: {bound}{family.argument}>(
         &self,
         nested: &N,
         out: &mut StreamBuilder,
@@ -459,12 +559,15 @@ def nested_print_text(source, t, uses):
 }}
 
 """
-    if t.name == ENTRY:
-        call = "print_type(self, out)"
+    if not stands_alone(t):
+        return text
+    uses += PRINT_USES
+    if t.name == family.entry:
+        call = f"print_{family.function}(self, out)"
     else:
-        call = "self.print_nested(&Knot { print_type }, out)"
+        call = f"self.print_nested(&{family.knot('print')}, out)"
         uses += [("crate::nested::print", name) for name in ("Knot", "PrintNested")]
-    uses.append(("crate::nested::print", "print_type"))
+    uses.append(("crate::nested::print", f"print_{family.function}"))
     return text + f"""impl Print for {t.name} {{
     fn print_in(&self, out: &mut StreamBuilder) -> Result<(), AllocError> {{
         {call}
@@ -475,7 +578,12 @@ def nested_print_text(source, t, uses):
 
 
 def print_block(source, t):
-    uses = [(source.own_path_of(t.name), t.name), ("syn_tokens::print", "ToTokens")]
+    uses = [(source.own_path_of(t.name), t.name)]
+    if not stands_alone(t):
+        text = nested_print_text(source, t, uses)
+        uses += [PRINT_TRAIT] if ".print_in(" in text else []
+        return {"text": text.removesuffix("\n"), "uses": uses, "ghosts": []} if text else None
+    uses.append(("syn_tokens::print", "ToTokens"))
     text = ""
     if not source.by_hand(f"impl Print for {t.name}"):
         uses += PRINT_USES

@@ -27,12 +27,18 @@ class Type:
         self.name = name
         self.file = file
         self.is_copy = "Copy" in attributes
-        self.is_nested = "#[cycle(" in attributes
+        family = re.search(r"#\[cycle\((\w+)\)\]", attributes)
+        self.family = family[1] if family else None
         self.fields = [] if self.is_enum else FIELD.findall(body)
         self.variants = VARIANT.findall(body) if self.is_enum else []
         lines = [line for line in body.split("\n") if line.strip() and not line.strip().startswith(("///", "//"))]
         if len(lines) != len(self.fields) + len(self.variants):
             raise Fault(f"{file}: {name} isn't laid out with one public field or variant a line")
+
+    @property
+    def is_nested(self):
+        """Whether it leads back to itself."""
+        return self.family is not None
 
     def has_no_values(self):
         return self.is_enum and not self.variants
@@ -89,7 +95,7 @@ class Source:
 
     def owner(self, t):
         """The source of the crate in which a type stands."""
-        return self if t.crate == self.crate.name else self.below
+        return self if t.crate == self.crate.name else self.below.owner(t)
 
     def root(self):
         """How this crate calls the lowest one."""
@@ -105,17 +111,17 @@ class Source:
         """The same, as this crate calls it."""
         return re.sub(rf"^{self.crate.name}\b", "crate", self.path_of(name))
 
-    def is_nested(self, kind):
-        """Whether it is a type that leads back to itself."""
-        return kind in self.types and self.types[kind].is_nested
+    def is_nested(self, t, kind):
+        """Whether it is a type that leads back to the one that holds it."""
+        return t.is_nested and kind in self.types and self.types[kind].family == t.family
 
     def leads_back(self, file):
         """Whether a type of this file does."""
         return any(t.is_nested for t in self.types.values() if t.file == file)
 
-    def lists_nested(self, kind):
+    def lists_nested(self, t, kind):
         """Whether it is a list of values of such a type."""
-        return kind.startswith("Punctuated<") and self.is_nested(kind.removeprefix("Punctuated<").split(", ")[0])
+        return kind.startswith("Punctuated<") and self.is_nested(t, kind.removeprefix("Punctuated<").split(", ")[0])
 
     def is_token(self, owner, kind):
         """Whether a type of a field of `owner` is a word, a mark or the delimiters of a group."""

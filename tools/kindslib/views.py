@@ -37,7 +37,7 @@ impl std::marker::Model for {t.name} {{
 def size(t):
     """Of a struct that leads back to itself: more than that of each of its parts."""
     return f"""
-    ghost use Rattle.{t.crate}.specs.Sizes.{{tree_size}};
+    ghost use Rattle.{LOWEST}.specs.Sizes.{{tree_size}};
 
     ghost size = {{ tree_size }};
 
@@ -155,6 +155,8 @@ def plain_views(source, joined):
     imports = {"syn_grammar.specs.Grammar": {"Syntax", "Node"}}
     view = PlainView(source, joined, imports)
     types = [t for t in source.printed() if is_plain(source, t)]
+    if not types:
+        return {}
     body = "".join(view.text(t) for t in types)
     uses = "".join(f"use Rattle.{module}.{{{', '.join(sorted(names))}}}\n" for module, names in sorted(imports.items()))
     insides = "".join(f"use Rattle.{t.crate}.specs.declared.{declared(t)}.TheInside as {t.name}-in\n" for t in types)

@@ -9,7 +9,8 @@ use syn::lower::{Attribute, Path};
 use syn::parse::{Parse, ParseBuffer};
 use syn::restriction::Visibility;
 use syn::token::TokenStream;
-use syn::{Result, ToTokens, TryClone};
+use syn::{Pat, Result, ToTokens, TryClone};
+use syn_pat::parsing::typed_pattern;
 use syn_test_support::outline::Outlined;
 use syn_test_support::visibilities::Visibilities;
 use syn_tokens::syntactic::compare::Compared;
@@ -50,6 +51,21 @@ impl Call for UnnamedField {
     }
 
     fn print(tree: &Field, tokens: &mut TokenStream) -> Result<()> {
+        tree.to_tokens(tokens)
+    }
+}
+
+/// `typed_pattern`
+pub(crate) struct TypedPattern;
+
+impl Call for TypedPattern {
+    type Tree = Pat;
+
+    fn read(input: &mut ParseBuffer<'_>) -> Result<Pat> {
+        Ok(typed_pattern(input)?)
+    }
+
+    fn print(tree: &Pat, tokens: &mut TokenStream) -> Result<()> {
         tree.to_tokens(tokens)
     }
 }

@@ -2,7 +2,8 @@
 
 use crate::answer::answer;
 use crate::call::{
-    Converted, InnerAttributes, ModStyle, NamedField, Opened, OuterAttributes, UnnamedField,
+    Converted, InnerAttributes, ModStyle, NamedField, Opened, OuterAttributes, TypedPattern,
+    UnnamedField,
 };
 use crate::called::called;
 use crate::failure::Failure;
@@ -16,12 +17,12 @@ use syn::data::{Fields, FieldsNamed, FieldsUnnamed, Variant};
 use syn::deferred::Deferred;
 use syn::derive::DeriveInput;
 use syn::item::{Item, ItemEnum, ItemStruct, ItemUnion};
-use syn::kind;
 use syn::lower::{
     BoundLifetimes, Expr, GenericParam, Generics, LifetimeParam, Lit, Path, ReturnType, TraitBound,
     TraitBoundModifier, Type, TypeParamBound, TypePath, WhereClause, WherePredicate,
 };
 use syn::restriction::Visibility;
+use syn::{Macro, Pat, kind};
 use syn_test_support::visibilities::Visibilities;
 
 /// What comes of the row as the kind of this word, which stands in the heading.
@@ -39,7 +40,7 @@ pub(crate) fn answer_as(
     }
 }
 
-/// Items, and what is in them; else what `of_types` says.
+/// Items, and what is in them; else what `of_patterns` says.
 fn of_items(
     alloc: Global,
     question: TreeQuestion,
@@ -56,6 +57,22 @@ fn of_items(
         "FieldsNamed" => answer::<FieldsNamed>(alloc, question, row),
         "FieldsUnnamed" => answer::<FieldsUnnamed>(alloc, question, row),
         "Visibility" => answer::<Visibility>(alloc, question, row),
+        _ => of_patterns(alloc, question, heading, word, row),
+    }
+}
+
+/// Patterns and macros; else what `of_types` says.
+fn of_patterns(
+    alloc: Global,
+    question: TreeQuestion,
+    heading: &Heading<'_>,
+    word: &str,
+    row: &Row<'_>,
+) -> Result<String, Failure> {
+    match word {
+        "Pat" => answer::<Pat>(alloc, question, row),
+        "Macro" => answer::<Macro>(alloc, question, row),
+        "typed_pattern" => called::<TypedPattern>(alloc, question, row),
         _ => of_types(alloc, question, heading, word, row),
     }
 }

@@ -15,8 +15,8 @@ pub use syn_lower::{
     TypeParen, TypePath, TypePtr, TypeReference, TypeSlice, TypeTuple, WhereClause, WherePredicate,
     kind,
 };
-pub use syn_parse::deferred;
 pub use syn_parse::parse::parse2;
+pub use syn_pat::{Macro, Pat};
 pub use syn_reader::reader;
 pub use syn_tokens::error::{Error, Fault, Result};
 pub use syn_tokens::ident::Ident;
@@ -37,7 +37,7 @@ pub use syn_tree::item::{
 };
 pub use syn_tree::restriction::{VisRestricted, Visibility};
 pub use syn_tree::stmt::LocalModifiers;
-pub use syn_tree::{data, derive, item, restriction, stmt};
+pub use syn_tree::{data, derive, item, restriction};
 
 /// Buffers of tokens, and what is parsed from them.
 pub mod parse {
@@ -73,6 +73,30 @@ pub mod lower {
 /// Expressions: of today a literal, `true` or `false`.
 pub mod expr {
     pub use syn_lower::{Expr, ExprLit};
+}
+
+/// Patterns.
+pub mod pat {
+    pub use syn_pat::{
+        Pat, PatIdent, PatParen, PatPath, PatTuple, PatTupleStruct, PatType, PatWild,
+    };
+}
+
+/// Macros that are called.
+pub mod mac {
+    pub use syn_pat::Macro;
+}
+
+/// Statements: of today what may stand before `let`.
+pub mod stmt {
+    pub use syn_tree::stmt::LocalModifiers;
+}
+
+/// Parts of trees that are kept as their tokens until they are opened.
+pub mod deferred {
+    pub use syn_parse::deferred::{
+        Deferred, Kind, StandsAlone, TreeKind, keep, keep_rest, read_deferred, read_deferred_rest,
+    };
 }
 
 /// Places in token streams, from which their trees are read.

@@ -1,4 +1,8 @@
 //! Texts that show trees whole: each token with its spans, each part that is there.
+
+mod parts;
+mod pats;
+
 use std::alloc::{AllocError, Global};
 use syn::ToTokens;
 use syn::canon::{NamedField, UnnamedField};
@@ -56,6 +60,22 @@ impl TreeText {
             add_place(&mut self.text, *span)?;
         }
         Ok(())
+    }
+
+    /// A group of any tokens.
+    fn tokens_in(
+        &mut self,
+        delimiter: MacroDelimiter,
+        tokens: &TokenStream,
+    ) -> Result<(), AllocError> {
+        let (open, close, opening, closing) = match delimiter {
+            MacroDelimiter::Paren(sign) => ("(", ")", sign.opening, sign.closing),
+            MacroDelimiter::Brace(sign) => ("{", "}", sign.opening, sign.closing),
+            MacroDelimiter::Bracket(sign) => ("[", "]", sign.opening, sign.closing),
+        };
+        self.token(open, opening)?;
+        tokens.show(self)?;
+        self.token(close, closing)
     }
 
     /// Each attribute in its order.
@@ -233,14 +253,7 @@ impl Outlined for Expr {
 impl Outlined for MetaList {
     fn show(&self, out: &mut TreeText) -> Result<(), AllocError> {
         self.path.show(out)?;
-        let (open, close, opening, closing) = match self.delimiter {
-            MacroDelimiter::Paren(sign) => ("(", ")", sign.opening, sign.closing),
-            MacroDelimiter::Brace(sign) => ("{", "}", sign.opening, sign.closing),
-            MacroDelimiter::Bracket(sign) => ("[", "]", sign.opening, sign.closing),
-        };
-        out.token(open, opening)?;
-        self.tokens.show(out)?;
-        out.token(close, closing)
+        out.tokens_in(self.delimiter, &self.tokens)
     }
 }
 

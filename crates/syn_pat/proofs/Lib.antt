@@ -1,0 +1,9 @@
+pub mod ExpressionPaths
+pub mod Lists
+pub mod Macros
+pub mod PathLists
+pub mod PathLooks
+pub mod PathWords
+pub mod PatternLists
+pub mod Patterns
+pub mod TraitPaths

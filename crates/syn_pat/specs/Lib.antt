@@ -1,0 +1,5 @@
+pub mod Falls
+pub mod Macros
+pub mod PathForms
+pub mod Patterns
+pub mod Ties

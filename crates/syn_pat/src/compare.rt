@@ -1,0 +1,6 @@
+//! Written by tools/kinds.py; edits are lost.
+//!
+//! Comparisons of trees.
+
+mod mac;
+mod pat;

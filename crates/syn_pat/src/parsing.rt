@@ -1,0 +1,9 @@
+//! Parsers.
+
+mod mac;
+mod pat;
+mod path;
+
+pub use mac::macro_invocation;
+pub use pat::typed_pattern;
+pub use path::path_as_expression;
