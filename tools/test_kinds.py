@@ -149,6 +149,18 @@ class Kinds(unittest.TestCase):
         copy = copies(source)[self.top / "src/copies/things.rt"]
         self.assertIn("Choice::Mark(value) => Ok(Choice::Mark(*value)),\n            Choice::Whole(value) => Ok(Choice::Whole(value.try_clone(alloc)?)),\n", copy)
 
+    def test_a_variants_struct_that_leads_back_doesnt_stand_alone(self):
+        cycle = "#[cycle(patterns)]\n#[derive(Drop)]\npub"
+        source = self.crate(f"/// A.\n{cycle} enum Pat {{\n    Paren(PatParen),\n}}\n\n/// B.\n{cycle} struct PatParen {{\n    pub pat: Box<Pat>,\n}}\n", "abbrev pub syntax_of_Pat : Pat → Syntax\n")
+        for files, shared, own in (
+            (copies(source)[self.top / "src/copies/things.rt"], "impl CopyNested<Pat>", "impl TryClone"),
+            (comparisons(source)[self.top / "src/compare/things.rt"], "impl CompareNested<Pat>", "impl PartialEq"),
+            (prints(source, set())[self.top / "src/prints/things.rt"], "impl PrintNested<Pat>", "impl ToTokens"),
+        ):
+            self.assertIn(f"{shared} for PatParen ", files)
+            self.assertNotIn(f"{own} for PatParen ", files)
+            self.assertIn(f"{own} for Pat ", files)
+
     def test_what_stands_behind_a_sign_is_in_its_group(self):
         source = self.crate()
         view = plain_views(source, set())[self.top / "specs/Plain.antt"]
@@ -160,7 +172,7 @@ class Kinds(unittest.TestCase):
 
     def test_what_is_written_by_hand_is_left_out(self):
         source = self.crate(TYPES + "\nimpl Compared for Thing {\n}\n", SPECS + "abbrev pub view_Thing : Thing-in.Inside → Syntax\n")
-        self.assertNotIn("view_Thing", plain_views(source, set())[self.top / "specs/Plain.antt"])
+        self.assertEqual(plain_views(source, set()), {}, "no view is left to write, so no file is")
         same = comparisons(source)[self.top / "src/compare/things.rt"]
         self.assertNotIn("impl Compared for Thing", same)
         self.assertIn("impl PartialEq for Thing", same)
