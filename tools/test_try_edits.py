@@ -90,6 +90,9 @@ class Functions(unittest.TestCase):
             ("impl<K: CustomPunctuationKind<2>> Peek for CustomPunctuation<K, 2> {", "CustomPunctuation2Peek"),
             ("impl<T: Compared, P: Compared> Compared for (T, P) {", "Tuple2Compared"),
             ("impl<F: Fn(&Name) -> Result<Option<u8>, Error> + Copy> Walk for Knot<F> {", "KnotWalk"),
+            ("impl<T: Syntactic, V: Walk<T>> Walk<T> for Option<V> {", "OptionWalk"),
+            ("impl<T: Syntactic, F: Fn(&T) -> Result<T, Error>> WalkOf<T> for Knot<F> {", "KnotWalkOf"),
+            ("impl Walk<Name> for Part {", "PartWalkName"),
             ("impl<'a, T, P> IntoIterator for &'a Punctuated<T, P> {", "RefPunctuatedIntoIterator"),
             ("impl<'a, T, P> IntoIterator for &'a mut Punctuated<T, P> {", "RefMutPunctuatedIntoIterator"),
         ]:

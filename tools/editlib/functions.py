@@ -48,14 +48,28 @@ def subject_of(header):
     return ""
 
 
+def parameters_of(header):
+    """The types over which an impl block is generic."""
+    text, depth, names = header.partition("impl")[2].replace("->", "  "), 0, []
+    if not text.startswith("<"):
+        return names
+    for at, sign in enumerate(text):
+        if depth == 1 and text[at - 1] in "<, " and (found := re.match(r"(\w+)\b", text[at:])) and re.search(r"[<,] *$", text[:at]):
+            names.append(found[1])
+        depth += (sign == "<") - (sign == ">") + (sign == "(") - (sign == ")")
+        if not depth:
+            return names
+    return names
+
+
 def block_of(header):
-    """The prover's name of an impl block, such as ErrorFromRefusal, AnyParse where the type is a parameter, and
-    CustomPunctuation2Peek where the type has a number."""
+    """The prover's name of an impl block, such as ErrorFromRefusal, AnyParse where the type is a parameter,
+    CustomPunctuation2Peek where the type has a number, and OptionWalk of `impl<T> Walk<T> for Option<T>`."""
     inside = subject_of(re.sub(r"\s*(where .*)?\{$", "", header))
     if " for " not in inside:
         return plain(inside)
     trait, kind = inside.split(" for ", 1)
-    arguments = re.findall(r"\w+", trait.partition("<")[2].partition("<")[0])
+    arguments = [word for word in re.findall(r"\w+", trait.partition("<")[2].partition("<")[0]) if word not in parameters_of(header)]
     name = "Any" if re.fullmatch(r"[A-Z]", kind.split()[0]) else "Tuple2" if kind.startswith("(") else plain(kind)
     numbers = re.findall(r"\b\d+\b", kind.partition("<")[2])
     return name + "".join(numbers) + plain(trait) + "".join(word[0].upper() + word[1:] for word in arguments)
