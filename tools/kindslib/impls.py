@@ -9,7 +9,7 @@ from .views import syntax_of
 @dataclass
 class Family:
     """Types that lead back to themselves: the one by which they do so, how the trait and the method of its help are called, the
-    function that makes a knot, and the functions for lists of that type."""
+    function that makes a knot, the functions for lists of that type, the argument of the traits, and the copy of that type in a box."""
 
     entry: str
     bound: str
@@ -17,6 +17,7 @@ class Family:
     function: str
     list: str
     argument: str = ""
+    boxed: str = "copy_boxed"
 
     def knot(self, verb):
         field = f"{verb}_{self.function}"
@@ -39,11 +40,12 @@ class Family:
 FAMILIES = {
     "types": Family("Type", "Type", "type", "type", "list"),
     "patterns": Family("Pat", "Of", "one", "pat", "list", "<Pat>"),
+    "expressions": Family("Expr", "Of", "one", "expr", "exprs", "<Expr>", "copy_operand"),
 }
 
-# of the types that lead back to a pattern, those that are copied, compared and printed by themselves too: a variant's struct isn't,
-# as its `Pat` stands for it
-ALONE = {"Pat", "PatType"}
+# of the types that lead back to a pattern or an expression, those that are copied, compared and printed by themselves too: a variant's
+# struct isn't, as its `Pat` or `Expr` stands for it
+ALONE = {"Block", "Expr", "Local", "LocalInit", "Pat", "PatType", "Stmt"}
 
 
 def stands_alone(t):
@@ -56,8 +58,23 @@ SMALLER_LISTS = "proofs::Smaller::lists"
 SMALLER = {"TypePath": ["crate::proofs::Smaller::qself_smaller", "crate::proofs::Smaller::path_smaller"]}
 
 # what the proofs of a type want whose view is its fields in a form of its own: of its print, its copy and its comparison
+FORMS = "crate::proofs::Forms"
 PATTERNS = "crate::proofs::Patterns"
+BODY = {"smaller": ["crate::specs::Falls::inner_size"]}
 LEMMAS = {
+    **dict.fromkeys(("ExprBlock", "ExprForLoop", "ExprLoop", "ExprUnsafe", "ExprWhile"), BODY),
+    "ExprArray": {"print": ["crate::proofs::Lists::print_array"], "compare": ["crate::proofs::Lists::same_array"], "smaller": ["crate::proofs::Lists::in_array"]},
+    "ExprBreak": {"compare": ["syn_grammar::proofs::Same::and_true"]},
+    "ExprField": {"print": [f"{FORMS}::print_member"], "compare": [f"{FORMS}::same_member"]},
+    "ExprLit": {"print": [f"{FORMS}::print_literal"], "compare": [f"{FORMS}::same_literal"]},
+    "ExprMethodCall": {
+        "print": [f"{FORMS}::print_arguments"],
+        "copy": [f"{FORMS}::copied_arguments"],
+        "compare": [f"{FORMS}::same_arguments"],
+        "smaller": [f"{FORMS}::arguments_smaller"],
+    },
+    "ExprParen": {"compare": ["syn_grammar::proofs::Same::and_true"]},
+    "Local": {"print": ["syn_pat::proofs::Patterns::print_local"]},
     "PatIdent": {"print": [f"{PATTERNS}::print_bound"], "compare": [f"{PATTERNS}::same_bound"]},
     "PatParen": {"compare": ["syn_grammar::proofs::Same::and_true"]},
     "PatType": {"print": [f"{PATTERNS}::print_behind"], "compare": [f"{PATTERNS}::same_typed"], "smaller": [f"{PATTERNS}::behind_smaller"]},
@@ -173,8 +190,8 @@ def nested_copy(source, t, place, kind, uses):
     if kind == family.entry:
         return f"nested.copy_{family.method}(&{place}, alloc)?"
     if kind == f"Box<{family.entry}>" and family.argument:
-        uses.append(("crate::nested::copy", "copy_boxed"))
-        return f"copy_boxed(nested, &{place}, alloc)?"
+        uses.append(("crate::nested::copy", family.boxed))
+        return f"{family.boxed}(nested, &{place}, alloc)?"
     if kind == f"Box<{family.entry}>":
         return f"Box::new(alloc, nested.copy_{family.method}(&{place}, alloc)?)?"
     if kind == f"Option<Box<{family.entry}>>":

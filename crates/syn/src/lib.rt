@@ -5,6 +5,7 @@ pub mod canon;
 mod kinds;
 mod lawful;
 
+pub use syn_expr::stmt::LocalModifiers;
 pub use syn_lower::{
     AngleBracketedGenericArguments, AssocType, AttrStyle, Attribute, BoundLifetimes, ConstParam,
     Expr, ExprLit, GenericArgument, GenericParam, Generics, Index, LifetimeParam, Lit, LitBool,
@@ -36,7 +37,6 @@ pub use syn_tree::item::{
     TraitModifiers, TypeModifiers,
 };
 pub use syn_tree::restriction::{VisRestricted, Visibility};
-pub use syn_tree::stmt::LocalModifiers;
 pub use syn_tree::{data, derive, item, restriction};
 
 /// Buffers of tokens, and what is parsed from them.
@@ -89,7 +89,7 @@ pub mod mac {
 
 /// Statements: of today what may stand before `let`.
 pub mod stmt {
-    pub use syn_tree::stmt::LocalModifiers;
+    pub use syn_expr::stmt::LocalModifiers;
 }
 
 /// Parts of trees that are kept as their tokens until they are opened.

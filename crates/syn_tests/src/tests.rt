@@ -7,6 +7,7 @@ mod copies;
 mod deep;
 mod deferred;
 mod handmade;
+mod handmade_exprs;
 mod handmade_generics;
 mod handmade_items;
 mod handmade_types;

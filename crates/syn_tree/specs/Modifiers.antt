@@ -1,4 +1,4 @@
--- THE MODIFIERS OF FIELDS, STATEMENTS AND ITEMS: what syntax they stand for, and the faults of those that nobody expects.
+-- THE MODIFIERS OF FIELDS AND ITEMS: what syntax they stand for, and the faults of those that nobody expects.
 use Rattle.std.specs.Prelude.{◌≡◌, ℕ, List, [], ◌∷◌, ◌++◌, Option, Some, None, Result, Ok, Err, codes, slice_index_or}
 use Rattle.syn_grammar.specs.Grammar.{Syntax, Nothing, Both}
 use Rattle.syn_tokens.specs.Faults.{FaultValue, IsSyntaxError}
@@ -7,7 +7,6 @@ use Rattle.syn_tokens.specs.Leaves.{maybe}
 use Rattle.syn_tokens.specs.declared.span.Span.{Span}
 use Rattle.syn_tokens.specs.declared.token.word.Word.{Word}
 use Rattle.syn_tree.specs.declared.data.FieldModifiers.{FieldModifiers}
-use Rattle.syn_tree.specs.declared.stmt.LocalModifiers.{LocalModifiers}
 use Rattle.syn_tree.specs.declared.item.modifiers.ConstModifiers.{ConstModifiers}
 use Rattle.syn_tree.specs.declared.item.modifiers.FnModifiers.{FnModifiers}
 use Rattle.syn_tree.specs.declared.item.modifiers.TypeModifiers.{TypeModifiers}
@@ -17,9 +16,6 @@ use Rattle.syn_tree.specs.declared.item.modifiers.TraitModifiers.{TraitModifiers
 -- there are none
 abbrev pub syntax_of_FieldModifiers : FieldModifiers → Syntax
 syntax_of_FieldModifiers m = Nothing
-
-abbrev pub syntax_of_LocalModifiers : LocalModifiers → Syntax
-syntax_of_LocalModifiers m = Nothing
 
 abbrev pub syntax_of_ConstModifiers : ConstModifiers → Syntax
 syntax_of_ConstModifiers m = maybe default_syntax m.defaultness

@@ -6,4 +6,3 @@ mod data;
 mod derive;
 mod item;
 mod restriction;
-mod stmt;

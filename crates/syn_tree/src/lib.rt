@@ -10,4 +10,3 @@ pub mod item;
 pub mod laws;
 mod prints;
 pub mod restriction;
-pub mod stmt;

@@ -1,0 +1,57 @@
+-- WHAT SYNTAX BLOCKS AND STATEMENTS STAND FOR, one level at a time, every field.
+use Rattle.std.specs.Prelude.{List, [], ◌∷◌}
+use Rattle.syn_grammar.specs.Tokens.{Brace}
+use Rattle.syn_grammar.specs.Shape.{a_local, listed, said, said_macro, untagged}
+use Rattle.syn_grammar.specs.Grammar.{Syntax, Nothing, Both, Left, Right, Node, Such, Shaped}
+use Rattle.syn_grammar.specs.Promises.{itself}
+use Rattle.syn_tokens.specs.Leaves.{maybe}
+use Rattle.syn_tokens.specs.Kinds.{else_syntax, eq_syntax, let_syntax, semi_syntax}
+use Rattle.syn_lower.specs.Attributes.{attributes_syntax}
+use Rattle.syn_lower.specs.Parts.{group_syntax}
+use Rattle.syn_expr.specs.Expressions.{block_behind_else, syntax_of_Expr, whole}
+use Rattle.syn_pat.specs.Patterns.{local_pattern, syntax_of_Pat}
+use Rattle.syn_expr.specs.declared.expr.Expr.TheVariants as Expr-m
+use Rattle.syn_expr.specs.declared.stmt.Block.TheInside as Block-in
+use Rattle.syn_expr.specs.declared.stmt.Local.TheInside as Local-in
+use Rattle.syn_expr.specs.declared.stmt.LocalInit.TheInside as LocalInit-in
+use Rattle.syn_expr.specs.declared.stmt.LocalModifiers.{LocalModifiers}
+use Rattle.syn_expr.specs.declared.stmt.Stmt.TheVariants as Stmt-m
+use Rattle.syn_expr.specs.declared.stmt.StmtMacro.TheInside as StmtMacro-in
+
+abbrev pub statement_of : Stmt-m.the_data → Syntax
+statement_of (Stmt-m.Local s) = Shaped a_local s
+statement_of (Stmt-m.Expr e semi) = Shaped said (Both (syntax_of_Expr e) (maybe semi_syntax semi))
+statement_of (Stmt-m.Macro s) = Shaped said_macro s
+
+-- in the node of its rule
+abbrev pub syntax_of_Stmt : Stmt-m.the_data → Syntax
+syntax_of_Stmt s = Node (statement_of s)
+
+-- statements in order
+abbrev pub statements_syntax : List Stmt-m.the_data → Syntax
+statements_syntax [] = Node (Left Nothing)
+statements_syntax (s ∷ l) = Node (Right (Shaped listed (Both (statement_of s) (statements_syntax l))))
+
+abbrev pub view_Block : Block-in.Inside → Syntax
+view_Block a = Node (group_syntax Brace a.brace_token (statements_syntax a.stmts.items))
+
+-- there are none
+abbrev pub syntax_of_LocalModifiers : LocalModifiers → Syntax
+syntax_of_LocalModifiers m = Nothing
+
+abbrev pub view_Local : Local-in.Inside → Syntax
+view_Local a =
+    Both (attributes_syntax a.attrs.items) (Node (Both (let_syntax a.let_token) (Both (local_pattern (syntax_of_Pat a.pat)) (Both (maybe itself a.init) (semi_syntax a.semi_token)))))
+
+-- `else` and a block, or nothing
+abbrev pub diverging : Syntax → Syntax
+diverging (Left s) = Shaped untagged s
+diverging (Right s) = Shaped untagged s
+diverging s = Shaped untagged s
+
+abbrev pub view_LocalInit : LocalInit-in.Inside → Syntax
+view_LocalInit a =
+    Both (eq_syntax a.eq_token) (Shaped untagged (Both (Such (whole a.expr.value)) (diverging (maybe (λ p. Both (else_syntax p.0) (block_behind_else (syntax_of_Expr p.1.value))) a.diverge))))
+
+abbrev pub view_StmtMacro : StmtMacro-in.Inside → Syntax
+view_StmtMacro a = Both (Both (attributes_syntax a.attrs.items) a.mac) (maybe semi_syntax a.semi_token)

@@ -1,0 +1,7 @@
+//! Written by tools/kinds.py; edits are lost.
+//!
+//! Copies of trees.
+
+mod expr;
+mod op;
+mod stmt;

@@ -1,0 +1,6 @@
+//! Prints, copies and comparisons of expressions go through one entry point each, on the traits of `syn_pat`, so that the function of
+//! each kind of syntax stands alone.
+
+pub mod compare;
+pub mod copy;
+pub mod print;

@@ -1,0 +1,8 @@
+//! Copies of what leads back to an expression.
+
+mod exprs;
+
+pub use exprs::{copy_else, copy_expr, copy_exprs, copy_maybe, copy_operand, copy_statements};
+pub use syn_pat::nested::copy::{
+    CopyNested, CopyOf, Knot, copied, copy_boxed, copy_each, copy_list,
+};

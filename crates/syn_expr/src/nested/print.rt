@@ -1,0 +1,12 @@
+//! Prints of what leads back to an expression.
+
+mod bodies;
+mod branches;
+mod exprs;
+mod stmts;
+
+pub use bodies::{print_before, print_body};
+pub use branches::{print_diverging, print_else};
+pub use exprs::{print_expr, print_exprs, print_maybe};
+pub use stmts::print_statements;
+pub use syn_pat::nested::print::{Knot, PrintNested, PrintOf, print_list, print_lone_comma};
