@@ -161,6 +161,14 @@ class Kinds(unittest.TestCase):
             self.assertNotIn(f"{own} for PatParen ", files)
             self.assertIn(f"{own} for Pat ", files)
 
+    def test_an_operand_is_copied_by_one_plain_function(self):
+        cycle = "#[cycle(expressions)]\n#[derive(Drop)]\npub"
+        source = self.crate(f"/// A.\n{cycle} enum Expr {{\n    Try(ExprTry),\n}}\n\n/// B.\n{cycle} struct ExprTry {{\n    pub expr: Box<Expr>,\n}}\n", "abbrev pub syntax_of_Expr : Expr → Syntax\n")
+        copy = copies(source)[self.top / "src/copies/things.rt"]
+        self.assertIn("expr: copy_operand(nested, &self.expr, alloc)?,\n", copy)
+        self.assertIn("copy_operand", copy.split("\n\n")[1], "and it is imported")
+        self.assertNotIn("copy_boxed", copy)
+
     def test_what_stands_behind_a_sign_is_in_its_group(self):
         source = self.crate()
         view = plain_views(source, set())[self.top / "specs/Plain.antt"]
