@@ -1,0 +1,13 @@
+pub mod Blocks
+pub mod ExpressionLooks
+pub mod Groups
+pub mod LevelLooks
+pub mod Levels
+pub mod Listed
+pub mod Locals
+pub mod Postfixes
+pub mod Primary
+pub mod Spines
+pub mod StatementLists
+pub mod Trailing
+pub mod Unary

@@ -1,0 +1,80 @@
+-- A primary expression: what it is read as.
+use Rattle.std.proofs.Common.{◌≡◌, Bool, true, false, Some, None, refl, sym, ap, ◌∙◌}
+use Rattle.syn_grammar.specs.Words.{w_break, w_continue, w_false, w_return, w_true}
+use Rattle.syn_grammar.specs.Tokens.{Stream, end, leaf, punct, group, or, pick, at_word}
+use Rattle.syn_grammar.specs.Shape.{Variant, Break, Continue, Grouped, Lit, Macro, Path, Return, bracketed}
+use Rattle.syn_grammar.specs.Rules.{block_like, macro_invocation, path_as_expression, primary}
+use Rattle.syn_grammar.specs.Grammar.{Kind, Node, Token, any_literal, fits, word}
+use Rattle.syn_grammar.specs.Table.{at_any_literal, at_block_like, at_bracket, at_expression, at_invisible, at_macro, at_paren}
+use Rattle.syn_grammar.specs.Take.{Out, only, sees, take_token}
+use Rattle.syn_grammar.specs.Values.{core, new, shape}
+use Rattle.syn_grammar.specs.Run.{branch, parse_form, parse_rule, wrap}
+use Rattle.syn_grammar.proofs.Each.{primary_is}
+use Rattle.syn_grammar.proofs.Looks.{sees_or}
+use Rattle.syn_lower.specs.Literals.{lit_form}
+use Rattle.syn_expr_parse.specs.Parts.{token_of}
+use Rattle.syn_expr_parse.specs.Postfixes.{arguments_form}
+use Rattle.syn_expr_parse.specs.Primary.{bracketed_of, break_form, brackets_form, continue_form, group_form, jump_or_path, no_literal, primary_out, return_form}
+
+core_branch : (b : Bool) (x y x' y' : Out) → wrap core x ≡ x' → wrap core y ≡ y' → wrap core (branch b x y) ≡ pick b x' y'
+core_branch true None y x' y' e f = e
+core_branch true (Some p) y x' y' e f = e
+core_branch false x None x' y' e f = f
+core_branch false x (Some p) x' y' e f = f
+
+core_new : (v : Variant) (o : Out) → wrap core (wrap (new v) o) ≡ wrap (new v) o
+core_new v None = refl
+core_new v (Some p) = refl
+
+core_bracketed : (o : Out) → wrap core (wrap (shape bracketed) o) ≡ bracketed_of o
+core_bracketed None = refl
+core_bracketed (Some p) = refl
+
+jumps : (ts : Stream) → wrap core (branch (sees (at_word w_return) ts) (wrap (new Return) (parse_form return_form ts)) (branch (sees (at_word w_break) ts) (wrap (new Break) (parse_form break_form ts))
+    (branch (sees (at_word w_continue) ts) (wrap (new Continue) (parse_form continue_form ts)) (wrap (new Path) (parse_rule path_as_expression ts))))) ≡ jump_or_path ts
+jumps ts =
+    core_branch (sees (at_word w_return) ts) _ _ _ _ (core_new Return (parse_form return_form ts)) (core_branch (sees (at_word w_break) ts) _ _ _ _ (core_new Break (parse_form break_form ts))
+    (core_branch (sees (at_word w_continue) ts) _ _ _ _ (core_new Continue (parse_form continue_form ts)) (core_new Path (parse_rule path_as_expression ts))))
+
+no_literals : (ts : Stream) → wrap core (branch (sees at_macro ts) (wrap (new Macro) (parse_rule macro_invocation ts)) (branch (sees at_paren ts) (wrap (shape bracketed) (parse_form arguments_form ts))
+    (branch (sees at_bracket ts) (wrap (shape bracketed) (parse_form brackets_form ts)) (branch (sees at_invisible ts) (wrap (new Grouped) (parse_form group_form ts))
+    (branch (sees at_block_like ts) (parse_rule block_like ts) (branch (sees (at_word w_return) ts) (wrap (new Return) (parse_form return_form ts)) (branch (sees (at_word w_break) ts) (wrap (new Break) (parse_form break_form ts))
+    (branch (sees (at_word w_continue) ts) (wrap (new Continue) (parse_form continue_form ts)) (wrap (new Path) (parse_rule path_as_expression ts)))))))))) ≡ no_literal ts
+no_literals ts =
+    core_branch (sees at_macro ts) _ _ _ _ (core_new Macro (parse_rule macro_invocation ts)) (core_branch (sees at_paren ts) _ _ _ _ (core_bracketed (parse_form arguments_form ts))
+    (core_branch (sees at_bracket ts) _ _ _ _ (core_bracketed (parse_form brackets_form ts)) (core_branch (sees at_invisible ts) _ _ _ _ (core_new Grouped (parse_form group_form ts))
+    (core_branch (sees at_block_like ts) _ _ _ _ refl (jumps ts)))))
+
+-- three literals, and the others
+literals : (a b c : Bool) (x y z o o' : Out) → wrap token_of x ≡ x → wrap token_of y ≡ y → wrap token_of z ≡ z → wrap core o ≡ o' →
+    wrap core (branch a (wrap (new Lit) x) (branch b (wrap (new Lit) y) (branch c (wrap (new Lit) z) o))) ≡ pick (or a (or b c)) (wrap (new Lit) (wrap token_of (branch a x (branch b y z)))) o'
+literals true b c None y z o o' e f g h = refl
+literals true b c (Some p) y z o o' e f g h = ap (wrap (new Lit)) (sym e)
+literals false true c x None z o o' e f g h = refl
+literals false true c x (Some p) z o o' e f g h = ap (wrap (new Lit)) (sym f)
+literals false false true x y None o o' e f g h = refl
+literals false false true x y (Some p) o o' e f g h = ap (wrap (new Lit)) (sym g)
+literals false false false x y z None o' e f g h = h
+literals false false false x y z (Some p) o' e f g h = h
+
+-- a token is itself
+token_taken : (k : Kind) (ts : Stream) → wrap token_of (take_token k ts) ≡ take_token k ts
+unfolding take_token
+token_taken k end = refl
+token_taken k (punct c j sp m) = refl
+token_taken k (group d o c i m) = refl
+token_taken k (leaf x sp m) = go (fits k x)
+  where
+    go : (b : Bool) → wrap token_of (only b (Some (Token x sp, m))) ≡ only b (Some (Token x sp, m))
+    go true = refl
+    go false = refl
+
+literal_seen : (ts : Stream) → or (sees (at_word w_true) ts) (or (sees (at_word w_false) ts) (sees at_any_literal ts)) ≡ sees at_expression ts
+literal_seen ts = sym (sees_or (at_word w_true) _ ts ∙ ap (or (sees (at_word w_true) ts)) (sees_or (at_word w_false) at_any_literal ts))
+
+pub primary_are : (ts : Stream) → parse_rule primary ts ≡ wrap Node (primary_out ts)
+primary_are ts =
+    primary_is ts
+    ∙ ap (wrap Node) (literals (sees (at_word w_true) ts) (sees (at_word w_false) ts) (sees at_any_literal ts) (take_token (word w_true) ts) (take_token (word w_false) ts) (take_token any_literal ts) _ (no_literal ts)
+    (token_taken (word w_true) ts) (token_taken (word w_false) ts) (token_taken any_literal ts) (no_literals ts)
+    ∙ ap (λ b. pick b (wrap (new Lit) (wrap token_of (parse_form lit_form ts))) (no_literal ts)) (literal_seen ts))

@@ -1,0 +1,317 @@
+-- Statements are read one at a time: what one step reads of a list, and of a statement alone.
+use Rattle.std.proofs.Common.{◌≡◌, Bool, true, false, Some, None, refl, sym, ap, ◌∙◌}
+use Rattle.syn_grammar.specs.Words.{semicolon}
+use Rattle.syn_grammar.specs.Tokens.{Stream, pick, ended, at_word}
+use Rattle.syn_grammar.specs.Words.{w_let}
+use Rattle.syn_grammar.specs.Rules.{after_block, after_expression, attributes, block_like, local, macro_invocation, operand_rest, statement_end, statement_rest, statements, whole_expression}
+use Rattle.syn_grammar.specs.Shape.{Macro, a_local, said, said_macro}
+use Rattle.syn_grammar.specs.Grammar.{Syntax, Nothing, Mark, Both, Left, Right, Node, Shaped}
+use Rattle.syn_grammar.specs.Table.{table, at_block_like, at_brace_macro, at_crate_macro, at_lone_crate, at_postfix_mark, at_semicolon}
+use Rattle.syn_grammar.specs.Take.{Out, Chars, only, sees, take_mark, take_chars, taken, marked}
+use Rattle.syn_grammar.specs.Values.{alone, core, going_on, in_list, moved, new, onto, sentence, separated, stated}
+use Rattle.syn_grammar.specs.Run.{wrap, and_then, branch, parse_rule, parse_form}
+use Rattle.syn_grammar.proofs.Each.{after_block_is, after_expression_is, statement_end_is, statement_rest_is, statements_is}
+use Rattle.syn_grammar.proofs.Looks.{sees_mark}
+use Rattle.syn_expr_parse.specs.StatementForms.{alone_form, statement_form, then_by, ending, behind_block, unless_postfix, expression_statement, behind_attributes, statement_by, lone_semicolon, next_statement, before_others}
+
+-- `;` is taken where it stands next
+semicolon_seen : (ts : Stream) → pick (sees at_semicolon ts) (wrap Left (take_mark semicolon ts)) None ≡ wrap Left (take_mark semicolon ts)
+semicolon_seen ts = rw (sees_mark semicolon refl ts) (go (take_mark semicolon ts))
+  where
+    go : (o : Out) → pick (taken o) (wrap Left o) None ≡ wrap Left o
+    go None = refl
+    go (Some p) = refl
+
+-- A STATEMENT ALONE
+
+module _ (a : Syntax) where
+  -- as its value is built
+  abbrev made : Out → Out
+  made o = wrap stated (wrap (Both a) o)
+
+  made_branch : (b : Bool) (x y u v : Out) → made x ≡ u → made y ≡ v → made (branch b x y) ≡ pick b u v
+  made_branch true None y u v h k = h
+  made_branch true (Some p) y u v h k = h
+  made_branch false x None u v h k = k
+  made_branch false x (Some p) u v h k = k
+
+  -- an expression and `;`
+  with_semicolon : (b : Bool) (e : Syntax) (m : Stream) → wrap (alone b a e) (take_mark semicolon m) ≡ ending false b a e m
+  unfolding take_mark
+  with_semicolon b e m = go (take_chars semicolon m) ∙ ap (wrap (λ s. sentence b (moved a e) s)) (sym (semicolon_seen m))
+    where
+      go : (o : Chars) → wrap (alone b a e) (marked o) ≡ wrap (λ s. sentence b (moved a e) s) (wrap Left (marked o))
+      go None = refl
+      go (Some p) = refl
+
+  going : (b : Bool) (e : Syntax) (o : Out) → wrap (alone b a e) (wrap Right (wrap Left (and_then o (take_mark semicolon)))) ≡ then_by (wrap (onto e) o) (λ x. ending false b a x)
+  going b e None = refl
+  going b e (Some p) = further (take_mark semicolon p.1) ∙ with_semicolon b (onto e p.0) p.1
+    where
+      further : (z : Out) → wrap (alone b a e) (wrap Right (wrap Left (wrap (Both p.0) z))) ≡ wrap (alone b a (onto e p.0)) z
+      further None = refl
+      further (Some y) = refl
+
+  block_end : (b : Bool) (e : Syntax) (m : Stream) → wrap (alone b a e) (parse_form (table statement_end) m) ≡ behind_block false b a e m
+  block_end b e m = go (sees at_semicolon m) (sees at_postfix_mark m) (take_mark semicolon m)
+    where
+      first : (o : Out) → wrap (alone b a e) (wrap Left o) ≡ wrap (λ s. sentence b (moved a e) (Left s)) o
+      first None = refl
+      first (Some p) = refl
+
+      go : (c d : Bool) (o : Out) → wrap (alone b a e) (branch c o (branch d (and_then (parse_rule operand_rest m) (take_mark semicolon)) (Some (Nothing, m))))
+          ≡ pick c (wrap (λ s. sentence b (moved a e) (Left s)) o) (pick d (then_by (wrap (onto e) (parse_rule operand_rest m)) (λ x. ending false b a x)) (Some (sentence b (moved a e) (Right Nothing), m)))
+      go true d o = first o
+      go false true o = going b e (parse_rule operand_rest m)
+      go false false o = refl
+
+  of_block : (s : Syntax) (m : Stream) → made (wrap (Shaped said) (wrap (Both s) (parse_rule statement_end m))) ≡ behind_block false false a (core s) m
+  of_block s m = ap (λ o. made (wrap (Shaped said) (wrap (Both s) o))) (statement_end_is m) ∙ go (parse_form (table statement_end) m) ∙ block_end false (core s) m
+    where
+      go : (o : Out) → made (wrap (Shaped said) (wrap (Both s) (wrap Node o))) ≡ wrap (alone false a (core s)) o
+      go None = refl
+      go (Some p) = refl
+
+  of_macro : (s : Syntax) (m : Stream) → made (wrap (Shaped said_macro) (wrap (Both (new Macro s)) (parse_rule statement_end m))) ≡ behind_block false true a (new Macro s) m
+  of_macro s m = ap (λ o. made (wrap (Shaped said_macro) (wrap (Both (new Macro s)) o))) (statement_end_is m) ∙ go (parse_form (table statement_end) m) ∙ block_end true (new Macro s) m
+    where
+      go : (o : Out) → made (wrap (Shaped said_macro) (wrap (Both (new Macro s)) (wrap Node o))) ≡ wrap (alone true a (new Macro s)) o
+      go None = refl
+      go (Some p) = refl
+
+  of_crate_macro : (s : Syntax) (m : Stream) → made (wrap (Shaped said_macro) (wrap (Both (new Macro s)) (branch (sees at_postfix_mark m) None (parse_rule statement_end m)))) ≡ unless_postfix false a (new Macro s) m
+  of_crate_macro s m =
+      ap (λ o. made (wrap (Shaped said_macro) (wrap (Both (new Macro s)) (branch (sees at_postfix_mark m) None o)))) (statement_end_is m)
+      ∙ go (sees at_postfix_mark m) (parse_form (table statement_end) m)
+      ∙ ap (pick (sees at_postfix_mark m) None) (block_end true (new Macro s) m)
+    where
+      go : (c : Bool) (o : Out) → made (wrap (Shaped said_macro) (wrap (Both (new Macro s)) (branch c None (wrap Node o)))) ≡ pick c None (wrap (alone true a (new Macro s)) o)
+      go true o = refl
+      go false None = refl
+      go false (Some p) = refl
+
+  of_expression : (s : Syntax) (m : Stream) → made (wrap (Shaped said) (wrap (Both s) (take_mark semicolon m))) ≡ ending false false a (core s) m
+  of_expression s m = go (take_mark semicolon m) ∙ with_semicolon false (core s) m
+    where
+      go : (o : Out) → made (wrap (Shaped said) (wrap (Both s) o)) ≡ wrap (alone false a (core s)) o
+      go None = refl
+      go (Some p) = refl
+
+  of_local : (o : Out) → made (wrap (Shaped a_local) o) ≡ wrap (Shaped a_local) (wrap (Both a) o)
+  of_local None = refl
+  of_local (Some p) = refl
+
+  -- each behind what it begins with
+  macro_first : (o : Out) → made (wrap (Shaped said_macro) (and_then (wrap (new Macro) o) (parse_rule statement_end))) ≡ then_by (wrap (new Macro) o) (behind_block false true a)
+  macro_first None = refl
+  macro_first (Some p) = of_macro p.0 p.1
+
+  crate_macro_first : (o : Out) → made (wrap (Shaped said_macro) (and_then (wrap (new Macro) o) (λ m. branch (sees at_postfix_mark m) None (parse_rule statement_end m)))) ≡ then_by (wrap (new Macro) o) (unless_postfix false a)
+  crate_macro_first None = refl
+  crate_macro_first (Some p) = of_crate_macro p.0 p.1
+
+  block_first : (o : Out) → made (wrap (Shaped said) (and_then o (parse_rule statement_end))) ≡ then_by (wrap core o) (behind_block false false a)
+  block_first None = refl
+  block_first (Some p) = of_block p.0 p.1
+
+  expression_first : (o : Out) → made (wrap (Shaped said) (and_then o (take_mark semicolon))) ≡ then_by (wrap core o) (ending false false a)
+  expression_first None = refl
+  expression_first (Some p) = of_expression p.0 p.1
+
+  behind : (m : Stream) → made (parse_form alone_form m) ≡ behind_attributes false a m
+  behind m =
+      made_branch (sees at_crate_macro m) _ _ _ _ (crate_macro_first (parse_rule macro_invocation m))
+      (made_branch (sees at_brace_macro m) _ _ _ _ (macro_first (parse_rule macro_invocation m))
+      (made_branch (sees (at_word w_let) m) _ _ _ _ (of_local (parse_rule local m))
+      (made_branch (sees at_lone_crate m) _ _ _ _ refl
+      (made_branch (sees at_block_like m) _ _ _ _ (block_first (parse_rule block_like m)) (expression_first (parse_rule whole_expression m))))))
+
+pub statement_alone : (ts : Stream) → parse_form statement_form ts ≡ statement_by false ts
+unfolding statement_by
+statement_alone ts = go (parse_rule attributes ts)
+  where
+    go : (o : Out) → wrap stated (and_then o (parse_form alone_form)) ≡ then_by o (behind_attributes false)
+    go None = refl
+    go (Some p) = behind p.0 p.1
+
+-- A LIST
+
+pub statements_ended : (ts : Stream) → sees ended ts ≡ true → parse_rule statements ts ≡ Some (Node (Left Nothing), ts)
+statements_ended ts h = statements_is ts ∙ rw h refl
+
+-- the statements behind one
+abbrev pub more : Syntax → Stream → Out
+more s m = wrap (before_others s) (parse_rule statements m)
+
+abbrev as_list : Out → Out
+as_list o = wrap Node (wrap Right (wrap core (wrap Right (wrap in_list o))))
+
+-- what is read behind a semicolon, or behind nothing
+module _ (b : Bool) (a : Syntax) where
+  -- as its value is built
+  abbrev listed_as : Syntax → Out → Out
+  listed_as e o = wrap (λ t. Node (Right (core (Right (going_on b a e t))))) o
+
+  semicolon_first : (e : Syntax) (o : Out) → listed_as e (wrap Left (and_then o (parse_rule statements))) ≡ then_by (wrap (λ m. sentence b (moved a e) (Left m)) o) more
+  semicolon_first e None = refl
+  semicolon_first e (Some p) = go (parse_rule statements p.1)
+    where
+      go : (z : Out) → listed_as e (wrap Left (wrap (Both p.0) z)) ≡ wrap (before_others (sentence b (moved a e) (Left p.0))) z
+      go None = refl
+      go (Some y) = refl
+
+  expression_end : (e : Syntax) (m : Stream) → listed_as e (parse_form (table after_expression) m) ≡ then_by (ending true b a e m) more
+  expression_end e m = go (sees at_semicolon m) (sees ended m) refl (take_mark semicolon m)
+    where
+      first : (o : Out) → listed_as e (wrap Left (and_then o (parse_rule statements))) ≡ then_by (wrap (λ s. sentence b (moved a e) s) (wrap Left o)) more
+      first None = refl
+      first (Some p) = semicolon_first e (Some p)
+
+      go : (c d : Bool) → sees ended m ≡ d → (o : Out) → listed_as e (branch c (and_then o (parse_rule statements)) (branch d (Some (Nothing, m)) None))
+          ≡ then_by (wrap (λ s. sentence b (moved a e) s) (pick c (wrap Left o) (only d (Some (Right Nothing, m))))) more
+      go true d h o = first o
+      go false true h o = ap (wrap (before_others (sentence b (moved a e) (Right Nothing)))) (sym (statements_ended m h))
+      go false false h o = refl
+
+  going_first : (e : Syntax) (o : Out) → listed_as e (wrap Right (wrap Left (and_then o (parse_rule after_expression)))) ≡ then_by (then_by (wrap (onto e) o) (λ x. ending true b a x)) more
+  going_first e None = refl
+  going_first e (Some p) = ap (λ o. listed_as e (wrap Right (wrap Left (wrap (Both p.0) o)))) (after_expression_is p.1) ∙ go (parse_form (table after_expression) p.1) ∙ expression_end (onto e p.0) p.1
+    where
+      go : (z : Out) → listed_as e (wrap Right (wrap Left (wrap (Both p.0) (wrap Node z)))) ≡ listed_as (onto e p.0) z
+      go None = refl
+      go (Some y) = refl
+
+  block_behind : (e : Syntax) (m : Stream) → listed_as e (parse_form (table after_block) m) ≡ then_by (behind_block true b a e m) more
+  block_behind e m = go (sees at_semicolon m) (sees at_postfix_mark m)
+    where
+      last : (z : Out) → listed_as e (wrap Right (wrap Right z)) ≡ wrap (before_others (sentence b (moved a e) (Right Nothing))) z
+      last None = refl
+      last (Some y) = refl
+
+      go : (c d : Bool) → listed_as e (branch c (and_then (take_mark semicolon m) (parse_rule statements)) (branch d (and_then (parse_rule operand_rest m) (parse_rule after_expression)) (parse_rule statements m)))
+          ≡ then_by (pick c (wrap (λ s. sentence b (moved a e) (Left s)) (take_mark semicolon m)) (pick d (then_by (wrap (onto e) (parse_rule operand_rest m)) (λ x. ending true b a x)) (Some (sentence b (moved a e) (Right Nothing), m)))) more
+      go true d = semicolon_first e (take_mark semicolon m)
+      go false true = going_first e (parse_rule operand_rest m)
+      go false false = last (parse_rule statements m)
+
+module _ (a : Syntax) where
+  abbrev built : Out → Out
+  built o = as_list (wrap (Both a) o)
+
+  built_branch : (b : Bool) (x y u v : Out) → built x ≡ then_by u more → built y ≡ then_by v more → built (branch b x y) ≡ then_by (pick b u v) more
+  built_branch true None y u v h k = h
+  built_branch true (Some p) y u v h k = h
+  built_branch false x None u v h k = k
+  built_branch false x (Some p) u v h k = k
+
+  list_of_block : (s : Syntax) (m : Stream) → built (wrap (Shaped said) (wrap (Both s) (parse_rule after_block m))) ≡ then_by (behind_block true false a (core s) m) more
+  list_of_block s m = ap (λ o. built (wrap (Shaped said) (wrap (Both s) o))) (after_block_is m) ∙ go (parse_form (table after_block) m) ∙ block_behind false a (core s) m
+    where
+      go : (o : Out) → built (wrap (Shaped said) (wrap (Both s) (wrap Node o))) ≡ listed_as false a (core s) o
+      go None = refl
+      go (Some p) = refl
+
+  list_of_macro : (s : Syntax) (m : Stream) → built (wrap (Shaped said_macro) (wrap (Both (new Macro s)) (parse_rule after_block m))) ≡ then_by (behind_block true true a (new Macro s) m) more
+  list_of_macro s m = ap (λ o. built (wrap (Shaped said_macro) (wrap (Both (new Macro s)) o))) (after_block_is m) ∙ go (parse_form (table after_block) m) ∙ block_behind true a (new Macro s) m
+    where
+      go : (o : Out) → built (wrap (Shaped said_macro) (wrap (Both (new Macro s)) (wrap Node o))) ≡ listed_as true a (new Macro s) o
+      go None = refl
+      go (Some p) = refl
+
+  list_of_crate_macro : (s : Syntax) (m : Stream) → built (wrap (Shaped said_macro) (wrap (Both (new Macro s)) (branch (sees at_postfix_mark m) None (parse_rule after_block m)))) ≡ then_by (unless_postfix true a (new Macro s) m) more
+  list_of_crate_macro s m =
+      ap (λ o. built (wrap (Shaped said_macro) (wrap (Both (new Macro s)) (branch (sees at_postfix_mark m) None o)))) (after_block_is m)
+      ∙ go (sees at_postfix_mark m) (parse_form (table after_block) m)
+      ∙ ap (pick (sees at_postfix_mark m) None) (block_behind true a (new Macro s) m)
+      ∙ turn (sees at_postfix_mark m) (behind_block true true a (new Macro s) m)
+    where
+      go : (c : Bool) (o : Out) → built (wrap (Shaped said_macro) (wrap (Both (new Macro s)) (branch c None (wrap Node o)))) ≡ pick c None (listed_as true a (new Macro s) o)
+      go true o = refl
+      go false None = refl
+      go false (Some p) = refl
+
+      turn : (c : Bool) (o : Out) → pick c None (then_by o more) ≡ then_by (pick c None o) more
+      turn true o = refl
+      turn false o = refl
+
+  list_of_expression : (s : Syntax) (m : Stream) → built (wrap (Shaped said) (wrap (Both s) (parse_rule after_expression m))) ≡ then_by (ending true false a (core s) m) more
+  list_of_expression s m = ap (λ o. built (wrap (Shaped said) (wrap (Both s) o))) (after_expression_is m) ∙ go (parse_form (table after_expression) m) ∙ expression_end false a (core s) m
+    where
+      go : (o : Out) → built (wrap (Shaped said) (wrap (Both s) (wrap Node o))) ≡ listed_as false a (core s) o
+      go None = refl
+      go (Some p) = refl
+
+  list_of_local : (o : Out) → built (wrap (Shaped a_local) (and_then o (parse_rule statements))) ≡ then_by (wrap (Shaped a_local) (wrap (Both a) o)) more
+  list_of_local None = refl
+  list_of_local (Some p) = go (parse_rule statements p.1)
+    where
+      go : (z : Out) → built (wrap (Shaped a_local) (wrap (Both p.0) z)) ≡ wrap (before_others (Shaped a_local (Both a p.0))) z
+      go None = refl
+      go (Some y) = refl
+
+  list_macro_first : (o : Out) → built (wrap (Shaped said_macro) (and_then (wrap (new Macro) o) (parse_rule after_block))) ≡ then_by (then_by (wrap (new Macro) o) (behind_block true true a)) more
+  list_macro_first None = refl
+  list_macro_first (Some p) = list_of_macro p.0 p.1
+
+  list_crate_macro_first : (o : Out) → built (wrap (Shaped said_macro) (and_then (wrap (new Macro) o) (λ m. branch (sees at_postfix_mark m) None (parse_rule after_block m)))) ≡ then_by (then_by (wrap (new Macro) o) (unless_postfix true a)) more
+  list_crate_macro_first None = refl
+  list_crate_macro_first (Some p) = list_of_crate_macro p.0 p.1
+
+  list_block_first : (o : Out) → built (wrap (Shaped said) (and_then o (parse_rule after_block))) ≡ then_by (then_by (wrap core o) (behind_block true false a)) more
+  list_block_first None = refl
+  list_block_first (Some p) = list_of_block p.0 p.1
+
+  list_expression_first : (o : Out) → built (wrap (Shaped said) (and_then o (parse_rule after_expression))) ≡ then_by (then_by (wrap core o) (ending true false a)) more
+  list_expression_first None = refl
+  list_expression_first (Some p) = list_of_expression p.0 p.1
+
+  rest_behind : (m : Stream) → built (parse_form (table statement_rest) m) ≡ then_by (behind_attributes true a m) more
+  rest_behind m =
+      built_branch (sees at_crate_macro m) _ _ _ _ (list_crate_macro_first (parse_rule macro_invocation m))
+      (built_branch (sees at_brace_macro m) _ _ _ _ (list_macro_first (parse_rule macro_invocation m))
+      (built_branch (sees (at_word w_let) m) _ _ _ _ (list_of_local (parse_rule local m))
+      (built_branch (sees at_lone_crate m) _ _ _ _ refl
+      (built_branch (sees at_block_like m) _ _ _ _ (list_block_first (parse_rule block_like m)) (list_expression_first (parse_rule whole_expression m))))))
+
+  rest_is : (m : Stream) → built (parse_rule statement_rest m) ≡ then_by (behind_attributes true a m) more
+  rest_is m = ap built (statement_rest_is m) ∙ go (parse_form (table statement_rest) m) ∙ rest_behind m
+    where
+      go : (o : Out) → built (wrap Node o) ≡ built o
+      go None = refl
+      go (Some p) = refl
+
+pub statements_more : (ts : Stream) → sees ended ts ≡ false → parse_rule statements ts ≡ then_by (next_statement ts) more
+unfolding next_statement statement_by take_mark
+statements_more ts h = statements_is ts ∙ rw h (go (sees at_semicolon ts) (take_chars semicolon ts) (parse_rule attributes ts))
+  where
+    after : (m : Chars) → wrap Node (wrap Right (wrap core (wrap Left (wrap separated (and_then (marked m) (parse_rule statements)))))) ≡ then_by (wrap lone_semicolon (marked m)) more
+    after None = refl
+    after (Some p) = further (parse_rule statements p.1)
+      where
+        further : (z : Out) → wrap Node (wrap Right (wrap core (wrap Left (wrap separated (wrap (Both (Mark p.0)) z))))) ≡ wrap (before_others (lone_semicolon (Mark p.0))) z
+        further None = refl
+        further (Some y) = refl
+
+    attributes_first : (o : Out) → as_list (and_then o (parse_rule statement_rest)) ≡ then_by (then_by o (behind_attributes true)) more
+    attributes_first None = refl
+    attributes_first (Some p) = rest_is p.0 p.1
+
+    go : (c : Bool) (o : Chars) (z : Out) → wrap Node (wrap Right (wrap core (branch c (wrap separated (and_then (marked o) (parse_rule statements))) (wrap in_list (and_then z (parse_rule statement_rest)))))) ≡ then_by (pick c (wrap lone_semicolon (marked o)) (then_by z (behind_attributes true))) more
+    go true o z = after o
+    go false o z = attributes_first z
+
+-- a block with what goes on it
+pub block_goes_on : (in_list b : Bool) (a e : Syntax) (ts : Stream) (x : Syntax) (m : Stream) → sees at_semicolon ts ≡ false → sees at_postfix_mark ts ≡ true → wrap (onto e) (parse_rule operand_rest ts) ≡ Some (x, m) →
+    behind_block in_list b a e ts ≡ ending in_list b a x m
+block_goes_on in_list b a e ts x m h k got =
+    let ended_by : Out = wrap (λ s. sentence b (moved a e) (Left s)) (take_mark semicolon ts) in
+    let going : Out = then_by (wrap (onto e) (parse_rule operand_rest ts)) (λ z. ending in_list b a z) in
+    let over : Out = Some (sentence b (moved a e) (Right Nothing), ts) in
+    ap (λ c. pick c ended_by (pick (sees at_postfix_mark ts) going over)) h ∙ ap (λ c. pick c going over) k ∙ ap (λ o. then_by o (λ z. ending in_list b a z)) got
+
+-- AN EXPRESSION AS A STATEMENT
+pub by_block : (in_list : Bool) (a e : Syntax) (ts m : Stream) → sees at_block_like ts ≡ true → parse_rule block_like ts ≡ Some (Node e, m) → core e ≡ e → expression_statement in_list a ts ≡ behind_block in_list false a e m
+by_block in_list a e ts m h k c = rw h (ap (λ o. then_by (wrap core o) (behind_block in_list false a)) k ∙ ap (λ s. behind_block in_list false a s m) c)
+
+pub by_expression : (in_list : Bool) (a e : Syntax) (ts m : Stream) → sees at_block_like ts ≡ false → parse_rule whole_expression ts ≡ Some (Node e, m) → core e ≡ e → expression_statement in_list a ts ≡ ending in_list false a e m
+by_expression in_list a e ts m h k c = rw h (ap (λ o. then_by (wrap core o) (ending in_list false a)) k ∙ ap (λ s. ending in_list false a s m) c)

@@ -1,0 +1,175 @@
+-- What an expression was read from ends with braces exactly where its tree does.
+use Rattle.std.proofs.Common.{◌≡◌, Bool, true, false, List, [], ◌∷◌, Some, refl, sym, ap, ◌∙◌, ◌⊎◌, inl, inr, true≢false}
+use Rattle.syn_grammar.specs.Tokens.{Delimiter, Paren, Brace, Bracket, None, Stream, end, leaf, punct, group, ident, ◌⧺◌, and, pick}
+use Rattle.syn_grammar.specs.Rules.{Rule, attributes, module_path, module_words, type_path, type_words, type_arguments, return_type, generic_arguments, qualified_path, path_as_type, type, expression_path, expression_words, qualified_expression_path, path_as_expression, macro_invocation, pattern, block, body, primary, block_like, if_expression, loop_expression, postfixes, member, unary, casts, cast, products, product, sums, sum, shifts, shift, bit_ands, bit_and, bit_xors, bit_xor, bit_ors, bit_or, compared, comparison, conjunctions, conjunction, disjunctions, disjunction, assigned, whole_expression, plain_body}
+use Rattle.syn_grammar.specs.RuleNumbers.{same_rule}
+use Rattle.syn_grammar.specs.Grammar.{Syntax, Nothing, Token, Mark, Lifetime, Both, Left, Right, Node, Group, Raw, Case, Such, Shaped, Unshown, Order, Spelled, vacant, ends_brace, trailing_brace, Grammar, empty, token, mark, lifetime, ◌&◌, when◌then◌else◌, inside, raw, either, one_of, rule, such, shaped, unshown, ordered, vanishing, rest_after, captured, supplied, row, generics_before, among, DerivesPrefix}
+use Rattle.syn_grammar.specs.Table.{table}
+use Rattle.syn_grammar.specs.Take.{before}
+use Rattle.syn_grammar.specs.Run.{parse_rule}
+use Rattle.syn_grammar.proofs.RuleLemmas.{same_rule_eq}
+use Rattle.syn_grammar.proofs.Sets.{or_split, and_left, and_right}
+use Rattle.syn_grammar.proofs.Streams.{append_append}
+use Rattle.syn_grammar.proofs.Extend.{carried}
+use Rattle.syn_grammar.proofs.Takes.{before_is}
+use Rattle.syn_grammar.proofs.Means.{means, holds_value}
+use Rattle.syn_expr_parse.specs.Trailing.{is_brace, ends_by}
+
+ends_append : (b : Bool) (i j : Stream) → ends_by b (i ⧺ j) ≡ ends_by (ends_by b i) j
+ends_append b end j = refl
+ends_append b (leaf x sp m) j = ends_append false m j
+ends_append b (punct c k sp m) j = ends_append false m j
+ends_append b (group d o c i m) j = ends_append (is_brace d) m j
+
+-- where nothing was read, no braces were
+vacant_ends : (s : Syntax) → vacant s ≡ true → ends_brace s ≡ false
+vacant_ends (Both s t) e = go (vacant s) (vacant t) e (vacant_ends s)
+  where
+    go : (a b : Bool) → and a b ≡ true → (a ≡ true → ends_brace s ≡ false) → pick b (ends_brace s) (ends_brace t) ≡ false
+    go true true e h = h refl
+    go true false e h = absurd (true≢false (sym e))
+    go false b e h = absurd (true≢false (sym e))
+vacant_ends (Left s) e = vacant_ends s e
+vacant_ends (Right s) e = vacant_ends s e
+vacant_ends (Node s) e = vacant_ends s e
+vacant_ends (Case k s) e = vacant_ends s e
+vacant_ends (Such s) e = vacant_ends s e
+vacant_ends (Shaped j s) e = vacant_ends s e
+vacant_ends (Group d o c s) e = absurd (true≢false (sym e))
+vacant_ends (Raw d o c i) e = absurd (true≢false (sym e))
+vacant_ends _ e = refl
+
+-- a mark ends with no braces
+abbrev Plain : Stream → Type 0
+Plain i = (b : Bool) → ends_by b i ≡ false
+
+mark_ends : (xs : List _) (ts r : Stream) → Spelled xs ts r → (i : Stream) × (ts ≡ i ⧺ r) × Plain i
+mark_ends [] ts r h = elim h [ ]
+mark_ends (x ∷ []) ts r h = (punct x.0 h.0 x.1 end, h.1, λ b. refl)
+mark_ends (x ∷ y ∷ l) ts r h =
+    let (i, e, k) = mark_ends (y ∷ l) h.0 r h.2 in
+    (punct x.0 true x.1 i, h.1 ∙ ap (punct x.0 true x.1) e, λ b. k false)
+
+-- THE FORMS of which this holds, where it holds of these rules: none is kept as tokens, left out, or a row by itself
+abbrev known : List Rule
+known =
+    attributes ∷ module_path ∷ module_words ∷ type_path ∷ type_words ∷ type_arguments ∷ return_type ∷ generic_arguments ∷ qualified_path ∷ path_as_type ∷ type
+    ∷ expression_path ∷ expression_words ∷ qualified_expression_path ∷ path_as_expression ∷ macro_invocation ∷ pattern ∷ block ∷ body ∷ plain_body ∷ primary ∷ block_like
+    ∷ if_expression ∷ loop_expression ∷ postfixes ∷ member ∷ unary ∷ casts ∷ cast ∷ products ∷ product ∷ sums ∷ sum ∷ shifts ∷ shift ∷ bit_ands ∷ bit_and ∷ bit_xors
+    ∷ bit_xor ∷ bit_ors ∷ bit_or ∷ compared ∷ comparison ∷ conjunctions ∷ conjunction ∷ disjunctions ∷ disjunction ∷ assigned ∷ whole_expression ∷ []
+
+abbrev told_of : List Rule → Bool
+told_of [] = true
+told_of (k ∷ ks) = and (among k known) (told_of ks)
+
+abbrev tells : Grammar → Bool
+tells empty = true
+tells (token b k) = true
+tells (mark b cs) = true
+tells lifetime = true
+tells (g & h) = and (tells g) (tells h)
+tells (when c then g else h) = and (tells g) (tells h)
+tells (inside d g) = true
+tells (raw d) = true
+tells (either g h) = and (tells g) (tells h)
+tells (one_of ks) = told_of ks
+tells (rule k) = among k known
+tells (such q g) = tells g
+tells (shaped j g) = tells g
+tells unshown = true
+tells (ordered g h) = true
+tells _ = false
+
+abbrev all_tell : List Rule → Bool
+all_tell [] = true
+all_tell (k ∷ ks) = and (tells (table k)) (all_tell ks)
+
+in_list : (ks : List Rule) (k : Rule) → among k ks ≡ true → all_tell ks ≡ true → tells (table k) ≡ true
+in_list [] k e h = absurd (true≢false (sym e))
+in_list (l ∷ ks) k e h = go (or_split (same_rule k l) (among k ks) e) (in_list ks k)
+  where
+    go : (same_rule k l ≡ true) ⊎ (among k ks ≡ true) → (among k ks ≡ true → all_tell ks ≡ true → tells (table k) ≡ true) → tells (table k) ≡ true
+    go (inl s) more = ap (λ z. tells (table z)) (same_rule_eq k l s) ∙ and_left (tells (table l)) _ h
+    go (inr s) more = more s (and_right (tells (table l)) _ h)
+
+known_tells : (k : Rule) → among k known ≡ true → tells (table k) ≡ true
+known_tells k e = in_list known k e refl
+
+named : (ks : List Rule) (k : Rule) → among k ks ≡ true → told_of ks ≡ true → among k known ≡ true
+named [] k e h = absurd (true≢false (sym e))
+named (l ∷ ks) k e h = go (or_split (same_rule k l) (among k ks) e) (named ks k)
+  where
+    go : (same_rule k l ≡ true) ⊎ (among k ks ≡ true) → (among k ks ≡ true → told_of ks ≡ true → among k known ≡ true) → among k known ≡ true
+    go (inl s) more = ap (λ z. among z known) (same_rule_eq k l s) ∙ and_left (among l known) _ h
+    go (inr s) more = more s (and_right (among l known) _ h)
+
+-- these trees were read, and the last of them is a group in braces where the syntax tree ends with one
+abbrev Told : Syntax → Stream → Stream → Type 0
+Told s ts r = (i : Stream) × (ts ≡ i ⧺ r) × ((b : Bool) → ends_by b i ≡ pick (vacant s) b (ends_brace s))
+
+brace_is : (d : Delimiter) (o c : _) (s : Syntax) → is_brace d ≡ ends_brace (Group d o c s)
+brace_is Paren o c s = refl
+brace_is Brace o c s = refl
+brace_is Bracket o c s = refl
+brace_is None o c s = refl
+
+raw_is : (d : Delimiter) (o c : _) (i : Stream) → is_brace d ≡ ends_brace (Raw d o c i)
+raw_is Paren o c i = refl
+raw_is Brace o c i = refl
+raw_is Bracket o c i = refl
+raw_is None o c i = refl
+
+told : (g : Grammar) (s : Syntax) (ts r : Stream) → tells g ≡ true → DerivesPrefix table g s ts r → Told s ts r
+told empty Nothing ts r w h = (end, h, λ b. refl)
+told (token f k) (Token x sp) ts r w h = (leaf x sp end, h.1, λ b. refl)
+told (mark f cs) (Mark xs) ts r w h = mark_ends xs ts r h.1
+told lifetime (Lifetime sp x sq) ts r w h = (punct 39 true sp (leaf (ident x) sq end), h, λ b. refl)
+told (g & h) (Both s t) ts r w (m, x, y) =
+    let (i, e, k) = told g s ts m (and_left (tells g) _ w) x in
+    let (j, f, l) = told h t m r (and_right (tells g) _ w) y in (
+      i ⧺ j,
+      e ∙ ap (λ z. i ⧺ z) f ∙ sym (append_append i j r),
+      λ b. ends_append b i j ∙ l (ends_by b i) ∙ ap (λ z. pick (vacant t) z (ends_brace t)) (k b) ∙ go (vacant s) (vacant t) b (ends_brace s) (ends_brace t),
+    )
+  where
+    go : (u v b p q : Bool) → pick v (pick u b p) q ≡ pick (and u v) b (pick v p q)
+    go true true b p q = refl
+    go true false b p q = refl
+    go false true b p q = refl
+    go false false b p q = refl
+told (when l then g else h) (Left s) ts r w (v, x) = told g s ts r (and_left (tells g) _ w) x
+told (when l then g else h) (Right s) ts r w (v, x) = told h s ts r (and_right (tells g) _ w) x
+told (inside d g) (Group d' o c s) ts r w (e, i, f, x) = (group d' o c i end, f, λ b. brace_is d' o c s)
+told (raw d) (Raw d' o c i) ts r w (e, f) = (group d' o c i end, f, λ b. raw_is d' o c i)
+told (either g h) (Left s) ts r w x = told g s ts r (and_left (tells g) _ w) x
+told (either g h) (Right s) ts r w x = told h s ts r (and_right (tells g) _ w) x
+told (one_of ks) (Case k s) ts r w (v, x) = told (table k) s ts r (known_tells k (named ks k v w)) x
+told (rule k) (Node s) ts r w x = told (table k) s ts r (known_tells k w) x
+told (such q g) (Such s) ts r w (v, x) = told g s ts r w x
+told (shaped j g) (Shaped i s) ts r w (v, x) = told g s ts r w x
+told unshown (Unshown s) ts r w h = (end, h.1, λ b. refl)
+told (ordered g h) (Order xs l ys) ts r w (m, n, a, m', d, o, z) =
+    let (i, e, k) = mark_ends xs ts m a in
+    let c = carried table (row g h) l m m' d in
+    let (j, f, q) = mark_ends ys m' r z in (
+      i ⧺ (c.0 ⧺ j),
+      e ∙ ap (λ v. i ⧺ v) (c.1 ∙ ap (λ v. c.0 ⧺ v) f ∙ sym (append_append c.0 j r)) ∙ sym (append_append i (c.0 ⧺ j) r),
+      λ b. ends_append b i (c.0 ⧺ j) ∙ ends_append (ends_by b i) c.0 j ∙ q (ends_by (ends_by b i) c.0),
+    )
+told (vanishing b c g) s ts r w h = absurd (true≢false (sym w))
+told (rest_after cs) s ts r w h = absurd (true≢false (sym w))
+told (captured g) s ts r w h = absurd (true≢false (sym w))
+told (supplied n p t) s ts r w h = absurd (true≢false (sym w))
+told (row g z) s ts r w h = absurd (true≢false (sym w))
+told (generics_before x y z) s ts r w h = absurd (true≢false (sym w))
+told g s ts r w h = elim h [ ]
+
+pub trailing_brace_read : (ts : Stream) (s : Syntax) (r : Stream) → parse_rule whole_expression ts ≡ Some (s, r) → ends_by false (before ts r) ≡ ends_brace s
+trailing_brace_read ts s r e =
+    let (t, d, v) = (means whole_expression ts s r).0 e in
+    let (i, f, k) = told (rule whole_expression) t ts r refl d in
+    ap (ends_by false) (before_is ts i r f) ∙ k false ∙ go (vacant t) (ends_brace t) (vacant_ends t) ∙ sym (holds_value trailing_brace t) ∙ ap ends_brace v
+  where
+    go : (u b : Bool) → (u ≡ true → b ≡ false) → pick u false b ≡ b
+    go true b h = sym (h refl)
+    go false b h = refl

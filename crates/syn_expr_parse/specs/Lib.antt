@@ -1,0 +1,16 @@
+pub mod Arrays
+pub mod BlockForms
+pub mod Bodies
+pub mod LevelSteps
+pub mod Levels
+pub mod Listed
+pub mod Operators
+pub mod ParseTies
+pub mod Parsers
+pub mod Parts
+pub mod Postfixes
+pub mod Primary
+pub mod Spines
+pub mod StatementForms
+pub mod Trailing
+pub mod Unary

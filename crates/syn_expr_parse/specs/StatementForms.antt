@@ -1,0 +1,111 @@
+-- STATEMENTS ONE AT A TIME, as they are read.
+use Rattle.std.specs.Prelude.{Bool, true, false, Some, None}
+use Rattle.syn_grammar.specs.Words.{equals, semicolon, w_else, w_let}
+use Rattle.syn_grammar.specs.Tokens.{end, and, no, pick, ended, at_word}
+use Rattle.syn_grammar.specs.Rules.{attributes, block_like, local, macro_invocation, operand_rest, statement_end, whole_expression}
+use Rattle.syn_grammar.specs.Shape.{Macro, Verbatim, expr, operand, a_local, attributed, listed, said, said_macro, untagged}
+use Rattle.syn_grammar.specs.Grammar.{Syntax, Nothing, Both, Left, Right, Node, Such, Shaped, Captured, Grammar, empty, ◌&◌, when◌then◌else◌, either, rule, shaped, such, word, trailing_brace, no_trailing_brace, ends_brace}
+use Rattle.syn_grammar.specs.Forms.{never, plainly, punctuation}
+use Rattle.syn_grammar.specs.Table.{at_block_like, at_brace_macro, at_crate_macro, at_equals, at_lone_crate, at_postfix_mark, at_semicolon, else_block, no_else}
+use Rattle.syn_grammar.specs.Take.{Out, Parser, only, sees, take_mark}
+use Rattle.syn_grammar.specs.Values.{core, moved, new, onto, sentence}
+use Rattle.syn_grammar.specs.Run.{wrap, parse_rule, parse_form}
+
+-- with what was read so far
+abbrev pub then_by : Out → (Syntax → Parser) → Out
+then_by (Some p) q = q p.0 p.1
+then_by None q = None
+
+-- what ends an expression: `;`, or in a list (true) the end
+abbrev pub no_semicolon : Bool → Parser
+no_semicolon true ts = only (sees ended ts) (Some (Right Nothing, ts))
+no_semicolon false ts = None
+
+abbrev pub terminator : Bool → Parser
+terminator in_list ts = pick (sees at_semicolon ts) (wrap Left (take_mark semicolon ts)) (no_semicolon in_list ts)
+
+-- an expression with the attributes before it, by what ends it (true: a macro in braces)
+abbrev pub ending : Bool → Bool → Syntax → Syntax → Parser
+ending in_list b a e ts = wrap (λ m. sentence b (moved a e) m) (terminator in_list ts)
+
+-- the same of a block or a macro in braces, which may stand without `;`
+abbrev pub behind_block : Bool → Bool → Syntax → Syntax → Parser
+behind_block in_list b a e ts =
+    pick (sees at_semicolon ts) (wrap (λ m. sentence b (moved a e) (Left m)) (take_mark semicolon ts))
+    (pick (sees at_postfix_mark ts) (then_by (wrap (onto e) (parse_rule operand_rest ts)) (λ x. ending in_list b a x)) (Some (sentence b (moved a e) (Right Nothing), ts)))
+
+-- a macro in braces; by `crate` alone it is an expression's beginning no more
+abbrev pub macro_statement : Bool → Syntax → Parser
+macro_statement in_list a ts = then_by (wrap (new Macro) (parse_rule macro_invocation ts)) (behind_block in_list true a)
+
+abbrev pub unless_postfix : Bool → Syntax → Syntax → Parser
+unless_postfix in_list a e ts = pick (sees at_postfix_mark ts) None (behind_block in_list true a e ts)
+
+abbrev pub crate_macro_statement : Bool → Syntax → Parser
+crate_macro_statement in_list a ts = then_by (wrap (new Macro) (parse_rule macro_invocation ts)) (unless_postfix in_list a)
+
+-- an expression as a statement
+abbrev pub expression_statement : Bool → Syntax → Parser
+expression_statement in_list a ts =
+    pick (sees at_block_like ts) (then_by (wrap core (parse_rule block_like ts)) (behind_block in_list false a))
+    (then_by (wrap core (parse_rule whole_expression ts)) (ending in_list false a))
+
+-- a statement behind its attributes
+abbrev pub behind_attributes : Bool → Syntax → Parser
+behind_attributes in_list a ts =
+    pick (sees at_crate_macro ts) (crate_macro_statement in_list a ts)
+    (pick (sees at_brace_macro ts) (macro_statement in_list a ts)
+    (pick (sees (at_word w_let) ts) (wrap (Shaped a_local) (wrap (Both a) (parse_rule local ts)))
+    (pick (sees at_lone_crate ts) None (expression_statement in_list a ts))))
+
+unfoldable pub statement_by : Bool → Parser
+statement_by in_list ts = then_by (parse_rule attributes ts) (behind_attributes in_list)
+
+-- `;` alone
+abbrev pub lone_semicolon : Syntax → Syntax
+lone_semicolon m = Shaped said (Both (Shaped (expr Verbatim) (Captured Nothing end)) (Left m))
+
+-- one statement of a list
+unfoldable pub next_statement : Parser
+next_statement ts = pick (sees at_semicolon ts) (wrap lone_semicolon (take_mark semicolon ts)) (statement_by true ts)
+
+-- a statement, and those behind it
+abbrev pub before_others : Syntax → Syntax → Syntax
+before_others s l = Node (Right (Shaped listed (Both s l)))
+
+-- THE PARTS OF A LOCAL
+
+abbrev pub diverging_form : Grammar
+diverging_form = plainly (word w_else) & else_block
+
+abbrev pub local_value_form : Grammar
+local_value_form =
+    shaped untagged (either (such trailing_brace (rule whole_expression) & no_else) (such no_trailing_brace (rule whole_expression) & shaped untagged (when at_word w_else then diverging_form else empty)))
+
+abbrev pub local_init_form : Grammar
+local_init_form = when at_equals then punctuation equals & local_value_form else empty
+
+-- what stands behind the value, by whether that ends with braces
+abbrev pub diverges : Bool → Parser
+diverges b ts = pick (and (sees (at_word w_else) ts) (no b)) (wrap (Shaped untagged) (parse_form diverging_form ts)) (Some (Shaped untagged Nothing, ts))
+
+-- a value, with the `=` before it
+abbrev pub valued : Syntax → Syntax → Out → Out
+valued sign e o = wrap (λ d. Both sign (Shaped untagged (Both (Such e) d))) o
+
+unfoldable pub local_value : Syntax → Parser
+local_value sign ts = then_by (parse_rule whole_expression ts) (λ e m. valued sign e (diverges (ends_brace e) m))
+
+-- a statement alone, behind its attributes
+abbrev pub alone_form : Grammar
+alone_form =
+    when at_crate_macro then shaped said_macro (shaped (operand Macro) (rule macro_invocation) & (when at_postfix_mark then never else rule statement_end))
+    else when at_brace_macro then shaped said_macro (shaped (operand Macro) (rule macro_invocation) & rule statement_end)
+    else when at_word w_let then shaped a_local (rule local)
+    else when at_lone_crate then never
+    else when at_block_like then shaped said (rule block_like & rule statement_end)
+    else shaped said (rule whole_expression & punctuation semicolon)
+
+-- the form of the rule `statement`
+abbrev pub statement_form : Grammar
+statement_form = shaped attributed (rule attributes & alone_form)

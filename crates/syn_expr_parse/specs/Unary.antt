@@ -1,0 +1,50 @@
+-- A UNARY LEVEL, and attributes before an expression's own.
+use Rattle.std.specs.Prelude.{Bool, true, false, Some, None}
+use Rattle.syn_grammar.specs.Words.{w_mut, ampersand, exclamation, minus, star}
+use Rattle.syn_grammar.specs.Tokens.{pick}
+use Rattle.syn_grammar.specs.Shape.{Unary, Reference, expr}
+use Rattle.syn_grammar.specs.Rules.{postfixes, primary, unary}
+use Rattle.syn_grammar.specs.Words.{Text}
+use Rattle.syn_grammar.specs.Grammar.{Syntax, Nothing, Both, Left, Right, Node, Unshown, Shaped, Grammar, ◌&◌, rule}
+use Rattle.syn_grammar.specs.Forms.{optional, punctuation}
+use Rattle.syn_grammar.specs.Table.{at_ampersand, at_exclamation, at_minus, at_star}
+use Rattle.syn_grammar.specs.Take.{Out, Parser, sees}
+use Rattle.syn_grammar.specs.Values.{core, new, onto, with_attributes}
+use Rattle.syn_grammar.specs.Run.{parse_form, parse_rule, wrap}
+
+-- all attributes are shown
+abbrev pub all_shown : Syntax → Bool
+all_shown (Node (Left (Both attribute more))) = all_shown more
+all_shown (Node (Right (Unshown Nothing))) = true
+all_shown _ = false
+
+-- an expression has attributes, and all of them are shown
+abbrev pub own_shown : Syntax → Bool
+own_shown (Shaped (expr v) (Both attributes fields)) = all_shown attributes
+own_shown (Shaped (expr v) s) = false
+own_shown _ = true
+
+-- a mark and a unary level behind it
+abbrev pub signed_form : Text → Grammar
+signed_form mark = punctuation mark & rule unary
+
+abbrev pub reference_form : Grammar
+reference_form = punctuation ampersand & optional w_mut & rule unary
+
+-- an operand, and what goes on it
+abbrev pub operand_of : Out → Parser → Out
+operand_of (Some p) more = wrap (onto (core p.0)) (more p.1)
+operand_of None more = None
+
+-- behind attributes
+abbrev pub bare_unary : Parser
+bare_unary ts =
+    pick (sees at_minus ts) (wrap (new Unary) (parse_form (signed_form minus) ts))
+    (pick (sees at_exclamation ts) (wrap (new Unary) (parse_form (signed_form exclamation) ts))
+    (pick (sees at_star ts) (wrap (new Unary) (parse_form (signed_form star) ts))
+    (pick (sees at_ampersand ts) (wrap (new Reference) (parse_form reference_form ts)) (operand_of (parse_rule primary ts) (parse_rule postfixes)))))
+
+-- attributes, and what stands behind them
+abbrev pub attributed_of : Out → Parser → Out
+attributed_of (Some a) more = wrap (with_attributes a.0) (more a.1)
+attributed_of None more = None

@@ -1,0 +1,78 @@
+//! Operators.
+
+use syn_tokens::token::{
+    And, AndAnd, AndEq, Caret, CaretEq, EqEq, Ge, Gt, Le, Lt, Minus, MinusEq, Ne, Not, Or, OrEq,
+    OrOr, Percent, PercentEq, Plus, PlusEq, Shl, ShlEq, Shr, ShrEq, Slash, SlashEq, Star, StarEq,
+};
+
+/// An operator between two expressions.
+#[derive(Drop)]
+pub enum BinOp {
+    /// `+`
+    Add(Plus),
+    /// `-`
+    Sub(Minus),
+    /// `*`
+    Mul(Star),
+    /// `/`
+    Div(Slash),
+    /// `%`
+    Rem(Percent),
+    /// `&&`
+    And(AndAnd),
+    /// `||`
+    Or(OrOr),
+    /// `^`
+    BitXor(Caret),
+    /// `&`
+    BitAnd(And),
+    /// `|`
+    BitOr(Or),
+    /// `<<`
+    Shl(Shl),
+    /// `>>`
+    Shr(Shr),
+    /// `==`
+    Eq(EqEq),
+    /// `<`
+    Lt(Lt),
+    /// `<=`
+    Le(Le),
+    /// `!=`
+    Ne(Ne),
+    /// `>=`
+    Ge(Ge),
+    /// `>`
+    Gt(Gt),
+    /// `+=`
+    AddAssign(PlusEq),
+    /// `-=`
+    SubAssign(MinusEq),
+    /// `*=`
+    MulAssign(StarEq),
+    /// `/=`
+    DivAssign(SlashEq),
+    /// `%=`
+    RemAssign(PercentEq),
+    /// `^=`
+    BitXorAssign(CaretEq),
+    /// `&=`
+    BitAndAssign(AndEq),
+    /// `|=`
+    BitOrAssign(OrEq),
+    /// `<<=`
+    ShlAssign(ShlEq),
+    /// `>>=`
+    ShrAssign(ShrEq),
+}
+
+/// An operator before an expression.
+#[derive(Drop)]
+pub enum UnOp {
+    /// `*`
+    Deref(Star),
+    /// `!`
+    Not(Not),
+    /// `-`
+    Neg(Minus),
+}

@@ -1,0 +1,17 @@
+//! Parsers. An expression holds expressions and blocks, and a block holds expressions: each parser is told what reads these.
+
+mod blocks;
+mod groups;
+mod levels;
+mod nested;
+mod postfix;
+mod primary;
+mod recursion;
+mod stmts;
+mod trailing;
+mod unary;
+
+pub use blocks::block;
+pub use nested::{Block, Expr, LocalInit, Nested, Rung, Stmt};
+pub use recursion::expression;
+pub use stmts::{statement, statements};

@@ -1,0 +1,141 @@
+//! The conditions of the grammar on operators, by their names.
+ghost use Rattle.std.specs.Prelude.{◌≡◌};
+ghost use Rattle.syn_grammar.specs.Take.{sees};
+ghost use Rattle.syn_grammar.specs.Table as table;
+ghost use Rattle.syn_expr_parse.specs.Levels as levels;
+
+use crate::looks::at_dot;
+use syn_parse::buffer::ParseBuffer;
+use syn_tokens::token::{
+    And, AndAnd, AndEq, Bracket, Caret, CaretEq, Eq, EqEq, Ge, Gt, Le, Lt, Minus, MinusEq, Ne, Or,
+    OrEq, OrOr, Paren, Percent, PercentEq, Plus, PlusEq, Question, Shl, ShlEq, Shr, ShrEq, Slash,
+    SlashEq, Star, StarEq,
+};
+
+/// Whether `*` stands next, and not `*=`.
+#[tactic(auto, using(syn_grammar::proofs::Looks::sees_but))]
+pub(super) fn at_star_operator(input: &ParseBuffer<'_>) -> bool
+    ensures { result ≡ sees table.at_star_operator input.now }
+{
+    input.peek::<Star>() && !input.peek::<StarEq>()
+}
+
+/// Whether `/` stands next, and not `/=`.
+#[tactic(auto, using(syn_grammar::proofs::Looks::sees_but))]
+pub(super) fn at_slash_operator(input: &ParseBuffer<'_>) -> bool
+    ensures { result ≡ sees table.at_slash_operator input.now }
+{
+    input.peek::<Slash>() && !input.peek::<SlashEq>()
+}
+
+/// Whether `%` stands next, and not `%=`.
+#[tactic(auto, using(syn_grammar::proofs::Looks::sees_but))]
+pub(super) fn at_percent_operator(input: &ParseBuffer<'_>) -> bool
+    ensures { result ≡ sees table.at_percent_operator input.now }
+{
+    input.peek::<Percent>() && !input.peek::<PercentEq>()
+}
+
+/// Whether `+` stands next, and not `+=`.
+#[tactic(auto, using(syn_grammar::proofs::Looks::sees_but))]
+pub(super) fn at_plus_operator(input: &ParseBuffer<'_>) -> bool
+    ensures { result ≡ sees table.at_plus_operator input.now }
+{
+    input.peek::<Plus>() && !input.peek::<PlusEq>()
+}
+
+/// Whether `-` stands next, and not `-=`.
+#[tactic(auto, using(syn_grammar::proofs::Looks::sees_but))]
+pub(super) fn at_minus_operator(input: &ParseBuffer<'_>) -> bool
+    ensures { result ≡ sees table.at_minus_operator input.now }
+{
+    input.peek::<Minus>() && !input.peek::<MinusEq>()
+}
+
+/// Whether `<<` stands next, and not `<<=`.
+#[tactic(auto, using(syn_grammar::proofs::Looks::sees_but))]
+pub(super) fn at_less_less_operator(input: &ParseBuffer<'_>) -> bool
+    ensures { result ≡ sees table.at_less_less_operator input.now }
+{
+    input.peek::<Shl>() && !input.peek::<ShlEq>()
+}
+
+/// Whether `>>` stands next, and not `>>=`.
+#[tactic(auto, using(syn_grammar::proofs::Looks::sees_but))]
+pub(super) fn at_greater_greater_operator(input: &ParseBuffer<'_>) -> bool
+    ensures { result ≡ sees table.at_greater_greater_operator input.now }
+{
+    input.peek::<Shr>() && !input.peek::<ShrEq>()
+}
+
+/// Whether `&` stands next, and not `&&` or `&=`.
+#[tactic(auto, using(syn_grammar::proofs::Looks::sees_but, syn_grammar::proofs::Looks::sees_or))]
+pub(super) fn at_ampersand_operator(input: &ParseBuffer<'_>) -> bool
+    ensures { result ≡ sees table.at_ampersand_operator input.now }
+{
+    input.peek::<And>() && !(input.peek::<AndAnd>() || input.peek::<AndEq>())
+}
+
+/// Whether `^` stands next, and not `^=`.
+#[tactic(auto, using(syn_grammar::proofs::Looks::sees_but))]
+pub(super) fn at_caret_operator(input: &ParseBuffer<'_>) -> bool
+    ensures { result ≡ sees table.at_caret_operator input.now }
+{
+    input.peek::<Caret>() && !input.peek::<CaretEq>()
+}
+
+/// Whether `|` stands next, and not `||` or `|=`.
+#[tactic(auto, using(syn_grammar::proofs::Looks::sees_but, syn_grammar::proofs::Looks::sees_or))]
+pub(super) fn at_bar_operator(input: &ParseBuffer<'_>) -> bool
+    ensures { result ≡ sees table.at_bar_operator input.now }
+{
+    input.peek::<Or>() && !(input.peek::<OrOr>() || input.peek::<OrEq>())
+}
+
+/// Whether `<` stands next, and not `<=` or `<<`.
+#[tactic(auto, using(syn_grammar::proofs::Looks::sees_but, syn_grammar::proofs::Looks::sees_or))]
+pub(super) fn at_less_operator(input: &ParseBuffer<'_>) -> bool
+    ensures { result ≡ sees table.at_less_operator input.now }
+{
+    input.peek::<Lt>() && !(input.peek::<Le>() || input.peek::<Shl>())
+}
+
+/// Whether `>` stands next, and not `>=` or `>>`.
+#[tactic(auto, using(syn_grammar::proofs::Looks::sees_but, syn_grammar::proofs::Looks::sees_or))]
+pub(super) fn at_greater_operator(input: &ParseBuffer<'_>) -> bool
+    ensures { result ≡ sees table.at_greater_operator input.now }
+{
+    input.peek::<Gt>() && !(input.peek::<Ge>() || input.peek::<Shr>())
+}
+
+/// Whether `=` stands next, and not `==`.
+#[tactic(auto, using(syn_grammar::proofs::Looks::sees_but))]
+pub(super) fn at_equals_operator(input: &ParseBuffer<'_>) -> bool
+    ensures { result ≡ sees table.at_equals_operator input.now }
+{
+    input.peek::<Eq>() && !input.peek::<EqEq>()
+}
+
+/// Whether a postfix or a comparison stands next, behind which no whole expression ends.
+#[tactic(auto, using(crate::proofs::LevelLooks::unfinished_seen))]
+pub(super) fn at_unfinished(input: &ParseBuffer<'_>) -> bool
+    ensures { result ≡ sees table.at_unfinished input.now }
+{
+    at_postfix(input) || at_comparison(input)
+}
+
+/// Whether a postfix stands next.
+#[tactic(auto, using(crate::proofs::LevelLooks::postfix_seen))]
+fn at_postfix(input: &ParseBuffer<'_>) -> bool
+    ensures { result ≡ sees levels.at_postfix input.now }
+{
+    input.peek::<Paren>() || input.peek::<Bracket>() || input.peek::<Question>() || at_dot(input)
+}
+
+/// Whether `==`, `!=` or a mark stands next that begins with `<` or `>`.
+#[tactic(auto, using(syn_grammar::proofs::Looks::sees_or))]
+fn at_comparison(input: &ParseBuffer<'_>) -> bool
+    ensures { result ≡ sees levels.at_comparison input.now }
+{
+    input.peek::<EqEq>() || input.peek::<Ne>() || input.peek::<Lt>() || input.peek::<Gt>()
+}
