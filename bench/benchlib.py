@@ -35,24 +35,28 @@ def build_steps():
 
 def build_peer(features):
     """The peer's path, or None where it can't be built here."""
-    target = os.path.join(OUT, 'peer-spans' if features else 'peer')
-    command = ['cargo', 'build', '--release', '--offline', '--quiet', '--target-dir', target]
-    if features:
-        command += ['--features', features]
-    say('building the peer' + (' with ' + features if features else ''))
+    target = os.path.join(OUT, '-'.join(['peer'] + features))
+    command = ['cargo', 'build', '--release', '--offline', '--quiet', '--target-dir', target, '--features', ','.join(features)]
+    say('building the peer' + (' with ' + ' and '.join(features) if features else ''))
     built = subprocess.run(command, cwd=os.path.join(ROOT, 'bench', 'peer'))
     return os.path.join(target, 'release', 'peer') if built.returncode == 0 else None
 
 
-def peers(wanted):
-    """What is measured beside the program: names and paths."""
+def peers(wanted, features=()):
+    """What is measured beside the program, built with these features: names and paths."""
     if not wanted:
         return []
     if not glob.glob('/usr/share/cargo/registry/syn-1.*'):
         say('no peer: it needs `apt-get install librust-syn-dev` (librust-syn-1-dev where that is syn 2)')
         return []
-    built = [('syn 1', build_peer('')), ('syn 1, spans', build_peer('spans'))]
+    built = [('syn 1', build_peer([*features])), ('syn 1, spans', build_peer([*features, 'spans']))]
     return [(name, path) for name, path in built if path]
+
+
+def library():
+    """The library of Debian's package rust-src, if it is there."""
+    folders = sorted(glob.glob('/usr/src/rustc-*/library'))
+    return folders[-1] if folders else None
 
 
 def milliseconds(commands, path, rounds):

@@ -1,6 +1,6 @@
 #!/usr/bin/env python3
-"""Writes what is the same for every type of syntax, from the structs and enums of the crates of trees (syn_lower, syn_pat, syn_expr, syn_tree) and the
-table of kinds below.
+"""Writes what is the same for every type of syntax, from the structs and enums of the crates of trees (syn_lower, syn_pat,
+syn_expr_parse, syn_expr, syn_tree) and the table of kinds below.
 
     tools/kinds.py            writes the files; run it at the top of the repository, and commit what it writes
     tools/kinds.py --check    writes nothing; fails where a file isn't as it would write it
@@ -49,6 +49,9 @@ KINDS = [
     ("item-enum", "ItemEnum", "enumeration"),
     ("item-struct", "ItemStruct", "structure"),
     ("item-union", "ItemUnion", "union_item"),
+    ("block", "Block", "block"),
+    ("stmt", "Stmt", "statement"),
+    ("stmts", "Stmts", "statements"),
 ]
 
 # lists with one value at least, which end with one
@@ -91,9 +94,10 @@ def outputs():
     lower = Source(CRATES / LOWEST)
     source = Source(CRATES / "syn_tree", lower)
     patterns = Source(CRATES / "syn_pat", lower)
-    expressions = Source(CRATES / "syn_expr", patterns)
+    operators = Source(CRATES / "syn_expr_parse", patterns)
+    expressions = Source(CRATES / "syn_expr", operators)
     files = {}
-    for crate in (lower, patterns, expressions, source):
+    for crate in (lower, patterns, operators, expressions, source):
         files.update(endings(crate))
         files.update(plain_views(crate, JOINED))
         files.update(copies(crate))
@@ -101,8 +105,8 @@ def outputs():
         files.update(prints(crate, UNPRINTED))
     table, page = CRATES / "syn_grammar/specs/Table.antt", Path("docs/GRAMMAR.md")
     files.update(comma_lists(source, table))
-    files[page] = rows(source, table, page, patterns)
-    trees = Together(patterns, expressions, source)
+    files[page] = rows(source, table, page, patterns, operators, expressions)
+    trees = Together(patterns, operators, expressions, source)
     files[CRATES / "syn/src/kinds.rt"] = canonical(trees, KINDS)
     files[CRATES / "syn_canon/src/kind.rt"] = kind_enum(KINDS)
     files[CRATES / "syn_canon/src/by_kind.rt"] = dispatch(trees, KINDS)
@@ -112,7 +116,7 @@ def outputs():
 
 def leftovers(files):
     """Files in the folders that are this script's alone which it wouldn't write."""
-    folders = [CRATES / crate / name for crate in (LOWEST, "syn_pat", "syn_expr", "syn_tree") for name in ("src/copies", "src/compare", "src/prints", "proofs/comma_lists")]
+    folders = [CRATES / crate / name for crate in (LOWEST, "syn_pat", "syn_expr_parse", "syn_expr", "syn_tree") for name in ("src/copies", "src/compare", "src/prints", "proofs/comma_lists")]
     return [path for folder in folders for path in sorted(folder.rglob("*.*t*")) if path.is_file() and path not in files]
 
 

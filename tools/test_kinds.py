@@ -242,6 +242,48 @@ class Kinds(unittest.TestCase):
         page.write_text(f"{HEAD}\nBehind.\n")
         self.assertIn("| `thing` | A thing. | `thing` of `syn_tree/things.rt` |\n", rows(source, table, page))
 
+    def page_of(self, source, table_text):
+        """The page of a table of this text, as this crate reads its rules."""
+        table, page = self.top / "Table.antt", self.top / "PAGE.md"
+        table.write_text(table_text)
+        page.write_text(f"{HEAD}\nBehind.\n")
+        return rows(source, table, page)
+
+    def test_a_level_reads_its_operands_and_what_goes_on_them(self):
+        level = "\nimpl Level for Sums {\n    ghost chain_rule = { rules.sums };\n\n    ghost level_rule = { rules.sum };\n}\n"
+        table = "--\n-- A sum.\ntable sum =\n    rule thing & rule sums\n--\n-- What is added.\ntable sums =\n    empty\n--\n-- A thing.\ntable thing =\n    empty\n"
+        text = self.page_of(self.crate(TYPES + level), table)
+        self.assertIn("| `sum` | A sum. | `Sums` of `syn_tree/things.rt` |\n", text)
+        self.assertIn("| `sums` | What is added. | `Sums` of `syn_tree/things.rt` |\n", text)
+
+    def test_a_rule_that_stands_in_others_alone_is_read_within_them(self):
+        table = """--
+-- A thing.
+table thing =
+    plainly name & (when at_comma then rule part else empty)
+--
+-- A part.
+table part =
+    rule word
+    & rule part
+--
+-- A word.
+table word =
+    plainly name
+--
+-- A list.
+table list =
+    rule entry
+--
+-- An entry.
+table entry =
+    plainly name
+"""
+        text = self.page_of(self.crate(TYPES + READING), table)
+        self.assertIn("| `thing` | A thing. | `Thing` |\n", text)
+        for rule, said, read in (("part", "A part.", "within others"), ("word", "A word.", "within others"), ("list", "A list.", "not read yet"), ("entry", "An entry.", "not read yet")):
+            self.assertIn(f"| `{rule}` | {said} | {read} |\n", text)
+
     def test_a_function_is_named_for_what_its_own_contract_or_proof_says(self):
         short = "fn short() -> bool {\n    true\n}\n\n"
         reading = "fn thing(input: &mut ParseBuffer<'_>) -> Parsed<()>\n    ensures reads { parse_rule rules.thing }\n{\n}\n\n"

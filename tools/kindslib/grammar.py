@@ -1,13 +1,14 @@
 """The table of rules in docs/GRAMMAR.md: each rule in the words that stand above it, and what reads it, if anything does yet."""
 import re
 
-from .lists import read_lists
+from .lists import RULE, read_lists
 from .source import Fault
 
 UNREAD = "not read yet"
+WITHIN = "within others"
 HEAD = "| rule | in words | Rust |\n|---|---|---|\n"
-RULE = re.compile(r"^--\n((?:-- [^\n]*\n)+)table (\w+) =$", re.M)
 READ = re.compile(r"^impl Read for (\w+) \{\n    ghost form = \{ of \(rule rules\.(\w+)\) \};", re.M)
+LEVEL = re.compile(r"^impl Level for (\w+) \{.*?chain_rule = \{ rules\.(\w+) \};.*?level_rule = \{ rules\.(\w+) \};", re.M | re.S)
 FUNCTION = re.compile(r"^((?: *#\[[^\n]*\]\n)*)( *)(pub )?(?:pub\(\w+\) )?fn (\w+)(?:<[^(]*>)?(\(.*?(?:\{|\{\}|;))$", re.M | re.S)
 
 
@@ -17,13 +18,16 @@ def by_hand(source, others):
 
 
 def readers(source, lists, others):
-    """By each rule, the types that are read by it; or else the functions that promise it, the public ones if there are any; or
-    else those whose proof opens its equation."""
+    """By each rule, the types that are read by it; or else the functions that promise it, the public ones if there are any, and the
+    levels of operators; or else the functions whose proof opens its equation."""
     types, opened = {}, {}
     functions = {rule: [(False, f"`{rule}` of `{source.crate.name}/comma_lists.rt`")] for rule in lists}
     for file, text in by_hand(source, others):
         for name, rule in READ.findall(text):
             types.setdefault(rule, []).append(f"`{name}`")
+        for name, chain, level in LEVEL.findall(text):
+            for rule in (chain, level):
+                functions.setdefault(rule, []).append((False, f"`{name}` of `{file}`"))
         for match in FUNCTION.finditer(text):
             attributes, indent, public, function, signature = match.groups()
             owner = re.findall(r"^impl(?: \w+ for)? (\w+) \{", text[: match.start()], re.M)[-1:] if indent else []
@@ -36,6 +40,16 @@ def readers(source, lists, others):
     return opened | promised | types
 
 
+def within_others(forms, found):
+    """The rules that nothing reads by themselves, but which stand in the form of one that is read, or of another such."""
+    within, ahead = set(), [rule for rule in forms if rule in found]
+    while ahead:
+        inner = set(re.findall(r"\brule (\w+)", forms.get(ahead.pop(), ""))) - set(found) - within
+        within |= inner
+        ahead += inner
+    return within
+
+
 def rows(source, table, page, *others):
     """The page with its table of rules, as they are read by this crate of trees, the one below and these others."""
     lists = [name for name, _, _ in read_lists(source, table)[0]]
@@ -44,8 +58,9 @@ def rows(source, table, page, *others):
         raise Fault(f"{page} has no table of rules")
     before, behind = text.split(HEAD)
     after = behind[re.search(r"^(?!\|)", behind, re.M).start():]
-    lines = ""
-    for words, rule in RULE.findall(table.read_text()):
+    lines, rules = "", RULE.findall(table.read_text())
+    within = within_others({rule: form for _, rule, form in rules}, found)
+    for words, rule, _ in rules:
         sentence = " ".join(line[3:] for line in words.splitlines())
-        lines += f"| `{rule}` | {sentence} | {', '.join(found.get(rule, [UNREAD]))} |\n"
+        lines += f"| `{rule}` | {sentence} | {', '.join(found.get(rule, [WITHIN if rule in within else UNREAD]))} |\n"
     return before + HEAD + lines + after

@@ -43,6 +43,10 @@ class Type:
     def has_no_values(self):
         return self.is_enum and not self.variants
 
+    def holds_something(self):
+        """Whether it has fields, or a variant that holds something."""
+        return bool(self.fields) or any(payload for _, payload in self.variants)
+
     def has_attributes(self):
         return any(kind == ATTRIBUTES for _, kind in self.fields)
 
@@ -88,10 +92,9 @@ class Source:
         return None
 
     def printed(self):
-        """The crate's types that stand for syntax: all that have values, but for structs without fields that have no
-        `syntax_of_X`."""
+        """The crate's types that stand for syntax: all that hold something, and the others that have a `syntax_of_X`."""
         own = [t for t in self.types.values() if t.crate == self.crate.name]
-        return [t for t in own if not t.has_no_values() and (t.is_enum or t.fields or self.spec_of(f"syntax_of_{t.name}"))]
+        return [t for t in own if t.holds_something() or self.spec_of(f"syntax_of_{t.name}")]
 
     def owner(self, t):
         """The source of the crate in which a type stands."""

@@ -1,18 +1,25 @@
-//! The work of `print derive`, done by syn 1 and proc-macro2: what the benchmark compares with.
+//! The work of `print derive` and `print stmts`, done by syn 1 and proc-macro2: what the benchmark compares with.
 //!
 //!     peer print              reads a struct from standard input and writes its tokens as text
 //!     peer steps ROUNDS       writes the nanoseconds of each step, a line a round, to standard error
-//!     peer read ROUNDS        the same of reading any source, by proc-macro2 alone: read, drop
+//!     peer print stmts        the same as `print`, of statements
+//!     peer steps stmts ROUNDS the same as `steps`, of statements
+//!     peer bodies             reads a file of Rust and writes the body of each function, a line each
+//!     peer read ROUNDS        the same as `steps` of reading any source, by proc-macro2 alone: read, drop
 //!     peer text ROUNDS        the same of writing the tokens of any source as text: text, drop
 //!
-//! The columns of a line are those of `syn_bench`: read, parse, print, text, drop; and so is what stands on standard output
-//! at the end.
+//! The words for statements are there with the feature `statements`. The columns of a line are those of `syn_bench`: read,
+//! parse, print, text, drop; and so is what stands on standard output at the end.
+
+#[cfg(feature = "statements")]
+mod statements;
 
 use quote::ToTokens;
 use std::error::Error;
 use std::hint::black_box;
 use std::io::{self, Read, Write};
 use std::time::Instant;
+use syn::parse::Parse;
 use syn::DeriveInput;
 
 fn source() -> io::Result<String> {
@@ -21,20 +28,20 @@ fn source() -> io::Result<String> {
     String::from_utf8(bytes).map_err(|_| io::Error::new(io::ErrorKind::InvalidData, "not UTF-8"))
 }
 
-fn print(source: &str) -> Result<String, Box<dyn Error>> {
+fn print<T: Parse + ToTokens>(source: &str) -> Result<String, Box<dyn Error>> {
     let tokens: proc_macro2::TokenStream = source.parse()?;
-    let tree: DeriveInput = syn::parse2(tokens)?;
+    let tree: T = syn::parse2(tokens)?;
     Ok(tree.to_token_stream().to_string())
 }
 
 /// The nanoseconds of each step of one round, and how long the text became.
-fn round(source: &str) -> Result<([u128; 5], usize), Box<dyn Error>> {
+fn round<T: Parse + ToTokens>(source: &str) -> Result<([u128; 5], usize), Box<dyn Error>> {
     let start = Instant::now();
     let tokens: proc_macro2::TokenStream = black_box(source).parse()?;
     let read = start.elapsed();
 
     let start = Instant::now();
-    let tree: DeriveInput = syn::parse2(tokens)?;
+    let tree: T = syn::parse2(tokens)?;
     let parse = start.elapsed();
 
     let start = Instant::now();
@@ -53,6 +60,17 @@ fn round(source: &str) -> Result<([u128; 5], usize), Box<dyn Error>> {
     let dropped = start.elapsed();
     let times = [read, parse, print, written, dropped].map(|time| time.as_nanos());
     Ok((times, length))
+}
+
+/// Takes the source through all steps as often, and tells how long the text became.
+fn rounds<T: Parse + ToTokens>(source: &str, rounds: usize) -> Result<usize, Box<dyn Error>> {
+    let mut length = 0;
+    for _ in 0..rounds {
+        let (times, bytes) = round::<T>(source)?;
+        length = bytes;
+        eprintln!("{}", times.map(|time| time.to_string()).join(" "));
+    }
+    Ok(length)
 }
 
 /// Reads the source as often, and once more to tell how many token trees it has.
@@ -85,27 +103,27 @@ fn text_rounds(source: &str, rounds: usize) -> Result<String, Box<dyn Error>> {
     Ok(tokens.to_string())
 }
 
+const USAGE: &str =
+    "usage: peer print [stmts], peer steps [stmts] ROUNDS, peer bodies, or peer read|text ROUNDS";
+
 fn main() -> Result<(), Box<dyn Error>> {
     let words: Vec<String> = std::env::args().skip(1).collect();
     let words: Vec<&str> = words.iter().map(String::as_str).collect();
-    match words[..] {
-        ["print"] => {
-            let text = print(&source()?)?;
-            writeln!(io::stdout(), "{text}")?;
+    let answer = match words[..] {
+        ["print"] => print::<DeriveInput>(&source()?)?,
+        ["steps", times] => rounds::<DeriveInput>(&source()?, times.parse()?)?.to_string(),
+        #[cfg(feature = "statements")]
+        ["print", "stmts"] => print::<statements::Stmts>(&source()?)?,
+        #[cfg(feature = "statements")]
+        ["steps", "stmts", times] => {
+            rounds::<statements::Stmts>(&source()?, times.parse()?)?.to_string()
         }
-        ["steps", rounds] => {
-            let source = source()?;
-            let mut length = 0;
-            for _ in 0..rounds.parse::<usize>()? {
-                let (times, bytes) = round(&source)?;
-                length = bytes;
-                eprintln!("{}", times.map(|time| time.to_string()).join(" "));
-            }
-            println!("{length}");
-        }
-        ["read", rounds] => println!("{}", read_rounds(&source()?, rounds.parse()?)?),
-        ["text", rounds] => println!("{}", text_rounds(&source()?, rounds.parse()?)?),
-        _ => return Err("usage: peer print, or peer steps|read|text ROUNDS".into()),
-    }
+        #[cfg(feature = "statements")]
+        ["bodies"] => statements::bodies(&source()?)?.join("\n"),
+        ["read", times] => read_rounds(&source()?, times.parse()?)?.to_string(),
+        ["text", times] => text_rounds(&source()?, times.parse()?)?,
+        _ => return Err(USAGE.into()),
+    };
+    writeln!(io::stdout(), "{answer}")?;
     Ok(())
 }

@@ -8,6 +8,7 @@ use syn::deferred::Deferred;
 use syn::lower::{Attribute, Path};
 use syn::parse::{Parse, ParseBuffer};
 use syn::restriction::Visibility;
+use syn::stmt::{Block, Stmt};
 use syn::token::TokenStream;
 use syn::{Pat, Result, ToTokens, TryClone};
 use syn_pat::parsing::typed_pattern;
@@ -121,6 +122,24 @@ fn print_all(attrs: &Vec<Attribute>, tokens: &mut TokenStream) -> Result<()> {
         attr.to_tokens(tokens)?;
     }
     Ok(())
+}
+
+/// `Block::parse_within`
+pub(crate) struct WithinBlock;
+
+impl Call for WithinBlock {
+    type Tree = Vec<Stmt>;
+
+    fn read(input: &mut ParseBuffer<'_>) -> Result<Vec<Stmt>> {
+        Block::parse_within(input)
+    }
+
+    fn print(tree: &Vec<Stmt>, tokens: &mut TokenStream) -> Result<()> {
+        for stmt in tree {
+            stmt.to_tokens(tokens)?;
+        }
+        Ok(())
+    }
 }
 
 /// `Deferred::open`

@@ -5,12 +5,13 @@ use crate::failure::Failure;
 use crate::question::{FormQuestion, Heading};
 use crate::row::Row;
 use std::alloc::Global;
-use syn::canon::{Canonical, NamedField, UnnamedField, canonical, same_form};
+use syn::canon::{Canonical, NamedField, Stmts, UnnamedField, canonical, same_form};
 use syn::data::{FieldsNamed, FieldsUnnamed, Variant};
 use syn::derive::DeriveInput;
 use syn::item::{ItemEnum, ItemStruct, ItemUnion};
 use syn::reader::{read_tokens, token_text};
 use syn::restriction::Visibility;
+use syn::stmt::{Block, Stmt};
 use syn::{Error, Result, Span};
 use syn_test_support::fault;
 
@@ -33,6 +34,9 @@ pub(crate) fn form_as(
         "NamedField" => form::<NamedField>(alloc, question, row),
         "UnnamedField" => form::<UnnamedField>(alloc, question, row),
         "Visibility" => form::<Visibility>(alloc, question, row),
+        "Block" => form::<Block>(alloc, question, row),
+        "Stmt" => form::<Stmt>(alloc, question, row),
+        "Stmts" => form::<Stmts>(alloc, question, row),
         _ => Err(Failure::Malformed(heading.line, "no such kind")),
     }
 }

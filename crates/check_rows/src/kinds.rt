@@ -3,7 +3,7 @@
 use crate::answer::answer;
 use crate::call::{
     Converted, InnerAttributes, ModStyle, NamedField, Opened, OuterAttributes, TypedPattern,
-    UnnamedField,
+    UnnamedField, WithinBlock,
 };
 use crate::called::called;
 use crate::failure::Failure;
@@ -18,11 +18,12 @@ use syn::deferred::Deferred;
 use syn::derive::DeriveInput;
 use syn::item::{Item, ItemEnum, ItemStruct, ItemUnion};
 use syn::lower::{
-    BoundLifetimes, Expr, GenericParam, Generics, LifetimeParam, Lit, Path, ReturnType, TraitBound,
+    self, BoundLifetimes, GenericParam, Generics, LifetimeParam, Lit, Path, ReturnType, TraitBound,
     TraitBoundModifier, Type, TypeParamBound, TypePath, WhereClause, WherePredicate,
 };
 use syn::restriction::Visibility;
-use syn::{Macro, Pat, kind};
+use syn::stmt::{Block, Stmt};
+use syn::{Expr, Macro, Pat, kind};
 use syn_test_support::visibilities::Visibilities;
 
 /// What comes of the row as the kind of this word, which stands in the heading.
@@ -40,7 +41,7 @@ pub(crate) fn answer_as(
     }
 }
 
-/// Items, and what is in them; else what `of_patterns` says.
+/// Items, and what is in them; else what `of_expressions` says.
 fn of_items(
     alloc: Global,
     question: TreeQuestion,
@@ -57,12 +58,12 @@ fn of_items(
         "FieldsNamed" => answer::<FieldsNamed>(alloc, question, row),
         "FieldsUnnamed" => answer::<FieldsUnnamed>(alloc, question, row),
         "Visibility" => answer::<Visibility>(alloc, question, row),
-        _ => of_patterns(alloc, question, heading, word, row),
+        _ => of_expressions(alloc, question, heading, word, row),
     }
 }
 
-/// Patterns and macros; else what `of_types` says.
-fn of_patterns(
+/// Patterns, macros, expressions and statements; else what `of_types` says.
+fn of_expressions(
     alloc: Global,
     question: TreeQuestion,
     heading: &Heading<'_>,
@@ -73,6 +74,10 @@ fn of_patterns(
         "Pat" => answer::<Pat>(alloc, question, row),
         "Macro" => answer::<Macro>(alloc, question, row),
         "typed_pattern" => called::<TypedPattern>(alloc, question, row),
+        "Expr" => answer::<Expr>(alloc, question, row),
+        "Block" => answer::<Block>(alloc, question, row),
+        "Stmt" => answer::<Stmt>(alloc, question, row),
+        "Block::parse_within" => called::<WithinBlock>(alloc, question, row),
         _ => of_types(alloc, question, heading, word, row),
     }
 }
@@ -91,7 +96,7 @@ fn of_types(
         "Path" => answer::<Path>(alloc, question, row),
         "ReturnType" => answer::<ReturnType>(alloc, question, row),
         "Lit" => answer::<Lit>(alloc, question, row),
-        "Expr" => answer::<Expr>(alloc, question, row),
+        "lower::Expr" => answer::<lower::Expr>(alloc, question, row),
         "Deferred<Expr>" => answer::<Deferred<kind::Expr>>(alloc, question, row),
         "Deferred<Visibilities>" => answer::<Deferred<Visibilities>>(alloc, question, row),
         _ => of_generics(alloc, question, heading, word, row),

@@ -9,7 +9,7 @@ use syn_parse::parse::parse2;
 use syn_tokens::error::Result;
 use syn_tokens::print::ToTokens;
 use syn_tokens::stream::TokenStream;
-pub use wrappers::{NamedField, UnnamedField};
+pub use wrappers::{NamedField, Stmts, UnnamedField};
 
 /// The canonical print of what the tokens spell: the print of the tree that the whole stream is read as.
 ///

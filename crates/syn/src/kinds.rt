@@ -4,8 +4,9 @@
 ghost use Rattle.std.specs.Prelude.{refl};
 ghost use Rattle.syn_grammar.specs.Rules as rules;
 
-use crate::canon::{NamedField, UnnamedField};
+use crate::canon::{NamedField, Stmts, UnnamedField};
 use crate::lawful::Canonical;
+use syn_expr::stmt::{Block, Stmt};
 use syn_tree::data::{FieldsNamed, FieldsUnnamed, Variant};
 use syn_tree::derive::DeriveInput;
 use syn_tree::item::{ItemEnum, ItemStruct, ItemUnion};
@@ -67,6 +68,24 @@ impl Canonical for ItemStruct {
 
 impl Canonical for ItemUnion {
     ghost rule = { rules.union_item };
+
+    ghost reads_rule = { refl };
+}
+
+impl Canonical for Block {
+    ghost rule = { rules.block };
+
+    ghost reads_rule = { refl };
+}
+
+impl Canonical for Stmt {
+    ghost rule = { rules.statement };
+
+    ghost reads_rule = { refl };
+}
+
+impl Canonical for Stmts {
+    ghost rule = { rules.statements };
 
     ghost reads_rule = { refl };
 }

@@ -5,19 +5,17 @@ pub mod canon;
 mod kinds;
 mod lawful;
 
-pub use syn_expr::stmt::LocalModifiers;
 pub use syn_lower::{
     AngleBracketedGenericArguments, AssocType, AttrStyle, Attribute, BoundLifetimes, ConstParam,
-    Expr, ExprLit, GenericArgument, GenericParam, Generics, Index, LifetimeParam, Lit, LitBool,
-    LitByte, LitByteStr, LitCStr, LitChar, LitFloat, LitInt, LitStr, LitToken, LiteralKind,
-    MacroDelimiter, Member, Meta, MetaList, MetaNameValue, ParenthesizedGenericArguments, Path,
-    PathArguments, PathSegment, PredicateLifetime, PredicateType, QSelf, ReturnType, TraitBound,
+    GenericArgument, GenericParam, Generics, Index, LifetimeParam, Lit, LitBool, LitByte,
+    LitByteStr, LitCStr, LitChar, LitFloat, LitInt, LitStr, LitToken, LiteralKind, MacroDelimiter,
+    Member, Meta, MetaList, MetaNameValue, ParenthesizedGenericArguments, Path, PathArguments,
+    PathSegment, PredicateLifetime, PredicateType, QSelf, ReturnType, TraitBound,
     TraitBoundModifier, Type, TypeArray, TypeGroup, TypeNever, TypeParam, TypeParamBound,
     TypeParen, TypePath, TypePtr, TypeReference, TypeSlice, TypeTuple, WhereClause, WherePredicate,
     kind,
 };
 pub use syn_parse::parse::parse2;
-pub use syn_pat::{Macro, Pat};
 pub use syn_reader::reader;
 pub use syn_tokens::error::{Error, Fault, Result};
 pub use syn_tokens::ident::Ident;
@@ -56,7 +54,8 @@ pub mod punctuated {
     pub use syn_tokens::punctuated::iterators::{IntoIter, Iter, IterMut};
 }
 
-/// What the trees of items are made of: attributes, paths, types, generics and literals.
+/// What the trees of items are made of: attributes, paths, types, generics and literals; and `Expr` and `ExprLit`, which a deferred value
+/// opens to today: a literal, `true` or `false`.
 pub mod lower {
     pub use syn_lower::{
         AngleBracketedGenericArguments, AssocType, AttrStyle, Attribute, BoundLifetimes,
@@ -70,9 +69,29 @@ pub mod lower {
     };
 }
 
-/// Expressions: of today a literal, `true` or `false`.
+pub use syn_expr::expr::{
+    Expr, ExprArray, ExprAssign, ExprBinary, ExprBlock, ExprBreak, ExprCall, ExprCast,
+    ExprContinue, ExprField, ExprForLoop, ExprGroup, ExprIf, ExprIndex, ExprLit, ExprLoop,
+    ExprMacro, ExprMethodCall, ExprParen, ExprPath, ExprReference, ExprRepeat, ExprReturn, ExprTry,
+    ExprTuple, ExprUnary, ExprUnsafe, ExprWhile, Label,
+};
+pub use syn_expr::op::{BinOp, UnOp};
+pub use syn_expr::stmt::{Block, Local, LocalInit, LocalModifiers, Stmt, StmtMacro};
+pub use syn_pat::{Macro, Pat};
+
+/// Expressions.
 pub mod expr {
-    pub use syn_lower::{Expr, ExprLit};
+    pub use syn_expr::expr::{
+        Expr, ExprArray, ExprAssign, ExprBinary, ExprBlock, ExprBreak, ExprCall, ExprCast,
+        ExprContinue, ExprField, ExprForLoop, ExprGroup, ExprIf, ExprIndex, ExprLit, ExprLoop,
+        ExprMacro, ExprMethodCall, ExprParen, ExprPath, ExprReference, ExprRepeat, ExprReturn,
+        ExprTry, ExprTuple, ExprUnary, ExprUnsafe, ExprWhile, Label,
+    };
+}
+
+/// Operators.
+pub mod op {
+    pub use syn_expr::op::{BinOp, UnOp};
 }
 
 /// Patterns.
@@ -87,9 +106,9 @@ pub mod mac {
     pub use syn_pat::Macro;
 }
 
-/// Statements: of today what may stand before `let`.
+/// Blocks and statements.
 pub mod stmt {
-    pub use syn_expr::stmt::LocalModifiers;
+    pub use syn_expr::stmt::{Block, Local, LocalInit, LocalModifiers, Stmt, StmtMacro};
 }
 
 /// Parts of trees that are kept as their tokens until they are opened.

@@ -1,7 +1,8 @@
-//! Times the steps of `syn_canon print derive`, each by itself, and the reading of any source.
+//! Times the steps of `syn_canon print derive` and `print stmts`, each by itself, and the reading of any source.
 //!
 //!     syn_bench ROUNDS         reads a struct from standard input; the nanoseconds of a round: text to tokens, tokens to
 //!                              a tree, the tree to tokens, tokens to text, and letting all of it go
+//!     syn_bench stmts ROUNDS   the same of statements
 //!     syn_bench read ROUNDS    reads any source; of a round: text to tokens, and letting them go
 //!     syn_bench text ROUNDS    reads any source once; of a round: tokens to text, and letting that go
 //!
@@ -17,9 +18,10 @@ use std::process::ExitCode;
 use std::time::{Clock, Duration, Instant};
 use std::{env, io};
 use syn::ToTokens;
+use syn::canon::Stmts;
 use syn::derive::DeriveInput;
 use syn::error::Error;
-use syn::parse::parse2;
+use syn::parse::{Parse, parse2};
 use syn::reader::{read_tokens, token_text};
 use syn::token::TokenStream;
 
@@ -57,14 +59,18 @@ struct Times {
     drop: Duration,
 }
 
-/// Takes the source through all steps once, and tells how many bytes its text has.
-fn round<C: Clock>(clock: &C, alloc: Global, source: &str) -> Result<(Times, usize), Stop> {
+/// Takes the source through all steps once, as a `T`, and tells how many bytes its text has.
+fn round<T: Parse + ToTokens + Drop, C: Clock>(
+    clock: &C,
+    alloc: Global,
+    source: &str,
+) -> Result<(Times, usize), Stop> {
     let start = Instant::now(clock)?;
     let tokens = read_tokens(alloc, source)?;
     let read = start.elapsed(clock)?;
 
     let start = Instant::now(clock)?;
-    let tree = parse2::<DeriveInput>(tokens)?;
+    let tree: T = parse2(tokens)?;
     let parse = start.elapsed(clock)?;
 
     let start = Instant::now(clock)?;
@@ -123,6 +129,7 @@ fn text_round<C: Clock>(clock: &C, tokens: &TokenStream) -> Result<(Duration, Du
 #[derive(Clone, Copy)]
 enum Task {
     Derive,
+    Stmts,
     Read,
     Text,
 }
@@ -135,6 +142,7 @@ fn command(rt: &HostRuntime) -> Result<(Task, u32), Stop> {
     };
     let (task, count) = match (first.as_str(), words.next()) {
         (_, None) => (Task::Derive, first),
+        ("stmts", Some(count)) => (Task::Stmts, count),
         ("read", Some(count)) => (Task::Read, count),
         ("text", Some(count)) => (Task::Text, count),
         _ => return Err(Stop::Usage),
@@ -149,7 +157,8 @@ fn run(rt: &HostRuntime) -> Result<(), Stop> {
     let (task, rounds) = command(rt)?;
     let source = io::read_to_string(rt.alloc(), rt.stdin())?;
     match task {
-        Task::Derive => derive_rounds(rt, rounds, source.as_str()),
+        Task::Derive => rounds_of::<DeriveInput>(rt, rounds, source.as_str()),
+        Task::Stmts => rounds_of::<Stmts>(rt, rounds, source.as_str()),
         Task::Read => read_rounds(rt, rounds, source.as_str()),
         Task::Text => text_rounds(rt, rounds, source.as_str()),
     }
@@ -177,10 +186,14 @@ fn text_rounds(rt: &HostRuntime, rounds: u32, source: &str) -> Result<(), Stop> 
     Ok(())
 }
 
-fn derive_rounds(rt: &HostRuntime, rounds: u32, source: &str) -> Result<(), Stop> {
+fn rounds_of<T: Parse + ToTokens + Drop>(
+    rt: &HostRuntime,
+    rounds: u32,
+    source: &str,
+) -> Result<(), Stop> {
     let mut bytes = 0;
     for _ in 0..rounds {
-        let (times, length) = round(rt, rt.alloc(), source)?;
+        let (times, length) = round::<T, HostRuntime>(rt, rt.alloc(), source)?;
         bytes = length;
         eprintln!(rt;
             "{} {} {} {} {}",
@@ -199,7 +212,7 @@ fn main(rt: HostRuntime) -> ExitCode {
     match run(&rt) {
         Ok(()) => ExitCode::from(0),
         Err(Stop::Usage) => {
-            let _ = eprintln!(rt; "usage: syn_bench [read|text] ROUNDS");
+            let _ = eprintln!(rt; "usage: syn_bench [stmts|read|text] ROUNDS");
             ExitCode::from(2)
         }
         Err(Stop::Refused(error)) => {

@@ -4,7 +4,7 @@ use Rattle.std.specs.Prelude.{◌≡◌, ℕ, List, codes}
 use Rattle.syn_grammar.specs.Rules as rules
 use Rattle.syn_grammar.specs.Rules.{Rule}
 use Rattle.syn_canon.specs.declared.kind.Kind.{Kind}
-use Rattle.syn_canon.specs.declared.kind.Kind.TheVariants.{Derive, Visibility, Variant, NamedField, UnnamedField, FieldsNamed, FieldsUnnamed, ItemEnum, ItemStruct, ItemUnion}
+use Rattle.syn_canon.specs.declared.kind.Kind.TheVariants.{Derive, Visibility, Variant, NamedField, UnnamedField, FieldsNamed, FieldsUnnamed, ItemEnum, ItemStruct, ItemUnion, Block, Stmt, Stmts}
 
 -- how a kind is written
 abbrev pub word_of : Kind → List ℕ
@@ -18,6 +18,9 @@ word_of FieldsUnnamed = codes "fields-unnamed"
 word_of ItemEnum = codes "item-enum"
 word_of ItemStruct = codes "item-struct"
 word_of ItemUnion = codes "item-union"
+word_of Block = codes "block"
+word_of Stmt = codes "stmt"
+word_of Stmts = codes "stmts"
 
 -- no kind is written so
 abbrev pub NoKind : List ℕ → Type 0
@@ -35,3 +38,6 @@ rule_of FieldsUnnamed = rules.fields_unnamed
 rule_of ItemEnum = rules.enumeration
 rule_of ItemStruct = rules.structure
 rule_of ItemUnion = rules.union_item
+rule_of Block = rules.block
+rule_of Stmt = rules.statement
+rule_of Stmts = rules.statements

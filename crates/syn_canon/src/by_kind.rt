@@ -9,11 +9,12 @@ ghost use Rattle.syn_canon.specs.Answers.{IsPrinted, IsDerived, IsUnderived};
 use crate::answer::{check, print};
 use crate::failure::Failure;
 use crate::kind::Kind;
-use syn::canon::{NamedField, UnnamedField};
+use syn::canon::{NamedField, Stmts, UnnamedField};
 use syn::data::{FieldsNamed, FieldsUnnamed, Variant};
 use syn::derive::DeriveInput;
 use syn::item::{ItemEnum, ItemStruct, ItemUnion};
 use syn::restriction::Visibility;
+use syn::stmt::{Block, Stmt};
 use syn::token::TokenStream;
 
 /// What `print` writes of the tokens.
@@ -33,6 +34,9 @@ pub(crate) fn print_as(kind: Kind, tokens: TokenStream) -> Result<String, Failur
         Kind::ItemEnum => print::<ItemEnum>(tokens),
         Kind::ItemStruct => print::<ItemStruct>(tokens),
         Kind::ItemUnion => print::<ItemUnion>(tokens),
+        Kind::Block => print::<Block>(tokens),
+        Kind::Stmt => print::<Stmt>(tokens),
+        Kind::Stmts => print::<Stmts>(tokens),
     }
 }
 
@@ -53,5 +57,8 @@ pub(crate) fn check_as(kind: Kind, tokens: TokenStream) -> Result<(), Failure>
         Kind::ItemEnum => check::<ItemEnum>(tokens),
         Kind::ItemStruct => check::<ItemStruct>(tokens),
         Kind::ItemUnion => check::<ItemUnion>(tokens),
+        Kind::Block => check::<Block>(tokens),
+        Kind::Stmt => check::<Stmt>(tokens),
+        Kind::Stmts => check::<Stmts>(tokens),
     }
 }

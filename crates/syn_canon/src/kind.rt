@@ -17,6 +17,9 @@ pub(crate) enum Kind {
     ItemEnum,
     ItemStruct,
     ItemUnion,
+    Block,
+    Stmt,
+    Stmts,
 }
 
 impl Kind {
@@ -35,6 +38,9 @@ impl Kind {
             "item-enum" => Some(Kind::ItemEnum),
             "item-struct" => Some(Kind::ItemStruct),
             "item-union" => Some(Kind::ItemUnion),
+            "block" => Some(Kind::Block),
+            "stmt" => Some(Kind::Stmt),
+            "stmts" => Some(Kind::Stmts),
             _ => None,
         }
     }

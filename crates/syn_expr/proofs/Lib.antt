@@ -1,5 +1,7 @@
+pub mod Attributes
 pub mod Bodies
 pub mod Else
 pub mod Forms
 pub mod Lists
-pub mod Operators
+pub mod Moving
+pub mod Statements

@@ -15,8 +15,9 @@ use Rattle.syn_lower.specs.Literals.{syntax_of_Lit}
 use Rattle.syn_lower.specs.Members.{syntax_of_Member}
 use Rattle.syn_lower.specs.Parts.{first, group_syntax, second}
 use Rattle.syn_lower.specs.Types.{syntax_of_lifetime, syntax_of_Type, tuple_elements}
-use Rattle.syn_expr.specs.Bodies.{attributes_before_body, body}
-use Rattle.syn_expr.specs.Operators.{syntax_of_BinOp, syntax_of_UnOp}
+use Rattle.syn_expr_parse.specs.Bodies.{attributes_before_body, body}
+use Rattle.syn_expr_parse.specs.Operators.{syntax_of_BinOp, syntax_of_UnOp}
+pub use Rattle.syn_expr_parse.specs.Parts.{array_elements, behind_else, block_behind_else, field_member, in_braces, method_arguments, token_of}
 use Rattle.syn_pat.specs.Patterns.{path_of, syntax_of_Pat}
 use Rattle.syn_expr.specs.declared.expr.Expr.TheVariants as Expr-m
 use Rattle.syn_expr.specs.declared.expr.blocks.ExprBlock.TheInside as ExprBlock-in
@@ -104,23 +105,11 @@ view_ExprUnary a = Both (attributes_syntax a.attrs.items) (Both (syntax_of_UnOp 
 abbrev pub view_ExprCall : ExprCall-in.Inside → Syntax
 view_ExprCall a = Both (attributes_syntax a.attrs.items) (Both (syntax_of_Expr a.func.value) (group_syntax Paren a.paren_token (list_of whole comma_syntax a.args.pairs a.args.last)))
 
--- a field: its number, or its name alone
-abbrev pub field_member : Syntax → Syntax
-field_member (Left index) = Node (Left index)
-field_member (Right name) = Node (Right (Both name (Right (Right Nothing))))
-field_member s = s
-
 abbrev pub view_ExprField : ExprField-in.Inside → Syntax
 view_ExprField a = Both (attributes_syntax a.attrs.items) (Both (syntax_of_Expr a.base.value) (Both (dot_syntax a.dot_token) (field_member (syntax_of_Member a.member))))
 
 abbrev pub view_ExprIndex : ExprIndex-in.Inside → Syntax
 view_ExprIndex a = Both (attributes_syntax a.attrs.items) (Both (syntax_of_Expr a.expr.value) (group_syntax Bracket a.bracket_token (whole a.index.value)))
-
--- a method's arguments, behind generic ones or none; of a tree made by hand the `::` before these may be missing
-abbrev pub method_arguments : Option Syntax → Syntax → Syntax
-method_arguments None arguments = Right (Left arguments)
-method_arguments (Some (Both (Left colons) generic)) arguments = Left (Both colons (Both generic arguments))
-method_arguments (Some generic) arguments = Both generic arguments
 
 abbrev pub view_ExprMethodCall : ExprMethodCall-in.Inside → Syntax
 view_ExprMethodCall a =
@@ -131,11 +120,6 @@ abbrev pub view_ExprTry : ExprTry-in.Inside → Syntax
 view_ExprTry a = Both (attributes_syntax a.attrs.items) (Both (syntax_of_Expr a.expr.value) (question_syntax a.question_token))
 
 -- GROUPS
-
--- the content of an array's brackets, of a comma list
-abbrev pub array_elements : Syntax → Syntax
-array_elements (Node (Right (Both s others))) = Node (Right (Both s (Right others)))
-array_elements s = s
 
 abbrev pub view_ExprArray : ExprArray-in.Inside → Syntax
 view_ExprArray a = Both (attributes_syntax a.attrs.items) (group_syntax Bracket a.bracket_token (array_elements (list_of whole comma_syntax a.elems.pairs a.elems.last)))
@@ -161,12 +145,6 @@ view_ExprBreak a = Both (attributes_syntax a.attrs.items) (Both (break_syntax a.
 
 abbrev pub view_ExprContinue : ExprContinue-in.Inside → Syntax
 view_ExprContinue a = Both (attributes_syntax a.attrs.items) (Both (continue_syntax a.continue_token) (maybe syntax_of_lifetime a.label))
-
--- a literal's token
-abbrev pub token_of : Syntax → Syntax
-token_of (Left s) = token_of s
-token_of (Right s) = token_of s
-token_of s = s
 
 abbrev pub view_ExprLit : ExprLit-in.Inside → Syntax
 view_ExprLit a = Both (attributes_syntax a.attrs.items) (token_of (syntax_of_Lit a.lit))
@@ -202,19 +180,6 @@ abbrev pub view_ExprForLoop : ExprForLoop-in.Inside → Syntax
 view_ExprForLoop a =
     Both (attributes_before_body a.attrs.items) (Both (maybe itself a.label) (Both (for_syntax a.for_token)
     (Both (syntax_of_Pat a.pat.value) (Both (in_syntax a.in_token) (Both (whole a.expr.value) (body a.attrs.items a.body))))))
-
--- Behind `else` stands a block. Anything else, which only a tree made by hand holds there, is printed in braces.
-abbrev pub in_braces : Syntax → Syntax
-in_braces s = Group grammar.Brace call_site call_site (Shaped choice s)
-
-abbrev pub block_behind_else : Syntax → Syntax
-block_behind_else (Shaped (expr Block) s) = Shaped (expr Block) s
-block_behind_else s = in_braces s
-
--- a block or another `if`
-abbrev pub behind_else : Syntax → Syntax
-behind_else (Shaped (expr If) s) = Right (Node (Shaped (expr If) s))
-behind_else s = Left (block_behind_else s)
 
 abbrev pub view_ExprIf : ExprIf-in.Inside → Syntax
 view_ExprIf a =

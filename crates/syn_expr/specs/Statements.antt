@@ -8,6 +8,8 @@ use Rattle.syn_tokens.specs.Leaves.{maybe}
 use Rattle.syn_tokens.specs.Kinds.{else_syntax, eq_syntax, let_syntax, semi_syntax}
 use Rattle.syn_lower.specs.Attributes.{attributes_syntax}
 use Rattle.syn_lower.specs.Parts.{group_syntax}
+use Rattle.syn_expr_parse.specs.Parts.{statements_of}
+pub use Rattle.syn_expr_parse.specs.Parts.{diverging}
 use Rattle.syn_expr.specs.Expressions.{block_behind_else, syntax_of_Expr, whole}
 use Rattle.syn_pat.specs.Patterns.{local_pattern, syntax_of_Pat}
 use Rattle.syn_expr.specs.declared.expr.Expr.TheVariants as Expr-m
@@ -29,8 +31,7 @@ syntax_of_Stmt s = Node (statement_of s)
 
 -- statements in order
 abbrev pub statements_syntax : List Stmt-m.the_data → Syntax
-statements_syntax [] = Node (Left Nothing)
-statements_syntax (s ∷ l) = Node (Right (Shaped listed (Both (statement_of s) (statements_syntax l))))
+statements_syntax = statements_of statement_of
 
 abbrev pub view_Block : Block-in.Inside → Syntax
 view_Block a = Node (group_syntax Brace a.brace_token (statements_syntax a.stmts.items))
@@ -42,12 +43,6 @@ syntax_of_LocalModifiers m = Nothing
 abbrev pub view_Local : Local-in.Inside → Syntax
 view_Local a =
     Both (attributes_syntax a.attrs.items) (Node (Both (let_syntax a.let_token) (Both (local_pattern (syntax_of_Pat a.pat)) (Both (maybe itself a.init) (semi_syntax a.semi_token)))))
-
--- `else` and a block, or nothing
-abbrev pub diverging : Syntax → Syntax
-diverging (Left s) = Shaped untagged s
-diverging (Right s) = Shaped untagged s
-diverging s = Shaped untagged s
 
 abbrev pub view_LocalInit : LocalInit-in.Inside → Syntax
 view_LocalInit a =

@@ -3,5 +3,4 @@
 //! Comparisons of trees.
 
 mod expr;
-mod op;
 mod stmt;

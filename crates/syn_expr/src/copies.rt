@@ -3,5 +3,4 @@
 //! Copies of trees.
 
 mod expr;
-mod op;
 mod stmt;

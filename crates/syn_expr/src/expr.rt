@@ -5,6 +5,7 @@ mod groups;
 mod operators;
 mod postfix;
 mod primary;
+mod statement;
 
 pub use blocks::{ExprBlock, ExprForLoop, ExprIf, ExprLoop, ExprUnsafe, ExprWhile, Label};
 pub use groups::{ExprArray, ExprGroup, ExprParen, ExprRepeat, ExprTuple};

@@ -1,4 +1,4 @@
-//! The syntax trees of expressions, blocks and statements, with their prints, copies and comparisons. Patterns and macros stand
+//! The syntax trees of expressions, blocks and statements, with their parsers, prints, copies and comparisons. Patterns and macros stand
 //! below, in `syn_pat`.
 #![tactic(auto)]
 
@@ -6,9 +6,11 @@ mod compare;
 mod copies;
 pub mod expr;
 mod nested;
-pub mod op;
 mod prints;
+mod recursion;
 pub mod stmt;
+mod trees;
 
 pub use expr::Expr;
 pub use stmt::{Block, Stmt};
+pub use syn_expr_parse::op;

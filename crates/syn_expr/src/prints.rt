@@ -4,5 +4,4 @@
 #![tactic(auto, using(syn_tokens::proofs::Prints::prints))]
 
 mod expr;
-mod op;
 mod stmt;

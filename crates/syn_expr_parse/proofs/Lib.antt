@@ -5,6 +5,7 @@ pub mod LevelLooks
 pub mod Levels
 pub mod Listed
 pub mod Locals
+pub mod Operators
 pub mod Postfixes
 pub mod Primary
 pub mod Spines

@@ -5,6 +5,7 @@ pub mod LevelSteps
 pub mod Levels
 pub mod Listed
 pub mod Operators
+pub mod ParseTies
 pub mod Parsers
 pub mod Parts
 pub mod Postfixes

@@ -2,7 +2,10 @@
 //! proved once for all.
 #![tactic(auto)]
 
+mod compare;
+mod copies;
 mod looks;
 pub mod op;
 pub mod parsing;
+mod prints;
 pub mod trees;

@@ -1,5 +1,7 @@
 //! Texts that show trees whole: each token with its spans, each part that is there.
 
+mod exprs;
+mod ops;
 mod parts;
 mod pats;
 

@@ -1,10 +1,15 @@
 //! What is parsed by functions, as types that have canonical prints.
+ghost use Rattle.std.specs.Prelude.{◌≡◌, OnOk};
 ghost use Rattle.syn_grammar.specs.Grammar.{rule};
 ghost use Rattle.syn_grammar.specs.Rules as rules;
+ghost use Rattle.syn_expr.specs.Prints.{statements_row};
+ghost use Rattle.syn_expr.specs.Statements.{statements_syntax};
 ghost use Rattle.syn_parse.specs.Form.{of};
 ghost use Rattle.syn_parse.specs.Meanings.{meaning_of_rule};
+ghost use Rattle.syn_tokens.specs.Building.{added};
 
 use std::alloc::AllocError;
+use syn_expr::stmt::{Block, Stmt};
 use syn_parse::buffer::ParseBuffer;
 use syn_parse::read::Read;
 use syn_parse::read::refusal::Parsed;
@@ -64,3 +69,44 @@ impl Print for UnnamedField {
 }
 
 impl ToTokens for UnnamedField {}
+
+/// Statements to the end, as `Block::parse_within` parses them.
+#[derive(Drop)]
+pub struct Stmts(pub Vec<Stmt>);
+
+impl Syntactic for Stmts {
+    ghost syntax = { λ stmts. statements_syntax stmts.0.items };
+}
+
+impl Read for Stmts {
+    ghost form = { of (rule rules.statements) };
+
+    ghost takes = { 0 };
+
+    ghost meaning = { meaning_of_rule rules.statements };
+
+    fn read(input: &mut ParseBuffer<'_>) -> Parsed<Stmts> {
+        Ok(Stmts(Block::read_within(input)?))
+    }
+}
+
+impl Print for Stmts {
+    #[tactic(auto, using(syn_expr::proofs::Lists::print_statements))]
+    fn print_in(&self, out: &mut StreamBuilder) -> Result<(), AllocError> {
+        print_row(&self.0, out)
+    }
+}
+
+/// Adds statements in order at the end.
+#[tactic(auto, using(syn_tokens::proofs::Prints::prints, syn_expr::proofs::Lists::statement_step, syn_expr::proofs::Lists::statements_done))]
+fn print_row(stmts: &Vec<Stmt>, out: &mut StreamBuilder) -> Result<(), AllocError>
+    ensures row { OnOk result (out.new ≡ added out.old (statements_row stmts.now.items)) }
+    ensures begins { out.new.before ≡ out.old.before }
+{
+    for stmt in stmts {
+        stmt.print_in(out)?;
+    }
+    Ok(())
+}
+
+impl ToTokens for Stmts {}

@@ -1,10 +1,11 @@
-//! What patterns are made of, and macros.
+//! What patterns, expressions and statements are made of, and macros.
 
 use crate::outline::{Outlined, TreeText};
 use std::alloc::AllocError;
 use syn::Macro;
-use syn::lower::{Attribute, Path, QSelf, Type};
-use syn::token::Mut;
+use syn::expr::Label;
+use syn::lower::{AngleBracketedGenericArguments, Attribute, Member, Path, QSelf, Type};
+use syn::token::{Lifetime, Mut, Semi};
 
 /// Adds the attributes of a part, and then what it is called. So attributes stand before the word of what has them.
 pub(super) fn node(
@@ -41,11 +42,69 @@ pub(super) fn show_type(ty: &Type, out: &mut TreeText) -> Result<(), AllocError>
     ty.show(out)
 }
 
+/// Adds what shows a lifetime.
+fn show_lifetime(lifetime: &Lifetime, out: &mut TreeText) -> Result<(), AllocError> {
+    out.token("'", lifetime.apostrophe)?;
+    lifetime.ident.show(out)
+}
+
+/// Adds a lifetime, if there is one.
+pub(super) fn show_target(label: &Option<Lifetime>, out: &mut TreeText) -> Result<(), AllocError> {
+    match label {
+        Some(lifetime) => show_lifetime(lifetime, out),
+        None => Ok(()),
+    }
+}
+
+/// Adds a label, if there is one.
+pub(super) fn show_label(label: &Option<Label>, out: &mut TreeText) -> Result<(), AllocError> {
+    match label {
+        Some(label) => label.show(out),
+        None => Ok(()),
+    }
+}
+
 /// Adds `mut`, if it is there.
 pub(super) fn show_mut(mutability: &Option<Mut>, out: &mut TreeText) -> Result<(), AllocError> {
     match mutability {
         Some(token) => out.token("mut", token.span),
         None => Ok(()),
+    }
+}
+
+/// Adds `;`, if it is there.
+pub(super) fn show_semi(semi: &Option<Semi>, out: &mut TreeText) -> Result<(), AllocError> {
+    match semi {
+        Some(token) => out.mark(";", token),
+        None => Ok(()),
+    }
+}
+
+/// Adds generic arguments, if there are any, by what they print.
+pub(super) fn show_arguments(
+    arguments: &Option<AngleBracketedGenericArguments>,
+    out: &mut TreeText,
+) -> Result<(), AllocError> {
+    match arguments {
+        Some(arguments) => out.printed("Arguments", arguments),
+        None => Ok(()),
+    }
+}
+
+impl Outlined for Label {
+    fn show(&self, out: &mut TreeText) -> Result<(), AllocError> {
+        show_lifetime(&self.name, out)?;
+        out.mark(":", &self.colon_token)
+    }
+}
+
+/// A number is shown by what it prints.
+impl Outlined for Member {
+    fn show(&self, out: &mut TreeText) -> Result<(), AllocError> {
+        match self {
+            Member::Named(ident) => ident.show(out),
+            Member::Unnamed(index) => out.printed("Index", index),
+        }
     }
 }
 

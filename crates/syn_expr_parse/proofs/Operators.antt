@@ -2,13 +2,12 @@
 use Rattle.std.proofs.Common.{◌≡◌, ℕ, zero, suc, ◌<◌, Bool, true, false, List, [], ◌∷◌, length, get_or, nat_eq, refl, sym, ap, ap₂, ◌∙◌, true≢false, arith}
 use Rattle.syn_grammar.specs.Words.{Text}
 use Rattle.syn_grammar.specs.Tokens.{and, same_text}
-use Rattle.syn_grammar.specs.Grammar.{Syntax}
 use Rattle.syn_grammar.specs.Same.{same_bool, same_mark, same_syntax}
 use Rattle.syn_tokens.specs.Leaves.{placed, syntax_of_mark}
 use Rattle.syn_tokens.specs.declared.span.Span.{Span as TokenSpan}
-use Rattle.syn_expr.specs.Operators.{number_of_BinOp, number_of_UnOp, placed_BinOp, placed_UnOp, syntax_of_BinOp, syntax_of_UnOp}
-use Rattle.syn_expr.specs.declared.op.BinOp.TheVariants as BinOp-m
-use Rattle.syn_expr.specs.declared.op.UnOp.TheVariants as UnOp-m
+use Rattle.syn_expr_parse.specs.Operators.{number_of_BinOp, number_of_UnOp, placed_BinOp, placed_UnOp, syntax_of_BinOp, syntax_of_UnOp}
+use Rattle.syn_expr_parse.specs.declared.op.BinOp.TheVariants as BinOp-m
+use Rattle.syn_expr_parse.specs.declared.op.UnOp.TheVariants as UnOp-m
 
 -- two marks with a place for each of their characters are the same where their texts are
 same_marks : (x y : Text) (l m : List TokenSpan) → length l ≡ length x → length m ≡ length y → same_mark (placed x l) (placed y m) ≡ same_text x y

@@ -1,7 +1,7 @@
 //! Written by tools/kinds.py; edits are lost.
 //!
 //! Comparisons of `op`.
-ghost use Rattle.syn_expr.specs.Operators.{syntax_of_BinOp, syntax_of_UnOp};
+ghost use Rattle.syn_expr_parse.specs.Operators.{syntax_of_BinOp, syntax_of_UnOp};
 ghost use Rattle.syn_lower.specs.Equality.{IsSame, IsEqual, PrintsAlike};
 ghost use Rattle.syn_tokens.specs.Comparison.{same_by, same_equiv, same_per};
 

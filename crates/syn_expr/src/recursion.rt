@@ -1,0 +1,174 @@
+//! Where the parsers of expressions and statements lead back to each other.
+ghost use Rattle.std.specs.Prelude.{◌≡◌, refl, OnErr};
+ghost use Rattle.syn_grammar.specs.Rules as rules;
+ghost use Rattle.syn_parse.specs.Meanings.{meaning_of, meaning_of_rule};
+ghost use Rattle.syn_lower.specs.Parsing.{of, rule, parse_rule, Computes, Kept, MayBelow, MayParse, Outcome, Parses, IsSyntax, IsSyntaxError};
+ghost use Rattle.syn_expr.specs.Expressions.{whole};
+ghost use Rattle.syn_expr_parse.specs.Parsers.{expression_form, rule_of};
+ghost use Rattle.syn_expr_parse.specs.ParseTies.{ExprTies, StatementsTies};
+ghost use Rattle.syn_expr.specs.Statements.{statements_syntax};
+
+use crate::trees::ExprTrees;
+use crate::{Block, Expr, Stmt};
+use std::marker::PhantomData;
+use syn_expr_parse::parsing::{Nested, Rung, block, expression, statement, statements};
+use syn_expr_parse::trees::Trees;
+use syn_lower::carrier::Carrier;
+use syn_parse::buffer::ParseBuffer;
+use syn_parse::read::Read;
+use syn_parse::read::refusal::{Parsed, Refusal};
+use syn_tokens::error::Result;
+
+/// How many expressions and blocks may stand inside each other. The stack is memory too, and is refused for what is deeper.
+const LEVELS: u32 = 50;
+
+/// How many expressions and blocks may still stand inside, and what carries a refusal.
+type Inside<E> = (u32, PhantomData<E>);
+
+/// The functions that read nested expressions and statements, and what they are told.
+#[derive(Drop)]
+struct Knot<E, X, S> {
+    expr: X,
+    statements: S,
+    inside: Inside<E>,
+}
+
+impl<
+    E: Carrier,
+    X: Fn(Rung, &mut ParseBuffer<'_>, Inside<E>) -> std::result::Result<Box<Expr>, E>,
+    S: Fn(&mut ParseBuffer<'_>, Inside<E>) -> std::result::Result<Vec<Stmt>, E>,
+> Nested for Knot<E, X, S> {
+    type Trees = ExprTrees;
+
+    ghost may = { λ k ts. ExprTies E.is_syntax (λ e. whole e.value) (λ p. p.0 ≡ k.inside.0) ts (X.pre k.expr) (X.post k.expr)
+        × StatementsTies E.is_syntax (λ v. statements_syntax v.items) (λ p. p.0 ≡ k.inside.0) ts (S.pre k.statements) (S.post k.statements) };
+
+    fn expr(&self, rung: Rung, input: &mut ParseBuffer<'_>) -> Parsed<Box<Expr>> {
+        match (self.expr)(rung, input, (self.inside.0, PhantomData)) {
+            Ok(value) => Ok(value),
+            Err(carried) => Err(carried.refusal()),
+        }
+    }
+
+    fn statements(&self, input: &mut ParseBuffer<'_>) -> Parsed<Vec<Stmt>> {
+        match (self.statements)(input, (self.inside.0, PhantomData)) {
+            Ok(value) => Ok(value),
+            Err(carried) => Err(carried.refusal()),
+        }
+    }
+}
+
+/// An expression inside of another, or of a block.
+#[cycle(knot)]
+fn nested_expr<E: Carrier>(
+    rung: Rung,
+    input: &mut ParseBuffer<'_>,
+    inside: Inside<E>,
+) -> std::result::Result<Box<Expr>, E>
+    ensures parses { Parses E.is_syntax (λ e. whole e.value) (rule_of rung) input.old result input.new }
+{
+    let Some(left) = inside.0.checked_sub(1) else {
+        return Err(E::carry(Refusal::Memory));
+    };
+    let knot = Knot {
+        expr: nested_expr::<E>,
+        statements: nested_statements::<E>,
+        inside: (left, inside.1),
+    };
+    match expression(&knot, rung, input) {
+        Ok(value) => Ok(value),
+        Err(refusal) => Err(E::carry(refusal)),
+    }
+}
+
+/// Statements inside of an expression.
+#[cycle(knot)]
+fn nested_statements<E: Carrier>(
+    input: &mut ParseBuffer<'_>,
+    inside: Inside<E>,
+) -> std::result::Result<Vec<Stmt>, E>
+    ensures parses { MayParse E.is_syntax (λ v. statements_syntax v.items) rules.statements input.old result input.new }
+{
+    let Some(left) = inside.0.checked_sub(1) else {
+        return Err(E::carry(Refusal::Memory));
+    };
+    let knot = Knot {
+        expr: nested_expr::<E>,
+        statements: nested_statements::<E>,
+        inside: (left, inside.1),
+    };
+    match statements(&knot, input) {
+        Ok(value) => Ok(value),
+        Err(refusal) => Err(E::carry(refusal)),
+    }
+}
+
+/// Any expression.
+impl Read for Expr {
+    ghost form = { of expression_form };
+
+    ghost meaning = { meaning_of _ refl };
+
+    #[tactic(auto, using(crate::specs::Cores::core_view))]
+    fn read(input: &mut ParseBuffer<'_>) -> Parsed<Expr> {
+        Ok(ExprTrees::unboxed(nested_expr::<Refusal>(Rung::Whole, input, (LEVELS, PhantomData))?))
+    }
+}
+
+/// A block without inner attributes: statements in braces.
+impl Read for Block {
+    ghost form = { of (rule rules.block) };
+
+    ghost meaning = { meaning_of_rule rules.block };
+
+    fn read(input: &mut ParseBuffer<'_>) -> Parsed<Block> {
+        let knot = Knot {
+            expr: nested_expr::<Refusal>,
+            statements: nested_statements::<Refusal>,
+            inside: (LEVELS, PhantomData),
+        };
+        block(&knot, input)
+    }
+}
+
+/// A statement alone.
+impl Read for Stmt {
+    ghost form = { of (rule rules.statement) };
+
+    ghost meaning = { meaning_of_rule rules.statement };
+
+    #[tactic(auto, using(syn_grammar::proofs::Each::statement_is))]
+    fn read(input: &mut ParseBuffer<'_>) -> Parsed<Stmt> {
+        let knot = Knot {
+            expr: nested_expr::<Refusal>,
+            statements: nested_statements::<Refusal>,
+            inside: (LEVELS, PhantomData),
+        };
+        statement(&knot, input)
+    }
+}
+
+impl Block {
+    /// Reads statements to the end, as `parse_within` parses them.
+    pub fn read_within(input: &mut ParseBuffer<'_>) -> Parsed<Vec<Stmt>>
+        ensures parses { MayParse IsSyntax (λ v. statements_syntax v.items) rules.statements input.old result input.new }
+    {
+        nested_statements::<Refusal>(input, (LEVELS, PhantomData))
+    }
+
+    /// Parses statements up to the end of the group or stream. They may be none, and the last expression may stand without `;`.
+    ///
+    /// Where something else than statements stands there, or memory is refused, the buffer stands where it stood.
+    #[tactic(auto, using(syn_parse::proofs::Refused::refused_by_syntax))]
+    pub fn parse_within(input: &mut ParseBuffer<'_>) -> Result<Vec<Stmt>>
+        ensures outcome { Outcome IsSyntaxError (λ v. statements_syntax v.items) (rule rules.statements) input.old result input.new }
+        ensures reads { Computes IsSyntaxError (λ v. statements_syntax v.items) (parse_rule rules.statements input.old) result input.new }
+        ensures unchanged { OnErr result (input.new ≡ input.old) }
+        ensures kept { Kept input.old result input.new }
+    {
+        let mut ahead = input.fork();
+        let stmts = nested_statements::<Refusal>(&mut ahead, (LEVELS, PhantomData))?;
+        input.advance_to(&ahead);
+        Ok(stmts)
+    }
+}

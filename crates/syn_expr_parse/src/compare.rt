@@ -1,0 +1,5 @@
+//! Written by tools/kinds.py; edits are lost.
+//!
+//! Comparisons of trees.
+
+mod op;

@@ -1,0 +1,6 @@
+//! Written by tools/kinds.py; edits are lost.
+//!
+//! Prints of trees.
+#![tactic(auto, using(syn_tokens::proofs::Prints::prints))]
+
+mod op;
