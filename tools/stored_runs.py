@@ -11,6 +11,8 @@ A file runs.txt holds runs apart by empty lines. Each line of one is a word, a c
     args       the words after the program's name, with the shell's quotes
     input      what stands on standard input: text in which \\n, \\t, \\\\ and \\xNN are a line break, a tab, a backslash and a byte
     times      how often that text stands there (a number; once if left out)
+    before     what stands before that text, `times` often, which then stands there once itself
+    behind     what stands behind it, as often
     status     the exit status
     output     what it must write to standard output, as `input` is written (nothing if left out)
     faults     what it must write to standard error, in the same way
@@ -30,7 +32,7 @@ from dataclasses import dataclass, field
 from pathlib import Path
 
 TOP = Path(__file__).resolve().parent.parent
-WORDS = {"run", "args", "input", "times", "status", "output", "faults", "stdin", "stdout", "stderr", "memory"}
+WORDS = {"run", "args", "input", "times", "before", "behind", "status", "output", "faults", "stdin", "stdout", "stderr", "memory"}
 # How the name of what each compiler built ends.
 BUILDS = ("", ".by-rattle")
 ESCAPES = {b"n": b"\n", b"t": b"\t", b"\\": b"\\"}
@@ -65,6 +67,13 @@ def bytes_of(text):
     return re.sub(rb"\\(x[0-9a-f]{2}|.|$)", replaced, text.encode())
 
 
+def input_of(words):
+    """What a run is given."""
+    text, before, behind = (bytes_of(words.get(word, "")) for word in ("input", "before", "behind"))
+    times = int(words.get("times", 1))
+    return before * times + text + behind * times if before or behind else text * times
+
+
 def run_of(lines):
     """The run that the lines, `word: value` each, tell of."""
     words = {}
@@ -79,7 +88,7 @@ def run_of(lines):
     return Run(
         name=words["run"],
         args=shlex.split(words["args"]),
-        input=bytes_of(words.get("input", "")) * int(words.get("times", 1)),
+        input=input_of(words),
         status=int(words["status"]),
         output=bytes_of(words.get("output", "")),
         faults=bytes_of(words.get("faults", "")),

@@ -46,6 +46,10 @@ class Files(unittest.TestCase):
         self.assertEqual((one.name, one.args, one.input, one.status), ("one", ["a", "b c"], b"x\n\xff" * 3, 4))
         self.assertEqual((two.args, two.input, two.output, two.places), ([], b"", b"0  0\n", {}))
 
+    def test_what_stands_around_a_text(self):
+        for lines, wanted in (("input: x\nbefore: (\nbehind: )\ntimes: 3", b"(((x)))"), ("before: -\ntimes: 2\ninput: 1", b"--1"), ("input: a\nbehind: +a", b"a+a")):
+            self.assertEqual(runs_of(f"run: a\nargs:\nstatus: 0\n{lines}\n")[0].input, wanted)
+
     def test_lines_that_say_nothing(self):
         for text in ("run: a\nargs:\n", "args:\nstatus: 0\n", "run: a\nargs:\nstatus: 0\nstdot: x\n", "run: a\nargs:\nstatus: 0\nstatus: 1\n", "run: a\nargs:\nstatus\n"):
             self.assertRaises(ValueError, runs_of, text)

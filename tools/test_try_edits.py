@@ -11,8 +11,7 @@ from pathlib import Path
 from types import SimpleNamespace
 
 import try_edits
-from editlib import memory, rooms
-from editlib.cores import Cores
+from editlib import memory, prover, rooms
 from editlib.edits import Source, Unfit, edits_of, packs, read, with_clauses
 from editlib.functions import block_of, functions_of, types_of
 from editlib.refusals import answer_of, clause_of
@@ -251,11 +250,11 @@ class Trials(InCrate):
 
     def trial(self, is_recording=False):
         """Tries the edits. The prover refuses those goals of a function that `says` has for the text that stands in it."""
-        trial = try_edits.Trial(self.crate, [], [], SimpleNamespace(number=1))
+        trial = try_edits.Trial(self.crate, [], [])
         trial.wrong += [] if is_recording else try_edits.unnamed(trial)
         sizes = []
 
-        def try_pack(pack):
+        def try_pack(pack, kept):
             sizes.append(len(pack.edits))
             text = "".join(pack.texts.values())
             said = [line for there, line in self.says.items() if there in text]
@@ -263,7 +262,7 @@ class Trials(InCrate):
             return [edit for edit in pack.edits if not trial.is_refused(edit, answer, len(pack.edits) == 1)]
 
         trial.try_pack = try_pack
-        trial.rounds(SimpleNamespace(map=lambda call, packs: [call(pack) for pack in packs]))
+        trial.run()
         trial.compare(is_recording)
         return trial.wrong, sizes
 
@@ -324,6 +323,17 @@ class Trials(InCrate):
         self.refused("= 5;", "Name::first", "returns-clause-value")
         self.assertEqual(self.trial(), ([], [1]))
 
+    def test_of_an_edit_outside_of_bodies_the_function_that_it_names_is_checked(self):
+        self.edit("a", "clause: Name::first by value", "old: LIMIT: usize = 4", "new: LIMIT: usize = 5")
+        self.edit("b", "clause: free by value", "old: LIMIT: usize = 4", "new: LIMIT: usize = 6")
+        self.edit("c", "clause: Examples by shown", "old: LIMIT: usize = 4", "new: LIMIT: usize = 7")
+        trial = try_edits.Trial(self.crate, [], [])
+        self.assertEqual([trial.changed(edit) for edit in trial.edits], [{"low::Name::first"}, {"low::free"}, set()])
+        for there in ["= 5;", "= 6;", "= 7;"]:
+            self.refused(there, "Name::first", "returns-clause-value")
+        wrong = ["b: names free by value, but refused were: value", "c: names Examples by shown, but refused were: value"]
+        self.assertEqual(self.trial()[0], wrong)
+
     def test_a_table_is_told_by_a_lemma_on_which_a_function_rests(self):
         self.edit("a", "clause: first by sound", "old: LIMIT: usize = 4", "new: LIMIT: usize = 5")
         self.edit("b", "clause: first by sound", "old: LIMIT: usize = 4", "new: LIMIT: usize = 6")
@@ -349,38 +359,65 @@ class Trials(InCrate):
         self.assertEqual((read(a).clauses, read(b).clauses), (["small"], ["returns by loop-c-preserved"]))
 
 
-class Rooms(InCrate):
-    def test_a_room_has_what_the_check_needs_and_changes_nothing(self):
-        (self.top / "crates.txt").write_text("# crates\nlow: arrayvec\nother:\nhigh: low\n")
-        high = self.top / "crates" / "high"
-        for path, text in [("src/lib.rt", "a"), ("out/incremental/x", "kept"), ("out/rlib/high.rlib", "own"), ("edits/a.edit", "e")]:
-            (high / path).parent.mkdir(parents=True, exist_ok=True)
-            (high / path).write_text(text)
-        for path, text in [("out/rlib/low.rlib", "built"), ("out/incremental/y", "not needed")]:
-            (self.crate / path).parent.mkdir(parents=True, exist_ok=True)
-            (self.crate / path).write_text(text)
-        with rooms.room(self.top, "high", {"src/lib.rt": "b"}) as folder:
-            room = Path(folder).parent.parent
-            there = sorted(str(it.relative_to(room)) for it in room.rglob("*") if it.is_file() and ".git" not in str(it.relative_to(room)))
-            self.assertEqual(
-                there,
-                ["crates.txt", "crates/high/out/incremental/x", "crates/high/src/lib.rt", "crates/low/out/rlib/low.rlib", "crates/low/src/lib.rt"],
-            )
-            self.assertEqual((room / "crates.txt").read_text(), "low: arrayvec\nhigh: low\n")
-            self.assertEqual((Path(folder) / "src/lib.rt").read_text(), "b")
-            self.assertTrue(os.path.samefile(f"{folder}/out/incremental/x", high / "out/incremental/x"))
-        self.assertFalse(room.exists())
-        self.assertEqual((high / "src/lib.rt").read_text(), "a")
-        self.assertEqual((high / "out/incremental/x").read_text(), "kept")
+class Checks(InCrate):
+    """How a changed crate is checked, by a kit that only writes what it is called with."""
 
+    def setUp(self):
+        super().setUp()
+        (self.top / "crates.txt").write_text("# crates\nlow: arrayvec\nother:\nhigh: low hex\n")
+        self.high = self.top / "crates" / "high"
+        for path in ["src/main.rt", "specs/Views.antt"]:
+            (self.high / path).parent.mkdir(parents=True)
+            (self.high / path).write_text("a")
+        self.kit = self.top / "kit"
+        (self.kit / "bin").mkdir(parents=True)
+        for name in ["rt", "rattle"]:
+            (self.kit / "bin" / name).write_text('#!/bin/sh\necho "$0 $@"\npwd\n')
+            (self.kit / "bin" / name).chmod(0o755)
+        path = os.environ["PATH"]
+        self.addCleanup(os.environ.__setitem__, "PATH", path)
+        os.environ["PATH"] = f"{self.kit}/bin:{path}"
 
-class Processors(unittest.TestCase):
-    def test_as_many_are_taken_as_are_free(self):
-        cores = Cores()
-        cores.number = cores.free = 3
-        with cores.taken(1) as one, cores.taken(3) as others:
-            self.assertEqual((one, others, cores.free), (1, 2, 0))
-        self.assertEqual(cores.free, 3)
+    def built(self, *names):
+        library = prover.library(self.crate)
+        library.mkdir(parents=True, exist_ok=True)
+        for name in names:
+            (library / name).write_text("")
+
+    def test_a_room_has_the_changed_sources_and_changes_nothing(self):
+        with rooms.room(self.high, {"src/main.rt": "b"}) as folder:
+            there = sorted(str(it.relative_to(folder)) for it in Path(folder).rglob("*") if it.is_file())
+            self.assertEqual(there, ["specs/Views.antt", "src/main.rt"])
+            self.assertEqual(Path(folder, "src/main.rt").read_text(), "b")
+        self.assertFalse(Path(folder).exists())
+        self.assertEqual((self.high / "src/main.rt").read_text(), "a")
+
+    def test_the_prover_is_called_in_the_room_with_the_libraries_of_the_repository(self):
+        with rooms.room(self.high, {}) as folder:
+            said = prover.checked(self.high, folder, {"high::f", "high::Name::g"}, "kept", None).split("\n")
+        self.assertEqual(said[1], folder)
+        words = said[0].split(" ")
+        self.assertEqual(words[:5], [f"{self.kit}/bin/rattle", "check", "--crate-name", "high", "src/main.rt"])
+        after = lambda word: [words[at + 1] for at, it in enumerate(words) if it == word]
+        low = f"{self.crate}/out/rlib"
+        self.assertEqual(after("--extern"), [f"std={self.kit}/rlibs/std.rlib", f"low={low}/low.rlib", f"hex={self.kit}/rlibs/hex.rlib"])
+        self.assertEqual(after("-L"), [f"dependency={self.kit}/rlibs", f"dependency={low}"])
+        self.assertEqual((after("--only"), after("--incremental")), (["Name::g", "f"], ["kept"]))
+        self.assertNotIn("--only", prover.words(self.high, set()))
+
+    def test_libraries_that_rt_ci_left_are_taken(self):
+        self.built("format")
+        (self.kit / "bin/rt").write_text("#!/bin/sh\nexit 1\n")
+        self.assertTrue(prover.has_libraries([self.crate]))
+
+    def test_others_are_built_where_they_lack_or_have_a_stamp(self):
+        (self.kit / "bin/rt").write_text('#!/bin/sh\n[ "$*" = lib ] && echo >> calls\n')
+        self.assertTrue(prover.has_libraries([self.crate]))
+        self.built("format", "../stamp")
+        self.assertTrue(prover.has_libraries([self.crate]))
+        self.assertEqual((self.crate / "calls").read_text(), "\n\n")
+        (self.kit / "bin/rt").write_text("#!/bin/sh\nexit 1\n")
+        self.assertFalse(prover.has_libraries([self.crate]))
 
 
 class GivesWay(unittest.TestCase):
@@ -388,8 +425,6 @@ class GivesWay(unittest.TestCase):
         self.free = [9, 9]
         memory.available, kept = lambda: self.free.pop(0) if len(self.free) > 1 else self.free[0], memory.available
         self.addCleanup(setattr, memory, "available", kept)
-        self.addCleanup(setattr, memory, "GROWTH", memory.GROWTH)
-        memory.GROWTH = 0.1
 
     def test_what_is_said_and_the_status(self):
         self.assertEqual(memory.run(["sh", "-c", "echo a; exit 3"], "/", 5, 3), (3, "a\n"))
@@ -400,7 +435,6 @@ class GivesWay(unittest.TestCase):
             command = ["sh", "-c", "echo >> begun; [ $(wc -l < begun) = 2 ] || sleep 60"]
             self.assertEqual(memory.run(command, folder, 5, 3), (0, ""))
             self.assertEqual((Path(folder) / "begun").read_text(), "\n\n")
-
 
     def test_what_has_not_ended_in_its_time_is_ended(self):
         start = time.monotonic()
@@ -414,7 +448,7 @@ class Program(InCrate):
     def test_without_time_nothing_is_tried_and_it_says_so(self):
         (self.top / "crates.txt").write_text("low:\n")
         self.edit("a", "clause: value", "old:         2", "new:         4")
-        options = SimpleNamespace(apart=False, crate=None, names=[], said=None, minutes=-1, record=False, check=False)
+        options = SimpleNamespace(crate=None, names=[], said=None, minutes=-1, turn=0, record=False, check=False)
         said = io.StringIO()
         with contextlib.redirect_stdout(said):
             status = try_edits.tell(options, try_edits.trials_of(options, self.top))
@@ -435,17 +469,22 @@ class Program(InCrate):
         with self.program("--check", "--said", str(folder)) as (said, ended):
             self.assertEqual((said, ended, folder.is_dir()), ("1 edits, 0 wrong\n", 0, True))
 
-    def test_a_copy_apart_has_the_sources_and_nothing_that_was_kept(self):
-        (self.top / "crates.txt").write_text("low:\n")
-        (self.crate / "out").mkdir()
-        with rooms.apart(self.top) as copy:
-            self.assertEqual((copy / "crates/low/src/lib.rt").read_text(), SOURCE)
-            self.assertFalse((copy / "crates/low/out").exists())
-            self.assertEqual(copy.name, self.top.name)
-        self.assertFalse(copy.exists())
-        self.edit("a", "clause: value", "old:         2", "new:         4")
-        with self.program("--check", "--apart") as (said, ended):
-            self.assertEqual((said, ended), ("1 edits, 0 wrong\n", 0))
+    def test_each_turn_begins_with_another_crate_and_in_time_with_other_edits(self):
+        (self.top / "crates.txt").write_text("low:\nhigh: low\n")
+        (self.top / "crates/high/src").mkdir(parents=True)
+        (self.top / "crates/high/edits").mkdir()
+        (self.top / "crates/high/src/lib.rt").write_text(SOURCE)
+        for crate, name in [("low", "a"), ("low", "b"), ("high", "c")]:
+            (self.top / "crates" / crate / "edits" / f"{name}.edit").write_text("clause: value\nfile: src/lib.rt\nold:         2\nnew:         4\n")
+        (self.crate / "must-fail").mkdir()
+        (self.crate / "must-fail/d.edit").write_text("clause: value\nfile: src/lib.rt\nold:         2\nnew:         4\n")
+        self.addCleanup(setattr, try_edits, "SMALL", try_edits.SMALL)
+        try_edits.SMALL = 1
+        found = []
+        for turn in range(4):
+            options = SimpleNamespace(crate=None, names=[], said=None, minutes=None, turn=turn, check=False)
+            found.append([edit.name for trial in try_edits.trials_of(options, self.top) for edit in trial.edits])
+        self.assertEqual(found, [["a", "b", "c"], ["c", "a", "b"], ["b", "a", "c"], ["c", "b", "a"]])
 
     @contextlib.contextmanager
     def program(self, *words):

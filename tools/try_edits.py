@@ -1,14 +1,14 @@
 #!/usr/bin/env python3
 """Tries edits that the prover has to refuse: wrong bodies, each of which breaks a clause of a contract.
 
-    tools/try_edits.py [CRATE [NAME..]]     the edits of crates/CRATE/edits and must-fail (or those of these names); of every crate
+    tools/try_edits.py [CRATE [NAME..]]     the edits of crates/CRATE/edits (or those of these names); of every crate
     tools/try_edits.py --check              only whether each edit can be applied and names what it breaks; proves nothing
     tools/try_edits.py --record [CRATE ..]  also writes the clause into the edits that name none
     --said FOLDER                           keeps what the prover said of each pack in a file there
-    --apart                                 in a copy of the repository without what earlier checks kept, so that `rt ci` can run beside,
-                                            which tries those of must-fail/ itself
     --minutes N                             ends after so many minutes, also a check that goes on, and says how many edits weren't
                                             tried
+    --turn N                                begins with another crate for each N, and with other edits of it, so that in time
+                                            all are tried
 
 An edit is a file of lines:
 
@@ -18,18 +18,22 @@ An edit is a file of lines:
                                              always tell the same one: one of them has to be refused
     clause: skips by loop-character-preserved      the same, where the prover stops at another goal than the clause's own: a
                                              loop's invariant, or what a callee requires; of a table, a function that is
-                                             not proved, or a file of proofs, and the lemma there that is refused:
-                                             one_tree by unions_hold, ExamplesOfItems by enum_values
+                                             not proved (the end of its name), or a file of proofs, and the lemma there
+                                             that is refused: one_tree by unions_hold, ExamplesOfItems by enum_values
     file: src/token/word.rt                  what it changes,
     in: token::word::Word::new               in which function (left out where the text stands once in the file),
     old: span,                               the text, which stands there once,
     new: span: Span::call_site(),            and what takes its place, in one line
 
-`rt ci` tries the edits of must-fail/ one after another, so a few stand there, and all others in edits/, which are tried
-here, many at once. A copy of the crate is changed by all edits that touch bodies of different functions, and checked over
-what the repository's own check kept: contracts are as they were, so each function that was changed has to be refused for
-itself, and not only because it calls another one that is refused. What changes something else than bodies, as a table, is
-tried alone. What isn't refused is tried again in smaller packs, until it is alone.
+Those of must-fail/ are tried by `rt ci`, one after another, so a few stand there; here only where they are named. All others
+are tried many at once: a copy of the crate is changed by all edits that touch bodies of different functions, and of that the
+changed functions are checked, and those that they call. Contracts are as they were, so each function that was changed has to
+be refused for itself, and not only because it calls another one that is refused. What changes something else than bodies, as
+a table, is tried alone, of the function that it names, or by a check of the whole crate where it names none. What isn't refused
+is tried again in smaller packs, until it is alone.
+
+The libraries below are taken as `rt ci` left them, or built by `rt lib` where there are none. Whether the crate is proved as
+it is isn't asked.
 
 Not counted as refused is an edit that a proof file no longer fits only because it names what is gone: that says nothing
 of the contract. Ends with 1 where an edit is not refused, is refused for another clause than it names, names none, or
@@ -39,79 +43,69 @@ can't be applied.
 import argparse
 import resource
 import sys
+import tempfile
 import time
-from concurrent.futures import ThreadPoolExecutor
-from contextlib import nullcontext
 from pathlib import Path
 
-from editlib import memory, rooms
-from editlib.cores import Cores
+from editlib import prover, rooms
 from editlib.edits import edits_of, packs, with_clauses
 from editlib.refusals import answer_of, clause_of
 
 TOP = Path(__file__).resolve().parent.parent
-# the most edits of one check: the prover takes some seconds for each refusal
-SIZE = 80
+# the most edits of one check, and where time is short: the prover takes some seconds for each refusal
+SIZE, SMALL = 80, 20
 
 
 class Trial:
     """The edits of one crate, and what became of them."""
 
-    def __init__(self, crate, lower, names, cores, folder=None, end=None):
-        self.top, self.crate, self.cores, self.folder, self.end = crate.parent.parent, crate, cores, folder, end
-        self.source, self.edits, self.unfit = edits_of(crate, lower, names)
+    def __init__(self, crate, lower, names, folder=None, end=None, start=0):
+        self.crate, self.lower, self.folder, self.end = crate, lower, folder, end
+        self.size = SIZE if end is None else SMALL
+        self.source, found, self.unfit = edits_of(crate, lower, names)
+        self.edits = turned(found, start)
         self.refused, self.untried, self.wrong = {}, [], [f"{path.stem}: can't be applied: {why}" for path, why in self.unfit]
 
     def is_late(self):
         """Whether no time is left for another check."""
         return self.end is not None and time.monotonic() > self.end
 
-    def has_base(self):
-        """Proves the crate as it is, so that its own work and the libraries below it are kept; false where no time is left."""
-        with self.cores.taken(self.cores.number) as jobs:
-            if self.is_late():
-                self.untried += self.edits
-                return False
-            start = time.monotonic()
-            answer = checked(self.crate, jobs, self.end)
-        if answer is None:
-            self.untried += self.edits
-            return False
-        status, said = answer
-        print(f"{self.crate.name}: {'proved' if not status else 'NOT PROVED'} as it is, {time.monotonic() - start:.0f} s", flush=True)
-        if status:
-            print(said[-2000:])
-            self.wrong.append("the crate is not proved without edits")
-        return not status
-
-    def rounds(self, pool):
+    def run(self):
         """Tries the edits in packs, and what isn't refused in smaller ones, until it is alone."""
-        left, size = self.edits, SIZE
-        while left:
-            tried = packs(self.source, left, size)
-            missed = [edit for missed in pool.map(self.try_pack, tried) for edit in missed]
-            alone = {pack.edits[0].name for pack in tried if len(pack.edits) == 1}
-            left, size = [edit for edit in missed if edit.name not in alone], max(1, min(size, len(missed)) // 2)
+        left, size = self.edits, self.size
+        if not self.is_late() and not prover.has_libraries(self.lower, self.end):
+            self.wrong.append("a library below it isn't built")
+            return
+        with tempfile.TemporaryDirectory(prefix="edits-") as kept:
+            while left:
+                tried = packs(self.source, left, size)
+                missed = [edit for pack in tried for edit in self.try_pack(pack, kept)]
+                alone = {pack.edits[0].name for pack in tried if len(pack.edits) == 1}
+                left, size = [edit for edit in missed if edit.name not in alone], max(1, min(size, len(missed)) // 2)
 
-    def try_pack(self, pack):
-        """The edits of the pack that are not refused; none where no time is left."""
-        with self.cores.taken(1) as jobs:
-            if self.is_late():
-                self.untried += pack.edits
-                return []
-            start = time.monotonic()
-            with rooms.room(self.top, self.crate.name, pack.texts) as folder:
-                answer = checked(folder, jobs, self.end)
-        if answer is None:
+    def try_pack(self, pack, kept):
+        """The edits of the pack that are not refused; none where no time is left. What the check proves is kept in that folder."""
+        start = time.monotonic()
+        only = {function for edit in pack.edits for function in self.changed(edit)}
+        with rooms.room(self.crate, pack.texts) as folder:
+            said = None if self.is_late() else prover.checked(self.crate, folder, only, kept, self.end)
+        if said is None:
             self.untried += pack.edits
             return []
-        said = answer[1]
         if self.folder:
             (self.folder / f"{self.crate.name}-{pack.edits[0].name}-{len(pack.edits)}.txt").write_text(said)
         answer = answer_of(said, self.crate.name, self.source.function_around, set(pack.texts))
         missed = [edit for edit in pack.edits if not self.is_refused(edit, answer, len(pack.edits) == 1)]
         print(f"{self.crate.name}: {len(pack.edits) - len(missed)} of {len(pack.edits)} refused, {time.monotonic() - start:.0f} s", flush=True)
         return missed
+
+    def changed(self, edit):
+        """The functions that are to be checked: those whose bodies the edit changes, or else those that it names; none where it names
+        the file of a lemma."""
+        if not edit.is_outside:
+            return edit.functions
+        named = [clause.partition(" by ")[0] for clause in edit.clauses if " by " in clause]
+        return {function for function in self.source.names() for name in named if is_named(name, function)}
 
     def is_refused(self, edit, answer, is_alone):
         """Whether one of the functions that the edit changes was refused for itself; of an edit outside of bodies, any function,
@@ -140,7 +134,7 @@ class Trial:
         """What may be named before ` by `: the clauses of what the edit changes; outside of bodies, a function that isn't
         proved, or the file of a lemma."""
         if edit.is_outside:
-            return list(dict.fromkeys(function.rpartition("::")[2] for function, _ in self.refused[edit.name]))
+            return list(dict.fromkeys(function for function, _ in self.refused[edit.name]))
         return self.source.clauses(edit)
 
     def compare(self, is_recording):
@@ -150,21 +144,28 @@ class Trial:
                 continue
             clauses, others = self.clauses(edit)
             if not edit.clauses and is_recording:
-                edit.clauses = clauses[:1] or [f"{(self.whole(edit) or ['returns'])[0]} by {others[0]}"]
+                edit.clauses = clauses[:1] or [f"{(self.whole(edit) or ['returns'])[0].removeprefix(f'{self.crate.name}::')} by {others[0]}"]
                 edit.path.write_text(with_clauses(edit.path.read_text(), edit.clauses))
             for clause in edit.clauses:
                 name, _, goal = clause.partition(" by ")
                 if goal:
-                    fits = goal in [*clauses, *others] and (name in self.whole(edit) or not self.whole(edit))
+                    whole = self.whole(edit)
+                    fits = goal in [*clauses, *others] and (not whole or any(is_named(name, it) for it in whole))
                 else:
                     fits = not set(alternatives(name)).isdisjoint(clauses)
                 if not fits:
                     self.wrong.append(f"{edit.name}: names {clause}, but refused were: {', '.join([*clauses, *others])}")
 
 
-def checked(folder, jobs, end):
-    """The status of a check of the crate in this folder, and what it said; none where no time was left for it."""
-    return memory.run(["rt", "check", "--jobs", str(jobs)], folder, end=end)
+def turned(things, start):
+    """The same, beginning with another one."""
+    at = start % len(things) if things else 0
+    return things[at:] + things[:at]
+
+
+def is_named(name, whole):
+    """Whether a name is all of another one, or its end."""
+    return f"::{whole}".endswith(f"::{name}")
 
 
 def alternatives(clauses):
@@ -197,13 +198,18 @@ def unnamed(trial):
 
 
 def trials_of(options, top):
-    """The crates that have edits, lowest first."""
-    uses, cores, folder = rooms.listed(top)[1], Cores(2 if options.apart else 1), top / "crates"
+    """The crates that have edits, lowest first, or from the one on whose turn it is."""
+    uses, folder = rooms.listed(top), top / "crates"
     lower = {name: [folder / it for it in rooms.below(name, uses)] for name in uses}
     names = [options.crate] if options.crate else sorted(uses, key=lambda name: len(lower[name]))
     has_edits = [name for name in names if [*(folder / name).glob("edits/*"), *(folder / name).glob("must-fail/*")]]
     end = None if options.minutes is None else time.monotonic() + 60 * options.minutes
-    return [Trial(folder / name, lower[name], options.names, cores, options.said, end) for name in has_edits]
+    round = options.turn // max(1, len(has_edits))
+    trials = [Trial(folder / name, lower[name], options.names, options.said, end, SMALL * round) for name in has_edits]
+    if not options.check and not options.names:
+        for trial in trials:
+            trial.edits = [edit for edit in trial.edits if edit.path.parent.name != "must-fail"]
+    return turned([trial for trial in trials if trial.edits or trial.unfit], options.turn)
 
 
 def main():
@@ -213,15 +219,12 @@ def main():
     parser.add_argument("--check", action="store_true")
     parser.add_argument("--record", action="store_true")
     parser.add_argument("--said", type=Path)
-    parser.add_argument("--apart", action="store_true")
     parser.add_argument("--minutes", type=float)
+    parser.add_argument("--turn", type=int, default=0)
     options = parser.parse_args()
-    if options.apart and options.record:
-        parser.error("--record writes into the repository, and --apart works in a copy")
     if options.said:
         options.said.mkdir(parents=True, exist_ok=True)
-    with rooms.apart(TOP) if options.apart else nullcontext(TOP) as top:
-        sys.exit(tell(options, trials_of(options, top)))
+    sys.exit(tell(options, trials_of(options, TOP)))
 
 
 def tell(options, trials):
@@ -230,8 +233,8 @@ def tell(options, trials):
     for trial in trials:
         trial.wrong += [] if options.record else unnamed(trial)
     if not options.check:
-        tried(trials)
         for trial in trials:
+            trial.run()
             trial.compare(options.record)
     wrong = [f"{trial.crate.name}/{it}" for trial in trials for it in trial.wrong]
     number = sum(len(trial.edits) + len(trial.unfit) for trial in trials)
@@ -244,17 +247,6 @@ def tell(options, trials):
     times = f"{time.monotonic() - start:.0f} s, {used.ru_utime + used.ru_stime:.0f} s of processors"
     print(f"{number} edits, {len(wrong)} wrong" if options.check else f"{refused} of {number} refused, {len(wrong)} wrong, {times}")
     return 1 if wrong else 0
-
-
-def tried(trials):
-    """Proves the crates one after another, and tries the edits of each as soon as it is proved, beside the others."""
-    with ThreadPoolExecutor(len(trials) or 1) as of_crates, ThreadPoolExecutor(64) as pool:
-        running = []
-        for trial in trials:
-            if trial.has_base():
-                running.append(of_crates.submit(trial.rounds, pool))
-        for it in running:
-            it.result()
 
 
 if __name__ == "__main__":

@@ -114,6 +114,10 @@ class Source:
         found = [it for it in self.functions.get(path, []) if it.body and it.first <= line <= it.last]
         return max(found, key=lambda it: it.first).name if found else None
 
+    def names(self):
+        """The names of the crate's functions that have a body, with the crate's."""
+        return [f"{self.name}::{it.name}" for functions in self.functions.values() for it in functions if it.body]
+
     def clauses_of(self, function):
         """The names of the clauses of a function's contract, by its name with the crate's; those of the trait that it implements
         where it has none of its own. Empty where that trait is none of the repository's."""

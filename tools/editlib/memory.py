@@ -1,21 +1,26 @@
 """Checks that give way: they begin where memory is free for one, end where it gets short, and begin again later. What else runs on
-the machine, as `rt ci` does beside the edits, is then not ended for want of memory."""
+the machine is then not ended for want of memory."""
 
 import os
 import signal
 import subprocess
 import tempfile
 import time
-from threading import Lock
-
-from .cores import available
 
 # what has to be free before a check begins, and below what it ends, in bytes
 ROOM, LEAST = 8_000_000_000, 2_500_000_000
-# how long a check takes until its memory shows, and between two looks, in seconds
-GROWTH, LOOK = 15, 0.5
+# how long it is between two looks, in seconds
+LOOK = 0.5
 
-beginning, ending = Lock(), Lock()
+
+def available():
+    """The free memory in bytes; as much as is needed where nothing tells."""
+    try:
+        with open("/proc/meminfo") as file:
+            lines = dict(line.split(":", 1) for line in file)
+        return 1024 * int(lines["MemAvailable"].split()[0])
+    except (OSError, KeyError):
+        return ROOM
 
 
 def is_over(end):
@@ -25,28 +30,21 @@ def is_over(end):
 
 def begun(command, folder, said, room, end):
     """The process, once there is room for it; none where its time is over before."""
-    with beginning:
-        while available() < room and not is_over(end):
-            time.sleep(LOOK)
-        if is_over(end):
-            return None
-        process = subprocess.Popen(command, cwd=folder, stdout=said, stderr=subprocess.STDOUT, start_new_session=True)
-        try:
-            process.wait(GROWTH)
-        except subprocess.TimeoutExpired:
-            pass
-    return process
+    while available() < room and not is_over(end):
+        time.sleep(LOOK)
+    if is_over(end):
+        return None
+    return subprocess.Popen(command, cwd=folder, stdout=said, stderr=subprocess.STDOUT, start_new_session=True)
 
 
 def gave_way(process, least, end):
     """Waits for the process; true where it was ended for want of memory, or as its time was over."""
     while process.poll() is None:
-        with ending:
-            if (available() < least or is_over(end)) and process.poll() is None:
-                os.killpg(process.pid, signal.SIGKILL)
-                process.wait()
-                return True
         time.sleep(LOOK)
+        if process.poll() is None and (available() < least or is_over(end)):
+            os.killpg(process.pid, signal.SIGKILL)
+            process.wait()
+            return True
     return False
 
 

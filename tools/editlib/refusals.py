@@ -64,7 +64,7 @@ def answer_of(said, crate, function_at, changed):
             answer.functions[match[1]] = told = Told(line=match[2])
             goals = re.search(r"`search` did not prove ((?:`[^`]+`(?:, )?)+)", match[2])
             told.goals += re.findall(r"`([^`]+)`", goals[1]) if goals else []
-        answer.ended = line if line.startswith(("logic=", "rattle: no verdict")) else answer.ended
+        answer.ended = line if line.startswith(("logic=", "only=", "rattle: no verdict")) else answer.ended
     for line in lines:
         goal, error = GOAL.match(line), ERROR.match(line)
         if goal:
