@@ -204,8 +204,8 @@ def trials_of(options, top):
     names = [options.crate] if options.crate else sorted(uses, key=lambda name: len(lower[name]))
     has_edits = [name for name in names if [*(folder / name).glob("edits/*"), *(folder / name).glob("must-fail/*")]]
     end = None if options.minutes is None else time.monotonic() + 60 * options.minutes
-    round = options.turn // max(1, len(has_edits))
-    trials = [Trial(folder / name, lower[name], options.names, options.said, end, SMALL * round) for name in has_edits]
+    rounds = options.turn // max(1, len(has_edits))
+    trials = [Trial(folder / name, lower[name], options.names, options.said, end, SMALL * rounds) for name in has_edits]
     if not options.check and not options.names:
         for trial in trials:
             trial.edits = [edit for edit in trial.edits if edit.path.parent.name != "must-fail"]
