@@ -2,6 +2,7 @@
 import re
 
 from .antt_text import COMMON, CRATE, PRELUDE, Writer, argument, exports, use_lines
+from .cut import Cuts
 from .full import reads_shown
 from .lookaheads import ENDED
 from .ranks import HIGHEST
@@ -21,7 +22,7 @@ class Files:
     def __init__(self, source, starts, tests, rank):
         self.source, self.starts, self.said, self.rank = source, starts, tests.summaries.said, rank
         self.writer = Writer(source)
-        self.rules, self.shown = source.rules, reads_shown(tests)
+        self.rules, self.shown, self.cuts = source.rules, reads_shown(tests), Cuts(starts)
 
     def all(self):
         return {
@@ -66,17 +67,23 @@ class Files:
         modules = [('Rattle.std.specs.Prelude', PRELUDE)] + self.specs('Rules')
         return self.file('Rules are told apart by their numbers.', modules, body)
 
+    def cut_off(self, rule):
+        """What is shown of it is read before the same rest, and that rest may be cut off."""
+        return not self.said[rule, False].shuns and rule in self.cuts.cut and rule in self.cuts.spaced
+
     def stands_alone(self, rule):
         """It asks nothing of what follows it that the end might answer otherwise."""
         summary, may = self.said[rule, False], self.starts.lookaheads.may
-        return rule in self.shown and not summary.ends and not any(may(look, ENDED) for look in summary.halts + summary.shuns)
+        asks_nothing = not summary.ends and not any(may(look, ENDED) for look in summary.halts + summary.shuns)
+        return rule in self.shown and (asks_nothing or self.cut_off(rule))
 
     def stands_before(self, rule, mark):
         """What it asks of what follows it, the end answers as this mark does."""
         summary, lookaheads = self.said[rule, False], self.starts.lookaheads
         same = lambda a: (all(lookaheads.agree(look, a, ENDED, ()) for look in summary.ends)
                           and all(lookaheads.stays_off(look, a, ENDED, ()) for look in summary.halts))
-        return rule in self.shown and all(map(same, lookaheads.mark_first_set(mark))) and not any(lookaheads.may(look, ENDED) for look in summary.shuns)
+        asks_alike = all(map(same, lookaheads.mark_first_set(mark))) and not any(lookaheads.may(look, ENDED) for look in summary.shuns)
+        return rule in self.shown and (asks_alike or self.cut_off(rule))
 
     def stands_before_line(self, rule):
         marks = [self.writer.text(mark) for mark in SEPARATORS if self.stands_before(rule, mark)]
@@ -138,6 +145,10 @@ class Files:
                        'abbrev pub start_of : Rule → Start', self.start_line),
             self.block('it ends by itself',
                        'abbrev pub closed_of : Rule → Bool', lambda k: f'closed_of {k} = {truth(closed[k])}'),
+            self.block('each look keeps its answer where what follows it is cut off',
+                       'abbrev pub cut_of : Rule → Bool', lambda k: f'cut_of {k} = {truth(k in self.cuts.cut)}'),
+            self.block('no mark that is joined to what follows is the last token that is shown of it',
+                       'abbrev pub spaced_of : Rule → Bool', lambda k: f'spaced_of {k} = {truth(k in self.cuts.spaced)}'),
             self.block('somebody asks for the facts of its lookahead',
                        'abbrev pub heard_of : Rule → Bool', lambda k: f'heard_of {k} = {truth((k, True) in self.said)}'),
             self.twice('how its print may differ from what it read',

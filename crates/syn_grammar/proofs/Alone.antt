@@ -90,7 +90,7 @@ one_said said k (l ∷ ks) e w = go (or_split (same_rule k l) (among k ks) e) (o
     go (inr q) ih = ih q (and_right (said l) _ w)
 
 -- a look that asks for no fact asks for the terminal alone
-by_terminal : (c : Look) (a b : Lookahead) → asks_fact c ≡ false → a.terminal ≡ b.terminal → answers c a ≡ answers c b
+pub by_terminal : (c : Look) (a b : Lookahead) → asks_fact c ≡ false → a.terminal ≡ b.terminal → answers c a ≡ answers c b
 by_terminal ended a b w e = ap is_ended e
 by_terminal at_name a b w e = ap is_name e
 by_terminal (at_word x) a b w e = ap (is_word x) e

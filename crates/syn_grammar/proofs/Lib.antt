@@ -46,5 +46,7 @@ mod WorkedValues
 pub mod Same
 pub mod PlainValues
 pub mod Alone
+pub mod Fades
+pub mod Cut
 pub mod Full
 pub mod Shows

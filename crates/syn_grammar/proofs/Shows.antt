@@ -9,21 +9,22 @@ use Rattle.syn_grammar.specs.Take.{Out, sees, take_mark, taken}
 use Rattle.syn_grammar.specs.Run.{parse_rule, value_of}
 use Rattle.syn_grammar.specs.StandsAlone.{reads_shown, stands_alone, stands_before}
 use Rattle.syn_grammar.specs.Alone.{ShowIsRead, ShowStandsAlone, ShowStandsBefore, SameShow}
-use Rattle.syn_grammar.proofs.Sets.{or_split, and_left, and_right, every, every_at, subset, same_text_eq}
+use Rattle.syn_grammar.proofs.Sets.{or_split, or_right, and_left, and_right, every, every_at, subset, same_text_eq}
 use Rattle.syn_grammar.proofs.Plain.{show_plain}
 use Rattle.syn_grammar.proofs.Streams.{append_end}
 use Rattle.syn_grammar.proofs.FirstSets.{first_set, mark_first_set, mark_head, nullable, IsSaid}
 use Rattle.syn_grammar.proofs.NeverFollow.{never_follow, IsOff}
-use Rattle.syn_grammar.proofs.Again.{move, sub_looks, clear, clear_sound, Agree, agree, agree_sound, stay_off, stay_off_of, stay_off_sound}
+use Rattle.syn_grammar.proofs.Again.{move, sub_looks, clear, clear_sound, Agree, Off, agree, agree_sound, agree_same, stay_off, stay_off_of, stay_off_same, stay_off_sound}
 use Rattle.syn_grammar.proofs.Summaries.{Summary, keeps, covers, Ready, ready, at_end}
 use Rattle.syn_grammar.proofs.Extend.{closes}
 use Rattle.syn_grammar.proofs.Reprint.{summary, fine, IsSummary, again}
-use Rattle.syn_grammar.proofs.Said.{start_of, summary_of, heard_of, closed_of, ends_hold}
+use Rattle.syn_grammar.proofs.Said.{start_of, summary_of, heard_of, closed_of, cut_of, spaced_of, ends_hold}
 use Rattle.syn_grammar.proofs.Takes.{mark_told}
 use Rattle.syn_grammar.proofs.Looks.{known_mark, sees_mark}
 use Rattle.syn_grammar.proofs.Means.{parse_rule_told, parse_rule_found}
 use Rattle.syn_grammar.proofs.Alone.{of_every_rule, implies, by_implied, like_values}
 use Rattle.syn_grammar.proofs.Full.{full_table, full_tree, full_read, full_back, show_full, shown_well}
+use Rattle.syn_grammar.proofs.Cut.{cut, shown_unjoined}
 
 -- ---- what is said of the rules holds of their full forms
 abbrev starts_well : Rule → Bool
@@ -92,13 +93,38 @@ ready_at_end p a w =
     (stay_off_of p.halts a (lookahead end) (clear_sound p.halts (lookahead end) (and_left (clear p.halts Ended) _ v)))
     (clear_sound p.shuns (lookahead end) (and_right (clear p.halts Ended) _ v))
 
-cut_holds : (k : Rule) → stands_alone k ≡ true → and (reads_shown k) (cut_well (summary_of false k)) ≡ true
-cut_holds k = by_implied (stands_alone k) _ (of_every_rule (λ k. implies (stands_alone k) (and (reads_shown k) (cut_well (summary_of false k)))) refl refl k)
+-- ---- or: what is shown is read before the same rest, and that rest is cut off
+none_off : (A : List Look) (a : Lookahead) → no_looks A ≡ true → Off A a
+none_off [] a e = tt
+none_off (c ∷ A) a e = absurd (true≢false (sym e))
+
+abbrev cut_off : Rule → Bool
+cut_off k = and (no_looks (summary_of false k).shuns) (and (cut_of k) (spaced_of k))
+
+ready_there : (p : Summary) (a : Lookahead) → no_looks p.shuns ≡ true → Ready p a a
+ready_there p a w = ready p a a (agree_same p.ends a a refl) (stay_off_same p.halts a a refl) (none_off p.shuns a w)
+
+shown_cut : (k : Rule) (ts : Stream) (s : Syntax) (r : Stream) → reads_shown k ≡ true → cut_off k ≡ true → parse_rule k ts ≡ Some (s, r) → parse_rule k (show s) ≡ Some (s, end)
+shown_cut k ts s r w v e =
+    let (t, a, h) = parse_rule_told k ts (s, r) e in
+    let v' = and_right (no_looks (summary_of false k).shuns) _ v in
+    let (u, d, i) = shown_again k t ts r r w a (ready_there (summary_of false k) (lookahead r) (and_left (no_looks (summary_of false k).shuns) _ v)) in
+    let c = cut (rule k) u (show (value_of t)) end r (or_right (closed_of k) (cut_of k) (and_left (cut_of k) _ v')) (shown_unjoined (rule k) t ts r (and_right (cut_of k) _ v') a) d in
+    let b : DerivesPrefix table (rule k) u (show s) end = subst (λ z. DerivesPrefix table (rule k) u z end) (ap show h) c in
+    parse_rule_found k (show s) u end b ∙ ap (λ z. Some (z, end)) (i ∙ h)
+
+abbrev stands_well : Rule → Bool
+stands_well k = and (reads_shown k) (or (cut_well (summary_of false k)) (cut_off k))
+
+cut_holds : (k : Rule) → stands_alone k ≡ true → stands_well k ≡ true
+cut_holds k = by_implied (stands_alone k) _ (of_every_rule (λ k. implies (stands_alone k) (stands_well k)) refl refl k)
 
 pub show_stands_alone : ShowStandsAlone
-show_stands_alone k w ts s r e =
-    let v = cut_holds k w in
-    shown_alone k ts s r (and_left (reads_shown k) _ v) e (ready_at_end (summary_of false k) (lookahead r) (and_right (reads_shown k) _ v))
+show_stands_alone k w ts s r e = go (or_split (cut_well (summary_of false k)) _ (and_right (reads_shown k) _ (cut_holds k w)))
+  where
+    go : (cut_well (summary_of false k) ≡ true) ⊎ (cut_off k ≡ true) → parse_rule k (show s) ≡ Some (s, end)
+    go (inl v) = shown_alone k ts s r (and_left (reads_shown k) _ (cut_holds k w)) e (ready_at_end (summary_of false k) (lookahead r) v)
+    go (inr v) = shown_cut k ts s r (and_left (reads_shown k) _ (cut_holds k w)) v e
 
 -- ---- and before a mark
 -- a form with this summary stands before the end as before this mark
@@ -106,7 +132,7 @@ abbrev ends_as : Summary → Text → Bool
 ends_as p m = and (known_mark m) (every (λ f. keeps p (move f Ended [])) (mark_first_set m))
 
 abbrev shown_before : Rule → Text → Bool
-shown_before k m = and (reads_shown k) (ends_as (summary_of false k) m)
+shown_before k m = and (reads_shown k) (or (ends_as (summary_of false k) m) (cut_off k))
 
 ready_before : (p : Summary) (m : Text) (a : Lookahead) → ends_as p m ≡ true → mem a.terminal (mark_first_set m) ≡ true → Ready p a (lookahead end)
 ready_before p m a w e =
@@ -143,8 +169,11 @@ marks_hold k = of_every_rule (λ k. every_text (shown_before k) (stands_before k
 pub show_stands_before : ShowStandsBefore
 show_stands_before k m w ts s r e f =
     let u = text_at (shown_before k) m (stands_before k) (marks_hold k) w in
-    let v = and_right (reads_shown k) _ u in
-    shown_alone k ts s r (and_left (reads_shown k) _ u) e (ready_before (summary_of false k) m (lookahead r) v (mark_stands m r (and_left (known_mark m) _ v) f))
+    go (and_left (reads_shown k) _ u) (or_split (ends_as (summary_of false k) m) _ (and_right (reads_shown k) _ u))
+  where
+    go : reads_shown k ≡ true → (ends_as (summary_of false k) m ≡ true) ⊎ (cut_off k ≡ true) → parse_rule k (show s) ≡ Some (s, end)
+    go u (inl v) = shown_alone k ts s r u e (ready_before (summary_of false k) m (lookahead r) v (mark_stands m r (and_left (known_mark m) _ v) f))
+    go u (inr v) = shown_cut k ts s r u v e
 
 pub same_show : SameShow
 same_show k w a b s t e f = (
