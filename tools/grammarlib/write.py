@@ -72,13 +72,13 @@ class Files:
         return not self.said[rule, False].shuns and rule in self.cuts.cut and rule in self.cuts.spaced
 
     def stands_alone(self, rule):
-        """It asks nothing of what follows it that the end might answer otherwise."""
+        """It asks nothing of what follows it that the end might answer otherwise, or that may be cut off."""
         summary, may = self.said[rule, False], self.starts.lookaheads.may
         asks_nothing = not summary.ends and not any(may(look, ENDED) for look in summary.halts + summary.shuns)
         return rule in self.shown and (asks_nothing or self.cut_off(rule))
 
     def stands_before(self, rule, mark):
-        """What it asks of what follows it, the end answers as this mark does."""
+        """What it asks of what follows it, the end answers as this mark does, or that may be cut off."""
         summary, lookaheads = self.said[rule, False], self.starts.lookaheads
         same = lambda a: (all(lookaheads.agree(look, a, ENDED, ()) for look in summary.ends)
                           and all(lookaheads.stays_off(look, a, ENDED, ()) for look in summary.halts))
@@ -93,9 +93,9 @@ class Files:
         body = '\n'.join([
             self.block('what is shown of its value (all its tokens, in their order) is read as the same value',
                        'abbrev pub reads_shown : Rule → Bool', lambda k: f'reads_shown {k} = {truth(k in self.shown)}'),
-            self.block('it asks nothing of what follows it that the end may answer otherwise',
+            self.block('what is shown of what it read in front of a rest, whichever, is read as the same value',
                        'abbrev pub stands_alone : Rule → Bool', lambda k: f'stands_alone {k} = {truth(self.stands_alone(k))}'),
-            self.block('what it asks of what follows it, the end answers as these marks do (of `,` and `;`)',
+            self.block('so is what it read in front of one of these marks (of `,` and `;`)',
                        'abbrev pub stands_before : Rule → List Text', self.stands_before_line),
         ])
         modules = [('Rattle.std.specs.Prelude', PRELUDE)] + self.specs('Words', 'Rules')

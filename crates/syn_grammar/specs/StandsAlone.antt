@@ -108,7 +108,7 @@ reads_shown statement = true
 reads_shown statement_end = true
 reads_shown local = true
 
--- it asks nothing of what follows it that the end may answer otherwise
+-- what is shown of what it read in front of a rest, whichever, is read as the same value
 abbrev pub stands_alone : Rule → Bool
 stands_alone attributes = true
 stands_alone inner_attributes = true
@@ -212,7 +212,7 @@ stands_alone statement = true
 stands_alone statement_end = true
 stands_alone local = true
 
--- what it asks of what follows it, the end answers as these marks do (of `,` and `;`)
+-- so is what it read in front of one of these marks (of `,` and `;`)
 abbrev pub stands_before : Rule → List Text
 stands_before attributes = comma ∷ semicolon ∷ []
 stands_before inner_attributes = comma ∷ semicolon ∷ []
