@@ -62,8 +62,8 @@ pub fn show_is_read()
     ensures as_the_same { ShowIsRead }
 {}
 
-/// What a rule that stands alone (`stands_alone`: it asks nothing of what follows that the end might
-/// answer otherwise) reads in front of a rest, shown, is read as a whole, as the same value with the
+/// What a rule that stands alone (`stands_alone`: nothing is read otherwise where what follows is cut
+/// off) reads in front of a rest, shown, is read as a whole, as the same value with the
 /// same spans. Holds of every token stream.
 pub fn show_stands_alone()
     ensures as_the_same { ShowStandsAlone }
