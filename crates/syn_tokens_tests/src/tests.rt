@@ -9,6 +9,7 @@ mod lists;
 mod marks;
 mod prints;
 mod public;
+mod spelling;
 mod streams;
 mod support;
 mod values;

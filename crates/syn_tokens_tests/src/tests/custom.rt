@@ -2,7 +2,7 @@
 ghost use Rattle.std.specs.Prelude.{codes, refl};
 ghost use Rattle.syn_tokens.specs.Punct.{is_punct_character};
 
-use crate::tests::support::{assert_text, at, refused, shown, tokens};
+use crate::tests::support::{assert_parsed, assert_shown, at, is_left, printed, stream, tokens};
 use std::alloc::Global;
 use syn_parse::buffer::ParseBuffer;
 use syn_parse::parse::Parse;
@@ -79,145 +79,96 @@ const HERE: Span = Span { start: 3, end: 8 };
 
 #[test]
 fn texts_of_faults(rt: HostRuntime) {
-    assert_eq!(rt; Route::expected(), "expected `route`");
-    assert_eq!(rt; LeadsTo::expected(), "expected `~>`");
-    assert_eq!(rt; BothWays::expected(), "expected `<->`");
-}
-
-fn is_keyword_read(alloc: Global) -> Result<bool> {
-    let stream = tokens(alloc, "a route b")?;
-    let mut input = ParseBuffer::new(&stream);
-    let seen = input.peek::<Route>() || !input.peek2::<Route>();
-    let is_left = refused(&input.parse::<Route>(), 0, "expected `route`");
-    input.parse::<Ident>()?;
-    let word = input.parse::<Route>()?;
-    Ok(!seen && is_left && word.span == at(1) && input.span() == at(2))
+    assert!(rt; Route::expected() == "expected `route`");
+    assert!(rt; LeadsTo::expected() == "expected `~>`");
+    assert!(rt; BothWays::expected() == "expected `<->`");
 }
 
 /// A keyword of an own syntax is a mere identifier elsewhere.
-fn is_keyword_identifier(alloc: Global) -> Result<bool> {
-    let stream = tokens(alloc, "route")?;
+#[test]
+fn keywords(rt: HostRuntime) {
+    let stream = stream(&rt, rt.alloc(), "a route route b");
     let mut input = ParseBuffer::new(&stream);
-    Ok(input.parse::<Ident>()?.is("route"))
+    assert!(rt; input.peek2::<Route>() && is_left::<Route>(&mut input, "expected `route`"));
+    assert_parsed::<Ident>(&rt, &mut input, "a@0..1");
+    assert_parsed::<Route>(&rt, &mut input, "route@1..2");
+    assert_parsed::<Ident>(&rt, &mut input, "route@2..3");
+    assert!(rt; input.span() == at(3));
+}
+
+/// Whether it is the identifier `route`, there, and no keyword.
+fn is_route(ident: &Ident) -> bool {
+    ident.text() == "route" && ident.span == HERE && !ident.is_keyword()
 }
 
 #[test]
-fn keywords(rt: HostRuntime) -> Result<()> {
-    assert!(rt; is_keyword_read(rt.alloc())?);
-    assert!(rt; is_keyword_identifier(rt.alloc())?);
-    Ok(())
-}
-
-fn is_made_identifier(alloc: Global) -> Result<bool> {
-    let ident = Route::new(HERE).to_ident(alloc)?;
-    Ok(ident.text() == "route" && ident.span == HERE && !ident.is_keyword())
-}
-
-#[test]
-fn identifiers(rt: HostRuntime) -> Result<()> {
-    assert!(rt; is_made_identifier(rt.alloc())?);
-    Ok(())
-}
-
-/// Whether such a mark is seen and read at the front of the text, and nothing is left.
-fn is_read<M: Peek + Parse + Drop>(alloc: Global, text: &str) -> Result<bool> {
-    let stream = tokens(alloc, text)?;
-    let mut input = ParseBuffer::new(&stream);
-    let seen = input.peek::<M>();
-    input.parse::<M>()?;
-    Ok(seen && input.is_empty())
+fn identifiers(rt: HostRuntime) {
+    assert!(rt; matches!(Route::new(HERE).to_ident(rt.alloc()), Ok(ident) if is_route(&ident)));
 }
 
 /// Whether such a mark is neither seen nor read at the front of the text, with this fault there, and nothing is read.
 fn is_refused<M: Peek + Parse + Drop>(alloc: Global, text: &str, fault: &str) -> Result<bool> {
     let stream = tokens(alloc, text)?;
+    Ok(is_left::<M>(&mut ParseBuffer::new(&stream), fault))
+}
+
+#[test]
+fn marks(rt: HostRuntime) {
+    let stream = stream(&rt, rt.alloc(), "~> <-> ~");
     let mut input = ParseBuffer::new(&stream);
-    let seen = input.peek::<M>();
-    let is_told = refused(&input.parse::<M>(), 0, fault);
-    Ok(!seen && is_told && input.span() == at(0))
+    assert_parsed::<LeadsTo>(&rt, &mut input, "~+@0..1 >@1..2");
+    assert_parsed::<BothWays>(&rt, &mut input, "<+@2..3 -+@3..4 >@4..5");
+    assert_parsed::<Tilde>(&rt, &mut input, "~@5..6");
+    assert!(rt; input.is_empty());
 }
 
 #[test]
-fn marks_of_two(rt: HostRuntime) -> Result<()> {
-    assert!(rt; is_read::<LeadsTo>(rt.alloc(), "~>")?);
-    assert!(rt; is_read::<Tilde>(rt.alloc(), "~")?);
-    Ok(())
-}
-
-#[test]
-fn no_marks_of_two(rt: HostRuntime) -> Result<()> {
-    for text in ["~ >", "~", "~<", ">~", "a ~>"] {
-        assert!(rt;
-            is_refused::<LeadsTo>(rt.alloc(), text, "expected `~>`")?,
-            "{text}"
-        );
+fn no_marks_of_two(rt: HostRuntime) {
+    for text in "~ > not ~ not ~< not >~ not a ~>".split(" not ") {
+        let answer = is_refused::<LeadsTo>(rt.alloc(), text, "expected `~>`");
+        assert!(rt; matches!(answer, Ok(true)), "{text}");
     }
-    Ok(())
 }
 
 #[test]
-fn marks_of_three(rt: HostRuntime) -> Result<()> {
-    assert!(rt; is_read::<BothWays>(rt.alloc(), "<->")?);
-    Ok(())
-}
-
-#[test]
-fn no_marks_of_three(rt: HostRuntime) -> Result<()> {
-    for text in ["< ->", "<- >", "<-", "<-=", "->", "a <->"] {
-        assert!(rt;
-            is_refused::<BothWays>(rt.alloc(), text, "expected `<->`")?,
-            "{text}"
-        );
+fn no_marks_of_three(rt: HostRuntime) {
+    for text in "< -> not <- > not <- not <-= not -> not a <->".split(" not ") {
+        let answer = is_refused::<BothWays>(rt.alloc(), text, "expected `<->`");
+        assert!(rt; matches!(answer, Ok(true)), "{text}");
     }
-    Ok(())
-}
-
-/// Where the characters of the mark at the front of the text stand.
-fn places(alloc: Global, text: &str) -> Result<[Span; 3]> {
-    let stream = tokens(alloc, text)?;
-    let mark: BothWays = ParseBuffer::new(&stream).parse()?;
-    Ok(mark.spans)
-}
-
-#[test]
-fn spans_of_three(rt: HostRuntime) -> Result<()> {
-    assert_eq!(rt; places(rt.alloc(), "<-> a")?, [at(0), at(1), at(2)]);
-    Ok(())
 }
 
 /// Copies keep their places, and all of one kind are the same.
 #[test]
-fn copies_of_keywords(rt: HostRuntime) -> Result<()> {
+fn copies_of_keywords(rt: HostRuntime) {
     let word = Route::new(HERE);
-    assert_eq!(rt; TryClone::try_clone(&word, rt.alloc())?.span, HERE);
+    assert!(rt; matches!(TryClone::try_clone(&word, rt.alloc()), Ok(copy) if copy.span == HERE));
     assert!(rt; word.is_same(&Route::default()) && word == Route::default());
-    Ok(())
 }
 
 #[test]
-fn copies_of_marks(rt: HostRuntime) -> Result<()> {
-    let mark = BothWays::new([at(0), at(1), at(2)]);
-    assert_eq!(rt; TryClone::try_clone(&mark, rt.alloc())?.spans, mark.spans);
-    assert!(rt; mark.is_same(&BothWays::new([HERE; 3])) && mark == BothWays::new([HERE; 3]));
-    Ok(())
+fn copies_of_marks(rt: HostRuntime) {
+    let spans = [at(0), at(1), at(2)];
+    let mark = BothWays::new(spans);
+    let elsewhere = BothWays::new([HERE; 3]);
+    let copy = TryClone::try_clone(&mark, rt.alloc()).expect(&rt, "a copy");
+    let found = copy.spans;
+    assert!(rt; found == spans);
+    assert!(rt; mark.is_same(&elsewhere) && mark == elsewhere);
 }
 
 /// What the three print, one behind another.
-fn printed(alloc: Global) -> Result<String> {
-    let mut out = TokenStream::new(alloc);
-    Route::new(HERE).to_tokens(&mut out)?;
+fn three_printed(alloc: Global) -> Result<TokenStream> {
+    let mut out = printed(alloc, &Route::new(HERE))?;
     BothWays::new([at(1), at(2), at(3)]).to_tokens(&mut out)?;
     LeadsTo::new([at(4), at(5)]).to_tokens(&mut out)?;
-    shown(alloc, &out)
+    Ok(out)
 }
 
 /// Each prints its text at its places, all characters of a mark but the last Joint.
 #[test]
-fn prints(rt: HostRuntime) -> Result<()> {
-    assert_text(
-        &rt,
-        printed(rt.alloc())?.as_str(),
-        "route@3..8 <+@1..2 -+@2..3 >@3..4 ~+@4..5 >@5..6",
-    );
-    Ok(())
+fn prints(rt: HostRuntime) {
+    let out = three_printed(rt.alloc()).expect(&rt, "a print");
+    let want = "route@3..8 <+@1..2 -+@2..3 >@3..4 ~+@4..5 >@5..6";
+    assert_shown(&rt, &out, want);
 }

@@ -1,11 +1,10 @@
 //! Streams whose groups are nested deep, and streams that are built entry by entry.
-use crate::tests::support::{assert_text, at, refused, shown, tokens};
+use crate::tests::support::{assert_shown, at, is_shown, refused, stream};
 use std::alloc::Global;
 use syn_parse::buffer::ParseBuffer;
 use syn_tokens::delimiter::Delimiter;
 use syn_tokens::error::Result;
 use syn_tokens::ident::Ident;
-use syn_tokens::span::Span;
 use syn_tokens::stream::TokenStream;
 use syn_tokens::stream::builder::StreamBuilder;
 use syn_tokens::stream::tree::{Group, TokenTree};
@@ -34,20 +33,20 @@ fn is_walked(stream: &TokenStream, depth: usize) -> Result<bool> {
     Ok(stream.len() == 1 && input.is_empty() && input.span() == at(0))
 }
 
-#[test]
-fn walked(rt: HostRuntime) -> Result<()> {
-    assert!(rt; is_walked(&nested(rt.alloc(), DEEP)?, DEEP)?);
-    Ok(())
-}
-
 fn is_copied(stream: &TokenStream) -> Result<bool> {
     Ok(stream.try_clone(stream.alloc())? == *stream)
 }
 
 #[test]
-fn copied_and_compared(rt: HostRuntime) -> Result<()> {
-    assert!(rt; is_copied(&nested(rt.alloc(), DEEP)?)?);
-    Ok(())
+fn walked(rt: HostRuntime) {
+    let deep = nested(rt.alloc(), DEEP).expect(&rt, "a stream");
+    assert!(rt; matches!(is_walked(&deep, DEEP), Ok(true)));
+}
+
+#[test]
+fn copied_and_compared(rt: HostRuntime) {
+    let deep = nested(rt.alloc(), DEEP).expect(&rt, "a stream");
+    assert!(rt; matches!(is_copied(&deep), Ok(true)));
 }
 
 /// A group with a copy of these trees.
@@ -69,21 +68,13 @@ fn holds(around: &TokenStream, stream: &TokenStream) -> Result<bool> {
     Ok(is_longer && around != stream && content.rest()? == *stream)
 }
 
-fn is_emptied(stream: TokenStream) -> bool {
-    let mut stream = stream;
-    stream.truncate(0);
-    stream.is_empty()
-}
-
-fn is_put_into_another(stream: &TokenStream) -> Result<bool> {
-    let around = around(stream)?;
-    Ok(holds(&around, stream)? && is_emptied(around))
-}
-
 #[test]
-fn put_into_another(rt: HostRuntime) -> Result<()> {
-    assert!(rt; is_put_into_another(&nested(rt.alloc(), 1000)?)?);
-    Ok(())
+fn put_into_another(rt: HostRuntime) {
+    let inside = nested(rt.alloc(), 1000).expect(&rt, "a stream");
+    let mut around = around(&inside).expect(&rt, "a stream");
+    assert!(rt; matches!(holds(&around, &inside), Ok(true)));
+    around.truncate(0);
+    assert!(rt; around.is_empty());
 }
 
 /// Beside `built_once` for `tools/scarce_memory.py copies`, which refuses each request of the copy: there is one.
@@ -101,16 +92,6 @@ fn built_once(rt: HostRuntime) -> Result<()> {
 
 const SAMPLE: &str = "a { b [ ] c } d";
 
-const SHOWN: &str = "a@0..1 {@1..2 b@2..3 [@3..4 ]@4..5 c@5..6 }@6..7 d@7..8";
-
-#[test]
-fn places(rt: HostRuntime) -> Result<()> {
-    let sample = tokens(rt.alloc(), SAMPLE)?;
-    assert_eq!(rt; sample.len(), 3);
-    assert_text(&rt, shown(rt.alloc(), &sample)?.as_str(), SHOWN);
-    Ok(())
-}
-
 /// Whether the entries' spans are one byte each, from 0 on.
 fn is_in_order(stream: &TokenStream) -> bool {
     let mut entries = stream.entries().iter().enumerate();
@@ -118,180 +99,115 @@ fn is_in_order(stream: &TokenStream) -> bool {
 }
 
 #[test]
-fn spans_of_entries(rt: HostRuntime) -> Result<()> {
-    assert!(rt; is_in_order(&tokens(rt.alloc(), SAMPLE)?));
-    Ok(())
+fn places(rt: HostRuntime) {
+    let sample = stream(&rt, rt.alloc(), SAMPLE);
+    assert!(rt; sample.len() == 3 && is_in_order(&sample));
+    let want = "a@0..1 {@1..2 b@2..3 [@3..4 ]@4..5 c@5..6 }@6..7 d@7..8";
+    assert_shown(&rt, &sample, want);
 }
 
-/// The trees of the group at this place.
-fn content(stream: &TokenStream, place: usize) -> Result<Option<TokenStream>> {
-    match stream.get(place)? {
-        Some(TokenTree::Group(group)) => Ok(Some(group.stream)),
-        _ => Ok(None),
-    }
+/// Whether the group has these delimiters, there, and so many trees.
+fn is_group(group: &Group, delimiter: Delimiter, places: [usize; 2], count: usize) -> bool {
+    group.delimiter == delimiter
+        && group.opening == at(places[0])
+        && group.closing == at(places[1])
+        && group.stream.len() == count
 }
 
-/// What shows the trees of the group at this place.
-fn shown_content(stream: &TokenStream, place: usize) -> Result<String> {
-    match content(stream, place)? {
-        Some(trees) => shown(stream.alloc(), &trees),
-        None => Ok(String::new(stream.alloc())),
-    }
+/// Whether it is the group in the group of the sample.
+fn is_inner(tree: &TokenTree) -> bool {
+    matches!(tree, TokenTree::Group(group) if is_group(group, Delimiter::Bracket, [3, 4], 0))
 }
 
-#[test]
-fn contents(rt: HostRuntime) -> Result<()> {
-    let sample = tokens(rt.alloc(), SAMPLE)?;
-    let shown = shown_content(&sample, 1)?;
-    assert_text(&rt, shown.as_str(), "b@2..3 [@3..4 ]@4..5 c@5..6");
-    Ok(())
+/// Whether that is the second tree of the group.
+fn has_inner(group: &Group) -> bool {
+    matches!(group.stream.get(1), Ok(Some(tree)) if is_inner(&tree))
 }
 
-/// What the group at this place has around its trees, where, and how many trees it has.
-fn group_at(stream: &TokenStream, place: usize) -> Result<Option<(Delimiter, Span, Span, usize)>> {
-    match stream.get(place)? {
-        Some(TokenTree::Group(group)) => {
-            let count = group.stream.len();
-            Ok(Some((group.delimiter, group.opening, group.closing, count)))
+/// Whether it is the group of the sample, with the group in it.
+fn is_outer(tree: &TokenTree) -> bool {
+    match tree {
+        TokenTree::Group(group) => {
+            is_group(group, Delimiter::Brace, [1, 6], 3)
+                && is_shown(&group.stream, "b@2..3 [@3..4 ]@4..5 c@5..6")
+                && has_inner(group)
         }
-        _ => Ok(None),
+        _ => false,
+    }
+}
+
+/// Whether it is an identifier, there.
+fn is_name(tree: &TokenTree, start: usize) -> bool {
+    match tree {
+        TokenTree::Ident(ident) => ident.span == at(start),
+        _ => false,
     }
 }
 
 #[test]
-fn groups(rt: HostRuntime) -> Result<()> {
-    let group = group_at(&tokens(rt.alloc(), SAMPLE)?, 1)?;
-    assert_eq!(rt; group, Some((Delimiter::Brace, at(1), at(6), 3)));
-    Ok(())
+fn trees(rt: HostRuntime) {
+    let sample = stream(&rt, rt.alloc(), SAMPLE);
+    assert!(rt; matches!(sample.get(1), Ok(Some(tree)) if is_outer(&tree)));
+    assert!(rt; matches!(sample.get(2), Ok(Some(tree)) if is_name(&tree, 7)));
+    assert!(rt; matches!(sample.get(3), Ok(None)));
 }
 
-/// What the group at 1 has in its group at 1.
-fn inner_group(stream: &TokenStream) -> Result<Option<(Delimiter, Span, Span, usize)>> {
-    match content(stream, 1)? {
-        Some(trees) => group_at(&trees, 1),
-        None => Ok(None),
+/// What is left of the sample, of so many trees at most.
+#[test]
+fn shorter(rt: HostRuntime) {
+    for (count, trees, entries) in [(9, 3, 8), (3, 3, 8), (2, 2, 7), (1, 1, 1), (0, 0, 0)] {
+        let mut sample = stream(&rt, rt.alloc(), SAMPLE);
+        sample.truncate(count);
+        assert!(rt;
+            sample.len() == trees && sample.entries().len() == entries,
+            "{count}"
+        );
     }
 }
 
+/// Of the sample first the last tree goes, then the group; then the sample stands behind what is left.
 #[test]
-fn groups_in_groups(rt: HostRuntime) -> Result<()> {
-    let group = inner_group(&tokens(rt.alloc(), SAMPLE)?)?;
-    assert_eq!(rt; group, Some((Delimiter::Bracket, at(3), at(4), 0)));
-    Ok(())
-}
-
-/// Whether the tree at this place is an identifier, there.
-fn is_name(stream: &TokenStream, place: usize, span: Span) -> Result<bool> {
-    match stream.get(place)? {
-        Some(TokenTree::Ident(ident)) => Ok(ident.span == span),
-        _ => Ok(false),
-    }
-}
-
-#[test]
-fn last_trees(rt: HostRuntime) -> Result<()> {
-    let sample = tokens(rt.alloc(), SAMPLE)?;
-    assert!(rt; is_name(&sample, 2, at(7))?);
-    assert!(rt; sample.get(3)?.is_none());
-    Ok(())
-}
-
-/// What is left of the sample, of so many trees at most, and behind it perhaps the sample once more.
-fn truncated(alloc: Global, count: usize, again: bool) -> Result<String> {
-    let mut stream = tokens(alloc, SAMPLE)?;
-    stream.truncate(count);
-    if again {
-        stream.append(tokens(alloc, SAMPLE)?)?;
-    }
-    shown(alloc, &stream)
-}
-
-#[test]
-fn shorter(rt: HostRuntime) -> Result<()> {
+fn longer(rt: HostRuntime) {
+    let mut sample = stream(&rt, rt.alloc(), SAMPLE);
+    sample.truncate(2);
     let two = "a@0..1 {@1..2 b@2..3 [@3..4 ]@4..5 c@5..6 }@6..7";
-    assert_text(&rt, truncated(rt.alloc(), 2, false)?.as_str(), two);
-    assert_text(&rt, truncated(rt.alloc(), 1, false)?.as_str(), "a@0..1");
-    Ok(())
-}
-
-#[test]
-fn longer(rt: HostRuntime) -> Result<()> {
+    assert_shown(&rt, &sample, two);
+    sample.truncate(1);
+    assert_shown(&rt, &sample, "a@0..1");
+    let appended = sample.append(stream(&rt, rt.alloc(), SAMPLE));
     let twice = "a@0..1 a@0..1 {@1..2 b@2..3 [@3..4 ]@4..5 c@5..6 }@6..7 d@7..8";
-    assert_text(&rt, truncated(rt.alloc(), 1, true)?.as_str(), twice);
-    Ok(())
+    assert!(rt; appended.is_ok() && is_shown(&sample, twice));
 }
 
-/// How many trees and how many entries are left of the sample.
-fn lengths(alloc: Global, count: usize) -> Result<(usize, usize)> {
-    let mut stream = tokens(alloc, SAMPLE)?;
-    stream.truncate(count);
-    Ok((stream.len(), stream.entries().len()))
+/// Whether the stream has so many trees and entries.
+fn has(stream: &TokenStream, trees: usize, entries: usize) -> bool {
+    stream.len() == trees && stream.entries().len() == entries
 }
 
+/// A name and a group in braces are read, and a name stands behind the group.
 #[test]
-fn lengths_of_shorter_ones(rt: HostRuntime) -> Result<()> {
-    for (count, want) in [
-        (9, (3, 8)),
-        (3, (3, 8)),
-        (2, (2, 7)),
-        (1, (1, 1)),
-        (0, (0, 0)),
-    ] {
-        assert_eq!(rt; lengths(rt.alloc(), count)?, want);
-    }
-    Ok(())
-}
-
-/// What is read by a name and a group in braces, and what those hold.
-fn between(stream: &TokenStream) -> Result<(usize, usize, usize)> {
-    let mut input = ParseBuffer::new(stream);
+fn parts(rt: HostRuntime) {
+    let sample = stream(&rt, rt.alloc(), SAMPLE);
+    let mut input = ParseBuffer::new(&sample);
     let start = input.fork();
-    input.parse::<Ident>()?;
-    let (_, mut content) = input.braced()?;
-    let read = start.between(&input)?;
-    Ok((read.len(), read.entries().len(), content.rest()?.len()))
-}
-
-#[test]
-fn parts(rt: HostRuntime) -> Result<()> {
-    assert_eq!(rt; between(&tokens(rt.alloc(), SAMPLE)?)?, (2, 7, 3));
-    Ok(())
-}
-
-/// Whether a name stands behind the group.
-fn goes_on_behind(stream: &TokenStream) -> Result<bool> {
-    let mut input = ParseBuffer::new(stream);
-    input.parse::<Ident>()?;
-    let _group = input.braced()?;
-    Ok(input.parse::<Ident>()?.is("d"))
-}
-
-#[test]
-fn behind_groups(rt: HostRuntime) -> Result<()> {
-    assert!(rt; goes_on_behind(&tokens(rt.alloc(), SAMPLE)?)?);
-    Ok(())
+    assert!(rt; input.parse::<Ident>().is_ok());
+    let (_, mut content) = input.braced().expect(&rt, "a group");
+    assert!(rt; matches!(start.between(&input), Ok(read) if has(&read, 2, 7)));
+    assert!(rt; matches!(content.rest(), Ok(rest) if rest.len() == 3));
+    assert!(rt; matches!(input.parse::<Ident>(), Ok(name) if name.is("d")));
 }
 
 const UNBALANCED: &str = "unbalanced group";
 
-/// A `)` that belongs to no open group is refused where it stands, and one behind a `{` too.
-fn is_close_refused(builder: &mut StreamBuilder) -> Result<bool> {
-    let is_first_refused = refused(&builder.close(Delimiter::Paren, at(1)), 1, UNBALANCED);
-    builder.open(Delimiter::Paren, at(2))?;
-    builder.open(Delimiter::Brace, at(3))?;
-    let is_second_refused = refused(&builder.close(Delimiter::Paren, at(4)), 4, UNBALANCED);
-    builder.close(Delimiter::Brace, at(5))?;
-    Ok(is_first_refused && is_second_refused)
-}
-
-/// A stream ends with no group open: the outermost is told.
-fn is_unbalanced(alloc: Global) -> Result<bool> {
-    let mut builder = StreamBuilder::new(alloc);
-    Ok(is_close_refused(&mut builder)? && refused(&builder.finish(), 2, UNBALANCED))
-}
-
+/// A `)` that belongs to no open group is refused where it stands, and one behind a `{` too. A stream ends with no group
+/// open: the outermost is told.
 #[test]
-fn unbalanced(rt: HostRuntime) -> Result<()> {
-    assert!(rt; is_unbalanced(rt.alloc())?);
-    Ok(())
+fn unbalanced(rt: HostRuntime) {
+    let mut builder = StreamBuilder::new(rt.alloc());
+    assert!(rt; refused(&builder.close(Delimiter::Paren, at(1)), 1, UNBALANCED));
+    assert!(rt; builder.open(Delimiter::Paren, at(2)).is_ok());
+    assert!(rt; builder.open(Delimiter::Brace, at(3)).is_ok());
+    assert!(rt; refused(&builder.close(Delimiter::Paren, at(4)), 4, UNBALANCED));
+    assert!(rt; builder.close(Delimiter::Brace, at(5)).is_ok());
+    assert!(rt; refused(&builder.finish(), 2, UNBALANCED));
 }

@@ -1,7 +1,8 @@
 //! What a stream keeps of its tokens, wherever they stand.
-use crate::tests::support::{at, shown, tokens, tokens_from};
+use crate::tests::support::{at, is_shown, stream, tokens_from};
 use std::alloc::Global;
 use std::mem::size_of;
+use syn_outlines::add_token;
 use syn_tokens::delimiter::Delimiter;
 use syn_tokens::error::Result;
 use syn_tokens::ident::Ident;
@@ -18,6 +19,9 @@ const FAR: usize = 4_294_967_296;
 
 const SAMPLE: &str = "a { 'x' ;; } struct";
 
+/// What shows each token of it, without its span.
+const WORDS: &str = "a { Char'x' ;+ ; } struct";
+
 /// The sample, from this byte on.
 fn sample(alloc: Global, start: usize) -> Result<TokenStream> {
     tokens_from(alloc, SAMPLE, start)
@@ -25,16 +29,16 @@ fn sample(alloc: Global, start: usize) -> Result<TokenStream> {
 
 /// What shows the sample from this byte on.
 fn want(alloc: Global, start: usize) -> Result<String> {
-    let [a, b, c, d, e, f, g, h] = [0, 1, 2, 3, 4, 5, 6, 7].map(|n| start.saturating_add(n));
-    Ok(format!(in alloc;
-        "a@{a}..{b} {{@{b}..{c} Char'x'@{c}..{d} ;+@{d}..{e} ;@{e}..{f} }}@{f}..{g} struct@{g}..{h}"
-    )?)
+    let mut out = String::new(alloc);
+    for (place, word) in WORDS.split_whitespace().enumerate() {
+        add_token(&mut out, word, at(start.saturating_add(place)))?;
+    }
+    Ok(out)
 }
 
 /// Whether all of the sample is there, at these places.
-fn is_shown(stream: &TokenStream, start: usize) -> Result<bool> {
-    let alloc = stream.alloc();
-    Ok(shown(alloc, stream)?.as_str() == want(alloc, start)?.as_str())
+fn is_there(stream: &TokenStream, start: usize) -> bool {
+    matches!(want(stream.alloc(), start), Ok(want) if is_shown(stream, want.as_str()))
 }
 
 /// Whether each entry's span is the next byte, from this one on.
@@ -43,63 +47,59 @@ fn is_in_order(stream: &TokenStream, start: usize) -> bool {
     entries.all(|(place, entry)| entry.span() == at(start.saturating_add(place)))
 }
 
-/// Whether all of the sample from this byte on is there: seven entries, three trees.
-fn is_kept(alloc: Global, start: usize) -> Result<bool> {
-    let stream = sample(alloc, start)?;
-    let is_long = (stream.entries().len(), stream.len()) == (7, 3);
-    Ok(is_long && is_in_order(&stream, start) && is_shown(&stream, start)?)
-}
-
 #[test]
 fn room(rt: HostRuntime) {
     assert_eq!(rt; size_of::<Entry>(), 16);
 }
 
-/// Whether the entry of an identifier there keeps its span, and its copy does.
-fn is_kept_at(alloc: Global, span: Span) -> Result<bool> {
-    let entry = Entry::ident(alloc, Ident::new(alloc, "a", span)?)?;
-    Ok(entry.span() == span && entry.copy()?.span() == span)
+/// The entry of an identifier there.
+fn entry_at(alloc: Global, span: Span) -> Result<Entry> {
+    Ok(Entry::ident(alloc, Ident::new(alloc, "a", span)?)?)
+}
+
+/// Whether the entry's copy has its span.
+fn is_entry_copied(entry: &Entry) -> bool {
+    matches!(entry.copy(), Ok(copy) if copy.span() == entry.span())
 }
 
 /// The longest span that is compact, a longer one, and one that ends before it starts.
 #[test]
-fn long(rt: HostRuntime) -> Result<()> {
+fn long(rt: HostRuntime) {
     for (start, end) in [(7, 0x10006), (7, 0x10007), (7, 3)] {
+        let entry = entry_at(rt.alloc(), Span { start, end }).expect(&rt, "an entry");
         assert!(rt;
-            is_kept_at(rt.alloc(), Span { start, end })?,
-            "{start} {end}"
+            entry.span() == Span { start, end } && is_entry_copied(&entry),
+            "{end}"
         );
     }
-    Ok(())
 }
 
+/// Whether seven entries and three trees are at these places.
+fn is_kept(stream: &TokenStream, start: usize) -> bool {
+    stream.entries().len() == 7
+        && stream.len() == 3
+        && is_in_order(stream, start)
+        && is_there(stream, start)
+}
+
+/// Whether a copy of the stream is the same, at these places.
+fn is_copied(stream: &TokenStream, start: usize) -> bool {
+    matches!(stream.try_clone(stream.alloc()), Ok(copy) if copy == *stream && is_there(&copy, start))
+}
+
+/// All of the sample is there from each of these bytes on, near ones and far ones; it is the same as the one from 0 on; and
+/// what it lends, and what can be had of it in memory of its own, is the same.
 #[test]
-fn near(rt: HostRuntime) -> Result<()> {
-    for start in [0, 1000, FAR - 8] {
-        assert!(rt; is_kept(rt.alloc(), start)?, "{start}");
+fn wherever_they_stand(rt: HostRuntime) {
+    let near = stream(&rt, rt.alloc(), SAMPLE);
+    for start in [0, 1, 1000, FAR - 8, FAR - 4, FAR - 1, FAR, usize::MAX - 7] {
+        let stream = sample(rt.alloc(), start).expect(&rt, "a stream");
+        assert!(rt; is_kept(&stream, start) && stream == near, "{start}");
+        assert!(rt;
+            are_lent(&stream) && are_owned(&stream) && is_copied(&stream, start),
+            "{start}"
+        );
     }
-    Ok(())
-}
-
-#[test]
-fn far(rt: HostRuntime) -> Result<()> {
-    for start in [FAR - 4, FAR - 1, FAR, usize::MAX - 7] {
-        assert!(rt; is_kept(rt.alloc(), start)?, "{start}");
-    }
-    Ok(())
-}
-
-/// Whether the sample from this byte on is the same as the one from 0 on.
-fn is_same(alloc: Global, start: usize) -> Result<bool> {
-    Ok(sample(alloc, start)? == sample(alloc, 0)?)
-}
-
-#[test]
-fn wherever_they_stand(rt: HostRuntime) -> Result<()> {
-    for start in [1, FAR - 4, FAR - 1, FAR, usize::MAX - 7] {
-        assert!(rt; is_same(rt.alloc(), start)?, "{start}");
-    }
-    Ok(())
 }
 
 /// Whether the identifier has this text and no other, and is a keyword or not.
@@ -134,100 +134,70 @@ fn are_lent(stream: &TokenStream) -> bool {
     entries.all(|(place, entry)| is_lent(entry, place))
 }
 
-#[test]
-fn lent(rt: HostRuntime) -> Result<()> {
-    assert!(rt; are_lent(&sample(rt.alloc(), 0)?));
-    assert!(rt; are_lent(&sample(rt.alloc(), FAR)?));
-    Ok(())
+/// Whether the text of the identifier can be had in memory of its own.
+fn is_ident_owned(ident: &IdentRef<'_>) -> bool {
+    matches!(ident.to_ident(), Ok(own) if own.text() == ident.text())
 }
 
-/// The text of the identifier and of the literal that are lent, in memory of their own.
-fn owned(ident: &IdentRef<'_>, literal: &LiteralRef<'_>) -> Result<bool> {
-    let is_ident = ident.to_ident()?.text() == ident.text();
-    Ok(is_ident && literal.to_literal()?.text() == literal.text())
+/// Whether the text of the literal can be had in memory of its own.
+fn is_literal_owned(literal: &LiteralRef<'_>) -> bool {
+    matches!(literal.to_literal(), Ok(own) if own.text() == literal.text())
 }
 
 /// Whether the first identifier and the first literal of the stream can be had in memory of their own.
-fn are_owned(stream: &TokenStream) -> Result<bool> {
+fn are_owned(stream: &TokenStream) -> bool {
     let [first, _, third, ..] = stream.entries() else {
-        return Ok(false);
+        return false;
     };
     match (first.token(), third.token()) {
-        (Token::Ident(ident), Token::Literal(literal)) => owned(&ident, &literal),
-        _ => Ok(false),
-    }
-}
-
-#[test]
-fn taken_over(rt: HostRuntime) -> Result<()> {
-    assert!(rt; are_owned(&sample(rt.alloc(), 0)?)?);
-    assert!(rt; are_owned(&sample(rt.alloc(), FAR)?)?);
-    Ok(())
-}
-
-/// Whether the copy of the sample from there is at the same places, and the same.
-fn is_copied(alloc: Global, start: usize) -> Result<bool> {
-    let stream = sample(alloc, start)?;
-    let copy = stream.try_clone(alloc)?;
-    Ok(copy == stream && is_shown(&copy, start)?)
-}
-
-#[test]
-fn copies(rt: HostRuntime) -> Result<()> {
-    assert!(rt; is_copied(rt.alloc(), 0)?);
-    assert!(rt; is_copied(rt.alloc(), FAR)?);
-    Ok(())
-}
-
-/// Where the group at 1 is, and how many trees it has.
-fn group_at(stream: &TokenStream) -> Result<Option<(Span, Span, usize)>> {
-    match stream.get(1)? {
-        Some(TokenTree::Group(group)) => {
-            Ok(Some((group.opening, group.closing, group.stream.len())))
+        (Token::Ident(ident), Token::Literal(literal)) => {
+            is_ident_owned(&ident) && is_literal_owned(&literal)
         }
-        _ => Ok(None),
+        _ => false,
     }
 }
 
-#[test]
-fn far_groups(rt: HostRuntime) -> Result<()> {
-    let group = group_at(&sample(rt.alloc(), FAR)?)?;
-    assert_eq!(rt; group, Some((at(FAR + 1), at(FAR + 5), 3)));
-    Ok(())
-}
-
-/// Whether the tree at 2 is the keyword of the sample, and what it lends is too.
-fn is_keyword_got(stream: &TokenStream, span: Span) -> Result<bool> {
-    match stream.get(2)? {
-        Some(TokenTree::Ident(ident)) => {
-            let is_lent = is_ident(&ident.as_ref(), "struct", true);
-            Ok(is_lent && ident.is_keyword() && ident.is("struct") && ident.span == span)
+/// Whether it is a group with delimiters there, and three trees.
+fn is_group(tree: &TokenTree, opening: usize, closing: usize) -> bool {
+    match tree {
+        TokenTree::Group(group) => {
+            group.opening == at(opening) && group.closing == at(closing) && group.stream.len() == 3
         }
-        _ => Ok(false),
+        _ => false,
+    }
+}
+
+/// Whether it is the keyword of the sample, there, and what it lends is too.
+fn is_keyword(tree: &TokenTree, span: Span) -> bool {
+    match tree {
+        TokenTree::Ident(ident) => {
+            is_ident(&ident.as_ref(), "struct", true)
+                && ident.is_keyword()
+                && ident.is("struct")
+                && ident.span == span
+        }
+        _ => false,
     }
 }
 
 #[test]
-fn far_keywords(rt: HostRuntime) -> Result<()> {
-    assert!(rt; is_keyword_got(&sample(rt.alloc(), FAR)?, at(FAR + 6))?);
-    Ok(())
+fn far_trees(rt: HostRuntime) {
+    let far = sample(rt.alloc(), FAR).expect(&rt, "a stream");
+    assert!(rt; matches!(far.get(1), Ok(Some(tree)) if is_group(&tree, FAR + 1, FAR + 5)));
+    assert!(rt; matches!(far.get(2), Ok(Some(tree)) if is_keyword(&tree, at(FAR + 6))));
 }
 
-/// The copy of the first entry of the text, shown as the only one of a stream.
-fn first_copied(alloc: Global, text: &str) -> Result<bool> {
-    let stream = tokens(alloc, text)?;
-    match stream.entries().first() {
-        Some(entry) => Ok(entry.copy()?.span() == entry.span()),
-        None => Ok(false),
-    }
+/// Whether the copy of the stream's first entry has its span.
+fn is_first_copied(stream: &TokenStream) -> bool {
+    matches!(stream.entries().first(), Some(entry) if is_entry_copied(entry))
 }
 
 #[test]
-fn copied_entries(rt: HostRuntime) -> Result<()> {
+fn copied_entries(rt: HostRuntime) {
     for text in ["a", "'x'", ";", "( )"] {
-        assert!(rt; first_copied(rt.alloc(), text)?, "{text}");
+        let stream = stream(&rt, rt.alloc(), text);
+        assert!(rt; is_first_copied(&stream), "{text}");
     }
-    Ok(())
 }
 
 /// So many `;`.
@@ -252,59 +222,35 @@ fn grouped(alloc: Global, before: usize, inside: usize) -> Result<TokenStream> {
     Ok(stream)
 }
 
-/// Whether the tree at this place is the group with so many `;`.
-fn has_group(stream: &TokenStream, place: usize, inside: usize) -> Result<bool> {
-    match stream.get(place)? {
-        Some(TokenTree::Group(group)) => {
-            let is_there = (group.opening, group.closing) == (at(100), at(200));
-            Ok(is_there && group.stream == marks(stream.alloc(), inside)?)
+/// Whether the stream is so many `;`.
+fn are_marks(stream: &TokenStream, count: usize) -> bool {
+    matches!(marks(stream.alloc(), count), Ok(marks) if *stream == marks)
+}
+
+/// Whether it is the group with so many `;`.
+fn is_group_of_marks(tree: &TokenTree, count: usize) -> bool {
+    match tree {
+        TokenTree::Group(group) => {
+            group.opening == at(100) && group.closing == at(200) && are_marks(&group.stream, count)
         }
-        _ => Ok(false),
+        _ => false,
     }
 }
 
-/// How many trees and how many entries the stream with the group has.
-fn lengths(alloc: Global, before: usize, inside: usize) -> Result<(usize, usize)> {
-    let stream = grouped(alloc, before, inside)?;
-    Ok((stream.len(), stream.entries().len()))
+/// Whether the tree at this place is that group.
+fn has_group(stream: &TokenStream, place: usize, count: usize) -> bool {
+    matches!(stream.get(place), Ok(Some(tree)) if is_group_of_marks(&tree, count))
 }
 
-/// Whether so many `;` are left where the group is taken away.
-fn is_taken_away(alloc: Global, before: usize, inside: usize) -> Result<bool> {
-    let mut stream = grouped(alloc, before, inside)?;
-    stream.truncate(before);
-    Ok(stream == marks(alloc, before)?)
-}
-
-/// A group behind fewer tokens than it has, behind as many, and behind more.
-const GROUPS: [(usize, usize); 6] = [(0, 0), (0, 9), (2, 9), (9, 9), (9, 2), (9, 0)];
-
+/// A group behind fewer tokens than it has, behind as many, and behind more; the tokens are left where it is taken away.
 #[test]
-fn groups_behind_tokens(rt: HostRuntime) -> Result<()> {
-    for (before, inside) in GROUPS {
-        let stream = grouped(rt.alloc(), before, inside)?;
-        assert!(rt; has_group(&stream, before, inside)?, "{before} {inside}");
-    }
-    Ok(())
-}
-
-#[test]
-fn lengths_with_groups(rt: HostRuntime) -> Result<()> {
-    for (before, inside) in GROUPS {
+fn groups_behind_tokens(rt: HostRuntime) {
+    for (before, inside) in [(0, 0), (0, 9), (2, 9), (9, 9), (9, 2), (9, 0)] {
+        let mut stream = grouped(rt.alloc(), before, inside).expect(&rt, "a stream");
         let entries = before.saturating_add(inside).saturating_add(2);
-        let want = (before.saturating_add(1), entries);
-        assert_eq!(rt; lengths(rt.alloc(), before, inside)?, want);
+        assert!(rt; has_group(&stream, before, inside), "{before} {inside}");
+        assert!(rt; stream.len() == before.saturating_add(1) && stream.entries().len() == entries);
+        stream.truncate(before);
+        assert!(rt; are_marks(&stream, before), "{before} {inside}");
     }
-    Ok(())
-}
-
-#[test]
-fn without_groups(rt: HostRuntime) -> Result<()> {
-    for (before, inside) in GROUPS {
-        assert!(rt;
-            is_taken_away(rt.alloc(), before, inside)?,
-            "{before} {inside}"
-        );
-    }
-    Ok(())
 }

@@ -1,6 +1,5 @@
 //! Identifiers, literals, marks' characters and spans.
 use std::alloc::Global;
-use syn_tokens::error::Result;
 use syn_tokens::ident::Ident;
 use syn_tokens::ident::identifier::is_identifier;
 use syn_tokens::ident::keyword::is_keyword;
@@ -10,17 +9,16 @@ use syn_tokens::span::Span;
 use syn_tokens::text::Text;
 
 /// Whether a text and what shares it are as they were given.
-fn is_shared(alloc: Global, want: &str) -> Result<bool> {
-    let text = Text::from_str(alloc, want)?;
-    Ok(text.share()?.as_str() == want && text.as_str() == want)
+fn is_shared(text: &Text, want: &str) -> bool {
+    matches!(text.share(), Ok(share) if share.as_str() == want && text.as_str() == want)
 }
 
 #[test]
-fn texts(rt: HostRuntime) -> Result<()> {
+fn texts(rt: HostRuntime) {
     for want in ["größe", "a text of more than sixteen bytes"] {
-        assert!(rt; is_shared(rt.alloc(), want)?, "{want}");
+        let text = Text::from_str(rt.alloc(), want).expect(&rt, "a text");
+        assert!(rt; is_shared(&text, want), "{want}");
     }
-    Ok(())
 }
 
 #[test]
@@ -55,92 +53,74 @@ fn keywords(rt: HostRuntime) {
 
 const SPAN: Span = Span { start: 3, end: 9 };
 
-/// An identifier of this text.
-fn name(alloc: Global, text: &str) -> Result<Ident> {
-    Ident::new(alloc, text, SPAN)
+/// Whether it is `struct`, there.
+fn is_word(word: &Ident) -> bool {
+    word.text() == "struct"
+        && word.is("struct")
+        && !word.is("struc")
+        && word.is_keyword()
+        && word.span == SPAN
 }
 
-#[test]
-fn a_word(rt: HostRuntime) -> Result<()> {
-    let word = name(rt.alloc(), "struct")?;
-    assert!(rt; word.text() == "struct" && word.is("struct") && !word.is("struc"));
-    assert!(rt; word.is_keyword() && word.span == SPAN);
-    Ok(())
-}
-
-#[test]
-fn a_raw_word(rt: HostRuntime) -> Result<()> {
-    let raw = name(rt.alloc(), "r#struct")?;
-    assert!(rt; raw.text() == "r#struct" && !raw.is_keyword());
-    Ok(())
-}
-
-#[test]
-fn a_copy_of_a_word(rt: HostRuntime) -> Result<()> {
-    let copy = name(rt.alloc(), "struct")?.try_clone(rt.alloc())?;
-    assert!(rt; copy.is("struct") && copy.is_keyword() && copy.span == SPAN);
-    Ok(())
-}
-
-/// Whether a clone that is put elsewhere is equal to the word, and had its span.
-fn is_cloned(word: &Ident, alloc: Global) -> Result<bool> {
-    let mut clone = word.try_clone(alloc)?;
-    let was_there = clone.span == SPAN;
-    clone.span = Span::call_site();
-    Ok(was_there && clone == *word)
-}
-
-#[test]
-fn a_clone_of_a_word(rt: HostRuntime) -> Result<()> {
-    assert!(rt; is_cloned(&name(rt.alloc(), "struct")?, rt.alloc())?);
-    Ok(())
-}
-
-#[test]
-fn no_identifier(rt: HostRuntime) {
-    match Ident::new(rt.alloc(), "1a", SPAN) {
-        Ok(_) => panic!(rt; "1a"),
-        Err(e) => assert_eq!(rt; e.span(), SPAN),
+/// Whether a copy of the word that is put elsewhere is equal to it, and was there.
+fn is_word_copied(word: &Ident, alloc: Global) -> bool {
+    match word.try_clone(alloc) {
+        Ok(mut copy) => {
+            let was_there = is_word(&copy);
+            copy.span = Span::call_site();
+            was_there && copy == *word
+        }
+        Err(_) => false,
     }
 }
 
-/// A literal of this kind and text.
-fn literal(alloc: Global, kind: LitKind, text: &str) -> Result<Literal> {
-    Literal::new(alloc, kind, text, SPAN)
+#[test]
+fn words(rt: HostRuntime) {
+    let word = Ident::new(rt.alloc(), "struct", SPAN);
+    assert!(rt; matches!(&word, Ok(word) if is_word(word) && is_word_copied(word, rt.alloc())));
+    let raw = Ident::new(rt.alloc(), "r#struct", SPAN);
+    assert!(rt; matches!(&raw, Ok(raw) if raw.text() == "r#struct" && !raw.is_keyword()));
+    let none = Ident::new(rt.alloc(), "1a", SPAN);
+    assert!(rt; matches!(&none, Err(error) if error.span() == SPAN));
+}
+
+/// Whether it is the literal of this kind and text, there.
+fn is_literal(literal: &Literal, kind: LitKind, text: &str) -> bool {
+    literal.text() == text && literal.kind() == kind && literal.span == SPAN
+}
+
+/// Whether a copy of it is that too.
+fn is_literal_copied(literal: &Literal, kind: LitKind, text: &str, alloc: Global) -> bool {
+    matches!(literal.try_clone(alloc), Ok(copy) if is_literal(&copy, kind, text))
 }
 
 #[test]
-fn a_literal(rt: HostRuntime) -> Result<()> {
-    let number = literal(rt.alloc(), LitKind::Int, "1u8")?;
-    assert!(rt; number.text() == "1u8" && number.kind() == LitKind::Int && number.span == SPAN);
-    Ok(())
+fn literals(rt: HostRuntime) {
+    for (kind, text) in [(LitKind::Int, "1u8"), (LitKind::Str, "\"a\"")] {
+        let literal = Literal::new(rt.alloc(), kind, text, SPAN).expect(&rt, "a literal");
+        assert!(rt; is_literal(&literal, kind, text), "{text}");
+        assert!(rt;
+            is_literal_copied(&literal, kind, text, rt.alloc()),
+            "{text}"
+        );
+    }
 }
 
-/// Whether `1` is equal to this literal, wherever that stands.
-fn is_one(alloc: Global, kind: LitKind, text: &str) -> Result<bool> {
-    let mut other = literal(alloc, kind, text)?;
-    other.span = Span::call_site();
-    Ok(literal(alloc, LitKind::Int, "1")? == other)
-}
-
+/// Literals are equal wherever they stand.
 #[test]
-fn equal_literals(rt: HostRuntime) -> Result<()> {
-    assert!(rt; is_one(rt.alloc(), LitKind::Int, "1")?);
-    assert!(rt; !is_one(rt.alloc(), LitKind::Float, "1")?);
-    assert!(rt; !is_one(rt.alloc(), LitKind::Int, "2")?);
-    Ok(())
-}
-
-/// A copy of a copy of a text.
-fn copied(alloc: Global, text: &str) -> Result<Literal> {
-    literal(alloc, LitKind::Str, text)?.try_clone(alloc)
-}
-
-#[test]
-fn a_copy_of_a_literal(rt: HostRuntime) -> Result<()> {
-    let copy = copied(rt.alloc(), "\"a\"")?;
-    assert!(rt; copy.text() == "\"a\"" && copy.kind() == LitKind::Str && copy.span == SPAN);
-    Ok(())
+fn equal_literals(rt: HostRuntime) {
+    let one = Literal::new(rt.alloc(), LitKind::Int, "1", SPAN).expect(&rt, "a literal");
+    for (kind, text, is_equal) in [
+        (LitKind::Int, "1", true),
+        (LitKind::Float, "1", false),
+        (LitKind::Int, "2", false),
+    ] {
+        let other = Literal::new(rt.alloc(), kind, text, Span::call_site());
+        assert!(rt;
+            matches!(&other, Ok(other) if (one == *other) == is_equal),
+            "{text}"
+        );
+    }
 }
 
 #[test]
@@ -160,9 +140,7 @@ fn made_puncts(rt: HostRuntime) {
     let colon = ':';
     assert!(rt; Punct::is_punct_character(colon));
     let first = Punct::new(colon, Spacing::Joint, span);
-    assert_eq!(rt; first.character(), ':');
-    assert_eq!(rt; first.span, span);
-    let moved = Punct::new(colon, Spacing::Joint, Span::call_site());
-    assert!(rt; first == moved);
+    assert!(rt; first.character() == ':' && first.span == span);
+    assert!(rt; first == Punct::new(colon, Spacing::Joint, Span::call_site()));
     assert!(rt; first != Punct::new(colon, Spacing::Alone, span));
 }

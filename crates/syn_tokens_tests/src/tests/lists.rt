@@ -3,89 +3,85 @@ use std::alloc::{AllocError, Global};
 use syn_tokens::punctuated::Punctuated;
 use syn_tokens::punctuated::iterators::Iter;
 
-/// `1 , 2 , 3`, or `1 , 2 , 3 ,`
-fn numbers(alloc: Global, trailing: bool) -> Result<Punctuated<u32, char>, AllocError> {
+type Numbers = Punctuated<u32, char>;
+
+/// `1 , 2 , 3`, or `1 , 2 , 3 ;`
+fn numbers(alloc: Global, is_closed: bool) -> Result<Numbers, AllocError> {
     let mut list = Punctuated::new(alloc);
     list.push_value(1)?;
     list.push_punct(',')?;
     list.push_value(2)?;
     list.push_punct(',')?;
     list.push_value(3)?;
-    if trailing {
+    if is_closed {
         list.push_punct(';')?;
     }
     Ok(list)
 }
 
-/// How many values there are, whether there are none, and what is asked before a value and before a separator is pushed.
-fn length(list: &Punctuated<u32, char>) -> (usize, bool, bool, bool) {
-    let is_open = list.empty_or_trailing();
-    (list.len(), list.is_empty(), is_open, list.trailing_punct())
+/// Whether there are so many values, and a separator stands behind the last one.
+fn is_long(list: &Numbers, length: usize, is_trailing: bool) -> bool {
+    list.len() == length
+        && list.is_empty() == (length == 0)
+        && list.trailing_punct() == is_trailing
+        && list.empty_or_trailing() == (length == 0 || is_trailing)
 }
 
-/// The first value, the last one, and the last one if no separator stands behind it.
-fn ends(list: &Punctuated<u32, char>) -> (Option<u32>, Option<u32>, Option<u32>) {
-    let first = list.first().copied();
-    (first, list.last().copied(), list.trailing_value().copied())
+/// Whether these are the first value, the last one, and the last one if no separator stands behind it.
+fn has_ends(list: &Numbers, ends: [Option<u32>; 3]) -> bool {
+    list.first().copied() == ends[0]
+        && list.last().copied() == ends[1]
+        && list.trailing_value().copied() == ends[2]
 }
 
 #[test]
 fn empty(rt: HostRuntime) {
-    let list: Punctuated<u32, char> = Punctuated::new(rt.alloc());
-    assert_eq!(rt; length(&list), (0, true, true, false));
-    assert_eq!(rt; ends(&list), (None, None, None));
-    assert_eq!(rt; list.iter().next().copied(), None);
+    let list: Numbers = Punctuated::new(rt.alloc());
+    assert!(rt; is_long(&list, 0, false) && has_ends(&list, [None; 3]));
+    assert!(rt; list.iter().next().is_none());
 }
 
 #[test]
-fn ends_with_value(rt: HostRuntime) -> Result<(), AllocError> {
-    let list = numbers(rt.alloc(), false)?;
-    assert_eq!(rt; length(&list), (3, false, false, false));
-    assert_eq!(rt; ends(&list), (Some(1), Some(3), Some(3)));
-    assert_eq!(rt; list.pairs().len(), 2);
-    Ok(())
+fn ends(rt: HostRuntime) {
+    let open = numbers(rt.alloc(), false).expect(&rt, "a list");
+    assert!(rt; is_long(&open, 3, false) && has_ends(&open, [Some(1), Some(3), Some(3)]));
+    assert!(rt; open.pairs().len() == 2);
+    let closed = numbers(rt.alloc(), true).expect(&rt, "a list");
+    assert!(rt; is_long(&closed, 3, true) && has_ends(&closed, [Some(1), Some(3), None]));
+    assert!(rt; matches!(closed.pairs().last(), Some((3, ';'))));
+}
+
+/// Whether these are the next value from the back, and then the next from the front.
+fn are_next(values: &mut Iter<'_, u32, char>, last: Option<u32>, first: Option<u32>) -> bool {
+    values.next_back().copied() == last && values.next().copied() == first
+}
+
+/// Whether the values are 1, 2 and 3, from both ends.
+fn are_numbers(values: &mut Iter<'_, u32, char>) -> bool {
+    are_next(values, Some(3), Some(1)) && are_next(values, Some(2), None)
 }
 
 #[test]
-fn ends_with_separator(rt: HostRuntime) -> Result<(), AllocError> {
-    let list = numbers(rt.alloc(), true)?;
-    assert_eq!(rt; length(&list), (3, false, true, true));
-    assert_eq!(rt; ends(&list), (Some(1), Some(3), None));
-    assert_eq!(rt; list.pairs().last().copied(), Some((3, ';')));
-    Ok(())
-}
-
-/// The next value, from the back and from the front.
-fn both(values: &mut Iter<'_, u32, char>) -> (Option<u32>, Option<u32>) {
-    let last = values.next_back().copied();
-    (last, values.next().copied())
-}
-
-#[test]
-fn from_both_ends(rt: HostRuntime) -> Result<(), AllocError> {
-    for trailing in [false, true] {
-        let list = numbers(rt.alloc(), trailing)?;
-        let mut values = list.iter();
-        assert_eq!(rt; both(&mut values), (Some(3), Some(1)));
-        assert_eq!(rt; both(&mut values), (Some(2), None));
-    }
-    Ok(())
+fn from_both_ends(rt: HostRuntime) {
+    let open = numbers(rt.alloc(), false).expect(&rt, "a list");
+    assert!(rt; are_numbers(&mut open.iter()));
+    let closed = numbers(rt.alloc(), true).expect(&rt, "a list");
+    assert!(rt; are_numbers(&mut closed.iter()));
 }
 
 /// A copy of an iterator goes on from where that stands, and leaves it there.
 #[test]
-fn copied_iterators(rt: HostRuntime) -> Result<(), AllocError> {
-    let list = numbers(rt.alloc(), false)?;
+fn copied_iterators(rt: HostRuntime) {
+    let list = numbers(rt.alloc(), false).expect(&rt, "a list");
     let mut values = list.iter();
-    assert_eq!(rt; values.next().copied(), Some(1));
-    let mut rest = values.clone()?;
-    assert_eq!(rt; both(&mut rest), (Some(3), Some(2)));
-    assert_eq!(rt; both(&mut values), (Some(3), Some(2)));
-    Ok(())
+    assert!(rt; values.next().copied() == Some(1));
+    let mut rest = values.clone().expect(&rt, "a copy");
+    assert!(rt; are_next(&mut rest, Some(3), Some(2)));
+    assert!(rt; are_next(&mut values, Some(3), Some(2)));
 }
 
 /// The values as digits, each of them a hundred times the next.
-fn digits(list: &Punctuated<u32, char>) -> u32 {
+fn digits(list: &Numbers) -> u32 {
     let mut sum = 0u32;
     for value in list {
         sum = sum.wrapping_mul(100).wrapping_add(*value);
@@ -94,7 +90,7 @@ fn digits(list: &Punctuated<u32, char>) -> u32 {
 }
 
 /// Makes each value ten times as large, and the last one 7.
-fn change(list: &mut Punctuated<u32, char>) {
+fn change(list: &mut Numbers) {
     for value in &mut *list {
         *value = value.wrapping_mul(10);
     }
@@ -104,15 +100,14 @@ fn change(list: &mut Punctuated<u32, char>) {
 }
 
 #[test]
-fn changed(rt: HostRuntime) -> Result<(), AllocError> {
-    let mut list = numbers(rt.alloc(), false)?;
+fn changed(rt: HostRuntime) {
+    let mut list = numbers(rt.alloc(), false).expect(&rt, "a list");
     change(&mut list);
-    assert_eq!(rt; digits(&list), 102_007);
-    Ok(())
+    assert!(rt; digits(&list) == 102_007);
 }
 
 /// The values as digits.
-fn used(list: Punctuated<u32, char>) -> u32 {
+fn used(list: Numbers) -> u32 {
     let mut sum = 0u32;
     for value in list {
         sum = sum.wrapping_mul(10).wrapping_add(value);
@@ -120,19 +115,19 @@ fn used(list: Punctuated<u32, char>) -> u32 {
     sum
 }
 
-/// The values from the back, and whether there are no more.
-fn used_from_back(list: Punctuated<u32, char>) -> ([Option<u32>; 3], bool) {
+/// Whether the values from the back are 3, 2 and 1, and there are no more.
+fn is_used_from_back(list: Numbers) -> bool {
     let mut values = list.into_iter();
-    let last = [values.next_back(), values.next_back(), values.next_back()];
-    (last, values.next().is_none())
+    values.next_back() == Some(3)
+        && values.next_back() == Some(2)
+        && values.next_back() == Some(1)
+        && values.next().is_none()
 }
 
 #[test]
-fn used_up(rt: HostRuntime) -> Result<(), AllocError> {
-    for trailing in [false, true] {
-        assert_eq!(rt; used(numbers(rt.alloc(), trailing)?), 123);
-        let back = used_from_back(numbers(rt.alloc(), trailing)?);
-        assert_eq!(rt; back, ([Some(3), Some(2), Some(1)], true));
-    }
-    Ok(())
+fn used_up(rt: HostRuntime) {
+    assert!(rt; used(numbers(rt.alloc(), false).expect(&rt, "a list")) == 123);
+    assert!(rt; used(numbers(rt.alloc(), true).expect(&rt, "a list")) == 123);
+    assert!(rt; is_used_from_back(numbers(rt.alloc(), false).expect(&rt, "a list")));
+    assert!(rt; is_used_from_back(numbers(rt.alloc(), true).expect(&rt, "a list")));
 }

@@ -1,6 +1,7 @@
 //! Prints of what has no table of its own: leaves, optional and boxed ones, streams, lists, and the delimiters of groups.
-use crate::tests::support::{assert_text, at, shown, tokens};
+use crate::tests::support::{assert_shown, at, is_shown, stream, tokens};
 use std::alloc::Global;
+use std::process::Abort;
 use syn_parse::buffer::ParseBuffer;
 use syn_parse::parse::{Parse, parse2};
 use syn_tokens::error::Result;
@@ -14,89 +15,67 @@ use syn_tokens::stream::builder::StreamBuilder;
 use syn_tokens::token::{Comma, DelimiterKind, Delimiters, Pub, kind};
 
 /// What a value prints behind an `x`.
-fn printed<T: ToTokens>(alloc: Global, value: &T) -> Result<String> {
+fn print_behind<T: ToTokens>(alloc: Global, value: &T) -> Result<TokenStream> {
     let mut out = tokens(alloc, "x")?;
     value.to_tokens(&mut out)?;
-    shown(alloc, &out)
+    Ok(out)
 }
 
 /// What the text, parsed, prints behind an `x`.
-fn reprinted<T: Parse + ToTokens + Drop>(alloc: Global, text: &str) -> Result<String> {
+fn reprinted<T: Parse + ToTokens + Drop>(alloc: Global, text: &str) -> Result<TokenStream> {
     let value: T = parse2(tokens(alloc, text)?)?;
-    printed(alloc, &value)
+    print_behind(alloc, &value)
 }
 
-#[test]
-fn leaves(rt: HostRuntime) -> Result<()> {
-    assert_text(
-        &rt,
-        reprinted::<Ident>(rt.alloc(), "a")?.as_str(),
-        "x@0..1 a@0..1",
+/// Fails where what the text, parsed, prints behind an `x` is shown by another text.
+fn assert_reprinted<T: Parse + ToTokens + Drop>(
+    rt: &impl Abort,
+    alloc: Global,
+    text: &str,
+    want: &str,
+) {
+    assert!(rt;
+        matches!(reprinted::<T>(alloc, text), Ok(out) if is_shown(&out, want)),
+        "{text}"
     );
-    assert_text(
-        &rt,
-        reprinted::<Literal>(rt.alloc(), "1")?.as_str(),
-        "x@0..1 Int1@0..1",
-    );
-    Ok(())
 }
 
 #[test]
-fn lifetimes(rt: HostRuntime) -> Result<()> {
-    let lifetime = reprinted::<Lifetime>(rt.alloc(), "' a")?;
-    assert_text(&rt, lifetime.as_str(), "x@0..1 '+@0..1 a@1..2");
-    Ok(())
+fn values(rt: HostRuntime) {
+    let alloc = rt.alloc();
+    assert_reprinted::<Ident>(&rt, alloc, "a", "x@0..1 a@0..1");
+    assert_reprinted::<Literal>(&rt, alloc, "1", "x@0..1 Int1@0..1");
+    assert_reprinted::<Lifetime>(&rt, alloc, "' a", "x@0..1 '+@0..1 a@1..2");
+    assert_reprinted::<Option<Pub>>(&rt, alloc, "pub", "x@0..1 pub@0..1");
+    assert_reprinted::<Option<Pub>>(&rt, alloc, "", "x@0..1");
+    assert_reprinted::<Box<Ident>>(&rt, alloc, "a", "x@0..1 a@0..1");
 }
 
 #[test]
-fn optional_and_boxed(rt: HostRuntime) -> Result<()> {
-    let some = reprinted::<Option<Pub>>(rt.alloc(), "pub")?;
-    assert_text(&rt, some.as_str(), "x@0..1 pub@0..1");
-    assert_text(
-        &rt,
-        reprinted::<Option<Pub>>(rt.alloc(), "")?.as_str(),
-        "x@0..1",
-    );
-    assert_text(
-        &rt,
-        reprinted::<Box<Ident>>(rt.alloc(), "a")?.as_str(),
-        "x@0..1 a@0..1",
-    );
-    Ok(())
+fn streams(rt: HostRuntime) {
+    let stream = stream(&rt, rt.alloc(), "a ( b )");
+    let out = print_behind(rt.alloc(), &stream).expect(&rt, "a print");
+    assert_shown(&rt, &out, "x@0..1 a@0..1 (@1..2 b@2..3 )@3..4");
 }
 
-/// What the stream of the text prints.
-fn stream_printed(alloc: Global, text: &str) -> Result<String> {
-    let stream: TokenStream = tokens(alloc, text)?;
-    printed(alloc, &stream)
+/// What the list of names that a stream spells prints behind an `x`.
+fn list_printed(stream: &TokenStream) -> Result<TokenStream> {
+    let list: Punctuated<Ident, Comma> = ParseBuffer::new(stream).parse_terminated()?;
+    print_behind(stream.alloc(), &list)
 }
 
 #[test]
-fn streams(rt: HostRuntime) -> Result<()> {
-    let stream = stream_printed(rt.alloc(), "a ( b )")?;
-    assert_text(&rt, stream.as_str(), "x@0..1 a@0..1 (@1..2 b@2..3 )@3..4");
-    Ok(())
-}
-
-/// What the list of names that a text spells prints.
-fn list_printed(alloc: Global, text: &str) -> Result<String> {
-    let stream = tokens(alloc, text)?;
-    let mut input = ParseBuffer::new(&stream);
-    let list: Punctuated<Ident, Comma> = input.parse_terminated()?;
-    printed(alloc, &list)
-}
-
-#[test]
-fn lists(rt: HostRuntime) -> Result<()> {
+fn lists(rt: HostRuntime) {
     for (text, want) in [
         ("", "x@0..1"),
         ("a", "x@0..1 a@0..1"),
         ("a ,", "x@0..1 a@0..1 ,@1..2"),
         ("a , b", "x@0..1 a@0..1 ,@1..2 b@2..3"),
     ] {
-        assert_text(&rt, list_printed(rt.alloc(), text)?.as_str(), want);
+        let stream = stream(&rt, rt.alloc(), text);
+        let out = list_printed(&stream).expect(&rt, "a print");
+        assert_shown(&rt, &out, want);
     }
-    Ok(())
 }
 
 /// An empty group with such delimiters, at 3 and at 7.
@@ -109,27 +88,18 @@ fn group<K: DelimiterKind>(alloc: Global) -> Result<TokenStream> {
     out.finish()
 }
 
-/// What shows it.
-fn group_shown<K: DelimiterKind>(alloc: Global) -> Result<String> {
-    shown(alloc, &group::<K>(alloc)?)
+/// Fails where another text shows it.
+fn assert_group<K: DelimiterKind>(rt: &impl Abort, alloc: Global, want: &str) {
+    assert!(rt;
+        matches!(group::<K>(alloc), Ok(group) if is_shown(&group, want)),
+        "{want}"
+    );
 }
 
 #[test]
-fn delimiters(rt: HostRuntime) -> Result<()> {
-    assert_text(
-        &rt,
-        group_shown::<kind::Paren>(rt.alloc())?.as_str(),
-        "(@3..4 )@7..8",
-    );
-    assert_text(
-        &rt,
-        group_shown::<kind::Brace>(rt.alloc())?.as_str(),
-        "{@3..4 }@7..8",
-    );
-    assert_text(
-        &rt,
-        group_shown::<kind::Bracket>(rt.alloc())?.as_str(),
-        "[@3..4 ]@7..8",
-    );
-    Ok(())
+fn delimiters(rt: HostRuntime) {
+    let alloc = rt.alloc();
+    assert_group::<kind::Paren>(&rt, alloc, "(@3..4 )@7..8");
+    assert_group::<kind::Brace>(&rt, alloc, "{@3..4 }@7..8");
+    assert_group::<kind::Bracket>(&rt, alloc, "[@3..4 ]@7..8");
 }

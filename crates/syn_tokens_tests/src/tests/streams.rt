@@ -1,101 +1,63 @@
 //! Streams: what they hold, copies and equality.
-use crate::tests::support::{assert_text, at, shown, tokens, tokens_from};
+use crate::tests::support::{assert_shown, at, is_shown, stream, tokens, tokens_from};
 use std::alloc::Global;
 use syn_tokens::delimiter::Delimiter;
 use syn_tokens::error::Result;
 use syn_tokens::literal::LitKind;
 use syn_tokens::span::Span;
 use syn_tokens::stream::TokenStream;
-use syn_tokens::stream::tree::TokenTree;
+use syn_tokens::stream::tree::{Group, TokenTree};
 
 const SAMPLE: &str = "a = { 1 } b";
 
 #[test]
-fn empty(rt: HostRuntime) {
+fn lengths(rt: HostRuntime) {
     let empty = TokenStream::new(rt.alloc());
-    assert!(rt; empty.is_empty());
-    assert_eq!(rt; empty.len(), 0);
+    assert!(rt; empty.is_empty() && empty.len() == 0);
+    let sample = stream(&rt, rt.alloc(), SAMPLE);
+    assert!(rt; !sample.is_empty() && sample.len() == 4);
 }
 
-#[test]
-fn lengths(rt: HostRuntime) -> Result<()> {
-    let stream = tokens(rt.alloc(), SAMPLE)?;
-    assert!(rt; !stream.is_empty());
-    assert_eq!(rt; stream.len(), 4);
-    Ok(())
+/// Whether the group is `{ 1 }`, from this byte on.
+fn is_group(group: &Group, start: usize) -> bool {
+    group.delimiter == Delimiter::Brace
+        && group.opening == at(start)
+        && group.closing == at(start.saturating_add(2))
+        && group.stream.len() == 1
 }
 
-/// What the tree at this place is, without what is in a group, and where it stands.
-fn tree_at(stream: &TokenStream, place: usize) -> Result<Option<(char, Span)>> {
-    let Some(tree) = stream.get(place)? else {
-        return Ok(None);
-    };
-    let kind = match &tree {
-        TokenTree::Ident(_) => 'i',
-        TokenTree::Literal(_) => 'l',
-        TokenTree::Punct(punct) => punct.character(),
-        TokenTree::Group(_) => 'g',
-    };
-    Ok(Some((kind, tree.span())))
-}
-
-#[test]
-fn places(rt: HostRuntime) -> Result<()> {
-    let stream = tokens(rt.alloc(), SAMPLE)?;
-    let trees = [('i', at(0)), ('=', at(1)), ('g', at(2)), ('i', at(5))];
-    for (place, tree) in trees.iter().enumerate() {
-        assert_eq!(rt; tree_at(&stream, place)?, Some(*tree));
-    }
-    assert_eq!(rt; tree_at(&stream, 4)?, None);
-    Ok(())
-}
-
-/// Whether the tree at this place is this identifier.
-fn is_ident(stream: &TokenStream, place: usize, text: &str) -> Result<bool> {
-    match stream.get(place)? {
-        Some(TokenTree::Ident(ident)) => Ok(ident.text() == text),
-        _ => Ok(false),
+/// Whether the tree is what the sample has at this place.
+fn is_tree(tree: &TokenTree, place: usize) -> bool {
+    match tree {
+        TokenTree::Ident(ident) if place == 0 => ident.text() == "a" && tree.span() == at(0),
+        TokenTree::Ident(ident) if place == 3 => ident.text() == "b" && tree.span() == at(5),
+        TokenTree::Punct(punct) => punct.character() == '=' && tree.span() == at(1) && place == 1,
+        TokenTree::Group(group) => is_group(group, 2) && tree.span() == at(2) && place == 2,
+        _ => false,
     }
 }
 
-#[test]
-fn identifiers(rt: HostRuntime) -> Result<()> {
-    let stream = tokens(rt.alloc(), SAMPLE)?;
-    assert!(rt; is_ident(&stream, 0, "a")? && is_ident(&stream, 3, "b")?);
-    Ok(())
+/// Whether the tree that is got at this place is what the sample has there.
+fn is_got(stream: &TokenStream, place: usize) -> bool {
+    matches!(stream.get(place), Ok(Some(tree)) if is_tree(&tree, place))
 }
 
-/// What the group at 2 has around it, where, and how many trees it has.
-fn group_at(stream: &TokenStream) -> Result<Option<(Delimiter, Span, Span, usize)>> {
-    match stream.get(2)? {
-        Some(TokenTree::Group(group)) => {
-            let count = group.stream.len();
-            Ok(Some((group.delimiter, group.opening, group.closing, count)))
-        }
-        _ => Ok(None),
+#[test]
+fn places(rt: HostRuntime) {
+    let sample = stream(&rt, rt.alloc(), SAMPLE);
+    for place in 0..4 {
+        assert!(rt; is_got(&sample, place), "{place}");
     }
+    assert!(rt; matches!(sample.get(4), Ok(None)));
 }
 
 #[test]
-fn groups(rt: HostRuntime) -> Result<()> {
-    let group = group_at(&tokens(rt.alloc(), SAMPLE)?)?;
-    assert_eq!(rt; group, Some((Delimiter::Brace, at(2), at(4), 1)));
-    Ok(())
-}
-
-/// What is left of the sample, of so many trees at most.
-fn shorter(alloc: Global, count: usize) -> Result<String> {
-    let mut stream = tokens(alloc, SAMPLE)?;
-    stream.truncate(count);
-    shown(alloc, &stream)
-}
-
-#[test]
-fn shorter_ones(rt: HostRuntime) -> Result<()> {
-    let whole = "a@0..1 =@1..2 {@2..3 Int1@3..4 }@4..5 b@5..6";
-    assert_text(&rt, shorter(rt.alloc(), 9)?.as_str(), whole);
-    assert_text(&rt, shorter(rt.alloc(), 1)?.as_str(), "a@0..1");
-    Ok(())
+fn shorter_ones(rt: HostRuntime) {
+    let mut sample = stream(&rt, rt.alloc(), SAMPLE);
+    sample.truncate(9);
+    assert_shown(&rt, &sample, "a@0..1 =@1..2 {@2..3 Int1@3..4 }@4..5 b@5..6");
+    sample.truncate(1);
+    assert_shown(&rt, &sample, "a@0..1");
 }
 
 /// One tree of the sample, and behind it the sample from byte 20 on.
@@ -107,21 +69,29 @@ fn longer(alloc: Global) -> Result<TokenStream> {
 }
 
 #[test]
-fn longer_ones(rt: HostRuntime) -> Result<()> {
-    let stream = longer(rt.alloc())?;
-    let want = "a@0..1 a@20..21 =@21..22 {@22..23 Int1@23..24 }@24..25 b@25..26";
-    assert_eq!(rt; stream.len(), 5);
-    assert_text(&rt, shown(rt.alloc(), &stream)?.as_str(), want);
-    Ok(())
+fn longer_ones(rt: HostRuntime) {
+    let stream = longer(rt.alloc()).expect(&rt, "a stream");
+    assert!(rt; stream.len() == 5);
+    assert_shown(
+        &rt,
+        &stream,
+        "a@0..1 a@20..21 =@21..22 {@22..23 Int1@23..24 }@24..25 b@25..26",
+    );
 }
 
-/// Whether both are the same, by each of the three ways to ask that.
+/// Whether both are the same, by each way to ask that.
 fn are_same(left: &TokenStream, right: &TokenStream) -> bool {
     left == right && right == left
 }
 
-fn is_same(alloc: Global, left: &str, right: &str) -> Result<bool> {
-    Ok(are_same(&tokens(alloc, left)?, &tokens_from(alloc, right, 50)?))
+/// Spans are ignored.
+#[test]
+fn same(rt: HostRuntime) {
+    for text in ["", SAMPLE, "a == { 1 } b", "( [ { } ] )"] {
+        let left = stream(&rt, rt.alloc(), text);
+        let right = tokens_from(rt.alloc(), text, 50).expect(&rt, "a stream");
+        assert!(rt; are_same(&left, &right), "{text}");
+    }
 }
 
 /// Whether no way to ask says that both are the same.
@@ -129,22 +99,9 @@ fn are_different(left: &TokenStream, right: &TokenStream) -> bool {
     left != right && right != left
 }
 
-fn is_different(alloc: Global, left: &str, right: &str) -> Result<bool> {
-    Ok(are_different(&tokens(alloc, left)?, &tokens(alloc, right)?))
-}
-
-/// Spans are ignored.
-#[test]
-fn same(rt: HostRuntime) -> Result<()> {
-    for text in ["", SAMPLE, "a == { 1 } b", "( [ { } ] )"] {
-        assert!(rt; is_same(rt.alloc(), text, text)?, "{text}");
-    }
-    Ok(())
-}
-
 /// Spacing counts, and so does what is left out.
 #[test]
-fn different(rt: HostRuntime) -> Result<()> {
+fn different(rt: HostRuntime) {
     for (left, right) in [
         ("a == { 1 } b", "a = = { 1 } b"),
         (SAMPLE, "a = { 1 }"),
@@ -154,9 +111,10 @@ fn different(rt: HostRuntime) -> Result<()> {
         (SAMPLE, "a = { 2 } b"),
         (SAMPLE, "a ! { 1 } b"),
     ] {
-        assert!(rt; is_different(rt.alloc(), left, right)?, "{left} {right}");
+        let left = stream(&rt, rt.alloc(), left);
+        let right_stream = stream(&rt, rt.alloc(), right);
+        assert!(rt; are_different(&left, &right_stream), "{right}");
     }
-    Ok(())
 }
 
 /// Whether the tree at a place of one is equal to the one at a place of the other.
@@ -165,54 +123,38 @@ fn are_equal_trees(left: (&TokenStream, usize), right: (&TokenStream, usize)) ->
 }
 
 #[test]
-fn trees(rt: HostRuntime) -> Result<()> {
-    let stream = tokens(rt.alloc(), SAMPLE)?;
-    let elsewhere = tokens_from(rt.alloc(), SAMPLE, 50)?;
+fn trees(rt: HostRuntime) {
+    let stream = stream(&rt, rt.alloc(), SAMPLE);
+    let elsewhere = tokens_from(rt.alloc(), SAMPLE, 50).expect(&rt, "a stream");
     for (left, right) in [(0, 0), (2, 2), (2, 1), (0, 3), (3, 4), (4, 4)] {
-        let are_equal = are_equal_trees((&stream, left), (&elsewhere, right))?;
-        assert_eq!(rt; are_equal, left == right);
+        let answer = are_equal_trees((&stream, left), (&elsewhere, right));
+        assert!(rt;
+            matches!(answer, Ok(are_equal) if are_equal == (left == right)),
+            "{left} {right}"
+        );
     }
-    Ok(())
 }
 
-/// Whether the tree at this place and its copy are equal and stand at the same place.
-fn is_tree_copied(stream: &TokenStream, place: usize) -> Result<bool> {
-    let Some(tree) = stream.get(place)? else {
-        return Ok(false);
-    };
-    let copy = tree.try_clone(stream.alloc())?;
-    Ok(copy == tree && copy.span() == tree.span())
+/// Whether the tree and its copy are equal and stand at the same place.
+fn is_tree_copied(tree: &TokenTree, alloc: Global) -> bool {
+    matches!(tree.try_clone(alloc), Ok(copy) if copy == *tree && copy.span() == tree.span())
 }
 
 #[test]
-fn copied_trees(rt: HostRuntime) -> Result<()> {
-    let stream = tokens_from(rt.alloc(), "a = { 1 } 2", 7)?;
+fn copied_trees(rt: HostRuntime) {
+    let stream = tokens_from(rt.alloc(), "a = { 1 } 2", 7).expect(&rt, "a stream");
     for place in 0..4 {
-        assert!(rt; is_tree_copied(&stream, place)?, "{place}");
+        let tree = stream.get(place);
+        assert!(rt;
+            matches!(&tree, Ok(Some(tree)) if is_tree_copied(tree, rt.alloc())),
+            "{place}"
+        );
     }
-    Ok(())
 }
 
 /// A copy of the sample from byte 7 on.
 fn copied(alloc: Global) -> Result<TokenStream> {
     tokens_from(alloc, SAMPLE, 7)?.try_clone(alloc)
-}
-
-#[test]
-fn copies_have_their_spans(rt: HostRuntime) -> Result<()> {
-    let copy = copied(rt.alloc())?;
-    let want = "a@7..8 =@8..9 {@9..10 Int1@10..11 }@11..12 b@12..13";
-    assert!(rt; copy == tokens(rt.alloc(), SAMPLE)?);
-    assert_text(&rt, shown(rt.alloc(), &copy)?.as_str(), want);
-    Ok(())
-}
-
-/// The first tree of the group at 2.
-fn first_in_group(stream: &TokenStream) -> Result<Option<TokenTree>> {
-    match stream.get(2)? {
-        Some(TokenTree::Group(group)) => group.stream.get(0),
-        _ => Ok(None),
-    }
 }
 
 /// Whether the tree is this number, there.
@@ -225,17 +167,23 @@ fn is_number(tree: &TokenTree, text: &str, span: Span) -> bool {
     }
 }
 
-/// Whether there is a tree, and it is this number.
-fn is_some_number(tree: Option<TokenTree>, text: &str, span: Span) -> bool {
+/// Whether the first tree of the group is this number, there.
+fn has_number(group: &Group, text: &str, span: Span) -> bool {
+    matches!(group.stream.get(0), Ok(Some(tree)) if is_number(&tree, text, span))
+}
+
+/// Whether it is a group with that number.
+fn is_group_with(tree: &TokenTree, text: &str, span: Span) -> bool {
     match tree {
-        Some(tree) => is_number(&tree, text, span),
-        None => false,
+        TokenTree::Group(group) => has_number(group, text, span),
+        _ => false,
     }
 }
 
 #[test]
-fn literals_of_copies(rt: HostRuntime) -> Result<()> {
-    let tree = first_in_group(&copied(rt.alloc())?)?;
-    assert!(rt; is_some_number(tree, "1", at(10)));
-    Ok(())
+fn copies_have_their_spans(rt: HostRuntime) {
+    let copy = copied(rt.alloc()).expect(&rt, "a copy");
+    assert!(rt; copy == stream(&rt, rt.alloc(), SAMPLE));
+    assert!(rt; is_shown(&copy, "a@7..8 =@8..9 {@9..10 Int1@10..11 }@11..12 b@12..13"));
+    assert!(rt; matches!(copy.get(2), Ok(Some(tree)) if is_group_with(&tree, "1", at(10))));
 }

@@ -1,23 +1,23 @@
 //! What the tests share: streams from texts, texts that show streams, and what a refusal says.
 //!
-//! A test asks a small function for a text or for yes or no, and asserts that. So few values are alive at once, and little is
-//! to be proved of each function.
+//! Each test is proved, and a proof grows with every way out of a function and with what is alive there. So a test takes its
+//! stream from `stream`, which ends it where memory is refused, and asserts what a small function answers by yes or no, or calls
+//! a function that asserts and answers nothing.
 use std::alloc::Global;
 use std::process::Abort;
 use syn_outlines::stream_shown;
+use syn_parse::buffer::ParseBuffer;
+use syn_parse::parse::Parse;
+use syn_parse::read::Peek;
 use syn_tokens::delimiter::Delimiter;
 use syn_tokens::error::{Error, Result};
 use syn_tokens::ident::Ident;
 use syn_tokens::literal::{LitKind, Literal};
+use syn_tokens::print::ToTokens;
 use syn_tokens::punct::{Punct, Spacing};
 use syn_tokens::span::Span;
 use syn_tokens::stream::TokenStream;
 use syn_tokens::stream::builder::StreamBuilder;
-
-/// Fails where a text isn't what it should be.
-pub fn assert_text(rt: &impl Abort, found: &str, want: &str) {
-    assert_eq!(rt; found, want);
-}
 
 /// One byte of a text.
 pub fn at(start: usize) -> Span {
@@ -43,6 +43,11 @@ pub fn tokens_from(alloc: Global, text: &str, start: usize) -> Result<TokenStrea
         place = place.saturating_add(tokens_of(part));
     }
     builder.finish()
+}
+
+/// The same as `tokens`, which ends the test where it is refused.
+pub fn stream(rt: &impl Abort, alloc: Global, text: &str) -> TokenStream {
+    tokens(alloc, text).expect(rt, "a stream")
 }
 
 fn is_mark(part: &str) -> bool {
@@ -121,4 +126,57 @@ pub fn refused<T>(answer: &Result<T>, start: usize, text: &str) -> bool {
         Ok(_) => false,
         Err(error) => tells(error, start, text),
     }
+}
+
+/// Whether this text shows the stream.
+pub fn is_shown(stream: &TokenStream, want: &str) -> bool {
+    matches!(shown(stream.alloc(), stream), Ok(text) if text.as_str() == want)
+}
+
+/// Fails where this text doesn't show the stream.
+pub fn assert_shown(rt: &impl Abort, stream: &TokenStream, want: &str) {
+    assert!(rt; is_shown(stream, want), "{want}");
+}
+
+/// What the value prints.
+pub fn printed<T: ToTokens>(alloc: Global, value: &T) -> Result<TokenStream> {
+    let mut out = TokenStream::new(alloc);
+    value.to_tokens(&mut out)?;
+    Ok(out)
+}
+
+/// Whether what the value prints is shown by this text.
+fn is_printed<T: ToTokens>(alloc: Global, value: &T, want: &str) -> bool {
+    matches!(printed(alloc, value), Ok(out) if is_shown(&out, want))
+}
+
+/// Whether such a value is seen and parsed at the front of the buffer, and what it prints is shown by this text.
+fn is_parsed<T: Peek + Parse + ToTokens + Drop>(input: &mut ParseBuffer<'_>, want: &str) -> bool {
+    let alloc = input.alloc();
+    let seen = input.peek::<T>();
+    matches!(input.parse::<T>(), Ok(value) if seen && is_printed(alloc, &value, want))
+}
+
+/// Fails where that isn't so.
+pub fn assert_parsed<T: Peek + Parse + ToTokens + Drop>(
+    rt: &impl Abort,
+    input: &mut ParseBuffer<'_>,
+    want: &str,
+) {
+    assert!(rt; is_parsed::<T>(input, want), "{want}");
+}
+
+/// Whether the answer is a refusal with just this fault, there.
+fn is_refused_at<T>(answer: &Result<T>, span: Span, text: &str) -> bool {
+    match answer {
+        Ok(_) => false,
+        Err(error) => error.span() == span && tells(error, span.start, text),
+    }
+}
+
+/// Whether such a value is neither seen nor parsed, with a fault at the first token, and nothing of the buffer is read.
+pub fn is_left<T: Peek + Parse + Drop>(input: &mut ParseBuffer<'_>, text: &str) -> bool {
+    let before = input.span();
+    let seen = input.peek::<T>();
+    !seen && is_refused_at(&input.parse::<T>(), before, text) && input.span() == before
 }

@@ -1,13 +1,15 @@
 //! Values that were read: copies, comparisons, delimiters of groups and refusals.
-use crate::tests::support::{at, tokens, tokens_from};
+use crate::tests::support::{at, stream, tokens_from};
 use std::alloc::Global;
+use std::process::Abort;
 use syn_parse::buffer::ParseBuffer;
+use syn_parse::parse::Parse;
 use syn_parse::read::refusal::Refusal;
 use syn_parse::read::{End, Peek};
 use syn_tokens::error::Result;
 use syn_tokens::ident::Ident;
 use syn_tokens::lifetime::Lifetime;
-use syn_tokens::literal::{LitKind, Literal};
+use syn_tokens::literal::Literal;
 use syn_tokens::punctuated::Punctuated;
 use syn_tokens::span::Span;
 use syn_tokens::syntactic::compare::Compared;
@@ -18,177 +20,141 @@ const HERE: Span = Span { start: 3, end: 9 };
 
 const BEHIND: Span = Span { start: 9, end: 11 };
 
-fn name(alloc: Global, text: &str) -> Result<Ident> {
-    Ident::new(alloc, text, HERE)
-}
-
-fn number(alloc: Global, text: &str) -> Result<Literal> {
-    Literal::new(alloc, LitKind::Int, text, HERE)
+/// The value at the front of the text, whose first byte is this one.
+fn value_at<T: Parse + Drop>(alloc: Global, text: &str, start: usize) -> Result<T> {
+    let stream = tokens_from(alloc, text, start)?;
+    ParseBuffer::new(&stream).parse()
 }
 
 /// Whether the value's copy is the same as it, and not the same as the other one.
-fn is_copied<T: TryClone + Compared + Drop>(alloc: Global, value: &T, other: &T) -> Result<bool> {
-    let copy = value.try_clone(alloc)?;
-    Ok(copy.is_same(value) && !copy.is_same(other))
+fn is_copied<T: TryClone + Compared + Drop>(alloc: Global, value: &T, other: &T) -> bool {
+    matches!(value.try_clone(alloc), Ok(copy) if copy.is_same(value) && !copy.is_same(other))
 }
 
-fn is_identifier_copied(alloc: Global) -> Result<bool> {
-    is_copied(alloc, &name(alloc, "a")?, &name(alloc, "b")?)
+/// Whether that is so of the values at the front of two texts.
+fn are_copied<T: Parse + TryClone + Compared + Drop>(
+    alloc: Global,
+    text: &str,
+    other: &str,
+) -> Result<bool> {
+    let value: T = value_at(alloc, text, 0)?;
+    let other: T = value_at(alloc, other, 0)?;
+    Ok(is_copied(alloc, &value, &other))
 }
 
-fn is_literal_copied(alloc: Global) -> Result<bool> {
-    is_copied(alloc, &number(alloc, "1")?, &number(alloc, "2")?)
+fn assert_copied<T: Parse + TryClone + Compared + Drop>(
+    rt: &impl Abort,
+    alloc: Global,
+    text: &str,
+    other: &str,
+) {
+    assert!(rt;
+        matches!(are_copied::<T>(alloc, text, other), Ok(true)),
+        "{text} {other}"
+    );
 }
 
 #[test]
-fn tokens_with_texts(rt: HostRuntime) -> Result<()> {
-    assert!(rt; is_identifier_copied(rt.alloc())?);
-    assert!(rt; is_literal_copied(rt.alloc())?);
-    Ok(())
+fn parsed(rt: HostRuntime) {
+    let alloc = rt.alloc();
+    assert_copied::<Ident>(&rt, alloc, "a", "b");
+    assert_copied::<Literal>(&rt, alloc, "1", "2");
+    assert_copied::<Option<Ident>>(&rt, alloc, "a", ",");
+    assert_copied::<Option<Ident>>(&rt, alloc, ",", "a");
+    assert_copied::<Box<Ident>>(&rt, alloc, "a", "b");
 }
 
 #[test]
-fn words(rt: HostRuntime) -> Result<()> {
+fn words(rt: HostRuntime) {
     let word: Pub = Word::new(HERE);
-    assert_eq!(rt; TryClone::try_clone(&word, rt.alloc())?.span, HERE);
+    assert!(rt; matches!(TryClone::try_clone(&word, rt.alloc()), Ok(copy) if copy.span == HERE));
     assert!(rt; word.is_same(&Word::default()), "wherever they stand");
-    Ok(())
 }
 
 #[test]
-fn marks(rt: HostRuntime) -> Result<()> {
+fn marks(rt: HostRuntime) {
     let mark: Comma = Mark::new([HERE]);
-    assert_eq!(rt; TryClone::try_clone(&mark, rt.alloc())?.spans[0], HERE);
+    let nowhere = Comma::default();
+    let copy = TryClone::try_clone(&mark, rt.alloc()).expect(&rt, "a copy");
+    assert!(rt; copy.spans[0] == HERE);
     assert!(rt; mark.is_same(&Mark::new([BEHIND])), "wherever they stand");
-    assert_eq!(rt; Comma::default().spans[0], Span::call_site());
-    assert!(rt; mark == Comma::default(), "wherever they stand");
-    Ok(())
-}
-
-fn some(alloc: Global, text: &str) -> Result<Option<Ident>> {
-    Ok(Some(name(alloc, text)?))
-}
-
-fn is_some_copied(alloc: Global) -> Result<bool> {
-    is_copied(alloc, &some(alloc, "a")?, &None)
-}
-
-fn is_none_copied(alloc: Global) -> Result<bool> {
-    is_copied(alloc, &None, &some(alloc, "a")?)
-}
-
-#[test]
-fn options(rt: HostRuntime) -> Result<()> {
-    assert!(rt; is_some_copied(rt.alloc())?);
-    assert!(rt; is_none_copied(rt.alloc())?);
-    Ok(())
-}
-
-fn boxed(alloc: Global, text: &str) -> Result<Box<Ident>> {
-    Ok(Box::new(alloc, name(alloc, text)?)?)
-}
-
-fn is_box_copied(alloc: Global) -> Result<bool> {
-    is_copied(alloc, &boxed(alloc, "a")?, &boxed(alloc, "b")?)
+    assert!(rt;
+        nowhere.spans[0] == Span::call_site() && mark == nowhere,
+        "wherever they stand"
+    );
 }
 
 fn pair(alloc: Global, text: &str) -> Result<(Ident, Comma)> {
-    Ok((name(alloc, text)?, Mark::new([HERE])))
-}
-
-fn is_pair_copied(alloc: Global) -> Result<bool> {
-    is_copied(alloc, &pair(alloc, "a")?, &pair(alloc, "b")?)
+    Ok((value_at(alloc, text, 0)?, Mark::new([HERE])))
 }
 
 #[test]
-fn boxes_and_pairs(rt: HostRuntime) -> Result<()> {
-    assert!(rt; is_box_copied(rt.alloc())?);
-    assert!(rt; is_pair_copied(rt.alloc())?);
-    Ok(())
+fn pairs(rt: HostRuntime) {
+    let a = pair(rt.alloc(), "a").expect(&rt, "a pair");
+    let b = pair(rt.alloc(), "b").expect(&rt, "a pair");
+    assert!(rt; is_copied(rt.alloc(), &a, &b));
 }
 
 /// As many identifiers as there are words.
 fn names(alloc: Global, words: &str) -> Result<Vec<Ident>> {
     let mut names = Vec::new(alloc);
     for word in words.split_whitespace() {
-        names.push(name(alloc, word)?)?;
+        names.push(Ident::new(alloc, word, HERE)?)?;
     }
     Ok(names)
 }
 
-/// Whether the copy of so many names is the same as they, and not the same as the others.
-fn are_names_copied(alloc: Global, words: &str, others: &str) -> Result<bool> {
-    is_copied(alloc, &names(alloc, words)?, &names(alloc, others)?)
+#[test]
+fn vectors(rt: HostRuntime) {
+    let two = names(rt.alloc(), "a b").expect(&rt, "names");
+    for words in ["a c", "a"] {
+        let others = names(rt.alloc(), words).expect(&rt, "names");
+        assert!(rt; is_copied(rt.alloc(), &two, &others), "{words}");
+    }
 }
 
-#[test]
-fn vectors(rt: HostRuntime) -> Result<()> {
-    assert!(rt; are_names_copied(rt.alloc(), "a b", "a c")?);
-    assert!(rt; are_names_copied(rt.alloc(), "a b", "a")?);
-    Ok(())
-}
+type Names = Punctuated<Ident, Comma>;
 
 /// `a , TEXT`
-fn list(alloc: Global, text: &str) -> Result<Punctuated<Ident, Comma>> {
+fn list(alloc: Global, text: &str) -> Result<Names> {
     let mut list = Punctuated::new(alloc);
-    list.push_pair(name(alloc, "a")?, Mark::new([BEHIND]))?;
-    list.push_value(name(alloc, text)?)?;
+    list.push_pair(value_at(alloc, "a", 0)?, Mark::new([BEHIND]))?;
+    list.push_value(value_at(alloc, text, 0)?)?;
     Ok(list)
 }
 
-/// Whether the list's copy has as many values and is the same as it, and not the same as the other one.
-fn is_list_copied(
-    alloc: Global,
-    list: &Punctuated<Ident, Comma>,
-    other: &Punctuated<Ident, Comma>,
-) -> Result<bool> {
-    let copy = list.try_clone(alloc)?;
-    Ok(copy.len() == 2 && copy.is_same(list) && !copy.is_same(other))
-}
-
-fn are_lists_copied(alloc: Global) -> Result<bool> {
-    is_list_copied(alloc, &list(alloc, "b")?, &list(alloc, "c")?)
-}
-
 #[test]
-fn lists(rt: HostRuntime) -> Result<()> {
-    assert!(rt; are_lists_copied(rt.alloc())?);
-    Ok(())
+fn lists(rt: HostRuntime) {
+    let pair = list(rt.alloc(), "b").expect(&rt, "a list");
+    let other = list(rt.alloc(), "c").expect(&rt, "a list");
+    assert!(rt; is_copied(rt.alloc(), &pair, &other));
+    assert!(rt; matches!(pair.try_clone(rt.alloc()), Ok(copy) if copy.len() == 2));
 }
 
 /// The list of names that a text spells, from this byte on.
-fn list_at(alloc: Global, text: &str, start: usize) -> Result<Punctuated<Ident, Comma>> {
+fn list_at(alloc: Global, text: &str, start: usize) -> Result<Names> {
     let stream = tokens_from(alloc, text, start)?;
-    let mut input = ParseBuffer::new(&stream);
-    input.parse_terminated()
-}
-
-/// Whether the copy of a text's list is the same as it, and not the same as that of another text.
-fn is_whole_list_copied(alloc: Global, text: &str, other: &str) -> Result<bool> {
-    is_copied(alloc, &list_at(alloc, text, 0)?, &list_at(alloc, other, 0)?)
+    ParseBuffer::new(&stream).parse_terminated()
 }
 
 #[test]
-fn lists_as_values(rt: HostRuntime) -> Result<()> {
+fn lists_as_values(rt: HostRuntime) {
     for (text, other) in [
         ("", "a"),
         ("a", "a ,"),
         ("a , b ,", "a , b"),
         ("a , b", "a , c"),
     ] {
-        assert!(rt; is_whole_list_copied(rt.alloc(), text, other)?, "{text:?}");
+        let list = list_at(rt.alloc(), text, 0).expect(&rt, "a list");
+        let other = list_at(rt.alloc(), other, 0).expect(&rt, "a list");
+        assert!(rt; is_copied(rt.alloc(), &list, &other), "{text:?}");
     }
-    Ok(())
 }
 
-/// Whether the lists of two texts are equal, though they stand elsewhere.
-fn are_equal_lists(alloc: Global, left: &str, right: &str) -> Result<bool> {
-    Ok(list_at(alloc, left, 0)? == list_at(alloc, right, 20)?)
-}
-
+/// Lists are compared wherever they stand.
 #[test]
-fn equality_of_lists(rt: HostRuntime) -> Result<()> {
-    for (left, right, want) in [
+fn equality_of_lists(rt: HostRuntime) {
+    for (left, right, are_equal) in [
         ("", "", true),
         ("a", "a", true),
         ("a , b", "a , b", true),
@@ -199,38 +165,28 @@ fn equality_of_lists(rt: HostRuntime) -> Result<()> {
         ("a , b", "a", false),
         ("a , b ,", "b , a ,", false),
     ] {
-        let found = are_equal_lists(rt.alloc(), left, right)?;
-        assert_eq!(rt; found, want, "{left:?} {right:?}");
+        let list = list_at(rt.alloc(), left, 0).expect(&rt, "a list");
+        let other = list_at(rt.alloc(), right, 20).expect(&rt, "a list");
+        assert!(rt; (list == other) == are_equal, "{left:?} {right:?}");
     }
-    Ok(())
 }
 
-/// Whether two lifetimes with these names are equal, though they stand elsewhere.
-fn are_equal_lifetimes(alloc: Global, left: &str, right: &str) -> Result<bool> {
-    let left = Lifetime {
-        apostrophe: HERE,
-        ident: name(alloc, left)?,
-    };
-    let right = Lifetime {
-        apostrophe: BEHIND,
-        ident: name(alloc, right)?,
-    };
-    Ok(left == right)
-}
-
+/// Lifetimes are compared wherever they stand.
 #[test]
-fn lifetimes(rt: HostRuntime) -> Result<()> {
-    assert!(rt; are_equal_lifetimes(rt.alloc(), "a", "a")?);
-    assert!(rt; !are_equal_lifetimes(rt.alloc(), "a", "b")?);
-    Ok(())
+fn lifetimes(rt: HostRuntime) {
+    let lifetime: Lifetime = value_at(rt.alloc(), "' a", 0).expect(&rt, "a lifetime");
+    for (text, are_equal) in [("' a", true), ("' b", false)] {
+        let other: Lifetime = value_at(rt.alloc(), text, 20).expect(&rt, "a lifetime");
+        assert!(rt; (lifetime == other) == are_equal, "{text}");
+    }
 }
 
 #[test]
 fn signs(rt: HostRuntime) {
     let signs: Paren = Delimiters::new(HERE, BEHIND);
-    assert_eq!(rt; (signs.opening, signs.closing), (HERE, BEHIND));
     let nowhere: Paren = Delimiters::default();
-    assert_eq!(rt; nowhere.closing, Span::call_site());
+    assert!(rt; signs.opening == HERE && signs.closing == BEHIND);
+    assert!(rt; nowhere.closing == Span::call_site());
     assert!(rt; signs == nowhere, "wherever they stand");
 }
 
@@ -242,23 +198,31 @@ fn is_refusal(refusal: Refusal, here: Span, text: &str) -> bool {
     }
 }
 
-#[test]
-fn refusals(rt: HostRuntime) -> Result<()> {
-    let stream = tokens(rt.alloc(), "a b")?;
-    let input = ParseBuffer::new(&stream);
-    let here = input.refusal(Struct::expected());
-    assert!(rt; is_refusal(here, at(0), "expected `struct`"));
-    let behind = input.refusal_behind(PathSep::expected());
-    assert!(rt; is_refusal(behind, at(1), "expected `::`"));
-    Ok(())
+/// Whether an end that was looked for is told.
+fn is_end_told(input: &ParseBuffer<'_>) -> bool {
+    let mut lookahead = input.lookahead1();
+    let seen = lookahead.peek::<End>();
+    !seen
+        && matches!(lookahead.error().faults(), [fault] if fault.text == "unexpected end of input")
 }
 
 #[test]
-fn an_end_that_was_looked_for(rt: HostRuntime) -> Result<()> {
-    let stream = tokens(rt.alloc(), "a b")?;
-    let mut lookahead = ParseBuffer::new(&stream).lookahead1();
-    assert!(rt; !lookahead.peek::<End>());
-    let error = lookahead.error();
-    assert!(rt; matches!(error.faults(), [fault] if fault.text == "unexpected end of input"));
-    Ok(())
+fn refusals(rt: HostRuntime) {
+    let stream = stream(&rt, rt.alloc(), "a b");
+    let input = ParseBuffer::new(&stream);
+    assert!(rt;
+        is_refusal(
+            input.refusal(Struct::expected()),
+            at(0),
+            "expected `struct`"
+        )
+    );
+    assert!(rt;
+        is_refusal(
+            input.refusal_behind(PathSep::expected()),
+            at(1),
+            "expected `::`"
+        )
+    );
+    assert!(rt; is_end_told(&input));
 }

@@ -1,90 +1,105 @@
 //! The trees of a stream, gone through by their iterator.
-use crate::tests::support::tokens;
-use std::alloc::Global;
-use std::test::Fail;
+use crate::tests::support::stream;
+use std::alloc::{AllocError, Global};
 use syn_tokens::stream::TokenStream;
 use syn_tokens::stream::cursor::TokenTreeRef;
 use syn_tokens::stream::iter::Iter;
 
-/// `a (1 [ ]) ' b`, one byte each.
-fn sample(alloc: Global) -> syn_tokens::error::Result<TokenStream> {
-    tokens(alloc, "a ( 1 [ ] ) ' b")
-}
+/// One byte each.
+const SAMPLE: &str = "a ( 1 [ ] ) ' b";
 
-/// What a tree is, in a few characters.
-fn told(alloc: Global, tree: &TokenTreeRef<'_>) -> Result<String, Fail> {
+/// What shows the trees of the sample, the content of the group left out.
+const SHOWN: &str = "a@0;Paren@1-5;' Joint@6;b@7;";
+
+/// Adds what a tree is, in a few characters.
+fn add_tree(out: &mut String, tree: &TokenTreeRef<'_>) -> Result<(), AllocError> {
     let start = tree.span().start;
-    Ok(match tree {
-        TokenTreeRef::Ident(ident) => format!(in alloc; "{}@{start}", ident.text())?,
-        TokenTreeRef::Literal(literal) => format!(in alloc; "{}@{start}", literal.text())?,
+    match tree {
+        TokenTreeRef::Ident(ident) => write!(out, "{}@{start};", ident.text())?,
+        TokenTreeRef::Literal(literal) => write!(out, "{}@{start};", literal.text())?,
         TokenTreeRef::Punct(punct) => {
-            format!(in alloc; "{} {:?}@{start}", punct.character(), punct.spacing)?
+            write!(out, "{} {:?}@{start};", punct.character(), punct.spacing)?
         }
         TokenTreeRef::Group(group) => {
-            let (delimiter, closing) = (group.delimiter, group.closing.start);
-            format!(in alloc; "{delimiter:?}@{start}-{closing}")?
+            write!(
+                out,
+                "{:?}@{start}-{};",
+                group.delimiter, group.closing.start
+            )?
         }
-    })
+    }
+    Ok(())
 }
 
 /// All trees of an iterator.
-fn all_told(alloc: Global, trees: Iter<'_>) -> Result<String, Fail> {
+fn told(alloc: Global, trees: Iter<'_>) -> Result<String, AllocError> {
     let mut out = String::new(alloc);
     for tree in trees {
-        out.push_str(told(alloc, &tree)?.as_str())?;
-        out.push(';')?;
+        add_tree(&mut out, &tree)?;
     }
     Ok(out)
 }
 
-#[test]
-fn in_order(rt: HostRuntime) -> Result<(), Fail> {
-    let alloc = rt.alloc();
-    let tokens = sample(alloc)?;
-    let expected = "a@0;Paren@1-5;' Joint@6;b@7;";
-    assert_eq!(rt; all_told(alloc, tokens.iter())?.as_str(), expected);
-    assert_eq!(rt; tokens.iter().count(), tokens.len());
-    assert_eq!(rt; TokenStream::new(alloc).iter().count(), 0);
-    let mut seen = 0;
-    for tree in &tokens {
-        assert!(rt; tree.span().start < 8);
-        seen += usize::from(seen < 9);
+/// Whether this text shows the trees.
+fn are_told(alloc: Global, trees: Iter<'_>, want: &str) -> bool {
+    matches!(told(alloc, trees), Ok(text) if text.as_str() == want)
+}
+
+/// Whether the stream, gone through by itself, has so many trees, each before this byte.
+fn has_trees(stream: &TokenStream, count: usize, end: usize) -> bool {
+    let mut seen = 0usize;
+    for tree in stream {
+        if tree.span().start >= end {
+            return false;
+        }
+        seen = seen.saturating_add(1);
     }
-    assert_eq!(rt; seen, 4);
-    Ok(())
+    seen == count
 }
 
 #[test]
-fn into_groups(rt: HostRuntime) -> Result<(), Fail> {
-    let alloc = rt.alloc();
-    let tokens = sample(alloc)?;
-    let mut groups = Vec::new(alloc);
-    for tree in &tokens {
+fn in_order(rt: HostRuntime) {
+    let sample = stream(&rt, rt.alloc(), SAMPLE);
+    assert!(rt; are_told(rt.alloc(), sample.iter(), SHOWN));
+    assert!(rt; sample.iter().count() == sample.len() && has_trees(&sample, 4, 8));
+    assert!(rt; TokenStream::new(rt.alloc()).iter().count() == 0);
+}
+
+/// How many groups there are, where this text shows the trees of each.
+fn groups(stream: &TokenStream, want: &str) -> Option<usize> {
+    let mut count = 0usize;
+    for tree in stream {
         if let TokenTreeRef::Group(group) = tree {
-            groups.push(all_told(alloc, group.content.iter())?)?;
+            if !are_told(stream.alloc(), group.content.iter(), want) {
+                return None;
+            }
+            count = count.saturating_add(1);
         }
     }
-    assert_eq!(rt; groups.len(), 1);
-    assert_eq!(rt;
-        groups.first().map(|text| text.as_str()),
-        Some("1@2;Bracket@3-4;")
-    );
-    Ok(())
+    Some(count)
 }
 
 #[test]
-fn nothing_behind_the_end(rt: HostRuntime) -> Result<(), Fail> {
-    let tokens = sample(rt.alloc())?;
-    let mut trees = tokens.iter();
-    let again = trees.clone()?;
-    for _ in 0..4 {
-        assert!(rt; trees.next().is_some());
+fn into_groups(rt: HostRuntime) {
+    let sample = stream(&rt, rt.alloc(), SAMPLE);
+    assert!(rt; groups(&sample, "1@2;Bracket@3-4;") == Some(1));
+}
+
+/// Whether there are so many trees left, and none behind them.
+fn ends_behind(trees: &mut Iter<'_>, count: usize) -> bool {
+    for _ in 0..count {
+        if trees.next().is_none() {
+            return false;
+        }
     }
-    assert!(rt; trees.next().is_none());
-    assert!(rt; trees.next().is_none());
-    assert_eq!(rt;
-        all_told(rt.alloc(), again)?.as_str(),
-        "a@0;Paren@1-5;' Joint@6;b@7;"
-    );
-    Ok(())
+    trees.next().is_none() && trees.next().is_none()
+}
+
+/// A copy of an iterator stays where it was.
+#[test]
+fn nothing_behind_the_end(rt: HostRuntime) {
+    let sample = stream(&rt, rt.alloc(), SAMPLE);
+    let mut trees = sample.iter();
+    let again = trees.clone().expect(&rt, "a copy");
+    assert!(rt; ends_behind(&mut trees, 4) && are_told(rt.alloc(), again, SHOWN));
 }

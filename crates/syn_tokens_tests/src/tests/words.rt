@@ -1,144 +1,117 @@
-//! Each word: seen and read in its own text alone, and printed as that.
-use std::alloc::Global;
-use std::process::Abort;
-use syn_parse::buffer::ParseBuffer;
-use syn_tokens::error::Result;
-use syn_tokens::ident::Ident;
-use syn_tokens::print::ToTokens;
-use syn_tokens::span::Span;
-use syn_tokens::stream::TokenStream;
-use syn_tokens::stream::tree::TokenTree;
-use syn_tokens::token::{Word, WordKind, kind};
+//! Each word: seen and parsed in its own text alone, and printed as that.
+use crate::tests::spelling::assert_spelled;
+use syn_tokens::token;
 
-const HERE: Span = Span { start: 3, end: 9 };
-
-/// The stream of this one identifier.
-fn stream_of(alloc: Global, text: &str) -> Result<TokenStream> {
-    let mut stream = TokenStream::new(alloc);
-    stream.push(TokenTree::Ident(Ident::new(alloc, text, HERE)?))?;
-    Ok(stream)
-}
-
-/// Whether such a word is seen and read in the stream, and printed as it.
-fn is_read<K: WordKind>(stream: &TokenStream) -> Result<bool> {
-    let mut input = ParseBuffer::new(stream);
-    let seen = input.peek::<Word<K>>();
-    let word = input.parse::<Word<K>>()?;
-    let mut printed = TokenStream::new(stream.alloc());
-    word.to_tokens(&mut printed)?;
-    Ok(seen && word.span == HERE && input.is_empty() && printed == *stream)
-}
-
-/// Whether such a word is neither seen nor read in the stream, with this fault at its first token, and nothing is read.
-fn is_refused<K: WordKind>(stream: &TokenStream, text: &str) -> bool {
-    let mut input = ParseBuffer::new(stream);
-    let seen = input.peek::<Word<K>>();
-    let Err(error) = input.parse::<Word<K>>() else {
-        return false;
-    };
-    let told = match error.faults() {
-        [fault] => fault.span == HERE && fault.text == text,
-        _ => false,
-    };
-    !seen && told && input.peek::<Ident>()
-}
-
-/// Whether such a word is refused in this text with this fault.
-fn is_refused_in<K: WordKind>(alloc: Global, text: &str, fault: &str) -> Result<bool> {
-    Ok(is_refused::<K>(&stream_of(alloc, text)?, fault))
-}
-
-/// Whether such a word is refused where its text is a raw identifier, and in a longer one.
-fn is_no_other<K: WordKind>(alloc: Global, text: &str, fault: &str) -> Result<bool> {
-    let raw = format!(in alloc; "r#{text}")?;
-    let longer = format!(in alloc; "{text}s")?;
-    Ok(
-        is_refused_in::<K>(alloc, raw.as_str(), fault)?
-            && is_refused_in::<K>(alloc, longer.as_str(), fault)?,
-    )
-}
-
-/// Fails where such words aren't the ones of this text, and of no other.
-fn assert_word<K: WordKind>(rt: &impl Abort, alloc: Global, text: &str) -> Result<()> {
-    let fault = format!(in alloc; "expected `{text}`")?;
-    assert!(rt; is_no_other::<K>(alloc, text, fault.as_str())?, "{text}");
-    assert!(rt; is_read::<K>(&stream_of(alloc, text)?)?, "{text}");
-    Ok(())
-}
-
-/// Fails where one of these kinds isn't the word of its text.
+/// Fails where one of these types isn't the word of the first text of its row, or is the word of another text there.
 macro_rules! assert_words {
-    ($rt:ident; $($kind:ident $text:literal)*) => {
-        $(assert_word::<kind::$kind>(&$rt, $rt.alloc(), $text)?;)*
+    ($rt:ident; $($word:ident $row:literal)*) => {
+        let alloc = $rt.alloc();
+        $(assert_spelled::<token::$word>(&$rt, alloc, $row);)*
     };
 }
 
 #[test]
-fn of_items(rt: HostRuntime) -> Result<()> {
-    assert_words!(rt; Const "const" Enum "enum" Fn "fn"
-        Impl "impl" Mod "mod" Static "static");
-    Ok(())
+fn of_items(rt: HostRuntime) {
+    assert_words!(rt;
+        Const "const not r#const not consts"
+        Enum "enum not r#enum not enums"
+        Fn "fn not r#fn not fns"
+        Impl "impl not r#impl not impls"
+        Mod "mod not r#mod not mods"
+        Static "static not r#static not statics");
 }
 
 #[test]
-fn more_items(rt: HostRuntime) -> Result<()> {
-    assert_words!(rt; Struct "struct" Trait "trait" Type "type"
-        Use "use" Union "union" Macro "macro");
-    Ok(())
+fn more_items(rt: HostRuntime) {
+    assert_words!(rt;
+        Struct "struct not r#struct not structs"
+        Trait "trait not r#trait not traits"
+        Type "type not r#type not types"
+        Use "use not r#use not uses"
+        Union "union not r#union not unions"
+        Macro "macro not r#macro not macros");
 }
 
 #[test]
-fn of_paths_and_scopes(rt: HostRuntime) -> Result<()> {
-    assert_words!(rt; Crate "crate" SelfType "Self" SelfValue "self"
-        Super "super" Pub "pub" In "in");
-    Ok(())
+fn of_paths_and_scopes(rt: HostRuntime) {
+    assert_words!(rt;
+        Crate "crate not r#crate not crates"
+        SelfType "Self not r#Self not Selfs"
+        SelfValue "self not r#self not selfs"
+        Super "super not r#super not supers"
+        Pub "pub not r#pub not pubs"
+        In "in not r#in not ins");
 }
 
 #[test]
-fn of_modifiers(rt: HostRuntime) -> Result<()> {
-    assert_words!(rt; Extern "extern" Unsafe "unsafe" Safe "safe"
-        Where "where" Default "default" Auto "auto");
-    Ok(())
+fn of_modifiers(rt: HostRuntime) {
+    assert_words!(rt;
+        Extern "extern not r#extern not externs"
+        Unsafe "unsafe not r#unsafe not unsafes"
+        Safe "safe not r#safe not safes"
+        Where "where not r#where not wheres"
+        Default "default not r#default not defaults"
+        Auto "auto not r#auto not autos");
 }
 
 #[test]
-fn of_flow(rt: HostRuntime) -> Result<()> {
-    assert_words!(rt; Break "break" Continue "continue" Return "return"
-        Loop "loop" While "while" For "for");
-    Ok(())
+fn of_flow(rt: HostRuntime) {
+    assert_words!(rt;
+        Break "break not r#break not breaks"
+        Continue "continue not r#continue not continues"
+        Return "return not r#return not returns"
+        Loop "loop not r#loop not loops"
+        While "while not r#while not whiles"
+        For "for not r#for not fors");
 }
 
 #[test]
-fn of_choices(rt: HostRuntime) -> Result<()> {
-    assert_words!(rt; If "if" Else "else" Match "match"
-        Try "try" Do "do" Yield "yield");
-    Ok(())
+fn of_choices(rt: HostRuntime) {
+    assert_words!(rt;
+        If "if not r#if not ifs"
+        Else "else not r#else not elses"
+        Match "match not r#match not matchs"
+        Try "try not r#try not trys"
+        Do "do not r#do not dos"
+        Yield "yield not r#yield not yields");
 }
 
 #[test]
-fn of_values(rt: HostRuntime) -> Result<()> {
-    assert_words!(rt; As "as" False "false" True "true"
-        Underscore "_" Let "let" Box "box");
-    Ok(())
+fn of_values(rt: HostRuntime) {
+    assert_words!(rt;
+        As "as not r#as not ass"
+        False "false not r#false not falses"
+        True "true not r#true not trues"
+        Underscore "_ not r#_ not _s"
+        Let "let not r#let not lets"
+        Box "box not r#box not boxs");
 }
 
 #[test]
-fn of_binding(rt: HostRuntime) -> Result<()> {
-    assert_words!(rt; Async "async" Await "await" Dyn "dyn"
-        Move "move" Mut "mut" Ref "ref");
-    Ok(())
+fn of_binding(rt: HostRuntime) {
+    assert_words!(rt;
+        Async "async not r#async not asyncs"
+        Await "await not r#await not awaits"
+        Dyn "dyn not r#dyn not dyns"
+        Move "move not r#move not moves"
+        Mut "mut not r#mut not muts"
+        Ref "ref not r#ref not refs");
 }
 
 #[test]
-fn of_reserved(rt: HostRuntime) -> Result<()> {
-    assert_words!(rt; Abstract "abstract" Become "become" Final "final"
-        Override "override" Priv "priv");
-    Ok(())
+fn of_reserved(rt: HostRuntime) {
+    assert_words!(rt;
+        Abstract "abstract not r#abstract not abstracts"
+        Become "become not r#become not becomes"
+        Final "final not r#final not finals"
+        Override "override not r#override not overrides"
+        Priv "priv not r#priv not privs");
 }
 
 #[test]
-fn more_reserved(rt: HostRuntime) -> Result<()> {
-    assert_words!(rt; Typeof "typeof" Unsized "unsized"
-        Virtual "virtual");
-    Ok(())
+fn more_reserved(rt: HostRuntime) {
+    assert_words!(rt;
+        Typeof "typeof not r#typeof not typeofs"
+        Unsized "unsized not r#unsized not unsizeds"
+        Virtual "virtual not r#virtual not virtuals");
 }
