@@ -1,14 +1,14 @@
 #!/usr/bin/env python3
 """Compares the table of the written grammar with an oracle: an executable reading of what the grammar should be, in Python.
 
-    tools/fuzz_grammar.py --oracle FOLDER [--stage N] [--count N] [--seed N]
+    tools/fuzz_grammar.py --oracle FOLDER [--count N] [--seed N]
 
 The repository holds no oracle. Give the folder of one by --oracle, or in the environment variable ORACLE; without it nothing is compared,
 and the status is 2. It must have oracle.py (with KINDS, parse2, parse_prefix, flat, SynErr, the token classes, and a function for each
 part below) and gen.py (random sentences of its own).
 
-A stage says how far the oracle builds the grammar: the rules of whole derive inputs are compared at stage 2, those of patterns, expressions,
-blocks and statements at stage 4. Types and generic arguments are read as at stage 2 there, since the table reads no expressions in them yet.
+The oracle builds the grammar in stages. It is asked as at the one that STAGE names: whole derive inputs, patterns, expressions, and blocks
+and statements without items.
 
 Random token trees, from sentences of the table and of the oracle's own, unchanged and changed, are read by the table
 (by a reader in Python of specs/Table.antt) and by the oracle. They must agree whether the whole is read, on its print, token by token
@@ -30,26 +30,25 @@ from grammarlib.tokens import DELIMITER_TEXTS, Group, Ident, Literal, Punct, rea
 
 HERE = Path(__file__).resolve().parent
 CRATE = HERE.parent / 'crates' / 'syn_grammar'
-# of each stage, the oracle's name of a kind, and the rule that reads it
+# how far the oracle builds the grammar
+STAGE = 4
+# the oracle's name of a kind, and the rule that reads it
 KINDS = {
-    2: {'derive': 'derive_input', 'visibility': 'visibility', 'fields-unnamed': 'fields_unnamed', 'unnamed-field': 'unnamed_field',
-        'fields-named': 'fields_named', 'variant': 'variant', 'named-field': 'named_field', 'item-struct': 'structure',
-        'item-enum': 'enumeration', 'item-union': 'union_item', 'type': 'type', 'expr': 'expression'},
-    4: {'expr': 'whole_expression', 'block': 'block', 'stmt': 'statement', 'stmts': 'statements'},
+    'derive': 'derive_input', 'visibility': 'visibility', 'fields-unnamed': 'fields_unnamed', 'unnamed-field': 'unnamed_field',
+    'fields-named': 'fields_named', 'variant': 'variant', 'named-field': 'named_field', 'item-struct': 'structure',
+    'item-enum': 'enumeration', 'item-union': 'union_item', 'type': 'type', 'expr': 'whole_expression', 'block': 'block',
+    'stmt': 'statement', 'stmts': 'statements',
 }
-# of each stage, the rules of parts, which the oracle reads by a function and not by a kind
-PARTS = {
-    2: ['attributes', 'meta', 'module_path', 'type_path', 'type_words', 'return_type', 'generic_arguments', 'generic_argument',
-        'qualified_path', 'path_as_type', 'types', 'generics', 'lifetime_parameter', 'lifetimes', 'parameter_bounds', 'bound', 'trait_bound',
-        'where_clause', 'predicate', 'predicate_bounds', 'named_fields', 'unnamed_fields', 'variants', 'structure_rest',
-        'enumeration_rest', 'union_item_rest'],
-    4: ['inner_attributes', 'expression_path', 'expression_words', 'qualified_expression_path', 'path_as_expression', 'macro_invocation',
-        'pattern', 'patterns', 'expressions', 'body', 'plain_body', 'primary', 'block_like', 'if_expression', 'loop_expression', 'postfixes',
-        'unary', 'casts', 'cast', 'products', 'product', 'sum', 'shift', 'bit_and', 'bit_xor', 'bit_or', 'comparison', 'conjunction',
-        'disjunction', 'operand_rest', 'local'],
-}
-# functions of the oracle that read as at an earlier stage, since the table does
-EARLIER = {4: {'p_type': 2, 'p_angle': 2}}
+# the rules of parts, which the oracle reads by a function and not by a kind
+PARTS = [
+    'attributes', 'meta', 'module_path', 'type_path', 'type_words', 'return_type', 'generic_arguments', 'generic_argument',
+    'qualified_path', 'path_as_type', 'types', 'generics', 'lifetime_parameter', 'lifetimes', 'parameter_bounds', 'bound', 'trait_bound',
+    'where_clause', 'predicate', 'predicate_bounds', 'named_fields', 'unnamed_fields', 'variants', 'structure_rest',
+    'enumeration_rest', 'union_item_rest', 'inner_attributes', 'expression_path', 'expression_words', 'qualified_expression_path',
+    'path_as_expression', 'macro_invocation', 'pattern', 'patterns', 'expressions', 'body', 'plain_body', 'primary', 'block_like',
+    'if_expression', 'loop_expression', 'postfixes', 'unary', 'casts', 'cast', 'products', 'product', 'sum', 'shift', 'bit_and', 'bit_xor',
+    'bit_or', 'comparison', 'conjunction', 'disjunction', 'operand_rest', 'local',
+]
 # parts that the oracle reads to the end of a group alone, or refuses where the table leaves what can't follow: of these no beginnings are
 # compared
 TO_THE_END = ['meta', 'types', 'named_fields', 'unnamed_fields', 'variants', 'patterns', 'expressions', 'casts', 'cast', 'products', 'product',
@@ -150,28 +149,16 @@ PART_SENTENCES = {
 
 
 class Oracle:
-    def __init__(self, folder, stage):
+    def __init__(self, folder):
         sys.path.insert(0, str(folder))
         import gen
         import oracle
-        oracle.STAGE = stage
+        oracle.STAGE = STAGE
         self.o, self.own = oracle, gen
         self.signs = {d: '' if d == 'None' else texts[0] for d, texts in DELIMITER_TEXTS.items()}
         self.delimiters = {sign: d for d, sign in self.signs.items()}
-        for name, earlier in EARLIER.get(stage, {}).items():
-            setattr(oracle, name, self.as_at(earlier, getattr(oracle, name)))
         readers = part_readers(oracle)
-        oracle.API_KINDS.update({rule: (readers[rule], stage) for rule in PARTS[stage]})
-
-    def as_at(self, stage, read):
-        """A function of the oracle, as it is at this stage."""
-        def reads(*words):
-            now, self.o.STAGE = self.o.STAGE, stage
-            try:
-                return read(*words)
-            finally:
-                self.o.STAGE = now
-        return reads
+        oracle.API_KINDS.update({rule: (readers[rule], STAGE) for rule in PARTS})
 
     def to(self, trees):
         o = self.o
@@ -224,9 +211,9 @@ class Table:
             return None
 
 
-def pairs(stage):
-    """The kinds and parts of a stage, each with its rule."""
-    return list(KINDS[stage].items()) + [(rule, rule) for rule in PARTS[stage]]
+def pairs():
+    """The kinds and parts, each with its rule."""
+    return list(KINDS.items()) + [(rule, rule) for rule in PARTS]
 
 
 def holds_invisible(trees):
@@ -276,15 +263,15 @@ class Comparison:
 def compare(options):
     source = Source(options.crate)
     lookaheads = Lookaheads(source)
-    oracle = Oracle(options.oracle, options.stage)
-    kinds = pairs(options.stage)
+    oracle = Oracle(options.oracle)
+    kinds = pairs()
     found = Comparison(Table(Reader(lookaheads, source.table)), oracle)
     for example in parse(HERE / 'examples.txt', source.rules):
         for kind in [k for k, rule in kinds if rule == example.rule]:
             found.of(kind, example.rule, read_text(example.text))
     worked = found.inputs
     dice = random.Random(options.seed)
-    sentences, generator = Sentences(lookaheads, source.table, dice), oracle.own.G(options.seed, options.stage)
+    sentences, generator = Sentences(lookaheads, source.table, dice), oracle.own.G(options.seed, STAGE)
     started = time.time()
     while found.inputs < worked + options.count:
         kind, rule = dice.choice(kinds)
@@ -295,7 +282,7 @@ def compare(options):
         if len(trees) <= LONGEST:
             found.of(kind, rule, trees)
     print(f'{worked} worked examples and {options.count} inputs, {found.accepted} read whole, {found.begun} read in part, '
-          f'{found.differ} differ ({time.time() - started:.0f} s, seed {options.seed}, stage {options.stage})')
+          f'{found.differ} differ ({time.time() - started:.0f} s, seed {options.seed})')
     return 1 if found.differ else 0
 
 
@@ -307,7 +294,6 @@ def without_oracle(message):
 def main():
     parser = argparse.ArgumentParser(description=__doc__, formatter_class=argparse.RawDescriptionHelpFormatter)
     parser.add_argument('--oracle', type=Path, default=os.environ.get('ORACLE') and Path(os.environ['ORACLE']))
-    parser.add_argument('--stage', type=int, default=2, choices=sorted(KINDS), help='how far the oracle builds the grammar')
     parser.add_argument('--count', type=int, default=20000)
     parser.add_argument('--seed', type=int, default=1)
     parser.add_argument('--crate', type=Path, default=CRATE)

@@ -16,6 +16,7 @@ A file runs.txt holds runs apart by empty lines. Each line of one is a word, a c
     status     the exit status
     output     what it must write to standard output, as `input` is written (nothing if left out)
     faults     what it must write to standard error, in the same way
+    faults begin     how the line begins that it must write there, where the rest of it is no promise
     stdin, stdout, stderr     `closed`, `full` (the device that takes no byte) or `folder` (one that no byte can be read from),
                               in place of a pipe; nothing is compared then
     memory     how many MiB of address space the run has
@@ -32,7 +33,7 @@ from dataclasses import dataclass, field
 from pathlib import Path
 
 TOP = Path(__file__).resolve().parent.parent
-WORDS = {"run", "args", "input", "times", "before", "behind", "status", "output", "faults", "stdin", "stdout", "stderr", "memory"}
+WORDS = {"run", "args", "input", "times", "before", "behind", "status", "output", "faults", "faults begin", "stdin", "stdout", "stderr", "memory"}
 # How the name of what each compiler built ends.
 BUILDS = ("", ".by-rattle")
 ESCAPES = {b"n": b"\n", b"t": b"\t", b"\\": b"\\"}
@@ -51,6 +52,7 @@ class Run:
     faults: bytes
     places: dict = field(default_factory=dict)
     memory: int = 0
+    begins: bytes = None
 
 
 def bytes_of(text):
@@ -85,6 +87,8 @@ def run_of(lines):
     for word in ("run", "args", "status"):
         if word not in words:
             raise ValueError(f"a run has no `{word}`: {lines[0]}")
+    if {"faults", "faults begin"} <= {*words}:
+        raise ValueError(f"a run has both `faults` and `faults begin`: {lines[0]}")
     return Run(
         name=words["run"],
         args=shlex.split(words["args"]),
@@ -94,6 +98,7 @@ def run_of(lines):
         faults=bytes_of(words.get("faults", "")),
         places={it: words[it] for it in ("stdin", "stdout", "stderr") if it in words},
         memory=int(words.get("memory", 0)),
+        begins=bytes_of(words["faults begin"]) if "faults begin" in words else None,
     )
 
 
@@ -144,10 +149,18 @@ def differences(program, run):
     found = []
     if ended.returncode != run.status:
         found.append(f"status {ended.returncode} in place of {run.status}")
-    for stream, wrote, wanted in (("stdout", ended.stdout, run.output), ("stderr", ended.stderr, run.faults)):
+    for stream, wrote, wanted in (("stdout", ended.stdout, run.output), ("stderr", ended.stderr, faults_of(run, ended.stderr))):
         if stream not in run.places and wrote != wanted:
             found.append(f"{stream} {wrote[:200]!r} in place of {wanted[:200]!r}")
     return found
+
+
+def faults_of(run, wrote):
+    """What has to stand on standard error: what the run says, or this line, where the run says how it begins and it begins so."""
+    if run.begins is None:
+        return run.faults
+    is_line = wrote.endswith(b"\n") and wrote.count(b"\n") == 1
+    return wrote if is_line and wrote.startswith(run.begins) else run.begins
 
 
 def sources_of(crate):

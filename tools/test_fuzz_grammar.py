@@ -6,9 +6,8 @@ import sys
 import tempfile
 import unittest
 from pathlib import Path
-from types import SimpleNamespace
 
-from fuzz_grammar import KINDS, Oracle, PART_SENTENCES, PARTS, TO_THE_END, pairs
+from fuzz_grammar import PART_SENTENCES, PARTS, TO_THE_END, pairs
 from grammarlib.source import Source
 
 HERE = Path(__file__).resolve().parent
@@ -51,7 +50,7 @@ def __getattr__(name):
 
 def parse_prefix(kind, trees):
     trees = Mirror().back(trees)
-    found = TABLE.beginning(dict(pairs(STAGE))[kind], trees)
+    found = TABLE.beginning(dict(pairs())[kind], trees)
     if found is None or kind == WRONG:
         raise SynErr()
     return found[0], trees[len(trees) - found[1]:]
@@ -98,31 +97,18 @@ class Fuzz(unittest.TestCase):
         (Path(folder.name) / 'gen.py').write_text(GENERATOR)
         return folder.name
 
-    def test_each_stage_names_rules_of_the_table(self):
+    def test_rules_of_the_table_are_named(self):
         rules = Source(CRATE).rules
-        self.assertEqual(list(KINDS), list(PARTS))
-        for stage in KINDS:
-            found = [rule for _, rule in pairs(stage)]
-            self.assertEqual([rule for rule in found if rule not in rules], [])
-            self.assertEqual(len(found), len(set(found)))
-        self.assertLessEqual({*TO_THE_END, *PART_SENTENCES}, {rule for parts in PARTS.values() for rule in parts})
+        found = [rule for _, rule in pairs()]
+        self.assertEqual([rule for rule in found if rule not in rules], [])
+        self.assertEqual(len(found), len(set(found)))
+        self.assertLessEqual({*TO_THE_END, *PART_SENTENCES}, {*PARTS})
 
     def test_what_agrees(self):
         status, said, faults = fuzz('--oracle', self.oracle(), '--count', '60')
         self.assertEqual((status, faults), (0, ''), said)
         self.assertIn(' worked examples and 60 inputs, ', said)
-        self.assertRegex(said, r' 0 differ \(\d+ s, seed 1, stage 2\)')
-
-    def test_expressions_and_statements(self):
-        status, said, faults = fuzz('--oracle', self.oracle(), '--stage', '4', '--count', '60')
-        self.assertEqual((status, faults), (0, ''), said)
-        self.assertRegex(said, r' 0 differ \(\d+ s, seed 1, stage 4\)')
-
-    def test_a_part_is_read_as_at_an_earlier_stage(self):
-        oracle = Oracle.__new__(Oracle)
-        oracle.o = SimpleNamespace(STAGE=4)
-        self.assertEqual(oracle.as_at(2, lambda: oracle.o.STAGE)(), 2)
-        self.assertEqual(oracle.o.STAGE, 4)
+        self.assertRegex(said, r' 0 differ \(\d+ s, seed 1\)')
 
     def test_a_difference(self):
         status, said, _ = fuzz('--oracle', self.oracle('visibility'), '--count', '1')
@@ -140,7 +126,6 @@ class Fuzz(unittest.TestCase):
         self.assertIn('nothing was compared', faults)
         self.assertEqual(fuzz('--oracle', tempfile.gettempdir())[0], 2)
         self.assertEqual(fuzz(ORACLE=tempfile.gettempdir())[0], 2)
-        self.assertEqual(fuzz('--oracle', self.oracle(), '--stage', '3')[0], 2)
 
 
 if __name__ == '__main__':

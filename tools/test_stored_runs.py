@@ -51,7 +51,8 @@ class Files(unittest.TestCase):
             self.assertEqual(runs_of(f"run: a\nargs:\nstatus: 0\n{lines}\n")[0].input, wanted)
 
     def test_lines_that_say_nothing(self):
-        for text in ("run: a\nargs:\n", "args:\nstatus: 0\n", "run: a\nargs:\nstatus: 0\nstdot: x\n", "run: a\nargs:\nstatus: 0\nstatus: 1\n", "run: a\nargs:\nstatus\n"):
+        for text in ("run: a\nargs:\n", "args:\nstatus: 0\n", "run: a\nargs:\nstatus: 0\nstdot: x\n", "run: a\nargs:\nstatus: 0\nstatus: 1\n", "run: a\nargs:\nstatus\n",
+                     "run: a\nargs:\nstatus: 0\nfaults: x\nfaults begin: x\n"):
             self.assertRaises(ValueError, runs_of, text)
 
 
@@ -90,6 +91,16 @@ class Programs(unittest.TestCase):
         self.assertEqual(self.found(output=b"2 a 8\n"), ["stdout b'2 a 9\\n' in place of b'2 a 8\\n'"])
         self.assertEqual(self.found(faults=b""), ["stderr b'told\\n' in place of b''"])
         self.assertEqual(len(self.found(args=[], faults=b"told", status=1)), 3)
+
+    def test_how_a_line_begins(self):
+        self.assertEqual(runs_of("run: a\nargs:\nstatus: 1\nfaults begin: at 3:\\x20\n")[0].begins, b"at 3: ")
+        for begins in (b"", b"to", b"told\n"):
+            self.assertEqual(self.found(begins=begins), [], begins)
+        for begins in (b"x", b"old", b"told\n\n"):
+            self.assertEqual(self.found(begins=begins), [f"stderr b'told\\n' in place of {begins!r}"])
+        for script in ("printf told >&2", "echo told >&2; echo again >&2", ":"):
+            self.build("program", f"#!/bin/sh\necho '2 a 9'\n{script}\nexit 4\n")
+            self.assertEqual(len(self.found(begins=b"to")), 1, script)
 
     def test_what_stands_in_the_place_of_pipes(self):
         self.build("program", "#!/bin/sh\n[ -e /proc/self/fd/1 ] && [ -e /proc/self/fd/2 ] || exit 7\ncat || exit 8\necho x || exit 9\n")

@@ -4,16 +4,14 @@ use std::alloc::Global;
 use std::convert::From;
 use std::marker::PhantomData;
 use syn::data::Field;
-use syn::deferred::Deferred;
-use syn::lower::{Attribute, Path};
+use syn::deferred::{DeferredConstant, DeferredExpr, read_deferred_rest};
+use syn::lower::{Attribute, Path, Type};
 use syn::parse::{Parse, ParseBuffer};
-use syn::restriction::Visibility;
 use syn::stmt::{Block, Stmt};
-use syn::token::TokenStream;
-use syn::{Pat, Result, ToTokens, TryClone};
+use syn::token::{Span, TokenStream};
+use syn::{Error, Expr, Pat, Result, ToTokens, TryClone};
 use syn_pat::parsing::typed_pattern;
 use syn_test_support::outline::Outlined;
-use syn_test_support::visibilities::Visibilities;
 use syn_tokens::syntactic::compare::Compared;
 
 /// A call that reads a tree at the front of a buffer.
@@ -142,18 +140,67 @@ impl Call for WithinBlock {
     }
 }
 
-/// `Deferred::open`
-pub(crate) struct Opened;
+/// `Deferred::open` of a constant
+pub(crate) struct OpenedConstant;
 
-impl Call for Opened {
-    type Tree = Visibility;
+impl Call for OpenedConstant {
+    type Tree = Expr;
 
-    fn read(input: &mut ParseBuffer<'_>) -> Result<Visibility> {
-        let deferred: Deferred<Visibilities> = input.parse()?;
+    fn read(input: &mut ParseBuffer<'_>) -> Result<Expr> {
+        let deferred: DeferredConstant = input.parse()?;
         deferred.open()
     }
 
-    fn print(tree: &Visibility, tokens: &mut TokenStream) -> Result<()> {
+    fn print(tree: &Expr, tokens: &mut TokenStream) -> Result<()> {
+        tree.to_tokens(tokens)
+    }
+}
+
+/// `read_deferred_rest` of an expression
+pub(crate) struct Rest;
+
+impl Call for Rest {
+    type Tree = DeferredExpr;
+
+    fn read(input: &mut ParseBuffer<'_>) -> Result<DeferredExpr> {
+        Ok(read_deferred_rest(input)?)
+    }
+
+    fn print(tree: &DeferredExpr, tokens: &mut TokenStream) -> Result<()> {
+        tree.to_tokens(tokens)
+    }
+}
+
+/// `Deferred::open` of such a rest
+pub(crate) struct OpenedRest;
+
+impl Call for OpenedRest {
+    type Tree = Expr;
+
+    fn read(input: &mut ParseBuffer<'_>) -> Result<Expr> {
+        Rest::read(input)?.open()
+    }
+
+    fn print(tree: &Expr, tokens: &mut TokenStream) -> Result<()> {
+        tree.to_tokens(tokens)
+    }
+}
+
+/// `Deferred::open` of the length of an array
+pub(crate) struct OpenedLength;
+
+impl Call for OpenedLength {
+    type Tree = Expr;
+
+    fn read(input: &mut ParseBuffer<'_>) -> Result<Expr> {
+        let ty: Type = input.parse()?;
+        match &ty {
+            Type::Array(array) => array.len.open(),
+            _ => Err(Error::new(Span::call_site(), "no array")),
+        }
+    }
+
+    fn print(tree: &Expr, tokens: &mut TokenStream) -> Result<()> {
         tree.to_tokens(tokens)
     }
 }

@@ -2,8 +2,8 @@
 
 use crate::answer::answer;
 use crate::call::{
-    Converted, InnerAttributes, ModStyle, NamedField, Opened, OuterAttributes, TypedPattern,
-    UnnamedField, WithinBlock,
+    Converted, InnerAttributes, ModStyle, NamedField, OpenedConstant, OpenedLength, OpenedRest,
+    OuterAttributes, Rest, TypedPattern, UnnamedField, WithinBlock,
 };
 use crate::called::called;
 use crate::failure::Failure;
@@ -14,17 +14,16 @@ use crate::question::{Heading, Question, TreeQuestion};
 use crate::row::Row;
 use std::alloc::Global;
 use syn::data::{Fields, FieldsNamed, FieldsUnnamed, Variant};
-use syn::deferred::Deferred;
+use syn::deferred::DeferredConstant;
 use syn::derive::DeriveInput;
 use syn::item::{Item, ItemEnum, ItemStruct, ItemUnion};
 use syn::lower::{
-    self, BoundLifetimes, GenericParam, Generics, LifetimeParam, Lit, Path, ReturnType, TraitBound,
+    BoundLifetimes, GenericParam, Generics, LifetimeParam, Lit, Path, ReturnType, TraitBound,
     TraitBoundModifier, Type, TypeParamBound, TypePath, WhereClause, WherePredicate,
 };
 use syn::restriction::Visibility;
 use syn::stmt::{Block, Stmt};
-use syn::{Expr, Macro, Pat, kind};
-use syn_test_support::visibilities::Visibilities;
+use syn::{Expr, Macro, Pat};
 
 /// What comes of the row as the kind of this word, which stands in the heading.
 pub(crate) fn answer_as(
@@ -96,9 +95,7 @@ fn of_types(
         "Path" => answer::<Path>(alloc, question, row),
         "ReturnType" => answer::<ReturnType>(alloc, question, row),
         "Lit" => answer::<Lit>(alloc, question, row),
-        "lower::Expr" => answer::<lower::Expr>(alloc, question, row),
-        "Deferred<Expr>" => answer::<Deferred<kind::Expr>>(alloc, question, row),
-        "Deferred<Visibilities>" => answer::<Deferred<Visibilities>>(alloc, question, row),
+        "Deferred<Constant>" => answer::<DeferredConstant>(alloc, question, row),
         _ => of_generics(alloc, question, heading, word, row),
     }
 }
@@ -126,7 +123,7 @@ fn of_generics(
     }
 }
 
-/// Calls that read a tree; else what `of_conversions` says.
+/// Calls that read a tree; else what `of_deferred_trees` says.
 fn of_calls(
     alloc: Global,
     question: TreeQuestion,
@@ -140,7 +137,23 @@ fn of_calls(
         "Path::parse_mod_style" => called::<ModStyle>(alloc, question, row),
         "Attribute::parse_outer" => called::<OuterAttributes>(alloc, question, row),
         "Attribute::parse_inner" => called::<InnerAttributes>(alloc, question, row),
-        "Deferred::open" => called::<Opened>(alloc, question, row),
+        _ => of_deferred_trees(alloc, question, heading, word, row),
+    }
+}
+
+/// Deferred trees that calls read, and what they are once opened; else what `of_conversions` says.
+fn of_deferred_trees(
+    alloc: Global,
+    question: TreeQuestion,
+    heading: &Heading<'_>,
+    word: &str,
+    row: &Row<'_>,
+) -> Result<String, Failure> {
+    match word {
+        "Deferred<Constant>::open" => called::<OpenedConstant>(alloc, question, row),
+        "Deferred<Expr>::open" => called::<OpenedRest>(alloc, question, row),
+        "TypeArray::len" => called::<OpenedLength>(alloc, question, row),
+        "read_deferred_rest" => called::<Rest>(alloc, question, row),
         _ => of_conversions(alloc, question, heading, word, row),
     }
 }

@@ -2,13 +2,13 @@
 
 use std::alloc::{AllocError, Global};
 use std::fmt::Write as _;
-use syn::deferred::Deferred;
+use syn::deferred::DeferredExpr;
 use syn::punctuated::Punctuated;
 use syn::reader::token_text;
 use syn::token::{Comma, Eq, TokenStream, TokenTreeRef};
 use syn::{
-    Data, DataEnum, DeriveInput, Error, Field, Fields, FieldsNamed, GenericParam, Generics,
-    MemberRef, Members, Span, ToTokens, Variant, kind,
+    Data, DataEnum, DeriveInput, Error, Expr, Field, Fields, FieldsNamed, GenericParam, Generics,
+    MemberRef, Members, Span, ToTokens, Variant,
 };
 
 /// Adds the lines of a struct, an enum or a union.
@@ -132,15 +132,15 @@ fn add_type(lines: &mut String, ty: &TokenStream) -> syn::Result<()> {
     Ok(())
 }
 
-/// Adds a default or a discriminant, where there is one. Its expression is deferred: it is kept as its tokens, and is a tree once
+/// Adds a default or a discriminant, where there is one. It is a constant, and deferred: it is kept as its tokens, and is a tree once
 /// it is opened.
 fn add_value(
     lines: &mut String,
-    value: &Option<(Eq, Deferred<kind::Expr>)>,
+    value: &Option<(Eq, DeferredExpr)>,
     alloc: Global,
 ) -> syn::Result<()> {
     if let Some((_, deferred)) = value {
-        let expr = deferred.open()?;
+        let expr: Expr = deferred.open()?;
         write!(lines, " = {}", text_of(&expr, alloc)?.as_str())?;
     }
     Ok(())

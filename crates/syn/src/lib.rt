@@ -13,7 +13,6 @@ pub use syn_lower::{
     PathSegment, PredicateLifetime, PredicateType, QSelf, ReturnType, TraitBound,
     TraitBoundModifier, Type, TypeArray, TypeGroup, TypeNever, TypeParam, TypeParamBound,
     TypeParen, TypePath, TypePtr, TypeReference, TypeSlice, TypeTuple, WhereClause, WherePredicate,
-    kind,
 };
 pub use syn_parse::parse::parse2;
 pub use syn_reader::reader;
@@ -54,18 +53,17 @@ pub mod punctuated {
     pub use syn_tokens::punctuated::iterators::{IntoIter, Iter, IterMut};
 }
 
-/// What the trees of items are made of: attributes, paths, types, generics and literals; and `Expr` and `ExprLit`, which a deferred value
-/// opens to today: a literal, `true` or `false`.
+/// What the trees of items are made of: attributes, paths, types, generics and literals.
 pub mod lower {
     pub use syn_lower::{
         AngleBracketedGenericArguments, AssocType, AttrStyle, Attribute, BoundLifetimes,
-        ConstParam, Expr, ExprLit, GenericArgument, GenericParam, Generics, Index, LifetimeParam,
-        Lit, LitBool, LitByte, LitByteStr, LitCStr, LitChar, LitFloat, LitInt, LitStr, LitToken,
-        LiteralKind, MacroDelimiter, Member, Meta, MetaList, MetaNameValue,
-        ParenthesizedGenericArguments, Path, PathArguments, PathSegment, PredicateLifetime,
-        PredicateType, QSelf, ReturnType, TraitBound, TraitBoundModifier, Type, TypeArray,
-        TypeGroup, TypeNever, TypeParam, TypeParamBound, TypeParen, TypePath, TypePtr,
-        TypeReference, TypeSlice, TypeTuple, WhereClause, WherePredicate,
+        ConstParam, GenericArgument, GenericParam, Generics, Index, LifetimeParam, Lit, LitBool,
+        LitByte, LitByteStr, LitCStr, LitChar, LitFloat, LitInt, LitStr, LitToken, LiteralKind,
+        MacroDelimiter, Member, Meta, MetaList, MetaNameValue, ParenthesizedGenericArguments, Path,
+        PathArguments, PathSegment, PredicateLifetime, PredicateType, QSelf, ReturnType,
+        TraitBound, TraitBoundModifier, Type, TypeArray, TypeGroup, TypeNever, TypeParam,
+        TypeParamBound, TypeParen, TypePath, TypePtr, TypeReference, TypeSlice, TypeTuple,
+        WhereClause, WherePredicate,
     };
 }
 
@@ -113,8 +111,8 @@ pub mod stmt {
 
 /// Parts of trees that are kept as their tokens until they are opened.
 pub mod deferred {
-    pub use syn_parse::deferred::{
-        Deferred, Kind, StandsAlone, TreeKind, keep, keep_rest, read_deferred, read_deferred_rest,
+    pub use syn_recognize::deferred::{
+        Deferred, DeferredConstant, DeferredExpr, TreeOf, read_deferred, read_deferred_rest,
     };
 }
 

@@ -1,7 +1,5 @@
 //! Whole runs of the program, over readers and writers in memory.
 mod failing;
 mod flushed;
-mod refused;
 mod scarce_memory;
 mod support;
-mod words;

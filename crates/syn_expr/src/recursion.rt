@@ -11,52 +11,19 @@ ghost use Rattle.syn_expr.specs.Statements.{statements_syntax};
 use crate::trees::ExprTrees;
 use crate::{Block, Expr, Stmt};
 use std::marker::PhantomData;
-use syn_expr_parse::parsing::{Nested, Rung, block, expression, statement, statements};
+use syn_expr_parse::parsing::{
+    Inside, Knot, Rung, block, constant, expression, statement, statements,
+};
 use syn_expr_parse::trees::Trees;
 use syn_lower::carrier::Carrier;
 use syn_parse::buffer::ParseBuffer;
 use syn_parse::read::Read;
 use syn_parse::read::refusal::{Parsed, Refusal};
+use syn_recognize::deferred::TreeOf;
 use syn_tokens::error::Result;
 
 /// How many expressions and blocks may stand inside each other. The stack is memory too, and is refused for what is deeper.
 const LEVELS: u32 = 50;
-
-/// How many expressions and blocks may still stand inside, and what carries a refusal.
-type Inside<E> = (u32, PhantomData<E>);
-
-/// The functions that read nested expressions and statements, and what they are told.
-#[derive(Drop)]
-struct Knot<E, X, S> {
-    expr: X,
-    statements: S,
-    inside: Inside<E>,
-}
-
-impl<
-    E: Carrier,
-    X: Fn(Rung, &mut ParseBuffer<'_>, Inside<E>) -> std::result::Result<Box<Expr>, E>,
-    S: Fn(&mut ParseBuffer<'_>, Inside<E>) -> std::result::Result<Vec<Stmt>, E>,
-> Nested for Knot<E, X, S> {
-    type Trees = ExprTrees;
-
-    ghost may = { λ k ts. ExprTies E.is_syntax (λ e. whole e.value) (λ p. p.0 ≡ k.inside.0) ts (X.pre k.expr) (X.post k.expr)
-        × StatementsTies E.is_syntax (λ v. statements_syntax v.items) (λ p. p.0 ≡ k.inside.0) ts (S.pre k.statements) (S.post k.statements) };
-
-    fn expr(&self, rung: Rung, input: &mut ParseBuffer<'_>) -> Parsed<Box<Expr>> {
-        match (self.expr)(rung, input, (self.inside.0, PhantomData)) {
-            Ok(value) => Ok(value),
-            Err(carried) => Err(carried.refusal()),
-        }
-    }
-
-    fn statements(&self, input: &mut ParseBuffer<'_>) -> Parsed<Vec<Stmt>> {
-        match (self.statements)(input, (self.inside.0, PhantomData)) {
-            Ok(value) => Ok(value),
-            Err(carried) => Err(carried.refusal()),
-        }
-    }
-}
 
 /// An expression inside of another, or of a block.
 #[cycle(knot)]
@@ -74,6 +41,7 @@ fn nested_expr<E: Carrier>(
         expr: nested_expr::<E>,
         statements: nested_statements::<E>,
         inside: (left, inside.1),
+        trees: PhantomData::<ExprTrees>,
     };
     match expression(&knot, rung, input) {
         Ok(value) => Ok(value),
@@ -96,6 +64,7 @@ fn nested_statements<E: Carrier>(
         expr: nested_expr::<E>,
         statements: nested_statements::<E>,
         inside: (left, inside.1),
+        trees: PhantomData::<ExprTrees>,
     };
     match statements(&knot, input) {
         Ok(value) => Ok(value),
@@ -115,6 +84,27 @@ impl Read for Expr {
     }
 }
 
+/// Expressions may be deferred.
+impl TreeOf<0> for Expr {
+    fn read_tree(input: &mut ParseBuffer<'_>) -> Parsed<Expr> {
+        Ok(ExprTrees::unboxed(nested_expr::<Refusal>(Rung::Whole, input, (LEVELS, PhantomData))?))
+    }
+}
+
+/// Constants are deferred as such, and opened as expressions.
+impl TreeOf<1> for Expr {
+    #[tactic(auto, using(crate::specs::Cores::core_view))]
+    fn read_tree(input: &mut ParseBuffer<'_>) -> Parsed<Expr> {
+        let knot = Knot {
+            expr: nested_expr::<Refusal>,
+            statements: nested_statements::<Refusal>,
+            inside: (LEVELS, PhantomData),
+            trees: PhantomData::<ExprTrees>,
+        };
+        Ok(ExprTrees::unboxed(constant(&knot, input)?))
+    }
+}
+
 /// A block without inner attributes: statements in braces.
 impl Read for Block {
     ghost form = { of (rule rules.block) };
@@ -126,6 +116,7 @@ impl Read for Block {
             expr: nested_expr::<Refusal>,
             statements: nested_statements::<Refusal>,
             inside: (LEVELS, PhantomData),
+            trees: PhantomData::<ExprTrees>,
         };
         block(&knot, input)
     }
@@ -143,6 +134,7 @@ impl Read for Stmt {
             expr: nested_expr::<Refusal>,
             statements: nested_statements::<Refusal>,
             inside: (LEVELS, PhantomData),
+            trees: PhantomData::<ExprTrees>,
         };
         statement(&knot, input)
     }

@@ -27,16 +27,18 @@ ghost use Rattle.syn_expr.specs.Cores.{core_view};
 
 mod attributes;
 mod moving;
+mod parts;
 
 use crate::Expr;
 use crate::expr::{
     ExprArray, ExprAssign, ExprBinary, ExprBlock, ExprBreak, ExprCall, ExprCast, ExprContinue,
     ExprField, ExprForLoop, ExprGroup, ExprIf, ExprIndex, ExprLit, ExprLoop, ExprMacro,
     ExprMethodCall, ExprParen, ExprPath, ExprReference, ExprRepeat, ExprReturn, ExprTry, ExprTuple,
-    ExprUnary, ExprUnsafe, ExprWhile, Label,
+    ExprUnary, ExprUnsafe, ExprWhile,
 };
 use crate::op::{BinOp, UnOp};
 use crate::stmt::{Block, Local, LocalInit, LocalModifiers, Stmt};
+use parts::{boxed, labelled, out_of_box, sentence};
 use std::alloc::Global;
 use syn_expr_parse::trees::Trees;
 use syn_lower::{AngleBracketedGenericArguments, Attribute, Lit, Member, Path, QSelf, Type};
@@ -53,47 +55,6 @@ use syn_tokens::token::{
 
 /// The trees of this crate.
 pub(crate) struct ExprTrees;
-
-/// This expression in a box.
-fn boxed(expr: Expr, alloc: Global) -> Parsed<Box<Expr>>
-    ensures { OrMemory IsSyntax result (λ e. e.value ≡ expr) }
-{
-    Ok(Box::new(alloc, expr)?)
-}
-
-/// The expression in this box.
-fn out_of_box(expr: Box<Expr>) -> Expr
-    ensures { result ≡ expr.value }
-{
-    Box::into_inner(expr)
-}
-
-/// A label, or none.
-fn labelled(label: Option<(Lifetime, Colon)>) -> Option<Label>
-    ensures { maybe itself result ≡ label_syntax label }
-{
-    match label {
-        Some((name, colon_token)) => Some(Label { name, colon_token }),
-        None => None,
-    }
-}
-
-/// An expression as a statement. A macro with `;` is a macro's statement, and so is one in braces (`braces`).
-#[tactic(auto, using(crate::proofs::Statements::plain_sentence, crate::proofs::Statements::with_semicolon))]
-fn sentence(braces: bool, expr: Expr, semi: Option<Semi>) -> Stmt
-    ensures { statement_of result ≡ sentence_syntax braces (syntax_of_Expr expr) (maybe semi_syntax semi) }
-{
-    match semi {
-        Some(semi) => expr.into_stmt(Some(semi)),
-        None => {
-            if braces {
-                expr.into_stmt(None)
-            } else {
-                Stmt::Expr(expr, None)
-            }
-        }
-    }
-}
 
 impl Trees for ExprTrees {
     type Expr = Expr;

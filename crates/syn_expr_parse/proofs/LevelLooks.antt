@@ -1,19 +1,8 @@
 -- The conditions on operators, by their parts.
 use Rattle.std.proofs.Common.{◌≡◌, Bool, true, false, List, [], ◌∷◌, ◌++◌, Option, Some, None, refl}
-use Rattle.syn_grammar.specs.Tokens.{Stream, pick, or}
-use Rattle.syn_grammar.specs.Table.{at_paren, at_bracket, at_question, at_dot, at_unfinished}
+use Rattle.syn_grammar.specs.Tokens.{Stream, pick}
 use Rattle.syn_grammar.specs.Take.{Out, sees, take_mark}
-use Rattle.syn_expr_parse.specs.Levels.{Operator, arithmetic_assignments, bit_assignments, assignment_operators, first_operator, at_postfix, at_comparison}
-
-first_four : (a b c d r : Bool) → or a (or b (or c (or d r))) ≡ or (or a (or b (or c d))) r
-first_four true b c d r = refl
-first_four false true c d r = refl
-first_four false false true d r = refl
-first_four false false false d r = refl
-
-pub unfinished_seen : (ts : Stream) → sees at_unfinished ts ≡ or (sees at_postfix ts) (sees at_comparison ts)
-unfolding sees
-unfinished_seen ts = first_four (sees at_paren ts) (sees at_bracket ts) (sees at_question ts) (sees at_dot ts) (sees at_comparison ts)
+use Rattle.syn_expr_parse.specs.Levels.{Operator, arithmetic_assignments, bit_assignments, assignment_operators, first_operator}
 
 -- of two lists
 abbrev pub or_other : Option Out → Option Out → Option Out
@@ -31,7 +20,3 @@ first_of_two (o ∷ l) m ts = go (sees o.0 ts) (first_of_two l m ts)
 
 pub first_assignment : (ts : Stream) → first_operator assignment_operators ts ≡ or_other (first_operator arithmetic_assignments ts) (first_operator bit_assignments ts)
 first_assignment ts = first_of_two arithmetic_assignments bit_assignments ts
-
-pub postfix_seen : (ts : Stream) → sees at_postfix ts ≡ or (sees at_paren ts) (or (sees at_bracket ts) (or (sees at_question ts) (sees at_dot ts)))
-unfolding sees
-postfix_seen ts = refl

@@ -1,5 +1,4 @@
 pub mod Blocks
-pub mod ExpressionLooks
 pub mod Groups
 pub mod LevelLooks
 pub mod Levels

@@ -1,20 +1,21 @@
 -- A primary expression: what it is read as.
 use Rattle.std.proofs.Common.{◌≡◌, Bool, true, false, Some, None, refl, sym, ap, ◌∙◌}
 use Rattle.syn_grammar.specs.Words.{w_break, w_continue, w_false, w_return, w_true}
-use Rattle.syn_grammar.specs.Tokens.{Stream, end, leaf, punct, group, or, pick, at_word}
-use Rattle.syn_grammar.specs.Shape.{Variant, Break, Continue, Grouped, Lit, Macro, Path, Return, bracketed}
-use Rattle.syn_grammar.specs.Rules.{block_like, macro_invocation, path_as_expression, primary}
-use Rattle.syn_grammar.specs.Grammar.{Kind, Node, Token, any_literal, fits, word}
-use Rattle.syn_grammar.specs.Table.{at_any_literal, at_block_like, at_bracket, at_expression, at_invisible, at_macro, at_paren}
+use Rattle.syn_grammar.specs.Tokens.{Stream, end, leaf, punct, group, or, pick, at_lifetime, at_word}
+use Rattle.syn_grammar.specs.Shape.{Variant, Block, Break, Continue, Grouped, Lit, Macro, Path, Return, bracketed}
+use Rattle.syn_grammar.specs.Rules.{block_like, constant, macro_invocation, path_as_expression, plain_body, primary}
+use Rattle.syn_grammar.specs.Grammar.{Grammar, Kind, Node, Token, empty, ◌&◌, when◌then◌else◌, any_literal, fits, rule, word}
+use Rattle.syn_grammar.specs.Forms.{never}
+use Rattle.syn_grammar.specs.Table.{at_any_literal, at_block_like, at_brace, at_bracket, at_invisible, at_lit, at_macro, at_paren}
 use Rattle.syn_grammar.specs.Take.{Out, only, sees, take_token}
 use Rattle.syn_grammar.specs.Values.{core, new, shape}
 use Rattle.syn_grammar.specs.Run.{branch, parse_form, parse_rule, wrap}
-use Rattle.syn_grammar.proofs.Each.{primary_is}
+use Rattle.syn_grammar.proofs.Each.{constant_is, primary_is}
 use Rattle.syn_grammar.proofs.Looks.{sees_or}
 use Rattle.syn_lower.specs.Literals.{lit_form}
 use Rattle.syn_expr_parse.specs.Parts.{token_of}
 use Rattle.syn_expr_parse.specs.Postfixes.{arguments_form}
-use Rattle.syn_expr_parse.specs.Primary.{bracketed_of, break_form, brackets_form, continue_form, group_form, jump_or_path, no_literal, primary_out, return_form}
+use Rattle.syn_expr_parse.specs.Primary.{bracketed_of, break_form, brackets_form, continue_form, group_form, constant_out, jump_or_path, no_literal, primary_out, return_form}
 
 core_branch : (b : Bool) (x y x' y' : Out) → wrap core x ≡ x' → wrap core y ≡ y' → wrap core (branch b x y) ≡ pick b x' y'
 core_branch true None y x' y' e f = e
@@ -57,6 +58,16 @@ literals false false true x y (Some p) o o' e f g h = ap (wrap (new Lit)) (sym g
 literals false false false x y z None o' e f g h = h
 literals false false false x y z (Some p) o' e f g h = h
 
+-- a literal alone
+lone_literals : (a b : Bool) (x y z : Out) → wrap token_of x ≡ x → wrap token_of y ≡ y → wrap token_of z ≡ z →
+    wrap core (branch a (wrap (new Lit) x) (branch b (wrap (new Lit) y) (wrap (new Lit) z))) ≡ wrap (new Lit) (wrap token_of (branch a x (branch b y z)))
+lone_literals true b None y z e f g = refl
+lone_literals true b (Some p) y z e f g = ap (wrap (new Lit)) (sym e)
+lone_literals false true x None z e f g = refl
+lone_literals false true x (Some p) z e f g = ap (wrap (new Lit)) (sym f)
+lone_literals false false x y None e f g = refl
+lone_literals false false x y (Some p) e f g = ap (wrap (new Lit)) (sym g)
+
 -- a token is itself
 token_taken : (k : Kind) (ts : Stream) → wrap token_of (take_token k ts) ≡ take_token k ts
 unfolding take_token
@@ -69,7 +80,7 @@ token_taken k (leaf x sp m) = go (fits k x)
     go true = refl
     go false = refl
 
-literal_seen : (ts : Stream) → or (sees (at_word w_true) ts) (or (sees (at_word w_false) ts) (sees at_any_literal ts)) ≡ sees at_expression ts
+literal_seen : (ts : Stream) → or (sees (at_word w_true) ts) (or (sees (at_word w_false) ts) (sees at_any_literal ts)) ≡ sees at_lit ts
 literal_seen ts = sym (sees_or (at_word w_true) _ ts ∙ ap (or (sees (at_word w_true) ts)) (sees_or (at_word w_false) at_any_literal ts))
 
 pub primary_are : (ts : Stream) → parse_rule primary ts ≡ wrap Node (primary_out ts)
@@ -78,3 +89,14 @@ primary_are ts =
     ∙ ap (wrap Node) (literals (sees (at_word w_true) ts) (sees (at_word w_false) ts) (sees at_any_literal ts) (take_token (word w_true) ts) (take_token (word w_false) ts) (take_token any_literal ts) _ (no_literal ts)
     (token_taken (word w_true) ts) (token_taken (word w_false) ts) (token_taken any_literal ts) (no_literals ts)
     ∙ ap (λ b. pick b (wrap (new Lit) (wrap token_of (parse_form lit_form ts))) (no_literal ts)) (literal_seen ts))
+
+-- a block without a label
+abbrev unlabelled : Grammar
+unlabelled = (when at_lifetime then never else empty) & rule plain_body
+
+pub constant_are : (ts : Stream) → parse_rule constant ts ≡ wrap Node (constant_out ts)
+constant_are ts =
+    constant_is ts
+    ∙ ap (wrap Node) (core_branch (sees at_brace ts) _ _ _ _ (core_new Block (parse_form unlabelled ts))
+    (lone_literals (sees (at_word w_true) ts) (sees (at_word w_false) ts) (take_token (word w_true) ts) (take_token (word w_false) ts) (take_token any_literal ts)
+    (token_taken (word w_true) ts) (token_taken (word w_false) ts) (token_taken any_literal ts)))

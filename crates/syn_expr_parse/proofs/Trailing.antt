@@ -1,25 +1,18 @@
 -- What an expression was read from ends with braces exactly where its tree does.
-use Rattle.std.proofs.Common.{◌≡◌, Bool, true, false, List, [], ◌∷◌, Some, refl, sym, ap, ◌∙◌, ◌⊎◌, inl, inr, true≢false}
-use Rattle.syn_grammar.specs.Tokens.{Delimiter, Paren, Brace, Bracket, None, Stream, end, leaf, punct, group, ident, ◌⧺◌, and, pick}
-use Rattle.syn_grammar.specs.Rules.{Rule, attributes, module_path, module_words, type_path, type_words, type_arguments, return_type, generic_arguments, qualified_path, path_as_type, type, expression_path, expression_words, qualified_expression_path, path_as_expression, macro_invocation, pattern, block, body, primary, block_like, if_expression, loop_expression, postfixes, member, unary, casts, cast, products, product, sums, sum, shifts, shift, bit_ands, bit_and, bit_xors, bit_xor, bit_ors, bit_or, compared, comparison, conjunctions, conjunction, disjunctions, disjunction, assigned, whole_expression, plain_body}
-use Rattle.syn_grammar.specs.RuleNumbers.{same_rule}
-use Rattle.syn_grammar.specs.Grammar.{Syntax, Nothing, Token, Mark, Lifetime, Both, Left, Right, Node, Group, Raw, Case, Such, Shaped, Unshown, Order, Spelled, vacant, ends_brace, trailing_brace, Grammar, empty, token, mark, lifetime, ◌&◌, when◌then◌else◌, inside, raw, either, one_of, rule, such, shaped, unshown, ordered, vanishing, rest_after, captured, supplied, row, generics_before, among, DerivesPrefix}
+use Rattle.std.proofs.Common.{◌≡◌, Bool, true, false, List, [], ◌∷◌, Some, refl, sym, ap, ◌∙◌, true≢false}
+use Rattle.syn_grammar.specs.Tokens.{Stream, end, leaf, punct, group, ident, ◌⧺◌, and, pick}
+use Rattle.syn_grammar.specs.Rules.{whole_expression}
+use Rattle.syn_grammar.specs.Grammar.{Syntax, Nothing, Token, Mark, Lifetime, Both, Left, Right, Node, Group, Raw, Case, Such, Shaped, Unshown, Order, Spelled, vacant, ends_brace, trailing_brace, Grammar, empty, token, mark, lifetime, ◌&◌, when◌then◌else◌, inside, raw, either, one_of, rule, such, shaped, unshown, ordered, vanishing, rest_after, captured, supplied, row, generics_before, DerivesPrefix}
 use Rattle.syn_grammar.specs.Table.{table}
 use Rattle.syn_grammar.specs.Take.{before}
 use Rattle.syn_grammar.specs.Run.{parse_rule}
-use Rattle.syn_grammar.proofs.RuleLemmas.{same_rule_eq}
-use Rattle.syn_grammar.proofs.Sets.{or_split, and_left, and_right}
+use Rattle.syn_grammar.proofs.Sets.{and_left, and_right}
 use Rattle.syn_grammar.proofs.Streams.{append_append}
 use Rattle.syn_grammar.proofs.Extend.{carried}
 use Rattle.syn_grammar.proofs.Takes.{before_is}
 use Rattle.syn_grammar.proofs.Means.{means, holds_value}
-use Rattle.syn_expr_parse.specs.Trailing.{is_brace, ends_by}
-
-ends_append : (b : Bool) (i j : Stream) → ends_by b (i ⧺ j) ≡ ends_by (ends_by b i) j
-ends_append b end j = refl
-ends_append b (leaf x sp m) j = ends_append false m j
-ends_append b (punct c k sp m) j = ends_append false m j
-ends_append b (group d o c i m) j = ends_append (is_brace d) m j
+use Rattle.syn_recognize.specs.Trailing.{ends_by}
+use Rattle.syn_recognize.proofs.Ends.{ends_append, tells, known_tells, named, brace_is, raw_is}
 
 -- where nothing was read, no braces were
 vacant_ends : (s : Syntax) → vacant s ≡ true → ends_brace s ≡ false
@@ -50,74 +43,9 @@ mark_ends (x ∷ y ∷ l) ts r h =
     let (i, e, k) = mark_ends (y ∷ l) h.0 r h.2 in
     (punct x.0 true x.1 i, h.1 ∙ ap (punct x.0 true x.1) e, λ b. k false)
 
--- THE FORMS of which this holds, where it holds of these rules: none is kept as tokens, left out, or a row by itself
-abbrev known : List Rule
-known =
-    attributes ∷ module_path ∷ module_words ∷ type_path ∷ type_words ∷ type_arguments ∷ return_type ∷ generic_arguments ∷ qualified_path ∷ path_as_type ∷ type
-    ∷ expression_path ∷ expression_words ∷ qualified_expression_path ∷ path_as_expression ∷ macro_invocation ∷ pattern ∷ block ∷ body ∷ plain_body ∷ primary ∷ block_like
-    ∷ if_expression ∷ loop_expression ∷ postfixes ∷ member ∷ unary ∷ casts ∷ cast ∷ products ∷ product ∷ sums ∷ sum ∷ shifts ∷ shift ∷ bit_ands ∷ bit_and ∷ bit_xors
-    ∷ bit_xor ∷ bit_ors ∷ bit_or ∷ compared ∷ comparison ∷ conjunctions ∷ conjunction ∷ disjunctions ∷ disjunction ∷ assigned ∷ whole_expression ∷ []
-
-abbrev told_of : List Rule → Bool
-told_of [] = true
-told_of (k ∷ ks) = and (among k known) (told_of ks)
-
-abbrev tells : Grammar → Bool
-tells empty = true
-tells (token b k) = true
-tells (mark b cs) = true
-tells lifetime = true
-tells (g & h) = and (tells g) (tells h)
-tells (when c then g else h) = and (tells g) (tells h)
-tells (inside d g) = true
-tells (raw d) = true
-tells (either g h) = and (tells g) (tells h)
-tells (one_of ks) = told_of ks
-tells (rule k) = among k known
-tells (such q g) = tells g
-tells (shaped j g) = tells g
-tells unshown = true
-tells (ordered g h) = true
-tells _ = false
-
-abbrev all_tell : List Rule → Bool
-all_tell [] = true
-all_tell (k ∷ ks) = and (tells (table k)) (all_tell ks)
-
-in_list : (ks : List Rule) (k : Rule) → among k ks ≡ true → all_tell ks ≡ true → tells (table k) ≡ true
-in_list [] k e h = absurd (true≢false (sym e))
-in_list (l ∷ ks) k e h = go (or_split (same_rule k l) (among k ks) e) (in_list ks k)
-  where
-    go : (same_rule k l ≡ true) ⊎ (among k ks ≡ true) → (among k ks ≡ true → all_tell ks ≡ true → tells (table k) ≡ true) → tells (table k) ≡ true
-    go (inl s) more = ap (λ z. tells (table z)) (same_rule_eq k l s) ∙ and_left (tells (table l)) _ h
-    go (inr s) more = more s (and_right (tells (table l)) _ h)
-
-known_tells : (k : Rule) → among k known ≡ true → tells (table k) ≡ true
-known_tells k e = in_list known k e refl
-
-named : (ks : List Rule) (k : Rule) → among k ks ≡ true → told_of ks ≡ true → among k known ≡ true
-named [] k e h = absurd (true≢false (sym e))
-named (l ∷ ks) k e h = go (or_split (same_rule k l) (among k ks) e) (named ks k)
-  where
-    go : (same_rule k l ≡ true) ⊎ (among k ks ≡ true) → (among k ks ≡ true → told_of ks ≡ true → among k known ≡ true) → among k known ≡ true
-    go (inl s) more = ap (λ z. among z known) (same_rule_eq k l s) ∙ and_left (among l known) _ h
-    go (inr s) more = more s (and_right (among l known) _ h)
-
 -- these trees were read, and the last of them is a group in braces where the syntax tree ends with one
 abbrev Told : Syntax → Stream → Stream → Type 0
 Told s ts r = (i : Stream) × (ts ≡ i ⧺ r) × ((b : Bool) → ends_by b i ≡ pick (vacant s) b (ends_brace s))
-
-brace_is : (d : Delimiter) (o c : _) (s : Syntax) → is_brace d ≡ ends_brace (Group d o c s)
-brace_is Paren o c s = refl
-brace_is Brace o c s = refl
-brace_is Bracket o c s = refl
-brace_is None o c s = refl
-
-raw_is : (d : Delimiter) (o c : _) (i : Stream) → is_brace d ≡ ends_brace (Raw d o c i)
-raw_is Paren o c i = refl
-raw_is Brace o c i = refl
-raw_is Bracket o c i = refl
-raw_is None o c i = refl
 
 told : (g : Grammar) (s : Syntax) (ts r : Stream) → tells g ≡ true → DerivesPrefix table g s ts r → Told s ts r
 told empty Nothing ts r w h = (end, h, λ b. refl)

@@ -1,12 +1,12 @@
 -- LEVELS OF OPERATORS: what a level's chain is read by, and what it makes of the expression that stands before it.
 use Rattle.std.specs.Prelude.{◌≡◌, ◌<◌, List, [], ◌∷◌, ◌++◌, Option, Some, None, Result, Ok, Err}
 use Rattle.syn_grammar.specs.Words.{Text, star, slash, percent, plus, minus, less_less, greater_greater, ampersand, caret, bar, equal_equal, not_equals, less, greater, less_equals, greater_equals, and_and, or_or, plus_equals, minus_equals, star_equals, slash_equals, percent_equals, caret_equals, ampersand_equals, bar_equals, less_less_equals, greater_greater_equals}
-use Rattle.syn_grammar.specs.Tokens.{Stream, no, pick, Look, at_mark, ◌or_else◌}
+use Rattle.syn_grammar.specs.Tokens.{Stream, no, pick, Look, at_mark}
 use Rattle.syn_grammar.specs.Shape.{Variant, Assign, Binary, Cast, operator}
 use Rattle.syn_grammar.specs.Rules.{Rule, type, postfixes, casts, products, sums, shifts, bit_ands, bit_xors, bit_ors, compared, conjunctions, disjunctions, assigned, whole_expression}
 use Rattle.syn_grammar.specs.Grammar.{Syntax, Both, Node, Grammar, empty, ◌&◌, when◌then◌else◌, rule, shaped}
 use Rattle.syn_grammar.specs.Forms.{punctuation}
-use Rattle.syn_grammar.specs.Table.{at_paren, at_bracket, at_question, at_dot, at_less, at_greater, at_star_operator, at_slash_operator, at_percent_operator, at_plus_operator, at_minus_operator, at_less_less_operator, at_greater_greater_operator, at_ampersand_operator, at_caret_operator, at_bar_operator, at_less_operator, at_greater_operator, at_unfinished}
+use Rattle.syn_grammar.specs.Table.{at_star_operator, at_slash_operator, at_percent_operator, at_plus_operator, at_minus_operator, at_less_less_operator, at_greater_greater_operator, at_ampersand_operator, at_caret_operator, at_bar_operator, at_less_operator, at_greater_operator, at_unfinished}
 use Rattle.syn_grammar.specs.Take.{Out, Parser, only, sees, take_mark, left}
 use Rattle.syn_grammar.specs.Values.{core, onto, new}
 use Rattle.syn_grammar.specs.Run.{wrap, parse_rule}
@@ -145,11 +145,3 @@ then_core None f = None
 abbrev pub rest_out : Rule → List Rule → Syntax → Parser
 rest_out k [] a ts = wrap (onto a) (parse_rule k ts)
 rest_out k (n ∷ l) a ts = then_core (wrap (onto a) (parse_rule k ts)) (rest_out n l)
-
--- WHAT A WHOLE EXPRESSION ISN'T FOLLOWED BY: a postfix, and a comparison
-
-abbrev pub at_postfix : Look
-at_postfix = at_paren or_else at_bracket or_else at_question or_else at_dot
-
-abbrev pub at_comparison : Look
-at_comparison = at_mark equal_equal or_else at_mark not_equals or_else at_less or_else at_greater

@@ -12,5 +12,4 @@ pub mod Postfixes
 pub mod Primary
 pub mod Spines
 pub mod StatementForms
-pub mod Trailing
 pub mod Unary

@@ -5,7 +5,7 @@ use Rattle.syn_grammar.specs.Shape.{Break, Continue, Grouped, Lit, Macro, Path, 
 use Rattle.syn_grammar.specs.Rules.{array_content, block_like, macro_invocation, path_as_expression, whole_expression}
 use Rattle.syn_grammar.specs.Grammar.{Grammar, empty, lifetime, word, ◌&◌, when◌then◌else◌, inside, rule}
 use Rattle.syn_grammar.specs.Forms.{never, plainly}
-use Rattle.syn_grammar.specs.Table.{at_block_like, at_bracket, at_expression, at_invisible, at_macro, at_paren, at_whole_expression}
+use Rattle.syn_grammar.specs.Table.{at_block_like, at_brace, at_bracket, at_invisible, at_lit, at_macro, at_paren, at_whole_expression, else_block}
 use Rattle.syn_grammar.specs.Take.{Out, Parser, sees}
 use Rattle.syn_grammar.specs.Values.{core, new, shape}
 use Rattle.syn_grammar.specs.Run.{parse_form, parse_rule, wrap}
@@ -49,4 +49,8 @@ no_literal ts =
     (pick (sees at_block_like ts) (wrap core (parse_rule block_like ts)) (jump_or_path ts)))))
 
 abbrev pub primary_out : Parser
-primary_out ts = pick (sees at_expression ts) (wrap (new Lit) (wrap token_of (parse_form lit_form ts))) (no_literal ts)
+primary_out ts = pick (sees at_lit ts) (wrap (new Lit) (wrap token_of (parse_form lit_form ts))) (no_literal ts)
+
+-- a constant: a block, or a literal
+abbrev pub constant_out : Parser
+constant_out ts = pick (sees at_brace ts) (parse_form else_block ts) (wrap (new Lit) (wrap token_of (parse_form lit_form ts)))

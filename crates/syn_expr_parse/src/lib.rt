@@ -4,7 +4,6 @@
 
 mod compare;
 mod copies;
-mod looks;
 pub mod op;
 pub mod parsing;
 mod prints;

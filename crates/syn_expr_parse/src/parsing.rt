@@ -2,6 +2,7 @@
 
 mod blocks;
 mod groups;
+mod knot;
 mod levels;
 mod nested;
 mod postfix;
@@ -12,6 +13,8 @@ mod trailing;
 mod unary;
 
 pub use blocks::block;
+pub use knot::{Inside, Knot};
 pub use nested::{Block, Expr, LocalInit, Nested, Rung, Stmt};
+pub use primary::constant;
 pub use recursion::expression;
 pub use stmts::{statement, statements};

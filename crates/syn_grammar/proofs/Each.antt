@@ -2,7 +2,7 @@
 -- What each rule reads is what its form reads.
 use Rattle.std.specs.Prelude.{◌≡◌}
 use Rattle.syn_grammar.specs.Tokens.{Stream}
-use Rattle.syn_grammar.specs.Rules.{attributes, inner_attributes, no_attributes, meta, unsafe_path, unsafe_word, meta_value, module_path, module_words, visibility, restriction, type_path, type_words, type_arguments, return_type, generic_arguments, generic_argument, qualified_path, path_as_type, type, types, expression, generics, lifetime_parameter, lifetimes, parameter_bounds, bound, trait_bound, bound_lifetimes, lifetime_parameters, where_clause, predicates, predicate, predicate_bounds, fields_named, named_fields, named_field, nameless_fields, unnamed_field, unnamed_fields, fields_unnamed, variant, variants, structure, structure_rest, structure_body, enumeration, enumeration_rest, union_item, union_item_rest, derive_input, expression_path, expression_words, qualified_expression_path, path_as_expression, macro_invocation, pattern, patterns, expressions, array_content, block, body, plain_body, no_inner_attributes, primary, block_like, if_expression, loop_expression, postfixes, member, unary, casts, cast, products, product, sums, sum, shifts, shift, bit_ands, bit_and, bit_xors, bit_xor, bit_ors, bit_or, compared, comparison, conjunctions, conjunction, disjunctions, disjunction, assigned, whole_expression, operand_rest, statements, statement_rest, after_block, after_expression, statement, statement_end, local}
+use Rattle.syn_grammar.specs.Rules.{attributes, inner_attributes, meta, unsafe_path, unsafe_word, meta_value, module_path, module_words, visibility, restriction, type_path, type_words, type_arguments, return_type, generic_arguments, generic_argument, qualified_path, path_as_type, type, types, constant, generics, lifetime_parameter, lifetimes, parameter_bounds, bound, trait_bound, bound_lifetimes, lifetime_parameters, where_clause, predicates, predicate, predicate_bounds, fields_named, named_fields, named_field, nameless_fields, unnamed_field, unnamed_fields, fields_unnamed, variant, variants, structure, structure_rest, structure_body, enumeration, enumeration_rest, union_item, union_item_rest, derive_input, expression_path, expression_words, qualified_expression_path, path_as_expression, macro_invocation, pattern, patterns, expressions, array_content, block, body, plain_body, no_inner_attributes, primary, block_like, if_expression, loop_expression, postfixes, member, unary, casts, cast, products, product, sums, sum, shifts, shift, bit_ands, bit_and, bit_xors, bit_xor, bit_ors, bit_or, compared, comparison, conjunctions, conjunction, disjunctions, disjunction, assigned, whole_expression, operand_rest, statements, statement_rest, after_block, after_expression, statement, statement_end, local}
 use Rattle.syn_grammar.specs.Grammar.{Node}
 use Rattle.syn_grammar.specs.Table.{table}
 use Rattle.syn_grammar.specs.Run.{wrap, parse_rule, parse_form}
@@ -13,9 +13,6 @@ attributes_is = parse_rule_is attributes
 
 pub inner_attributes_is : (ts : Stream) → parse_rule inner_attributes ts ≡ wrap Node (parse_form (table inner_attributes) ts)
 inner_attributes_is = parse_rule_is inner_attributes
-
-pub no_attributes_is : (ts : Stream) → parse_rule no_attributes ts ≡ wrap Node (parse_form (table no_attributes) ts)
-no_attributes_is = parse_rule_is no_attributes
 
 pub meta_is : (ts : Stream) → parse_rule meta ts ≡ wrap Node (parse_form (table meta) ts)
 meta_is = parse_rule_is meta
@@ -71,8 +68,8 @@ type_is = parse_rule_is type
 pub types_is : (ts : Stream) → parse_rule types ts ≡ wrap Node (parse_form (table types) ts)
 types_is = parse_rule_is types
 
-pub expression_is : (ts : Stream) → parse_rule expression ts ≡ wrap Node (parse_form (table expression) ts)
-expression_is = parse_rule_is expression
+pub constant_is : (ts : Stream) → parse_rule constant ts ≡ wrap Node (parse_form (table constant) ts)
+constant_is = parse_rule_is constant
 
 pub generics_is : (ts : Stream) → parse_rule generics ts ≡ wrap Node (parse_form (table generics) ts)
 generics_is = parse_rule_is generics

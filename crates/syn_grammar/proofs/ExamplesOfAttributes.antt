@@ -3,7 +3,7 @@
 use Rattle.std.proofs.Common.{true, false, [], ◌∷◌, refl}
 use Rattle.syn_grammar.specs.Words.{w_underscore, w_unsafe}
 use Rattle.syn_grammar.specs.Tokens.{call_site, Paren, Brace, Bracket, Str, Int, ident, literal, end, leaf, punct, group}
-use Rattle.syn_grammar.specs.Rules.{attributes, inner_attributes, no_attributes, meta, unsafe_path, unsafe_word, meta_value}
+use Rattle.syn_grammar.specs.Rules.{attributes, inner_attributes, meta, unsafe_path, unsafe_word, meta_value}
 use Rattle.syn_grammar.specs.Grammar.{rule}
 use Rattle.syn_grammar.specs.Take.{left, is_end, lookahead_at, sees, take_token, take_lifetime, take_mark, take_group, before}
 use Rattle.syn_grammar.specs.Run.{rows_for, rows, run, parse_rule}
@@ -473,39 +473,3 @@ inner_in_braces : NotDerived (rule inner_attributes)
     (punct 35 true (at 0 1) (punct 33 false (at 1 2) (group Brace (at 2 3) (at 4 5) (leaf (ident (97 ∷ [])) (at 3 4) end) end)))
 unfolding left is_end lookahead_at sees take_token take_lifetime take_mark take_group before rows_for rows run parse_rule
 inner_in_braces = not_read inner_attributes _ refl
-
--- no tokens prints ``
-no_attributes_none : DerivesAs no_attributes
-    (end)
-    (end)
-    (end)
-unfolding left is_end lookahead_at sees take_token take_lifetime take_mark take_group before rows_for rows run parse_rule
-no_attributes_none = computed no_attributes _ _ _ refl
-
--- `a` prints `` and leaves `a`
-no_attributes_leaves : DerivesAs no_attributes
-    (leaf (ident (97 ∷ [])) (at 0 1) end)
-    (end)
-    (leaf (ident (97 ∷ [])) (at 0 1) end)
-unfolding left is_end lookahead_at sees take_token take_lifetime take_mark take_group before rows_for rows run parse_rule
-no_attributes_leaves = computed no_attributes _ _ _ refl
-
--- `#[a]`: nothing is read
-no_attributes_outer : NotDerived (rule no_attributes)
-    (punct 35 false (at 0 1) (group Bracket (at 1 2) (at 3 4) (leaf (ident (97 ∷ [])) (at 2 3) end) end))
-unfolding left is_end lookahead_at sees take_token take_lifetime take_mark take_group before rows_for rows run parse_rule
-no_attributes_outer = not_read no_attributes _ refl
-
--- `#![a] b`: nothing is read
-no_attributes_inner : NotDerived (rule no_attributes)
-    (punct 35 true (at 0 1) (punct 33 false (at 1 2) (group Bracket (at 2 3) (at 4 5) (leaf (ident (97 ∷ [])) (at 3 4) end) (leaf (ident (98 ∷ [])) (at 6 7) end))))
-unfolding left is_end lookahead_at sees take_token take_lifetime take_mark take_group before rows_for rows run parse_rule
-no_attributes_inner = not_read no_attributes _ refl
-
--- `a #[b]` prints `` and leaves `a #[b]`
-no_attributes_leaves_behind : DerivesAs no_attributes
-    (leaf (ident (97 ∷ [])) (at 0 1) (punct 35 false (at 2 3) (group Bracket (at 3 4) (at 5 6) (leaf (ident (98 ∷ [])) (at 4 5) end) end)))
-    (end)
-    (leaf (ident (97 ∷ [])) (at 0 1) (punct 35 false (at 2 3) (group Bracket (at 3 4) (at 5 6) (leaf (ident (98 ∷ [])) (at 4 5) end) end)))
-unfolding left is_end lookahead_at sees take_token take_lifetime take_mark take_group before rows_for rows run parse_rule
-no_attributes_leaves_behind = computed no_attributes _ _ _ refl

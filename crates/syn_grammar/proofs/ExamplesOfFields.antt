@@ -1,7 +1,7 @@
 -- Written by tools/grammar.py from specs/Table.antt; edits are lost.
 -- Worked examples of fields and variants, from tools/examples.txt: what each rule reads, prints and refuses. The checker computes each.
 use Rattle.std.proofs.Common.{true, false, [], ◌∷◌, refl}
-use Rattle.syn_grammar.specs.Words.{w_underscore, w_crate, w_false, w_fn, w_in, w_pub, w_Self_type, w_self, w_struct, w_super, w_true, w_union, w_auto, w_default, w_safe}
+use Rattle.syn_grammar.specs.Words.{w_underscore, w_as, w_crate, w_false, w_fn, w_in, w_pub, w_Self_type, w_self, w_struct, w_super, w_true, w_union, w_auto, w_default, w_safe}
 use Rattle.syn_grammar.specs.Tokens.{call_site, Paren, Brace, Bracket, None, Int, ident, literal, end, leaf, punct, group}
 use Rattle.syn_grammar.specs.Rules.{fields_named, named_fields, named_field, nameless_fields, unnamed_field, unnamed_fields, fields_unnamed, variant, variants}
 use Rattle.syn_grammar.specs.Grammar.{rule}
@@ -253,13 +253,43 @@ named_leaves_pub : DerivesAs named_field
 unfolding left is_end lookahead_at sees take_token take_lifetime take_mark take_group before rows_for rows run parse_rule
 named_leaves_pub = computed named_field _ _ _ refl
 
--- `a: b = true =` prints `a : b = true` and leaves `=`
-named_default_leaves_equals : DerivesAs named_field
+-- `a: b = true =`: nothing is read
+named_default_two_equals : NotDerived (rule named_field)
     (leaf (ident (97 ∷ [])) (at 0 1) (punct 58 false (at 1 2) (leaf (ident (98 ∷ [])) (at 3 4) (punct 61 false (at 5 6) (leaf (ident w_true) (at 7 11) (punct 61 false (at 12 13) end))))))
-    (leaf (ident (97 ∷ [])) call_site (punct 58 false call_site (leaf (ident (98 ∷ [])) call_site (punct 61 false call_site (leaf (ident w_true) call_site end)))))
-    (punct 61 false (at 12 13) end)
 unfolding left is_end lookahead_at sees take_token take_lifetime take_mark take_group before rows_for rows run parse_rule
-named_default_leaves_equals = computed named_field _ _ _ refl
+named_default_two_equals = not_read named_field _ refl
+
+-- `a: b = 1 + c` prints `a : b = 1 + c`
+named_default_sum : DerivesAs named_field
+    (leaf (ident (97 ∷ [])) (at 0 1) (punct 58 false (at 1 2) (leaf (ident (98 ∷ [])) (at 3 4) (punct 61 false (at 5 6) (leaf (literal Int (49 ∷ [])) (at 7 8) (punct 43 false (at 9 10) (leaf (ident (99 ∷ [])) (at 11 12) end)))))))
+    (leaf (ident (97 ∷ [])) call_site (punct 58 false call_site (leaf (ident (98 ∷ [])) call_site (punct 61 false call_site (leaf (literal Int (49 ∷ [])) call_site (punct 43 false call_site (leaf (ident (99 ∷ [])) call_site end)))))))
+    (end)
+unfolding left is_end lookahead_at sees take_token take_lifetime take_mark take_group before rows_for rows run parse_rule
+named_default_sum = computed named_field _ _ _ refl
+
+-- `a: b = c = d` prints `a : b = c = d`
+named_default_assigned : DerivesAs named_field
+    (leaf (ident (97 ∷ [])) (at 0 1) (punct 58 false (at 1 2) (leaf (ident (98 ∷ [])) (at 3 4) (punct 61 false (at 5 6) (leaf (ident (99 ∷ [])) (at 7 8) (punct 61 false (at 9 10) (leaf (ident (100 ∷ [])) (at 11 12) end)))))))
+    (leaf (ident (97 ∷ [])) call_site (punct 58 false call_site (leaf (ident (98 ∷ [])) call_site (punct 61 false call_site (leaf (ident (99 ∷ [])) call_site (punct 61 false call_site (leaf (ident (100 ∷ [])) call_site end)))))))
+    (end)
+unfolding left is_end lookahead_at sees take_token take_lifetime take_mark take_group before rows_for rows run parse_rule
+named_default_assigned = computed named_field _ _ _ refl
+
+-- `a: b = 1 !` prints `a : b = 1` and leaves `!`
+named_default_leaves_bang : DerivesAs named_field
+    (leaf (ident (97 ∷ [])) (at 0 1) (punct 58 false (at 1 2) (leaf (ident (98 ∷ [])) (at 3 4) (punct 61 false (at 5 6) (leaf (literal Int (49 ∷ [])) (at 7 8) (punct 33 false (at 9 10) end))))))
+    (leaf (ident (97 ∷ [])) call_site (punct 58 false call_site (leaf (ident (98 ∷ [])) call_site (punct 61 false call_site (leaf (literal Int (49 ∷ [])) call_site end)))))
+    (punct 33 false (at 9 10) end)
+unfolding left is_end lookahead_at sees take_token take_lifetime take_mark take_group before rows_for rows run parse_rule
+named_default_leaves_bang = computed named_field _ _ _ refl
+
+-- `a: b = c as d e` prints `a : b = c as d` and leaves `e`
+named_default_cast : DerivesAs named_field
+    (leaf (ident (97 ∷ [])) (at 0 1) (punct 58 false (at 1 2) (leaf (ident (98 ∷ [])) (at 3 4) (punct 61 false (at 5 6) (leaf (ident (99 ∷ [])) (at 7 8) (leaf (ident w_as) (at 9 11) (leaf (ident (100 ∷ [])) (at 12 13) (leaf (ident (101 ∷ [])) (at 14 15) end))))))))
+    (leaf (ident (97 ∷ [])) call_site (punct 58 false call_site (leaf (ident (98 ∷ [])) call_site (punct 61 false call_site (leaf (ident (99 ∷ [])) call_site (leaf (ident w_as) call_site (leaf (ident (100 ∷ [])) call_site end)))))))
+    (leaf (ident (101 ∷ [])) (at 14 15) end)
+unfolding left is_end lookahead_at sees take_token take_lifetime take_mark take_group before rows_for rows run parse_rule
+named_default_cast = computed named_field _ _ _ refl
 
 -- `a = b`: nothing is read
 named_equals_for_colon : NotDerived (rule named_field)
@@ -893,13 +923,51 @@ variant_equals_twice : NotDerived (rule variant)
 unfolding left is_end lookahead_at sees take_token take_lifetime take_mark take_group before rows_for rows run parse_rule
 variant_equals_twice = not_read variant _ refl
 
--- `a = 1 =` prints `a = 1` and leaves `=`
-variant_value_leaves_equals : DerivesAs variant
+-- `a = 1 =`: nothing is read
+variant_value_two_equals : NotDerived (rule variant)
     (leaf (ident (97 ∷ [])) (at 0 1) (punct 61 false (at 2 3) (leaf (literal Int (49 ∷ [])) (at 4 5) (punct 61 false (at 6 7) end))))
-    (leaf (ident (97 ∷ [])) call_site (punct 61 false call_site (leaf (literal Int (49 ∷ [])) call_site end)))
-    (punct 61 false (at 6 7) end)
 unfolding left is_end lookahead_at sees take_token take_lifetime take_mark take_group before rows_for rows run parse_rule
-variant_value_leaves_equals = computed variant _ _ _ refl
+variant_value_two_equals = not_read variant _ refl
+
+-- `a = 1 + b` prints `a = 1 + b`
+variant_value_sum : DerivesAs variant
+    (leaf (ident (97 ∷ [])) (at 0 1) (punct 61 false (at 2 3) (leaf (literal Int (49 ∷ [])) (at 4 5) (punct 43 false (at 6 7) (leaf (ident (98 ∷ [])) (at 8 9) end)))))
+    (leaf (ident (97 ∷ [])) call_site (punct 61 false call_site (leaf (literal Int (49 ∷ [])) call_site (punct 43 false call_site (leaf (ident (98 ∷ [])) call_site end)))))
+    (end)
+unfolding left is_end lookahead_at sees take_token take_lifetime take_mark take_group before rows_for rows run parse_rule
+variant_value_sum = computed variant _ _ _ refl
+
+-- `a = {b}` prints `a = { b }`
+variant_value_block : DerivesAs variant
+    (leaf (ident (97 ∷ [])) (at 0 1) (punct 61 false (at 2 3) (group Brace (at 4 5) (at 6 7) (leaf (ident (98 ∷ [])) (at 5 6) end) end)))
+    (leaf (ident (97 ∷ [])) call_site (punct 61 false call_site (group Brace call_site call_site (leaf (ident (98 ∷ [])) call_site end) end)))
+    (end)
+unfolding left is_end lookahead_at sees take_token take_lifetime take_mark take_group before rows_for rows run parse_rule
+variant_value_block = computed variant _ _ _ refl
+
+-- `a = b = c` prints `a = b = c`
+variant_value_assigned : DerivesAs variant
+    (leaf (ident (97 ∷ [])) (at 0 1) (punct 61 false (at 2 3) (leaf (ident (98 ∷ [])) (at 4 5) (punct 61 false (at 6 7) (leaf (ident (99 ∷ [])) (at 8 9) end)))))
+    (leaf (ident (97 ∷ [])) call_site (punct 61 false call_site (leaf (ident (98 ∷ [])) call_site (punct 61 false call_site (leaf (ident (99 ∷ [])) call_site end)))))
+    (end)
+unfolding left is_end lookahead_at sees take_token take_lifetime take_mark take_group before rows_for rows run parse_rule
+variant_value_assigned = computed variant _ _ _ refl
+
+-- `a = 1 {}` prints `a = 1` and leaves `{}`
+variant_value_leaves_braces : DerivesAs variant
+    (leaf (ident (97 ∷ [])) (at 0 1) (punct 61 false (at 2 3) (leaf (literal Int (49 ∷ [])) (at 4 5) (group Brace (at 6 7) (at 7 8) end end))))
+    (leaf (ident (97 ∷ [])) call_site (punct 61 false call_site (leaf (literal Int (49 ∷ [])) call_site end)))
+    (group Brace (at 6 7) (at 7 8) end end)
+unfolding left is_end lookahead_at sees take_token take_lifetime take_mark take_group before rows_for rows run parse_rule
+variant_value_leaves_braces = computed variant _ _ _ refl
+
+-- `a = b as c d` prints `a = b as c` and leaves `d`
+variant_value_leaves_path : DerivesAs variant
+    (leaf (ident (97 ∷ [])) (at 0 1) (punct 61 false (at 2 3) (leaf (ident (98 ∷ [])) (at 4 5) (leaf (ident w_as) (at 6 8) (leaf (ident (99 ∷ [])) (at 9 10) (leaf (ident (100 ∷ [])) (at 11 12) end))))))
+    (leaf (ident (97 ∷ [])) call_site (punct 61 false call_site (leaf (ident (98 ∷ [])) call_site (leaf (ident w_as) call_site (leaf (ident (99 ∷ [])) call_site end)))))
+    (leaf (ident (100 ∷ [])) (at 11 12) end)
+unfolding left is_end lookahead_at sees take_token take_lifetime take_mark take_group before rows_for rows run parse_rule
+variant_value_leaves_path = computed variant _ _ _ refl
 
 -- `a pub` prints `a` and leaves `pub`
 variant_leaves_public : DerivesAs variant

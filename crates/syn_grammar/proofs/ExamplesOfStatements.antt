@@ -1362,6 +1362,12 @@ local_let_let_a_semi : NotDerived (rule local)
 unfolding left is_end lookahead_at sees take_token take_lifetime take_mark take_group before rows_for rows run parse_rule
 local_let_let_a_semi = not_read local _ refl
 
+-- `let a: 1 = 2;`: nothing is read
+local_let_a_type_number : NotDerived (rule local)
+    (leaf (ident w_let) (at 0 3) (leaf (ident (97 ∷ [])) (at 4 5) (punct 58 false (at 5 6) (leaf (literal Int (49 ∷ [])) (at 7 8) (punct 61 false (at 9 10) (leaf (literal Int (50 ∷ [])) (at 11 12) (punct 59 false (at 12 13) end)))))))
+unfolding left is_end lookahead_at sees take_token take_lifetime take_mark take_group before rows_for rows run parse_rule
+local_let_a_type_number = not_read local _ refl
+
 -- `let a b;`: nothing is read
 local_let_a_b_semi : NotDerived (rule local)
     (leaf (ident w_let) (at 0 3) (leaf (ident (97 ∷ [])) (at 4 5) (leaf (ident (98 ∷ [])) (at 6 7) (punct 59 false (at 7 8) end))))

@@ -1,9 +1,9 @@
 -- Written by tools/grammar.py from specs/Table.antt; edits are lost.
 -- Worked examples of types, their paths and expressions, from tools/examples.txt: what each rule reads, prints and refuses. The checker computes each.
 use Rattle.std.proofs.Common.{true, false, [], ◌∷◌, refl}
-use Rattle.syn_grammar.specs.Words.{w_underscore, w_as, w_const, w_crate, w_false, w_fn, w_mut, w_Self_type, w_self, w_super, w_true, w_union, w_auto, w_default, w_safe}
+use Rattle.syn_grammar.specs.Words.{w_underscore, w_as, w_const, w_crate, w_false, w_fn, w_mut, w_Self_type, w_self, w_super, w_true, w_unsafe, w_union, w_auto, w_default, w_safe}
 use Rattle.syn_grammar.specs.Tokens.{call_site, Paren, Brace, Bracket, None, Str, ByteStr, CStr, Byte, Char, Int, Float, ident, literal, end, leaf, punct, group}
-use Rattle.syn_grammar.specs.Rules.{type_path, type_words, type_arguments, return_type, generic_arguments, generic_argument, qualified_path, path_as_type, type, types, expression}
+use Rattle.syn_grammar.specs.Rules.{type_path, type_words, type_arguments, return_type, generic_arguments, generic_argument, qualified_path, path_as_type, type, types, constant}
 use Rattle.syn_grammar.specs.Grammar.{rule}
 use Rattle.syn_grammar.specs.Take.{left, is_end, lookahead_at, sees, take_token, take_lifetime, take_mark, take_group, before}
 use Rattle.syn_grammar.specs.Run.{rows_for, rows, run, parse_rule}
@@ -685,6 +685,22 @@ argument_leaves_false : DerivesAs generic_argument
 unfolding left is_end lookahead_at sees take_token take_lifetime take_mark take_group before rows_for rows run parse_rule
 argument_leaves_false = computed generic_argument _ _ _ refl
 
+-- `{a}` prints `{ a }`
+argument_block : DerivesAs generic_argument
+    (group Brace (at 0 1) (at 2 3) (leaf (ident (97 ∷ [])) (at 1 2) end) end)
+    (group Brace call_site call_site (leaf (ident (97 ∷ [])) call_site end) end)
+    (end)
+unfolding left is_end lookahead_at sees take_token take_lifetime take_mark take_group before rows_for rows run parse_rule
+argument_block = computed generic_argument _ _ _ refl
+
+-- `[a]` prints `[ a ]`
+argument_slice : DerivesAs generic_argument
+    (group Bracket (at 0 1) (at 2 3) (leaf (ident (97 ∷ [])) (at 1 2) end) end)
+    (group Bracket call_site call_site (leaf (ident (97 ∷ [])) call_site end) end)
+    (end)
+unfolding left is_end lookahead_at sees take_token take_lifetime take_mark take_group before rows_for rows run parse_rule
+argument_slice = computed generic_argument _ _ _ refl
+
 -- `default = a` prints `default = a`
 argument_named_default : DerivesAs generic_argument
     (leaf (ident w_default) (at 0 7) (punct 61 false (at 8 9) (leaf (ident (97 ∷ [])) (at 10 11) end)))
@@ -1155,11 +1171,59 @@ type_array : DerivesAs type
 unfolding left is_end lookahead_at sees take_token take_lifetime take_mark take_group before rows_for rows run parse_rule
 type_array = computed type _ _ _ refl
 
--- `[T; N]`: nothing is read
-type_array_name : NotDerived (rule type)
+-- `[T; N]` prints `[ T ; N ]`
+type_array_name : DerivesAs type
     (group Bracket (at 0 1) (at 5 6) (leaf (ident (84 ∷ [])) (at 1 2) (punct 59 false (at 2 3) (leaf (ident (78 ∷ [])) (at 4 5) end))) end)
+    (group Bracket call_site call_site (leaf (ident (84 ∷ [])) call_site (punct 59 false call_site (leaf (ident (78 ∷ [])) call_site end))) end)
+    (end)
 unfolding left is_end lookahead_at sees take_token take_lifetime take_mark take_group before rows_for rows run parse_rule
-type_array_name = not_read type _ refl
+type_array_name = computed type _ _ _ refl
+
+-- `[T; 2 * N + 1]` prints `[ T ; 2 * N + 1 ]`
+type_array_sum : DerivesAs type
+    (group Bracket (at 0 1) (at 13 14) (leaf (ident (84 ∷ [])) (at 1 2) (punct 59 false (at 2 3) (leaf (literal Int (50 ∷ [])) (at 4 5) (punct 42 false (at 6 7) (leaf (ident (78 ∷ [])) (at 8 9) (punct 43 false (at 10 11) (leaf (literal Int (49 ∷ [])) (at 12 13) end))))))) end)
+    (group Bracket call_site call_site (leaf (ident (84 ∷ [])) call_site (punct 59 false call_site (leaf (literal Int (50 ∷ [])) call_site (punct 42 false call_site (leaf (ident (78 ∷ [])) call_site (punct 43 false call_site (leaf (literal Int (49 ∷ [])) call_site end))))))) end)
+    (end)
+unfolding left is_end lookahead_at sees take_token take_lifetime take_mark take_group before rows_for rows run parse_rule
+type_array_sum = computed type _ _ _ refl
+
+-- `[T; a = b]` prints `[ T ; a = b ]`
+type_array_assigned : DerivesAs type
+    (group Bracket (at 0 1) (at 9 10) (leaf (ident (84 ∷ [])) (at 1 2) (punct 59 false (at 2 3) (leaf (ident (97 ∷ [])) (at 4 5) (punct 61 false (at 6 7) (leaf (ident (98 ∷ [])) (at 8 9) end))))) end)
+    (group Bracket call_site call_site (leaf (ident (84 ∷ [])) call_site (punct 59 false call_site (leaf (ident (97 ∷ [])) call_site (punct 61 false call_site (leaf (ident (98 ∷ [])) call_site end))))) end)
+    (end)
+unfolding left is_end lookahead_at sees take_token take_lifetime take_mark take_group before rows_for rows run parse_rule
+type_array_assigned = computed type _ _ _ refl
+
+-- `[1; 1]`: nothing is read
+type_array_number_first : NotDerived (rule type)
+    (group Bracket (at 0 1) (at 5 6) (leaf (literal Int (49 ∷ [])) (at 1 2) (punct 59 false (at 2 3) (leaf (literal Int (49 ∷ [])) (at 4 5) end))) end)
+unfolding left is_end lookahead_at sees take_token take_lifetime take_mark take_group before rows_for rows run parse_rule
+type_array_number_first = not_read type _ refl
+
+-- `[T; {N}]` prints `[ T ; { N } ]`
+type_array_block : DerivesAs type
+    (group Bracket (at 0 1) (at 7 8) (leaf (ident (84 ∷ [])) (at 1 2) (punct 59 false (at 2 3) (group Brace (at 4 5) (at 6 7) (leaf (ident (78 ∷ [])) (at 5 6) end) end))) end)
+    (group Bracket call_site call_site (leaf (ident (84 ∷ [])) call_site (punct 59 false call_site (group Brace call_site call_site (leaf (ident (78 ∷ [])) call_site end) end))) end)
+    (end)
+unfolding left is_end lookahead_at sees take_token take_lifetime take_mark take_group before rows_for rows run parse_rule
+type_array_block = computed type _ _ _ refl
+
+-- `[T; f::<A, 'a>()]` prints `[ T ; f :: < 'a , A , > ( ) ]`
+type_array_sorted : DerivesAs type
+    (group Bracket (at 0 1) (at 16 17) (leaf (ident (84 ∷ [])) (at 1 2) (punct 59 false (at 2 3) (leaf (ident (102 ∷ [])) (at 4 5) (punct 58 true (at 5 6) (punct 58 true (at 6 7) (punct 60 false (at 7 8) (leaf (ident (65 ∷ [])) (at 8 9) (punct 44 false (at 9 10) (punct 39 true (at 11 12) (leaf (ident (97 ∷ [])) (at 12 13) (punct 62 false (at 13 14) (group Paren (at 14 15) (at 15 16) end end)))))))))))) end)
+    (group Bracket call_site call_site (leaf (ident (84 ∷ [])) call_site (punct 59 false call_site (leaf (ident (102 ∷ [])) call_site (punct 58 true call_site (punct 58 false call_site (punct 60 false call_site (punct 39 true call_site (leaf (ident (97 ∷ [])) call_site (punct 44 false call_site (leaf (ident (65 ∷ [])) call_site (punct 44 false call_site (punct 62 false call_site (group Paren call_site call_site end end))))))))))))) end)
+    (end)
+unfolding left is_end lookahead_at sees take_token take_lifetime take_mark take_group before rows_for rows run parse_rule
+type_array_sorted = computed type _ _ _ refl
+
+-- `[T; #[a] 1]` prints `[ T ; # [ a ] 1 ]`
+type_array_attribute : DerivesAs type
+    (group Bracket (at 0 1) (at 10 11) (leaf (ident (84 ∷ [])) (at 1 2) (punct 59 false (at 2 3) (punct 35 false (at 4 5) (group Bracket (at 5 6) (at 7 8) (leaf (ident (97 ∷ [])) (at 6 7) end) (leaf (literal Int (49 ∷ [])) (at 9 10) end))))) end)
+    (group Bracket call_site call_site (leaf (ident (84 ∷ [])) call_site (punct 59 false call_site (punct 35 false call_site (group Bracket call_site call_site (leaf (ident (97 ∷ [])) call_site end) (leaf (literal Int (49 ∷ [])) call_site end))))) end)
+    (end)
+unfolding left is_end lookahead_at sees take_token take_lifetime take_mark take_group before rows_for rows run parse_rule
+type_array_attribute = computed type _ _ _ refl
 
 -- `(A, (B), ())` prints `( A , ( B ) , ( ) )`
 type_tuple : DerivesAs type
@@ -1534,59 +1598,119 @@ unfolding left is_end lookahead_at sees take_token take_lifetime take_mark take_
 types_two_commas = not_read types _ refl
 
 -- `7u8` prints `7u8`
-expression_literal : DerivesAs expression
+constant_literal : DerivesAs constant
     (leaf (literal Int (55 ∷ 117 ∷ 56 ∷ [])) (at 0 3) end)
     (leaf (literal Int (55 ∷ 117 ∷ 56 ∷ [])) call_site end)
     (end)
 unfolding left is_end lookahead_at sees take_token take_lifetime take_mark take_group before rows_for rows run parse_rule
-expression_literal = computed expression _ _ _ refl
+constant_literal = computed constant _ _ _ refl
 
 -- `a`: nothing is read
-expression_name : NotDerived (rule expression)
+constant_name : NotDerived (rule constant)
     (leaf (ident (97 ∷ [])) (at 0 1) end)
 unfolding left is_end lookahead_at sees take_token take_lifetime take_mark take_group before rows_for rows run parse_rule
-expression_name = not_read expression _ refl
+constant_name = not_read constant _ refl
 
 -- `1 1` prints `1` and leaves `1`
-expression_leaves_number : DerivesAs expression
+constant_leaves_number : DerivesAs constant
     (leaf (literal Int (49 ∷ [])) (at 0 1) (leaf (literal Int (49 ∷ [])) (at 2 3) end))
     (leaf (literal Int (49 ∷ [])) call_site end)
     (leaf (literal Int (49 ∷ [])) (at 2 3) end)
 unfolding left is_end lookahead_at sees take_token take_lifetime take_mark take_group before rows_for rows run parse_rule
-expression_leaves_number = computed expression _ _ _ refl
+constant_leaves_number = computed constant _ _ _ refl
 
 -- `true true` prints `true` and leaves `true`
-expression_leaves_true : DerivesAs expression
+constant_leaves_true : DerivesAs constant
     (leaf (ident w_true) (at 0 4) (leaf (ident w_true) (at 5 9) end))
     (leaf (ident w_true) call_site end)
     (leaf (ident w_true) (at 5 9) end)
 unfolding left is_end lookahead_at sees take_token take_lifetime take_mark take_group before rows_for rows run parse_rule
-expression_leaves_true = computed expression _ _ _ refl
+constant_leaves_true = computed constant _ _ _ refl
 
 -- `false false` prints `false` and leaves `false`
-expression_leaves_false : DerivesAs expression
+constant_leaves_false : DerivesAs constant
     (leaf (ident w_false) (at 0 5) (leaf (ident w_false) (at 6 11) end))
     (leaf (ident w_false) call_site end)
     (leaf (ident w_false) (at 6 11) end)
 unfolding left is_end lookahead_at sees take_token take_lifetime take_mark take_group before rows_for rows run parse_rule
-expression_leaves_false = computed expression _ _ _ refl
+constant_leaves_false = computed constant _ _ _ refl
 
 -- `1 #` prints `1` and leaves `#`
-expression_leaves_pound : DerivesAs expression
+constant_leaves_pound : DerivesAs constant
     (leaf (literal Int (49 ∷ [])) (at 0 1) (punct 35 false (at 2 3) end))
     (leaf (literal Int (49 ∷ [])) call_site end)
     (punct 35 false (at 2 3) end)
 unfolding left is_end lookahead_at sees take_token take_lifetime take_mark take_group before rows_for rows run parse_rule
-expression_leaves_pound = computed expression _ _ _ refl
+constant_leaves_pound = computed constant _ _ _ refl
+
+-- `{}.a` prints `{}` and leaves `.a`
+constant_leaves_point : DerivesAs constant
+    (group Brace (at 0 1) (at 1 2) end (punct 46 false (at 2 3) (leaf (ident (97 ∷ [])) (at 3 4) end)))
+    (group Brace call_site call_site end end)
+    (punct 46 false (at 2 3) (leaf (ident (97 ∷ [])) (at 3 4) end))
+unfolding left is_end lookahead_at sees take_token take_lifetime take_mark take_group before rows_for rows run parse_rule
+constant_leaves_point = computed constant _ _ _ refl
+
+-- `{} {}` prints `{}` and leaves `{}`
+constant_leaves_braces : DerivesAs constant
+    (group Brace (at 0 1) (at 1 2) end (group Brace (at 3 4) (at 4 5) end end))
+    (group Brace call_site call_site end end)
+    (group Brace (at 3 4) (at 4 5) end end)
+unfolding left is_end lookahead_at sees take_token take_lifetime take_mark take_group before rows_for rows run parse_rule
+constant_leaves_braces = computed constant _ _ _ refl
 
 -- `#[a] 1`: nothing is read
-expression_attribute : NotDerived (rule expression)
+constant_attribute : NotDerived (rule constant)
     (punct 35 false (at 0 1) (group Bracket (at 1 2) (at 3 4) (leaf (ident (97 ∷ [])) (at 2 3) end) (leaf (literal Int (49 ∷ [])) (at 5 6) end)))
 unfolding left is_end lookahead_at sees take_token take_lifetime take_mark take_group before rows_for rows run parse_rule
-expression_attribute = not_read expression _ refl
+constant_attribute = not_read constant _ refl
 
 -- `\(1\)`: nothing is read
-expression_invisible : NotDerived (rule expression)
+constant_invisible : NotDerived (rule constant)
     (group None (at 0 2) (at 3 5) (leaf (literal Int (49 ∷ [])) (at 2 3) end) end)
 unfolding left is_end lookahead_at sees take_token take_lifetime take_mark take_group before rows_for rows run parse_rule
-expression_invisible = not_read expression _ refl
+constant_invisible = not_read constant _ refl
+
+-- `-1`: nothing is read
+constant_minus : NotDerived (rule constant)
+    (punct 45 false (at 0 1) (leaf (literal Int (49 ∷ [])) (at 1 2) end))
+unfolding left is_end lookahead_at sees take_token take_lifetime take_mark take_group before rows_for rows run parse_rule
+constant_minus = not_read constant _ refl
+
+-- `{a; b}` prints `{ a; b }`
+constant_block : DerivesAs constant
+    (group Brace (at 0 1) (at 5 6) (leaf (ident (97 ∷ [])) (at 1 2) (punct 59 false (at 2 3) (leaf (ident (98 ∷ [])) (at 4 5) end))) end)
+    (group Brace call_site call_site (leaf (ident (97 ∷ [])) call_site (punct 59 false call_site (leaf (ident (98 ∷ [])) call_site end))) end)
+    (end)
+unfolding left is_end lookahead_at sees take_token take_lifetime take_mark take_group before rows_for rows run parse_rule
+constant_block = computed constant _ _ _ refl
+
+-- `{#![a]}`: nothing is read
+constant_block_inner : NotDerived (rule constant)
+    (group Brace (at 0 1) (at 6 7) (punct 35 true (at 1 2) (punct 33 false (at 2 3) (group Bracket (at 3 4) (at 5 6) (leaf (ident (97 ∷ [])) (at 4 5) end) end))) end)
+unfolding left is_end lookahead_at sees take_token take_lifetime take_mark take_group before rows_for rows run parse_rule
+constant_block_inner = not_read constant _ refl
+
+-- `{fn}`: nothing is read
+constant_block_item : NotDerived (rule constant)
+    (group Brace (at 0 1) (at 3 4) (leaf (ident w_fn) (at 1 3) end) end)
+unfolding left is_end lookahead_at sees take_token take_lifetime take_mark take_group before rows_for rows run parse_rule
+constant_block_item = not_read constant _ refl
+
+-- `'a: {}`: nothing is read
+constant_label : NotDerived (rule constant)
+    (punct 39 true (at 0 1) (leaf (ident (97 ∷ [])) (at 1 2) (punct 58 false (at 2 3) (group Brace (at 4 5) (at 5 6) end end))))
+unfolding left is_end lookahead_at sees take_token take_lifetime take_mark take_group before rows_for rows run parse_rule
+constant_label = not_read constant _ refl
+
+-- `unsafe {}`: nothing is read
+constant_unsafe : NotDerived (rule constant)
+    (leaf (ident w_unsafe) (at 0 6) (group Brace (at 7 8) (at 8 9) end end))
+unfolding left is_end lookahead_at sees take_token take_lifetime take_mark take_group before rows_for rows run parse_rule
+constant_unsafe = not_read constant _ refl
+
+-- `(1)`: nothing is read
+constant_parens : NotDerived (rule constant)
+    (group Paren (at 0 1) (at 2 3) (leaf (literal Int (49 ∷ [])) (at 1 2) end) end)
+unfolding left is_end lookahead_at sees take_token take_lifetime take_mark take_group before rows_for rows run parse_rule
+constant_parens = not_read constant _ refl

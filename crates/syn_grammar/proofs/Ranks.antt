@@ -2,7 +2,7 @@
 -- How many rules may call one another before anything is read.
 use Rattle.std.proofs.Common.{◌≡◌, ℕ, true, refl}
 use Rattle.std.specs.Prelude.{nat_lt}
-use Rattle.syn_grammar.specs.Rules.{Rule, attributes, inner_attributes, no_attributes, meta, unsafe_path, unsafe_word, meta_value, module_path, module_words, visibility, restriction, type_path, type_words, type_arguments, return_type, generic_arguments, generic_argument, qualified_path, path_as_type, type, types, expression, generics, lifetime_parameter, lifetimes, parameter_bounds, bound, trait_bound, bound_lifetimes, lifetime_parameters, where_clause, predicates, predicate, predicate_bounds, fields_named, named_fields, named_field, nameless_fields, unnamed_field, unnamed_fields, fields_unnamed, variant, variants, structure, structure_rest, structure_body, enumeration, enumeration_rest, union_item, union_item_rest, derive_input, expression_path, expression_words, qualified_expression_path, path_as_expression, macro_invocation, pattern, patterns, expressions, array_content, block, body, plain_body, no_inner_attributes, primary, block_like, if_expression, loop_expression, postfixes, member, unary, casts, cast, products, product, sums, sum, shifts, shift, bit_ands, bit_and, bit_xors, bit_xor, bit_ors, bit_or, compared, comparison, conjunctions, conjunction, disjunctions, disjunction, assigned, whole_expression, operand_rest, statements, statement_rest, after_block, after_expression, statement, statement_end, local}
+use Rattle.syn_grammar.specs.Rules.{Rule, attributes, inner_attributes, meta, unsafe_path, unsafe_word, meta_value, module_path, module_words, visibility, restriction, type_path, type_words, type_arguments, return_type, generic_arguments, generic_argument, qualified_path, path_as_type, type, types, constant, generics, lifetime_parameter, lifetimes, parameter_bounds, bound, trait_bound, bound_lifetimes, lifetime_parameters, where_clause, predicates, predicate, predicate_bounds, fields_named, named_fields, named_field, nameless_fields, unnamed_field, unnamed_fields, fields_unnamed, variant, variants, structure, structure_rest, structure_body, enumeration, enumeration_rest, union_item, union_item_rest, derive_input, expression_path, expression_words, qualified_expression_path, path_as_expression, macro_invocation, pattern, patterns, expressions, array_content, block, body, plain_body, no_inner_attributes, primary, block_like, if_expression, loop_expression, postfixes, member, unary, casts, cast, products, product, sums, sum, shifts, shift, bit_ands, bit_and, bit_xors, bit_xor, bit_ors, bit_or, compared, comparison, conjunctions, conjunction, disjunctions, disjunction, assigned, whole_expression, operand_rest, statements, statement_rest, after_block, after_expression, statement, statement_end, local}
 use Rattle.syn_grammar.specs.Table.{table}
 use Rattle.syn_grammar.proofs.Said.{start_of}
 use Rattle.syn_grammar.proofs.Low.{low}
@@ -11,7 +11,6 @@ use Rattle.syn_grammar.proofs.Low.{low}
 abbrev pub rank : Rule → ℕ
 rank attributes = 0
 rank inner_attributes = 0
-rank no_attributes = 0
 rank meta = 2
 rank unsafe_path = 1
 rank unsafe_word = 0
@@ -30,7 +29,7 @@ rank qualified_path = 0
 rank path_as_type = 2
 rank type = 3
 rank types = 4
-rank expression = 1
+rank constant = 1
 rank generics = 0
 rank lifetime_parameter = 1
 rank lifetimes = 0
@@ -115,7 +114,6 @@ rank local = 0
 pub ranks_low : (k : Rule) → nat_lt (rank k) 256 ≡ true
 ranks_low attributes = refl
 ranks_low inner_attributes = refl
-ranks_low no_attributes = refl
 ranks_low meta = refl
 ranks_low unsafe_path = refl
 ranks_low unsafe_word = refl
@@ -134,7 +132,7 @@ ranks_low qualified_path = refl
 ranks_low path_as_type = refl
 ranks_low type = refl
 ranks_low types = refl
-ranks_low expression = refl
+ranks_low constant = refl
 ranks_low generics = refl
 ranks_low lifetime_parameter = refl
 ranks_low lifetimes = refl
@@ -219,7 +217,6 @@ ranks_low local = refl
 pub lookaheads_low : (k : Rule) → low start_of rank (rank k) (table k) ≡ true
 lookaheads_low attributes = refl
 lookaheads_low inner_attributes = refl
-lookaheads_low no_attributes = refl
 lookaheads_low meta = refl
 lookaheads_low unsafe_path = refl
 lookaheads_low unsafe_word = refl
@@ -238,7 +235,7 @@ lookaheads_low qualified_path = refl
 lookaheads_low path_as_type = refl
 lookaheads_low type = refl
 lookaheads_low types = refl
-lookaheads_low expression = refl
+lookaheads_low constant = refl
 lookaheads_low generics = refl
 lookaheads_low lifetime_parameter = refl
 lookaheads_low lifetimes = refl

@@ -3,7 +3,7 @@
 use Rattle.std.proofs.Common.{◌≡◌, Bool, true, false, [], ◌∷◌, refl, sym, true≢false}
 use Rattle.syn_grammar.specs.Words.{w_underscore, w_as, w_break, w_continue, w_crate, w_else, w_enum, w_false, w_for, w_if, w_impl, w_in, w_let, w_loop, w_mut, w_pub, w_ref, w_return, w_Self_type, w_self, w_struct, w_super, w_trait, w_true, w_unsafe, w_where, w_while, w_union, w_auto, w_default, w_safe, semicolon, equals, plus, star, less, greater, pound, ampersand, question, lifetime_mark, exclamation, minus, dot, colons, arrow, equal_equal, not_equals, less_less, less_equals, bar, slash, percent, and_and, or_or, greater_greater, greater_equals, plus_equals, minus_equals, star_equals, slash_equals, percent_equals, caret_equals, ampersand_equals, bar_equals, less_less_equals, greater_greater_equals, caret}
 use Rattle.syn_grammar.specs.Tokens.{Paren, Brace, Bracket, None, Str, ByteStr, CStr, Byte, Char, Int, Float, Ended, Name, Word, Punctuation, Literal, Delimited, Before_equals, Bang_brace, Bang_name, Before_macro, ended, at_name, at_word, at_mark, at_empty_group, ahead, ◌or_else◌, ◌and_also◌, ◌but_not◌, at_lifetime, at_path_rest}
-use Rattle.syn_grammar.specs.Rules.{Rule, attributes, inner_attributes, no_attributes, meta, unsafe_path, unsafe_word, meta_value, module_path, module_words, visibility, restriction, type_path, type_words, type_arguments, return_type, generic_arguments, generic_argument, qualified_path, path_as_type, type, types, expression, generics, lifetime_parameter, lifetimes, parameter_bounds, bound, trait_bound, bound_lifetimes, lifetime_parameters, where_clause, predicates, predicate, predicate_bounds, fields_named, named_fields, named_field, nameless_fields, unnamed_field, unnamed_fields, fields_unnamed, variant, variants, structure, structure_rest, structure_body, enumeration, enumeration_rest, union_item, union_item_rest, derive_input, expression_path, expression_words, qualified_expression_path, path_as_expression, macro_invocation, pattern, patterns, expressions, array_content, block, body, plain_body, no_inner_attributes, primary, block_like, if_expression, loop_expression, postfixes, member, unary, casts, cast, products, product, sums, sum, shifts, shift, bit_ands, bit_and, bit_xors, bit_xor, bit_ors, bit_or, compared, comparison, conjunctions, conjunction, disjunctions, disjunction, assigned, whole_expression, operand_rest, statements, statement_rest, after_block, after_expression, statement, statement_end, local}
+use Rattle.syn_grammar.specs.Rules.{Rule, attributes, inner_attributes, meta, unsafe_path, unsafe_word, meta_value, module_path, module_words, visibility, restriction, type_path, type_words, type_arguments, return_type, generic_arguments, generic_argument, qualified_path, path_as_type, type, types, constant, generics, lifetime_parameter, lifetimes, parameter_bounds, bound, trait_bound, bound_lifetimes, lifetime_parameters, where_clause, predicates, predicate, predicate_bounds, fields_named, named_fields, named_field, nameless_fields, unnamed_field, unnamed_fields, fields_unnamed, variant, variants, structure, structure_rest, structure_body, enumeration, enumeration_rest, union_item, union_item_rest, derive_input, expression_path, expression_words, qualified_expression_path, path_as_expression, macro_invocation, pattern, patterns, expressions, array_content, block, body, plain_body, no_inner_attributes, primary, block_like, if_expression, loop_expression, postfixes, member, unary, casts, cast, products, product, sums, sum, shifts, shift, bit_ands, bit_and, bit_xors, bit_xor, bit_ors, bit_or, compared, comparison, conjunctions, conjunction, disjunctions, disjunction, assigned, whole_expression, operand_rest, statements, statement_rest, after_block, after_expression, statement, statement_end, local}
 use Rattle.syn_grammar.specs.Table.{at_colons, at_colon, at_equals, at_comma, at_semicolon, at_pound, at_inner_attribute, at_plus, at_less, at_less_only, at_greater, at_question, at_arrow, at_paren, at_brace, at_bracket, at_arguments, at_restriction, at_parameter_end, at_predicate_end, at_bang, at_dot, at_postfix_mark, at_turbofish, at_whole_expression, at_unfinished, at_star_operator, at_slash_operator, at_percent_operator, at_plus_operator, at_minus_operator, at_less_less_operator, at_greater_greater_operator, at_ampersand_operator, at_caret_operator, at_bar_operator, at_less_operator, at_greater_operator, at_equals_operator, table}
 use Rattle.syn_grammar.proofs.FirstSets.{Start, IsSaid}
 use Rattle.syn_grammar.proofs.NeverFollow.{IsOff}
@@ -17,7 +17,6 @@ use Rattle.syn_grammar.proofs.Reprint.{IsSummary}
 abbrev pub start_of : Rule → Start
 start_of attributes = record { first_set = Punctuation pound ∷ []; nullable = true; never_follow = at_pound ∷ [] }
 start_of inner_attributes = record { first_set = Punctuation pound ∷ []; nullable = true; never_follow = at_inner_attribute ∷ [] }
-start_of no_attributes = record { first_set = []; nullable = true; never_follow = at_pound ∷ [] }
 start_of meta = record { first_set = Word w_unsafe ∷ Name ∷ Punctuation colons ∷ Word w_Self_type ∷ Word w_auto ∷ Word w_crate ∷ Word w_default ∷ Word w_safe ∷ Word w_self ∷ Word w_super ∷ Word w_union ∷ []; nullable = false; never_follow = [] }
 start_of unsafe_path = record { first_set = Word w_unsafe ∷ []; nullable = false; never_follow = at_colons ∷ [] }
 start_of unsafe_word = record { first_set = Word w_unsafe ∷ []; nullable = false; never_follow = at_colons ∷ [] }
@@ -31,12 +30,12 @@ start_of type_words = record { first_set = Name ∷ Word w_union ∷ Word w_auto
 start_of type_arguments = record { first_set = Delimited Paren false ∷ Punctuation colons ∷ Punctuation less ∷ Punctuation less_less ∷ Punctuation less_less_equals ∷ Punctuation less_equals ∷ []; nullable = false; never_follow = [] }
 start_of return_type = record { first_set = Punctuation arrow ∷ []; nullable = true; never_follow = [] }
 start_of generic_arguments = record { first_set = Punctuation less ∷ Punctuation less_less_equals ∷ Punctuation less_equals ∷ Punctuation less_less ∷ []; nullable = false; never_follow = [] }
-start_of generic_argument = record { first_set = Name ∷ Word w_union ∷ Word w_auto ∷ Word w_default ∷ Word w_safe ∷ Literal Byte ∷ Literal ByteStr ∷ Literal CStr ∷ Literal Char ∷ Literal Float ∷ Literal Int ∷ Literal Str ∷ Word w_false ∷ Word w_true ∷ Delimited Bracket false ∷ Delimited None false ∷ Delimited None true ∷ Delimited Paren false ∷ Punctuation exclamation ∷ Punctuation not_equals ∷ Punctuation ampersand ∷ Punctuation and_and ∷ Punctuation ampersand_equals ∷ Punctuation star ∷ Punctuation star_equals ∷ Punctuation colons ∷ Punctuation less ∷ Punctuation less_less ∷ Punctuation less_less_equals ∷ Punctuation less_equals ∷ Word w_Self_type ∷ Word w_crate ∷ Word w_self ∷ Word w_super ∷ []; nullable = false; never_follow = [] }
+start_of generic_argument = record { first_set = Name ∷ Word w_union ∷ Word w_auto ∷ Word w_default ∷ Word w_safe ∷ Delimited Brace false ∷ Literal Byte ∷ Literal ByteStr ∷ Literal CStr ∷ Literal Char ∷ Literal Float ∷ Literal Int ∷ Literal Str ∷ Word w_false ∷ Word w_true ∷ Delimited Bracket false ∷ Delimited None false ∷ Delimited None true ∷ Delimited Paren false ∷ Punctuation exclamation ∷ Punctuation not_equals ∷ Punctuation ampersand ∷ Punctuation and_and ∷ Punctuation ampersand_equals ∷ Punctuation star ∷ Punctuation star_equals ∷ Punctuation colons ∷ Punctuation less ∷ Punctuation less_less ∷ Punctuation less_less_equals ∷ Punctuation less_equals ∷ Word w_Self_type ∷ Word w_crate ∷ Word w_self ∷ Word w_super ∷ []; nullable = false; never_follow = [] }
 start_of qualified_path = record { first_set = Punctuation less ∷ Punctuation less_less_equals ∷ Punctuation less_equals ∷ Punctuation less_less ∷ []; nullable = false; never_follow = at_colons ∷ [] }
 start_of path_as_type = record { first_set = Punctuation less ∷ Punctuation less_less ∷ Punctuation less_less_equals ∷ Punctuation less_equals ∷ Name ∷ Punctuation colons ∷ Word w_Self_type ∷ Word w_auto ∷ Word w_crate ∷ Word w_default ∷ Word w_safe ∷ Word w_self ∷ Word w_super ∷ Word w_union ∷ []; nullable = false; never_follow = at_colons ∷ [] }
 start_of type = record { first_set = Punctuation ampersand ∷ Punctuation and_and ∷ Punctuation ampersand_equals ∷ Punctuation star ∷ Punctuation star_equals ∷ Delimited Paren false ∷ Delimited Bracket false ∷ Punctuation exclamation ∷ Punctuation not_equals ∷ Delimited None false ∷ Delimited None true ∷ Name ∷ Punctuation colons ∷ Punctuation less ∷ Punctuation less_less ∷ Punctuation less_less_equals ∷ Punctuation less_equals ∷ Word w_Self_type ∷ Word w_auto ∷ Word w_crate ∷ Word w_default ∷ Word w_safe ∷ Word w_self ∷ Word w_super ∷ Word w_union ∷ []; nullable = false; never_follow = [] }
 start_of types = record { first_set = Delimited Bracket false ∷ Delimited None false ∷ Delimited None true ∷ Delimited Paren false ∷ Name ∷ Punctuation exclamation ∷ Punctuation not_equals ∷ Punctuation ampersand ∷ Punctuation and_and ∷ Punctuation ampersand_equals ∷ Punctuation star ∷ Punctuation star_equals ∷ Punctuation colons ∷ Punctuation less ∷ Punctuation less_less ∷ Punctuation less_less_equals ∷ Punctuation less_equals ∷ Word w_Self_type ∷ Word w_auto ∷ Word w_crate ∷ Word w_default ∷ Word w_safe ∷ Word w_self ∷ Word w_super ∷ Word w_union ∷ []; nullable = true; never_follow = [] }
-start_of expression = record { first_set = Word w_true ∷ Word w_false ∷ Literal Str ∷ Literal ByteStr ∷ Literal CStr ∷ Literal Byte ∷ Literal Char ∷ Literal Int ∷ Literal Float ∷ []; nullable = false; never_follow = [] }
+start_of constant = record { first_set = Delimited Brace false ∷ Word w_true ∷ Word w_false ∷ Literal Str ∷ Literal ByteStr ∷ Literal CStr ∷ Literal Byte ∷ Literal Char ∷ Literal Int ∷ Literal Float ∷ []; nullable = false; never_follow = [] }
 start_of generics = record { first_set = Punctuation less ∷ Punctuation less_less_equals ∷ Punctuation less_equals ∷ Punctuation less_less ∷ []; nullable = true; never_follow = [] }
 start_of lifetime_parameter = record { first_set = Punctuation pound ∷ Punctuation lifetime_mark ∷ []; nullable = false; never_follow = [] }
 start_of lifetimes = record { first_set = Punctuation lifetime_mark ∷ []; nullable = true; never_follow = [] }
@@ -121,7 +120,6 @@ start_of local = record { first_set = Word w_let ∷ []; nullable = false; never
 abbrev pub closed_of : Rule → Bool
 closed_of attributes = false
 closed_of inner_attributes = false
-closed_of no_attributes = false
 closed_of meta = false
 closed_of unsafe_path = false
 closed_of unsafe_word = false
@@ -140,7 +138,7 @@ closed_of qualified_path = false
 closed_of path_as_type = false
 closed_of type = false
 closed_of types = false
-closed_of expression = false
+closed_of constant = false
 closed_of generics = false
 closed_of lifetime_parameter = false
 closed_of lifetimes = false
@@ -225,7 +223,6 @@ closed_of local = true
 abbrev pub cut_of : Rule → Bool
 cut_of attributes = true
 cut_of inner_attributes = true
-cut_of no_attributes = true
 cut_of meta = false
 cut_of unsafe_path = true
 cut_of unsafe_word = true
@@ -244,7 +241,7 @@ cut_of qualified_path = true
 cut_of path_as_type = true
 cut_of type = true
 cut_of types = true
-cut_of expression = true
+cut_of constant = true
 cut_of generics = false
 cut_of lifetime_parameter = false
 cut_of lifetimes = true
@@ -329,7 +326,6 @@ cut_of local = false
 abbrev pub spaced_of : Rule → Bool
 spaced_of attributes = true
 spaced_of inner_attributes = true
-spaced_of no_attributes = true
 spaced_of meta = false
 spaced_of unsafe_path = true
 spaced_of unsafe_word = true
@@ -348,7 +344,7 @@ spaced_of qualified_path = true
 spaced_of path_as_type = true
 spaced_of type = true
 spaced_of types = true
-spaced_of expression = true
+spaced_of constant = true
 spaced_of generics = false
 spaced_of lifetime_parameter = false
 spaced_of lifetimes = true
@@ -433,7 +429,6 @@ spaced_of local = true
 abbrev pub heard_of : Rule → Bool
 heard_of attributes = true
 heard_of inner_attributes = false
-heard_of no_attributes = true
 heard_of meta = false
 heard_of unsafe_path = false
 heard_of unsafe_word = false
@@ -452,7 +447,7 @@ heard_of qualified_path = true
 heard_of path_as_type = true
 heard_of type = true
 heard_of types = true
-heard_of expression = true
+heard_of constant = true
 heard_of generics = false
 heard_of lifetime_parameter = false
 heard_of lifetimes = false
@@ -493,7 +488,7 @@ heard_of expressions = true
 heard_of array_content = false
 heard_of block = true
 heard_of body = true
-heard_of plain_body = false
+heard_of plain_body = true
 heard_of no_inner_attributes = false
 heard_of primary = true
 heard_of block_like = true
@@ -537,7 +532,6 @@ heard_of local = true
 abbrev pub summary_of : Bool → Rule → Summary
 summary_of false attributes = record { stays = []; moves = move (Punctuation pound) (Punctuation pound) [] ∷ []; nullable = true; gone = []; ends = []; halts = at_pound ∷ []; shuns = [] }
 summary_of false inner_attributes = record { stays = Punctuation pound ∷ []; moves = []; nullable = true; gone = []; ends = []; halts = at_inner_attribute ∷ []; shuns = [] }
-summary_of false no_attributes = record { stays = []; moves = []; nullable = true; gone = []; ends = []; halts = at_pound ∷ []; shuns = [] }
 summary_of false meta = record { stays = []; moves = move (Word w_unsafe) (Word w_unsafe) [] ∷ move (Punctuation colons) (Punctuation colons) [] ∷ move Name Name [] ∷ move (Word w_union) (Word w_union) [] ∷ move (Word w_auto) (Word w_auto) [] ∷ move (Word w_default) (Word w_default) [] ∷ move (Word w_safe) (Word w_safe) [] ∷ move (Word w_self) (Word w_self) [] ∷ move (Word w_Self_type) (Word w_Self_type) [] ∷ move (Word w_super) (Word w_super) [] ∷ move (Word w_crate) (Word w_crate) [] ∷ []; nullable = false; gone = []; ends = ended ∷ []; halts = at_equals ∷ at_bracket ∷ at_brace ∷ at_paren ∷ at_colons ∷ []; shuns = [] }
 summary_of false unsafe_path = record { stays = []; moves = move (Word w_unsafe) (Word w_unsafe) [] ∷ []; nullable = false; gone = []; ends = []; halts = at_colons ∷ []; shuns = [] }
 summary_of false unsafe_word = record { stays = []; moves = move (Word w_unsafe) (Word w_unsafe) [] ∷ []; nullable = false; gone = []; ends = []; halts = at_colons ∷ []; shuns = [] }
@@ -551,12 +545,12 @@ summary_of false type_words = record { stays = []; moves = move Name Name [] ∷
 summary_of false type_arguments = record { stays = Delimited Paren false ∷ []; moves = move (Punctuation colons) (Punctuation colons) [] ∷ move (Punctuation less) (Punctuation less) [] ∷ move (Punctuation less_less_equals) (Punctuation less) [] ∷ move (Punctuation less_equals) (Punctuation less) [] ∷ move (Punctuation less_less) (Punctuation less) [] ∷ []; nullable = false; gone = []; ends = at_equals ∷ at_paren ∷ at_less ∷ ((at_colons or_else at_less_only or_else at_paren or_else at_word w_as) but_not at_colons) ∷ (at_colons but_not at_colons) ∷ ((at_bang or_else at_colons and_also ahead Before_macro) but_not at_colons) ∷ ((at_path_rest and_also ahead Bang_brace) but_not at_colons) ∷ ((at_path_rest and_also ahead Bang_name) but_not at_colons) ∷ at_name ∷ at_brace ∷ at_word w_trait ∷ (at_word w_unsafe or_else at_word w_impl) ∷ ended ∷ []; halts = at_colons ∷ at_arguments ∷ at_arrow ∷ []; shuns = [] }
 summary_of false return_type = record { stays = Punctuation arrow ∷ []; moves = []; nullable = true; gone = []; ends = at_equals ∷ at_paren ∷ at_less ∷ ((at_colons or_else at_less_only or_else at_paren or_else at_word w_as) but_not at_colons) ∷ (at_colons but_not at_colons) ∷ ((at_bang or_else at_colons and_also ahead Before_macro) but_not at_colons) ∷ ((at_path_rest and_also ahead Bang_brace) but_not at_colons) ∷ ((at_path_rest and_also ahead Bang_name) but_not at_colons) ∷ at_name ∷ at_brace ∷ at_word w_trait ∷ (at_word w_unsafe or_else at_word w_impl) ∷ ended ∷ []; halts = at_colons ∷ at_arguments ∷ at_arrow ∷ []; shuns = [] }
 summary_of false generic_arguments = record { stays = []; moves = move (Punctuation less) (Punctuation less) [] ∷ move (Punctuation less_less_equals) (Punctuation less) [] ∷ move (Punctuation less_equals) (Punctuation less) [] ∷ move (Punctuation less_less) (Punctuation less) [] ∷ []; nullable = false; gone = []; ends = []; halts = []; shuns = [] }
-summary_of false generic_argument = record { stays = Word w_true ∷ Word w_false ∷ Literal Str ∷ Literal ByteStr ∷ Literal CStr ∷ Literal Byte ∷ Literal Char ∷ Literal Int ∷ Literal Float ∷ Punctuation ampersand ∷ Punctuation star ∷ Delimited Paren false ∷ Delimited Bracket false ∷ Delimited None false ∷ Name ∷ Word w_union ∷ Word w_auto ∷ Word w_default ∷ Word w_safe ∷ Word w_Self_type ∷ Word w_self ∷ Word w_super ∷ Word w_crate ∷ []; moves = move Name Name (Before_equals ∷ []) ∷ move (Word w_union) (Word w_union) (Before_equals ∷ []) ∷ move (Word w_auto) (Word w_auto) (Before_equals ∷ []) ∷ move (Word w_default) (Word w_default) (Before_equals ∷ []) ∷ move (Word w_safe) (Word w_safe) (Before_equals ∷ []) ∷ move (Punctuation and_and) (Punctuation ampersand) [] ∷ move (Punctuation ampersand_equals) (Punctuation ampersand) [] ∷ move (Punctuation star_equals) (Punctuation star) [] ∷ move (Punctuation exclamation) (Punctuation exclamation) [] ∷ move (Punctuation not_equals) (Punctuation exclamation) [] ∷ move (Punctuation less) (Punctuation less) [] ∷ move (Punctuation less_less_equals) (Punctuation less) [] ∷ move (Punctuation less_equals) (Punctuation less) [] ∷ move (Punctuation less_less) (Punctuation less) [] ∷ move (Punctuation colons) (Punctuation colons) [] ∷ []; nullable = false; gone = []; ends = at_equals ∷ at_paren ∷ at_less ∷ ((at_colons or_else at_less_only or_else at_paren or_else at_word w_as) but_not at_colons) ∷ (at_colons but_not at_colons) ∷ ((at_bang or_else at_colons and_also ahead Before_macro) but_not at_colons) ∷ ((at_path_rest and_also ahead Bang_brace) but_not at_colons) ∷ ((at_path_rest and_also ahead Bang_name) but_not at_colons) ∷ at_name ∷ at_brace ∷ at_word w_trait ∷ (at_word w_unsafe or_else at_word w_impl) ∷ ended ∷ []; halts = at_colons ∷ at_arguments ∷ at_arrow ∷ []; shuns = [] }
+summary_of false generic_argument = record { stays = Delimited Brace false ∷ Word w_true ∷ Word w_false ∷ Literal Str ∷ Literal ByteStr ∷ Literal CStr ∷ Literal Byte ∷ Literal Char ∷ Literal Int ∷ Literal Float ∷ Punctuation ampersand ∷ Punctuation star ∷ Delimited Paren false ∷ Delimited Bracket false ∷ Delimited None false ∷ Name ∷ Word w_union ∷ Word w_auto ∷ Word w_default ∷ Word w_safe ∷ Word w_Self_type ∷ Word w_self ∷ Word w_super ∷ Word w_crate ∷ []; moves = move Name Name (Before_equals ∷ []) ∷ move (Word w_union) (Word w_union) (Before_equals ∷ []) ∷ move (Word w_auto) (Word w_auto) (Before_equals ∷ []) ∷ move (Word w_default) (Word w_default) (Before_equals ∷ []) ∷ move (Word w_safe) (Word w_safe) (Before_equals ∷ []) ∷ move (Punctuation and_and) (Punctuation ampersand) [] ∷ move (Punctuation ampersand_equals) (Punctuation ampersand) [] ∷ move (Punctuation star_equals) (Punctuation star) [] ∷ move (Punctuation exclamation) (Punctuation exclamation) [] ∷ move (Punctuation not_equals) (Punctuation exclamation) [] ∷ move (Punctuation less) (Punctuation less) [] ∷ move (Punctuation less_less_equals) (Punctuation less) [] ∷ move (Punctuation less_equals) (Punctuation less) [] ∷ move (Punctuation less_less) (Punctuation less) [] ∷ move (Punctuation colons) (Punctuation colons) [] ∷ []; nullable = false; gone = []; ends = at_equals ∷ at_paren ∷ at_less ∷ ((at_colons or_else at_less_only or_else at_paren or_else at_word w_as) but_not at_colons) ∷ (at_colons but_not at_colons) ∷ ((at_bang or_else at_colons and_also ahead Before_macro) but_not at_colons) ∷ ((at_path_rest and_also ahead Bang_brace) but_not at_colons) ∷ ((at_path_rest and_also ahead Bang_name) but_not at_colons) ∷ at_name ∷ at_brace ∷ at_word w_trait ∷ (at_word w_unsafe or_else at_word w_impl) ∷ ended ∷ []; halts = at_colons ∷ at_arguments ∷ at_arrow ∷ []; shuns = [] }
 summary_of false qualified_path = record { stays = []; moves = move (Punctuation less) (Punctuation less) [] ∷ move (Punctuation less_less_equals) (Punctuation less) [] ∷ move (Punctuation less_equals) (Punctuation less) [] ∷ move (Punctuation less_less) (Punctuation less) [] ∷ []; nullable = false; gone = []; ends = at_equals ∷ at_paren ∷ at_less ∷ ((at_colons or_else at_less_only or_else at_paren or_else at_word w_as) but_not at_colons) ∷ (at_colons but_not at_colons) ∷ ((at_bang or_else at_colons and_also ahead Before_macro) but_not at_colons) ∷ ((at_path_rest and_also ahead Bang_brace) but_not at_colons) ∷ ((at_path_rest and_also ahead Bang_name) but_not at_colons) ∷ at_name ∷ at_brace ∷ at_word w_trait ∷ (at_word w_unsafe or_else at_word w_impl) ∷ ended ∷ []; halts = at_colons ∷ at_arguments ∷ at_arrow ∷ []; shuns = [] }
 summary_of false path_as_type = record { stays = []; moves = move (Punctuation less) (Punctuation less) [] ∷ move (Punctuation less_less_equals) (Punctuation less) [] ∷ move (Punctuation less_equals) (Punctuation less) [] ∷ move (Punctuation less_less) (Punctuation less) [] ∷ move (Punctuation colons) (Punctuation colons) [] ∷ move Name Name [] ∷ move (Word w_union) (Word w_union) [] ∷ move (Word w_auto) (Word w_auto) [] ∷ move (Word w_default) (Word w_default) [] ∷ move (Word w_safe) (Word w_safe) [] ∷ move (Word w_Self_type) (Word w_Self_type) [] ∷ move (Word w_self) (Word w_self) [] ∷ move (Word w_super) (Word w_super) [] ∷ move (Word w_crate) (Word w_crate) [] ∷ []; nullable = false; gone = []; ends = at_equals ∷ at_paren ∷ at_less ∷ ((at_colons or_else at_less_only or_else at_paren or_else at_word w_as) but_not at_colons) ∷ (at_colons but_not at_colons) ∷ ((at_bang or_else at_colons and_also ahead Before_macro) but_not at_colons) ∷ ((at_path_rest and_also ahead Bang_brace) but_not at_colons) ∷ ((at_path_rest and_also ahead Bang_name) but_not at_colons) ∷ at_name ∷ at_brace ∷ at_word w_trait ∷ (at_word w_unsafe or_else at_word w_impl) ∷ ended ∷ []; halts = at_colons ∷ at_arguments ∷ at_arrow ∷ []; shuns = [] }
 summary_of false type = record { stays = Punctuation ampersand ∷ Punctuation star ∷ Delimited Paren false ∷ Delimited Bracket false ∷ Delimited None false ∷ []; moves = move (Punctuation and_and) (Punctuation ampersand) [] ∷ move (Punctuation ampersand_equals) (Punctuation ampersand) [] ∷ move (Punctuation star_equals) (Punctuation star) [] ∷ move (Punctuation exclamation) (Punctuation exclamation) [] ∷ move (Punctuation not_equals) (Punctuation exclamation) [] ∷ move (Punctuation less) (Punctuation less) [] ∷ move (Punctuation less_less_equals) (Punctuation less) [] ∷ move (Punctuation less_equals) (Punctuation less) [] ∷ move (Punctuation less_less) (Punctuation less) [] ∷ move (Punctuation colons) (Punctuation colons) [] ∷ move Name Name [] ∷ move (Word w_union) (Word w_union) [] ∷ move (Word w_auto) (Word w_auto) [] ∷ move (Word w_default) (Word w_default) [] ∷ move (Word w_safe) (Word w_safe) [] ∷ move (Word w_Self_type) (Word w_Self_type) [] ∷ move (Word w_self) (Word w_self) [] ∷ move (Word w_super) (Word w_super) [] ∷ move (Word w_crate) (Word w_crate) [] ∷ []; nullable = false; gone = []; ends = at_equals ∷ at_paren ∷ at_less ∷ ((at_colons or_else at_less_only or_else at_paren or_else at_word w_as) but_not at_colons) ∷ (at_colons but_not at_colons) ∷ ((at_bang or_else at_colons and_also ahead Before_macro) but_not at_colons) ∷ ((at_path_rest and_also ahead Bang_brace) but_not at_colons) ∷ ((at_path_rest and_also ahead Bang_name) but_not at_colons) ∷ at_name ∷ at_brace ∷ at_word w_trait ∷ (at_word w_unsafe or_else at_word w_impl) ∷ ended ∷ []; halts = at_colons ∷ at_arguments ∷ at_arrow ∷ []; shuns = [] }
 summary_of false types = record { stays = Punctuation ampersand ∷ Punctuation star ∷ Delimited Paren false ∷ Delimited Bracket false ∷ Delimited None false ∷ []; moves = move (Punctuation and_and) (Punctuation ampersand) [] ∷ move (Punctuation ampersand_equals) (Punctuation ampersand) [] ∷ move (Punctuation star_equals) (Punctuation star) [] ∷ move (Punctuation exclamation) (Punctuation exclamation) [] ∷ move (Punctuation not_equals) (Punctuation exclamation) [] ∷ move (Punctuation less) (Punctuation less) [] ∷ move (Punctuation less_less_equals) (Punctuation less) [] ∷ move (Punctuation less_equals) (Punctuation less) [] ∷ move (Punctuation less_less) (Punctuation less) [] ∷ move (Punctuation colons) (Punctuation colons) [] ∷ move Name Name [] ∷ move (Word w_union) (Word w_union) [] ∷ move (Word w_auto) (Word w_auto) [] ∷ move (Word w_default) (Word w_default) [] ∷ move (Word w_safe) (Word w_safe) [] ∷ move (Word w_Self_type) (Word w_Self_type) [] ∷ move (Word w_self) (Word w_self) [] ∷ move (Word w_super) (Word w_super) [] ∷ move (Word w_crate) (Word w_crate) [] ∷ []; nullable = true; gone = []; ends = ended ∷ at_equals ∷ at_paren ∷ at_less ∷ ((at_colons or_else at_less_only or_else at_paren or_else at_word w_as) but_not at_colons) ∷ (at_colons but_not at_colons) ∷ ((at_bang or_else at_colons and_also ahead Before_macro) but_not at_colons) ∷ ((at_path_rest and_also ahead Bang_brace) but_not at_colons) ∷ ((at_path_rest and_also ahead Bang_name) but_not at_colons) ∷ at_name ∷ at_brace ∷ at_word w_trait ∷ (at_word w_unsafe or_else at_word w_impl) ∷ []; halts = at_comma ∷ at_colons ∷ at_arguments ∷ at_arrow ∷ []; shuns = [] }
-summary_of false expression = record { stays = Word w_true ∷ Word w_false ∷ Literal Str ∷ Literal ByteStr ∷ Literal CStr ∷ Literal Byte ∷ Literal Char ∷ Literal Int ∷ Literal Float ∷ []; moves = []; nullable = false; gone = []; ends = []; halts = []; shuns = [] }
+summary_of false constant = record { stays = Delimited Brace false ∷ Word w_true ∷ Word w_false ∷ Literal Str ∷ Literal ByteStr ∷ Literal CStr ∷ Literal Byte ∷ Literal Char ∷ Literal Int ∷ Literal Float ∷ []; moves = []; nullable = false; gone = []; ends = []; halts = []; shuns = [] }
 summary_of false generics = record { stays = []; moves = move (Punctuation less) (Punctuation less) [] ∷ move (Punctuation less_less_equals) (Punctuation less) [] ∷ move (Punctuation less_equals) (Punctuation less) [] ∷ move (Punctuation less_less) (Punctuation less) [] ∷ []; nullable = true; gone = Punctuation less ∷ Punctuation less_less_equals ∷ Punctuation less_equals ∷ Punctuation less_less ∷ []; ends = []; halts = at_less ∷ []; shuns = at_less ∷ [] }
 summary_of false lifetime_parameter = record { stays = Punctuation lifetime_mark ∷ []; moves = move (Punctuation pound) (Punctuation pound) [] ∷ []; nullable = false; gone = []; ends = []; halts = at_plus ∷ at_lifetime ∷ at_colon ∷ []; shuns = at_colon ∷ [] }
 summary_of false lifetimes = record { stays = Punctuation lifetime_mark ∷ []; moves = []; nullable = true; gone = []; ends = []; halts = at_plus ∷ at_lifetime ∷ []; shuns = [] }
@@ -570,14 +564,14 @@ summary_of false predicates = record { stays = Punctuation lifetime_mark ∷ Wor
 summary_of false predicate = record { stays = Punctuation lifetime_mark ∷ Word w_for ∷ Punctuation ampersand ∷ Punctuation star ∷ Delimited Paren false ∷ Delimited Bracket false ∷ Delimited None false ∷ []; moves = move (Punctuation and_and) (Punctuation ampersand) [] ∷ move (Punctuation ampersand_equals) (Punctuation ampersand) [] ∷ move (Punctuation star_equals) (Punctuation star) [] ∷ move (Punctuation exclamation) (Punctuation exclamation) [] ∷ move (Punctuation not_equals) (Punctuation exclamation) [] ∷ move (Punctuation less) (Punctuation less) [] ∷ move (Punctuation less_less_equals) (Punctuation less) [] ∷ move (Punctuation less_equals) (Punctuation less) [] ∷ move (Punctuation less_less) (Punctuation less) [] ∷ move (Punctuation colons) (Punctuation colons) [] ∷ move Name Name [] ∷ move (Word w_union) (Word w_union) [] ∷ move (Word w_auto) (Word w_auto) [] ∷ move (Word w_default) (Word w_default) [] ∷ move (Word w_safe) (Word w_safe) [] ∷ move (Word w_Self_type) (Word w_Self_type) [] ∷ move (Word w_self) (Word w_self) [] ∷ move (Word w_super) (Word w_super) [] ∷ move (Word w_crate) (Word w_crate) [] ∷ []; nullable = false; gone = []; ends = at_predicate_end ∷ at_equals ∷ at_paren ∷ at_less ∷ ((at_colons or_else at_less_only or_else at_paren or_else at_word w_as) but_not at_colons) ∷ (at_colons but_not at_colons) ∷ ((at_bang or_else at_colons and_also ahead Before_macro) but_not at_colons) ∷ ((at_path_rest and_also ahead Bang_brace) but_not at_colons) ∷ ((at_path_rest and_also ahead Bang_name) but_not at_colons) ∷ at_name ∷ at_brace ∷ at_word w_trait ∷ (at_word w_unsafe or_else at_word w_impl) ∷ ended ∷ []; halts = at_plus ∷ at_lifetime ∷ at_colons ∷ at_arguments ∷ at_arrow ∷ []; shuns = [] }
 summary_of false predicate_bounds = record { stays = Punctuation lifetime_mark ∷ Delimited Paren false ∷ Punctuation question ∷ Word w_for ∷ []; moves = move (Punctuation colons) (Punctuation colons) [] ∷ move Name Name [] ∷ move (Word w_union) (Word w_union) [] ∷ move (Word w_auto) (Word w_auto) [] ∷ move (Word w_default) (Word w_default) [] ∷ move (Word w_safe) (Word w_safe) [] ∷ move (Word w_Self_type) (Word w_Self_type) [] ∷ move (Word w_self) (Word w_self) [] ∷ move (Word w_super) (Word w_super) [] ∷ move (Word w_crate) (Word w_crate) [] ∷ []; nullable = true; gone = []; ends = at_predicate_end ∷ at_equals ∷ at_paren ∷ at_less ∷ ((at_colons or_else at_less_only or_else at_paren or_else at_word w_as) but_not at_colons) ∷ (at_colons but_not at_colons) ∷ ((at_bang or_else at_colons and_also ahead Before_macro) but_not at_colons) ∷ ((at_path_rest and_also ahead Bang_brace) but_not at_colons) ∷ ((at_path_rest and_also ahead Bang_name) but_not at_colons) ∷ at_name ∷ at_brace ∷ at_word w_trait ∷ (at_word w_unsafe or_else at_word w_impl) ∷ ended ∷ []; halts = at_plus ∷ at_colons ∷ at_arguments ∷ at_arrow ∷ []; shuns = [] }
 summary_of false fields_named = record { stays = Delimited Brace false ∷ []; moves = []; nullable = false; gone = []; ends = []; halts = []; shuns = [] }
-summary_of false named_fields = record { stays = Word w_pub ∷ Word w_underscore ∷ []; moves = move (Punctuation pound) (Punctuation pound) [] ∷ move Name Name [] ∷ move (Word w_union) (Word w_union) [] ∷ move (Word w_auto) (Word w_auto) [] ∷ move (Word w_default) (Word w_default) [] ∷ move (Word w_safe) (Word w_safe) [] ∷ move (Delimited None true) (Word w_underscore) [] ∷ move (Delimited None true) Name [] ∷ move (Delimited None true) (Word w_union) [] ∷ move (Delimited None true) (Word w_auto) [] ∷ move (Delimited None true) (Word w_default) [] ∷ move (Delimited None true) (Word w_safe) [] ∷ []; nullable = true; gone = []; ends = ended ∷ at_equals ∷ at_paren ∷ at_less ∷ ((at_colons or_else at_less_only or_else at_paren or_else at_word w_as) but_not at_colons) ∷ (at_colons but_not at_colons) ∷ ((at_bang or_else at_colons and_also ahead Before_macro) but_not at_colons) ∷ ((at_path_rest and_also ahead Bang_brace) but_not at_colons) ∷ ((at_path_rest and_also ahead Bang_name) but_not at_colons) ∷ at_name ∷ at_brace ∷ at_word w_trait ∷ (at_word w_unsafe or_else at_word w_impl) ∷ []; halts = at_comma ∷ at_equals ∷ at_colons ∷ at_arguments ∷ at_arrow ∷ []; shuns = [] }
-summary_of false named_field = record { stays = Word w_pub ∷ Word w_underscore ∷ []; moves = move (Punctuation pound) (Punctuation pound) [] ∷ move Name Name [] ∷ move (Word w_union) (Word w_union) [] ∷ move (Word w_auto) (Word w_auto) [] ∷ move (Word w_default) (Word w_default) [] ∷ move (Word w_safe) (Word w_safe) [] ∷ move (Delimited None true) (Word w_underscore) [] ∷ move (Delimited None true) Name [] ∷ move (Delimited None true) (Word w_union) [] ∷ move (Delimited None true) (Word w_auto) [] ∷ move (Delimited None true) (Word w_default) [] ∷ move (Delimited None true) (Word w_safe) [] ∷ []; nullable = false; gone = []; ends = at_equals ∷ at_paren ∷ at_less ∷ ((at_colons or_else at_less_only or_else at_paren or_else at_word w_as) but_not at_colons) ∷ (at_colons but_not at_colons) ∷ ((at_bang or_else at_colons and_also ahead Before_macro) but_not at_colons) ∷ ((at_path_rest and_also ahead Bang_brace) but_not at_colons) ∷ ((at_path_rest and_also ahead Bang_name) but_not at_colons) ∷ at_name ∷ at_brace ∷ at_word w_trait ∷ (at_word w_unsafe or_else at_word w_impl) ∷ ended ∷ []; halts = at_equals ∷ at_colons ∷ at_arguments ∷ at_arrow ∷ []; shuns = [] }
+summary_of false named_fields = record { stays = Word w_pub ∷ Word w_underscore ∷ []; moves = move (Punctuation pound) (Punctuation pound) [] ∷ move Name Name [] ∷ move (Word w_union) (Word w_union) [] ∷ move (Word w_auto) (Word w_auto) [] ∷ move (Word w_default) (Word w_default) [] ∷ move (Word w_safe) (Word w_safe) [] ∷ move (Delimited None true) (Word w_underscore) [] ∷ move (Delimited None true) Name [] ∷ move (Delimited None true) (Word w_union) [] ∷ move (Delimited None true) (Word w_auto) [] ∷ move (Delimited None true) (Word w_default) [] ∷ move (Delimited None true) (Word w_safe) [] ∷ []; nullable = true; gone = []; ends = ended ∷ at_equals ∷ at_paren ∷ at_less ∷ ((at_colons or_else at_less_only or_else at_paren or_else at_word w_as) but_not at_colons) ∷ (at_colons but_not at_colons) ∷ ((at_bang or_else at_colons and_also ahead Before_macro) but_not at_colons) ∷ ((at_path_rest and_also ahead Bang_brace) but_not at_colons) ∷ ((at_path_rest and_also ahead Bang_name) but_not at_colons) ∷ at_name ∷ at_brace ∷ at_word w_trait ∷ (at_word w_unsafe or_else at_word w_impl) ∷ (((at_colons or_else at_less_only or_else at_paren or_else at_word w_as) but_not at_colons) but_not at_word w_as) ∷ (at_paren but_not at_paren) ∷ ((((at_colons or_else at_less_only or_else at_paren or_else at_word w_as) but_not at_colons) but_not at_paren) but_not at_word w_as) ∷ ((((at_colons or_else at_less_only or_else at_paren or_else at_word w_as) but_not at_colons) but_not at_word w_as) but_not at_paren) ∷ []; halts = at_comma ∷ at_equals ∷ at_unfinished ∷ at_mark greater_greater_equals ∷ at_mark less_less_equals ∷ at_mark bar_equals ∷ at_mark ampersand_equals ∷ at_mark caret_equals ∷ at_mark percent_equals ∷ at_mark slash_equals ∷ at_mark star_equals ∷ at_mark minus_equals ∷ at_mark plus_equals ∷ at_equals_operator ∷ at_mark or_or ∷ at_mark and_and ∷ at_colons ∷ at_arguments ∷ at_mark greater_equals ∷ at_mark less_equals ∷ at_greater_operator ∷ at_less_operator ∷ at_mark not_equals ∷ at_mark equal_equal ∷ at_bar_operator ∷ at_arrow ∷ at_caret_operator ∷ at_ampersand_operator ∷ at_greater_greater_operator ∷ at_less_less_operator ∷ at_minus_operator ∷ at_plus_operator ∷ at_percent_operator ∷ at_slash_operator ∷ at_star_operator ∷ at_word w_as ∷ at_dot ∷ at_question ∷ at_bracket ∷ at_paren ∷ at_whole_expression ∷ at_lifetime ∷ at_word w_else ∷ at_turbofish ∷ []; shuns = [] }
+summary_of false named_field = record { stays = Word w_pub ∷ Word w_underscore ∷ []; moves = move (Punctuation pound) (Punctuation pound) [] ∷ move Name Name [] ∷ move (Word w_union) (Word w_union) [] ∷ move (Word w_auto) (Word w_auto) [] ∷ move (Word w_default) (Word w_default) [] ∷ move (Word w_safe) (Word w_safe) [] ∷ move (Delimited None true) (Word w_underscore) [] ∷ move (Delimited None true) Name [] ∷ move (Delimited None true) (Word w_union) [] ∷ move (Delimited None true) (Word w_auto) [] ∷ move (Delimited None true) (Word w_default) [] ∷ move (Delimited None true) (Word w_safe) [] ∷ []; nullable = false; gone = []; ends = at_equals ∷ at_paren ∷ at_less ∷ (((at_colons or_else at_less_only or_else at_paren or_else at_word w_as) but_not at_colons) but_not at_word w_as) ∷ (at_colons but_not at_colons) ∷ ((at_bang or_else at_colons and_also ahead Before_macro) but_not at_colons) ∷ ((at_path_rest and_also ahead Bang_brace) but_not at_colons) ∷ ((at_path_rest and_also ahead Bang_name) but_not at_colons) ∷ at_name ∷ at_brace ∷ at_word w_trait ∷ (at_word w_unsafe or_else at_word w_impl) ∷ ended ∷ (at_paren but_not at_paren) ∷ ((((at_colons or_else at_less_only or_else at_paren or_else at_word w_as) but_not at_colons) but_not at_paren) but_not at_word w_as) ∷ ((((at_colons or_else at_less_only or_else at_paren or_else at_word w_as) but_not at_colons) but_not at_word w_as) but_not at_paren) ∷ ((at_colons or_else at_less_only or_else at_paren or_else at_word w_as) but_not at_colons) ∷ []; halts = at_unfinished ∷ at_mark greater_greater_equals ∷ at_mark less_less_equals ∷ at_mark bar_equals ∷ at_mark ampersand_equals ∷ at_mark caret_equals ∷ at_mark percent_equals ∷ at_mark slash_equals ∷ at_mark star_equals ∷ at_mark minus_equals ∷ at_mark plus_equals ∷ at_equals_operator ∷ at_mark or_or ∷ at_mark and_and ∷ at_mark greater_equals ∷ at_mark less_equals ∷ at_greater_operator ∷ at_less_operator ∷ at_mark not_equals ∷ at_mark equal_equal ∷ at_bar_operator ∷ at_caret_operator ∷ at_ampersand_operator ∷ at_greater_greater_operator ∷ at_less_less_operator ∷ at_minus_operator ∷ at_plus_operator ∷ at_percent_operator ∷ at_slash_operator ∷ at_star_operator ∷ at_word w_as ∷ at_dot ∷ at_question ∷ at_bracket ∷ at_paren ∷ at_whole_expression ∷ at_lifetime ∷ at_colons ∷ at_arguments ∷ at_arrow ∷ at_word w_else ∷ at_turbofish ∷ at_equals ∷ []; shuns = [] }
 summary_of false nameless_fields = record { stays = Word w_struct ∷ Word w_union ∷ []; moves = []; nullable = false; gone = []; ends = []; halts = []; shuns = [] }
 summary_of false unnamed_field = record { stays = Word w_pub ∷ Punctuation ampersand ∷ Punctuation star ∷ Delimited Paren false ∷ Delimited Bracket false ∷ Delimited None false ∷ Name ∷ Word w_union ∷ Word w_auto ∷ Word w_default ∷ Word w_safe ∷ Word w_Self_type ∷ Word w_self ∷ Word w_super ∷ Word w_crate ∷ []; moves = move (Punctuation pound) (Punctuation pound) [] ∷ move (Punctuation and_and) (Punctuation ampersand) [] ∷ move (Punctuation ampersand_equals) (Punctuation ampersand) [] ∷ move (Punctuation star_equals) (Punctuation star) [] ∷ move (Punctuation exclamation) (Punctuation exclamation) [] ∷ move (Punctuation not_equals) (Punctuation exclamation) [] ∷ move (Punctuation less) (Punctuation less) [] ∷ move (Punctuation less_less_equals) (Punctuation less) [] ∷ move (Punctuation less_equals) (Punctuation less) [] ∷ move (Punctuation less_less) (Punctuation less) [] ∷ move (Punctuation colons) (Punctuation colons) [] ∷ move (Delimited None true) (Punctuation ampersand) [] ∷ move (Delimited None true) (Punctuation star) [] ∷ move (Delimited None true) (Delimited Paren false) [] ∷ move (Delimited None true) (Delimited Bracket false) [] ∷ move (Delimited None true) (Delimited None false) [] ∷ move (Delimited None true) Name [] ∷ move (Delimited None true) (Word w_union) [] ∷ move (Delimited None true) (Word w_auto) [] ∷ move (Delimited None true) (Word w_default) [] ∷ move (Delimited None true) (Word w_safe) [] ∷ move (Delimited None true) (Word w_Self_type) [] ∷ move (Delimited None true) (Word w_self) [] ∷ move (Delimited None true) (Word w_super) [] ∷ move (Delimited None true) (Word w_crate) [] ∷ move (Delimited None true) (Punctuation exclamation) [] ∷ move (Delimited None true) (Punctuation less) [] ∷ move (Delimited None true) (Punctuation colons) [] ∷ []; nullable = false; gone = []; ends = (at_equals but_not at_equals) ∷ at_paren ∷ at_less ∷ ((at_colons or_else at_less_only or_else at_paren or_else at_word w_as) but_not at_colons) ∷ (at_colons but_not at_colons) ∷ ((at_bang or_else at_colons and_also ahead Before_macro) but_not at_colons) ∷ ((at_path_rest and_also ahead Bang_brace) but_not at_colons) ∷ ((at_path_rest and_also ahead Bang_name) but_not at_colons) ∷ at_name ∷ at_brace ∷ at_word w_trait ∷ (at_word w_unsafe or_else at_word w_impl) ∷ ended ∷ []; halts = at_equals ∷ at_colons ∷ at_arguments ∷ at_arrow ∷ []; shuns = [] }
 summary_of false unnamed_fields = record { stays = Word w_pub ∷ Punctuation ampersand ∷ Punctuation star ∷ Delimited Paren false ∷ Delimited Bracket false ∷ Delimited None false ∷ Name ∷ Word w_union ∷ Word w_auto ∷ Word w_default ∷ Word w_safe ∷ Word w_Self_type ∷ Word w_self ∷ Word w_super ∷ Word w_crate ∷ []; moves = move (Punctuation pound) (Punctuation pound) [] ∷ move (Punctuation and_and) (Punctuation ampersand) [] ∷ move (Punctuation ampersand_equals) (Punctuation ampersand) [] ∷ move (Punctuation star_equals) (Punctuation star) [] ∷ move (Punctuation exclamation) (Punctuation exclamation) [] ∷ move (Punctuation not_equals) (Punctuation exclamation) [] ∷ move (Punctuation less) (Punctuation less) [] ∷ move (Punctuation less_less_equals) (Punctuation less) [] ∷ move (Punctuation less_equals) (Punctuation less) [] ∷ move (Punctuation less_less) (Punctuation less) [] ∷ move (Punctuation colons) (Punctuation colons) [] ∷ move (Delimited None true) (Punctuation ampersand) [] ∷ move (Delimited None true) (Punctuation star) [] ∷ move (Delimited None true) (Delimited Paren false) [] ∷ move (Delimited None true) (Delimited Bracket false) [] ∷ move (Delimited None true) (Delimited None false) [] ∷ move (Delimited None true) Name [] ∷ move (Delimited None true) (Word w_union) [] ∷ move (Delimited None true) (Word w_auto) [] ∷ move (Delimited None true) (Word w_default) [] ∷ move (Delimited None true) (Word w_safe) [] ∷ move (Delimited None true) (Word w_Self_type) [] ∷ move (Delimited None true) (Word w_self) [] ∷ move (Delimited None true) (Word w_super) [] ∷ move (Delimited None true) (Word w_crate) [] ∷ move (Delimited None true) (Punctuation exclamation) [] ∷ move (Delimited None true) (Punctuation less) [] ∷ move (Delimited None true) (Punctuation colons) [] ∷ []; nullable = true; gone = []; ends = ended ∷ (at_equals but_not at_equals) ∷ at_paren ∷ at_less ∷ ((at_colons or_else at_less_only or_else at_paren or_else at_word w_as) but_not at_colons) ∷ (at_colons but_not at_colons) ∷ ((at_bang or_else at_colons and_also ahead Before_macro) but_not at_colons) ∷ ((at_path_rest and_also ahead Bang_brace) but_not at_colons) ∷ ((at_path_rest and_also ahead Bang_name) but_not at_colons) ∷ at_name ∷ at_brace ∷ at_word w_trait ∷ (at_word w_unsafe or_else at_word w_impl) ∷ []; halts = at_comma ∷ at_equals ∷ at_colons ∷ at_arguments ∷ at_arrow ∷ []; shuns = [] }
 summary_of false fields_unnamed = record { stays = []; moves = move (Delimited Paren false) (Delimited Paren false) [] ∷ []; nullable = false; gone = []; ends = []; halts = []; shuns = [] }
-summary_of false variant = record { stays = []; moves = move (Punctuation pound) (Punctuation pound) [] ∷ move Name Name [] ∷ move (Word w_union) (Word w_union) [] ∷ move (Word w_auto) (Word w_auto) [] ∷ move (Word w_default) (Word w_default) [] ∷ move (Word w_safe) (Word w_safe) [] ∷ move (Word w_pub) Name [] ∷ move (Word w_pub) (Word w_union) [] ∷ move (Word w_pub) (Word w_auto) [] ∷ move (Word w_pub) (Word w_default) [] ∷ move (Word w_pub) (Word w_safe) [] ∷ move (Delimited None true) Name [] ∷ move (Delimited None true) (Word w_union) [] ∷ move (Delimited None true) (Word w_auto) [] ∷ move (Delimited None true) (Word w_default) [] ∷ move (Delimited None true) (Word w_safe) [] ∷ []; nullable = false; gone = []; ends = []; halts = at_equals ∷ at_paren ∷ at_brace ∷ []; shuns = [] }
-summary_of false variants = record { stays = []; moves = move (Punctuation pound) (Punctuation pound) [] ∷ move Name Name [] ∷ move (Word w_union) (Word w_union) [] ∷ move (Word w_auto) (Word w_auto) [] ∷ move (Word w_default) (Word w_default) [] ∷ move (Word w_safe) (Word w_safe) [] ∷ move (Word w_pub) Name [] ∷ move (Word w_pub) (Word w_union) [] ∷ move (Word w_pub) (Word w_auto) [] ∷ move (Word w_pub) (Word w_default) [] ∷ move (Word w_pub) (Word w_safe) [] ∷ move (Delimited None true) Name [] ∷ move (Delimited None true) (Word w_union) [] ∷ move (Delimited None true) (Word w_auto) [] ∷ move (Delimited None true) (Word w_default) [] ∷ move (Delimited None true) (Word w_safe) [] ∷ []; nullable = true; gone = []; ends = ended ∷ []; halts = at_comma ∷ at_equals ∷ at_paren ∷ at_brace ∷ []; shuns = [] }
+summary_of false variant = record { stays = []; moves = move (Punctuation pound) (Punctuation pound) [] ∷ move Name Name [] ∷ move (Word w_union) (Word w_union) [] ∷ move (Word w_auto) (Word w_auto) [] ∷ move (Word w_default) (Word w_default) [] ∷ move (Word w_safe) (Word w_safe) [] ∷ move (Word w_pub) Name [] ∷ move (Word w_pub) (Word w_union) [] ∷ move (Word w_pub) (Word w_auto) [] ∷ move (Word w_pub) (Word w_default) [] ∷ move (Word w_pub) (Word w_safe) [] ∷ move (Delimited None true) Name [] ∷ move (Delimited None true) (Word w_union) [] ∷ move (Delimited None true) (Word w_auto) [] ∷ move (Delimited None true) (Word w_default) [] ∷ move (Delimited None true) (Word w_safe) [] ∷ []; nullable = false; gone = []; ends = at_equals ∷ at_paren ∷ at_less ∷ (((at_colons or_else at_less_only or_else at_paren or_else at_word w_as) but_not at_colons) but_not at_word w_as) ∷ (at_colons but_not at_colons) ∷ ((at_bang or_else at_colons and_also ahead Before_macro) but_not at_colons) ∷ ((at_path_rest and_also ahead Bang_brace) but_not at_colons) ∷ ((at_path_rest and_also ahead Bang_name) but_not at_colons) ∷ at_name ∷ at_brace ∷ at_word w_trait ∷ (at_word w_unsafe or_else at_word w_impl) ∷ ended ∷ (at_paren but_not at_paren) ∷ ((((at_colons or_else at_less_only or_else at_paren or_else at_word w_as) but_not at_colons) but_not at_paren) but_not at_word w_as) ∷ ((((at_colons or_else at_less_only or_else at_paren or_else at_word w_as) but_not at_colons) but_not at_word w_as) but_not at_paren) ∷ []; halts = at_unfinished ∷ at_mark greater_greater_equals ∷ at_mark less_less_equals ∷ at_mark bar_equals ∷ at_mark ampersand_equals ∷ at_mark caret_equals ∷ at_mark percent_equals ∷ at_mark slash_equals ∷ at_mark star_equals ∷ at_mark minus_equals ∷ at_mark plus_equals ∷ at_equals_operator ∷ at_mark or_or ∷ at_mark and_and ∷ at_mark greater_equals ∷ at_mark less_equals ∷ at_greater_operator ∷ at_less_operator ∷ at_mark not_equals ∷ at_mark equal_equal ∷ at_bar_operator ∷ at_caret_operator ∷ at_ampersand_operator ∷ at_greater_greater_operator ∷ at_less_less_operator ∷ at_minus_operator ∷ at_plus_operator ∷ at_percent_operator ∷ at_slash_operator ∷ at_star_operator ∷ at_word w_as ∷ at_dot ∷ at_question ∷ at_bracket ∷ at_paren ∷ at_whole_expression ∷ at_lifetime ∷ at_colons ∷ at_arguments ∷ at_arrow ∷ at_word w_else ∷ at_turbofish ∷ at_equals ∷ at_brace ∷ []; shuns = [] }
+summary_of false variants = record { stays = []; moves = move (Punctuation pound) (Punctuation pound) [] ∷ move Name Name [] ∷ move (Word w_union) (Word w_union) [] ∷ move (Word w_auto) (Word w_auto) [] ∷ move (Word w_default) (Word w_default) [] ∷ move (Word w_safe) (Word w_safe) [] ∷ move (Word w_pub) Name [] ∷ move (Word w_pub) (Word w_union) [] ∷ move (Word w_pub) (Word w_auto) [] ∷ move (Word w_pub) (Word w_default) [] ∷ move (Word w_pub) (Word w_safe) [] ∷ move (Delimited None true) Name [] ∷ move (Delimited None true) (Word w_union) [] ∷ move (Delimited None true) (Word w_auto) [] ∷ move (Delimited None true) (Word w_default) [] ∷ move (Delimited None true) (Word w_safe) [] ∷ []; nullable = true; gone = []; ends = ended ∷ at_equals ∷ at_paren ∷ at_less ∷ (((at_colons or_else at_less_only or_else at_paren or_else at_word w_as) but_not at_colons) but_not at_word w_as) ∷ (at_colons but_not at_colons) ∷ ((at_bang or_else at_colons and_also ahead Before_macro) but_not at_colons) ∷ ((at_path_rest and_also ahead Bang_brace) but_not at_colons) ∷ ((at_path_rest and_also ahead Bang_name) but_not at_colons) ∷ at_name ∷ at_brace ∷ at_word w_trait ∷ (at_word w_unsafe or_else at_word w_impl) ∷ (at_paren but_not at_paren) ∷ ((((at_colons or_else at_less_only or_else at_paren or_else at_word w_as) but_not at_colons) but_not at_paren) but_not at_word w_as) ∷ ((((at_colons or_else at_less_only or_else at_paren or_else at_word w_as) but_not at_colons) but_not at_word w_as) but_not at_paren) ∷ []; halts = at_comma ∷ at_equals ∷ at_paren ∷ at_brace ∷ at_unfinished ∷ at_mark greater_greater_equals ∷ at_mark less_less_equals ∷ at_mark bar_equals ∷ at_mark ampersand_equals ∷ at_mark caret_equals ∷ at_mark percent_equals ∷ at_mark slash_equals ∷ at_mark star_equals ∷ at_mark minus_equals ∷ at_mark plus_equals ∷ at_equals_operator ∷ at_mark or_or ∷ at_mark and_and ∷ at_mark greater_equals ∷ at_mark less_equals ∷ at_greater_operator ∷ at_less_operator ∷ at_mark not_equals ∷ at_mark equal_equal ∷ at_bar_operator ∷ at_caret_operator ∷ at_ampersand_operator ∷ at_greater_greater_operator ∷ at_less_less_operator ∷ at_minus_operator ∷ at_plus_operator ∷ at_percent_operator ∷ at_slash_operator ∷ at_star_operator ∷ at_word w_as ∷ at_dot ∷ at_question ∷ at_bracket ∷ at_whole_expression ∷ at_lifetime ∷ at_colons ∷ at_arguments ∷ at_arrow ∷ at_word w_else ∷ at_turbofish ∷ []; shuns = [] }
 summary_of false structure = record { stays = Word w_pub ∷ Word w_struct ∷ []; moves = move (Punctuation pound) (Punctuation pound) [] ∷ move (Delimited None true) (Word w_struct) [] ∷ []; nullable = false; gone = []; ends = []; halts = []; shuns = [] }
 summary_of false structure_rest = record { stays = Word w_pub ∷ Word w_struct ∷ []; moves = move (Delimited None true) (Word w_struct) [] ∷ []; nullable = false; gone = []; ends = []; halts = []; shuns = [] }
 summary_of false structure_body = record { stays = Word w_where ∷ Delimited Brace false ∷ Punctuation semicolon ∷ []; moves = move (Delimited Paren false) (Delimited Paren false) [] ∷ move (Word w_where) (Delimited Brace false) [] ∷ move (Word w_where) (Punctuation semicolon) [] ∷ []; nullable = false; gone = []; ends = []; halts = []; shuns = [] }
@@ -594,12 +588,12 @@ summary_of false macro_invocation = record { stays = []; moves = move (Punctuati
 summary_of false pattern = record { stays = Word w_underscore ∷ Delimited Paren false ∷ Punctuation colons ∷ Name ∷ Word w_union ∷ Word w_auto ∷ Word w_default ∷ Word w_safe ∷ Word w_Self_type ∷ Word w_self ∷ Word w_super ∷ Word w_crate ∷ Word w_ref ∷ []; moves = move (Punctuation less) (Punctuation less) [] ∷ move (Punctuation less_less_equals) (Punctuation less) [] ∷ move (Punctuation less_equals) (Punctuation less) [] ∷ move (Punctuation less_less) (Punctuation less) [] ∷ move (Word w_mut) (Word w_mut) [] ∷ []; nullable = false; gone = []; ends = at_equals ∷ at_paren ∷ at_less ∷ ((at_colons or_else at_less_only or_else at_paren or_else at_word w_as) but_not at_colons) ∷ (at_colons but_not at_colons) ∷ ((at_bang or_else at_colons and_also ahead Before_macro) but_not at_colons) ∷ ((at_path_rest and_also ahead Bang_brace) but_not at_colons) ∷ ((at_path_rest and_also ahead Bang_name) but_not at_colons) ∷ at_name ∷ at_brace ∷ at_word w_trait ∷ (at_word w_unsafe or_else at_word w_impl) ∷ ended ∷ []; halts = at_paren ∷ at_colons ∷ at_turbofish ∷ at_arrow ∷ at_arguments ∷ []; shuns = [] }
 summary_of false patterns = record { stays = Word w_underscore ∷ Delimited Paren false ∷ Punctuation colons ∷ Name ∷ Word w_union ∷ Word w_auto ∷ Word w_default ∷ Word w_safe ∷ Word w_Self_type ∷ Word w_self ∷ Word w_super ∷ Word w_crate ∷ Word w_ref ∷ []; moves = move (Punctuation less) (Punctuation less) [] ∷ move (Punctuation less_less_equals) (Punctuation less) [] ∷ move (Punctuation less_equals) (Punctuation less) [] ∷ move (Punctuation less_less) (Punctuation less) [] ∷ move (Word w_mut) (Word w_mut) [] ∷ []; nullable = true; gone = []; ends = ended ∷ at_equals ∷ at_paren ∷ at_less ∷ ((at_colons or_else at_less_only or_else at_paren or_else at_word w_as) but_not at_colons) ∷ (at_colons but_not at_colons) ∷ ((at_bang or_else at_colons and_also ahead Before_macro) but_not at_colons) ∷ ((at_path_rest and_also ahead Bang_brace) but_not at_colons) ∷ ((at_path_rest and_also ahead Bang_name) but_not at_colons) ∷ at_name ∷ at_brace ∷ at_word w_trait ∷ (at_word w_unsafe or_else at_word w_impl) ∷ []; halts = at_comma ∷ at_paren ∷ at_colons ∷ at_turbofish ∷ at_arrow ∷ at_arguments ∷ []; shuns = [] }
 summary_of false expressions = record { stays = Punctuation minus ∷ Punctuation star ∷ Punctuation ampersand ∷ Word w_true ∷ Word w_false ∷ Literal Str ∷ Literal ByteStr ∷ Literal CStr ∷ Literal Byte ∷ Literal Char ∷ Literal Int ∷ Literal Float ∷ Punctuation colons ∷ Name ∷ Word w_union ∷ Word w_auto ∷ Word w_default ∷ Word w_safe ∷ Word w_self ∷ Word w_Self_type ∷ Word w_super ∷ Word w_crate ∷ Delimited Paren false ∷ Delimited Bracket false ∷ Delimited None false ∷ Word w_if ∷ Punctuation lifetime_mark ∷ Delimited Brace false ∷ Word w_loop ∷ Word w_while ∷ Word w_for ∷ Word w_return ∷ Word w_break ∷ Word w_continue ∷ []; moves = move (Punctuation pound) (Punctuation pound) [] ∷ move (Punctuation arrow) (Punctuation minus) [] ∷ move (Punctuation minus_equals) (Punctuation minus) [] ∷ move (Punctuation exclamation) (Punctuation exclamation) [] ∷ move (Punctuation not_equals) (Punctuation exclamation) [] ∷ move (Punctuation star_equals) (Punctuation star) [] ∷ move (Punctuation and_and) (Punctuation ampersand) [] ∷ move (Punctuation ampersand_equals) (Punctuation ampersand) [] ∷ move (Word w_unsafe) (Word w_unsafe) [] ∷ move (Punctuation less) (Punctuation less) [] ∷ move (Punctuation less_less_equals) (Punctuation less) [] ∷ move (Punctuation less_equals) (Punctuation less) [] ∷ move (Punctuation less_less) (Punctuation less) [] ∷ []; nullable = true; gone = []; ends = ended ∷ at_equals ∷ at_paren ∷ at_less ∷ (((at_colons or_else at_less_only or_else at_paren or_else at_word w_as) but_not at_colons) but_not at_word w_as) ∷ (at_colons but_not at_colons) ∷ ((at_bang or_else at_colons and_also ahead Before_macro) but_not at_colons) ∷ ((at_path_rest and_also ahead Bang_brace) but_not at_colons) ∷ ((at_path_rest and_also ahead Bang_name) but_not at_colons) ∷ at_name ∷ at_brace ∷ at_word w_trait ∷ (at_word w_unsafe or_else at_word w_impl) ∷ (at_paren but_not at_paren) ∷ ((((at_colons or_else at_less_only or_else at_paren or_else at_word w_as) but_not at_colons) but_not at_paren) but_not at_word w_as) ∷ ((((at_colons or_else at_less_only or_else at_paren or_else at_word w_as) but_not at_colons) but_not at_word w_as) but_not at_paren) ∷ []; halts = at_comma ∷ at_unfinished ∷ at_mark greater_greater_equals ∷ at_mark less_less_equals ∷ at_mark bar_equals ∷ at_mark ampersand_equals ∷ at_mark caret_equals ∷ at_mark percent_equals ∷ at_mark slash_equals ∷ at_mark star_equals ∷ at_mark minus_equals ∷ at_mark plus_equals ∷ at_equals_operator ∷ at_mark or_or ∷ at_mark and_and ∷ at_mark greater_equals ∷ at_mark less_equals ∷ at_greater_operator ∷ at_less_operator ∷ at_mark not_equals ∷ at_mark equal_equal ∷ at_bar_operator ∷ at_caret_operator ∷ at_ampersand_operator ∷ at_greater_greater_operator ∷ at_less_less_operator ∷ at_minus_operator ∷ at_plus_operator ∷ at_percent_operator ∷ at_slash_operator ∷ at_star_operator ∷ at_word w_as ∷ at_dot ∷ at_question ∷ at_bracket ∷ at_paren ∷ at_whole_expression ∷ at_lifetime ∷ at_colons ∷ at_arguments ∷ at_arrow ∷ at_word w_else ∷ at_turbofish ∷ []; shuns = [] }
-summary_of false array_content = record { stays = Punctuation minus ∷ Punctuation star ∷ Punctuation ampersand ∷ Word w_true ∷ Word w_false ∷ Literal Str ∷ Literal ByteStr ∷ Literal CStr ∷ Literal Byte ∷ Literal Char ∷ Literal Int ∷ Literal Float ∷ Punctuation colons ∷ Name ∷ Word w_union ∷ Word w_auto ∷ Word w_default ∷ Word w_safe ∷ Word w_self ∷ Word w_Self_type ∷ Word w_super ∷ Word w_crate ∷ Delimited Paren false ∷ Delimited Bracket false ∷ Delimited None false ∷ Word w_if ∷ Punctuation lifetime_mark ∷ Delimited Brace false ∷ Word w_loop ∷ Word w_while ∷ Word w_for ∷ Word w_return ∷ Word w_break ∷ Word w_continue ∷ []; moves = move (Punctuation pound) (Punctuation pound) [] ∷ move (Punctuation arrow) (Punctuation minus) [] ∷ move (Punctuation minus_equals) (Punctuation minus) [] ∷ move (Punctuation exclamation) (Punctuation exclamation) [] ∷ move (Punctuation not_equals) (Punctuation exclamation) [] ∷ move (Punctuation star_equals) (Punctuation star) [] ∷ move (Punctuation and_and) (Punctuation ampersand) [] ∷ move (Punctuation ampersand_equals) (Punctuation ampersand) [] ∷ move (Word w_unsafe) (Word w_unsafe) [] ∷ move (Punctuation less) (Punctuation less) [] ∷ move (Punctuation less_less_equals) (Punctuation less) [] ∷ move (Punctuation less_equals) (Punctuation less) [] ∷ move (Punctuation less_less) (Punctuation less) [] ∷ []; nullable = true; gone = []; ends = at_equals ∷ at_paren ∷ at_less ∷ (((at_colons or_else at_less_only or_else at_paren or_else at_word w_as) but_not at_colons) but_not at_word w_as) ∷ (at_colons but_not at_colons) ∷ ((at_bang or_else at_colons and_also ahead Before_macro) but_not at_colons) ∷ ((at_path_rest and_also ahead Bang_brace) but_not at_colons) ∷ ((at_path_rest and_also ahead Bang_name) but_not at_colons) ∷ at_name ∷ at_brace ∷ at_word w_trait ∷ (at_word w_unsafe or_else at_word w_impl) ∷ ended ∷ (at_paren but_not at_paren) ∷ ((((at_colons or_else at_less_only or_else at_paren or_else at_word w_as) but_not at_colons) but_not at_paren) but_not at_word w_as) ∷ ((((at_colons or_else at_less_only or_else at_paren or_else at_word w_as) but_not at_colons) but_not at_word w_as) but_not at_paren) ∷ []; halts = at_unfinished ∷ at_mark greater_greater_equals ∷ at_mark less_less_equals ∷ at_mark bar_equals ∷ at_mark ampersand_equals ∷ at_mark caret_equals ∷ at_mark percent_equals ∷ at_mark slash_equals ∷ at_mark star_equals ∷ at_mark minus_equals ∷ at_mark plus_equals ∷ at_equals_operator ∷ at_mark or_or ∷ at_mark and_and ∷ at_bar_operator ∷ at_caret_operator ∷ at_ampersand_operator ∷ at_greater_greater_operator ∷ at_less_less_operator ∷ at_minus_operator ∷ at_plus_operator ∷ at_percent_operator ∷ at_slash_operator ∷ at_star_operator ∷ at_word w_as ∷ at_colons ∷ at_arguments ∷ at_arrow ∷ at_dot ∷ at_question ∷ at_bracket ∷ at_paren ∷ at_whole_expression ∷ at_lifetime ∷ at_word w_else ∷ at_mark greater_equals ∷ at_mark less_equals ∷ at_greater_operator ∷ at_less_operator ∷ at_mark not_equals ∷ at_mark equal_equal ∷ at_turbofish ∷ at_comma ∷ at_semicolon ∷ []; shuns = [] }
+summary_of false array_content = record { stays = Punctuation minus ∷ Punctuation star ∷ Punctuation ampersand ∷ Word w_true ∷ Word w_false ∷ Literal Str ∷ Literal ByteStr ∷ Literal CStr ∷ Literal Byte ∷ Literal Char ∷ Literal Int ∷ Literal Float ∷ Punctuation colons ∷ Name ∷ Word w_union ∷ Word w_auto ∷ Word w_default ∷ Word w_safe ∷ Word w_self ∷ Word w_Self_type ∷ Word w_super ∷ Word w_crate ∷ Delimited Paren false ∷ Delimited Bracket false ∷ Delimited None false ∷ Word w_if ∷ Punctuation lifetime_mark ∷ Delimited Brace false ∷ Word w_loop ∷ Word w_while ∷ Word w_for ∷ Word w_return ∷ Word w_break ∷ Word w_continue ∷ []; moves = move (Punctuation pound) (Punctuation pound) [] ∷ move (Punctuation arrow) (Punctuation minus) [] ∷ move (Punctuation minus_equals) (Punctuation minus) [] ∷ move (Punctuation exclamation) (Punctuation exclamation) [] ∷ move (Punctuation not_equals) (Punctuation exclamation) [] ∷ move (Punctuation star_equals) (Punctuation star) [] ∷ move (Punctuation and_and) (Punctuation ampersand) [] ∷ move (Punctuation ampersand_equals) (Punctuation ampersand) [] ∷ move (Word w_unsafe) (Word w_unsafe) [] ∷ move (Punctuation less) (Punctuation less) [] ∷ move (Punctuation less_less_equals) (Punctuation less) [] ∷ move (Punctuation less_equals) (Punctuation less) [] ∷ move (Punctuation less_less) (Punctuation less) [] ∷ []; nullable = true; gone = []; ends = at_equals ∷ at_paren ∷ at_less ∷ (((at_colons or_else at_less_only or_else at_paren or_else at_word w_as) but_not at_colons) but_not at_word w_as) ∷ (at_colons but_not at_colons) ∷ ((at_bang or_else at_colons and_also ahead Before_macro) but_not at_colons) ∷ ((at_path_rest and_also ahead Bang_brace) but_not at_colons) ∷ ((at_path_rest and_also ahead Bang_name) but_not at_colons) ∷ at_name ∷ at_brace ∷ at_word w_trait ∷ (at_word w_unsafe or_else at_word w_impl) ∷ ended ∷ (at_paren but_not at_paren) ∷ ((((at_colons or_else at_less_only or_else at_paren or_else at_word w_as) but_not at_colons) but_not at_paren) but_not at_word w_as) ∷ ((((at_colons or_else at_less_only or_else at_paren or_else at_word w_as) but_not at_colons) but_not at_word w_as) but_not at_paren) ∷ []; halts = at_unfinished ∷ at_mark greater_greater_equals ∷ at_mark less_less_equals ∷ at_mark bar_equals ∷ at_mark ampersand_equals ∷ at_mark caret_equals ∷ at_mark percent_equals ∷ at_mark slash_equals ∷ at_mark star_equals ∷ at_mark minus_equals ∷ at_mark plus_equals ∷ at_equals_operator ∷ at_mark or_or ∷ at_mark and_and ∷ at_mark greater_equals ∷ at_mark less_equals ∷ at_greater_operator ∷ at_less_operator ∷ at_mark not_equals ∷ at_mark equal_equal ∷ at_bar_operator ∷ at_caret_operator ∷ at_ampersand_operator ∷ at_greater_greater_operator ∷ at_less_less_operator ∷ at_minus_operator ∷ at_plus_operator ∷ at_percent_operator ∷ at_slash_operator ∷ at_star_operator ∷ at_word w_as ∷ at_dot ∷ at_question ∷ at_bracket ∷ at_paren ∷ at_whole_expression ∷ at_lifetime ∷ at_colons ∷ at_arguments ∷ at_arrow ∷ at_word w_else ∷ at_turbofish ∷ at_comma ∷ at_semicolon ∷ []; shuns = [] }
 summary_of false block = record { stays = Delimited Brace false ∷ []; moves = []; nullable = false; gone = []; ends = []; halts = []; shuns = [] }
 summary_of false body = record { stays = Delimited Brace false ∷ []; moves = []; nullable = false; gone = []; ends = []; halts = []; shuns = [] }
 summary_of false plain_body = record { stays = Delimited Brace false ∷ []; moves = []; nullable = false; gone = []; ends = []; halts = []; shuns = [] }
 summary_of false no_inner_attributes = record { stays = []; moves = []; nullable = true; gone = []; ends = []; halts = at_inner_attribute ∷ []; shuns = [] }
-summary_of false primary = record { stays = Word w_true ∷ Word w_false ∷ Literal Str ∷ Literal ByteStr ∷ Literal CStr ∷ Literal Byte ∷ Literal Char ∷ Literal Int ∷ Literal Float ∷ Punctuation colons ∷ Name ∷ Word w_union ∷ Word w_auto ∷ Word w_default ∷ Word w_safe ∷ Word w_self ∷ Word w_Self_type ∷ Word w_super ∷ Word w_crate ∷ Delimited Paren false ∷ Delimited Bracket false ∷ Delimited None false ∷ Word w_if ∷ Punctuation lifetime_mark ∷ Delimited Brace false ∷ Word w_loop ∷ Word w_while ∷ Word w_for ∷ Word w_return ∷ Word w_break ∷ Word w_continue ∷ []; moves = move (Word w_unsafe) (Word w_unsafe) [] ∷ move (Punctuation less) (Punctuation less) [] ∷ move (Punctuation less_less_equals) (Punctuation less) [] ∷ move (Punctuation less_equals) (Punctuation less) [] ∷ move (Punctuation less_less) (Punctuation less) [] ∷ []; nullable = false; gone = []; ends = at_equals ∷ at_paren ∷ at_less ∷ (((at_colons or_else at_less_only or_else at_paren or_else at_word w_as) but_not at_colons) but_not at_word w_as) ∷ (at_colons but_not at_colons) ∷ ((at_bang or_else at_colons and_also ahead Before_macro) but_not at_colons) ∷ ((at_path_rest and_also ahead Bang_brace) but_not at_colons) ∷ ((at_path_rest and_also ahead Bang_name) but_not at_colons) ∷ at_name ∷ at_brace ∷ at_word w_trait ∷ (at_word w_unsafe or_else at_word w_impl) ∷ ended ∷ (at_paren but_not at_paren) ∷ ((((at_colons or_else at_less_only or_else at_paren or_else at_word w_as) but_not at_colons) but_not at_paren) but_not at_word w_as) ∷ ((((at_colons or_else at_less_only or_else at_paren or_else at_word w_as) but_not at_colons) but_not at_word w_as) but_not at_paren) ∷ ((at_colons or_else at_less_only or_else at_paren or_else at_word w_as) but_not at_colons) ∷ []; halts = at_word w_else ∷ at_unfinished ∷ at_mark greater_greater_equals ∷ at_mark less_less_equals ∷ at_mark bar_equals ∷ at_mark ampersand_equals ∷ at_mark caret_equals ∷ at_mark percent_equals ∷ at_mark slash_equals ∷ at_mark star_equals ∷ at_mark minus_equals ∷ at_mark plus_equals ∷ at_equals_operator ∷ at_mark or_or ∷ at_mark and_and ∷ at_bar_operator ∷ at_caret_operator ∷ at_ampersand_operator ∷ at_greater_greater_operator ∷ at_less_less_operator ∷ at_minus_operator ∷ at_plus_operator ∷ at_percent_operator ∷ at_slash_operator ∷ at_star_operator ∷ at_word w_as ∷ at_colons ∷ at_arguments ∷ at_arrow ∷ at_dot ∷ at_question ∷ at_bracket ∷ at_paren ∷ at_whole_expression ∷ at_lifetime ∷ at_mark greater_equals ∷ at_mark less_equals ∷ at_greater_operator ∷ at_less_operator ∷ at_mark not_equals ∷ at_mark equal_equal ∷ at_turbofish ∷ []; shuns = [] }
+summary_of false primary = record { stays = Word w_true ∷ Word w_false ∷ Literal Str ∷ Literal ByteStr ∷ Literal CStr ∷ Literal Byte ∷ Literal Char ∷ Literal Int ∷ Literal Float ∷ Punctuation colons ∷ Name ∷ Word w_union ∷ Word w_auto ∷ Word w_default ∷ Word w_safe ∷ Word w_self ∷ Word w_Self_type ∷ Word w_super ∷ Word w_crate ∷ Delimited Paren false ∷ Delimited Bracket false ∷ Delimited None false ∷ Word w_if ∷ Punctuation lifetime_mark ∷ Delimited Brace false ∷ Word w_loop ∷ Word w_while ∷ Word w_for ∷ Word w_return ∷ Word w_break ∷ Word w_continue ∷ []; moves = move (Word w_unsafe) (Word w_unsafe) [] ∷ move (Punctuation less) (Punctuation less) [] ∷ move (Punctuation less_less_equals) (Punctuation less) [] ∷ move (Punctuation less_equals) (Punctuation less) [] ∷ move (Punctuation less_less) (Punctuation less) [] ∷ []; nullable = false; gone = []; ends = at_equals ∷ at_paren ∷ at_less ∷ (((at_colons or_else at_less_only or_else at_paren or_else at_word w_as) but_not at_colons) but_not at_word w_as) ∷ (at_colons but_not at_colons) ∷ ((at_bang or_else at_colons and_also ahead Before_macro) but_not at_colons) ∷ ((at_path_rest and_also ahead Bang_brace) but_not at_colons) ∷ ((at_path_rest and_also ahead Bang_name) but_not at_colons) ∷ at_name ∷ at_brace ∷ at_word w_trait ∷ (at_word w_unsafe or_else at_word w_impl) ∷ ended ∷ (at_paren but_not at_paren) ∷ ((((at_colons or_else at_less_only or_else at_paren or_else at_word w_as) but_not at_colons) but_not at_paren) but_not at_word w_as) ∷ ((((at_colons or_else at_less_only or_else at_paren or_else at_word w_as) but_not at_colons) but_not at_word w_as) but_not at_paren) ∷ ((at_colons or_else at_less_only or_else at_paren or_else at_word w_as) but_not at_colons) ∷ []; halts = at_word w_else ∷ at_unfinished ∷ at_mark greater_greater_equals ∷ at_mark less_less_equals ∷ at_mark bar_equals ∷ at_mark ampersand_equals ∷ at_mark caret_equals ∷ at_mark percent_equals ∷ at_mark slash_equals ∷ at_mark star_equals ∷ at_mark minus_equals ∷ at_mark plus_equals ∷ at_equals_operator ∷ at_mark or_or ∷ at_mark and_and ∷ at_mark greater_equals ∷ at_mark less_equals ∷ at_greater_operator ∷ at_less_operator ∷ at_mark not_equals ∷ at_mark equal_equal ∷ at_bar_operator ∷ at_caret_operator ∷ at_ampersand_operator ∷ at_greater_greater_operator ∷ at_less_less_operator ∷ at_minus_operator ∷ at_plus_operator ∷ at_percent_operator ∷ at_slash_operator ∷ at_star_operator ∷ at_word w_as ∷ at_dot ∷ at_question ∷ at_bracket ∷ at_paren ∷ at_whole_expression ∷ at_lifetime ∷ at_colons ∷ at_arguments ∷ at_arrow ∷ at_turbofish ∷ []; shuns = [] }
 summary_of false block_like = record { stays = Word w_if ∷ Punctuation lifetime_mark ∷ Delimited Brace false ∷ Word w_loop ∷ Word w_while ∷ Word w_for ∷ []; moves = move (Word w_unsafe) (Word w_unsafe) [] ∷ []; nullable = false; gone = []; ends = []; halts = at_word w_else ∷ []; shuns = [] }
 summary_of false if_expression = record { stays = Word w_if ∷ []; moves = []; nullable = false; gone = []; ends = []; halts = at_word w_else ∷ []; shuns = [] }
 summary_of false loop_expression = record { stays = Word w_loop ∷ Word w_while ∷ Word w_for ∷ []; moves = []; nullable = false; gone = []; ends = []; halts = []; shuns = [] }
@@ -626,9 +620,9 @@ summary_of false conjunctions = record { stays = Punctuation and_and ∷ []; mov
 summary_of false conjunction = record { stays = Punctuation minus ∷ Punctuation star ∷ Punctuation ampersand ∷ Word w_true ∷ Word w_false ∷ Literal Str ∷ Literal ByteStr ∷ Literal CStr ∷ Literal Byte ∷ Literal Char ∷ Literal Int ∷ Literal Float ∷ Punctuation colons ∷ Name ∷ Word w_union ∷ Word w_auto ∷ Word w_default ∷ Word w_safe ∷ Word w_self ∷ Word w_Self_type ∷ Word w_super ∷ Word w_crate ∷ Delimited Paren false ∷ Delimited Bracket false ∷ Delimited None false ∷ Word w_if ∷ Punctuation lifetime_mark ∷ Delimited Brace false ∷ Word w_loop ∷ Word w_while ∷ Word w_for ∷ Word w_return ∷ Word w_break ∷ Word w_continue ∷ []; moves = move (Punctuation pound) (Punctuation pound) [] ∷ move (Punctuation arrow) (Punctuation minus) [] ∷ move (Punctuation minus_equals) (Punctuation minus) [] ∷ move (Punctuation exclamation) (Punctuation exclamation) [] ∷ move (Punctuation not_equals) (Punctuation exclamation) [] ∷ move (Punctuation star_equals) (Punctuation star) [] ∷ move (Punctuation and_and) (Punctuation ampersand) [] ∷ move (Punctuation ampersand_equals) (Punctuation ampersand) [] ∷ move (Word w_unsafe) (Word w_unsafe) [] ∷ move (Punctuation less) (Punctuation less) [] ∷ move (Punctuation less_less_equals) (Punctuation less) [] ∷ move (Punctuation less_equals) (Punctuation less) [] ∷ move (Punctuation less_less) (Punctuation less) [] ∷ []; nullable = false; gone = []; ends = at_equals ∷ at_paren ∷ at_less ∷ (((at_colons or_else at_less_only or_else at_paren or_else at_word w_as) but_not at_colons) but_not at_word w_as) ∷ (at_colons but_not at_colons) ∷ ((at_bang or_else at_colons and_also ahead Before_macro) but_not at_colons) ∷ ((at_path_rest and_also ahead Bang_brace) but_not at_colons) ∷ ((at_path_rest and_also ahead Bang_name) but_not at_colons) ∷ at_name ∷ at_brace ∷ at_word w_trait ∷ (at_word w_unsafe or_else at_word w_impl) ∷ ended ∷ (at_paren but_not at_paren) ∷ ((((at_colons or_else at_less_only or_else at_paren or_else at_word w_as) but_not at_colons) but_not at_paren) but_not at_word w_as) ∷ ((((at_colons or_else at_less_only or_else at_paren or_else at_word w_as) but_not at_colons) but_not at_word w_as) but_not at_paren) ∷ []; halts = at_mark and_and ∷ at_bar_operator ∷ at_caret_operator ∷ at_ampersand_operator ∷ at_greater_greater_operator ∷ at_less_less_operator ∷ at_minus_operator ∷ at_plus_operator ∷ at_percent_operator ∷ at_slash_operator ∷ at_star_operator ∷ at_word w_as ∷ at_colons ∷ at_arguments ∷ at_arrow ∷ at_dot ∷ at_question ∷ at_bracket ∷ at_paren ∷ at_whole_expression ∷ at_lifetime ∷ at_unfinished ∷ at_mark greater_greater_equals ∷ at_mark less_less_equals ∷ at_mark bar_equals ∷ at_mark ampersand_equals ∷ at_mark caret_equals ∷ at_mark percent_equals ∷ at_mark slash_equals ∷ at_mark star_equals ∷ at_mark minus_equals ∷ at_mark plus_equals ∷ at_equals_operator ∷ at_mark or_or ∷ at_word w_else ∷ at_mark greater_equals ∷ at_mark less_equals ∷ at_greater_operator ∷ at_less_operator ∷ at_mark not_equals ∷ at_mark equal_equal ∷ at_turbofish ∷ []; shuns = [] }
 summary_of false disjunctions = record { stays = Punctuation or_or ∷ []; moves = []; nullable = true; gone = []; ends = at_equals ∷ at_paren ∷ at_less ∷ (((at_colons or_else at_less_only or_else at_paren or_else at_word w_as) but_not at_colons) but_not at_word w_as) ∷ (at_colons but_not at_colons) ∷ ((at_bang or_else at_colons and_also ahead Before_macro) but_not at_colons) ∷ ((at_path_rest and_also ahead Bang_brace) but_not at_colons) ∷ ((at_path_rest and_also ahead Bang_name) but_not at_colons) ∷ at_name ∷ at_brace ∷ at_word w_trait ∷ (at_word w_unsafe or_else at_word w_impl) ∷ ended ∷ (at_paren but_not at_paren) ∷ ((((at_colons or_else at_less_only or_else at_paren or_else at_word w_as) but_not at_colons) but_not at_paren) but_not at_word w_as) ∷ ((((at_colons or_else at_less_only or_else at_paren or_else at_word w_as) but_not at_colons) but_not at_word w_as) but_not at_paren) ∷ []; halts = at_mark or_or ∷ at_mark and_and ∷ at_bar_operator ∷ at_caret_operator ∷ at_ampersand_operator ∷ at_greater_greater_operator ∷ at_less_less_operator ∷ at_minus_operator ∷ at_plus_operator ∷ at_percent_operator ∷ at_slash_operator ∷ at_star_operator ∷ at_word w_as ∷ at_colons ∷ at_arguments ∷ at_arrow ∷ at_dot ∷ at_question ∷ at_bracket ∷ at_paren ∷ at_whole_expression ∷ at_lifetime ∷ at_unfinished ∷ at_mark greater_greater_equals ∷ at_mark less_less_equals ∷ at_mark bar_equals ∷ at_mark ampersand_equals ∷ at_mark caret_equals ∷ at_mark percent_equals ∷ at_mark slash_equals ∷ at_mark star_equals ∷ at_mark minus_equals ∷ at_mark plus_equals ∷ at_equals_operator ∷ at_word w_else ∷ at_mark greater_equals ∷ at_mark less_equals ∷ at_greater_operator ∷ at_less_operator ∷ at_mark not_equals ∷ at_mark equal_equal ∷ at_turbofish ∷ []; shuns = [] }
 summary_of false disjunction = record { stays = Punctuation minus ∷ Punctuation star ∷ Punctuation ampersand ∷ Word w_true ∷ Word w_false ∷ Literal Str ∷ Literal ByteStr ∷ Literal CStr ∷ Literal Byte ∷ Literal Char ∷ Literal Int ∷ Literal Float ∷ Punctuation colons ∷ Name ∷ Word w_union ∷ Word w_auto ∷ Word w_default ∷ Word w_safe ∷ Word w_self ∷ Word w_Self_type ∷ Word w_super ∷ Word w_crate ∷ Delimited Paren false ∷ Delimited Bracket false ∷ Delimited None false ∷ Word w_if ∷ Punctuation lifetime_mark ∷ Delimited Brace false ∷ Word w_loop ∷ Word w_while ∷ Word w_for ∷ Word w_return ∷ Word w_break ∷ Word w_continue ∷ []; moves = move (Punctuation pound) (Punctuation pound) [] ∷ move (Punctuation arrow) (Punctuation minus) [] ∷ move (Punctuation minus_equals) (Punctuation minus) [] ∷ move (Punctuation exclamation) (Punctuation exclamation) [] ∷ move (Punctuation not_equals) (Punctuation exclamation) [] ∷ move (Punctuation star_equals) (Punctuation star) [] ∷ move (Punctuation and_and) (Punctuation ampersand) [] ∷ move (Punctuation ampersand_equals) (Punctuation ampersand) [] ∷ move (Word w_unsafe) (Word w_unsafe) [] ∷ move (Punctuation less) (Punctuation less) [] ∷ move (Punctuation less_less_equals) (Punctuation less) [] ∷ move (Punctuation less_equals) (Punctuation less) [] ∷ move (Punctuation less_less) (Punctuation less) [] ∷ []; nullable = false; gone = []; ends = at_equals ∷ at_paren ∷ at_less ∷ (((at_colons or_else at_less_only or_else at_paren or_else at_word w_as) but_not at_colons) but_not at_word w_as) ∷ (at_colons but_not at_colons) ∷ ((at_bang or_else at_colons and_also ahead Before_macro) but_not at_colons) ∷ ((at_path_rest and_also ahead Bang_brace) but_not at_colons) ∷ ((at_path_rest and_also ahead Bang_name) but_not at_colons) ∷ at_name ∷ at_brace ∷ at_word w_trait ∷ (at_word w_unsafe or_else at_word w_impl) ∷ ended ∷ (at_paren but_not at_paren) ∷ ((((at_colons or_else at_less_only or_else at_paren or_else at_word w_as) but_not at_colons) but_not at_paren) but_not at_word w_as) ∷ ((((at_colons or_else at_less_only or_else at_paren or_else at_word w_as) but_not at_colons) but_not at_word w_as) but_not at_paren) ∷ []; halts = at_mark or_or ∷ at_mark and_and ∷ at_bar_operator ∷ at_caret_operator ∷ at_ampersand_operator ∷ at_greater_greater_operator ∷ at_less_less_operator ∷ at_minus_operator ∷ at_plus_operator ∷ at_percent_operator ∷ at_slash_operator ∷ at_star_operator ∷ at_word w_as ∷ at_colons ∷ at_arguments ∷ at_arrow ∷ at_dot ∷ at_question ∷ at_bracket ∷ at_paren ∷ at_whole_expression ∷ at_lifetime ∷ at_unfinished ∷ at_mark greater_greater_equals ∷ at_mark less_less_equals ∷ at_mark bar_equals ∷ at_mark ampersand_equals ∷ at_mark caret_equals ∷ at_mark percent_equals ∷ at_mark slash_equals ∷ at_mark star_equals ∷ at_mark minus_equals ∷ at_mark plus_equals ∷ at_equals_operator ∷ at_word w_else ∷ at_mark greater_equals ∷ at_mark less_equals ∷ at_greater_operator ∷ at_less_operator ∷ at_mark not_equals ∷ at_mark equal_equal ∷ at_turbofish ∷ []; shuns = [] }
-summary_of false assigned = record { stays = Punctuation equals ∷ Punctuation plus_equals ∷ Punctuation minus_equals ∷ Punctuation star_equals ∷ Punctuation slash_equals ∷ Punctuation percent_equals ∷ Punctuation caret_equals ∷ Punctuation ampersand_equals ∷ Punctuation bar_equals ∷ Punctuation greater_greater_equals ∷ []; moves = move (Punctuation (61 ∷ 62 ∷ [])) (Punctuation equals) [] ∷ move (Punctuation less_less_equals) (Punctuation less_less_equals) [] ∷ []; nullable = true; gone = []; ends = at_equals ∷ at_paren ∷ at_less ∷ (((at_colons or_else at_less_only or_else at_paren or_else at_word w_as) but_not at_colons) but_not at_word w_as) ∷ (at_colons but_not at_colons) ∷ ((at_bang or_else at_colons and_also ahead Before_macro) but_not at_colons) ∷ ((at_path_rest and_also ahead Bang_brace) but_not at_colons) ∷ ((at_path_rest and_also ahead Bang_name) but_not at_colons) ∷ at_name ∷ at_brace ∷ at_word w_trait ∷ (at_word w_unsafe or_else at_word w_impl) ∷ ended ∷ (at_paren but_not at_paren) ∷ ((((at_colons or_else at_less_only or_else at_paren or_else at_word w_as) but_not at_colons) but_not at_paren) but_not at_word w_as) ∷ ((((at_colons or_else at_less_only or_else at_paren or_else at_word w_as) but_not at_colons) but_not at_word w_as) but_not at_paren) ∷ []; halts = at_unfinished ∷ at_mark greater_greater_equals ∷ at_mark less_less_equals ∷ at_mark bar_equals ∷ at_mark ampersand_equals ∷ at_mark caret_equals ∷ at_mark percent_equals ∷ at_mark slash_equals ∷ at_mark star_equals ∷ at_mark minus_equals ∷ at_mark plus_equals ∷ at_equals_operator ∷ at_mark or_or ∷ at_mark and_and ∷ at_bar_operator ∷ at_caret_operator ∷ at_ampersand_operator ∷ at_greater_greater_operator ∷ at_less_less_operator ∷ at_minus_operator ∷ at_plus_operator ∷ at_percent_operator ∷ at_slash_operator ∷ at_star_operator ∷ at_word w_as ∷ at_colons ∷ at_arguments ∷ at_arrow ∷ at_dot ∷ at_question ∷ at_bracket ∷ at_paren ∷ at_whole_expression ∷ at_lifetime ∷ at_word w_else ∷ at_mark greater_equals ∷ at_mark less_equals ∷ at_greater_operator ∷ at_less_operator ∷ at_mark not_equals ∷ at_mark equal_equal ∷ at_turbofish ∷ []; shuns = [] }
-summary_of false whole_expression = record { stays = Punctuation minus ∷ Punctuation star ∷ Punctuation ampersand ∷ Word w_true ∷ Word w_false ∷ Literal Str ∷ Literal ByteStr ∷ Literal CStr ∷ Literal Byte ∷ Literal Char ∷ Literal Int ∷ Literal Float ∷ Punctuation colons ∷ Name ∷ Word w_union ∷ Word w_auto ∷ Word w_default ∷ Word w_safe ∷ Word w_self ∷ Word w_Self_type ∷ Word w_super ∷ Word w_crate ∷ Delimited Paren false ∷ Delimited Bracket false ∷ Delimited None false ∷ Word w_if ∷ Punctuation lifetime_mark ∷ Delimited Brace false ∷ Word w_loop ∷ Word w_while ∷ Word w_for ∷ Word w_return ∷ Word w_break ∷ Word w_continue ∷ []; moves = move (Punctuation pound) (Punctuation pound) [] ∷ move (Punctuation arrow) (Punctuation minus) [] ∷ move (Punctuation minus_equals) (Punctuation minus) [] ∷ move (Punctuation exclamation) (Punctuation exclamation) [] ∷ move (Punctuation not_equals) (Punctuation exclamation) [] ∷ move (Punctuation star_equals) (Punctuation star) [] ∷ move (Punctuation and_and) (Punctuation ampersand) [] ∷ move (Punctuation ampersand_equals) (Punctuation ampersand) [] ∷ move (Word w_unsafe) (Word w_unsafe) [] ∷ move (Punctuation less) (Punctuation less) [] ∷ move (Punctuation less_less_equals) (Punctuation less) [] ∷ move (Punctuation less_equals) (Punctuation less) [] ∷ move (Punctuation less_less) (Punctuation less) [] ∷ []; nullable = false; gone = []; ends = at_equals ∷ at_paren ∷ at_less ∷ (((at_colons or_else at_less_only or_else at_paren or_else at_word w_as) but_not at_colons) but_not at_word w_as) ∷ (at_colons but_not at_colons) ∷ ((at_bang or_else at_colons and_also ahead Before_macro) but_not at_colons) ∷ ((at_path_rest and_also ahead Bang_brace) but_not at_colons) ∷ ((at_path_rest and_also ahead Bang_name) but_not at_colons) ∷ at_name ∷ at_brace ∷ at_word w_trait ∷ (at_word w_unsafe or_else at_word w_impl) ∷ ended ∷ (at_paren but_not at_paren) ∷ ((((at_colons or_else at_less_only or_else at_paren or_else at_word w_as) but_not at_colons) but_not at_paren) but_not at_word w_as) ∷ ((((at_colons or_else at_less_only or_else at_paren or_else at_word w_as) but_not at_colons) but_not at_word w_as) but_not at_paren) ∷ []; halts = at_unfinished ∷ at_mark greater_greater_equals ∷ at_mark less_less_equals ∷ at_mark bar_equals ∷ at_mark ampersand_equals ∷ at_mark caret_equals ∷ at_mark percent_equals ∷ at_mark slash_equals ∷ at_mark star_equals ∷ at_mark minus_equals ∷ at_mark plus_equals ∷ at_equals_operator ∷ at_mark or_or ∷ at_mark and_and ∷ at_mark greater_equals ∷ at_mark less_equals ∷ at_greater_operator ∷ at_less_operator ∷ at_mark not_equals ∷ at_mark equal_equal ∷ at_bar_operator ∷ at_caret_operator ∷ at_ampersand_operator ∷ at_greater_greater_operator ∷ at_less_less_operator ∷ at_minus_operator ∷ at_plus_operator ∷ at_percent_operator ∷ at_slash_operator ∷ at_star_operator ∷ at_word w_as ∷ at_dot ∷ at_question ∷ at_bracket ∷ at_paren ∷ at_whole_expression ∷ at_lifetime ∷ at_colons ∷ at_arguments ∷ at_arrow ∷ at_word w_else ∷ at_turbofish ∷ []; shuns = [] }
-summary_of false operand_rest = record { stays = Delimited Paren false ∷ Delimited Bracket false ∷ Punctuation question ∷ Punctuation dot ∷ Word w_as ∷ Punctuation star ∷ Punctuation slash ∷ Punctuation percent ∷ Punctuation plus ∷ Punctuation minus ∷ Punctuation greater_greater ∷ Punctuation ampersand ∷ Punctuation caret ∷ Punctuation bar ∷ Punctuation equal_equal ∷ Punctuation greater ∷ Punctuation greater_equals ∷ Punctuation and_and ∷ Punctuation or_or ∷ Punctuation equals ∷ Punctuation plus_equals ∷ Punctuation minus_equals ∷ Punctuation star_equals ∷ Punctuation slash_equals ∷ Punctuation percent_equals ∷ Punctuation caret_equals ∷ Punctuation ampersand_equals ∷ Punctuation bar_equals ∷ Punctuation greater_greater_equals ∷ []; moves = move (Punctuation arrow) (Punctuation minus) [] ∷ move (Punctuation less_less) (Punctuation less_less) [] ∷ move (Punctuation not_equals) (Punctuation not_equals) [] ∷ move (Punctuation less) (Punctuation less) [] ∷ move (Punctuation less_equals) (Punctuation less_equals) [] ∷ move (Punctuation (61 ∷ 62 ∷ [])) (Punctuation equals) [] ∷ move (Punctuation less_less_equals) (Punctuation less_less_equals) [] ∷ []; nullable = true; gone = []; ends = at_equals ∷ at_paren ∷ at_less ∷ (((at_colons or_else at_less_only or_else at_paren or_else at_word w_as) but_not at_colons) but_not at_word w_as) ∷ (at_colons but_not at_colons) ∷ ((at_bang or_else at_colons and_also ahead Before_macro) but_not at_colons) ∷ ((at_path_rest and_also ahead Bang_brace) but_not at_colons) ∷ ((at_path_rest and_also ahead Bang_name) but_not at_colons) ∷ at_name ∷ at_brace ∷ at_word w_trait ∷ (at_word w_unsafe or_else at_word w_impl) ∷ ended ∷ (at_paren but_not at_paren) ∷ ((((at_colons or_else at_less_only or_else at_paren or_else at_word w_as) but_not at_colons) but_not at_paren) but_not at_word w_as) ∷ ((((at_colons or_else at_less_only or_else at_paren or_else at_word w_as) but_not at_colons) but_not at_word w_as) but_not at_paren) ∷ []; halts = at_unfinished ∷ at_mark greater_greater_equals ∷ at_mark less_less_equals ∷ at_mark bar_equals ∷ at_mark ampersand_equals ∷ at_mark caret_equals ∷ at_mark percent_equals ∷ at_mark slash_equals ∷ at_mark star_equals ∷ at_mark minus_equals ∷ at_mark plus_equals ∷ at_equals_operator ∷ at_mark or_or ∷ at_mark and_and ∷ at_mark greater_equals ∷ at_mark less_equals ∷ at_greater_operator ∷ at_less_operator ∷ at_mark not_equals ∷ at_mark equal_equal ∷ at_bar_operator ∷ at_caret_operator ∷ at_ampersand_operator ∷ at_greater_greater_operator ∷ at_less_less_operator ∷ at_minus_operator ∷ at_plus_operator ∷ at_percent_operator ∷ at_slash_operator ∷ at_star_operator ∷ at_word w_as ∷ at_dot ∷ at_question ∷ at_bracket ∷ at_paren ∷ at_whole_expression ∷ at_lifetime ∷ at_colons ∷ at_arguments ∷ at_arrow ∷ at_word w_else ∷ at_turbofish ∷ []; shuns = [] }
+summary_of false assigned = record { stays = Punctuation equals ∷ Punctuation plus_equals ∷ Punctuation minus_equals ∷ Punctuation star_equals ∷ Punctuation slash_equals ∷ Punctuation percent_equals ∷ Punctuation caret_equals ∷ Punctuation ampersand_equals ∷ Punctuation bar_equals ∷ Punctuation greater_greater_equals ∷ []; moves = move (Punctuation (61 ∷ 62 ∷ [])) (Punctuation equals) [] ∷ move (Punctuation less_less_equals) (Punctuation less_less_equals) [] ∷ []; nullable = true; gone = []; ends = at_equals ∷ at_paren ∷ at_less ∷ (((at_colons or_else at_less_only or_else at_paren or_else at_word w_as) but_not at_colons) but_not at_word w_as) ∷ (at_colons but_not at_colons) ∷ ((at_bang or_else at_colons and_also ahead Before_macro) but_not at_colons) ∷ ((at_path_rest and_also ahead Bang_brace) but_not at_colons) ∷ ((at_path_rest and_also ahead Bang_name) but_not at_colons) ∷ at_name ∷ at_brace ∷ at_word w_trait ∷ (at_word w_unsafe or_else at_word w_impl) ∷ ended ∷ (at_paren but_not at_paren) ∷ ((((at_colons or_else at_less_only or_else at_paren or_else at_word w_as) but_not at_colons) but_not at_paren) but_not at_word w_as) ∷ ((((at_colons or_else at_less_only or_else at_paren or_else at_word w_as) but_not at_colons) but_not at_word w_as) but_not at_paren) ∷ []; halts = at_unfinished ∷ at_mark greater_greater_equals ∷ at_mark less_less_equals ∷ at_mark bar_equals ∷ at_mark ampersand_equals ∷ at_mark caret_equals ∷ at_mark percent_equals ∷ at_mark slash_equals ∷ at_mark star_equals ∷ at_mark minus_equals ∷ at_mark plus_equals ∷ at_equals_operator ∷ at_mark or_or ∷ at_mark and_and ∷ at_mark greater_equals ∷ at_mark less_equals ∷ at_greater_operator ∷ at_less_operator ∷ at_mark not_equals ∷ at_mark equal_equal ∷ at_bar_operator ∷ at_caret_operator ∷ at_ampersand_operator ∷ at_greater_greater_operator ∷ at_less_less_operator ∷ at_minus_operator ∷ at_plus_operator ∷ at_percent_operator ∷ at_slash_operator ∷ at_star_operator ∷ at_word w_as ∷ at_dot ∷ at_question ∷ at_bracket ∷ at_paren ∷ at_whole_expression ∷ at_lifetime ∷ at_colons ∷ at_arguments ∷ at_arrow ∷ at_word w_else ∷ at_turbofish ∷ []; shuns = [] }
+summary_of false whole_expression = record { stays = Punctuation minus ∷ Punctuation star ∷ Punctuation ampersand ∷ Word w_true ∷ Word w_false ∷ Literal Str ∷ Literal ByteStr ∷ Literal CStr ∷ Literal Byte ∷ Literal Char ∷ Literal Int ∷ Literal Float ∷ Punctuation colons ∷ Name ∷ Word w_union ∷ Word w_auto ∷ Word w_default ∷ Word w_safe ∷ Word w_self ∷ Word w_Self_type ∷ Word w_super ∷ Word w_crate ∷ Delimited Paren false ∷ Delimited Bracket false ∷ Delimited None false ∷ Word w_if ∷ Punctuation lifetime_mark ∷ Delimited Brace false ∷ Word w_loop ∷ Word w_while ∷ Word w_for ∷ Word w_return ∷ Word w_break ∷ Word w_continue ∷ []; moves = move (Punctuation pound) (Punctuation pound) [] ∷ move (Punctuation arrow) (Punctuation minus) [] ∷ move (Punctuation minus_equals) (Punctuation minus) [] ∷ move (Punctuation exclamation) (Punctuation exclamation) [] ∷ move (Punctuation not_equals) (Punctuation exclamation) [] ∷ move (Punctuation star_equals) (Punctuation star) [] ∷ move (Punctuation and_and) (Punctuation ampersand) [] ∷ move (Punctuation ampersand_equals) (Punctuation ampersand) [] ∷ move (Word w_unsafe) (Word w_unsafe) [] ∷ move (Punctuation less) (Punctuation less) [] ∷ move (Punctuation less_less_equals) (Punctuation less) [] ∷ move (Punctuation less_equals) (Punctuation less) [] ∷ move (Punctuation less_less) (Punctuation less) [] ∷ []; nullable = false; gone = []; ends = at_equals ∷ at_paren ∷ at_less ∷ (((at_colons or_else at_less_only or_else at_paren or_else at_word w_as) but_not at_colons) but_not at_word w_as) ∷ (at_colons but_not at_colons) ∷ ((at_bang or_else at_colons and_also ahead Before_macro) but_not at_colons) ∷ ((at_path_rest and_also ahead Bang_brace) but_not at_colons) ∷ ((at_path_rest and_also ahead Bang_name) but_not at_colons) ∷ at_name ∷ at_brace ∷ at_word w_trait ∷ (at_word w_unsafe or_else at_word w_impl) ∷ ended ∷ (at_paren but_not at_paren) ∷ ((((at_colons or_else at_less_only or_else at_paren or_else at_word w_as) but_not at_colons) but_not at_paren) but_not at_word w_as) ∷ ((((at_colons or_else at_less_only or_else at_paren or_else at_word w_as) but_not at_colons) but_not at_word w_as) but_not at_paren) ∷ []; halts = at_unfinished ∷ at_mark greater_greater_equals ∷ at_mark less_less_equals ∷ at_mark bar_equals ∷ at_mark ampersand_equals ∷ at_mark caret_equals ∷ at_mark percent_equals ∷ at_mark slash_equals ∷ at_mark star_equals ∷ at_mark minus_equals ∷ at_mark plus_equals ∷ at_equals_operator ∷ at_mark or_or ∷ at_mark and_and ∷ at_bar_operator ∷ at_caret_operator ∷ at_ampersand_operator ∷ at_greater_greater_operator ∷ at_less_less_operator ∷ at_minus_operator ∷ at_plus_operator ∷ at_percent_operator ∷ at_slash_operator ∷ at_star_operator ∷ at_word w_as ∷ at_colons ∷ at_arguments ∷ at_arrow ∷ at_dot ∷ at_question ∷ at_bracket ∷ at_paren ∷ at_whole_expression ∷ at_lifetime ∷ at_word w_else ∷ at_mark greater_equals ∷ at_mark less_equals ∷ at_greater_operator ∷ at_less_operator ∷ at_mark not_equals ∷ at_mark equal_equal ∷ at_turbofish ∷ []; shuns = [] }
+summary_of false operand_rest = record { stays = Delimited Paren false ∷ Delimited Bracket false ∷ Punctuation question ∷ Punctuation dot ∷ Word w_as ∷ Punctuation star ∷ Punctuation slash ∷ Punctuation percent ∷ Punctuation plus ∷ Punctuation minus ∷ Punctuation greater_greater ∷ Punctuation ampersand ∷ Punctuation caret ∷ Punctuation bar ∷ Punctuation equal_equal ∷ Punctuation greater ∷ Punctuation greater_equals ∷ Punctuation and_and ∷ Punctuation or_or ∷ Punctuation equals ∷ Punctuation plus_equals ∷ Punctuation minus_equals ∷ Punctuation star_equals ∷ Punctuation slash_equals ∷ Punctuation percent_equals ∷ Punctuation caret_equals ∷ Punctuation ampersand_equals ∷ Punctuation bar_equals ∷ Punctuation greater_greater_equals ∷ []; moves = move (Punctuation arrow) (Punctuation minus) [] ∷ move (Punctuation less_less) (Punctuation less_less) [] ∷ move (Punctuation not_equals) (Punctuation not_equals) [] ∷ move (Punctuation less) (Punctuation less) [] ∷ move (Punctuation less_equals) (Punctuation less_equals) [] ∷ move (Punctuation (61 ∷ 62 ∷ [])) (Punctuation equals) [] ∷ move (Punctuation less_less_equals) (Punctuation less_less_equals) [] ∷ []; nullable = true; gone = []; ends = at_equals ∷ at_paren ∷ at_less ∷ (((at_colons or_else at_less_only or_else at_paren or_else at_word w_as) but_not at_colons) but_not at_word w_as) ∷ (at_colons but_not at_colons) ∷ ((at_bang or_else at_colons and_also ahead Before_macro) but_not at_colons) ∷ ((at_path_rest and_also ahead Bang_brace) but_not at_colons) ∷ ((at_path_rest and_also ahead Bang_name) but_not at_colons) ∷ at_name ∷ at_brace ∷ at_word w_trait ∷ (at_word w_unsafe or_else at_word w_impl) ∷ ended ∷ (at_paren but_not at_paren) ∷ ((((at_colons or_else at_less_only or_else at_paren or_else at_word w_as) but_not at_colons) but_not at_paren) but_not at_word w_as) ∷ ((((at_colons or_else at_less_only or_else at_paren or_else at_word w_as) but_not at_colons) but_not at_word w_as) but_not at_paren) ∷ []; halts = at_unfinished ∷ at_mark greater_greater_equals ∷ at_mark less_less_equals ∷ at_mark bar_equals ∷ at_mark ampersand_equals ∷ at_mark caret_equals ∷ at_mark percent_equals ∷ at_mark slash_equals ∷ at_mark star_equals ∷ at_mark minus_equals ∷ at_mark plus_equals ∷ at_equals_operator ∷ at_mark or_or ∷ at_mark and_and ∷ at_bar_operator ∷ at_caret_operator ∷ at_ampersand_operator ∷ at_greater_greater_operator ∷ at_less_less_operator ∷ at_minus_operator ∷ at_plus_operator ∷ at_percent_operator ∷ at_slash_operator ∷ at_star_operator ∷ at_word w_as ∷ at_colons ∷ at_arguments ∷ at_arrow ∷ at_dot ∷ at_question ∷ at_bracket ∷ at_paren ∷ at_whole_expression ∷ at_lifetime ∷ at_word w_else ∷ at_mark greater_equals ∷ at_mark less_equals ∷ at_greater_operator ∷ at_less_operator ∷ at_mark not_equals ∷ at_mark equal_equal ∷ at_turbofish ∷ []; shuns = [] }
 summary_of false statements = record { stays = Punctuation semicolon ∷ Word w_crate ∷ Punctuation colons ∷ Name ∷ Word w_union ∷ Word w_auto ∷ Word w_default ∷ Word w_safe ∷ Word w_self ∷ Word w_Self_type ∷ Word w_super ∷ Word w_let ∷ Word w_if ∷ Punctuation lifetime_mark ∷ Delimited Brace false ∷ Word w_loop ∷ Word w_while ∷ Word w_for ∷ Punctuation pound ∷ Punctuation minus ∷ Punctuation star ∷ Punctuation ampersand ∷ Word w_true ∷ Word w_false ∷ Literal Str ∷ Literal ByteStr ∷ Literal CStr ∷ Literal Byte ∷ Literal Char ∷ Literal Int ∷ Literal Float ∷ Delimited Paren false ∷ Delimited Bracket false ∷ Delimited None false ∷ Word w_return ∷ Word w_break ∷ Word w_continue ∷ []; moves = move (Punctuation pound) (Punctuation pound) [] ∷ move (Word w_unsafe) (Word w_unsafe) [] ∷ move (Punctuation arrow) (Punctuation minus) [] ∷ move (Punctuation minus_equals) (Punctuation minus) [] ∷ move (Punctuation exclamation) (Punctuation exclamation) [] ∷ move (Punctuation not_equals) (Punctuation exclamation) [] ∷ move (Punctuation star_equals) (Punctuation star) [] ∷ move (Punctuation and_and) (Punctuation ampersand) [] ∷ move (Punctuation ampersand_equals) (Punctuation ampersand) [] ∷ move (Punctuation less) (Punctuation less) [] ∷ move (Punctuation less_less_equals) (Punctuation less) [] ∷ move (Punctuation less_equals) (Punctuation less) [] ∷ move (Punctuation less_less) (Punctuation less) [] ∷ []; nullable = true; gone = []; ends = ended ∷ at_postfix_mark ∷ at_equals ∷ at_paren ∷ at_less ∷ (((at_colons or_else at_less_only or_else at_paren or_else at_word w_as) but_not at_colons) but_not at_word w_as) ∷ (at_colons but_not at_colons) ∷ ((at_bang or_else at_colons and_also ahead Before_macro) but_not at_colons) ∷ ((at_path_rest and_also ahead Bang_brace) but_not at_colons) ∷ ((at_path_rest and_also ahead Bang_name) but_not at_colons) ∷ at_name ∷ at_brace ∷ at_word w_trait ∷ (at_word w_unsafe or_else at_word w_impl) ∷ (at_paren but_not at_paren) ∷ ((((at_colons or_else at_less_only or_else at_paren or_else at_word w_as) but_not at_colons) but_not at_paren) but_not at_word w_as) ∷ ((((at_colons or_else at_less_only or_else at_paren or_else at_word w_as) but_not at_colons) but_not at_word w_as) but_not at_paren) ∷ []; halts = at_semicolon ∷ at_postfix_mark ∷ at_unfinished ∷ at_mark greater_greater_equals ∷ at_mark less_less_equals ∷ at_mark bar_equals ∷ at_mark ampersand_equals ∷ at_mark caret_equals ∷ at_mark percent_equals ∷ at_mark slash_equals ∷ at_mark star_equals ∷ at_mark minus_equals ∷ at_mark plus_equals ∷ at_equals_operator ∷ at_mark or_or ∷ at_mark and_and ∷ at_mark greater_equals ∷ at_mark less_equals ∷ at_greater_operator ∷ at_less_operator ∷ at_mark not_equals ∷ at_mark equal_equal ∷ at_bar_operator ∷ at_caret_operator ∷ at_ampersand_operator ∷ at_greater_greater_operator ∷ at_less_less_operator ∷ at_minus_operator ∷ at_plus_operator ∷ at_percent_operator ∷ at_slash_operator ∷ at_star_operator ∷ at_word w_as ∷ at_dot ∷ at_question ∷ at_bracket ∷ at_paren ∷ at_colons ∷ at_word w_else ∷ at_whole_expression ∷ at_lifetime ∷ at_arguments ∷ at_arrow ∷ at_turbofish ∷ []; shuns = [] }
 summary_of false statement_rest = record { stays = Word w_crate ∷ Punctuation colons ∷ Name ∷ Word w_union ∷ Word w_auto ∷ Word w_default ∷ Word w_safe ∷ Word w_self ∷ Word w_Self_type ∷ Word w_super ∷ Word w_let ∷ Word w_if ∷ Punctuation lifetime_mark ∷ Delimited Brace false ∷ Word w_loop ∷ Word w_while ∷ Word w_for ∷ Punctuation pound ∷ Punctuation minus ∷ Punctuation star ∷ Punctuation ampersand ∷ Word w_true ∷ Word w_false ∷ Literal Str ∷ Literal ByteStr ∷ Literal CStr ∷ Literal Byte ∷ Literal Char ∷ Literal Int ∷ Literal Float ∷ Delimited Paren false ∷ Delimited Bracket false ∷ Delimited None false ∷ Word w_return ∷ Word w_break ∷ Word w_continue ∷ []; moves = move (Word w_unsafe) (Word w_unsafe) [] ∷ move (Punctuation arrow) (Punctuation minus) [] ∷ move (Punctuation minus_equals) (Punctuation minus) [] ∷ move (Punctuation exclamation) (Punctuation exclamation) [] ∷ move (Punctuation not_equals) (Punctuation exclamation) [] ∷ move (Punctuation star_equals) (Punctuation star) [] ∷ move (Punctuation and_and) (Punctuation ampersand) [] ∷ move (Punctuation ampersand_equals) (Punctuation ampersand) [] ∷ move (Punctuation less) (Punctuation less) [] ∷ move (Punctuation less_less_equals) (Punctuation less) [] ∷ move (Punctuation less_equals) (Punctuation less) [] ∷ move (Punctuation less_less) (Punctuation less) [] ∷ []; nullable = false; gone = []; ends = ended ∷ at_postfix_mark ∷ at_equals ∷ at_paren ∷ at_less ∷ (((at_colons or_else at_less_only or_else at_paren or_else at_word w_as) but_not at_colons) but_not at_word w_as) ∷ (at_colons but_not at_colons) ∷ ((at_bang or_else at_colons and_also ahead Before_macro) but_not at_colons) ∷ ((at_path_rest and_also ahead Bang_brace) but_not at_colons) ∷ ((at_path_rest and_also ahead Bang_name) but_not at_colons) ∷ at_name ∷ at_brace ∷ at_word w_trait ∷ (at_word w_unsafe or_else at_word w_impl) ∷ (at_paren but_not at_paren) ∷ ((((at_colons or_else at_less_only or_else at_paren or_else at_word w_as) but_not at_colons) but_not at_paren) but_not at_word w_as) ∷ ((((at_colons or_else at_less_only or_else at_paren or_else at_word w_as) but_not at_colons) but_not at_word w_as) but_not at_paren) ∷ []; halts = at_semicolon ∷ at_postfix_mark ∷ at_unfinished ∷ at_mark greater_greater_equals ∷ at_mark less_less_equals ∷ at_mark bar_equals ∷ at_mark ampersand_equals ∷ at_mark caret_equals ∷ at_mark percent_equals ∷ at_mark slash_equals ∷ at_mark star_equals ∷ at_mark minus_equals ∷ at_mark plus_equals ∷ at_equals_operator ∷ at_mark or_or ∷ at_mark and_and ∷ at_mark greater_equals ∷ at_mark less_equals ∷ at_greater_operator ∷ at_less_operator ∷ at_mark not_equals ∷ at_mark equal_equal ∷ at_bar_operator ∷ at_caret_operator ∷ at_ampersand_operator ∷ at_greater_greater_operator ∷ at_less_less_operator ∷ at_minus_operator ∷ at_plus_operator ∷ at_percent_operator ∷ at_slash_operator ∷ at_star_operator ∷ at_word w_as ∷ at_dot ∷ at_question ∷ at_bracket ∷ at_paren ∷ at_colons ∷ at_word w_else ∷ at_whole_expression ∷ at_lifetime ∷ at_arguments ∷ at_arrow ∷ at_turbofish ∷ []; shuns = [] }
 summary_of false after_block = record { stays = Punctuation semicolon ∷ Punctuation question ∷ Punctuation dot ∷ Word w_crate ∷ Punctuation colons ∷ Name ∷ Word w_union ∷ Word w_auto ∷ Word w_default ∷ Word w_safe ∷ Word w_self ∷ Word w_Self_type ∷ Word w_super ∷ Word w_let ∷ Word w_if ∷ Punctuation lifetime_mark ∷ Delimited Brace false ∷ Word w_loop ∷ Word w_while ∷ Word w_for ∷ Punctuation pound ∷ Punctuation minus ∷ Punctuation star ∷ Punctuation ampersand ∷ Word w_true ∷ Word w_false ∷ Literal Str ∷ Literal ByteStr ∷ Literal CStr ∷ Literal Byte ∷ Literal Char ∷ Literal Int ∷ Literal Float ∷ Delimited Paren false ∷ Delimited Bracket false ∷ Delimited None false ∷ Word w_return ∷ Word w_break ∷ Word w_continue ∷ []; moves = move (Punctuation pound) (Punctuation pound) [] ∷ move (Word w_unsafe) (Word w_unsafe) [] ∷ move (Punctuation arrow) (Punctuation minus) [] ∷ move (Punctuation minus_equals) (Punctuation minus) [] ∷ move (Punctuation exclamation) (Punctuation exclamation) [] ∷ move (Punctuation not_equals) (Punctuation exclamation) [] ∷ move (Punctuation star_equals) (Punctuation star) [] ∷ move (Punctuation and_and) (Punctuation ampersand) [] ∷ move (Punctuation ampersand_equals) (Punctuation ampersand) [] ∷ move (Punctuation less) (Punctuation less) [] ∷ move (Punctuation less_less_equals) (Punctuation less) [] ∷ move (Punctuation less_equals) (Punctuation less) [] ∷ move (Punctuation less_less) (Punctuation less) [] ∷ []; nullable = true; gone = []; ends = ended ∷ at_postfix_mark ∷ at_equals ∷ at_paren ∷ at_less ∷ (((at_colons or_else at_less_only or_else at_paren or_else at_word w_as) but_not at_colons) but_not at_word w_as) ∷ (at_colons but_not at_colons) ∷ ((at_bang or_else at_colons and_also ahead Before_macro) but_not at_colons) ∷ ((at_path_rest and_also ahead Bang_brace) but_not at_colons) ∷ ((at_path_rest and_also ahead Bang_name) but_not at_colons) ∷ at_name ∷ at_brace ∷ at_word w_trait ∷ (at_word w_unsafe or_else at_word w_impl) ∷ (at_paren but_not at_paren) ∷ ((((at_colons or_else at_less_only or_else at_paren or_else at_word w_as) but_not at_colons) but_not at_paren) but_not at_word w_as) ∷ ((((at_colons or_else at_less_only or_else at_paren or_else at_word w_as) but_not at_colons) but_not at_word w_as) but_not at_paren) ∷ []; halts = at_semicolon ∷ at_postfix_mark ∷ at_unfinished ∷ at_mark greater_greater_equals ∷ at_mark less_less_equals ∷ at_mark bar_equals ∷ at_mark ampersand_equals ∷ at_mark caret_equals ∷ at_mark percent_equals ∷ at_mark slash_equals ∷ at_mark star_equals ∷ at_mark minus_equals ∷ at_mark plus_equals ∷ at_equals_operator ∷ at_mark or_or ∷ at_mark and_and ∷ at_mark greater_equals ∷ at_mark less_equals ∷ at_greater_operator ∷ at_less_operator ∷ at_mark not_equals ∷ at_mark equal_equal ∷ at_bar_operator ∷ at_caret_operator ∷ at_ampersand_operator ∷ at_greater_greater_operator ∷ at_less_less_operator ∷ at_minus_operator ∷ at_plus_operator ∷ at_percent_operator ∷ at_slash_operator ∷ at_star_operator ∷ at_word w_as ∷ at_dot ∷ at_question ∷ at_bracket ∷ at_paren ∷ at_colons ∷ at_word w_else ∷ at_whole_expression ∷ at_lifetime ∷ at_arguments ∷ at_arrow ∷ at_turbofish ∷ []; shuns = [] }
@@ -638,7 +632,6 @@ summary_of false statement_end = record { stays = Punctuation semicolon ∷ Punc
 summary_of false local = record { stays = Word w_let ∷ []; moves = []; nullable = false; gone = []; ends = []; halts = []; shuns = [] }
 summary_of true attributes = record { stays = Punctuation pound ∷ []; moves = []; nullable = true; gone = []; ends = []; halts = at_pound ∷ []; shuns = [] }
 summary_of true inner_attributes = record { stays = []; moves = []; nullable = false; gone = []; ends = []; halts = []; shuns = [] }
-summary_of true no_attributes = record { stays = []; moves = []; nullable = true; gone = []; ends = []; halts = at_pound ∷ []; shuns = [] }
 summary_of true meta = record { stays = []; moves = []; nullable = false; gone = []; ends = []; halts = []; shuns = [] }
 summary_of true unsafe_path = record { stays = []; moves = []; nullable = false; gone = []; ends = []; halts = []; shuns = [] }
 summary_of true unsafe_word = record { stays = []; moves = []; nullable = false; gone = []; ends = []; halts = []; shuns = [] }
@@ -657,7 +650,7 @@ summary_of true qualified_path = record { stays = []; moves = move (Punctuation 
 summary_of true path_as_type = record { stays = Name ∷ Word w_union ∷ Word w_auto ∷ Word w_default ∷ Word w_safe ∷ Word w_Self_type ∷ Word w_self ∷ Word w_super ∷ Word w_crate ∷ []; moves = move (Punctuation less) (Punctuation less) [] ∷ move (Punctuation less_less_equals) (Punctuation less) [] ∷ move (Punctuation less_equals) (Punctuation less) [] ∷ move (Punctuation less_less) (Punctuation less) [] ∷ move (Punctuation colons) (Punctuation colons) [] ∷ []; nullable = false; gone = []; ends = at_equals ∷ at_paren ∷ at_less ∷ ((at_colons or_else at_less_only or_else at_paren or_else at_word w_as) but_not at_colons) ∷ (at_colons but_not at_colons) ∷ ((at_bang or_else at_colons and_also ahead Before_macro) but_not at_colons) ∷ ((at_path_rest and_also ahead Bang_brace) but_not at_colons) ∷ ((at_path_rest and_also ahead Bang_name) but_not at_colons) ∷ at_name ∷ at_brace ∷ at_word w_trait ∷ (at_word w_unsafe or_else at_word w_impl) ∷ ended ∷ []; halts = at_colons ∷ at_arguments ∷ at_arrow ∷ []; shuns = [] }
 summary_of true type = record { stays = Punctuation ampersand ∷ Punctuation star ∷ Delimited Paren false ∷ Delimited Bracket false ∷ Delimited None false ∷ Name ∷ Word w_union ∷ Word w_auto ∷ Word w_default ∷ Word w_safe ∷ Word w_Self_type ∷ Word w_self ∷ Word w_super ∷ Word w_crate ∷ []; moves = move (Punctuation and_and) (Punctuation ampersand) [] ∷ move (Punctuation ampersand_equals) (Punctuation ampersand) [] ∷ move (Punctuation star_equals) (Punctuation star) [] ∷ move (Punctuation exclamation) (Punctuation exclamation) [] ∷ move (Punctuation not_equals) (Punctuation exclamation) [] ∷ move (Punctuation less) (Punctuation less) [] ∷ move (Punctuation less_less_equals) (Punctuation less) [] ∷ move (Punctuation less_equals) (Punctuation less) [] ∷ move (Punctuation less_less) (Punctuation less) [] ∷ move (Punctuation colons) (Punctuation colons) [] ∷ []; nullable = false; gone = []; ends = at_equals ∷ at_paren ∷ at_less ∷ ((at_colons or_else at_less_only or_else at_paren or_else at_word w_as) but_not at_colons) ∷ (at_colons but_not at_colons) ∷ ((at_bang or_else at_colons and_also ahead Before_macro) but_not at_colons) ∷ ((at_path_rest and_also ahead Bang_brace) but_not at_colons) ∷ ((at_path_rest and_also ahead Bang_name) but_not at_colons) ∷ at_name ∷ at_brace ∷ at_word w_trait ∷ (at_word w_unsafe or_else at_word w_impl) ∷ ended ∷ []; halts = at_colons ∷ at_arguments ∷ at_arrow ∷ []; shuns = [] }
 summary_of true types = record { stays = Punctuation ampersand ∷ Punctuation star ∷ Delimited Paren false ∷ Delimited Bracket false ∷ Delimited None false ∷ Name ∷ Word w_union ∷ Word w_auto ∷ Word w_default ∷ Word w_safe ∷ Word w_Self_type ∷ Word w_self ∷ Word w_super ∷ Word w_crate ∷ []; moves = move (Punctuation and_and) (Punctuation ampersand) [] ∷ move (Punctuation ampersand_equals) (Punctuation ampersand) [] ∷ move (Punctuation star_equals) (Punctuation star) [] ∷ move (Punctuation exclamation) (Punctuation exclamation) [] ∷ move (Punctuation not_equals) (Punctuation exclamation) [] ∷ move (Punctuation less) (Punctuation less) [] ∷ move (Punctuation less_less_equals) (Punctuation less) [] ∷ move (Punctuation less_equals) (Punctuation less) [] ∷ move (Punctuation less_less) (Punctuation less) [] ∷ move (Punctuation colons) (Punctuation colons) [] ∷ []; nullable = true; gone = []; ends = ended ∷ at_equals ∷ at_paren ∷ at_less ∷ ((at_colons or_else at_less_only or_else at_paren or_else at_word w_as) but_not at_colons) ∷ (at_colons but_not at_colons) ∷ ((at_bang or_else at_colons and_also ahead Before_macro) but_not at_colons) ∷ ((at_path_rest and_also ahead Bang_brace) but_not at_colons) ∷ ((at_path_rest and_also ahead Bang_name) but_not at_colons) ∷ at_name ∷ at_brace ∷ at_word w_trait ∷ (at_word w_unsafe or_else at_word w_impl) ∷ []; halts = at_comma ∷ at_colons ∷ at_arguments ∷ at_arrow ∷ []; shuns = [] }
-summary_of true expression = record { stays = Word w_true ∷ Word w_false ∷ Literal Str ∷ Literal ByteStr ∷ Literal CStr ∷ Literal Byte ∷ Literal Char ∷ Literal Int ∷ Literal Float ∷ []; moves = []; nullable = false; gone = []; ends = []; halts = []; shuns = [] }
+summary_of true constant = record { stays = Delimited Brace false ∷ Word w_true ∷ Word w_false ∷ Literal Str ∷ Literal ByteStr ∷ Literal CStr ∷ Literal Byte ∷ Literal Char ∷ Literal Int ∷ Literal Float ∷ []; moves = []; nullable = false; gone = []; ends = []; halts = []; shuns = [] }
 summary_of true generics = record { stays = []; moves = []; nullable = false; gone = []; ends = []; halts = []; shuns = [] }
 summary_of true lifetime_parameter = record { stays = []; moves = []; nullable = false; gone = []; ends = []; halts = []; shuns = [] }
 summary_of true lifetimes = record { stays = []; moves = []; nullable = false; gone = []; ends = []; halts = []; shuns = [] }
@@ -698,9 +691,9 @@ summary_of true expressions = record { stays = Punctuation pound ∷ Punctuation
 summary_of true array_content = record { stays = []; moves = []; nullable = false; gone = []; ends = []; halts = []; shuns = [] }
 summary_of true block = record { stays = Delimited Brace false ∷ []; moves = []; nullable = false; gone = []; ends = []; halts = []; shuns = [] }
 summary_of true body = record { stays = Delimited Brace false ∷ []; moves = []; nullable = false; gone = []; ends = []; halts = []; shuns = [] }
-summary_of true plain_body = record { stays = []; moves = []; nullable = false; gone = []; ends = []; halts = []; shuns = [] }
+summary_of true plain_body = record { stays = Delimited Brace false ∷ []; moves = []; nullable = false; gone = []; ends = []; halts = []; shuns = [] }
 summary_of true no_inner_attributes = record { stays = []; moves = []; nullable = false; gone = []; ends = []; halts = []; shuns = [] }
-summary_of true primary = record { stays = Word w_true ∷ Word w_false ∷ Literal Str ∷ Literal ByteStr ∷ Literal CStr ∷ Literal Byte ∷ Literal Char ∷ Literal Int ∷ Literal Float ∷ Punctuation colons ∷ Name ∷ Word w_union ∷ Word w_auto ∷ Word w_default ∷ Word w_safe ∷ Word w_self ∷ Word w_Self_type ∷ Word w_super ∷ Word w_crate ∷ Delimited Paren false ∷ Delimited Bracket false ∷ Delimited None false ∷ Word w_if ∷ Punctuation lifetime_mark ∷ Delimited Brace false ∷ Word w_loop ∷ Word w_while ∷ Word w_for ∷ Word w_return ∷ Word w_break ∷ Word w_continue ∷ []; moves = move (Word w_unsafe) (Word w_unsafe) [] ∷ move (Punctuation less) (Punctuation less) [] ∷ move (Punctuation less_less_equals) (Punctuation less) [] ∷ move (Punctuation less_equals) (Punctuation less) [] ∷ move (Punctuation less_less) (Punctuation less) [] ∷ []; nullable = false; gone = []; ends = at_equals ∷ at_paren ∷ at_less ∷ (((at_colons or_else at_less_only or_else at_paren or_else at_word w_as) but_not at_colons) but_not at_word w_as) ∷ (at_colons but_not at_colons) ∷ ((at_bang or_else at_colons and_also ahead Before_macro) but_not at_colons) ∷ ((at_path_rest and_also ahead Bang_brace) but_not at_colons) ∷ ((at_path_rest and_also ahead Bang_name) but_not at_colons) ∷ at_name ∷ at_brace ∷ at_word w_trait ∷ (at_word w_unsafe or_else at_word w_impl) ∷ ended ∷ (at_paren but_not at_paren) ∷ ((((at_colons or_else at_less_only or_else at_paren or_else at_word w_as) but_not at_colons) but_not at_paren) but_not at_word w_as) ∷ ((((at_colons or_else at_less_only or_else at_paren or_else at_word w_as) but_not at_colons) but_not at_word w_as) but_not at_paren) ∷ ((at_colons or_else at_less_only or_else at_paren or_else at_word w_as) but_not at_colons) ∷ []; halts = at_word w_else ∷ at_unfinished ∷ at_mark greater_greater_equals ∷ at_mark less_less_equals ∷ at_mark bar_equals ∷ at_mark ampersand_equals ∷ at_mark caret_equals ∷ at_mark percent_equals ∷ at_mark slash_equals ∷ at_mark star_equals ∷ at_mark minus_equals ∷ at_mark plus_equals ∷ at_equals_operator ∷ at_mark or_or ∷ at_mark and_and ∷ at_bar_operator ∷ at_caret_operator ∷ at_ampersand_operator ∷ at_greater_greater_operator ∷ at_less_less_operator ∷ at_minus_operator ∷ at_plus_operator ∷ at_percent_operator ∷ at_slash_operator ∷ at_star_operator ∷ at_word w_as ∷ at_colons ∷ at_arguments ∷ at_arrow ∷ at_dot ∷ at_question ∷ at_bracket ∷ at_paren ∷ at_whole_expression ∷ at_lifetime ∷ at_mark greater_equals ∷ at_mark less_equals ∷ at_greater_operator ∷ at_less_operator ∷ at_mark not_equals ∷ at_mark equal_equal ∷ at_turbofish ∷ []; shuns = [] }
+summary_of true primary = record { stays = Word w_true ∷ Word w_false ∷ Literal Str ∷ Literal ByteStr ∷ Literal CStr ∷ Literal Byte ∷ Literal Char ∷ Literal Int ∷ Literal Float ∷ Punctuation colons ∷ Name ∷ Word w_union ∷ Word w_auto ∷ Word w_default ∷ Word w_safe ∷ Word w_self ∷ Word w_Self_type ∷ Word w_super ∷ Word w_crate ∷ Delimited Paren false ∷ Delimited Bracket false ∷ Delimited None false ∷ Word w_if ∷ Punctuation lifetime_mark ∷ Delimited Brace false ∷ Word w_loop ∷ Word w_while ∷ Word w_for ∷ Word w_return ∷ Word w_break ∷ Word w_continue ∷ []; moves = move (Word w_unsafe) (Word w_unsafe) [] ∷ move (Punctuation less) (Punctuation less) [] ∷ move (Punctuation less_less_equals) (Punctuation less) [] ∷ move (Punctuation less_equals) (Punctuation less) [] ∷ move (Punctuation less_less) (Punctuation less) [] ∷ []; nullable = false; gone = []; ends = at_equals ∷ at_paren ∷ at_less ∷ (((at_colons or_else at_less_only or_else at_paren or_else at_word w_as) but_not at_colons) but_not at_word w_as) ∷ (at_colons but_not at_colons) ∷ ((at_bang or_else at_colons and_also ahead Before_macro) but_not at_colons) ∷ ((at_path_rest and_also ahead Bang_brace) but_not at_colons) ∷ ((at_path_rest and_also ahead Bang_name) but_not at_colons) ∷ at_name ∷ at_brace ∷ at_word w_trait ∷ (at_word w_unsafe or_else at_word w_impl) ∷ ended ∷ (at_paren but_not at_paren) ∷ ((((at_colons or_else at_less_only or_else at_paren or_else at_word w_as) but_not at_colons) but_not at_paren) but_not at_word w_as) ∷ ((((at_colons or_else at_less_only or_else at_paren or_else at_word w_as) but_not at_colons) but_not at_word w_as) but_not at_paren) ∷ ((at_colons or_else at_less_only or_else at_paren or_else at_word w_as) but_not at_colons) ∷ []; halts = at_word w_else ∷ at_unfinished ∷ at_mark greater_greater_equals ∷ at_mark less_less_equals ∷ at_mark bar_equals ∷ at_mark ampersand_equals ∷ at_mark caret_equals ∷ at_mark percent_equals ∷ at_mark slash_equals ∷ at_mark star_equals ∷ at_mark minus_equals ∷ at_mark plus_equals ∷ at_equals_operator ∷ at_mark or_or ∷ at_mark and_and ∷ at_mark greater_equals ∷ at_mark less_equals ∷ at_greater_operator ∷ at_less_operator ∷ at_mark not_equals ∷ at_mark equal_equal ∷ at_bar_operator ∷ at_caret_operator ∷ at_ampersand_operator ∷ at_greater_greater_operator ∷ at_less_less_operator ∷ at_minus_operator ∷ at_plus_operator ∷ at_percent_operator ∷ at_slash_operator ∷ at_star_operator ∷ at_word w_as ∷ at_dot ∷ at_question ∷ at_bracket ∷ at_paren ∷ at_whole_expression ∷ at_lifetime ∷ at_colons ∷ at_arguments ∷ at_arrow ∷ at_turbofish ∷ []; shuns = [] }
 summary_of true block_like = record { stays = Word w_if ∷ Punctuation lifetime_mark ∷ Delimited Brace false ∷ Word w_loop ∷ Word w_while ∷ Word w_for ∷ []; moves = move (Word w_unsafe) (Word w_unsafe) [] ∷ []; nullable = false; gone = []; ends = []; halts = at_word w_else ∷ []; shuns = [] }
 summary_of true if_expression = record { stays = Word w_if ∷ []; moves = []; nullable = false; gone = []; ends = []; halts = at_word w_else ∷ []; shuns = [] }
 summary_of true loop_expression = record { stays = Word w_loop ∷ Word w_while ∷ Word w_for ∷ []; moves = []; nullable = false; gone = []; ends = []; halts = []; shuns = [] }
@@ -727,8 +720,8 @@ summary_of true conjunctions = record { stays = Punctuation and_and ∷ []; move
 summary_of true conjunction = record { stays = Punctuation pound ∷ Punctuation minus ∷ Punctuation star ∷ Punctuation ampersand ∷ Word w_true ∷ Word w_false ∷ Literal Str ∷ Literal ByteStr ∷ Literal CStr ∷ Literal Byte ∷ Literal Char ∷ Literal Int ∷ Literal Float ∷ Punctuation colons ∷ Name ∷ Word w_union ∷ Word w_auto ∷ Word w_default ∷ Word w_safe ∷ Word w_self ∷ Word w_Self_type ∷ Word w_super ∷ Word w_crate ∷ Delimited Paren false ∷ Delimited Bracket false ∷ Delimited None false ∷ Word w_if ∷ Punctuation lifetime_mark ∷ Delimited Brace false ∷ Word w_loop ∷ Word w_while ∷ Word w_for ∷ Word w_return ∷ Word w_break ∷ Word w_continue ∷ []; moves = move (Punctuation arrow) (Punctuation minus) [] ∷ move (Punctuation minus_equals) (Punctuation minus) [] ∷ move (Punctuation exclamation) (Punctuation exclamation) [] ∷ move (Punctuation not_equals) (Punctuation exclamation) [] ∷ move (Punctuation star_equals) (Punctuation star) [] ∷ move (Punctuation and_and) (Punctuation ampersand) [] ∷ move (Punctuation ampersand_equals) (Punctuation ampersand) [] ∷ move (Word w_unsafe) (Word w_unsafe) [] ∷ move (Punctuation less) (Punctuation less) [] ∷ move (Punctuation less_less_equals) (Punctuation less) [] ∷ move (Punctuation less_equals) (Punctuation less) [] ∷ move (Punctuation less_less) (Punctuation less) [] ∷ []; nullable = false; gone = []; ends = at_equals ∷ at_paren ∷ at_less ∷ (((at_colons or_else at_less_only or_else at_paren or_else at_word w_as) but_not at_colons) but_not at_word w_as) ∷ (at_colons but_not at_colons) ∷ ((at_bang or_else at_colons and_also ahead Before_macro) but_not at_colons) ∷ ((at_path_rest and_also ahead Bang_brace) but_not at_colons) ∷ ((at_path_rest and_also ahead Bang_name) but_not at_colons) ∷ at_name ∷ at_brace ∷ at_word w_trait ∷ (at_word w_unsafe or_else at_word w_impl) ∷ ended ∷ (at_paren but_not at_paren) ∷ ((((at_colons or_else at_less_only or_else at_paren or_else at_word w_as) but_not at_colons) but_not at_paren) but_not at_word w_as) ∷ ((((at_colons or_else at_less_only or_else at_paren or_else at_word w_as) but_not at_colons) but_not at_word w_as) but_not at_paren) ∷ []; halts = at_mark and_and ∷ at_bar_operator ∷ at_caret_operator ∷ at_ampersand_operator ∷ at_greater_greater_operator ∷ at_less_less_operator ∷ at_minus_operator ∷ at_plus_operator ∷ at_percent_operator ∷ at_slash_operator ∷ at_star_operator ∷ at_word w_as ∷ at_colons ∷ at_arguments ∷ at_arrow ∷ at_dot ∷ at_question ∷ at_bracket ∷ at_paren ∷ at_whole_expression ∷ at_lifetime ∷ at_unfinished ∷ at_mark greater_greater_equals ∷ at_mark less_less_equals ∷ at_mark bar_equals ∷ at_mark ampersand_equals ∷ at_mark caret_equals ∷ at_mark percent_equals ∷ at_mark slash_equals ∷ at_mark star_equals ∷ at_mark minus_equals ∷ at_mark plus_equals ∷ at_equals_operator ∷ at_mark or_or ∷ at_word w_else ∷ at_mark greater_equals ∷ at_mark less_equals ∷ at_greater_operator ∷ at_less_operator ∷ at_mark not_equals ∷ at_mark equal_equal ∷ at_turbofish ∷ []; shuns = [] }
 summary_of true disjunctions = record { stays = Punctuation or_or ∷ []; moves = []; nullable = true; gone = []; ends = at_equals ∷ at_paren ∷ at_less ∷ (((at_colons or_else at_less_only or_else at_paren or_else at_word w_as) but_not at_colons) but_not at_word w_as) ∷ (at_colons but_not at_colons) ∷ ((at_bang or_else at_colons and_also ahead Before_macro) but_not at_colons) ∷ ((at_path_rest and_also ahead Bang_brace) but_not at_colons) ∷ ((at_path_rest and_also ahead Bang_name) but_not at_colons) ∷ at_name ∷ at_brace ∷ at_word w_trait ∷ (at_word w_unsafe or_else at_word w_impl) ∷ ended ∷ (at_paren but_not at_paren) ∷ ((((at_colons or_else at_less_only or_else at_paren or_else at_word w_as) but_not at_colons) but_not at_paren) but_not at_word w_as) ∷ ((((at_colons or_else at_less_only or_else at_paren or_else at_word w_as) but_not at_colons) but_not at_word w_as) but_not at_paren) ∷ []; halts = at_mark or_or ∷ at_mark and_and ∷ at_bar_operator ∷ at_caret_operator ∷ at_ampersand_operator ∷ at_greater_greater_operator ∷ at_less_less_operator ∷ at_minus_operator ∷ at_plus_operator ∷ at_percent_operator ∷ at_slash_operator ∷ at_star_operator ∷ at_word w_as ∷ at_colons ∷ at_arguments ∷ at_arrow ∷ at_dot ∷ at_question ∷ at_bracket ∷ at_paren ∷ at_whole_expression ∷ at_lifetime ∷ at_unfinished ∷ at_mark greater_greater_equals ∷ at_mark less_less_equals ∷ at_mark bar_equals ∷ at_mark ampersand_equals ∷ at_mark caret_equals ∷ at_mark percent_equals ∷ at_mark slash_equals ∷ at_mark star_equals ∷ at_mark minus_equals ∷ at_mark plus_equals ∷ at_equals_operator ∷ at_word w_else ∷ at_mark greater_equals ∷ at_mark less_equals ∷ at_greater_operator ∷ at_less_operator ∷ at_mark not_equals ∷ at_mark equal_equal ∷ at_turbofish ∷ []; shuns = [] }
 summary_of true disjunction = record { stays = Punctuation pound ∷ Punctuation minus ∷ Punctuation star ∷ Punctuation ampersand ∷ Word w_true ∷ Word w_false ∷ Literal Str ∷ Literal ByteStr ∷ Literal CStr ∷ Literal Byte ∷ Literal Char ∷ Literal Int ∷ Literal Float ∷ Punctuation colons ∷ Name ∷ Word w_union ∷ Word w_auto ∷ Word w_default ∷ Word w_safe ∷ Word w_self ∷ Word w_Self_type ∷ Word w_super ∷ Word w_crate ∷ Delimited Paren false ∷ Delimited Bracket false ∷ Delimited None false ∷ Word w_if ∷ Punctuation lifetime_mark ∷ Delimited Brace false ∷ Word w_loop ∷ Word w_while ∷ Word w_for ∷ Word w_return ∷ Word w_break ∷ Word w_continue ∷ []; moves = move (Punctuation arrow) (Punctuation minus) [] ∷ move (Punctuation minus_equals) (Punctuation minus) [] ∷ move (Punctuation exclamation) (Punctuation exclamation) [] ∷ move (Punctuation not_equals) (Punctuation exclamation) [] ∷ move (Punctuation star_equals) (Punctuation star) [] ∷ move (Punctuation and_and) (Punctuation ampersand) [] ∷ move (Punctuation ampersand_equals) (Punctuation ampersand) [] ∷ move (Word w_unsafe) (Word w_unsafe) [] ∷ move (Punctuation less) (Punctuation less) [] ∷ move (Punctuation less_less_equals) (Punctuation less) [] ∷ move (Punctuation less_equals) (Punctuation less) [] ∷ move (Punctuation less_less) (Punctuation less) [] ∷ []; nullable = false; gone = []; ends = at_equals ∷ at_paren ∷ at_less ∷ (((at_colons or_else at_less_only or_else at_paren or_else at_word w_as) but_not at_colons) but_not at_word w_as) ∷ (at_colons but_not at_colons) ∷ ((at_bang or_else at_colons and_also ahead Before_macro) but_not at_colons) ∷ ((at_path_rest and_also ahead Bang_brace) but_not at_colons) ∷ ((at_path_rest and_also ahead Bang_name) but_not at_colons) ∷ at_name ∷ at_brace ∷ at_word w_trait ∷ (at_word w_unsafe or_else at_word w_impl) ∷ ended ∷ (at_paren but_not at_paren) ∷ ((((at_colons or_else at_less_only or_else at_paren or_else at_word w_as) but_not at_colons) but_not at_paren) but_not at_word w_as) ∷ ((((at_colons or_else at_less_only or_else at_paren or_else at_word w_as) but_not at_colons) but_not at_word w_as) but_not at_paren) ∷ []; halts = at_mark or_or ∷ at_mark and_and ∷ at_bar_operator ∷ at_caret_operator ∷ at_ampersand_operator ∷ at_greater_greater_operator ∷ at_less_less_operator ∷ at_minus_operator ∷ at_plus_operator ∷ at_percent_operator ∷ at_slash_operator ∷ at_star_operator ∷ at_word w_as ∷ at_colons ∷ at_arguments ∷ at_arrow ∷ at_dot ∷ at_question ∷ at_bracket ∷ at_paren ∷ at_whole_expression ∷ at_lifetime ∷ at_unfinished ∷ at_mark greater_greater_equals ∷ at_mark less_less_equals ∷ at_mark bar_equals ∷ at_mark ampersand_equals ∷ at_mark caret_equals ∷ at_mark percent_equals ∷ at_mark slash_equals ∷ at_mark star_equals ∷ at_mark minus_equals ∷ at_mark plus_equals ∷ at_equals_operator ∷ at_word w_else ∷ at_mark greater_equals ∷ at_mark less_equals ∷ at_greater_operator ∷ at_less_operator ∷ at_mark not_equals ∷ at_mark equal_equal ∷ at_turbofish ∷ []; shuns = [] }
-summary_of true assigned = record { stays = Punctuation equals ∷ Punctuation plus_equals ∷ Punctuation minus_equals ∷ Punctuation star_equals ∷ Punctuation slash_equals ∷ Punctuation percent_equals ∷ Punctuation caret_equals ∷ Punctuation ampersand_equals ∷ Punctuation bar_equals ∷ Punctuation greater_greater_equals ∷ []; moves = move (Punctuation (61 ∷ 62 ∷ [])) (Punctuation equals) [] ∷ move (Punctuation less_less_equals) (Punctuation less_less_equals) [] ∷ []; nullable = true; gone = []; ends = at_equals ∷ at_paren ∷ at_less ∷ (((at_colons or_else at_less_only or_else at_paren or_else at_word w_as) but_not at_colons) but_not at_word w_as) ∷ (at_colons but_not at_colons) ∷ ((at_bang or_else at_colons and_also ahead Before_macro) but_not at_colons) ∷ ((at_path_rest and_also ahead Bang_brace) but_not at_colons) ∷ ((at_path_rest and_also ahead Bang_name) but_not at_colons) ∷ at_name ∷ at_brace ∷ at_word w_trait ∷ (at_word w_unsafe or_else at_word w_impl) ∷ ended ∷ (at_paren but_not at_paren) ∷ ((((at_colons or_else at_less_only or_else at_paren or_else at_word w_as) but_not at_colons) but_not at_paren) but_not at_word w_as) ∷ ((((at_colons or_else at_less_only or_else at_paren or_else at_word w_as) but_not at_colons) but_not at_word w_as) but_not at_paren) ∷ []; halts = at_unfinished ∷ at_mark greater_greater_equals ∷ at_mark less_less_equals ∷ at_mark bar_equals ∷ at_mark ampersand_equals ∷ at_mark caret_equals ∷ at_mark percent_equals ∷ at_mark slash_equals ∷ at_mark star_equals ∷ at_mark minus_equals ∷ at_mark plus_equals ∷ at_equals_operator ∷ at_mark or_or ∷ at_mark and_and ∷ at_bar_operator ∷ at_caret_operator ∷ at_ampersand_operator ∷ at_greater_greater_operator ∷ at_less_less_operator ∷ at_minus_operator ∷ at_plus_operator ∷ at_percent_operator ∷ at_slash_operator ∷ at_star_operator ∷ at_word w_as ∷ at_colons ∷ at_arguments ∷ at_arrow ∷ at_dot ∷ at_question ∷ at_bracket ∷ at_paren ∷ at_whole_expression ∷ at_lifetime ∷ at_word w_else ∷ at_mark greater_equals ∷ at_mark less_equals ∷ at_greater_operator ∷ at_less_operator ∷ at_mark not_equals ∷ at_mark equal_equal ∷ at_turbofish ∷ []; shuns = [] }
-summary_of true whole_expression = record { stays = Punctuation pound ∷ Punctuation minus ∷ Punctuation star ∷ Punctuation ampersand ∷ Word w_true ∷ Word w_false ∷ Literal Str ∷ Literal ByteStr ∷ Literal CStr ∷ Literal Byte ∷ Literal Char ∷ Literal Int ∷ Literal Float ∷ Punctuation colons ∷ Name ∷ Word w_union ∷ Word w_auto ∷ Word w_default ∷ Word w_safe ∷ Word w_self ∷ Word w_Self_type ∷ Word w_super ∷ Word w_crate ∷ Delimited Paren false ∷ Delimited Bracket false ∷ Delimited None false ∷ Word w_if ∷ Punctuation lifetime_mark ∷ Delimited Brace false ∷ Word w_loop ∷ Word w_while ∷ Word w_for ∷ Word w_return ∷ Word w_break ∷ Word w_continue ∷ []; moves = move (Punctuation arrow) (Punctuation minus) [] ∷ move (Punctuation minus_equals) (Punctuation minus) [] ∷ move (Punctuation exclamation) (Punctuation exclamation) [] ∷ move (Punctuation not_equals) (Punctuation exclamation) [] ∷ move (Punctuation star_equals) (Punctuation star) [] ∷ move (Punctuation and_and) (Punctuation ampersand) [] ∷ move (Punctuation ampersand_equals) (Punctuation ampersand) [] ∷ move (Word w_unsafe) (Word w_unsafe) [] ∷ move (Punctuation less) (Punctuation less) [] ∷ move (Punctuation less_less_equals) (Punctuation less) [] ∷ move (Punctuation less_equals) (Punctuation less) [] ∷ move (Punctuation less_less) (Punctuation less) [] ∷ []; nullable = false; gone = []; ends = at_equals ∷ at_paren ∷ at_less ∷ (((at_colons or_else at_less_only or_else at_paren or_else at_word w_as) but_not at_colons) but_not at_word w_as) ∷ (at_colons but_not at_colons) ∷ ((at_bang or_else at_colons and_also ahead Before_macro) but_not at_colons) ∷ ((at_path_rest and_also ahead Bang_brace) but_not at_colons) ∷ ((at_path_rest and_also ahead Bang_name) but_not at_colons) ∷ at_name ∷ at_brace ∷ at_word w_trait ∷ (at_word w_unsafe or_else at_word w_impl) ∷ ended ∷ (at_paren but_not at_paren) ∷ ((((at_colons or_else at_less_only or_else at_paren or_else at_word w_as) but_not at_colons) but_not at_paren) but_not at_word w_as) ∷ ((((at_colons or_else at_less_only or_else at_paren or_else at_word w_as) but_not at_colons) but_not at_word w_as) but_not at_paren) ∷ []; halts = at_unfinished ∷ at_mark greater_greater_equals ∷ at_mark less_less_equals ∷ at_mark bar_equals ∷ at_mark ampersand_equals ∷ at_mark caret_equals ∷ at_mark percent_equals ∷ at_mark slash_equals ∷ at_mark star_equals ∷ at_mark minus_equals ∷ at_mark plus_equals ∷ at_equals_operator ∷ at_mark or_or ∷ at_mark and_and ∷ at_mark greater_equals ∷ at_mark less_equals ∷ at_greater_operator ∷ at_less_operator ∷ at_mark not_equals ∷ at_mark equal_equal ∷ at_bar_operator ∷ at_caret_operator ∷ at_ampersand_operator ∷ at_greater_greater_operator ∷ at_less_less_operator ∷ at_minus_operator ∷ at_plus_operator ∷ at_percent_operator ∷ at_slash_operator ∷ at_star_operator ∷ at_word w_as ∷ at_dot ∷ at_question ∷ at_bracket ∷ at_paren ∷ at_whole_expression ∷ at_lifetime ∷ at_colons ∷ at_arguments ∷ at_arrow ∷ at_word w_else ∷ at_turbofish ∷ []; shuns = [] }
+summary_of true assigned = record { stays = Punctuation equals ∷ Punctuation plus_equals ∷ Punctuation minus_equals ∷ Punctuation star_equals ∷ Punctuation slash_equals ∷ Punctuation percent_equals ∷ Punctuation caret_equals ∷ Punctuation ampersand_equals ∷ Punctuation bar_equals ∷ Punctuation greater_greater_equals ∷ []; moves = move (Punctuation (61 ∷ 62 ∷ [])) (Punctuation equals) [] ∷ move (Punctuation less_less_equals) (Punctuation less_less_equals) [] ∷ []; nullable = true; gone = []; ends = at_equals ∷ at_paren ∷ at_less ∷ (((at_colons or_else at_less_only or_else at_paren or_else at_word w_as) but_not at_colons) but_not at_word w_as) ∷ (at_colons but_not at_colons) ∷ ((at_bang or_else at_colons and_also ahead Before_macro) but_not at_colons) ∷ ((at_path_rest and_also ahead Bang_brace) but_not at_colons) ∷ ((at_path_rest and_also ahead Bang_name) but_not at_colons) ∷ at_name ∷ at_brace ∷ at_word w_trait ∷ (at_word w_unsafe or_else at_word w_impl) ∷ ended ∷ (at_paren but_not at_paren) ∷ ((((at_colons or_else at_less_only or_else at_paren or_else at_word w_as) but_not at_colons) but_not at_paren) but_not at_word w_as) ∷ ((((at_colons or_else at_less_only or_else at_paren or_else at_word w_as) but_not at_colons) but_not at_word w_as) but_not at_paren) ∷ []; halts = at_unfinished ∷ at_mark greater_greater_equals ∷ at_mark less_less_equals ∷ at_mark bar_equals ∷ at_mark ampersand_equals ∷ at_mark caret_equals ∷ at_mark percent_equals ∷ at_mark slash_equals ∷ at_mark star_equals ∷ at_mark minus_equals ∷ at_mark plus_equals ∷ at_equals_operator ∷ at_mark or_or ∷ at_mark and_and ∷ at_mark greater_equals ∷ at_mark less_equals ∷ at_greater_operator ∷ at_less_operator ∷ at_mark not_equals ∷ at_mark equal_equal ∷ at_bar_operator ∷ at_caret_operator ∷ at_ampersand_operator ∷ at_greater_greater_operator ∷ at_less_less_operator ∷ at_minus_operator ∷ at_plus_operator ∷ at_percent_operator ∷ at_slash_operator ∷ at_star_operator ∷ at_word w_as ∷ at_dot ∷ at_question ∷ at_bracket ∷ at_paren ∷ at_whole_expression ∷ at_lifetime ∷ at_colons ∷ at_arguments ∷ at_arrow ∷ at_word w_else ∷ at_turbofish ∷ []; shuns = [] }
+summary_of true whole_expression = record { stays = Punctuation pound ∷ Punctuation minus ∷ Punctuation star ∷ Punctuation ampersand ∷ Word w_true ∷ Word w_false ∷ Literal Str ∷ Literal ByteStr ∷ Literal CStr ∷ Literal Byte ∷ Literal Char ∷ Literal Int ∷ Literal Float ∷ Punctuation colons ∷ Name ∷ Word w_union ∷ Word w_auto ∷ Word w_default ∷ Word w_safe ∷ Word w_self ∷ Word w_Self_type ∷ Word w_super ∷ Word w_crate ∷ Delimited Paren false ∷ Delimited Bracket false ∷ Delimited None false ∷ Word w_if ∷ Punctuation lifetime_mark ∷ Delimited Brace false ∷ Word w_loop ∷ Word w_while ∷ Word w_for ∷ Word w_return ∷ Word w_break ∷ Word w_continue ∷ []; moves = move (Punctuation arrow) (Punctuation minus) [] ∷ move (Punctuation minus_equals) (Punctuation minus) [] ∷ move (Punctuation exclamation) (Punctuation exclamation) [] ∷ move (Punctuation not_equals) (Punctuation exclamation) [] ∷ move (Punctuation star_equals) (Punctuation star) [] ∷ move (Punctuation and_and) (Punctuation ampersand) [] ∷ move (Punctuation ampersand_equals) (Punctuation ampersand) [] ∷ move (Word w_unsafe) (Word w_unsafe) [] ∷ move (Punctuation less) (Punctuation less) [] ∷ move (Punctuation less_less_equals) (Punctuation less) [] ∷ move (Punctuation less_equals) (Punctuation less) [] ∷ move (Punctuation less_less) (Punctuation less) [] ∷ []; nullable = false; gone = []; ends = at_equals ∷ at_paren ∷ at_less ∷ (((at_colons or_else at_less_only or_else at_paren or_else at_word w_as) but_not at_colons) but_not at_word w_as) ∷ (at_colons but_not at_colons) ∷ ((at_bang or_else at_colons and_also ahead Before_macro) but_not at_colons) ∷ ((at_path_rest and_also ahead Bang_brace) but_not at_colons) ∷ ((at_path_rest and_also ahead Bang_name) but_not at_colons) ∷ at_name ∷ at_brace ∷ at_word w_trait ∷ (at_word w_unsafe or_else at_word w_impl) ∷ ended ∷ (at_paren but_not at_paren) ∷ ((((at_colons or_else at_less_only or_else at_paren or_else at_word w_as) but_not at_colons) but_not at_paren) but_not at_word w_as) ∷ ((((at_colons or_else at_less_only or_else at_paren or_else at_word w_as) but_not at_colons) but_not at_word w_as) but_not at_paren) ∷ []; halts = at_unfinished ∷ at_mark greater_greater_equals ∷ at_mark less_less_equals ∷ at_mark bar_equals ∷ at_mark ampersand_equals ∷ at_mark caret_equals ∷ at_mark percent_equals ∷ at_mark slash_equals ∷ at_mark star_equals ∷ at_mark minus_equals ∷ at_mark plus_equals ∷ at_equals_operator ∷ at_mark or_or ∷ at_mark and_and ∷ at_bar_operator ∷ at_caret_operator ∷ at_ampersand_operator ∷ at_greater_greater_operator ∷ at_less_less_operator ∷ at_minus_operator ∷ at_plus_operator ∷ at_percent_operator ∷ at_slash_operator ∷ at_star_operator ∷ at_word w_as ∷ at_colons ∷ at_arguments ∷ at_arrow ∷ at_dot ∷ at_question ∷ at_bracket ∷ at_paren ∷ at_whole_expression ∷ at_lifetime ∷ at_word w_else ∷ at_mark greater_equals ∷ at_mark less_equals ∷ at_greater_operator ∷ at_less_operator ∷ at_mark not_equals ∷ at_mark equal_equal ∷ at_turbofish ∷ []; shuns = [] }
 summary_of true operand_rest = record { stays = []; moves = []; nullable = false; gone = []; ends = []; halts = []; shuns = [] }
 summary_of true statements = record { stays = Punctuation semicolon ∷ Punctuation pound ∷ Word w_crate ∷ Punctuation colons ∷ Name ∷ Word w_union ∷ Word w_auto ∷ Word w_default ∷ Word w_safe ∷ Word w_self ∷ Word w_Self_type ∷ Word w_super ∷ Word w_let ∷ Word w_if ∷ Punctuation lifetime_mark ∷ Delimited Brace false ∷ Word w_loop ∷ Word w_while ∷ Word w_for ∷ Punctuation minus ∷ Punctuation star ∷ Punctuation ampersand ∷ Word w_true ∷ Word w_false ∷ Literal Str ∷ Literal ByteStr ∷ Literal CStr ∷ Literal Byte ∷ Literal Char ∷ Literal Int ∷ Literal Float ∷ Delimited Paren false ∷ Delimited Bracket false ∷ Delimited None false ∷ Word w_return ∷ Word w_break ∷ Word w_continue ∷ []; moves = move (Word w_unsafe) (Word w_unsafe) [] ∷ move (Punctuation arrow) (Punctuation minus) [] ∷ move (Punctuation minus_equals) (Punctuation minus) [] ∷ move (Punctuation exclamation) (Punctuation exclamation) [] ∷ move (Punctuation not_equals) (Punctuation exclamation) [] ∷ move (Punctuation star_equals) (Punctuation star) [] ∷ move (Punctuation and_and) (Punctuation ampersand) [] ∷ move (Punctuation ampersand_equals) (Punctuation ampersand) [] ∷ move (Punctuation less) (Punctuation less) [] ∷ move (Punctuation less_less_equals) (Punctuation less) [] ∷ move (Punctuation less_equals) (Punctuation less) [] ∷ move (Punctuation less_less) (Punctuation less) [] ∷ []; nullable = true; gone = []; ends = ended ∷ at_postfix_mark ∷ at_equals ∷ at_paren ∷ at_less ∷ (((at_colons or_else at_less_only or_else at_paren or_else at_word w_as) but_not at_colons) but_not at_word w_as) ∷ (at_colons but_not at_colons) ∷ ((at_bang or_else at_colons and_also ahead Before_macro) but_not at_colons) ∷ ((at_path_rest and_also ahead Bang_brace) but_not at_colons) ∷ ((at_path_rest and_also ahead Bang_name) but_not at_colons) ∷ at_name ∷ at_brace ∷ at_word w_trait ∷ (at_word w_unsafe or_else at_word w_impl) ∷ (at_paren but_not at_paren) ∷ ((((at_colons or_else at_less_only or_else at_paren or_else at_word w_as) but_not at_colons) but_not at_paren) but_not at_word w_as) ∷ ((((at_colons or_else at_less_only or_else at_paren or_else at_word w_as) but_not at_colons) but_not at_word w_as) but_not at_paren) ∷ []; halts = at_semicolon ∷ at_postfix_mark ∷ at_unfinished ∷ at_mark greater_greater_equals ∷ at_mark less_less_equals ∷ at_mark bar_equals ∷ at_mark ampersand_equals ∷ at_mark caret_equals ∷ at_mark percent_equals ∷ at_mark slash_equals ∷ at_mark star_equals ∷ at_mark minus_equals ∷ at_mark plus_equals ∷ at_equals_operator ∷ at_mark or_or ∷ at_mark and_and ∷ at_mark greater_equals ∷ at_mark less_equals ∷ at_greater_operator ∷ at_less_operator ∷ at_mark not_equals ∷ at_mark equal_equal ∷ at_bar_operator ∷ at_caret_operator ∷ at_ampersand_operator ∷ at_greater_greater_operator ∷ at_less_less_operator ∷ at_minus_operator ∷ at_plus_operator ∷ at_percent_operator ∷ at_slash_operator ∷ at_star_operator ∷ at_word w_as ∷ at_dot ∷ at_question ∷ at_bracket ∷ at_paren ∷ at_colons ∷ at_word w_else ∷ at_whole_expression ∷ at_lifetime ∷ at_arguments ∷ at_arrow ∷ at_turbofish ∷ []; shuns = [] }
 summary_of true statement_rest = record { stays = Word w_crate ∷ Punctuation colons ∷ Name ∷ Word w_union ∷ Word w_auto ∷ Word w_default ∷ Word w_safe ∷ Word w_self ∷ Word w_Self_type ∷ Word w_super ∷ Word w_let ∷ Word w_if ∷ Punctuation lifetime_mark ∷ Delimited Brace false ∷ Word w_loop ∷ Word w_while ∷ Word w_for ∷ Punctuation pound ∷ Punctuation minus ∷ Punctuation star ∷ Punctuation ampersand ∷ Word w_true ∷ Word w_false ∷ Literal Str ∷ Literal ByteStr ∷ Literal CStr ∷ Literal Byte ∷ Literal Char ∷ Literal Int ∷ Literal Float ∷ Delimited Paren false ∷ Delimited Bracket false ∷ Delimited None false ∷ Word w_return ∷ Word w_break ∷ Word w_continue ∷ []; moves = move (Word w_unsafe) (Word w_unsafe) [] ∷ move (Punctuation arrow) (Punctuation minus) [] ∷ move (Punctuation minus_equals) (Punctuation minus) [] ∷ move (Punctuation exclamation) (Punctuation exclamation) [] ∷ move (Punctuation not_equals) (Punctuation exclamation) [] ∷ move (Punctuation star_equals) (Punctuation star) [] ∷ move (Punctuation and_and) (Punctuation ampersand) [] ∷ move (Punctuation ampersand_equals) (Punctuation ampersand) [] ∷ move (Punctuation less) (Punctuation less) [] ∷ move (Punctuation less_less_equals) (Punctuation less) [] ∷ move (Punctuation less_equals) (Punctuation less) [] ∷ move (Punctuation less_less) (Punctuation less) [] ∷ []; nullable = false; gone = []; ends = ended ∷ at_postfix_mark ∷ at_equals ∷ at_paren ∷ at_less ∷ (((at_colons or_else at_less_only or_else at_paren or_else at_word w_as) but_not at_colons) but_not at_word w_as) ∷ (at_colons but_not at_colons) ∷ ((at_bang or_else at_colons and_also ahead Before_macro) but_not at_colons) ∷ ((at_path_rest and_also ahead Bang_brace) but_not at_colons) ∷ ((at_path_rest and_also ahead Bang_name) but_not at_colons) ∷ at_name ∷ at_brace ∷ at_word w_trait ∷ (at_word w_unsafe or_else at_word w_impl) ∷ (at_paren but_not at_paren) ∷ ((((at_colons or_else at_less_only or_else at_paren or_else at_word w_as) but_not at_colons) but_not at_paren) but_not at_word w_as) ∷ ((((at_colons or_else at_less_only or_else at_paren or_else at_word w_as) but_not at_colons) but_not at_word w_as) but_not at_paren) ∷ []; halts = at_semicolon ∷ at_postfix_mark ∷ at_unfinished ∷ at_mark greater_greater_equals ∷ at_mark less_less_equals ∷ at_mark bar_equals ∷ at_mark ampersand_equals ∷ at_mark caret_equals ∷ at_mark percent_equals ∷ at_mark slash_equals ∷ at_mark star_equals ∷ at_mark minus_equals ∷ at_mark plus_equals ∷ at_equals_operator ∷ at_mark or_or ∷ at_mark and_and ∷ at_mark greater_equals ∷ at_mark less_equals ∷ at_greater_operator ∷ at_less_operator ∷ at_mark not_equals ∷ at_mark equal_equal ∷ at_bar_operator ∷ at_caret_operator ∷ at_ampersand_operator ∷ at_greater_greater_operator ∷ at_less_less_operator ∷ at_minus_operator ∷ at_plus_operator ∷ at_percent_operator ∷ at_slash_operator ∷ at_star_operator ∷ at_word w_as ∷ at_dot ∷ at_question ∷ at_bracket ∷ at_paren ∷ at_colons ∷ at_word w_else ∷ at_whole_expression ∷ at_lifetime ∷ at_arguments ∷ at_arrow ∷ at_turbofish ∷ []; shuns = [] }
@@ -742,7 +735,6 @@ summary_of true local = record { stays = Word w_let ∷ []; moves = []; nullable
 pub starts_hold : IsSaid start_of table
 starts_hold attributes = (refl, λ e. refl)
 starts_hold inner_attributes = (refl, λ e. refl)
-starts_hold no_attributes = (refl, λ e. refl)
 starts_hold meta = (refl, λ e. e)
 starts_hold unsafe_path = (refl, λ e. e)
 starts_hold unsafe_word = (refl, λ e. e)
@@ -761,7 +753,7 @@ starts_hold qualified_path = (refl, λ e. e)
 starts_hold path_as_type = (refl, λ e. e)
 starts_hold type = (refl, λ e. e)
 starts_hold types = (refl, λ e. refl)
-starts_hold expression = (refl, λ e. e)
+starts_hold constant = (refl, λ e. e)
 starts_hold generics = (refl, λ e. refl)
 starts_hold lifetime_parameter = (refl, λ e. e)
 starts_hold lifetimes = (refl, λ e. refl)
@@ -846,7 +838,6 @@ starts_hold local = (refl, λ e. e)
 pub never_follow_hold : IsOff start_of table
 never_follow_hold attributes = refl
 never_follow_hold inner_attributes = refl
-never_follow_hold no_attributes = refl
 never_follow_hold meta = refl
 never_follow_hold unsafe_path = refl
 never_follow_hold unsafe_word = refl
@@ -865,7 +856,7 @@ never_follow_hold qualified_path = refl
 never_follow_hold path_as_type = refl
 never_follow_hold type = refl
 never_follow_hold types = refl
-never_follow_hold expression = refl
+never_follow_hold constant = refl
 never_follow_hold generics = refl
 never_follow_hold lifetime_parameter = refl
 never_follow_hold lifetimes = refl
@@ -950,7 +941,6 @@ never_follow_hold local = refl
 pub closed_hold : (k : Rule) → closed_of k ≡ true → closes closed_of (table k) ≡ true
 closed_hold attributes e = absurd (true≢false (sym e))
 closed_hold inner_attributes e = absurd (true≢false (sym e))
-closed_hold no_attributes e = absurd (true≢false (sym e))
 closed_hold meta e = absurd (true≢false (sym e))
 closed_hold unsafe_path e = absurd (true≢false (sym e))
 closed_hold unsafe_word e = absurd (true≢false (sym e))
@@ -969,7 +959,7 @@ closed_hold qualified_path e = absurd (true≢false (sym e))
 closed_hold path_as_type e = absurd (true≢false (sym e))
 closed_hold type e = absurd (true≢false (sym e))
 closed_hold types e = absurd (true≢false (sym e))
-closed_hold expression e = absurd (true≢false (sym e))
+closed_hold constant e = absurd (true≢false (sym e))
 closed_hold generics e = absurd (true≢false (sym e))
 closed_hold lifetime_parameter e = absurd (true≢false (sym e))
 closed_hold lifetimes e = absurd (true≢false (sym e))
@@ -1054,7 +1044,6 @@ closed_hold local e = refl
 pub unions_hold : (k : Rule) → sound table start_of (table k) ≡ true
 unions_hold attributes = refl
 unions_hold inner_attributes = refl
-unions_hold no_attributes = refl
 unions_hold meta = refl
 unions_hold unsafe_path = refl
 unions_hold unsafe_word = refl
@@ -1073,7 +1062,7 @@ unions_hold qualified_path = refl
 unions_hold path_as_type = refl
 unions_hold type = refl
 unions_hold types = refl
-unions_hold expression = refl
+unions_hold constant = refl
 unions_hold generics = refl
 unions_hold lifetime_parameter = refl
 unions_hold lifetimes = refl
@@ -1158,7 +1147,6 @@ unions_hold local = refl
 pub summaries_hold : IsSummary summary_of heard_of start_of closed_of table
 summaries_hold false attributes e = (refl, refl)
 summaries_hold false inner_attributes e = (refl, refl)
-summaries_hold false no_attributes e = (refl, refl)
 summaries_hold false meta e = (refl, refl)
 summaries_hold false unsafe_path e = (refl, refl)
 summaries_hold false unsafe_word e = (refl, refl)
@@ -1177,7 +1165,7 @@ summaries_hold false qualified_path e = (refl, refl)
 summaries_hold false path_as_type e = (refl, refl)
 summaries_hold false type e = (refl, refl)
 summaries_hold false types e = (refl, refl)
-summaries_hold false expression e = (refl, refl)
+summaries_hold false constant e = (refl, refl)
 summaries_hold false generics e = (refl, refl)
 summaries_hold false lifetime_parameter e = (refl, refl)
 summaries_hold false lifetimes e = (refl, refl)
@@ -1259,7 +1247,6 @@ summaries_hold false statement_end e = (refl, refl)
 summaries_hold false local e = (refl, refl)
 summaries_hold true attributes e = (refl, refl)
 summaries_hold true inner_attributes e = absurd (true≢false (sym e))
-summaries_hold true no_attributes e = (refl, refl)
 summaries_hold true meta e = absurd (true≢false (sym e))
 summaries_hold true unsafe_path e = absurd (true≢false (sym e))
 summaries_hold true unsafe_word e = absurd (true≢false (sym e))
@@ -1278,7 +1265,7 @@ summaries_hold true qualified_path e = (refl, refl)
 summaries_hold true path_as_type e = (refl, refl)
 summaries_hold true type e = (refl, refl)
 summaries_hold true types e = (refl, refl)
-summaries_hold true expression e = (refl, refl)
+summaries_hold true constant e = (refl, refl)
 summaries_hold true generics e = absurd (true≢false (sym e))
 summaries_hold true lifetime_parameter e = absurd (true≢false (sym e))
 summaries_hold true lifetimes e = absurd (true≢false (sym e))
@@ -1319,7 +1306,7 @@ summaries_hold true expressions e = (refl, refl)
 summaries_hold true array_content e = absurd (true≢false (sym e))
 summaries_hold true block e = (refl, refl)
 summaries_hold true body e = (refl, refl)
-summaries_hold true plain_body e = absurd (true≢false (sym e))
+summaries_hold true plain_body e = (refl, refl)
 summaries_hold true no_inner_attributes e = absurd (true≢false (sym e))
 summaries_hold true primary e = (refl, refl)
 summaries_hold true block_like e = (refl, refl)
@@ -1363,7 +1350,6 @@ summaries_hold true local e = (refl, refl)
 pub ends_hold : (k : Rule) → clear (summary_of false k).shuns Ended ≡ true
 ends_hold attributes = refl
 ends_hold inner_attributes = refl
-ends_hold no_attributes = refl
 ends_hold meta = refl
 ends_hold unsafe_path = refl
 ends_hold unsafe_word = refl
@@ -1382,7 +1368,7 @@ ends_hold qualified_path = refl
 ends_hold path_as_type = refl
 ends_hold type = refl
 ends_hold types = refl
-ends_hold expression = refl
+ends_hold constant = refl
 ends_hold generics = refl
 ends_hold lifetime_parameter = refl
 ends_hold lifetimes = refl

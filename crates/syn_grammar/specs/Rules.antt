@@ -3,7 +3,6 @@
 pub data Rule : Type 0 where
   attributes : Rule
   inner_attributes : Rule
-  no_attributes : Rule
   meta : Rule
   unsafe_path : Rule
   unsafe_word : Rule
@@ -22,7 +21,7 @@ pub data Rule : Type 0 where
   path_as_type : Rule
   type : Rule
   types : Rule
-  expression : Rule
+  constant : Rule
   generics : Rule
   lifetime_parameter : Rule
   lifetimes : Rule

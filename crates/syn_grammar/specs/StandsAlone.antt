@@ -2,13 +2,12 @@
 -- Of which rules what is shown is read again, and where what was read before a rest is read at the end; the proofs compute each line again.
 use Rattle.std.specs.Prelude.{Bool, true, false, List, [], ◌∷◌}
 use Rattle.syn_grammar.specs.Words.{Text, comma, semicolon}
-use Rattle.syn_grammar.specs.Rules.{Rule, attributes, inner_attributes, no_attributes, meta, unsafe_path, unsafe_word, meta_value, module_path, module_words, visibility, restriction, type_path, type_words, type_arguments, return_type, generic_arguments, generic_argument, qualified_path, path_as_type, type, types, expression, generics, lifetime_parameter, lifetimes, parameter_bounds, bound, trait_bound, bound_lifetimes, lifetime_parameters, where_clause, predicates, predicate, predicate_bounds, fields_named, named_fields, named_field, nameless_fields, unnamed_field, unnamed_fields, fields_unnamed, variant, variants, structure, structure_rest, structure_body, enumeration, enumeration_rest, union_item, union_item_rest, derive_input, expression_path, expression_words, qualified_expression_path, path_as_expression, macro_invocation, pattern, patterns, expressions, array_content, block, body, plain_body, no_inner_attributes, primary, block_like, if_expression, loop_expression, postfixes, member, unary, casts, cast, products, product, sums, sum, shifts, shift, bit_ands, bit_and, bit_xors, bit_xor, bit_ors, bit_or, compared, comparison, conjunctions, conjunction, disjunctions, disjunction, assigned, whole_expression, operand_rest, statements, statement_rest, after_block, after_expression, statement, statement_end, local}
+use Rattle.syn_grammar.specs.Rules.{Rule, attributes, inner_attributes, meta, unsafe_path, unsafe_word, meta_value, module_path, module_words, visibility, restriction, type_path, type_words, type_arguments, return_type, generic_arguments, generic_argument, qualified_path, path_as_type, type, types, constant, generics, lifetime_parameter, lifetimes, parameter_bounds, bound, trait_bound, bound_lifetimes, lifetime_parameters, where_clause, predicates, predicate, predicate_bounds, fields_named, named_fields, named_field, nameless_fields, unnamed_field, unnamed_fields, fields_unnamed, variant, variants, structure, structure_rest, structure_body, enumeration, enumeration_rest, union_item, union_item_rest, derive_input, expression_path, expression_words, qualified_expression_path, path_as_expression, macro_invocation, pattern, patterns, expressions, array_content, block, body, plain_body, no_inner_attributes, primary, block_like, if_expression, loop_expression, postfixes, member, unary, casts, cast, products, product, sums, sum, shifts, shift, bit_ands, bit_and, bit_xors, bit_xor, bit_ors, bit_or, compared, comparison, conjunctions, conjunction, disjunctions, disjunction, assigned, whole_expression, operand_rest, statements, statement_rest, after_block, after_expression, statement, statement_end, local}
 
 -- what is shown of its value (all its tokens, in their order) is read as the same value
 abbrev pub reads_shown : Rule → Bool
 reads_shown attributes = true
 reads_shown inner_attributes = true
-reads_shown no_attributes = true
 reads_shown meta = true
 reads_shown unsafe_path = true
 reads_shown unsafe_word = true
@@ -27,7 +26,7 @@ reads_shown qualified_path = true
 reads_shown path_as_type = true
 reads_shown type = true
 reads_shown types = true
-reads_shown expression = true
+reads_shown constant = true
 reads_shown generics = true
 reads_shown lifetime_parameter = true
 reads_shown lifetimes = true
@@ -112,7 +111,6 @@ reads_shown local = true
 abbrev pub stands_alone : Rule → Bool
 stands_alone attributes = true
 stands_alone inner_attributes = true
-stands_alone no_attributes = true
 stands_alone meta = false
 stands_alone unsafe_path = true
 stands_alone unsafe_word = true
@@ -131,7 +129,7 @@ stands_alone qualified_path = true
 stands_alone path_as_type = true
 stands_alone type = true
 stands_alone types = true
-stands_alone expression = true
+stands_alone constant = true
 stands_alone generics = true
 stands_alone lifetime_parameter = true
 stands_alone lifetimes = true
@@ -151,7 +149,7 @@ stands_alone nameless_fields = true
 stands_alone unnamed_field = false
 stands_alone unnamed_fields = false
 stands_alone fields_unnamed = true
-stands_alone variant = true
+stands_alone variant = false
 stands_alone variants = false
 stands_alone structure = true
 stands_alone structure_rest = true
@@ -216,7 +214,6 @@ stands_alone local = true
 abbrev pub stands_before : Rule → List Text
 stands_before attributes = comma ∷ semicolon ∷ []
 stands_before inner_attributes = comma ∷ semicolon ∷ []
-stands_before no_attributes = comma ∷ semicolon ∷ []
 stands_before meta = []
 stands_before unsafe_path = comma ∷ semicolon ∷ []
 stands_before unsafe_word = comma ∷ semicolon ∷ []
@@ -235,7 +232,7 @@ stands_before qualified_path = comma ∷ semicolon ∷ []
 stands_before path_as_type = comma ∷ semicolon ∷ []
 stands_before type = comma ∷ semicolon ∷ []
 stands_before types = comma ∷ semicolon ∷ []
-stands_before expression = comma ∷ semicolon ∷ []
+stands_before constant = comma ∷ semicolon ∷ []
 stands_before generics = comma ∷ semicolon ∷ []
 stands_before lifetime_parameter = comma ∷ semicolon ∷ []
 stands_before lifetimes = comma ∷ semicolon ∷ []
@@ -255,7 +252,7 @@ stands_before nameless_fields = comma ∷ semicolon ∷ []
 stands_before unnamed_field = []
 stands_before unnamed_fields = []
 stands_before fields_unnamed = comma ∷ semicolon ∷ []
-stands_before variant = comma ∷ semicolon ∷ []
+stands_before variant = []
 stands_before variants = []
 stands_before structure = comma ∷ semicolon ∷ []
 stands_before structure_rest = comma ∷ semicolon ∷ []

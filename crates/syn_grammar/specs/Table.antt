@@ -6,7 +6,7 @@
 use Rattle.std.specs.Prelude.{true, false, [], ◌∷◌}
 use Rattle.syn_grammar.specs.Words.{w_underscore, w_as, w_break, w_const, w_continue, w_crate, w_else, w_enum, w_false, w_for, w_if, w_in, w_let, w_loop, w_mut, w_pub, w_ref, w_return, w_Self_type, w_self, w_struct, w_super, w_true, w_unsafe, w_where, w_while, w_union, comma, semicolon, colon, equals, plus, star, less, greater, pound, ampersand, question, exclamation, minus, dot, colons, arrow, equal_equal, not_equals, less_less, less_equals, bar, slash, percent, and_and, or_or, greater_greater, greater_equals, plus_equals, minus_equals, star_equals, slash_equals, percent_equals, caret_equals, ampersand_equals, bar_equals, less_less_equals, greater_greater_equals, dots, caret}
 use Rattle.syn_grammar.specs.Tokens.{Paren, Brace, Bracket, None, Str, ByteStr, CStr, Byte, Char, Int, Float, Before_equals, Before_colons, Before_paren, Before_less, Before_bang, Bang_brace, Before_macro, Lone_word, Begins_in, Before_brace, Look, ended, at_name, at_word, at_mark, at_literal, at_group, at_empty_group, ahead, ◌or_else◌, ◌and_also◌, ◌but_not◌, at_lifetime, at_path_word}
-use Rattle.syn_grammar.specs.Rules.{Rule, attributes, inner_attributes, no_attributes, meta, unsafe_path, unsafe_word, meta_value, module_path, module_words, visibility, restriction, type_path, type_words, type_arguments, return_type, generic_arguments, generic_argument, qualified_path, path_as_type, type, types, expression, generics, lifetime_parameter, lifetimes, parameter_bounds, bound, trait_bound, bound_lifetimes, lifetime_parameters, where_clause, predicates, predicate, predicate_bounds, fields_named, named_fields, named_field, nameless_fields, unnamed_field, unnamed_fields, fields_unnamed, variant, variants, structure, structure_rest, structure_body, enumeration, enumeration_rest, union_item, union_item_rest, derive_input, expression_path, expression_words, qualified_expression_path, path_as_expression, macro_invocation, pattern, patterns, expressions, array_content, block, body, plain_body, no_inner_attributes, primary, block_like, if_expression, loop_expression, postfixes, member, unary, casts, cast, products, product, sums, sum, shifts, shift, bit_ands, bit_and, bit_xors, bit_xor, bit_ors, bit_or, compared, comparison, conjunctions, conjunction, disjunctions, disjunction, assigned, whole_expression, operand_rest, statements, statement_rest, after_block, after_expression, statement, statement_end, local}
+use Rattle.syn_grammar.specs.Rules.{Rule, attributes, inner_attributes, meta, unsafe_path, unsafe_word, meta_value, module_path, module_words, visibility, restriction, type_path, type_words, type_arguments, return_type, generic_arguments, generic_argument, qualified_path, path_as_type, type, types, constant, generics, lifetime_parameter, lifetimes, parameter_bounds, bound, trait_bound, bound_lifetimes, lifetime_parameters, where_clause, predicates, predicate, predicate_bounds, fields_named, named_fields, named_field, nameless_fields, unnamed_field, unnamed_fields, fields_unnamed, variant, variants, structure, structure_rest, structure_body, enumeration, enumeration_rest, union_item, union_item_rest, derive_input, expression_path, expression_words, qualified_expression_path, path_as_expression, macro_invocation, pattern, patterns, expressions, array_content, block, body, plain_body, no_inner_attributes, primary, block_like, if_expression, loop_expression, postfixes, member, unary, casts, cast, products, product, sums, sum, shifts, shift, bit_ands, bit_and, bit_xors, bit_xor, bit_ors, bit_or, compared, comparison, conjunctions, conjunction, disjunctions, disjunction, assigned, whole_expression, operand_rest, statements, statement_rest, after_block, after_expression, statement, statement_end, local}
 use Rattle.syn_grammar.specs.Shape.{Assign, Binary, Block, Break, Call, Cast, Continue, ForLoop, Grouped, If, Index, Lit, Loop, Macro, Path, Reference, Return, Try, Unary, Unsafe, While, operand, bracketed, behind_it, operator, dotted, choice, chain, leading, labelled, attributed, listed, lone, said, said_macro, a_local, untagged}
 use Rattle.syn_grammar.specs.Grammar.{name, word, name_or, index, any_literal, trailing_brace, no_trailing_brace, Grammar, empty, lifetime, ◌&◌, when◌then◌else◌, vanishing, inside, raw, rest_after, either, one_of, rule, such, shaped, captured, unshown, ordered}
 use Rattle.syn_grammar.specs.Forms.{plainly, telling, asking, punctuation, asking_punctuation, never, optional}
@@ -105,9 +105,13 @@ at_visibility = at_word w_pub or_else at_empty_group
 abbrev pub at_any_literal : Look
 at_any_literal = at_literal Str or_else at_literal ByteStr or_else at_literal CStr or_else at_literal Byte or_else at_literal Char or_else at_literal Int or_else at_literal Float
 
--- What an expression may begin with, as far as any is read yet: a literal, `true` or `false`.
-abbrev pub at_expression : Look
-at_expression = at_word w_true or_else at_word w_false or_else at_any_literal
+-- `true`, `false` or a literal of any kind stands next.
+abbrev pub at_lit : Look
+at_lit = at_word w_true or_else at_word w_false or_else at_any_literal
+
+-- What a constant may begin with stands next: a group in braces, `true`, `false` or a literal.
+abbrev pub at_constant : Look
+at_constant = at_brace or_else at_lit
 
 -- Arguments of a word in a type's path stand next: `<` and not `<=`, a group in parentheses, or `::` with `<` behind it.
 abbrev pub at_arguments : Look
@@ -262,19 +266,19 @@ nameless_type = shaped untagged (when at_nameless_fields then rule nameless_fiel
 abbrev pub no_arguments : Grammar
 no_arguments = shaped untagged empty
 
--- A parameter of generics that isn't a lifetime: attributes; and `const`, a name, a colon, a type and perhaps a literal behind `=`,
+-- A parameter of generics that isn't a lifetime: attributes; and `const`, a name, a colon, a type and perhaps a constant behind `=`,
 -- or a name, perhaps bounds behind a colon, and perhaps a type behind `=`. Without bounds the colon isn't printed.
 abbrev pub parameter : Grammar
 parameter =
     rule attributes
-    & (when at_word w_const then plainly (word w_const) & plainly name & punctuation colon & rule type & (when at_equals then punctuation equals & rule expression else empty)
+    & (when at_word w_const then plainly (word w_const) & plainly name & punctuation colon & rule type & (when at_equals then punctuation equals & rule constant else empty)
     else plainly name & vanishing false at_colon (punctuation colon & rule parameter_bounds) & (when at_equals then punctuation equals & rule type else empty))
 
 -- Nothing where `else` and a block might stand.
 abbrev pub no_else : Grammar
 no_else = shaped untagged empty
 
--- A block behind `else`, as an expression: no label stands before it, and no inner attributes stand in it.
+-- A block as an expression, behind `else` or as a constant: no label stands before it, and no inner attributes stand in it.
 abbrev pub else_block : Grammar
 else_block = shaped (operand Block) ((when at_lifetime then never else empty) & rule plain_body)
 
@@ -292,11 +296,6 @@ table attributes =
 -- Outer attributes that a tree made by hand holds among them are not printed.
 table inner_attributes =
     when at_inner_attribute then (asking_punctuation pound & punctuation exclamation & inside Bracket (rule meta)) & rule inner_attributes
-    else unshown
---
--- No attributes, where they aren't read yet: `#` must not stand next. Attributes that a tree made by hand holds are printed.
-table no_attributes =
-    when at_pound then never
     else unshown
 --
 -- The meta of an attribute: a path in module style or `unsafe`, and its value.
@@ -374,10 +373,10 @@ table return_type =
 table generic_arguments =
     ordered lifetime (rule generic_argument)
 --
--- A generic argument that isn't a lifetime: a name, `=` and a type, where `=` follows the name; a literal, `true` or `false`; or a type.
+-- A generic argument that isn't a lifetime: a name, `=` and a type, where `=` follows the name; a constant; or a type.
 table generic_argument =
     when at_association then telling Before_equals name & punctuation equals & rule type
-    else when at_expression then rule expression
+    else when at_constant then rule constant
     else rule type
 --
 -- A qualified path in a type: a type in `< >`, with `as` and a path behind it or without them; then `::` and words.
@@ -396,12 +395,12 @@ table path_as_type =
     else rule type_path
 --
 -- A type: a reference, perhaps with a lifetime and `mut`; a pointer, `const` or `mut`; a tuple or a type in parentheses; a slice,
--- or an array with a literal as its length; the never type; an invisible group that holds a type; or a path, qualified or not.
+-- or an array with an expression as its length; the never type; an invisible group that holds a type; or a path, qualified or not.
 table type =
     when at_ampersand then punctuation ampersand & (when at_lifetime then lifetime else empty) & optional w_mut & rule type
     else when at_star then punctuation star & (when at_word w_const then plainly (word w_const) else plainly (word w_mut)) & rule type
     else when at_paren then inside Paren (rule types)
-    else when at_bracket then inside Bracket (rule type & (when at_semicolon then punctuation semicolon & rule expression else empty))
+    else when at_bracket then inside Bracket (rule type & (when at_semicolon then punctuation semicolon & rule whole_expression else empty))
     else when at_exclamation then punctuation exclamation
     else when at_invisible then inside None (rule type)
     else rule path_as_type
@@ -411,13 +410,12 @@ table types =
     when ended then empty
     else rule type & (when at_comma then punctuation comma & rule types else empty)
 --
--- An expression, as far as any is read yet: a literal, `true` or `false`. Attributes before it are not read yet; those that a tree
--- made by hand holds are printed.
-table expression =
-    rule no_attributes
-    & (when at_word w_true then plainly (word w_true)
-    else when at_word w_false then plainly (word w_false)
-    else plainly any_literal)
+-- A constant: a block, a literal, `true` or `false`. As a value it is an expression, and no attributes are read before it.
+table constant =
+    shaped choice (when at_brace then else_block
+    else when at_word w_true then shaped (operand Lit) (plainly (word w_true))
+    else when at_word w_false then shaped (operand Lit) (plainly (word w_false))
+    else shaped (operand Lit) (plainly any_literal))
 --
 -- Generics where `<` stands next: lifetime parameters and others in any order, separated by commas; the last comma may stand or not.
 -- Lifetimes are printed first; without parameters nothing is printed.
@@ -497,7 +495,7 @@ table named_field =
     rule attributes
     & rule visibility
     & shaped untagged (when at_word w_underscore then plainly (word w_underscore) & punctuation colon & nameless_type else plainly name & punctuation colon & shaped untagged (rule type))
-    & (when at_equals then punctuation equals & rule expression else empty)
+    & (when at_equals then punctuation equals & rule whole_expression else empty)
 --
 -- The fields of a field that is named `_`: `struct` or `union` and fields in braces, kept as tokens.
 -- (A field asks for them only before `struct`, or where braces follow `union`.)
@@ -529,7 +527,7 @@ table variant =
     & vanishing true at_visibility (when at_word w_pub then rule visibility else inside None empty)
     & plainly name
     & (when at_brace then rule fields_named else when at_paren then rule fields_unnamed else empty)
-    & (when at_equals then punctuation equals & rule expression else empty)
+    & (when at_equals then punctuation equals & rule whole_expression else empty)
 --
 -- Variants, separated by commas; the last comma may stand or not.
 table variants =

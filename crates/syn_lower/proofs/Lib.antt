@@ -5,7 +5,6 @@ pub mod Compared
 pub mod Equality
 mod GenericPrints
 mod GenericsCompared
-pub mod InnerAttributes
 mod LifetimePrints
 mod Lifetimes
 mod Lists
@@ -25,6 +24,5 @@ pub mod SameQualified
 pub mod Smaller
 mod Solid
 mod Tuples
-pub mod TypeLooks
 pub mod Types
 mod WhereClauses

@@ -5,7 +5,8 @@ use Rattle.syn_grammar.specs.Tokens.{Stream, end, leaf, punct, group, ident, lit
 use Rattle.syn_grammar.specs.Take.{sees, lookahead_at, take_token}
 use Rattle.syn_grammar.specs.Table.{at_nameless_fields}
 use Rattle.syn_parse.specs.Peeks.{past}
-use Rattle.syn_lower.proofs.Restricted.{told_first, word_face, and_same, no_word}
+use Rattle.syn_recognize.proofs.Facts.{told_first, word_face, and_same}
+use Rattle.syn_lower.proofs.Restricted.{no_word}
 
 -- another fact that is told first
 told_later : (n o : Fact) (c : Look) (l : Asked) (f : Lookahead) → same_fact n o ≡ false → has_fact n (facts_for ((c, o) ∷ l) f) ≡ has_fact n (facts_for l f)

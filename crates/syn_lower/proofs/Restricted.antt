@@ -8,41 +8,12 @@ use Rattle.syn_grammar.proofs.Sets.{same_text_eq}
 use Rattle.syn_grammar.proofs.Looks.{holds_nothing_of, sees_empty_group, sees_group, sees_word}
 use Rattle.syn_parse.specs.Peeks.{past}
 use Rattle.syn_parse.specs.Opened.{content_of}
+use Rattle.syn_recognize.proofs.Facts.{and_same, told_first, word_face}
 use Rattle.syn_lower.specs.Looks.{holds_nothing, lone_word, restricts}
 
 -- a word that begins a restriction by itself
 abbrev lone : Look
 lone = (at_word w_crate or_else at_word w_self or_else at_word w_super) and_also ahead Before_end
-
--- a fact that is not asked for is not told
-abbrev pub asks : Fact → Asked → Bool
-asks n [] = false
-asks n (p ∷ l) = or (same_fact n p.1) (asks n l)
-
-pub not_told : (n : Fact) (l : Asked) (f : Lookahead) → asks n l ≡ false → has_fact n (facts_for l f) ≡ false
-not_told n [] f e = refl
-not_told n (p ∷ l) f e = go (answers p.0 f) (same_fact n p.1) refl (not_told n l f)
-  where
-    go : (a b : Bool) → same_fact n p.1 ≡ b → (asks n l ≡ false → has_fact n (facts_for l f) ≡ false) → has_fact n (pick a (p.1 ∷ facts_for l f) (facts_for l f)) ≡ false
-    go a true q h = absurd (true≢false (ap (λ z. or z (asks n l)) (sym q) ∙ e))
-    go true false q h = ap (λ z. or z (has_fact n (facts_for l f))) q ∙ h (ap (λ z. or z (asks n l)) (sym q) ∙ e)
-    go false false q h = h (ap (λ z. or z (asks n l)) (sym q) ∙ e)
-
--- of a condition that is told first, and of none behind it
-pub told_first : (n : Fact) (c : Look) (l : Asked) (f : Lookahead) → same_fact n n ≡ true → asks n l ≡ false → has_fact n (facts_for ((c, n) ∷ l) f) ≡ answers c f
-told_first n c l f r e = go (answers c f)
-  where
-    go : (a : Bool) → has_fact n (pick a (n ∷ facts_for l f) (facts_for l f)) ≡ a
-    go true = ap (λ z. or z (has_fact n (facts_for l f))) r
-    go false = not_told n l f e
-
--- an identifier's terminal is this word's only where that is its text
-pub word_face : (w x : Text) → is_word w (leaf_terminal (ident x)) ≡ true → x ≡ w
-word_face w x e = go (one_of_texts x (keywords ++ contextual)) e
-  where
-    go : (b : Bool) → is_word w (pick b (Word x) Name) ≡ true → x ≡ w
-    go true e = sym (same_text_eq w x e)
-    go false e = absurd (true≢false (sym e))
 
 abbrev one_of_three : Terminal → Bool
 one_of_three f = or (is_word w_crate f) (or (is_word w_self f) (is_word w_super f))
@@ -61,10 +32,6 @@ noted_end x m e = go (is_word w_crate (leaf_terminal (ident x))) (is_word w_self
     go false true c p q r h = at w_self (word_face w_self x q) (told_first Before_end ended asked_by_path_word (lookahead m) refl refl)
     go false false true p q r h = at w_super (word_face w_super x r) (told_first Before_end ended asked_by_path_word (lookahead m) refl refl)
     go false false false p q r h = absurd (true≢false (sym h))
-
-pub and_same : (b c d : Bool) → (b ≡ true → c ≡ d) → and b c ≡ and b d
-and_same true c d h = h refl
-and_same false c d h = refl
 
 pub no_word : (w : Text) (c : ℕ) (j : Bool) (sp : Span) (m : Stream) → is_word w (lookahead (punct c j sp m)).terminal ≡ false
 unfolding sees lookahead_at take_token

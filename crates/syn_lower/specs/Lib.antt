@@ -1,7 +1,6 @@
 pub mod Attributes
 pub mod Bounds
 pub mod Equality
-pub mod Expressions
 pub mod Falls
 pub mod GenericPrints
 pub mod Generics

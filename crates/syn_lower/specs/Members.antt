@@ -1,8 +1,7 @@
 -- WHAT THE MEMBER OF A STRUCT STANDS FOR: the name of a field, or a literal of the decimal digits of its place.
-use Rattle.std.specs.Prelude.{◌≡◌, ℕ, true, false, Option, decimal, MatchOption}
-use Rattle.syn_grammar.specs.Words.{Text}
+use Rattle.std.specs.Prelude.{decimal}
 use Rattle.syn_grammar.specs.Tokens.{Int, literal}
-use Rattle.syn_grammar.specs.Grammar.{is_index, Syntax, Token, Left, Right}
+use Rattle.syn_grammar.specs.Grammar.{Syntax, Token, Left, Right}
 use Rattle.syn_tokens.specs.Leaves.{syntax_of_ident}
 use Rattle.syn_tokens.specs.Spans.{at}
 use Rattle.syn_lower.specs.declared.member.Index.{Index}
@@ -14,7 +13,3 @@ syntax_of_Index i = Token (literal Int (decimal i.index)) (at i.span)
 abbrev pub syntax_of_Member : Member-m.the_data → Syntax
 syntax_of_Member (Member-m.Named i) = Right (syntax_of_ident i)
 syntax_of_Member (Member-m.Unnamed i) = Left (syntax_of_Index i)
-
--- the number of a field whose decimal digits the text is; none where it is that of no field
-abbrev pub IsFieldNumber : Text → Option ℕ → Type 0
-IsFieldNumber x r = MatchOption r (is_index x ≡ false) (λ n. (is_index x ≡ true) × (decimal n ≡ x))

@@ -2,7 +2,7 @@
 use Rattle.std.specs.Prelude.{false, Some, None}
 use Rattle.syn_grammar.specs.Words.{colon, equals, w_const}
 use Rattle.syn_grammar.specs.Tokens.{Stream}
-use Rattle.syn_grammar.specs.Rules.{expression, lifetime_parameter, lifetimes, parameter_bounds, type}
+use Rattle.syn_grammar.specs.Rules.{constant, lifetime_parameter, lifetimes, parameter_bounds, type}
 use Rattle.syn_grammar.specs.Grammar.{Syntax, Both, Left, Right, Node, Grammar, ◌&◌, when◌then◌else◌, empty, lifetime, name, rule, vanishing, word}
 use Rattle.syn_grammar.specs.Forms.{plainly, punctuation}
 use Rattle.syn_grammar.specs.Table.{at_colon, at_equals, parameter}
@@ -21,7 +21,7 @@ abbrev pub lifetime_form : Grammar
 lifetime_form = lifetime & lifetime_bounds_form
 
 abbrev pub const_form : Grammar
-const_form = plainly (word w_const) & plainly name & punctuation colon & rule type & (when at_equals then punctuation equals & rule expression else empty)
+const_form = plainly (word w_const) & plainly name & punctuation colon & rule type & (when at_equals then punctuation equals & rule constant else empty)
 
 abbrev pub type_form : Grammar
 type_form = plainly name & bounds_form & (when at_equals then punctuation equals & rule type else empty)

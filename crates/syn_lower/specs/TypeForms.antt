@@ -2,7 +2,7 @@
 use Rattle.std.specs.Prelude.{[], ◌∷◌, true, false}
 use Rattle.syn_grammar.specs.Words.{w_as, w_const, w_crate, w_mut, w_Self_type, w_self, w_super, ampersand, colons, equals, greater, semicolon, star}
 use Rattle.syn_grammar.specs.Tokens.{Paren, Bracket, Before_equals, at_lifetime, at_word}
-use Rattle.syn_grammar.specs.Rules.{expression, generic_argument, generic_arguments, return_type, type, types, type_arguments, type_path, type_words}
+use Rattle.syn_grammar.specs.Rules.{generic_argument, generic_arguments, return_type, type, types, type_arguments, type_path, type_words, whole_expression}
 use Rattle.syn_grammar.specs.Shape.{untagged}
 use Rattle.syn_grammar.specs.Grammar.{Grammar, Syntax, Both, Left, Right, Node, empty, name, name_or, word, lifetime, ◌&◌, when◌then◌else◌, inside, either, rule, shaped}
 use Rattle.syn_grammar.specs.Forms.{plainly, telling, asking, punctuation, asking_punctuation, optional}
@@ -22,7 +22,7 @@ abbrev pub pointer_form : Grammar
 pointer_form = punctuation star & pointer_words_form & rule type
 
 abbrev pub brackets_form : Grammar
-brackets_form = inside Bracket (rule type & (when at_semicolon then punctuation semicolon & rule expression else empty))
+brackets_form = inside Bracket (rule type & (when at_semicolon then punctuation semicolon & rule whole_expression else empty))
 
 -- as alternatives of a type
 abbrev pub of_parentheses : Syntax → Syntax

@@ -75,17 +75,6 @@ pub enum MacroDelimiter {
     Bracket(Bracket),
 }
 
-/// No attributes, where none are read yet: refused before `#`, as where a `T` was expected.
-#[tactic(auto, using(syn_grammar::proofs::Each::no_attributes_is))]
-pub fn no_attributes<T: Peek>(input: &ParseBuffer<'_>) -> Parsed<()>
-    ensures reads { Computes IsSyntax (λ _. none_listed) (parse_rule rules.no_attributes input.now) result input.now }
-{
-    if input.peek::<Pound>() {
-        return Err(input.refusal(T::expected()));
-    }
-    Ok(())
-}
-
 /// What the attribute belongs to is told by what stands behind its `#`.
 impl Compared for Attribute {
     #[tactic(auto, using(crate::proofs::Attributes::same_behind_pound))]

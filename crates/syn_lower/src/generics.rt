@@ -8,10 +8,10 @@ mod comparing;
 mod parsing;
 mod printing;
 
-use crate::{Attribute, Type, TypeParamBound, WhereClause, kind};
+use crate::{Attribute, Type, TypeParamBound, WhereClause};
 pub(crate) use printing::print_with;
 use std::alloc::Global;
-use syn_parse::deferred::Deferred;
+use syn_recognize::deferred::DeferredConstant;
 use syn_tokens::ident::Ident;
 use syn_tokens::lifetime::Lifetime;
 use syn_tokens::punctuated::Punctuated;
@@ -66,7 +66,7 @@ pub struct ConstParam {
     pub colon_token: Colon,
     pub ty: Type,
     pub eq_token: Option<Eq>,
-    pub default: Option<Deferred<kind::Expr>>,
+    pub default: Option<DeferredConstant>,
 }
 
 impl Generics {

@@ -7,9 +7,7 @@ mod bounds;
 pub mod carrier;
 mod compare;
 mod copies;
-mod expr;
 pub mod generics;
-pub mod kind;
 pub mod lit;
 pub mod looks;
 mod member;
@@ -22,7 +20,6 @@ pub mod where_clause;
 
 pub use attr::{AttrStyle, Attribute, MacroDelimiter, Meta, MetaList, MetaNameValue};
 pub use bounds::{BoundLifetimes, TraitBound, TraitBoundModifier, TypeParamBound};
-pub use expr::{Expr, ExprLit};
 pub use generics::{ConstParam, GenericParam, Generics, LifetimeParam, TypeParam};
 pub use lit::{
     Lit, LitBool, LitByte, LitByteStr, LitCStr, LitChar, LitFloat, LitInt, LitStr, LitToken,

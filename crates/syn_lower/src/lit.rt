@@ -1,7 +1,7 @@
 //! Literals, by what they are.
 ghost use Rattle.std.specs.Prelude.{◌≡◌, [], IfOk, IfErr, MatchResult, codes, refl};
 ghost use Rattle.std.specs.Cmp.{on_equiv, on_per};
-ghost use Rattle.syn_grammar.specs.Table.{at_expression};
+ghost use Rattle.syn_grammar.specs.Table.{at_lit};
 ghost use Rattle.syn_grammar.specs.Tokens.{same_text};
 ghost use Rattle.syn_tokens.specs.Equal.{same_text_equiv, same_text_per};
 ghost use Rattle.syn_tokens.specs.Leaves.{syntax_of_literal};
@@ -226,7 +226,7 @@ impl Lit {
 
 /// A literal of any kind, `true` or `false`.
 impl Peek for Lit {
-    ghost look = { by at_expression };
+    ghost look = { by at_lit };
 
     ghost fault = { codes "expected literal" };
 

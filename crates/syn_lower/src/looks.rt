@@ -11,8 +11,8 @@ use syn_parse::read::{End, Peek};
 use syn_tokens::ident::Ident;
 use syn_tokens::literal::Literal;
 use syn_tokens::token::{
-    Brace, Colon, Comma, Crate, Eq, False, Gt, In, Le, Lt, Not, Paren, PathSep, Pound, SelfType,
-    SelfValue, Semi, Struct, Super, True, Union, kind,
+    Brace, Colon, Comma, Crate, Eq, False, Gt, In, PathSep, SelfType, SelfValue, Semi, Struct,
+    Super, True, Union, kind,
 };
 
 /// Whether parentheses stand next that hold `crate`, `self` or `super` alone, or begin with `in`.
@@ -43,14 +43,6 @@ pub fn at_empty_group(input: &ParseBuffer<'_>) -> bool
         Some(content) => content.is_empty(),
         None => false,
     }
-}
-
-/// Whether `#` stands next, and `!` behind it.
-#[tactic(auto, using(crate::proofs::InnerAttributes::inner_attribute_seen))]
-pub fn at_inner_attribute(input: &ParseBuffer<'_>) -> bool
-    ensures { result ≡ sees table.at_inner_attribute input.now }
-{
-    input.peek::<Pound>() && input.peek2::<Not>()
 }
 
 /// Whether `struct` stands next, or `union` with a group in braces behind it.
@@ -118,34 +110,13 @@ pub fn at_named_word(input: &ParseBuffer<'_>) -> bool
     input.peek::<Ident>() || input.peek::<SelfType>()
 }
 
-/// Whether `<` stands next, and not `<=`.
-#[tactic(auto, using(syn_grammar::proofs::Looks::sees_but))]
-pub fn at_less_only(input: &ParseBuffer<'_>) -> bool
-    ensures { result ≡ sees table.at_less_only input.now }
-{
-    input.peek::<Lt>() && !input.peek::<Le>()
-}
-
-/// Whether arguments of a path's word stand next: `<` and not `<=`, a group in parentheses, or `::` with `<` behind it.
-#[tactic(auto, using(crate::proofs::TypeLooks::arguments_seen))]
-pub fn at_arguments(input: &ParseBuffer<'_>) -> bool
-    ensures { result ≡ sees table.at_arguments input.now }
-{
-    at_less_only(input) || input.peek::<Paren>() || (input.peek::<PathSep>() && input.peek3::<Lt>())
-}
-
-/// Whether an identifier stands next that is no keyword, and `=` behind it.
-#[tactic(auto, using(crate::proofs::TypeLooks::association_seen))]
-pub fn at_association(input: &ParseBuffer<'_>) -> bool
-    ensures { result ≡ sees table.at_association input.now }
-{
-    input.peek::<Ident>() && input.peek2::<Eq>()
-}
-
-/// Whether an expression stands next, as far as any is read yet: a literal, `true` or `false`.
+/// Whether a constant stands next: a group in braces, `true`, `false` or a literal.
 #[tactic(auto, using(syn_grammar::proofs::Looks::sees_or))]
-pub fn at_expression(input: &ParseBuffer<'_>) -> bool
-    ensures { result ≡ sees table.at_expression input.now }
+pub fn at_constant(input: &ParseBuffer<'_>) -> bool
+    ensures { result ≡ sees table.at_constant input.now }
 {
-    input.peek::<True>() || input.peek::<False>() || input.peek::<Literal>()
+    input.peek::<Brace>()
+        || input.peek::<True>()
+        || input.peek::<False>()
+        || input.peek::<Literal>()
 }

@@ -4,12 +4,12 @@ ghost use Rattle.syn_grammar.specs.Grammar.{index};
 ghost use Rattle.syn_grammar.specs.Forms.{plainly};
 ghost use Rattle.syn_parse.specs.Form.{of};
 ghost use Rattle.syn_parse.specs.Meanings.{meaning_of};
-ghost use Rattle.syn_lower.specs.Members.{IsFieldNumber};
 
 use std::alloc::AllocError;
 use syn_parse::buffer::ParseBuffer;
 use syn_parse::read::Read;
 use syn_parse::read::refusal::Parsed;
+use syn_recognize::field_numbers::field_number;
 use syn_tokens::ident::Ident;
 use syn_tokens::literal::{LitKind, Literal};
 use syn_tokens::print::Print;
@@ -39,7 +39,7 @@ impl Read for Index {
 
     ghost meaning = { meaning_of _ refl };
 
-    #[tactic(auto, using(crate::proofs::Numbers::index_taken, crate::proofs::Numbers::no_integer_taken, crate::proofs::Numbers::no_literal_taken))]
+    #[tactic(auto, using(syn_recognize::proofs::Numbers::index_taken, syn_recognize::proofs::Numbers::no_integer_taken, syn_recognize::proofs::Numbers::no_literal_taken))]
     fn read(input: &mut ParseBuffer<'_>) -> Parsed<Index> {
         let refusal = input.refusal("expected unsuffixed integer");
         let literal: Literal = input.read()?;
@@ -54,18 +54,6 @@ impl Read for Index {
             None => Err(refusal),
         }
     }
-}
-
-/// The number of a field that these digits write: they begin with no sign, and with no zero but `0` itself.
-#[tactic(auto, using(crate::proofs::Numbers::no_number))]
-fn field_number(text: &str) -> Option<u32>
-    ensures { IsFieldNumber text.now result }
-{
-    let first = *text.as_bytes().first()?;
-    if first == b'+' || (first == b'0' && text.len() > 1) {
-        return None;
-    }
-    text.parse().ok()
 }
 
 /// Two places are the same where their numbers are, wherever they stand.

@@ -4,14 +4,14 @@ ghost use Rattle.std.specs.Prelude.{◌≡◌, OnErr};
 ghost use Rattle.syn_lower.specs.Parsing.{rule, parse_rule, Computes, Kept, Outcome, itself, IsSyntaxError};
 ghost use Rattle.syn_lower.specs.Paths.{is_lifetime, lifetimes_apart};
 
+use crate::Type;
 use crate::nested::compare::{CompareNested, CompareType, same_ordered};
 use crate::nested::copy::{CopyNested, CopyType};
 use crate::nested::print::{Ordered, PrintNested, PrintType, print_list, print_ordered};
 use crate::parsing::module_path;
-use crate::{Type, kind};
 use std::alloc::{AllocError, Global};
 use syn_parse::buffer::ParseBuffer;
-use syn_parse::deferred::Deferred;
+use syn_recognize::deferred::DeferredConstant;
 use syn_tokens::error;
 use syn_tokens::ident::Ident;
 use syn_tokens::lifetime::Lifetime;
@@ -67,7 +67,7 @@ pub enum GenericArgument {
     /// `T`
     Ty(Type),
     /// `3`
-    Const(Deferred<kind::Expr>),
+    Const(DeferredConstant),
     /// `Item = T`
     AssocType(AssocType),
 }

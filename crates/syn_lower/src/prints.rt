@@ -5,7 +5,6 @@
 
 mod attr;
 mod bounds;
-mod expr;
 mod generics;
 mod lit;
 mod member;

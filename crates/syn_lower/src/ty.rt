@@ -6,9 +6,9 @@ ghost use Rattle.syn_lower.specs.Types.{lone_comma};
 
 use crate::nested::compare::{CompareNested, CompareType, same_list, same_qualified};
 use crate::nested::print::{PrintNested, PrintType, print_list, print_qualified};
-use crate::{Path, QSelf, kind};
+use crate::{Path, QSelf};
 use std::alloc::AllocError;
-use syn_parse::deferred::Deferred;
+use syn_recognize::deferred::DeferredExpr;
 use syn_tokens::lifetime::Lifetime;
 use syn_tokens::print::Print;
 use syn_tokens::punctuated::Punctuated;
@@ -51,7 +51,7 @@ pub struct TypeArray {
     pub bracket_token: Bracket,
     pub elem: Box<Type>,
     pub semi_token: Semi,
-    pub len: Deferred<kind::Expr>,
+    pub len: DeferredExpr,
 }
 
 /// A type in a group without delimiters, as macros make them.

@@ -3,8 +3,9 @@ use Rattle.std.proofs.Common.{◌≡◌, ℕ, Bool, true, false, List, [], ◌�
 use Rattle.syn_grammar.specs.Words.{Text, keywords, contextual}
 use Rattle.syn_grammar.specs.Tokens.{Span, Delimiter, LitKind, Int, Leaf, ident, literal, Stream, end, leaf, punct, group, pick, one_of_texts, Name, Word, Literal, mem, leaf_terminal}
 use Rattle.syn_grammar.specs.Grammar.{Kind, name, identifier, word, name_or, literal_of, index, fits, Syntax, Token}
-use Rattle.syn_grammar.specs.Take.{Out, only, take_token, add_char, marked, take_mark}
-use Rattle.syn_parse.specs.FirstTokens.{is_of_idents, is_of_literals, spelled, NoIdent, NoLiteral}
+use Rattle.syn_grammar.specs.Take.{Out, only, take_token, add_char, marked, take_mark, take_lifetime}
+use Rattle.syn_tokens.specs.Firsts.{NoIdentFirst, NoPunctFirst}
+use Rattle.syn_parse.specs.FirstTokens.{is_of_idents, is_of_literals, spelled, NoIdent, NoLiteral, NoPunct}
 
 literal_mem : (k : LitKind) (l : List Text) → mem (Literal k) (map Word l) ≡ false
 literal_mem k [] = refl
@@ -48,27 +49,42 @@ pub no_ident_at_literal : (l : LitKind) (x : Text) (sp : Span) (r : Stream) → 
 unfolding take_token
 no_ident_at_literal l x sp r k e = ap (λ b. taken_if b (Token (literal l x) sp) r) (literal_misfit k e l x)
 
+pub no_ident_first : (ts : Stream) → NoIdentFirst ts → NoIdent ts
+unfolding take_token
+no_ident_first end n k e = refl
+no_ident_first (leaf (ident x) sp r) n k e = absurd n
+no_ident_first (leaf (literal l x) sp r) n k e = no_ident_at_literal l x sp r k e
+no_ident_first (punct c j sp r) n k e = refl
+no_ident_first (group d o q i r) n k e = refl
+
 pub no_literal_at_ident : (x : Text) (sp : Span) (r : Stream) → NoLiteral (leaf (ident x) sp r)
 unfolding take_token
 no_literal_at_ident x sp r k e = ap (λ b. taken_if b (Token (ident x) sp) r) (ident_misfit k e x)
 
-pub none_spelled_at_leaf : (x : Leaf) (sp : Span) (r : Stream) (cs : Text) → spelled cs (leaf x sp r) ≡ None
+none_spelled_at_leaf : (x : Leaf) (sp : Span) (r : Stream) (cs : Text) → spelled cs (leaf x sp r) ≡ None
 unfolding spelled
 none_spelled_at_leaf x sp r [] = refl
 none_spelled_at_leaf x sp r (c ∷ []) = refl
 none_spelled_at_leaf x sp r (c ∷ e ∷ l) = refl
 
-pub none_spelled_at_group : (d : Delimiter) (o q : Span) (i r : Stream) (cs : Text) → spelled cs (group d o q i r) ≡ None
+none_spelled_at_group : (d : Delimiter) (o q : Span) (i r : Stream) (cs : Text) → spelled cs (group d o q i r) ≡ None
 unfolding spelled
 none_spelled_at_group d o q i r [] = refl
 none_spelled_at_group d o q i r (c ∷ []) = refl
 none_spelled_at_group d o q i r (c ∷ e ∷ l) = refl
 
-pub none_spelled_at_end : (cs : Text) → spelled cs end ≡ None
+none_spelled_at_end : (cs : Text) → spelled cs end ≡ None
 unfolding spelled
 none_spelled_at_end [] = refl
 none_spelled_at_end (c ∷ []) = refl
 none_spelled_at_end (c ∷ e ∷ l) = refl
+
+pub no_punct_first : (ts : Stream) → NoPunctFirst ts → NoPunct ts
+unfolding take_lifetime
+no_punct_first end n = (none_spelled_at_end, refl)
+no_punct_first (leaf x sp r) n = (none_spelled_at_leaf x sp r, refl)
+no_punct_first (punct c j sp r) n = absurd n
+no_punct_first (group d o q i r) n = (none_spelled_at_group d o q i r, refl)
 
 -- a mark is its characters
 pub mark_is : (x : Text) (ts : Stream) → take_mark x ts ≡ marked (spelled x ts)

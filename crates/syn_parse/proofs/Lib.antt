@@ -1,4 +1,3 @@
-pub mod DeferredTokens
 pub mod Errors
 pub mod FirstTokens
 pub mod Listing

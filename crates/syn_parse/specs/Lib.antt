@@ -1,5 +1,4 @@
 pub mod Calls
-pub mod DeferredTokens
 pub mod Form
 pub mod FirstTokens
 pub mod Listing

@@ -126,17 +126,11 @@ impl<'a> ParseBuffer<'a> {
     }
 
     /// Whether nothing is left.
-    #[tactic(auto, using(syn_grammar::proofs::Looks::sees_ended), unfolding(syn_grammar::specs::Take::is_end))]
+    #[tactic(auto, using(syn_grammar::proofs::Looks::sees_ended))]
     pub fn is_empty(&self) -> bool
         ensures { result ≡ sees ended self.now }
     {
-        match self.tokens.split() {
-            None => true,
-            Some((TokenTreeRef::Ident(_), _)) => false,
-            Some((TokenTreeRef::Literal(_), _)) => false,
-            Some((TokenTreeRef::Punct(_), _)) => false,
-            Some((TokenTreeRef::Group(_), _)) => false,
-        }
+        self.tokens.is_empty()
     }
 
     /// Where the next token stands; at the end of a group its closing delimiter, at the end of a stream the empty span

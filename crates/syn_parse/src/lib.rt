@@ -2,7 +2,6 @@
 #![tactic(auto)]
 
 pub mod buffer;
-pub mod deferred;
 pub mod ext;
 pub mod laws;
 pub mod lookahead;

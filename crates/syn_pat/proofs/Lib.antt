@@ -2,7 +2,6 @@ pub mod ExpressionPaths
 pub mod Lists
 pub mod Macros
 pub mod PathLists
-pub mod PathLooks
 pub mod PathWords
 pub mod PatternLists
 pub mod Patterns

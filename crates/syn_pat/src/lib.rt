@@ -1,10 +1,10 @@
 //! The syntax trees of patterns and macros, with their parsers, prints, copies and comparisons; and what expressions share with them:
-//! paths in expression style, the conditions on these, and prints, copies and comparisons of what leads back to itself.
+//! paths in expression style, and prints, copies and comparisons of what leads back to itself.
 #![tactic(auto)]
 
 mod compare;
 mod copies;
-pub mod looks;
+mod looks;
 pub mod mac;
 pub mod nested;
 pub mod parsing;

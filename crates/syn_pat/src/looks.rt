@@ -1,5 +1,15 @@
 //! The conditions of the grammar on what stands next, by their names.
+ghost use Rattle.std.specs.Prelude.{◌≡◌};
+ghost use Rattle.syn_grammar.specs.Take.{sees};
+ghost use Rattle.syn_grammar.specs.Table as table;
 
-pub(crate) mod paths;
+use syn_parse::buffer::ParseBuffer;
+use syn_tokens::token::{Mut, Ref};
 
-pub use paths::{at_brace_macro, at_crate_macro, at_lone_crate, at_macro, at_path_word};
+/// Whether `ref` or `mut` stands next.
+#[tactic(auto, using(syn_grammar::proofs::Looks::sees_or))]
+pub(crate) fn at_binding_word(input: &ParseBuffer<'_>) -> bool
+    ensures { result ≡ sees table.at_binding_word input.now }
+{
+    input.peek::<Ref>() || input.peek::<Mut>()
+}

@@ -7,7 +7,6 @@
 #![tactic(auto)]
 
 pub mod outline;
-pub mod visibilities;
 
 use crate::outline::{Outlined, outline};
 use std::alloc::Global;

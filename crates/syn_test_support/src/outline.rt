@@ -9,19 +9,18 @@ use std::alloc::{AllocError, Global};
 use syn::ToTokens;
 use syn::canon::{NamedField, UnnamedField};
 use syn::data::{Field, Fields, FieldsNamed, FieldsUnnamed, Variant};
+use syn::deferred::{Deferred, DeferredExpr};
 use syn::derive::{Data, DataEnum, DataStruct, DataUnion, DeriveInput};
 use syn::item::{Item, ItemEnum, ItemStruct, ItemUnion};
 use syn::lower::{
-    AttrStyle, Attribute, BoundLifetimes, Expr, GenericParam, Generics, LifetimeParam, Lit,
+    AttrStyle, Attribute, BoundLifetimes, GenericParam, Generics, LifetimeParam, Lit,
     MacroDelimiter, Meta, MetaList, MetaNameValue, Path, PathArguments, PathSegment, ReturnType,
     TraitBound, TraitBoundModifier, Type, TypeParamBound, TypePath, WhereClause, WherePredicate,
 };
 use syn::punctuated::Punctuated;
 use syn::restriction::{VisRestricted, Visibility};
 use syn::token::{Comma, Eq, Ident, Mark, Span, TokenStream};
-use syn_lower::kind;
 use syn_outlines::{add_place, add_stream, add_token, add_word};
-use syn_parse::deferred::{Deferred, Kind};
 
 /// A tree that can be shown.
 pub trait Outlined {
@@ -88,13 +87,13 @@ impl TreeText {
         Ok(())
     }
 
-    /// `=` and the tokens of an expression, where they are there.
-    fn value(&mut self, value: &Option<(Eq, Deferred<kind::Expr>)>) -> Result<(), AllocError> {
-        let Some((eq_token, expr)) = value else {
+    /// `=` and the tokens of a constant, where they are there.
+    fn value(&mut self, value: &Option<(Eq, DeferredExpr)>) -> Result<(), AllocError> {
+        let Some((eq_token, constant)) = value else {
             return Ok(());
         };
         self.mark("=", eq_token)?;
-        expr.show(self)
+        constant.show(self)
     }
 
     /// The tokens that a tree prints, behind this word.
@@ -126,7 +125,7 @@ impl Outlined for TokenStream {
     }
 }
 
-impl<K: Kind> Outlined for Deferred<K> {
+impl<const KIND: usize> Outlined for Deferred<KIND> {
     fn show(&self, out: &mut TreeText) -> Result<(), AllocError> {
         self.source().show(out)
     }
@@ -243,12 +242,6 @@ fn name_of(lit: &Lit) -> &'static str {
 impl Outlined for Lit {
     fn show(&self, out: &mut TreeText) -> Result<(), AllocError> {
         out.printed(name_of(self), self)
-    }
-}
-
-impl Outlined for Expr {
-    fn show(&self, out: &mut TreeText) -> Result<(), AllocError> {
-        out.printed("Expr", self)
     }
 }
 

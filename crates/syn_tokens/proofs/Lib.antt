@@ -5,6 +5,7 @@ pub mod Copied
 pub mod Cursors
 pub mod Entries
 pub mod Faults
+pub mod Firsts
 pub mod Keywords
 pub mod Marks
 pub mod Names

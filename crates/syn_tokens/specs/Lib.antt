@@ -6,6 +6,7 @@ pub mod Delimiters
 pub mod Entries
 pub mod Equal
 pub mod Faults
+pub mod Firsts
 pub mod formers
 pub mod Idents
 pub mod InOrder

@@ -2,7 +2,7 @@
 use Rattle.std.specs.Prelude.{true}
 use Rattle.syn_grammar.specs.Words.{w_pub, w_underscore, colon, equals}
 use Rattle.syn_grammar.specs.Tokens.{None as Invisible, at_word}
-use Rattle.syn_grammar.specs.Rules.{type, visibility, expression, fields_named, fields_unnamed}
+use Rattle.syn_grammar.specs.Rules.{type, visibility, whole_expression, fields_named, fields_unnamed}
 use Rattle.syn_grammar.specs.Shape.{untagged}
 use Rattle.syn_grammar.specs.Grammar.{Grammar, name, word, empty, ◌&◌, when◌then◌else◌, vanishing, inside, rule, shaped, Syntax, Nothing, Both, Left, Right, Node, Vanishing, Shaped, Unshown}
 use Rattle.syn_grammar.specs.Forms.{plainly, punctuation}
@@ -56,7 +56,7 @@ named_type_syntax p = Shaped untagged (Both (syntax_of_ident p.0) (Both (colon_s
 
 -- `=` and an expression where `=` stands next
 abbrev pub value_form : Grammar
-value_form = when at_equals then punctuation equals & rule expression else empty
+value_form = when at_equals then punctuation equals & rule whole_expression else empty
 
 -- the visibility of a variant
 abbrev pub unshown_visibility : Grammar

@@ -22,11 +22,11 @@ pub use members::{MemberRef, Members};
 use std::alloc::AllocError;
 pub use syn_lower::Index;
 use syn_lower::attr::{all_outer_attributes, print_all};
-use syn_lower::{Attribute, Type, kind};
+use syn_lower::{Attribute, Type};
 use syn_parse::buffer::ParseBuffer;
-use syn_parse::deferred::Deferred;
 use syn_parse::read::Read;
 use syn_parse::read::refusal::Parsed;
+use syn_recognize::deferred::DeferredExpr;
 use syn_tokens::error::Result;
 use syn_tokens::ident::Ident;
 use syn_tokens::print::Print;
@@ -43,7 +43,7 @@ pub struct Variant {
     pub attrs: Vec<Attribute>,
     pub ident: Ident,
     pub fields: Fields,
-    pub discriminant: Option<(Eq, Deferred<kind::Expr>)>,
+    pub discriminant: Option<(Eq, DeferredExpr)>,
 }
 
 /// The fields of a struct or variant.
@@ -80,7 +80,7 @@ pub struct Field {
     pub ident: Option<Ident>,
     pub colon_token: Option<Colon>,
     pub ty: Type,
-    pub default: Option<(Eq, Deferred<kind::Expr>)>,
+    pub default: Option<(Eq, DeferredExpr)>,
 }
 
 /// The modifiers of a field. There are none.
@@ -277,7 +277,7 @@ fn print_name(
 /// `=` and an expression, or nothing.
 #[tactic(auto, using(syn_tokens::proofs::Prints::prints))]
 fn print_value(
-    value: &Option<(Eq, Deferred<kind::Expr>)>,
+    value: &Option<(Eq, DeferredExpr)>,
     out: &mut StreamBuilder,
 ) -> std::result::Result<(), AllocError>
     ensures prints { OnOk result (out.new ≡ added out.old (print (maybe (pair_of eq_syntax itself) value.now))) }

@@ -77,19 +77,6 @@ impl Compared for ExprPath {
 
 // Written by tools/kinds.py from here to the end; edits are lost.
 
-impl std::marker::Model for ExprLit {
-    ghost use Rattle.syn_grammar.specs.Grammar.{Syntax};
-    ghost use Rattle.syn_grammar.specs.TreeCodes.{syntax_code};
-
-    ghost Value = { Syntax };
-
-    ghost coded = { syntax_code };
-
-    ghost use Rattle.syn_expr.specs.Expressions.{view_ExprLit};
-
-    ghost view = { view_ExprLit };
-}
-
 impl std::marker::Model for ExprBreak {
     ghost use Rattle.syn_grammar.specs.Grammar.{Syntax};
     ghost use Rattle.syn_grammar.specs.TreeCodes.{syntax_code};
@@ -114,6 +101,19 @@ impl std::marker::Model for ExprContinue {
     ghost use Rattle.syn_expr.specs.Expressions.{view_ExprContinue};
 
     ghost view = { view_ExprContinue };
+}
+
+impl std::marker::Model for ExprLit {
+    ghost use Rattle.syn_grammar.specs.Grammar.{Syntax};
+    ghost use Rattle.syn_grammar.specs.TreeCodes.{syntax_code};
+
+    ghost Value = { Syntax };
+
+    ghost coded = { syntax_code };
+
+    ghost use Rattle.syn_expr.specs.Expressions.{view_ExprLit};
+
+    ghost view = { view_ExprLit };
 }
 
 impl std::marker::Model for ExprMacro {
@@ -163,12 +163,6 @@ impl std::marker::Model for ExprReturn {
     ghost size_decreases = { λ a h. falls_ExprReturn a };
 }
 
-impl syn_tokens::syntactic::Syntactic for ExprLit {
-    ghost use Rattle.syn_grammar.specs.Promises.{itself};
-
-    ghost syntax = { itself };
-}
-
 impl syn_tokens::syntactic::Syntactic for ExprBreak {
     ghost use Rattle.syn_grammar.specs.Promises.{itself};
 
@@ -176,6 +170,12 @@ impl syn_tokens::syntactic::Syntactic for ExprBreak {
 }
 
 impl syn_tokens::syntactic::Syntactic for ExprContinue {
+    ghost use Rattle.syn_grammar.specs.Promises.{itself};
+
+    ghost syntax = { itself };
+}
+
+impl syn_tokens::syntactic::Syntactic for ExprLit {
     ghost use Rattle.syn_grammar.specs.Promises.{itself};
 
     ghost syntax = { itself };

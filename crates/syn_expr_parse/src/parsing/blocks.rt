@@ -18,10 +18,10 @@ use crate::parsing::nested::{Block, Expr, Nested, Rung};
 use crate::trees::Trees;
 use syn_lower::Attribute;
 use syn_lower::attr::inner_attributes;
-use syn_lower::looks::at_inner_attribute;
 use syn_parse::buffer::ParseBuffer;
 use syn_parse::read::Peek;
 use syn_parse::read::refusal::Parsed;
+use syn_recognize::looks::at_inner_attribute;
 use syn_tokens::lifetime::Lifetime;
 use syn_tokens::token::{Brace, Colon, Else, If, Loop, Unsafe, While, kind};
 
@@ -90,12 +90,13 @@ fn no_inner_attributes(input: &ParseBuffer<'_>) -> Parsed<()>
     Ok(())
 }
 
-/// A block behind `else`, as an expression.
+/// A block as an expression, behind `else` or as a constant.
 #[tactic(auto, using(crate::proofs::Blocks::none_before))]
 pub(super) fn else_block<N: Nested>(nested: &N, input: &mut ParseBuffer<'_>) -> Parsed<Box<Expr<N>>>
     requires { MayBelow N.may nested.now input.old }
     ensures reads { Computes IsSyntax (λ e. block_behind_else (N.Trees.expr_syntax e.value)) (parse_form table.else_block input.old) result input.new }
     ensures block { IfOk result (λ e. behind_else (N.Trees.expr_syntax e.value) ≡ Left (block_behind_else (N.Trees.expr_syntax e.value))) }
+    ensures bare { IfOk result (λ e. block_behind_else (N.Trees.expr_syntax e.value) ≡ N.Trees.expr_syntax e.value) }
     ensures moved { Moved input.old result input.new }
 {
     if input.peek::<Lifetime>() {

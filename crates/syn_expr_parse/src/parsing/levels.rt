@@ -22,11 +22,11 @@ use crate::parsing::nested::{Expr, Nested};
 use crate::parsing::postfix::postfixes;
 use crate::trees::Trees;
 use behind::{assigned, casts, compared};
-use looks::at_unfinished;
 use rows::{BitAnds, BitOrs, BitXors, Conjunctions, Disjunctions, Products, Shifts, Sums};
 use std::alloc::Global;
 use syn_parse::buffer::ParseBuffer;
 use syn_parse::read::refusal::Parsed;
+use syn_recognize::expression_looks::at_unfinished;
 
 /// A level whose operators group from the left: operands with operators between them.
 trait Level {

@@ -13,13 +13,13 @@ ghost use Rattle.syn_tokens.specs.Leaves.{syntax_of_ident};
 ghost use Rattle.syn_lower.specs.Parsing.{sees, parse_rule, parse_form, Computes, Moved, Kept, MayBelow, MayHere, IsSyntax};
 ghost use Rattle.syn_expr_parse.specs.Postfixes.{arguments_form, behind_dot, behind_name, generic_call_form, index_form, linked, member_form, named_form};
 
-use crate::looks::at_dot;
 use crate::parsing::groups::arguments;
 use crate::parsing::nested::{Expr, Nested, Rung};
 use crate::trees::Trees;
 use syn_lower::Member;
 use syn_parse::buffer::ParseBuffer;
 use syn_parse::read::refusal::Parsed;
+use syn_recognize::expression_looks::at_dot;
 use syn_tokens::ident::Ident;
 use syn_tokens::literal::Literal;
 use syn_tokens::token::{Bracket, Dot, Paren, PathSep, Question, kind};

@@ -8,17 +8,17 @@ ghost use Rattle.syn_lower.specs.Parsing.{parse_rule, parse_form, Computes, Pars
 ghost use Rattle.syn_expr_parse.specs.Primary.{break_form, continue_form, return_form};
 ghost use Rattle.syn_expr_parse.specs.Primary as primaries;
 
-use crate::looks::{at_block_like, at_whole_expression};
-use crate::parsing::blocks::block_like;
+use crate::parsing::blocks::{block_like, else_block};
 use crate::parsing::groups::{bracketed, in_invisible_group, parenthesized};
 use crate::parsing::nested::{Expr, Nested, Rung};
 use crate::trees::Trees;
 use syn_lower::Lit;
 use syn_parse::buffer::ParseBuffer;
 use syn_parse::read::refusal::Parsed;
-use syn_pat::looks::at_macro;
 use syn_pat::parsing::{macro_invocation, path_as_expression};
-use syn_tokens::token::{Bracket, Break, Continue, Group, Paren, Return};
+use syn_recognize::expression_looks::{at_block_like, at_whole_expression};
+use syn_recognize::looks::at_macro;
+use syn_tokens::token::{Brace, Bracket, Break, Continue, Group, Paren, Return};
 
 /// A primary expression, by the token that it begins with.
 #[tactic(auto, using(crate::proofs::Primary::primary_are))]
@@ -28,6 +28,19 @@ pub(super) fn primary<N: Nested>(nested: &N, input: &mut ParseBuffer<'_>) -> Par
 {
     if !input.peek::<Lit>() {
         return no_literal(nested, input);
+    }
+    let lit = input.read()?;
+    N::Trees::expr_lit(lit, input.alloc())
+}
+
+/// A constant, as an expression: a block, a literal, `true` or `false`.
+#[tactic(auto, using(crate::proofs::Primary::constant_are))]
+pub fn constant<N: Nested>(nested: &N, input: &mut ParseBuffer<'_>) -> Parsed<Box<Expr<N>>>
+    requires { MayBelow N.may nested.now input.old }
+    ensures parses { Parses IsSyntax (λ e. Node (N.Trees.expr_syntax e.value)) rules.constant input.old result input.new }
+{
+    if input.peek::<Brace>() {
+        return else_block(nested, input);
     }
     let lit = input.read()?;
     N::Trees::expr_lit(lit, input.alloc())

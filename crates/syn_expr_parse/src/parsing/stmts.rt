@@ -15,9 +15,8 @@ ghost use Rattle.syn_expr_parse.specs.Parts.{block_behind_else, diverging as div
 ghost use Rattle.syn_expr_parse.specs.Listed.{is_listed};
 ghost use Rattle.syn_expr_parse.specs.Spines.{spine_shown};
 ghost use Rattle.syn_expr_parse.specs.StatementForms.{behind_attributes, behind_block, crate_macro_statement as crate_macro_statement_by, diverges, ending, expression_statement as expression_statement_by, local_init_form, local_value as local_value_by, macro_statement as macro_statement_by, next_statement, statement_by, statement_form, terminator as terminator_by};
-ghost use Rattle.syn_expr_parse.specs.Trailing.{ends_by};
+ghost use Rattle.syn_recognize.specs.Trailing.{ends_by};
 
-use crate::looks::{at_block_like, at_postfix_mark};
 use crate::parsing::blocks::{block_like, else_block};
 use crate::parsing::levels::operand_rest;
 use crate::parsing::nested::{Expr, LocalInit, Nested, Rung, Stmt};
@@ -27,8 +26,9 @@ use syn_lower::Attribute;
 use syn_lower::attr::outer_attributes;
 use syn_parse::buffer::ParseBuffer;
 use syn_parse::read::refusal::Parsed;
-use syn_pat::looks::{at_brace_macro, at_crate_macro, at_lone_crate};
 use syn_pat::parsing::typed_pattern;
+use syn_recognize::expression_looks::{at_block_like, at_postfix_mark};
+use syn_recognize::looks::{at_brace_macro, at_crate_macro, at_lone_crate};
 use syn_tokens::token::{Else, Eq, Let, Semi};
 
 /// Where a statement stands: what may end it.

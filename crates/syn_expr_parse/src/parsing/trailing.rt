@@ -5,7 +5,7 @@ ghost use Rattle.syn_grammar.specs.Take.{before};
 ghost use Rattle.syn_grammar.specs.Promises.{OrMemory};
 ghost use Rattle.syn_parse.specs.Refusals.{IsSyntax};
 ghost use Rattle.syn_tokens.specs.Cursors.{before_next};
-ghost use Rattle.syn_expr_parse.specs.Trailing.{ends_by, is_brace_group};
+ghost use Rattle.syn_recognize.specs.Trailing.{ends_by, is_brace_group};
 
 use syn_parse::buffer::ParseBuffer;
 use syn_parse::read::refusal::{Parsed, Refusal};

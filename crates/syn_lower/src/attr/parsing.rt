@@ -15,12 +15,12 @@ ghost use Rattle.syn_lower.specs.Attributes.{all_attributes_syntax, attributes_s
 ghost use Rattle.syn_lower.specs.MetaValues.{syntax_of_MetaValue};
 
 use crate::attr::{AttrStyle, Attribute, MacroDelimiter, Meta, MetaList, MetaNameValue};
-use crate::looks::at_inner_attribute;
 use crate::parsing::module_path;
 use crate::{Path, PathArguments, PathSegment};
 use syn_parse::buffer::ParseBuffer;
 use syn_parse::read::refusal::{Parsed, Refusal};
 use syn_parse::read::{End, Peek};
+use syn_recognize::looks::at_inner_attribute;
 use syn_tokens::error::Result;
 use syn_tokens::punctuated::Punctuated;
 use syn_tokens::stream::TokenStream;

@@ -12,7 +12,7 @@ ghost use Rattle.syn_lower.specs.TypeForms.{angle_bracketed_form, argument_form,
 
 use super::Nested;
 use super::ty::types;
-use crate::looks::{at_arguments, at_association, at_expression};
+use crate::looks::at_constant;
 use crate::{
     AngleBracketedGenericArguments, AssocType, GenericArgument, ParenthesizedGenericArguments,
     PathArguments, ReturnType,
@@ -20,6 +20,7 @@ use crate::{
 use syn_parse::buffer::ParseBuffer;
 use syn_parse::read::lists::punctuated_list;
 use syn_parse::read::refusal::Parsed;
+use syn_recognize::looks::{at_arguments, at_association};
 use syn_tokens::lifetime::Lifetime;
 use syn_tokens::punctuated::Punctuated;
 use syn_tokens::token::{Comma, Gt, Paren, RArrow, kind};
@@ -133,7 +134,7 @@ fn argument<N: Nested>(nested: &N, input: &mut ParseBuffer<'_>) -> Parsed<Generi
     }
 }
 
-/// A generic argument that isn't a lifetime: a name, `=` and a type; a literal; or a type.
+/// A generic argument that isn't a lifetime: a name, `=` and a type; a constant; or a type.
 #[tactic(auto, using(syn_grammar::proofs::Each::generic_argument_is))]
 fn other_argument<N: Nested>(nested: &N, input: &mut ParseBuffer<'_>) -> Parsed<GenericArgument>
     requires { MayHere N.may nested.now input.old }
@@ -142,7 +143,7 @@ fn other_argument<N: Nested>(nested: &N, input: &mut ParseBuffer<'_>) -> Parsed<
 {
     if at_association(input) {
         Ok(GenericArgument::AssocType(association(nested, input)?))
-    } else if at_expression(input) {
+    } else if at_constant(input) {
         Ok(GenericArgument::Const(input.read()?))
     } else {
         Ok(GenericArgument::Ty(nested.ty(input)?))

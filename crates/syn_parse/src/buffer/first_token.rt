@@ -17,19 +17,14 @@ use syn_tokens::span::Span;
 use syn_tokens::stream::cursor::{Cursor, GroupRef, TokenTreeRef};
 
 /// The identifier at the front, and what follows it.
-#[tactic(auto, using(crate::proofs::FirstTokens::no_ident_at_literal), unfolding(syn_grammar::specs::Take::take_token))]
+#[tactic(auto, using(crate::proofs::FirstTokens::no_ident_first))]
 #[inline(always)]
 pub(crate) fn split_ident<'a>(cursor: &Cursor<'a>) -> Option<(IdentRef<'a>, Cursor<'a>)>
     ensures { MatchOption result (NoIdent cursor.now)
         (λ p. cursor.now ≡ leaf (ident_leaf p.0) (at p.0.span) p.1) }
 {
-    let (next, rest) = cursor.split()?;
-    match next {
-        TokenTreeRef::Ident(ident) => Some((ident, rest)),
-        TokenTreeRef::Literal(_) => None,
-        TokenTreeRef::Punct(_) => None,
-        TokenTreeRef::Group(_) => None,
-    }
+    let (ident, rest) = cursor.split_ident()?;
+    Some((ident, rest))
 }
 
 /// The literal at the front, and what follows it.
@@ -49,19 +44,14 @@ pub(crate) fn split_literal<'a>(cursor: &Cursor<'a>) -> Option<(LiteralRef<'a>, 
 }
 
 /// The character of a mark at the front, and what follows it.
-#[tactic(auto, using(crate::proofs::FirstTokens::none_spelled_at_leaf, crate::proofs::FirstTokens::none_spelled_at_group, crate::proofs::FirstTokens::none_spelled_at_end), unfolding(syn_grammar::specs::Take::take_lifetime))]
+#[tactic(auto, using(crate::proofs::FirstTokens::no_punct_first))]
 #[inline(always)]
 pub(crate) fn split_punct<'a>(cursor: &Cursor<'a>) -> Option<(Punct, Cursor<'a>)>
     ensures { MatchOption result (NoPunct cursor.now)
         (λ p. cursor.now ≡ punct p.0.character (is_joint p.0.spacing) (at p.0.span) p.1) }
 {
-    let (next, rest) = cursor.split()?;
-    match next {
-        TokenTreeRef::Ident(_) => None,
-        TokenTreeRef::Literal(_) => None,
-        TokenTreeRef::Punct(punct) => Some((punct, rest)),
-        TokenTreeRef::Group(_) => None,
-    }
+    let (punct, rest) = cursor.split_punct()?;
+    Some((punct, rest))
 }
 
 /// The last character of a mark at the front, however it is joined, and what follows it.

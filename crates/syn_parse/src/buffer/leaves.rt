@@ -12,7 +12,7 @@ ghost use Rattle.syn_tokens.specs.Leaves.{is_known_word, syntax_of_ident, syntax
 ghost use Rattle.syn_parse.specs.FirstTokens.{at_any_literal, path_words};
 
 use crate::buffer::ParseBuffer;
-use crate::buffer::first_token::{split_group, split_ident, split_lifetime, split_literal};
+use crate::buffer::first_token::{split_ident, split_lifetime, split_literal};
 use crate::read::refusal::Parsed;
 use syn_tokens::delimiter::Delimiter;
 use syn_tokens::ident::Ident;
@@ -169,6 +169,6 @@ impl<'a> ParseBuffer<'a> {
     pub(crate) fn is_at_group(&self, delimiter: Delimiter) -> bool
         ensures { result ≡ sees (at_group (delimiter_of delimiter)) self.now }
     {
-        split_group(&self.tokens, delimiter).is_some()
+        self.tokens.is_at_group(delimiter)
     }
 }

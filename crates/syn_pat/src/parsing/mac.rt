@@ -9,13 +9,13 @@ ghost use Rattle.syn_lower.specs.Parsing.{of, rule, meaning_of_rule, parse_form,
 ghost use Rattle.syn_pat.specs.Macros.{macro_group};
 ghost use Rattle.syn_pat.specs.PathForms.{any_group_form, bang_form};
 
-use crate::looks::paths::at_bang;
 use crate::mac::Macro;
 use syn_lower::MacroDelimiter;
 use syn_lower::parsing::module_path;
 use syn_parse::buffer::ParseBuffer;
 use syn_parse::read::refusal::{Parsed, Refusal};
 use syn_parse::read::{Peek, Read};
+use syn_recognize::looks::at_bang;
 use syn_tokens::stream::TokenStream;
 use syn_tokens::token::{Bracket, DelimiterKind, Delimiters, Not, Paren, kind};
 

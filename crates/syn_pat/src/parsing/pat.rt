@@ -17,7 +17,7 @@ ghost use Rattle.syn_pat.specs.Patterns.{local_pattern};
 
 use super::path::path_as_expression;
 use crate::Pat;
-use crate::looks::paths::{at_binding_word, at_pattern_path};
+use crate::looks::at_binding_word;
 use crate::pat::{PatIdent, PatParen, PatPath, PatTuple, PatTupleStruct, PatType, PatWild};
 use std::marker::PhantomData;
 use syn_lower::carrier::Carrier;
@@ -25,6 +25,7 @@ use syn_parse::buffer::ParseBuffer;
 use syn_parse::read::lists::punctuated_list;
 use syn_parse::read::refusal::{Parsed, Refusal};
 use syn_parse::read::{End, Read};
+use syn_recognize::looks::at_pattern_path;
 use syn_tokens::punctuated::Punctuated;
 use syn_tokens::token::{Colon, Comma, Paren, PathSep, Underscore, kind};
 

@@ -13,13 +13,13 @@ ghost use Rattle.syn_lower.specs.Types.{syntax_of_Type};
 ghost use Rattle.syn_pat.specs.PathForms.{behind_trait_form, named_word_form, path_syntax, turbofish_form, word_form};
 ghost use Rattle.syn_pat.specs.Patterns.{path_of};
 
-use crate::looks::paths::at_turbofish;
 use syn_lower::looks::at_named_word;
 use syn_lower::parsing::path_arguments;
 use syn_lower::{Path, PathArguments, PathSegment, QSelf, Type};
 use syn_parse::buffer::ParseBuffer;
 use syn_parse::read::lists::joined_list;
 use syn_parse::read::refusal::Parsed;
+use syn_recognize::looks::at_turbofish;
 use syn_tokens::punctuated::Punctuated;
 use syn_tokens::token::{As, Lt, PathSep};
 

@@ -2,8 +2,8 @@
 use crate::tests::asserts::assert_text_of;
 use crate::tests::attributes::attributes;
 use std::alloc::Global;
-use syn::lower::{Expr, ExprLit, Lit, LitByteStr, LitCStr, LitFloat, LitInt, LitStr};
-use syn::{LitKind, Literal, Result};
+use syn::lower::{Lit, LitByteStr, LitCStr, LitFloat, LitInt, LitStr};
+use syn::{Expr, ExprLit, LitKind, Literal, Result};
 use syn_test_support::outline::outline;
 use syn_test_support::{parsed, printed, span};
 
@@ -69,7 +69,7 @@ fn with_attributes(alloc: Global) -> Result<String> {
     printed(alloc, &expr)
 }
 
-/// Attributes are not read before an expression yet, but those that it holds are printed.
+/// Attributes that a literal holds as an expression are printed before it.
 #[test]
 fn attributes_of_expressions(rt: HostRuntime) -> Result<()> {
     let text = with_attributes(rt.alloc())?;

@@ -7,6 +7,7 @@ ghost use Rattle.std.specs.Prelude.{None};
 use std::alloc::Global;
 use syn::canon::{canonical, same_form};
 use syn::data::FieldsUnnamed;
+use syn::deferred::DeferredConstant;
 use syn::derive::DeriveInput;
 use syn::parse::ParseBuffer;
 use syn::print::ToTokens;
@@ -14,9 +15,7 @@ use syn::punctuated::Punctuated;
 use syn::reader::{read_tokens, token_text};
 use syn::restriction::Visibility;
 use syn::token::{Ident, LitKind, Literal, TokenStream, TokenTree};
-use syn::{Result, TryClone};
-use syn_parse::deferred::Deferred;
-use syn_test_support::visibilities::Visibilities;
+use syn::{Expr, Result, TryClone};
 use syn_test_support::{fault, parsed, printed, refused_at, reprinted, span};
 
 const STRUCT: &str = "pub struct S(pub(in a::b) c, ::d::e,);";
@@ -131,21 +130,29 @@ fn copies(rt: HostRuntime) {
     assert!(rt; are_right(is_taken_over(rt.alloc()), is_taken_over(rt.alloc())));
 }
 
+/// Its print has lifetimes first, so it is read twice, and kept twice.
 fn is_deferred(alloc: Global) -> Result<bool> {
-    let deferred: Deferred<Visibilities> = parsed(alloc, "pub(in a::b)")?;
+    let deferred: DeferredConstant = parsed(alloc, "{ f::<A, 'a>(b) }")?;
     let copy = deferred.try_clone(alloc)?;
-    Ok(copy == deferred && printed(alloc, &copy)?.as_str() == "pub ( in a :: b )")
+    Ok(copy == deferred && printed(alloc, &copy)?.as_str() == "{ f :: < 'a , A , > ( b ) }")
+}
+
+fn is_made_by_hand(alloc: Global) -> Result<bool> {
+    let tree: Expr = parsed(alloc, "{ a + 1 }")?;
+    let deferred: DeferredConstant = DeferredConstant::new(&tree, alloc)?;
+    Ok(printed(alloc, &deferred)?.as_str() == "{ a + 1 }")
 }
 
 fn is_opened(alloc: Global) -> Result<bool> {
-    let tree: Visibility = parsed(alloc, "pub(in a::b)")?;
-    let deferred: Deferred<Visibilities> = Deferred::new(&tree, alloc)?;
-    Ok(deferred.open()? == tree)
+    let deferred: DeferredConstant = parsed(alloc, "{ f::<A, 'a>(b) }")?;
+    let tree: Expr = deferred.open()?;
+    Ok(printed(alloc, &tree)?.as_str() == "{ f :: < 'a , A , > ( b ) }")
 }
 
 #[test]
 fn deferred_trees(rt: HostRuntime) {
     assert!(rt; are_right(is_deferred(rt.alloc()), is_deferred(rt.alloc())));
+    assert!(rt; are_right(is_made_by_hand(rt.alloc()), is_made_by_hand(rt.alloc())));
     assert!(rt; are_right(is_opened(rt.alloc()), is_opened(rt.alloc())));
 }
 

@@ -146,6 +146,7 @@ impl StreamBuilder {
 
     /// Adds an identifier.
     #[tactic(auto, unfolding(crate::specs::Building::added))]
+    #[inline(always)]
     pub fn add_ident(&mut self, ident: Ident) -> std::result::Result<(), AllocError>
         ensures prints { OnOk result (self.new ≡ added self.old (leaf (ident_leaf ident) (at ident.span) end)) }
         ensures begins { self.new.before ≡ self.old.before }
@@ -168,6 +169,7 @@ impl StreamBuilder {
 
     /// Adds a literal.
     #[tactic(auto, unfolding(crate::specs::Building::added))]
+    #[inline(always)]
     pub fn add_literal(&mut self, literal: Literal) -> std::result::Result<(), AllocError>
         ensures prints { OnOk result (self.new ≡ added self.old (leaf (literal_leaf literal) (at literal.span) end)) }
         ensures begins { self.new.before ≡ self.old.before }

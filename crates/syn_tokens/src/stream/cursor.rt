@@ -1,10 +1,15 @@
 //! Token trees that stand one behind another in a stream.
 ghost use Rattle.std.specs.Prelude.{◌≡◌, ◌<◌, ◌^◌, [], ◌∷◌, ◌++◌, length, MatchOption};
-ghost use Rattle.syn_grammar.specs.Tokens.{end};
+ghost use Rattle.syn_grammar.specs.Tokens.{end, ident, leaf, punct};
 ghost use Rattle.syn_grammar.specs.Take as grammar;
+ghost use Rattle.syn_grammar.specs.Take.{is_end, taken, take_group};
 ghost use Rattle.syn_tokens.specs.Entries.{encode, decode, IsFlat};
 ghost use Rattle.syn_tokens.specs.Places.{after};
 ghost use Rattle.syn_tokens.specs.Cursors.{before_next, next_span, Closes};
+ghost use Rattle.syn_tokens.specs.Delimiters.{delimiter_of};
+ghost use Rattle.syn_tokens.specs.Firsts.{NoIdentFirst, NoPunctFirst};
+ghost use Rattle.syn_tokens.specs.Punct.{is_joint};
+ghost use Rattle.syn_tokens.specs.Spans.{at};
 ghost use Rattle.syn_tokens.specs.Walks.{trees_of, in_turn};
 ghost use Rattle.syn_tokens.specs.declared.stream.entry.Token.TheVariants as E;
 
@@ -166,6 +171,48 @@ impl<'a> Cursor<'a> {
                 Some((TokenTreeRef::Group(inner), Cursor::new(rest, behind)))
             }
             Token::Close(_) => None,
+        }
+    }
+
+    /// Whether there is no tree from here on.
+    #[tactic(auto, using(crate::proofs::Streams::is_end_of))]
+    #[inline(always)]
+    pub fn is_empty(&self) -> bool
+        ensures { result ≡ is_end self.now }
+    {
+        self.trees == 0
+    }
+
+    /// The identifier that is the first tree, and a cursor behind it; none where another tree is the first, or there is none.
+    /// That it is none is told by a look at the kind of one token.
+    #[inline(always)]
+    pub fn split_ident(&self) -> Option<(IdentRef<'a>, Cursor<'a>)>
+        ensures { MatchOption result (NoIdentFirst self.now) (λ p. self.now ≡ leaf (ident p.0.text) (at p.0.span) p.1) }
+    {
+        let (first, rest) = split_first(self.entries)?;
+        let ident = first.as_ident()?;
+        Some((ident, Cursor::new(rest, self.trees.saturating_sub(1))))
+    }
+
+    /// The character of a mark that is the first tree, and a cursor behind it; none where another tree is the first, or there is
+    /// none. That it is none is told by a look at the kind of one token.
+    #[inline(always)]
+    pub fn split_punct(&self) -> Option<(Punct, Cursor<'a>)>
+        ensures { MatchOption result (NoPunctFirst self.now) (λ p. self.now ≡ punct p.0.character (is_joint p.0.spacing) (at p.0.span) p.1) }
+    {
+        let (first, rest) = split_first(self.entries)?;
+        let punct = first.as_punct()?;
+        Some((punct, Cursor::new(rest, self.trees.saturating_sub(1))))
+    }
+
+    /// Whether a group with these delimiters is the first tree. It doesn't look for the end of the group.
+    #[inline(always)]
+    pub fn is_at_group(&self, delimiter: Delimiter) -> bool
+        ensures { result ≡ taken (take_group (delimiter_of delimiter) self.now) }
+    {
+        match split_first(self.entries) {
+            Some((first, _)) => first.opens(delimiter),
+            None => false,
         }
     }
 

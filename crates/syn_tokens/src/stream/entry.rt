@@ -1,6 +1,8 @@
 //! What a token stream is kept as: one entry for each token, and two for each group, its delimiters.
-ghost use Rattle.std.specs.Prelude.{◌≡◌, IfOk};
+ghost use Rattle.std.specs.Prelude.{◌≡◌, IfOk, MatchOption};
 ghost use Rattle.syn_tokens.specs.Entries.{entry_span};
+ghost use Rattle.syn_tokens.specs.Firsts as firsts;
+ghost use Rattle.syn_tokens.specs.Firsts.{IsNoIdent, IsNoPunct};
 ghost use Rattle.syn_tokens.specs.declared.stream.entry.Token.TheVariants as E;
 
 use crate::delimiter::Delimiter;
@@ -98,6 +100,48 @@ impl Far {
             Far::Punct(punct) => Token::Punct(*punct),
             Far::Open(open) => Token::Open(*open),
             Far::Close(close) => Token::Close(*close),
+        }
+    }
+
+    /// The identifier that it is.
+    #[cold]
+    fn as_ident(&self) -> Option<IdentRef<'_>>
+        ensures { MatchOption result (IsNoIdent (far_token self.now)) (λ ident. far_token self.now ≡ E.Ident ident) }
+    {
+        match self {
+            Far::Ident(ident) => Some(ident.as_ref()),
+            Far::Literal(_) => None,
+            Far::Punct(_) => None,
+            Far::Open(_) => None,
+            Far::Close(_) => None,
+        }
+    }
+
+    /// The character of a mark that it is.
+    #[cold]
+    fn as_punct(&self) -> Option<Punct>
+        ensures { MatchOption result (IsNoPunct (far_token self.now)) (λ punct. far_token self.now ≡ E.Punct punct) }
+    {
+        match self {
+            Far::Ident(_) => None,
+            Far::Literal(_) => None,
+            Far::Punct(punct) => Some(*punct),
+            Far::Open(_) => None,
+            Far::Close(_) => None,
+        }
+    }
+
+    /// Whether it is the opening delimiter of a group with these delimiters.
+    #[cold]
+    fn opens(&self, delimiter: Delimiter) -> bool
+        ensures { result ≡ firsts.opens delimiter (far_token self.now) }
+    {
+        match self {
+            Far::Ident(_) => false,
+            Far::Literal(_) => false,
+            Far::Punct(_) => false,
+            Far::Open(open) => delimiter == open.delimiter,
+            Far::Close(_) => false,
         }
     }
 }
@@ -206,6 +250,55 @@ impl Entry {
                 trees: *trees,
             }),
             Packed::Far(far) => far.token(),
+        }
+    }
+
+    /// The identifier that it is; none where it is something else, which takes a look at its kind alone.
+    #[inline(always)]
+    pub(crate) fn as_ident(&self) -> Option<IdentRef<'_>>
+        ensures { MatchOption result (IsNoIdent self.now) (λ ident. self.now ≡ E.Ident ident) }
+    {
+        match &self.inner {
+            Packed::Ident(keyword, place, text) => {
+                Some(IdentRef::new(text, *keyword, place.span()))
+            }
+            Packed::Literal(_, _, _) => None,
+            Packed::Punct(_, _, _) => None,
+            Packed::Open(_, _, _) => None,
+            Packed::Close(_, _, _) => None,
+            Packed::Far(far) => far.as_ident(),
+        }
+    }
+
+    /// The character of a mark that it is; none where it is something else, which takes a look at its kind alone.
+    #[inline(always)]
+    pub(crate) fn as_punct(&self) -> Option<Punct>
+        ensures { MatchOption result (IsNoPunct self.now) (λ punct. self.now ≡ E.Punct punct) }
+    {
+        match &self.inner {
+            Packed::Ident(_, _, _) => None,
+            Packed::Literal(_, _, _) => None,
+            Packed::Punct(spacing, character, place) => {
+                Some(Punct::new(*character, *spacing, place.span()))
+            }
+            Packed::Open(_, _, _) => None,
+            Packed::Close(_, _, _) => None,
+            Packed::Far(far) => far.as_punct(),
+        }
+    }
+
+    /// Whether it is the opening delimiter of a group with these delimiters.
+    #[inline(always)]
+    pub(crate) fn opens(&self, delimiter: Delimiter) -> bool
+        ensures { result ≡ firsts.opens delimiter self.now }
+    {
+        match &self.inner {
+            Packed::Ident(_, _, _) => false,
+            Packed::Literal(_, _, _) => false,
+            Packed::Punct(_, _, _) => false,
+            Packed::Open(opening, _, _) => delimiter == *opening,
+            Packed::Close(_, _, _) => false,
+            Packed::Far(far) => far.opens(delimiter),
         }
     }
 

@@ -22,13 +22,12 @@ use std::marker::PhantomData;
 use syn_lower::Type;
 use syn_lower::attr::all_outer_attributes;
 use syn_lower::carrier::Carrier;
-use syn_lower::kind::Expr;
 use syn_lower::looks::at_nameless_fields;
 use syn_parse::buffer::ParseBuffer;
-use syn_parse::deferred::Deferred;
 use syn_parse::read::End;
 use syn_parse::read::lists::punctuated_list;
 use syn_parse::read::refusal::{Parsed, Refusal};
+use syn_recognize::deferred::DeferredExpr;
 use syn_tokens::ident::Ident;
 use syn_tokens::punctuated::Punctuated;
 use syn_tokens::stream::TokenStream;
@@ -225,7 +224,7 @@ fn struct_or_union(input: &mut ParseBuffer<'_>) -> Parsed<Keyword>
 }
 
 /// `=` and an expression, where `=` stands next.
-pub(crate) fn value(input: &mut ParseBuffer<'_>) -> Parsed<Option<(Eq, Deferred<Expr>)>>
+pub(crate) fn value(input: &mut ParseBuffer<'_>) -> Parsed<Option<(Eq, DeferredExpr)>>
     ensures reads { Computes IsSyntax (maybe (pair_of eq_syntax itself)) (parse_form value_form input.old) result input.new }
     ensures kept { Kept input.old result input.new }
 {

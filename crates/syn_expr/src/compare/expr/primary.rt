@@ -9,33 +9,6 @@ use crate::expr::{Expr, ExprBreak, ExprContinue, ExprLit, ExprMacro, ExprPath, E
 use crate::nested::compare::{CompareNested, CompareOf, same_maybe};
 use syn_tokens::syntactic::compare::Compared;
 
-impl Compared for ExprLit {
-    #[tactic(auto, using(syn_lower::proofs::Attributes::same_attributes, crate::proofs::Forms::same_literal))]
-    fn is_same(&self, other: &ExprLit) -> bool {
-        self.attrs.is_same(&other.attrs) && self.lit.is_same(&other.lit)
-    }
-}
-
-/// Two are equal exactly where they are once every span is 0 to 0.
-impl PartialEq for ExprLit {
-    ghost eq = { same_by itself };
-
-    ghost laws = { same_per itself };
-
-    #[tactic(auto, using(syn_lower::proofs::Equality::equals))]
-    fn eq(&self, other: &ExprLit) -> bool
-        ensures same { IsSame itself self.now other.now result }
-        ensures equal { IsEqual itself self.now other.now result }
-        ensures prints { PrintsAlike itself self.now other.now result }
-    {
-        self.is_same(other)
-    }
-}
-
-impl Eq for ExprLit {
-    ghost laws = { same_equiv itself };
-}
-
 impl Compared for ExprBreak {
     #[tactic(auto, using(syn_lower::proofs::Attributes::same_attributes, syn_grammar::proofs::Same::and_true))]
     fn is_same(&self, other: &ExprBreak) -> bool {
@@ -91,6 +64,33 @@ impl PartialEq for ExprContinue {
 }
 
 impl Eq for ExprContinue {
+    ghost laws = { same_equiv itself };
+}
+
+impl Compared for ExprLit {
+    #[tactic(auto, using(syn_lower::proofs::Attributes::same_attributes, crate::proofs::Forms::same_literal))]
+    fn is_same(&self, other: &ExprLit) -> bool {
+        self.attrs.is_same(&other.attrs) && self.lit.is_same(&other.lit)
+    }
+}
+
+/// Two are equal exactly where they are once every span is 0 to 0.
+impl PartialEq for ExprLit {
+    ghost eq = { same_by itself };
+
+    ghost laws = { same_per itself };
+
+    #[tactic(auto, using(syn_lower::proofs::Equality::equals))]
+    fn eq(&self, other: &ExprLit) -> bool
+        ensures same { IsSame itself self.now other.now result }
+        ensures equal { IsEqual itself self.now other.now result }
+        ensures prints { PrintsAlike itself self.now other.now result }
+    {
+        self.is_same(other)
+    }
+}
+
+impl Eq for ExprLit {
     ghost laws = { same_equiv itself };
 }
 

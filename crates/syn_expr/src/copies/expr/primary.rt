@@ -8,15 +8,6 @@ use std::alloc::{AllocError, Global};
 use syn_tokens::error;
 use syn_tokens::syntactic::try_clone::TryClone;
 
-impl TryClone for ExprLit {
-    fn try_clone(&self, alloc: Global) -> error::Result<ExprLit> {
-        Ok(ExprLit {
-            attrs: self.attrs.try_clone(alloc)?,
-            lit: self.lit.try_clone(alloc)?,
-        })
-    }
-}
-
 impl TryClone for ExprBreak {
     fn try_clone(&self, alloc: Global) -> error::Result<ExprBreak> {
         Ok(ExprBreak {
@@ -33,6 +24,15 @@ impl TryClone for ExprContinue {
             attrs: self.attrs.try_clone(alloc)?,
             continue_token: self.continue_token,
             label: self.label.try_clone(alloc)?,
+        })
+    }
+}
+
+impl TryClone for ExprLit {
+    fn try_clone(&self, alloc: Global) -> error::Result<ExprLit> {
+        Ok(ExprLit {
+            attrs: self.attrs.try_clone(alloc)?,
+            lit: self.lit.try_clone(alloc)?,
         })
     }
 }

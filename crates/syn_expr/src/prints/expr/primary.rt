@@ -9,16 +9,6 @@ use syn_lower::attr::print_outer;
 use syn_tokens::print::{Print, ToTokens};
 use syn_tokens::stream::builder::StreamBuilder;
 
-impl Print for ExprLit {
-    #[tactic(auto, using(syn_tokens::proofs::Prints::prints, crate::proofs::Forms::print_literal))]
-    fn print_in(&self, out: &mut StreamBuilder) -> Result<(), AllocError> {
-        print_outer(&self.attrs, out)?;
-        self.lit.print_in(out)
-    }
-}
-
-impl ToTokens for ExprLit {}
-
 impl Print for ExprBreak {
     fn print_in(&self, out: &mut StreamBuilder) -> Result<(), AllocError> {
         print_outer(&self.attrs, out)?;
@@ -38,6 +28,16 @@ impl Print for ExprContinue {
 }
 
 impl ToTokens for ExprContinue {}
+
+impl Print for ExprLit {
+    #[tactic(auto, using(syn_tokens::proofs::Prints::prints, crate::proofs::Forms::print_literal))]
+    fn print_in(&self, out: &mut StreamBuilder) -> Result<(), AllocError> {
+        print_outer(&self.attrs, out)?;
+        self.lit.print_in(out)
+    }
+}
+
+impl ToTokens for ExprLit {}
 
 impl Print for ExprMacro {
     fn print_in(&self, out: &mut StreamBuilder) -> Result<(), AllocError> {

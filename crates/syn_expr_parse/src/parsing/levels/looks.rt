@@ -2,14 +2,11 @@
 ghost use Rattle.std.specs.Prelude.{◌≡◌};
 ghost use Rattle.syn_grammar.specs.Take.{sees};
 ghost use Rattle.syn_grammar.specs.Table as table;
-ghost use Rattle.syn_expr_parse.specs.Levels as levels;
 
-use crate::looks::at_dot;
 use syn_parse::buffer::ParseBuffer;
 use syn_tokens::token::{
-    And, AndAnd, AndEq, Bracket, Caret, CaretEq, Eq, EqEq, Ge, Gt, Le, Lt, Minus, MinusEq, Ne, Or,
-    OrEq, OrOr, Paren, Percent, PercentEq, Plus, PlusEq, Question, Shl, ShlEq, Shr, ShrEq, Slash,
-    SlashEq, Star, StarEq,
+    And, AndAnd, AndEq, Caret, CaretEq, Eq, EqEq, Ge, Gt, Le, Lt, Minus, MinusEq, Ne, Or, OrEq,
+    OrOr, Percent, PercentEq, Plus, PlusEq, Shl, ShlEq, Shr, ShrEq, Slash, SlashEq, Star, StarEq,
 };
 
 /// Whether `*` stands next, and not `*=`.
@@ -114,28 +111,4 @@ pub(super) fn at_equals_operator(input: &ParseBuffer<'_>) -> bool
     ensures { result ≡ sees table.at_equals_operator input.now }
 {
     input.peek::<Eq>() && !input.peek::<EqEq>()
-}
-
-/// Whether a postfix or a comparison stands next, behind which no whole expression ends.
-#[tactic(auto, using(crate::proofs::LevelLooks::unfinished_seen))]
-pub(super) fn at_unfinished(input: &ParseBuffer<'_>) -> bool
-    ensures { result ≡ sees table.at_unfinished input.now }
-{
-    at_postfix(input) || at_comparison(input)
-}
-
-/// Whether a postfix stands next.
-#[tactic(auto, using(crate::proofs::LevelLooks::postfix_seen))]
-fn at_postfix(input: &ParseBuffer<'_>) -> bool
-    ensures { result ≡ sees levels.at_postfix input.now }
-{
-    input.peek::<Paren>() || input.peek::<Bracket>() || input.peek::<Question>() || at_dot(input)
-}
-
-/// Whether `==`, `!=` or a mark stands next that begins with `<` or `>`.
-#[tactic(auto, using(syn_grammar::proofs::Looks::sees_or))]
-fn at_comparison(input: &ParseBuffer<'_>) -> bool
-    ensures { result ≡ sees levels.at_comparison input.now }
-{
-    input.peek::<EqEq>() || input.peek::<Ne>() || input.peek::<Lt>() || input.peek::<Gt>()
 }

@@ -10,7 +10,7 @@ use Rattle.syn_tokens.specs.Leaves.{maybe}
 use Rattle.syn_expr_parse.specs.Parts.{block_behind_else}
 use Rattle.syn_expr_parse.specs.StatementForms.{diverges, local_value, valued}
 use Rattle.syn_expr_parse.specs.Parts.{diverging}
-use Rattle.syn_expr_parse.specs.Trailing.{ends_by}
+use Rattle.syn_recognize.specs.Trailing.{ends_by}
 use Rattle.syn_expr_parse.proofs.Locals.{value_read}
 use Rattle.syn_expr_parse.proofs.parsing.stmts.local_value.Goals as goal
 

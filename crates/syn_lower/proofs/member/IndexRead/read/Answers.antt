@@ -1,7 +1,7 @@
 use Rattle.std.proofs.Common.{◌≡◌, false, sym, ap, ◌∙◌}
 use Rattle.syn_grammar.specs.Grammar.{is_index}
 use Rattle.syn_tokens.specs.Spans.{at}
-use Rattle.syn_lower.proofs.Numbers.{no_index_taken}
+use Rattle.syn_recognize.proofs.Numbers.{no_index_taken}
 use Rattle.syn_lower.proofs.member.IndexRead.read.Goals as goal
 
 pub returns-clause-reads : goal.returns-clause-reads

@@ -1,0 +1,59 @@
+//! What the makers of trees share.
+ghost use Rattle.std.specs.Prelude.{◌≡◌};
+ghost use Rattle.syn_grammar.specs.Values.{sentence as sentence_syntax};
+ghost use Rattle.syn_grammar.specs.Promises.{OrMemory, itself};
+ghost use Rattle.syn_tokens.specs.Kinds.{semi_syntax};
+ghost use Rattle.syn_tokens.specs.Leaves.{maybe};
+ghost use Rattle.syn_parse.specs.Refusals.{IsSyntax};
+ghost use Rattle.syn_expr_parse.specs.Parts.{label_syntax};
+ghost use Rattle.syn_expr.specs.Expressions.{syntax_of_Expr};
+ghost use Rattle.syn_expr.specs.Statements.{statement_of};
+
+use crate::Expr;
+use crate::expr::Label;
+use crate::stmt::Stmt;
+use std::alloc::Global;
+use syn_parse::read::refusal::Parsed;
+use syn_tokens::lifetime::Lifetime;
+use syn_tokens::token::{Colon, Semi};
+
+/// This expression in a box.
+pub(super) fn boxed(expr: Expr, alloc: Global) -> Parsed<Box<Expr>>
+    ensures { OrMemory IsSyntax result (λ e. e.value ≡ expr) }
+{
+    Ok(Box::new(alloc, expr)?)
+}
+
+/// The expression in this box.
+pub(super) fn out_of_box(expr: Box<Expr>) -> Expr
+    ensures { result ≡ expr.value }
+{
+    Box::into_inner(expr)
+}
+
+/// A label, or none.
+pub(super) fn labelled(label: Option<(Lifetime, Colon)>) -> Option<Label>
+    ensures { maybe itself result ≡ label_syntax label }
+{
+    match label {
+        Some((name, colon_token)) => Some(Label { name, colon_token }),
+        None => None,
+    }
+}
+
+/// An expression as a statement. A macro with `;` is a macro's statement, and so is one in braces (`braces`).
+#[tactic(auto, using(crate::proofs::Statements::plain_sentence, crate::proofs::Statements::with_semicolon))]
+pub(super) fn sentence(braces: bool, expr: Expr, semi: Option<Semi>) -> Stmt
+    ensures { statement_of result ≡ sentence_syntax braces (syntax_of_Expr expr) (maybe semi_syntax semi) }
+{
+    match semi {
+        Some(semi) => expr.into_stmt(Some(semi)),
+        None => {
+            if braces {
+                expr.into_stmt(None)
+            } else {
+                Stmt::Expr(expr, None)
+            }
+        }
+    }
+}

@@ -1,0 +1,71 @@
+-- Deferred tokens, and what they stand for.
+use Rattle.std.proofs.Common.{◌≡◌, ℕ, zero, suc, Bool, true, false, Some, refl, sym, ap, ◌∙◌}
+use Rattle.syn_grammar.specs.Tokens.{Stream, end, plain}
+use Rattle.syn_grammar.specs.Rules.{Rule}
+use Rattle.syn_grammar.specs.Grammar.{Syntax, show, print, plain_syntax}
+use Rattle.syn_grammar.specs.Take.{only, is_end}
+use Rattle.syn_grammar.specs.Run.{parse_rule}
+use Rattle.syn_grammar.specs.Same.{same_stream, same_syntax}
+use Rattle.syn_grammar.specs.StandsAlone.{reads_shown, stands_alone}
+use Rattle.syn_grammar.proofs.Shows.{show_is_read, show_stands_alone, same_show}
+use Rattle.syn_grammar.proofs.Same.{same_stream_plain, same_syntax_plain}
+use Rattle.syn_grammar.proofs.Takes.{end_found}
+use Rattle.syn_recognize.specs.DeferredTokens.{kind_rule, tree_in, read_as, IsDeferred, whole_only}
+
+-- ---- the rules
+pub kinds_read_again : (n : ℕ) → reads_shown (kind_rule n) ≡ true
+kinds_read_again zero = refl
+kinds_read_again (suc n) = refl
+
+pub kinds_stand_alone : (n : ℕ) → stands_alone (kind_rule n) ≡ true
+kinds_stand_alone zero = refl
+kinds_stand_alone (suc n) = refl
+
+-- ---- tokens that are kept
+-- a tree that is read of what is shown of it
+kept : (k : Rule) (s : Syntax) (source printed : Stream) → source ≡ show s → printed ≡ print s → parse_rule k (show s) ≡ Some (s, end) → IsDeferred k source printed × (read_as k source ≡ s)
+kept k s source printed h p e =
+    let f : parse_rule k source ≡ Some (s, end) = ap (parse_rule k) h ∙ e in
+    let g : read_as k source ≡ s = ap tree_in f in
+    (record { whole = f ∙ ap (λ t. Some (t, end)) (sym g); shown = h ∙ ap show (sym g); as_printed = p ∙ ap print (sym g) }, g)
+
+-- these tokens are what is shown and what is printed of what was read
+abbrev Written : Rule → Stream → Stream → Stream → Stream → Type 0
+Written k ts source printed r = (s : Syntax) × (parse_rule k ts ≡ Some (s, r)) × (source ≡ show s) × (printed ≡ print s)
+
+-- what was read in front of a rest is kept, and so is what was read as a whole
+alone : (k : Rule) → stands_alone k ≡ true → (ts source printed r : Stream) → Written k ts source printed r → IsDeferred k source printed × (parse_rule k ts ≡ Some (read_as k source, r))
+alone k v ts source printed r (s, e, h, p) =
+    let d = kept k s source printed h p (show_stands_alone k v ts s r e) in
+    (d.0, e ∙ ap (λ t. Some (t, r)) (sym d.1))
+
+pub alone_is_deferred : (k : Rule) → stands_alone k ≡ true → (ts source printed r : Stream) → Written k ts source printed r → IsDeferred k source printed
+alone_is_deferred k v ts source printed r w = (alone k v ts source printed r w).0
+
+pub alone_read : (k : Rule) → stands_alone k ≡ true → (ts source printed r : Stream) → Written k ts source printed r → parse_rule k ts ≡ Some (read_as k source, r)
+alone_read k v ts source printed r w = (alone k v ts source printed r w).1
+
+whole : (k : Rule) → reads_shown k ≡ true → (ts source printed r : Stream) → Written k ts source printed r → r ≡ end → IsDeferred k source printed × (whole_only (parse_rule k ts) ≡ Some (read_as k source, r))
+whole k v ts source printed r (s, e, h, p) f =
+    let d = kept k s source printed h p (show_is_read k v ts s (e ∙ ap (λ z. Some (s, z)) f)) in
+    (d.0, ap whole_only e ∙ ap (λ z. only (is_end z) (Some (s, r))) f ∙ ap (λ b. only b (Some (s, r))) end_found ∙ ap (λ t. Some (t, r)) (sym d.1))
+
+pub whole_is_deferred : (k : Rule) → reads_shown k ≡ true → (ts source printed r : Stream) → Written k ts source printed r → r ≡ end → IsDeferred k source printed
+whole_is_deferred k v ts source printed r w f = (whole k v ts source printed r w f).0
+
+pub whole_read : (k : Rule) → reads_shown k ≡ true → (ts source printed r : Stream) → Written k ts source printed r → r ≡ end → whole_only (parse_rule k ts) ≡ Some (read_as k source, r)
+whole_read k v ts source printed r w f = (whole k v ts source printed r w f).1
+
+-- ---- deferred trees
+same_bools : (a b : Bool) → (a ≡ true → b ≡ true) → (b ≡ true → a ≡ true) → a ≡ b
+same_bools true b f g = sym (f refl)
+same_bools false true f g = g refl
+same_bools false false f g = refl
+
+-- the tokens are equal, spans aside, exactly where the trees are
+pub same_deferred : (k : Rule) → reads_shown k ≡ true → (a b : Stream) (s t : Syntax) → parse_rule k a ≡ Some (s, end) → a ≡ show s → parse_rule k b ≡ Some (t, end) → b ≡ show t → same_stream a b ≡ same_syntax s t
+same_deferred k w a b s t e i f j =
+    let law = same_show k w a b s t e f in
+    let to : plain a ≡ plain b → plain_syntax s ≡ plain_syntax t = λ p. law.0 (sym (ap plain i) ∙ p ∙ ap plain j) in
+    let from : plain_syntax s ≡ plain_syntax t → plain a ≡ plain b = λ p. ap plain i ∙ law.1 p ∙ sym (ap plain j) in
+    same_bools (same_stream a b) (same_syntax s t) (λ h. (same_syntax_plain s t).1 (to ((same_stream_plain a b).0 h))) (λ h. (same_stream_plain a b).1 (from ((same_syntax_plain s t).0 h)))

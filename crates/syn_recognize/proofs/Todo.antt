@@ -1,0 +1,123 @@
+-- What is still to be done.
+use Rattle.std.proofs.Common.{◌≡◌, Bool, true, false, List, [], ◌∷◌, ◌++◌, Some, None, Result, Ok, Err, refl, sym, ap, ◌∙◌, subst}
+use Rattle.syn_grammar.specs.Promises.{OrMemory}
+use Rattle.syn_grammar.specs.Tokens.{Stream, pick}
+use Rattle.syn_grammar.specs.Rules.{Rule, whole_expression}
+use Rattle.syn_grammar.specs.Grammar.{Syntax, Such, Node, Left, Right, Both, ends_brace, trailing_brace, no_trailing_brace, Grammar, ◌&◌, either, rule, such}
+use Rattle.syn_grammar.specs.Table.{table}
+use Rattle.syn_grammar.specs.Take.{Out, Parser}
+use Rattle.syn_grammar.specs.Run.{and_then, such_as, first_of, wrap, parse_form, parse_rule}
+use Rattle.syn_grammar.proofs.Run.{parse_rule_is}
+use Rattle.syn_recognize.specs.PrintedRows.{way}
+use Rattle.syn_recognize.specs.Written.{Written, adds}
+use Rattle.syn_recognize.specs.Trailing.{ends_by}
+use Rattle.syn_recognize.specs.Copies.{Copy, Reached, Refused, Stuck, Leads, copied, next, copy_form, by_braces}
+use Rattle.syn_recognize.specs.Steps.{after, todo, Steps, Guessing}
+use Rattle.syn_recognize.specs.declared.step.Step.{Step}
+use Rattle.syn_recognize.specs.declared.step.Step.TheVariants as Step-m
+use Rattle.syn_recognize.proofs.Ways.{way_such, way_left, way_right, way_node}
+use Rattle.syn_recognize.proofs.Copied.{wrapped, behind, rule_is}
+use Rattle.syn_recognize.proofs.Trailing.{value_ends}
+
+-- what is put on top is done first
+pub push : (l : List Step) (s : Step) (o : Copy) → todo (l ++ s ∷ []) o ≡ todo l (after s o)
+unfolding todo
+push [] s o = refl
+push (t ∷ l) s o = ap (after t) (push l s o)
+
+pub all_done : (o : Copy) → todo [] o ≡ o
+unfolding todo
+all_done o = refl
+
+-- a step goes nowhere from nothing, nor behind a wrong guess
+nowhere : (s : Step) → after s Refused ≡ Refused
+nowhere (Step-m.Form f) = refl
+nowhere (Step-m.Close d c rest) = refl
+nowhere (Step-m.Row f n) = refl
+nowhere (Step-m.RowRest f n) = refl
+nowhere (Step-m.Others f l) = refl
+nowhere (Step-m.OthersRest f l) = refl
+nowhere (Step-m.ByBraces f g) = refl
+
+stuck : (s : Step) → after s Stuck ≡ Stuck
+stuck (Step-m.Form f) = refl
+stuck (Step-m.Close d c rest) = refl
+stuck (Step-m.Row f n) = refl
+stuck (Step-m.RowRest f n) = refl
+stuck (Step-m.Others f l) = refl
+stuck (Step-m.OthersRest f l) = refl
+stuck (Step-m.ByBraces f g) = refl
+
+pub refused : (l : List Step) (o : Copy) → o ≡ Refused → todo l o ≡ Refused
+unfolding todo
+refused [] o e = e
+refused (s ∷ l) o e = ap (after s) (refused l o e) ∙ nowhere s
+
+-- GUESSES
+
+pub leads_same : (a b : Copy) → a ≡ b → Leads a b
+leads_same a (Reached w ts) e = e
+leads_same a Refused e = e
+leads_same a Stuck e = tt
+
+pub leads_on : (a b c : Copy) → Leads a b → Leads b c → Leads a c
+leads_on a b (Reached w ts) h e = subst (Leads a) e h
+leads_on a b Refused h e = subst (Leads a) e h
+leads_on a b Stuck h e = tt
+
+leads_step : (s : Step) (a b : Copy) → Leads a b → Leads (after s a) (after s b)
+leads_step s a (Reached w ts) h = leads_same (after s a) (after s (Reached w ts)) (ap (after s) h)
+leads_step s a Refused h = leads_same (after s a) (after s Refused) (ap (after s) h)
+leads_step s a Stuck h = subst (Leads (after s a)) (sym (stuck s)) tt
+
+pub leads_todo : (l : List Step) (a b : Copy) → Leads a b → Leads (todo l a) (todo l b)
+unfolding todo
+leads_todo [] a b h = h
+leads_todo (s ∷ l) a b h = leads_step s (todo l a) (todo l b) (leads_todo l a b h)
+
+pub guessing : {E : Type 0} (refusal : E → Type 0) (old : List Step) (out : Copy) (r : Result (Unit {0}) E) (new : List Step) (w : Written) (ts : Stream) → Steps refusal old out r new w ts → Guessing refusal old out r new w ts
+guessing refusal old out (Ok x) new w ts h = leads_same (todo old out) (todo new (Reached w ts)) h
+guessing refusal old out (Err e) new w ts h = h
+
+-- nothing is left to be done by a step, unless it was refused for memory
+pub done_unless : {E : Type 0} (refusal : E → Type 0) (r : Result (Unit {0}) E) (l : List Step) (o : Copy) (w : Written) (ts : Stream) (A B : Type 0) → OrMemory refusal r (λ x. A) → OrMemory refusal r (λ x. B) → (A → B → o ≡ Reached w ts) →
+    Steps refusal l o r l w ts
+done_unless refusal (Ok x) l o w ts A B a b k = ap (todo l) (k a b)
+done_unless refusal (Err e) l o w ts A B a b k = λ h. absurd (a h)
+
+-- BY BRACES
+
+-- a whole expression, and then one of two forms, by whether it ends with a group in braces
+by_braces_is : (g h : Grammar) (w : Written) (ts : Stream) → copy_form (either (such trailing_brace (rule whole_expression) & g) (such no_trailing_brace (rule whole_expression) & h)) w ts
+    ≡ next (copy_form (rule whole_expression) w ts) (by_braces g h)
+unfolding copy_form
+by_braces_is g h w ts = go (parse_rule whole_expression ts) (value_ends ts)
+  where
+    v : Syntax → Written
+    v s = adds w (way w.printing s)
+
+    followed : (i : Grammar) (s : Syntax) (r : Stream) → copied w (wrap (Both (Such s)) (parse_form i r)) ≡ copied (v s) (parse_form i r)
+    followed i s r = behind (way w.printing s) (Both (Such s)) w (way_such w.printing s) (parse_form i r)
+
+    first : (a : Bool) (s : Syntax) (r : Stream) → ends_brace s ≡ a → copied w (first_of (and_then (such_as trailing_brace (Some (s, r))) (parse_form g)) (and_then (such_as no_trailing_brace (Some (s, r))) (parse_form h)))
+        ≡ pick a (copied (v s) (parse_form g r)) (copied (v s) (parse_form h r))
+    first true s r e = rw e (first_left (wrap (Both (Such s)) (parse_form g r)) ∙ followed g s r)
+      where
+        first_left : (o : Out) → copied w (first_of o None) ≡ copied w o
+        first_left None = refl
+        first_left (Some p) = wrapped Left way_left w (Some p)
+    first false s r e = rw e (wrapped Right way_right w (wrap (Both (Such s)) (parse_form h r)) ∙ followed h s r)
+
+    go : (o : Out) → ((s : Syntax) (r : Stream) → o ≡ Some (s, r) → (u : Written) → ends_by false (adds u (way u.printing s)).out.stream ≡ ends_brace s) →
+        copied w (first_of (and_then (such_as trailing_brace o) (parse_form g)) (and_then (such_as no_trailing_brace o) (parse_form h))) ≡ next (copied w o) (by_braces g h)
+    go None k = refl
+    go (Some p) k = first (ends_by false (v p.0).out.stream) p.0 p.1 (sym (k p.0 p.1 refl w))
+
+pub value_is : (u g h : Grammar) (w : Written) (ts : Stream) → parse_form u ≡ parse_form (table whole_expression) →
+    copy_form (either (such trailing_brace (rule whole_expression) & g) (such no_trailing_brace (rule whole_expression) & h)) w ts ≡ next (copy_form u w ts) (by_braces g h)
+value_is u g h w ts e = by_braces_is g h w ts ∙ ap (λ o. next o (by_braces g h)) (rule_is whole_expression u w ts e)
+
+-- what is written of a rule is what is written of its form
+pub rule_left : (k : Rule) (g : Grammar) (w : Written) (ts : Stream) → parse_form g ≡ parse_form (table k) → copied w (parse_rule k ts) ≡ todo [] (copy_form g w ts)
+unfolding copy_form todo
+rule_left k g w ts e = ap (copied w) (parse_rule_is k ts) ∙ wrapped Node way_node w (parse_form (table k) ts) ∙ sym (ap (λ (p : Parser). copied w (p ts)) e)

@@ -1,0 +1,90 @@
+-- WHAT IS WRITTEN of what is read, behind what was written before.
+use Rattle.std.specs.Prelude.{◌≡◌, true, Bool, ℕ, false, [], Some, None, Result, Ok, Err}
+use Rattle.syn_grammar.specs.Words.{comma}
+use Rattle.syn_grammar.specs.Tokens.{Span, Stream, pick}
+use Rattle.syn_grammar.specs.Rules.{Rule}
+use Rattle.syn_grammar.specs.Grammar.{Grammar, lifetime, at_row_comma}
+use Rattle.syn_grammar.specs.Take.{Out, is_end, sees, take_mark}
+use Rattle.syn_grammar.specs.Run.{parse_form, rows, union}
+use Rattle.syn_grammar.proofs.Said.{start_of}
+use Rattle.syn_recognize.specs.PrintedRows.{way, firsts, others_of, row_of}
+use Rattle.syn_recognize.specs.Written.{Written, adds, leaves}
+use Rattle.syn_recognize.specs.Guesses.{Guesses, same_guesses}
+use Rattle.syn_recognize.specs.Trailing.{ends_by}
+
+-- what is written then, and what is left; or nothing is read; or a guess was wrong, and nothing is known
+pub data Copy : Type 0 where
+  Reached : Written → Stream → Copy
+  Refused : Copy
+  Stuck : Copy
+
+-- the second is the first, unless a guess was wrong
+abbrev pub Leads : Copy → Copy → Type 0
+Leads a (Reached w ts) = a ≡ Reached w ts
+Leads a Refused = a ≡ Refused
+Leads a Stuck = Unit {0}
+
+-- an answer, with its tree behind what was written
+abbrev pub copied : Written → Out → Copy
+copied w (Some p) = Reached (adds w (way w.printing p.0)) p.1
+copied w None = Refused
+
+-- a promise: the tree of an answer was written; or there is none
+abbrev pub Copies : {E : Type 0} → (E → Type 0) → Written → Out → Result (Unit {0}) E → Written → Stream → Type 0
+Copies refusal old out (Ok x) new ts = copied old out ≡ Reached new ts
+Copies refusal old out (Err e) new ts = refusal e → out ≡ None
+
+-- how many tokens a rule reads at least
+abbrev pub least_of : Bool → ℕ
+least_of true = 0
+least_of false = 1
+
+abbrev pub least : Rule → ℕ
+least k = least_of (start_of k).nullable
+
+-- one thing and then another
+abbrev pub next : Copy → (Written → Stream → Copy) → Copy
+next (Reached w ts) q = q w ts
+next Refused q = Refused
+next Stuck q = Stuck
+
+-- the end of a group, and what follows it
+abbrev pub closing : Span → Stream → Written → Stream → Copy
+closing c rest w ts = pick (is_end ts) (Reached (leaves c w) rest) Refused
+
+-- a form
+unfoldable pub copy_form : Grammar → Written → Stream → Copy
+copy_form g w ts = copied w (parse_form g ts)
+
+-- LISTS of lifetimes and of another form
+
+abbrev pub copied_row : Written → Out → Copy
+copied_row w (Some p) = Reached (adds w (row_of w.printing p.0)) p.1
+copied_row w None = Refused
+
+unfoldable pub copy_row : Grammar → Written → Stream → Copy
+copy_row g w ts = copied_row w (rows (union (parse_form lifetime) (parse_form g)) ts)
+
+-- what follows a member
+abbrev pub after_member : Grammar → Written → Stream → Copy
+after_member g w ts = pick (sees at_row_comma ts) (next (copied w (take_mark comma ts)) (copy_row g)) (Reached w ts)
+
+-- where the lifetimes of a list, or of what is left of it, were written already, as they were guessed
+abbrev pub copied_others : Guesses → Written → Out → Copy
+copied_others l w (Some p) = pick (same_guesses (firsts p.0) l) (Reached (adds w (others_of w.printing p.0)) p.1) Stuck
+copied_others l w None = Refused
+
+unfoldable pub copy_others : Grammar → Guesses → Written → Stream → Copy
+copy_others g l w ts = copied_others l w (rows (union (parse_form lifetime) (parse_form g)) ts)
+
+-- no member is left
+abbrev pub none_left : Guesses → Written → Stream → Copy
+none_left l w ts = pick (same_guesses [] l) (Reached w ts) Stuck
+
+-- what follows another member there
+abbrev pub after_other : Grammar → Guesses → Written → Stream → Copy
+after_other g l w ts = pick (sees at_row_comma ts) (next (copied w (take_mark comma ts)) (copy_others g l)) (none_left l w ts)
+
+-- one of two forms, by whether what was written ends with a group in braces
+abbrev pub by_braces : Grammar → Grammar → Written → Stream → Copy
+by_braces g h w ts = pick (ends_by false w.out.stream) (copy_form g w ts) (copy_form h w ts)

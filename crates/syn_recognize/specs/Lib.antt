@@ -1,0 +1,17 @@
+pub mod DeferredTokens
+pub mod Forms
+pub mod Names
+pub mod FieldNumbers
+pub mod Trailing
+pub mod Leaves
+pub mod PrintedRows
+pub mod Written
+pub mod Guesses
+pub mod Late
+pub mod LoneLiterals
+pub mod Quiet
+pub mod Copies
+pub mod Steps
+pub mod Printed
+pub mod Parts
+pub mod Within

@@ -1,0 +1,12 @@
+-- WHAT CALLERS ARE PROMISED where they want both: what is shown, and what is printed.
+use Rattle.std.specs.Prelude.{◌≡◌, Some, None, Result, Ok, Err}
+use Rattle.syn_grammar.specs.Tokens.{Stream}
+use Rattle.syn_grammar.specs.Rules.{Rule}
+use Rattle.syn_grammar.specs.Grammar.{Syntax, show, print}
+use Rattle.syn_grammar.specs.Run.{parse_rule}
+use Rattle.syn_recognize.specs.declared.reading.ShownAndPrinted.{ShownAndPrinted}
+
+-- a rule's answer, what is left behind it, what is shown of it, and what is printed
+abbrev pub ShowsAndPrints : {E : Type 0} → (E → Type 0) → Rule → Stream → Result ShownAndPrinted E → Stream → Type 0
+ShowsAndPrints refusal k ts (Ok tokens) r = (s : Syntax) × (parse_rule k ts ≡ Some (s, r)) × (tokens.shown ≡ show s) × (tokens.printed ≡ print s)
+ShowsAndPrints refusal k ts (Err e) r = refusal e → parse_rule k ts ≡ None

@@ -1,0 +1,39 @@
+-- WHAT IS STILL TO BE DONE, as a function from what is written and left before to what is written and left behind it.
+use Rattle.std.specs.Prelude.{◌≡◌, List, [], ◌∷◌, Result, Ok, Err}
+use Rattle.syn_grammar.specs.Tokens.{Stream}
+use Rattle.syn_tokens.specs.Spans.{at}
+use Rattle.syn_recognize.specs.Forms.{grammar_of}
+use Rattle.syn_recognize.specs.Written.{Written}
+use Rattle.syn_recognize.specs.Copies.{Copy, Reached, Refused, Leads, next, closing, copy_form, copy_row, after_member, copy_others, after_other, by_braces}
+use Rattle.syn_recognize.specs.declared.step.Step.{Step}
+use Rattle.syn_recognize.specs.declared.step.Step.TheVariants as Step-m
+
+-- one step
+abbrev pub after : Step → Copy → Copy
+after (Step-m.Form f) o = next o (copy_form (grammar_of f.now))
+after (Step-m.Close d c rest) o = next o (closing (at c) rest)
+after (Step-m.Row f n) o = next o (copy_row (grammar_of f.now))
+after (Step-m.RowRest f n) o = next o (after_member (grammar_of f.now))
+after (Step-m.Others f l) o = next o (copy_others (grammar_of f.now) l)
+after (Step-m.OthersRest f l) o = next o (after_other (grammar_of f.now) l)
+after (Step-m.ByBraces f g) o = next o (by_braces (grammar_of f.now) (grammar_of g.now))
+
+-- all steps, the last of the list first
+unfoldable pub todo : List Step → Copy → Copy
+todo [] o = o
+todo (s ∷ l) o = after s (todo l o)
+
+-- what a step promises: what was to be done is what is still to be done; or nothing is read by it
+abbrev pub Steps : {E : Type 0} → (E → Type 0) → List Step → Copy → Result (Unit {0}) E → List Step → Written → Stream → Type 0
+Steps refusal old out (Ok x) new w ts = todo old out ≡ todo new (Reached w ts)
+Steps refusal old out (Err e) new w ts = refusal e → out ≡ Refused
+
+-- the same of a step that may begin with a guess
+abbrev pub Guessing : {E : Type 0} → (E → Type 0) → List Step → Copy → Result (Unit {0}) E → List Step → Written → Stream → Type 0
+Guessing refusal old out (Ok x) new w ts = Leads (todo old out) (todo new (Reached w ts))
+Guessing refusal old out (Err e) new w ts = refusal e → out ≡ Refused
+
+-- all was done, or nothing is read
+abbrev pub Runs : {E : Type 0} → (E → Type 0) → Copy → Result (Unit {0}) E → Written → Stream → Type 0
+Runs refusal out (Ok x) w ts = out ≡ Reached w ts
+Runs refusal out (Err e) w ts = refusal e → out ≡ Refused

@@ -1,0 +1,238 @@
+//! Deferred trees: trees that are kept as their tokens, and read when somebody opens them. A type may hold one that leads
+//! back to itself through its tree: nothing that is kept, read, copied, compared, printed or dropped knows the tree's type.
+ghost use Rattle.std.specs.Prelude.{◌≡◌, ◌↔◌, [], Some, IfOk, IfErr, OnOk, IsTrue};
+ghost use Rattle.syn_grammar.specs.Tokens.{end};
+ghost use Rattle.syn_grammar.specs.Grammar.{rule, Node, show, print, plain_syntax};
+ghost use Rattle.syn_grammar.specs.Run.{parse_rule};
+ghost use Rattle.syn_grammar.specs.Same.{same_syntax};
+ghost use Rattle.syn_grammar.specs.Promises.{Computes, Takes, itself};
+ghost use Rattle.syn_parse.specs.Form.{of};
+ghost use Rattle.syn_parse.specs.Refusals.{IsSyntax};
+ghost use Rattle.syn_parse.specs.declared.read.refusal.Refusal.TheVariants.{Memory};
+ghost use Rattle.syn_parse.specs.Meanings.{meaning_of_rule};
+ghost use Rattle.syn_tokens.specs.Faults.{IsSyntaxError};
+ghost use Rattle.syn_tokens.specs.Comparison.{same_by, same_equiv, same_per};
+ghost use Rattle.syn_recognize.specs.Copies.{least};
+ghost use Rattle.syn_recognize.specs.DeferredTokens.{kind_rule, read_as, IsDeferred, whole_only};
+ghost use Rattle.syn_recognize.specs.Names.{rule_of};
+ghost use Rattle.syn_recognize.specs.Printed.{ShowsAndPrints};
+
+use crate::literals::{is_lone_literal, read_literal};
+use crate::reading::{ShownAndPrinted, recognized_and_printed};
+use crate::rules::Rule;
+use std::alloc::{AllocError, Global};
+use std::marker::Model;
+use syn_parse::buffer::ParseBuffer;
+use syn_parse::read::Read;
+use syn_parse::read::refusal::{Parsed, Refusal};
+use syn_tokens::error::Result;
+use syn_tokens::print::{Print, ToTokens};
+use syn_tokens::stream::TokenStream;
+use syn_tokens::stream::builder::StreamBuilder;
+use syn_tokens::syntactic::Syntactic;
+use syn_tokens::syntactic::compare::Compared;
+use syn_tokens::syntactic::try_clone::TryClone;
+
+/// A type of the trees that a deferred one stands for. It may stand above all types that hold a deferred tree.
+pub trait TreeOf<const KIND: usize>: ToTokens + Drop {
+    ghost use Rattle.syn_grammar.specs.Grammar.{Node};
+    ghost use Rattle.syn_grammar.specs.Run.{parse_rule};
+    ghost use Rattle.syn_grammar.specs.Promises.{Computes};
+    ghost use Rattle.syn_parse.specs.Refusals.{IsSyntax};
+    ghost use Rattle.syn_recognize.specs.DeferredTokens.{kind_rule};
+
+    /// Reads a tree by the rule of constants, or of any expression. Refused for the input only where the rule computes nothing.
+    fn read_tree(input: &mut ParseBuffer<'_>) -> Parsed<Self>
+        ensures reads { Computes IsSyntax (λ tree. Node (Self.syntax tree)) (parse_rule (kind_rule KIND) input.old) result input.new };
+}
+
+/// Any expression as its tokens.
+pub type DeferredExpr = Deferred<0>;
+
+/// A constant as its tokens: a block, a literal, `true` or `false`.
+pub type DeferredConstant = Deferred<1>;
+
+/// A tree as its tokens, which are known to be one: of a constant, or of any expression.
+#[derive(Drop)]
+pub struct Deferred<const KIND: usize> {
+    /// What is shown of the tree, from which it is read.
+    shown: Box<TokenStream>,
+    printed: Box<TokenStream>,
+}
+
+impl<const KIND: usize> Model for Deferred<KIND> {
+    ghost use Rattle.syn_grammar.specs.Grammar.{Syntax};
+    ghost use Rattle.syn_grammar.specs.TreeCodes.{syntax_code};
+    ghost use Rattle.syn_recognize.specs.DeferredTokens.{kind_rule, read_as, IsDeferred};
+
+    ghost Value = { Syntax };
+
+    ghost coded = { syntax_code };
+
+    ghost view = { λ d. read_as (kind_rule KIND) d.shown.value };
+
+    ghost invariant = { λ d. IsDeferred (kind_rule KIND) d.shown.value d.printed.value };
+}
+
+impl<const KIND: usize> Syntactic for Deferred<KIND> {
+    ghost syntax = { itself };
+}
+
+impl<const KIND: usize> Deferred<KIND> {
+    /// These tokens: the kind's rule reads the shown ones as a whole, they are what is shown of what it reads, and the printed
+    /// ones are what is printed of it.
+    fn of(tokens: ShownAndPrinted, alloc: Global) -> std::result::Result<Deferred<KIND>, AllocError>
+        requires { IsDeferred (kind_rule KIND) tokens.shown tokens.printed }
+        ensures { IfOk result (λ deferred. deferred ≡ read_as (kind_rule KIND) tokens.shown) }
+    {
+        Ok(Deferred {
+            shown: Box::new(alloc, tokens.shown)?,
+            printed: Box::new(alloc, tokens.printed)?,
+        })
+    }
+
+    /// Its tokens as they are shown: all of them in their order, each mark's last character Alone. The tree is read from them.
+    pub fn source(&self) -> &TokenStream
+        ensures whole { parse_rule (kind_rule KIND) result.now ≡ Some (self.now, end) }
+        ensures shown { result.now ≡ show self.now }
+    {
+        &self.shown
+    }
+
+    /// Its tokens as they are printed: in lists in `< >` lifetimes stand first.
+    fn printed(&self) -> &TokenStream
+        ensures { result.now ≡ print self.now }
+    {
+        &self.printed
+    }
+
+    /// The tree that it stands for, spans included. Refused only where memory is, and where the tree's type reads no tree that is
+    /// nested so deep.
+    pub fn open<T: TreeOf<KIND>>(&self) -> Result<T>
+        ensures ok { IfOk result (λ tree. Node (T.syntax tree) ≡ self.now) }
+        ensures memory { IfErr result (λ e. e ≡ []) }
+    {
+        let mut input = ParseBuffer::new(self.source());
+        Ok(T::read_tree(&mut input)?)
+    }
+
+    /// A tree as what its print is read as. It is refused where its print is not read as a whole, and where memory is.
+    #[tactic(auto, using(syn_parse::proofs::Refused::refused_by_syntax))]
+    pub fn new<T: TreeOf<KIND>>(tree: &T, alloc: Global) -> Result<Deferred<KIND>>
+        ensures { Computes IsSyntaxError itself (whole_only (parse_rule (kind_rule KIND) (print (T.syntax tree.now)))) result end }
+    {
+        let stream = printed_tokens(tree, alloc)?;
+        let mut input = ParseBuffer::new(&stream);
+        Ok(read_deferred_rest(&mut input)?)
+    }
+}
+
+/// The print of a tree; refused only where memory is.
+fn printed_tokens<T: ToTokens>(tree: &T, alloc: Global) -> Parsed<TokenStream>
+    ensures print { IfOk result (λ stream. stream ≡ print (T.syntax tree.now)) }
+    ensures memory { IfErr result (λ e. e ≡ Memory) }
+{
+    let mut stream = TokenStream::new(alloc);
+    match tree.to_tokens(&mut stream) {
+        Ok(()) => Ok(stream),
+        Err(_memory) => Err(Refusal::Memory),
+    }
+}
+
+/// The rule by which such a tree is read.
+fn rule_of_kind(kind: usize) -> Rule
+    ensures { rule_of result ≡ kind_rule kind }
+{
+    match kind {
+        0 => Rule::WholeExpression,
+        _ => Rule::Constant,
+    }
+}
+
+/// Reads past a tree, and writes its tokens.
+#[tactic(auto, using(crate::proofs::LoneLiterals::lone_moved))]
+fn tokens_of<const KIND: usize>(input: &mut ParseBuffer<'_>) -> Parsed<ShownAndPrinted>
+    ensures reads { ShowsAndPrints IsSyntax (kind_rule KIND) input.old result input.new }
+    ensures moved { Takes (least (kind_rule KIND)) input.old result input.new }
+{
+    if is_lone_literal(KIND, input) {
+        return read_literal(input);
+    }
+    recognized_and_printed(rule_of_kind(KIND), input)
+}
+
+/// Reads a tree, and keeps its tokens alone.
+pub fn read_deferred<const KIND: usize>(input: &mut ParseBuffer<'_>) -> Parsed<Deferred<KIND>>
+    ensures reads { Computes IsSyntax itself (parse_rule (kind_rule KIND) input.old) result input.new }
+    ensures moved { Takes (least (kind_rule KIND)) input.old result input.new }
+{
+    let tokens = tokens_of::<KIND>(input)?;
+    Ok(Deferred::of(tokens, input.alloc())?)
+}
+
+/// Reads a tree that is all that is left of a group or stream, and keeps its tokens alone.
+pub fn read_deferred_rest<const KIND: usize>(input: &mut ParseBuffer<'_>) -> Parsed<Deferred<KIND>>
+    ensures reads { Computes IsSyntax itself (whole_only (parse_rule (kind_rule KIND) input.old)) result input.new }
+    ensures ended { OnOk result (input.new ≡ end) }
+    ensures moved { Takes (least (kind_rule KIND)) input.old result input.new }
+{
+    let tokens = tokens_of::<KIND>(input)?;
+    input.read_end()?;
+    Ok(Deferred::of(tokens, input.alloc())?)
+}
+
+impl<const KIND: usize> Print for Deferred<KIND> {
+    fn print_in(&self, out: &mut StreamBuilder) -> std::result::Result<(), AllocError> {
+        out.append(self.printed())
+    }
+}
+
+impl<const KIND: usize> ToTokens for Deferred<KIND> {}
+
+impl<const KIND: usize> TryClone for Deferred<KIND> {
+    fn try_clone(&self, alloc: Global) -> Result<Deferred<KIND>> {
+        let tokens = ShownAndPrinted {
+            shown: self.source().try_clone(alloc)?,
+            printed: self.printed().try_clone(alloc)?,
+        };
+        Ok(Deferred::of(tokens, alloc)?)
+    }
+}
+
+impl<const KIND: usize> Compared for Deferred<KIND> {
+    #[tactic(auto, using(crate::proofs::DeferredTokens::same_deferred))]
+    fn is_same(&self, other: &Deferred<KIND>) -> bool {
+        self.source() == other.source()
+    }
+}
+
+/// Two are equal exactly where their trees are once every span is 0 to 0: where their tokens are. It takes no memory.
+impl<const KIND: usize> PartialEq for Deferred<KIND> {
+    ghost eq = { same_by itself };
+
+    ghost laws = { same_per itself };
+
+    #[tactic(auto, using(syn_grammar::proofs::Same::same_syntax_plain))]
+    fn eq(&self, other: &Deferred<KIND>) -> bool
+        ensures same { result ≡ same_syntax self.now other.now }
+        ensures equal { IsTrue result ↔ (plain_syntax self.now ≡ plain_syntax other.now) }
+    {
+        self.is_same(other)
+    }
+}
+
+impl<const KIND: usize> Eq for Deferred<KIND> {
+    ghost laws = { same_equiv itself };
+}
+
+impl<const KIND: usize> Read for Deferred<KIND> {
+    ghost form = { of (rule (kind_rule KIND)) };
+
+    ghost takes = { least (kind_rule KIND) };
+
+    ghost meaning = { meaning_of_rule (kind_rule KIND) };
+
+    fn read(input: &mut ParseBuffer<'_>) -> Parsed<Deferred<KIND>> {
+        read_deferred(input)
+    }
+}

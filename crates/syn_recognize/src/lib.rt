@@ -1,0 +1,24 @@
+//! Reads past what a rule of the grammar reads, and writes its tokens, without building a tree; and trees that are kept as their tokens.
+#![tactic(auto)]
+
+pub mod deferred;
+pub mod expression_looks;
+pub mod field_numbers;
+mod form;
+mod late;
+mod literals;
+mod look;
+pub mod looks;
+mod quiet;
+mod reading;
+mod rows;
+mod rules;
+mod shape;
+mod step;
+mod steps;
+mod token;
+mod words;
+mod writer;
+
+pub use reading::{ShownAndPrinted, recognized_and_printed};
+pub use rules::Rule;

@@ -1,0 +1,49 @@
+//! Trees that are a literal alone, as most values in items are: they are known as such by the token behind the literal, and
+//! copied without the rules.
+ghost use Rattle.std.specs.Prelude.{◌≡◌};
+ghost use Rattle.syn_grammar.specs.Tokens.{leaf, end};
+ghost use Rattle.syn_grammar.specs.Promises.{OrMemory, Takes};
+ghost use Rattle.syn_tokens.specs.Leaves.{literal_leaf};
+ghost use Rattle.syn_tokens.specs.Spans.{at};
+ghost use Rattle.syn_parse.specs.Refusals.{IsSyntax};
+ghost use Rattle.syn_recognize.specs.LoneLiterals.{is_lone_literal, ShowsLiteral};
+
+use crate::reading::{ShownAndPrinted, copy_of};
+use std::alloc::Global;
+use syn_parse::buffer::ParseBuffer;
+use syn_parse::read::End;
+use syn_parse::read::refusal::{Parsed, Refusal};
+use syn_tokens::literal::Literal;
+use syn_tokens::stream::TokenStream;
+use syn_tokens::stream::tree::TokenTree;
+use syn_tokens::token::Comma;
+
+/// Whether a literal stands next that is the whole tree: any constant is, and an expression before a comma or the end.
+#[tactic(auto, unfolding(crate::specs::LoneLiterals::is_lone_literal))]
+pub(crate) fn is_lone_literal(kind: usize, input: &ParseBuffer<'_>) -> bool
+    ensures { result ≡ is_lone_literal kind input.now }
+{
+    input.peek::<Literal>() && (kind != 0 || input.peek2::<End>() || input.peek2::<Comma>())
+}
+
+/// Reads a literal.
+pub(crate) fn read_literal(input: &mut ParseBuffer<'_>) -> Parsed<ShownAndPrinted>
+    ensures reads { ShowsLiteral IsSyntax input.old result input.new }
+    ensures moved { Takes 1 input.old result input.new }
+{
+    let literal: Literal = input.read()?;
+    let shown = stream_of(literal, input.alloc())?;
+    let printed = copy_of(&shown)?;
+    Ok(ShownAndPrinted { shown, printed })
+}
+
+/// A literal as a stream.
+fn stream_of(literal: Literal, alloc: Global) -> Parsed<TokenStream>
+    ensures { OrMemory IsSyntax result (λ stream. stream ≡ leaf (literal_leaf literal) (at literal.span) end) }
+{
+    let mut stream = TokenStream::new(alloc);
+    match stream.push(TokenTree::Literal(literal)) {
+        Ok(()) => Ok(stream),
+        Err(_) => Err(Refusal::Memory),
+    }
+}

@@ -1,0 +1,196 @@
+//! Conditions on what stands next that no other conditions make up.
+ghost use Rattle.std.specs.Prelude.{◌≡◌, MatchOption, true, false, codes};
+ghost use Rattle.syn_grammar.specs.Promises.{OrMemory};
+ghost use Rattle.syn_grammar.specs.Take.{sees};
+ghost use Rattle.syn_grammar.specs.Table as table;
+ghost use Rattle.syn_grammar.specs.Tokens as grammar;
+ghost use Rattle.syn_grammar.specs.Tokens.{Int};
+ghost use Rattle.syn_parse.specs.Form.{by};
+ghost use Rattle.syn_parse.specs.Peeks.{past};
+ghost use Rattle.syn_parse.specs.Refusals.{IsSyntax};
+ghost use Rattle.syn_recognize.specs.FieldNumbers.{is_integer};
+
+use syn_parse::buffer::ParseBuffer;
+use syn_parse::read::Peek;
+use syn_parse::read::refusal::{Parsed, Refusal};
+use syn_tokens::ident::Ident;
+use syn_tokens::literal::{LitKind, Literal};
+use syn_tokens::token::{
+    Brace, Crate, Eq, Le, Lt, Ne, Not, Paren, PathSep, Pound, SelfType, SelfValue, Super,
+};
+
+/// Whether `#` stands next, and `!` behind it.
+#[tactic(auto, using(crate::proofs::InnerAttributes::inner_attribute_seen))]
+pub fn at_inner_attribute(input: &ParseBuffer<'_>) -> bool
+    ensures { result ≡ sees table.at_inner_attribute input.now }
+{
+    input.peek::<Pound>() && input.peek2::<Not>()
+}
+
+/// Whether `<` stands next, and not `<=`.
+#[tactic(auto, using(syn_grammar::proofs::Looks::sees_but))]
+fn at_less_only(input: &ParseBuffer<'_>) -> bool
+    ensures { result ≡ sees table.at_less_only input.now }
+{
+    input.peek::<Lt>() && !input.peek::<Le>()
+}
+
+/// Whether arguments of a word in a type's path stand next: `<` and not `<=`, a group in parentheses, or `::` with `<` behind it.
+#[tactic(auto, using(crate::proofs::TypeLooks::arguments_seen))]
+pub fn at_arguments(input: &ParseBuffer<'_>) -> bool
+    ensures { result ≡ sees table.at_arguments input.now }
+{
+    at_less_only(input) || input.peek::<Paren>() || (input.peek::<PathSep>() && input.peek3::<Lt>())
+}
+
+/// Whether an identifier stands next that is no keyword, and `=` behind it.
+#[tactic(auto, using(crate::proofs::TypeLooks::association_seen))]
+pub fn at_association(input: &ParseBuffer<'_>) -> bool
+    ensures { result ≡ sees table.at_association input.now }
+{
+    input.peek::<Ident>() && input.peek2::<Eq>()
+}
+
+/// Whether an integer stands next. Refused only where memory is.
+#[tactic(auto, using(crate::proofs::Integers::integer_seen, crate::proofs::Integers::no_literal_seen))]
+pub fn at_integer(input: &ParseBuffer<'_>) -> Parsed<bool>
+    ensures { OrMemory IsSyntax result (λ answer. answer ≡ sees (grammar.at_literal Int) input.now) }
+{
+    match input.fork().read::<Literal>() {
+        Ok(literal) => Ok(is_integer(&literal)),
+        Err(Refusal::Memory) => Err(Refusal::Memory),
+        Err(Refusal::Syntax { .. }) => Ok(false),
+    }
+}
+
+/// Whether a literal is an integer.
+fn is_integer(literal: &Literal) -> bool
+    ensures { result ≡ is_integer literal.now.kind }
+{
+    match literal.kind() {
+        LitKind::Str => false,
+        LitKind::ByteStr => false,
+        LitKind::CStr => false,
+        LitKind::Byte => false,
+        LitKind::Char => false,
+        LitKind::Int => true,
+        LitKind::Float => false,
+    }
+}
+
+/// Whether an identifier that is no keyword, `self`, `Self`, `super` or `crate` stands next.
+#[tactic(auto, using(syn_grammar::proofs::Looks::sees_or))]
+pub fn at_path_word(input: &ParseBuffer<'_>) -> bool
+    ensures { result ≡ sees grammar.at_path_word input.now }
+{
+    input.peek::<Ident>()
+        || input.peek::<SelfValue>()
+        || input.peek::<SelfType>()
+        || input.peek::<Super>()
+        || input.peek::<Crate>()
+}
+
+/// `!`, and not `!=`.
+struct Bang;
+
+impl Peek for Bang {
+    ghost look = { by table.at_bang };
+
+    ghost fault = { codes "expected `!`" };
+
+    fn peek(input: &ParseBuffer<'_>) -> bool {
+        at_bang(input)
+    }
+
+    fn expected() -> &'static str {
+        "expected `!`"
+    }
+}
+
+/// Whether `!` stands next, and not `!=`.
+#[tactic(auto, using(syn_grammar::proofs::Looks::sees_but))]
+pub fn at_bang(input: &ParseBuffer<'_>) -> bool
+    ensures { result ≡ sees table.at_bang input.now }
+{
+    input.peek::<Not>() && !input.peek::<Ne>()
+}
+
+/// Whether arguments of a word in an expression's path stand next: `::`, and `<` behind it.
+#[tactic(auto, using(crate::proofs::PathLooks::turbofish_seen))]
+pub fn at_turbofish(input: &ParseBuffer<'_>) -> bool
+    ensures { result ≡ sees table.at_turbofish input.now }
+{
+    input.peek::<PathSep>() && input.peek3::<Lt>()
+}
+
+/// Whether `crate` stands next, and `::` doesn't follow it.
+#[tactic(auto, using(crate::proofs::PathLooks::lone_crate_seen))]
+pub fn at_lone_crate(input: &ParseBuffer<'_>) -> bool
+    ensures { result ≡ sees table.at_lone_crate input.now }
+{
+    input.peek::<Crate>() && !input.peek2::<PathSep>()
+}
+
+/// Whether a path stands next where a pattern may stand: `::`, `<`, `Self`, `super`, `crate`, `self` before `::`, or an identifier
+/// that is no keyword before `::` or a group in parentheses.
+#[tactic(auto, using(crate::proofs::PathLooks::pattern_path_seen))]
+pub fn at_pattern_path(input: &ParseBuffer<'_>) -> bool
+    ensures { result ≡ sees table.at_pattern_path input.now }
+{
+    input.peek::<PathSep>()
+        || input.peek::<Lt>()
+        || input.peek::<SelfType>()
+        || input.peek::<Super>()
+        || input.peek::<Crate>()
+        || (input.peek::<SelfValue>() && input.peek2::<PathSep>())
+        || (input.peek::<Ident>() && (input.peek2::<PathSep>() || input.peek2::<Paren>()))
+}
+
+/// Whether a macro stands next: a path in module style, and a `!` that isn't `!=`. Refused only where memory is.
+pub fn at_macro(input: &ParseBuffer<'_>) -> Parsed<bool>
+    ensures { OrMemory IsSyntax result (λ answer. answer ≡ sees table.at_macro input.now) }
+{
+    match behind_path(input)? {
+        Some(_) => Ok(true),
+        None => Ok(false),
+    }
+}
+
+/// Whether a macro with a group in braces stands next. Refused only where memory is.
+pub fn at_brace_macro(input: &ParseBuffer<'_>) -> Parsed<bool>
+    ensures { OrMemory IsSyntax result (λ answer. answer ≡ sees table.at_brace_macro input.now) }
+{
+    match behind_path(input)? {
+        Some(bang) => Ok(bang.peek2::<Brace>()),
+        None => Ok(false),
+    }
+}
+
+/// Whether `crate` stands next as the whole path of a macro with a group in braces.
+#[tactic(auto, using(crate::proofs::PathLooks::crate_macro_seen))]
+pub fn at_crate_macro(input: &ParseBuffer<'_>) -> bool
+    ensures { result ≡ sees table.at_crate_macro input.now }
+{
+    at_lone_crate(input) && input.peek2::<Bang>() && input.peek3::<Brace>()
+}
+
+/// Where a macro stands next, what is left behind its path: its `!` and more.
+fn behind_path<'a>(input: &ParseBuffer<'a>) -> Parsed<Option<ParseBuffer<'a>>>
+    ensures { OrMemory IsSyntax result (λ found. MatchOption found
+        ((sees table.at_macro input.now ≡ false) × (sees table.at_brace_macro input.now ≡ false))
+        (λ bang. (sees table.at_macro input.now ≡ true) × (sees table.at_brace_macro input.now ≡ sees table.at_brace (past bang)))) }
+{
+    let mut ahead = input.fork();
+    let _leading: Option<PathSep> = ahead.read()?;
+    'words: while at_path_word(&ahead) {
+        let _word = ahead.read_path_word()?;
+        if at_bang(&ahead) {
+            return Ok(Some(ahead));
+        }
+        if !ahead.peek::<PathSep>() {
+            return Ok(None);
+        }
+        let _colons: PathSep = ahead.read()?;
+    }
+    Ok(None)
+}

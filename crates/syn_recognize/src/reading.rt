@@ -1,0 +1,82 @@
+//! Reads past what a rule reads, step by step, without recursion.
+ghost use Rattle.std.specs.Prelude.{◌≡◌};
+ghost use Rattle.syn_grammar.specs.Run.{parse_rule};
+ghost use Rattle.syn_grammar.specs.Promises.{Kept, OrMemory, Takes};
+ghost use Rattle.syn_parse.specs.Refusals.{IsSyntax};
+ghost use Rattle.syn_recognize.specs.Copies.{Reached, copied, least};
+ghost use Rattle.syn_recognize.specs.Names.{rule_of};
+ghost use Rattle.syn_recognize.specs.Steps.{Runs, todo};
+ghost use Rattle.syn_recognize.specs.Printed.{ShowsAndPrints};
+
+use crate::quiet::is_quiet;
+use crate::rules::{Rule, form_of};
+use crate::step::Step;
+use crate::steps::take;
+use crate::writer::Writer;
+use syn_parse::buffer::ParseBuffer;
+use syn_parse::read::refusal::{Parsed, Refusal};
+use syn_tokens::stream::TokenStream;
+
+/// Does all steps.
+#[tactic(auto, using(crate::proofs::Todo::push, crate::proofs::Todo::all_done, crate::proofs::Todo::refused))]
+fn run<'a>(steps: &mut Vec<Step<'a>>, out: &mut Writer, input: &mut ParseBuffer<'a>) -> Parsed<()>
+    ensures { Runs IsSyntax (todo steps.old.items (Reached out.old input.old)) result out.new input.new }
+{
+    'all: for _step in 0..u64::MAX {
+        let Some(step) = steps.pop() else {
+            return Ok(());
+        };
+        take(step, steps, out, input)?;
+    }
+    Err(Refusal::Memory)
+}
+
+/// These tokens once more. Refused only where memory is.
+pub(crate) fn copy_of(tokens: &TokenStream) -> Parsed<TokenStream>
+    ensures { OrMemory IsSyntax result (λ copy. copy ≡ tokens.now) }
+{
+    match tokens.try_clone(tokens.alloc()) {
+        Ok(copy) => Ok(copy),
+        Err(_) => Err(Refusal::Memory),
+    }
+}
+
+/// Reads the rule, and writes its tokens.
+#[tactic(auto, using(crate::proofs::Todo::push, crate::proofs::Todo::rule_left))]
+fn write_rule(rule: Rule, out: &mut Writer, input: &mut ParseBuffer<'_>) -> Parsed<()>
+    ensures { Runs IsSyntax (copied out.old (parse_rule (rule_of rule) input.old)) result out.new input.new }
+{
+    let mut steps = Vec::new(input.alloc());
+    steps.push(Step::Form(form_of(rule)))?;
+    run(&mut steps, out, input)
+}
+
+/// What was read: its tokens as they are shown, and as they are printed.
+#[derive(Drop)]
+pub struct ShownAndPrinted {
+    pub shown: TokenStream,
+    pub printed: TokenStream,
+}
+
+/// Reads what the rule reads: its tokens as they are shown, and as they are printed. Where a lifetime stands among them, all is read
+/// twice, since lists are printed with their lifetimes first. Refused, it says nothing of what is left.
+#[tactic(auto, using(crate::proofs::Shown::no_group_open, crate::proofs::Shown::not_read, crate::proofs::Shown::kept, crate::proofs::Shown::moved))]
+pub fn recognized_and_printed(rule: Rule, input: &mut ParseBuffer<'_>) -> Parsed<ShownAndPrinted>
+    ensures reads { ShowsAndPrints IsSyntax (rule_of rule) input.old result input.new }
+    ensures kept { Kept input.old result input.new }
+    ensures moved { Takes (least (rule_of rule)) input.old result input.new }
+{
+    let mut ahead = input.fork();
+    let mut out = Writer::showing(input.alloc());
+    write_rule(rule, &mut out, &mut ahead)?;
+    let (shown, late) = out.finish()?;
+    if is_quiet(&shown) {
+        let printed = copy_of(&shown)?;
+        input.advance_to(&ahead);
+        return Ok(ShownAndPrinted { shown, printed });
+    }
+    let mut out = Writer::printing(input.alloc(), late);
+    write_rule(rule, &mut out, input)?;
+    let (printed, _left) = out.finish()?;
+    Ok(ShownAndPrinted { shown, printed })
+}

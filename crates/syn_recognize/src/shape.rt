@@ -1,0 +1,49 @@
+//! Written by tools/recognizers.py; edits are lost.
+//!
+//! The shapes by which values are built. Reading asks for none of them.
+
+/// How the value of a form is built.
+#[derive(Clone, Copy)]
+pub enum Shape {
+    ALocal,
+    BehindIt(Variant),
+    Bracketed,
+    Chain,
+    Choice,
+    Dotted,
+    Labelled,
+    Leading,
+    Listed,
+    Lone,
+    Operand(Variant),
+    Operator(Variant),
+    Said,
+    SaidMacro,
+    Untagged,
+}
+
+/// A variant of expressions.
+#[derive(Clone, Copy)]
+pub enum Variant {
+    Assign,
+    Binary,
+    Block,
+    Break,
+    Call,
+    Cast,
+    Continue,
+    ForLoop,
+    Grouped,
+    If,
+    Index,
+    Lit,
+    Loop,
+    Macro,
+    Path,
+    Reference,
+    Return,
+    Try,
+    Unary,
+    Unsafe,
+    While,
+}

@@ -1,0 +1,163 @@
+//! Tokens as data, and how each is read and written.
+ghost use Rattle.std.specs.Prelude.{◌≡◌, ◌∷◌, []};
+ghost use Rattle.syn_grammar.specs.Words.{w_self, w_Self_type, w_super, w_crate};
+ghost use Rattle.syn_grammar.specs.Tokens.{one_of_texts};
+ghost use Rattle.syn_grammar.specs.Grammar.{name_or, index, is_index};
+ghost use Rattle.syn_grammar.specs.Take.{take_token};
+ghost use Rattle.syn_parse.specs.Form.{parse};
+ghost use Rattle.syn_parse.specs.Refusals.{IsSyntax};
+ghost use Rattle.syn_recognize.specs.Copies.{Copies};
+ghost use Rattle.syn_recognize.specs.Forms.{kind_of};
+ghost use Rattle.syn_recognize.specs.Leaves.{token_is_leaf, lifetime_is_leaf, mark_is_leaf};
+
+use crate::field_numbers::field_number;
+use crate::words::{Word, copy_word};
+use crate::writer::Writer;
+use syn_parse::buffer::ParseBuffer;
+use syn_parse::read::refusal::Parsed;
+use syn_parse::read::{Read, ReadMark};
+use syn_tokens::ident::Ident;
+use syn_tokens::lifetime::Lifetime;
+use syn_tokens::literal::{LitKind, Literal};
+use syn_tokens::print::Print;
+use syn_tokens::token;
+use syn_tokens::token::WordKind;
+
+/// A token that is no mark.
+#[derive(Clone, Copy)]
+pub enum Token {
+    /// An identifier that is no keyword.
+    Name,
+    /// The same, or `self`, `Self`, `super` or `crate`.
+    PathWord,
+    /// The same, or `Self`.
+    NameOrSelfType,
+    /// The same, or `self`, `super` or `crate`.
+    NameOrPathStart,
+    Word(Word),
+    Literal,
+    /// The number of a field.
+    Index,
+}
+
+/// What is read as a token, and printed as it is shown.
+pub(crate) trait Leaf: Read + Print + Drop {
+    ghost use Rattle.std.specs.Prelude.{◌≡◌, Some};
+    ghost use Rattle.syn_grammar.specs.Tokens.{Stream};
+    ghost use Rattle.syn_parse.specs.Form.{parse};
+    ghost use Rattle.syn_recognize.specs.Trailing.{IsLeaf};
+
+    ghost leaf: { (ts r : Stream) (x : Self) → parse Self.form ts ≡ Some (Self.syntax x, r) → IsLeaf (Self.syntax x) };
+}
+
+impl Leaf for Ident {
+    ghost leaf = { λ ts r x e. token_is_leaf _ _ };
+}
+
+impl Leaf for Literal {
+    ghost leaf = { λ ts r x e. token_is_leaf _ _ };
+}
+
+impl Leaf for Lifetime {
+    ghost leaf = { λ ts r x e. lifetime_is_leaf _ _ _ };
+}
+
+impl<K: WordKind> Leaf for token::Word<K> {
+    ghost leaf = { λ ts r x e. token_is_leaf _ _ };
+}
+
+impl<K: ReadMark<N>, const N: usize> Leaf for token::Mark<K, N> {
+    ghost leaf = { λ ts r x e. mark_is_leaf K.text ts r _ e };
+}
+
+/// Reads and writes a `T`.
+pub(crate) fn copy<T: Leaf>(out: &mut Writer, input: &mut ParseBuffer<'_>) -> Parsed<()>
+    ensures { Copies IsSyntax out.old (parse T.form input.old) result out.new input.new }
+{
+    let token: T = input.read()?;
+    out.write(&token)?;
+    Ok(())
+}
+
+/// Reads and writes a token.
+pub(crate) fn copy_token(token: Token, out: &mut Writer, input: &mut ParseBuffer<'_>) -> Parsed<()>
+    ensures { Copies IsSyntax out.old (take_token (kind_of token) input.old) result out.new input.new }
+{
+    match token {
+        Token::Name => copy::<Ident>(out, input),
+        Token::PathWord => copy_path_word(out, input),
+        Token::NameOrSelfType => copy_name_or_self_type(out, input),
+        Token::NameOrPathStart => copy_name_or_path_start(out, input),
+        Token::Word(word) => copy_word(word, out, input),
+        Token::Literal => copy::<Literal>(out, input),
+        Token::Index => copy_index(out, input),
+    }
+}
+
+/// An identifier that is no keyword, or one of the keywords of paths.
+#[tactic(auto, using(crate::specs::Leaves::token_is_leaf))]
+fn copy_path_word(out: &mut Writer, input: &mut ParseBuffer<'_>) -> Parsed<()>
+    ensures { Copies IsSyntax out.old (take_token (name_or (w_self ∷ w_Self_type ∷ w_super ∷ w_crate ∷ [])) input.old) result out.new input.new }
+{
+    let ident = input.read_path_word()?;
+    out.write(&ident)?;
+    Ok(())
+}
+
+/// An identifier that is no keyword, or `Self`.
+#[tactic(auto, using(crate::specs::Leaves::token_is_leaf, crate::proofs::Names::name_or_read, crate::proofs::Names::name_or_refused, crate::proofs::Names::no_name_or))]
+fn copy_name_or_self_type(out: &mut Writer, input: &mut ParseBuffer<'_>) -> Parsed<()>
+    ensures { Copies IsSyntax out.old (take_token (name_or (w_Self_type ∷ [])) input.old) result out.new input.new }
+{
+    let refusal = input.refusal("expected identifier");
+    let ident = input.read_identifier()?;
+    if ident.is_keyword() && !is_self_type(&ident) {
+        return Err(refusal);
+    }
+    out.write(&ident)?;
+    Ok(())
+}
+
+/// An identifier that is no keyword, or `self`, `super` or `crate`.
+#[tactic(auto, using(crate::specs::Leaves::token_is_leaf, crate::proofs::Names::name_or_read, crate::proofs::Names::name_or_refused, crate::proofs::Names::no_name_or))]
+fn copy_name_or_path_start(out: &mut Writer, input: &mut ParseBuffer<'_>) -> Parsed<()>
+    ensures { Copies IsSyntax out.old (take_token (name_or (w_self ∷ w_super ∷ w_crate ∷ [])) input.old) result out.new input.new }
+{
+    let refusal = input.refusal("expected identifier");
+    let ident = input.read_identifier()?;
+    if ident.is_keyword() && !is_path_start(&ident) {
+        return Err(refusal);
+    }
+    out.write(&ident)?;
+    Ok(())
+}
+
+/// Whether it is `Self`.
+fn is_self_type(ident: &Ident) -> bool
+    ensures { result ≡ one_of_texts ident.now.text (w_Self_type ∷ []) }
+{
+    ident.is("Self")
+}
+
+/// Whether it is a keyword that a path may begin with alone.
+fn is_path_start(ident: &Ident) -> bool
+    ensures { result ≡ one_of_texts ident.now.text (w_self ∷ w_super ∷ w_crate ∷ []) }
+{
+    ident.is("self") || ident.is("super") || ident.is("crate")
+}
+
+/// The number of a field: decimal digits without a leading zero, of at most 2^32 - 1.
+#[tactic(auto, using(crate::specs::Leaves::token_is_leaf, crate::proofs::Numbers::index_taken, crate::proofs::Numbers::no_index_taken, crate::proofs::Numbers::no_integer_taken, crate::proofs::Numbers::no_literal_taken))]
+fn copy_index(out: &mut Writer, input: &mut ParseBuffer<'_>) -> Parsed<()>
+    ensures { Copies IsSyntax out.old (take_token index input.old) result out.new input.new }
+{
+    let refusal = input.refusal("expected unsuffixed integer");
+    let literal: Literal = input.read()?;
+    if literal.kind() != LitKind::Int {
+        return Err(refusal);
+    }
+    match field_number(literal.text()) {
+        Some(_) => Ok(out.write(&literal)?),
+        None => Err(refusal),
+    }
+}

@@ -1,0 +1,232 @@
+//! Written by tools/recognizers.py; edits are lost.
+//!
+//! Words and marks as data.
+ghost use Rattle.std.specs.Prelude.{◌≡◌};
+ghost use Rattle.syn_grammar.specs.Tokens as grammar;
+ghost use Rattle.syn_grammar.specs.Grammar.{word};
+ghost use Rattle.syn_grammar.specs.Take.{sees, take_token, take_mark};
+ghost use Rattle.syn_parse.specs.Refusals.{IsSyntax};
+ghost use Rattle.syn_recognize.specs.Copies.{Copies};
+ghost use Rattle.syn_recognize.specs.Names.{word_text, mark_text};
+
+use crate::token::copy;
+use crate::writer::Writer;
+use syn_parse::buffer::ParseBuffer;
+use syn_parse::read::refusal::Parsed;
+use syn_tokens::token;
+
+/// A word.
+#[derive(Clone, Copy)]
+pub enum Word {
+    As,
+    Break,
+    Const,
+    Continue,
+    Else,
+    False,
+    For,
+    If,
+    In,
+    Let,
+    Loop,
+    Mut,
+    Ref,
+    Return,
+    SelfType,
+    True,
+    Underscore,
+    Unsafe,
+    While,
+}
+
+/// A mark.
+#[derive(Clone, Copy)]
+pub enum Mark {
+    And,
+    AndAnd,
+    AndEq,
+    Caret,
+    CaretEq,
+    Colon,
+    Comma,
+    Dot,
+    DotDot,
+    Eq,
+    EqEq,
+    Ge,
+    Gt,
+    Le,
+    Lt,
+    Minus,
+    MinusEq,
+    Ne,
+    Not,
+    Or,
+    OrEq,
+    OrOr,
+    PathSep,
+    Percent,
+    PercentEq,
+    Plus,
+    PlusEq,
+    Pound,
+    Question,
+    RArrow,
+    Semi,
+    Shl,
+    ShlEq,
+    Shr,
+    ShrEq,
+    Slash,
+    SlashEq,
+    Star,
+    StarEq,
+}
+
+/// Whether this word stands next.
+pub(crate) fn at_word(word: Word, input: &ParseBuffer<'_>) -> bool
+    ensures { result ≡ sees (grammar.at_word (word_text word)) input.now }
+{
+    match word {
+        Word::As => input.peek::<token::As>(),
+        Word::Break => input.peek::<token::Break>(),
+        Word::Const => input.peek::<token::Const>(),
+        Word::Continue => input.peek::<token::Continue>(),
+        Word::Else => input.peek::<token::Else>(),
+        Word::False => input.peek::<token::False>(),
+        Word::For => input.peek::<token::For>(),
+        Word::If => input.peek::<token::If>(),
+        Word::In => input.peek::<token::In>(),
+        Word::Let => input.peek::<token::Let>(),
+        Word::Loop => input.peek::<token::Loop>(),
+        Word::Mut => input.peek::<token::Mut>(),
+        Word::Ref => input.peek::<token::Ref>(),
+        Word::Return => input.peek::<token::Return>(),
+        Word::SelfType => input.peek::<token::SelfType>(),
+        Word::True => input.peek::<token::True>(),
+        Word::Underscore => input.peek::<token::Underscore>(),
+        Word::Unsafe => input.peek::<token::Unsafe>(),
+        Word::While => input.peek::<token::While>(),
+    }
+}
+
+/// Whether this mark stands next.
+pub(crate) fn at_mark(mark: Mark, input: &ParseBuffer<'_>) -> bool
+    ensures { result ≡ sees (grammar.at_mark (mark_text mark)) input.now }
+{
+    match mark {
+        Mark::And => input.peek::<token::And>(),
+        Mark::AndAnd => input.peek::<token::AndAnd>(),
+        Mark::AndEq => input.peek::<token::AndEq>(),
+        Mark::Caret => input.peek::<token::Caret>(),
+        Mark::CaretEq => input.peek::<token::CaretEq>(),
+        Mark::Colon => input.peek::<token::Colon>(),
+        Mark::Comma => input.peek::<token::Comma>(),
+        Mark::Dot => input.peek::<token::Dot>(),
+        Mark::DotDot => input.peek::<token::DotDot>(),
+        Mark::Eq => input.peek::<token::Eq>(),
+        Mark::EqEq => input.peek::<token::EqEq>(),
+        Mark::Ge => input.peek::<token::Ge>(),
+        Mark::Gt => input.peek::<token::Gt>(),
+        Mark::Le => input.peek::<token::Le>(),
+        Mark::Lt => input.peek::<token::Lt>(),
+        Mark::Minus => input.peek::<token::Minus>(),
+        Mark::MinusEq => input.peek::<token::MinusEq>(),
+        Mark::Ne => input.peek::<token::Ne>(),
+        Mark::Not => input.peek::<token::Not>(),
+        Mark::Or => input.peek::<token::Or>(),
+        Mark::OrEq => input.peek::<token::OrEq>(),
+        Mark::OrOr => input.peek::<token::OrOr>(),
+        Mark::PathSep => input.peek::<token::PathSep>(),
+        Mark::Percent => input.peek::<token::Percent>(),
+        Mark::PercentEq => input.peek::<token::PercentEq>(),
+        Mark::Plus => input.peek::<token::Plus>(),
+        Mark::PlusEq => input.peek::<token::PlusEq>(),
+        Mark::Pound => input.peek::<token::Pound>(),
+        Mark::Question => input.peek::<token::Question>(),
+        Mark::RArrow => input.peek::<token::RArrow>(),
+        Mark::Semi => input.peek::<token::Semi>(),
+        Mark::Shl => input.peek::<token::Shl>(),
+        Mark::ShlEq => input.peek::<token::ShlEq>(),
+        Mark::Shr => input.peek::<token::Shr>(),
+        Mark::ShrEq => input.peek::<token::ShrEq>(),
+        Mark::Slash => input.peek::<token::Slash>(),
+        Mark::SlashEq => input.peek::<token::SlashEq>(),
+        Mark::Star => input.peek::<token::Star>(),
+        Mark::StarEq => input.peek::<token::StarEq>(),
+    }
+}
+
+/// Reads and writes this word.
+pub(crate) fn copy_word(it: Word, out: &mut Writer, input: &mut ParseBuffer<'_>) -> Parsed<()>
+    ensures { Copies IsSyntax out.old (take_token (word (word_text it)) input.old) result out.new input.new }
+{
+    match it {
+        Word::As => copy::<token::As>(out, input),
+        Word::Break => copy::<token::Break>(out, input),
+        Word::Const => copy::<token::Const>(out, input),
+        Word::Continue => copy::<token::Continue>(out, input),
+        Word::Else => copy::<token::Else>(out, input),
+        Word::False => copy::<token::False>(out, input),
+        Word::For => copy::<token::For>(out, input),
+        Word::If => copy::<token::If>(out, input),
+        Word::In => copy::<token::In>(out, input),
+        Word::Let => copy::<token::Let>(out, input),
+        Word::Loop => copy::<token::Loop>(out, input),
+        Word::Mut => copy::<token::Mut>(out, input),
+        Word::Ref => copy::<token::Ref>(out, input),
+        Word::Return => copy::<token::Return>(out, input),
+        Word::SelfType => copy::<token::SelfType>(out, input),
+        Word::True => copy::<token::True>(out, input),
+        Word::Underscore => copy::<token::Underscore>(out, input),
+        Word::Unsafe => copy::<token::Unsafe>(out, input),
+        Word::While => copy::<token::While>(out, input),
+    }
+}
+
+/// Reads and writes this mark.
+pub(crate) fn copy_mark(mark: Mark, out: &mut Writer, input: &mut ParseBuffer<'_>) -> Parsed<()>
+    ensures { Copies IsSyntax out.old (take_mark (mark_text mark) input.old) result out.new input.new }
+{
+    match mark {
+        Mark::And => copy::<token::And>(out, input),
+        Mark::AndAnd => copy::<token::AndAnd>(out, input),
+        Mark::AndEq => copy::<token::AndEq>(out, input),
+        Mark::Caret => copy::<token::Caret>(out, input),
+        Mark::CaretEq => copy::<token::CaretEq>(out, input),
+        Mark::Colon => copy::<token::Colon>(out, input),
+        Mark::Comma => copy::<token::Comma>(out, input),
+        Mark::Dot => copy::<token::Dot>(out, input),
+        Mark::DotDot => copy::<token::DotDot>(out, input),
+        Mark::Eq => copy::<token::Eq>(out, input),
+        Mark::EqEq => copy::<token::EqEq>(out, input),
+        Mark::Ge => copy::<token::Ge>(out, input),
+        Mark::Gt => copy::<token::Gt>(out, input),
+        Mark::Le => copy::<token::Le>(out, input),
+        Mark::Lt => copy::<token::Lt>(out, input),
+        Mark::Minus => copy::<token::Minus>(out, input),
+        Mark::MinusEq => copy::<token::MinusEq>(out, input),
+        Mark::Ne => copy::<token::Ne>(out, input),
+        Mark::Not => copy::<token::Not>(out, input),
+        Mark::Or => copy::<token::Or>(out, input),
+        Mark::OrEq => copy::<token::OrEq>(out, input),
+        Mark::OrOr => copy::<token::OrOr>(out, input),
+        Mark::PathSep => copy::<token::PathSep>(out, input),
+        Mark::Percent => copy::<token::Percent>(out, input),
+        Mark::PercentEq => copy::<token::PercentEq>(out, input),
+        Mark::Plus => copy::<token::Plus>(out, input),
+        Mark::PlusEq => copy::<token::PlusEq>(out, input),
+        Mark::Pound => copy::<token::Pound>(out, input),
+        Mark::Question => copy::<token::Question>(out, input),
+        Mark::RArrow => copy::<token::RArrow>(out, input),
+        Mark::Semi => copy::<token::Semi>(out, input),
+        Mark::Shl => copy::<token::Shl>(out, input),
+        Mark::ShlEq => copy::<token::ShlEq>(out, input),
+        Mark::Shr => copy::<token::Shr>(out, input),
+        Mark::ShrEq => copy::<token::ShrEq>(out, input),
+        Mark::Slash => copy::<token::Slash>(out, input),
+        Mark::SlashEq => copy::<token::SlashEq>(out, input),
+        Mark::Star => copy::<token::Star>(out, input),
+        Mark::StarEq => copy::<token::StarEq>(out, input),
+    }
+}

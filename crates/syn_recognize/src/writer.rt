@@ -1,0 +1,212 @@
+//! What is written.
+ghost use Rattle.std.specs.Prelude.{◌≡◌, [], true, false, OnOk};
+ghost use Rattle.syn_tokens.specs.Spans.{at};
+ghost use Rattle.syn_tokens.specs.Delimiters.{delimiter_of};
+ghost use Rattle.syn_recognize.specs.PrintedRows.{way};
+ghost use Rattle.syn_recognize.specs.Written.{adds, enters, leaves, blank};
+ghost use Rattle.syn_grammar.specs.Promises.{OrMemory};
+ghost use Rattle.syn_parse.specs.Refusals.{IsSyntax};
+ghost use Rattle.syn_tokens.specs.Cursors.{before_next};
+ghost use Rattle.syn_recognize.specs.Trailing.{ends_by, is_brace, is_brace_group, IsLeaf};
+
+use crate::late::LateLifetime;
+use std::alloc::{AllocError, Global};
+use std::collections::VecDeque;
+use std::marker::Model;
+use syn_parse::read::refusal::{Parsed, Refusal};
+use syn_tokens::delimiter::Delimiter;
+use syn_tokens::print::Print;
+use syn_tokens::span::Span;
+use syn_tokens::stream::TokenStream;
+use syn_tokens::stream::builder::StreamBuilder;
+use syn_tokens::stream::cursor::TokenTreeRef;
+
+/// The tokens that were written, and whether the last tree of them, in the innermost open group, is a group in braces.
+#[derive(Drop)]
+pub(crate) struct Writer {
+    out: StreamBuilder,
+    braces: bool,
+    /// Whether lists are written with their lifetimes first.
+    printing: bool,
+    /// Of each list in `< >` that has some other member: the lifetimes behind its first other member. The lists stand in the order
+    /// of these members. Where nothing is printed they are noted here; printing takes them away from the front.
+    late: VecDeque<Vec<LateLifetime>>,
+}
+
+impl Model for Writer {
+    ghost use Rattle.std.specs.Prelude.{◌≡◌, false};
+    ghost use Rattle.syn_recognize.specs.Written.{Written, coded_written};
+    ghost use Rattle.syn_recognize.specs.Trailing.{ends_by};
+
+    ghost Value = { Written };
+
+    ghost coded = { coded_written };
+
+    ghost view = { λ w. record { printing = w.printing; out = w.out } };
+
+    ghost invariant = { λ w. w.braces ≡ ends_by false w.out.stream };
+}
+
+impl Writer {
+    /// Nothing was written yet; trees are written as they are shown. What grows takes its memory from `alloc`.
+    pub(crate) fn showing(alloc: Global) -> Writer
+        ensures { result ≡ blank false }
+    {
+        Writer {
+            out: StreamBuilder::new(alloc),
+            braces: false,
+            printing: false,
+            late: VecDeque::new(alloc),
+        }
+    }
+
+    /// Nothing was written yet; trees are written as they are printed, with these late lifetimes of lists.
+    pub(crate) fn printing(alloc: Global, late: VecDeque<Vec<LateLifetime>>) -> Writer
+        ensures { result ≡ blank true }
+    {
+        Writer {
+            out: StreamBuilder::new(alloc),
+            braces: false,
+            printing: true,
+            late,
+        }
+    }
+
+    /// Whether lists are written with their lifetimes first.
+    pub(crate) fn is_printing(&self) -> bool
+        ensures { result ≡ self.now.printing }
+    {
+        self.printing
+    }
+
+    /// One more list has another member than lifetimes: its number.
+    pub(crate) fn begin_list(&mut self) -> Result<usize, AllocError>
+        ensures { self.new ≡ self.old }
+    {
+        let number = self.late.len();
+        self.late.push_back(Vec::new(self.out.alloc()))?;
+        Ok(number)
+    }
+
+    /// Notes a late lifetime of the list of this number.
+    pub(crate) fn note(&mut self, list: usize, late: LateLifetime) -> Result<(), AllocError>
+        ensures { self.new ≡ self.old }
+    {
+        match self.late.get_mut(list) {
+            Some(noted) => Ok(noted.push(late)?),
+            None => Ok(()),
+        }
+    }
+
+    /// What was noted of the next list.
+    pub(crate) fn noted(&mut self) -> Vec<LateLifetime>
+        ensures { self.new ≡ self.old }
+    {
+        match self.late.pop_front() {
+            Some(noted) => noted,
+            None => Vec::new(self.out.alloc()),
+        }
+    }
+
+    /// Writes a token; refused, all that was written is lost.
+    #[tactic(auto, using(crate::proofs::Trailing::leaf_ends, crate::proofs::Writes::leaf_is))]
+    pub(crate) fn write<T: Print>(&mut self, token: &T) -> Result<(), AllocError>
+        requires { IsLeaf (T.syntax token.now) }
+        ensures { OnOk result (self.new ≡ adds self.old (way self.old.printing (T.syntax token.now))) }
+    {
+        if token.print_in(&mut self.out).is_err() {
+            self.out = StreamBuilder::new(self.out.alloc());
+            self.braces = false;
+            return Err(AllocError);
+        }
+        self.braces = false;
+        Ok(())
+    }
+
+    /// Writes these token trees, as they are; refused, it leaves all as it was.
+    #[tactic(auto, using(crate::proofs::Trailing::trees_end, crate::proofs::Writes::adds_is))]
+    pub(crate) fn append(&mut self, tokens: &TokenStream) -> Result<(), AllocError>
+        ensures { OnOk result (self.new ≡ adds self.old tokens.now) }
+    {
+        self.out.append(tokens)?;
+        self.braces = ends_with_braces(self.braces, tokens);
+        Ok(())
+    }
+
+    /// Goes into a group; refused, it leaves all as it was.
+    #[tactic(auto, using(syn_tokens::proofs::Prints::opened_group, crate::proofs::Writes::enters_is))]
+    pub(crate) fn open(&mut self, delimiter: Delimiter, opening: Span) -> Result<(), AllocError>
+        ensures { OnOk result (self.new ≡ enters (delimiter_of delimiter) (at opening) self.old) }
+    {
+        self.out.open(delimiter, opening)?;
+        self.braces = false;
+        Ok(())
+    }
+
+    /// Goes out of the innermost open group, which has these delimiters; refused, it leaves all as it was.
+    #[tactic(auto, using(crate::proofs::Trailing::group_closed, crate::proofs::Trailing::group_ends, crate::proofs::Writes::leaves_is))]
+    pub(crate) fn close(&mut self, delimiter: Delimiter, closing: Span) -> Result<(), AllocError>
+        ensures { OnOk result (self.new ≡ leaves (at closing) self.old) }
+    {
+        if self.out.close(delimiter, closing).is_err() {
+            return Err(AllocError);
+        }
+        self.braces = is_brace(delimiter);
+        Ok(())
+    }
+
+    /// Whether a group in braces was written last, in the innermost open group.
+    pub(crate) fn ends_with_braces(&self) -> bool
+        ensures { result ≡ ends_by false self.now.out.stream }
+    {
+        self.braces
+    }
+
+    /// What was written, where no group is open any more, and what was noted.
+    pub(crate) fn finish(self) -> Parsed<(TokenStream, VecDeque<Vec<LateLifetime>>)>
+        requires { self.out.open_groups ≡ [] }
+        ensures { OrMemory IsSyntax result (λ done. done.0 ≡ self.out.stream) }
+    {
+        match self.out.finish() {
+            Ok(stream) => Ok((stream, self.late)),
+            Err(_) => Err(Refusal::Memory),
+        }
+    }
+}
+
+/// Whether these are braces.
+fn is_brace(delimiter: Delimiter) -> bool
+    ensures { result ≡ is_brace (delimiter_of delimiter) }
+{
+    match delimiter {
+        Delimiter::Paren => false,
+        Delimiter::Brace => true,
+        Delimiter::Bracket => false,
+        Delimiter::None => false,
+    }
+}
+
+/// Whether the last of these token trees is a group in braces; where there is none, what was before them tells.
+fn ends_with_braces(before: bool, tokens: &TokenStream) -> bool
+    ensures { result ≡ ends_by before tokens.now }
+{
+    let mut rest = tokens.cursor();
+    let mut braces = before;
+    'trees: while let Some((tree, behind)) = rest.split() {
+        braces = is_in_braces(&tree);
+        rest = behind;
+    }
+    braces
+}
+
+/// Whether a token tree is a group in braces.
+fn is_in_braces(tree: &TokenTreeRef<'_>) -> bool
+    ensures { result ≡ is_brace_group tree.now }
+{
+    match tree {
+        TokenTreeRef::Ident(_) => false,
+        TokenTreeRef::Literal(_) => false,
+        TokenTreeRef::Punct(_) => false,
+        TokenTreeRef::Group(group) => is_brace(group.delimiter),
+    }
+}

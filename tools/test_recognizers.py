@@ -1,0 +1,83 @@
+#!/usr/bin/env python3
+"""Tests of recognizers.py. Run it with no arguments."""
+import shutil
+import subprocess
+import sys
+import tempfile
+import unittest
+from pathlib import Path
+
+from recognizers import ASKED, Writer, camel, rules_in
+
+HERE = Path(__file__).resolve().parent
+TOP = HERE.parent
+
+
+def check(folder):
+    found = subprocess.run([sys.executable, HERE / 'recognizers.py', '--check'], cwd=folder, capture_output=True, text=True)
+    return found.returncode, found.stderr
+
+
+class Recognizers(unittest.TestCase):
+    @classmethod
+    def setUpClass(cls):
+        cls.writer = Writer()
+
+    def copy(self):
+        """The crates that the script reads and writes, in a folder of their own."""
+        folder = tempfile.TemporaryDirectory()
+        self.addCleanup(folder.cleanup)
+        for name in ('syn_grammar', 'syn_recognize'):
+            shutil.copytree(TOP / 'crates' / name, Path(folder.name) / 'crates' / name, ignore=shutil.ignore_patterns('out'))
+        return Path(folder.name)
+
+    def test_all_rules_that_are_led_to_are_data(self):
+        rules = self.writer.rules()
+        self.assertLessEqual({*ASKED}, {*rules})
+        for rule in rules:
+            self.assertLessEqual({*rules_in(self.writer.source.table[rule])}, {*rules}, rule)
+        self.assertNotIn('derive_input', rules)
+
+    def test_rules_stand_in_the_order_of_the_table(self):
+        rules = self.writer.rules()
+        self.assertEqual(rules, sorted(rules, key=self.writer.source.rules.index))
+
+    def test_looks_as_data(self):
+        self.assertEqual(self.writer.look(('ended',)), 'Look::Ended')
+        self.assertEqual(self.writer.look(('at_literal', ('Int',))), 'Look::Integer')
+        both = self.writer.look(('or_else', ('ended',), ('at_name',)))
+        self.assertEqual(both, 'Look::Or(&Look::Ended, &Look::Name)')
+
+    def test_a_look_without_data_is_a_fault(self):
+        with self.assertRaisesRegex(ValueError, 'no data for the look'):
+            self.writer.look(('ahead', ('Before_end',)))
+
+    def test_names(self):
+        self.assertEqual(camel('whole_expression'), 'WholeExpression')
+
+    def test_what_stands_is_what_would_be_written(self):
+        self.assertEqual(check(self.copy()), (0, ''))
+
+    def told_of_change(self, name, old, new):
+        """What the script says of a copy in which this text of a file is changed."""
+        folder = self.copy()
+        file = folder / name
+        text = file.read_text()
+        self.assertIn(old, text)
+        file.write_text(text.replace(old, new))
+        return check(folder)
+
+    def test_a_changed_file_is_told(self):
+        status, said = self.told_of_change('crates/syn_recognize/src/rules/types.rt', 'Mark::Semi', 'Mark::Comma')
+        self.assertEqual(status, 1)
+        self.assertIn("src/rules/types.rt isn't as tools/recognizers.py writes it", said)
+
+    def test_a_changed_table_is_told(self):
+        length = 'semicolon & rule whole_expression else empty))'
+        status, said = self.told_of_change('crates/syn_grammar/specs/Table.antt', f'punctuation {length}', f'punctuation comma & punctuation {length}')
+        self.assertEqual(status, 1)
+        self.assertIn('src/rules/types.rt', said)
+
+
+if __name__ == '__main__':
+    unittest.main()
