@@ -31,8 +31,8 @@ PROGRAM = "check_rows"
 
 CRATES = Path(__file__).resolve().parent.parent / "crates"
 TEST = re.compile(r"test (\S+) \.\.\. (ok|FAILED)$")
-# how a test ends that hands on an error of memory: an `Error` without faults, or std's own
-WANT_OF_MEMORY = re.compile(r"[Ee]rror: (Error \{.*count: 0 \}|.*AllocError.*|AllocFailed .*|.*OutOfMemory.*)$")
+# how a test ends that hands on an error of memory, or expects an answer and has one: an `Error` without faults, or std's own
+WANT_OF_MEMORY = re.compile(r"([Ee]rror|an answer): (Error \{.*count: 0 \}|.*AllocError.*|AllocFailed .*|.*OutOfMemory.*)$")
 
 
 def run(crate, number):

@@ -7,10 +7,10 @@ use crate::failure::Failure;
 use crate::question::TreeQuestion;
 use crate::row::Row;
 use std::alloc::Global;
-use syn::Result;
 use syn::parse::ParseBuffer;
 use syn::reader::{read_tokens, token_text};
 use syn::token::TokenStream;
+use syn::{Error, Result, Span, TryClone};
 use syn_test_support::fault;
 
 /// What comes of the row by this call.
@@ -43,8 +43,23 @@ fn shown<C: Call>(alloc: Global, text: &str) -> Result<String> {
 
 fn printed<C: Call>(alloc: Global, text: &str) -> Result<String> {
     let tree = read::<C>(alloc, text)?;
+    printed_twice::<C>(alloc, &tree)
+}
+
+/// What the tree prints. It is refused where the tree's copy prints something else.
+fn printed_twice<C: Call>(alloc: Global, tree: &C::Tree) -> Result<String> {
+    let copy = tree.try_clone(alloc)?;
+    let text = tree_printed::<C>(alloc, tree)?;
+    if tree_printed::<C>(alloc, &copy)?.as_str() == text.as_str() {
+        Ok(text)
+    } else {
+        Err(Error::new(Span::call_site(), "its copy prints something else"))
+    }
+}
+
+fn tree_printed<C: Call>(alloc: Global, tree: &C::Tree) -> Result<String> {
     let mut tokens = TokenStream::new(alloc);
-    C::print(&tree, &mut tokens)?;
+    C::print(tree, &mut tokens)?;
     token_text(&tokens)
 }
 

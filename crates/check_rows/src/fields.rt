@@ -13,6 +13,38 @@ use syn::token::Paren;
 use syn::{Error, Result, Span};
 use syn_test_support::{parsed, printed, span};
 
+/// What is said of the fields of a struct.
+#[derive(Clone, Copy)]
+enum Said {
+    /// What they are called by `members`.
+    Members,
+    /// The names of those that have one.
+    Names,
+    /// How many there are, and whether there are none.
+    Number,
+    /// What each prints, moved out of the struct, with a `;` behind it.
+    Prints,
+    /// What they print once the type of each is `()`.
+    Changed,
+    /// What the struct prints then.
+    ChangedStruct,
+}
+
+impl Said {
+    /// What is said in this word.
+    fn from_word(word: &str) -> Option<Said> {
+        match word {
+            "members" => Some(Said::Members),
+            "names" => Some(Said::Names),
+            "number" => Some(Said::Number),
+            "prints" => Some(Said::Prints),
+            "changed" => Some(Said::Changed),
+            "changed_struct" => Some(Said::ChangedStruct),
+            _ => None,
+        }
+    }
+}
+
 /// What is said in this word of the fields of the struct that the text is.
 pub(crate) fn fields_as(
     alloc: Global,
@@ -20,26 +52,26 @@ pub(crate) fn fields_as(
     word: &str,
     text: &str,
 ) -> std::result::Result<String, Failure> {
-    match word {
-        "members" => told(alloc, members(alloc, text)),
-        "names" => told(alloc, names(alloc, text)),
-        "number" => told(alloc, number(alloc, text)),
-        "prints" => told(alloc, prints(alloc, text)),
-        "changed" => told(alloc, changed(alloc, text)),
-        "changed_struct" => told(alloc, changed_struct(alloc, text)),
-        _ => Err(Failure::Malformed(heading.line, "no such word of fields")),
+    match Said::from_word(word) {
+        Some(said) => told(alloc, said_of(alloc, said, text)),
+        None => Err(Failure::Malformed(heading.line, "no such word of fields")),
     }
 }
 
-/// The fields.
-fn fields_of(alloc: Global, text: &str) -> Result<Fields> {
-    let item: ItemStruct = parsed(alloc, text)?;
-    Ok(item.fields)
+fn said_of(alloc: Global, said: Said, text: &str) -> Result<String> {
+    let mut item: ItemStruct = parsed(alloc, text)?;
+    match said {
+        Said::Members => members(alloc, &item.fields),
+        Said::Names => Ok(names(alloc, &item.fields)?),
+        Said::Number => number(alloc, &item.fields),
+        Said::Prints => prints(alloc, item.fields),
+        Said::Changed => changed(alloc, &mut item.fields),
+        Said::ChangedStruct => changed_struct(alloc, &mut item),
+    }
 }
 
-/// What they are called by `members`: each its name, or its place and where its type begins.
-fn members(alloc: Global, text: &str) -> Result<String> {
-    let fields = fields_of(alloc, text)?;
+/// Each member is told by its name, or by its place and where its type begins.
+fn members(alloc: Global, fields: &Fields) -> Result<String> {
     if fields.len() > 1000 {
         return Err(Error::new(Span::call_site(), "too many fields"));
     }
@@ -64,13 +96,8 @@ fn add_member(text: &mut String, member: &MemberRef<'_>) -> std::result::Result<
     }
 }
 
-/// The names of those that have one, as they are lent to a loop.
-fn names(alloc: Global, text: &str) -> Result<String> {
-    let fields = fields_of(alloc, text)?;
-    Ok(names_told(alloc, &fields)?)
-}
-
-fn names_told(alloc: Global, fields: &Fields) -> std::result::Result<String, AllocError> {
+/// The fields are lent to a loop.
+fn names(alloc: Global, fields: &Fields) -> std::result::Result<String, AllocError> {
     let mut text = String::new(alloc);
     for field in fields {
         if let Some(ident) = &field.ident {
@@ -80,20 +107,12 @@ fn names_told(alloc: Global, fields: &Fields) -> std::result::Result<String, All
     Ok(text)
 }
 
-/// How many there are, and whether there are none.
-fn number(alloc: Global, text: &str) -> Result<String> {
-    let fields = fields_of(alloc, text)?;
+fn number(alloc: Global, fields: &Fields) -> Result<String> {
     let none = if fields.is_empty() { ", none" } else { "" };
     Ok(format!(in alloc; "{}{none}", fields.len())?)
 }
 
-/// What each prints, moved out of the struct, with a `;` behind it.
-fn prints(alloc: Global, text: &str) -> Result<String> {
-    let fields = fields_of(alloc, text)?;
-    all_printed(alloc, fields)
-}
-
-fn all_printed(alloc: Global, fields: Fields) -> Result<String> {
+fn prints(alloc: Global, fields: Fields) -> Result<String> {
     let mut out = Ok(String::new(alloc));
     for field in fields {
         out = with_printed(alloc, out, &field);
@@ -113,22 +132,18 @@ fn add_printed(out: &mut String, alloc: Global, field: &Field) -> Result<()> {
     Ok(out.push(';')?)
 }
 
-/// What they print once the type of each is `()`.
-fn changed(alloc: Global, text: &str) -> Result<String> {
-    let mut fields = fields_of(alloc, text)?;
-    for field in &mut fields {
+fn changed(alloc: Global, fields: &mut Fields) -> Result<String> {
+    for field in &mut *fields {
         field.ty = unit_type(alloc);
     }
-    printed(alloc, &fields)
+    printed(alloc, fields)
 }
 
-/// What the struct prints then.
-fn changed_struct(alloc: Global, text: &str) -> Result<String> {
-    let mut item: ItemStruct = parsed(alloc, text)?;
+fn changed_struct(alloc: Global, item: &mut ItemStruct) -> Result<String> {
     for field in item.fields.iter_mut() {
         field.ty = unit_type(alloc);
     }
-    printed(alloc, &item)
+    printed(alloc, item)
 }
 
 /// The type of no values.

@@ -9,6 +9,7 @@ use std::fmt::Write as _;
 use syn::Result;
 use syn::data::FieldsUnnamed;
 use syn::lower::{ConstParam, GenericParam, LifetimeParam, Type, TypeParam};
+use syn::parse::Parse;
 use syn_test_support::parsed;
 
 /// What the tree of the text is made of, as the kind of this word, which stands in the heading.
@@ -19,21 +20,46 @@ pub(crate) fn parts_as(
     text: &str,
 ) -> std::result::Result<String, Failure> {
     match word {
-        "Type" => told(alloc, type_parts(alloc, text)),
-        "GenericParam" => told(alloc, param_parts(alloc, text)),
-        "FieldsUnnamed" => told(alloc, fields_parts(alloc, text)),
+        "Type" => told(alloc, parts_of::<Type>(alloc, text)),
+        "GenericParam" => told(alloc, parts_of::<GenericParam>(alloc, text)),
+        "FieldsUnnamed" => told(alloc, parts_of::<FieldsUnnamed>(alloc, text)),
         _ => Err(Failure::Malformed(heading.line, "no parts of this kind")),
     }
 }
 
-fn type_parts(alloc: Global, text: &str) -> Result<String> {
-    let ty: Type = parsed(alloc, text)?;
-    type_told(alloc, &ty)
+/// A tree whose parts can be told.
+trait Parts: Parse + Drop {
+    fn parts(&self, alloc: Global) -> Result<String>;
 }
 
-fn param_parts(alloc: Global, text: &str) -> Result<String> {
-    let param: GenericParam = parsed(alloc, text)?;
-    Ok(param_told(alloc, &param)?)
+/// The parts of the tree that the text is.
+fn parts_of<T: Parts>(alloc: Global, text: &str) -> Result<String> {
+    let tree: T = parsed(alloc, text)?;
+    tree.parts(alloc)
+}
+
+impl Parts for Type {
+    fn parts(&self, alloc: Global) -> Result<String> {
+        type_told(alloc, self)
+    }
+}
+
+impl Parts for GenericParam {
+    fn parts(&self, alloc: Global) -> Result<String> {
+        Ok(param_told(alloc, self)?)
+    }
+}
+
+/// How many fields there are, and the comma behind the last.
+impl Parts for FieldsUnnamed {
+    fn parts(&self, alloc: Global) -> Result<String> {
+        let comma = if self.unnamed.trailing_punct() {
+            " ,"
+        } else {
+            ""
+        };
+        Ok(format!(in alloc; "{}{comma}", self.unnamed.len())?)
+    }
 }
 
 /// What a parameter is, and its signs and bounds and default, as far as it has them.
@@ -91,15 +117,4 @@ fn add_default(
         text.push_str(" default")?;
     }
     Ok(())
-}
-
-/// How many fields there are, and the comma behind the last.
-fn fields_parts(alloc: Global, text: &str) -> Result<String> {
-    let fields: FieldsUnnamed = parsed(alloc, text)?;
-    let comma = if fields.unnamed.trailing_punct() {
-        " ,"
-    } else {
-        ""
-    };
-    Ok(format!(in alloc; "{}{comma}", fields.unnamed.len())?)
 }

@@ -26,7 +26,7 @@ use syn_outlines::{add_place, add_stream, add_token, add_word};
 pub trait Outlined {
     /// Adds what shows the tree: a word as `pub@0..3`, a mark as `::@3..4@4..5`, a group as `(@0..1` and `)@4..5`; the
     /// character of a mark in a stream as `:@3..4`, or as `:+@3..4` where it is Joint, and a literal with its kind as `Int1@0..1`.
-    fn show(&self, out: &mut TreeText) -> Result<(), AllocError>;
+    fn show(&self, out: &mut TreeText);
 }
 
 /// The text that shows a tree.
@@ -34,105 +34,123 @@ pub fn outline<T: Outlined>(alloc: Global, tree: &T) -> Result<String, AllocErro
     let mut out = TreeText {
         alloc,
         text: String::new(alloc),
+        is_refused: false,
     };
-    tree.show(&mut out)?;
-    Ok(out.text)
+    tree.show(&mut out);
+    if out.is_refused {
+        Err(AllocError)
+    } else {
+        Ok(out.text)
+    }
 }
 
-/// A text that is being written.
+/// A text that is being written. It keeps in mind whether memory was refused for any of it: so what adds to it has no answer, and no
+/// way out at each part.
 #[derive(Drop)]
 pub struct TreeText {
     alloc: Global,
     text: String,
+    is_refused: bool,
 }
 
 impl TreeText {
-    fn word(&mut self, word: &str) -> Result<(), AllocError> {
-        add_word(&mut self.text, word)
-    }
-
-    fn token(&mut self, word: &str, span: Span) -> Result<(), AllocError> {
-        add_token(&mut self.text, word, span)
-    }
-
-    fn mark<K, const N: usize>(&mut self, text: &str, mark: &Mark<K, N>) -> Result<(), AllocError> {
-        self.word(text)?;
-        for span in mark.spans.iter() {
-            add_place(&mut self.text, *span)?;
+    /// Keeps in mind whether memory was refused.
+    fn note<E: Drop>(&mut self, added: Result<(), E>) {
+        if added.is_err() {
+            self.is_refused = true;
         }
-        Ok(())
+    }
+
+    fn word(&mut self, word: &str) {
+        let added = add_word(&mut self.text, word);
+        self.note(added);
+    }
+
+    fn token(&mut self, word: &str, span: Span) {
+        let added = add_token(&mut self.text, word, span);
+        self.note(added);
+    }
+
+    fn place(&mut self, span: Span) {
+        let added = add_place(&mut self.text, span);
+        self.note(added);
+    }
+
+    /// Tokens as they stand.
+    fn stream(&mut self, tokens: &TokenStream) {
+        let added = add_stream(&mut self.text, tokens);
+        self.note(added);
+    }
+
+    fn mark<K, const N: usize>(&mut self, text: &str, mark: &Mark<K, N>) {
+        self.word(text);
+        for span in mark.spans.iter() {
+            self.place(*span);
+        }
     }
 
     /// A group of any tokens.
-    fn tokens_in(
-        &mut self,
-        delimiter: MacroDelimiter,
-        tokens: &TokenStream,
-    ) -> Result<(), AllocError> {
+    fn tokens_in(&mut self, delimiter: MacroDelimiter, tokens: &TokenStream) {
         let (open, close, opening, closing) = match delimiter {
             MacroDelimiter::Paren(sign) => ("(", ")", sign.opening, sign.closing),
             MacroDelimiter::Brace(sign) => ("{", "}", sign.opening, sign.closing),
             MacroDelimiter::Bracket(sign) => ("[", "]", sign.opening, sign.closing),
         };
-        self.token(open, opening)?;
-        tokens.show(self)?;
-        self.token(close, closing)
+        self.token(open, opening);
+        self.stream(tokens);
+        self.token(close, closing);
     }
 
     /// Each attribute in its order.
-    fn attributes(&mut self, attrs: &Vec<Attribute>) -> Result<(), AllocError> {
+    fn attributes(&mut self, attrs: &Vec<Attribute>) {
         for attr in attrs {
-            attr.show(self)?;
+            attr.show(self);
         }
-        Ok(())
     }
 
     /// `=` and the tokens of a constant, where they are there.
-    fn value(&mut self, value: &Option<(Eq, DeferredExpr)>) -> Result<(), AllocError> {
-        let Some((eq_token, constant)) = value else {
-            return Ok(());
-        };
-        self.mark("=", eq_token)?;
-        constant.show(self)
+    fn value(&mut self, value: &Option<(Eq, DeferredExpr)>) {
+        if let Some((eq_token, constant)) = value {
+            self.mark("=", eq_token);
+            constant.show(self);
+        }
     }
 
     /// The tokens that a tree prints, behind this word.
-    fn printed<T: ToTokens>(&mut self, word: &str, tree: &T) -> Result<(), AllocError> {
-        self.word(word)?;
+    fn printed<T: ToTokens>(&mut self, word: &str, tree: &T) {
+        self.word(word);
         let mut tokens = TokenStream::new(self.alloc);
-        match tree.to_tokens(&mut tokens) {
-            Ok(()) => tokens.show(self),
-            Err(_) => Err(AllocError),
-        }
+        let print = tree.to_tokens(&mut tokens);
+        self.note(print);
+        self.stream(&tokens);
     }
 
     /// Values with commas between them.
-    fn list<T: Outlined>(&mut self, list: &Punctuated<T, Comma>) -> Result<(), AllocError> {
+    fn list<T: Outlined>(&mut self, list: &Punctuated<T, Comma>) {
         for (value, comma) in list.pairs() {
-            value.show(self)?;
-            self.mark(",", comma)?;
+            value.show(self);
+            self.mark(",", comma);
         }
         if let Some(value) = list.trailing_value() {
-            value.show(self)?;
+            value.show(self);
         }
-        Ok(())
     }
 }
 
 impl Outlined for TokenStream {
-    fn show(&self, out: &mut TreeText) -> Result<(), AllocError> {
-        add_stream(&mut out.text, self)
+    fn show(&self, out: &mut TreeText) {
+        out.stream(self);
     }
 }
 
 impl<const KIND: usize> Outlined for Deferred<KIND> {
-    fn show(&self, out: &mut TreeText) -> Result<(), AllocError> {
-        self.source().show(out)
+    fn show(&self, out: &mut TreeText) {
+        self.source().show(out);
     }
 }
 
 impl<T: Outlined> Outlined for Option<T> {
-    fn show(&self, out: &mut TreeText) -> Result<(), AllocError> {
+    fn show(&self, out: &mut TreeText) {
         match self {
             Some(tree) => tree.show(out),
             None => out.word("None"),
@@ -141,46 +159,45 @@ impl<T: Outlined> Outlined for Option<T> {
 }
 
 impl Outlined for Ident {
-    fn show(&self, out: &mut TreeText) -> Result<(), AllocError> {
-        out.token(self.text(), self.span)
+    fn show(&self, out: &mut TreeText) {
+        out.token(self.text(), self.span);
     }
 }
 
 impl Outlined for PathArguments {
-    fn show(&self, out: &mut TreeText) -> Result<(), AllocError> {
+    fn show(&self, out: &mut TreeText) {
         match self {
-            PathArguments::None => Ok(()),
+            PathArguments::None => {}
             _ => out.printed("Arguments", self),
         }
     }
 }
 
 impl Outlined for PathSegment {
-    fn show(&self, out: &mut TreeText) -> Result<(), AllocError> {
-        self.ident.show(out)?;
-        self.arguments.show(out)
+    fn show(&self, out: &mut TreeText) {
+        self.ident.show(out);
+        self.arguments.show(out);
     }
 }
 
 impl Outlined for Path {
-    fn show(&self, out: &mut TreeText) -> Result<(), AllocError> {
-        out.word("Path")?;
+    fn show(&self, out: &mut TreeText) {
+        out.word("Path");
         if let Some(leading_colon) = &self.leading_colon {
-            out.mark("::", leading_colon)?;
+            out.mark("::", leading_colon);
         }
         for (segment, separator) in self.segments.pairs() {
-            segment.show(out)?;
-            out.mark("::", separator)?;
+            segment.show(out);
+            out.mark("::", separator);
         }
         if let Some(segment) = self.segments.trailing_value() {
-            segment.show(out)?;
+            segment.show(out);
         }
-        Ok(())
     }
 }
 
 impl Outlined for TypePath {
-    fn show(&self, out: &mut TreeText) -> Result<(), AllocError> {
+    fn show(&self, out: &mut TreeText) {
         match &self.qself {
             Some(_) => out.printed("Qualified", self),
             None => self.path.show(out),
@@ -206,13 +223,13 @@ fn kind_of(ty: &Type) -> &'static str {
 
 /// Types that are no path are shown by what they print.
 impl Outlined for Type {
-    fn show(&self, out: &mut TreeText) -> Result<(), AllocError> {
-        out.word("Type")?;
+    fn show(&self, out: &mut TreeText) {
+        out.word("Type");
         match self {
             Type::Path(ty) => ty.show(out),
             Type::Verbatim(tokens) => {
-                out.word("Verbatim")?;
-                tokens.show(out)
+                out.word("Verbatim");
+                tokens.show(out);
             }
             _ => out.printed(kind_of(self), self),
         }
@@ -220,8 +237,8 @@ impl Outlined for Type {
 }
 
 impl Outlined for ReturnType {
-    fn show(&self, out: &mut TreeText) -> Result<(), AllocError> {
-        out.printed("ReturnType", self)
+    fn show(&self, out: &mut TreeText) {
+        out.printed("ReturnType", self);
     }
 }
 
@@ -240,28 +257,28 @@ fn name_of(lit: &Lit) -> &'static str {
 }
 
 impl Outlined for Lit {
-    fn show(&self, out: &mut TreeText) -> Result<(), AllocError> {
-        out.printed(name_of(self), self)
+    fn show(&self, out: &mut TreeText) {
+        out.printed(name_of(self), self);
     }
 }
 
 impl Outlined for MetaList {
-    fn show(&self, out: &mut TreeText) -> Result<(), AllocError> {
-        self.path.show(out)?;
-        out.tokens_in(self.delimiter, &self.tokens)
+    fn show(&self, out: &mut TreeText) {
+        self.path.show(out);
+        out.tokens_in(self.delimiter, &self.tokens);
     }
 }
 
 impl Outlined for MetaNameValue {
-    fn show(&self, out: &mut TreeText) -> Result<(), AllocError> {
-        self.path.show(out)?;
-        out.mark("=", &self.eq_token)?;
-        self.value.show(out)
+    fn show(&self, out: &mut TreeText) {
+        self.path.show(out);
+        out.mark("=", &self.eq_token);
+        self.value.show(out);
     }
 }
 
 impl Outlined for Meta {
-    fn show(&self, out: &mut TreeText) -> Result<(), AllocError> {
+    fn show(&self, out: &mut TreeText) {
         match self {
             Meta::Path(path) => path.show(out),
             Meta::List(list) => list.show(out),
@@ -271,46 +288,46 @@ impl Outlined for Meta {
 }
 
 impl Outlined for Attribute {
-    fn show(&self, out: &mut TreeText) -> Result<(), AllocError> {
-        out.mark("#", &self.pound_token)?;
+    fn show(&self, out: &mut TreeText) {
+        out.mark("#", &self.pound_token);
         match &self.style {
-            AttrStyle::Outer => out.word("Outer")?,
-            AttrStyle::Inner(bang) => out.mark("!", bang)?,
+            AttrStyle::Outer => out.word("Outer"),
+            AttrStyle::Inner(bang) => out.mark("!", bang),
         }
-        out.token("[", self.bracket_token.opening)?;
-        self.meta.show(out)?;
-        out.token("]", self.bracket_token.closing)
+        out.token("[", self.bracket_token.opening);
+        self.meta.show(out);
+        out.token("]", self.bracket_token.closing);
     }
 }
 
 impl Outlined for Vec<Attribute> {
-    fn show(&self, out: &mut TreeText) -> Result<(), AllocError> {
-        out.attributes(self)
+    fn show(&self, out: &mut TreeText) {
+        out.attributes(self);
     }
 }
 
 impl Outlined for VisRestricted {
-    fn show(&self, out: &mut TreeText) -> Result<(), AllocError> {
-        out.token("pub", self.pub_token.span)?;
-        out.token("(", self.paren_token.opening)?;
+    fn show(&self, out: &mut TreeText) {
+        out.token("pub", self.pub_token.span);
+        out.token("(", self.paren_token.opening);
         if let Some(in_token) = &self.in_token {
-            out.token("in", in_token.span)?;
+            out.token("in", in_token.span);
         }
-        self.path.show(out)?;
-        out.token(")", self.paren_token.closing)
+        self.path.show(out);
+        out.token(")", self.paren_token.closing);
     }
 }
 
 impl Outlined for Visibility {
-    fn show(&self, out: &mut TreeText) -> Result<(), AllocError> {
+    fn show(&self, out: &mut TreeText) {
         match self {
             Visibility::Public(pub_token) => {
-                out.word("Public")?;
-                out.token("pub", pub_token.span)
+                out.word("Public");
+                out.token("pub", pub_token.span);
             }
             Visibility::Restricted(restricted) => {
-                out.word("Restricted")?;
-                restricted.show(out)
+                out.word("Restricted");
+                restricted.show(out);
             }
             Visibility::Inherited => out.word("Inherited"),
         }
@@ -318,69 +335,69 @@ impl Outlined for Visibility {
 }
 
 impl Outlined for Field {
-    fn show(&self, out: &mut TreeText) -> Result<(), AllocError> {
-        out.word("Field")?;
-        out.attributes(&self.attrs)?;
-        self.vis.show(out)?;
+    fn show(&self, out: &mut TreeText) {
+        out.word("Field");
+        out.attributes(&self.attrs);
+        self.vis.show(out);
         if let Some(ident) = &self.ident {
-            ident.show(out)?;
+            ident.show(out);
         }
         if let Some(colon_token) = &self.colon_token {
-            out.mark(":", colon_token)?;
+            out.mark(":", colon_token);
         }
-        self.ty.show(out)?;
-        out.value(&self.default)
+        self.ty.show(out);
+        out.value(&self.default);
     }
 }
 
 impl Outlined for NamedField {
-    fn show(&self, out: &mut TreeText) -> Result<(), AllocError> {
-        self.0.show(out)
+    fn show(&self, out: &mut TreeText) {
+        self.0.show(out);
     }
 }
 
 impl Outlined for UnnamedField {
-    fn show(&self, out: &mut TreeText) -> Result<(), AllocError> {
-        self.0.show(out)
+    fn show(&self, out: &mut TreeText) {
+        self.0.show(out);
     }
 }
 
 impl Outlined for FieldsNamed {
-    fn show(&self, out: &mut TreeText) -> Result<(), AllocError> {
-        out.token("{", self.brace_token.opening)?;
-        out.list(&self.named)?;
-        out.token("}", self.brace_token.closing)
+    fn show(&self, out: &mut TreeText) {
+        out.token("{", self.brace_token.opening);
+        out.list(&self.named);
+        out.token("}", self.brace_token.closing);
     }
 }
 
 impl Outlined for Variant {
-    fn show(&self, out: &mut TreeText) -> Result<(), AllocError> {
-        out.word("Variant")?;
-        out.attributes(&self.attrs)?;
-        self.ident.show(out)?;
-        self.fields.show(out)?;
-        out.value(&self.discriminant)
+    fn show(&self, out: &mut TreeText) {
+        out.word("Variant");
+        out.attributes(&self.attrs);
+        self.ident.show(out);
+        self.fields.show(out);
+        out.value(&self.discriminant);
     }
 }
 
 impl Outlined for FieldsUnnamed {
-    fn show(&self, out: &mut TreeText) -> Result<(), AllocError> {
-        out.token("(", self.paren_token.opening)?;
-        out.list(&self.unnamed)?;
-        out.token(")", self.paren_token.closing)
+    fn show(&self, out: &mut TreeText) {
+        out.token("(", self.paren_token.opening);
+        out.list(&self.unnamed);
+        out.token(")", self.paren_token.closing);
     }
 }
 
 impl Outlined for Fields {
-    fn show(&self, out: &mut TreeText) -> Result<(), AllocError> {
+    fn show(&self, out: &mut TreeText) {
         match self {
             Fields::Named(fields) => {
-                out.word("Named")?;
-                fields.show(out)
+                out.word("Named");
+                fields.show(out);
             }
             Fields::Unnamed(fields) => {
-                out.word("Unnamed")?;
-                fields.show(out)
+                out.word("Unnamed");
+                fields.show(out);
             }
             Fields::Unit => out.word("Unit"),
         }
@@ -389,7 +406,7 @@ impl Outlined for Fields {
 
 /// A parameter is shown by what it prints.
 impl Outlined for GenericParam {
-    fn show(&self, out: &mut TreeText) -> Result<(), AllocError> {
+    fn show(&self, out: &mut TreeText) {
         match self {
             GenericParam::Lifetime(_) => out.printed("LifetimeParam", self),
             GenericParam::Ty(_) => out.printed("TypeParam", self),
@@ -400,7 +417,7 @@ impl Outlined for GenericParam {
 
 /// And so is a predicate.
 impl Outlined for WherePredicate {
-    fn show(&self, out: &mut TreeText) -> Result<(), AllocError> {
+    fn show(&self, out: &mut TreeText) {
         match self {
             WherePredicate::Lifetime(_) => out.printed("PredicateLifetime", self),
             WherePredicate::Ty(_) => out.printed("PredicateType", self),
@@ -410,88 +427,87 @@ impl Outlined for WherePredicate {
 
 /// And so are parts of both.
 impl Outlined for LifetimeParam {
-    fn show(&self, out: &mut TreeText) -> Result<(), AllocError> {
-        out.printed("LifetimeParam", self)
+    fn show(&self, out: &mut TreeText) {
+        out.printed("LifetimeParam", self);
     }
 }
 
 impl Outlined for TypeParamBound {
-    fn show(&self, out: &mut TreeText) -> Result<(), AllocError> {
-        out.printed("TypeParamBound", self)
+    fn show(&self, out: &mut TreeText) {
+        out.printed("TypeParamBound", self);
     }
 }
 
 impl Outlined for TraitBound {
-    fn show(&self, out: &mut TreeText) -> Result<(), AllocError> {
-        out.printed("TraitBound", self)
+    fn show(&self, out: &mut TreeText) {
+        out.printed("TraitBound", self);
     }
 }
 
 impl Outlined for TraitBoundModifier {
-    fn show(&self, out: &mut TreeText) -> Result<(), AllocError> {
-        out.printed("TraitBoundModifier", self)
+    fn show(&self, out: &mut TreeText) {
+        out.printed("TraitBoundModifier", self);
     }
 }
 
 impl Outlined for BoundLifetimes {
-    fn show(&self, out: &mut TreeText) -> Result<(), AllocError> {
-        out.printed("BoundLifetimes", self)
+    fn show(&self, out: &mut TreeText) {
+        out.printed("BoundLifetimes", self);
     }
 }
 
 impl Outlined for WhereClause {
-    fn show(&self, out: &mut TreeText) -> Result<(), AllocError> {
-        out.token("where", self.where_token.span)?;
-        out.list(&self.predicates)
+    fn show(&self, out: &mut TreeText) {
+        out.token("where", self.where_token.span);
+        out.list(&self.predicates);
     }
 }
 
 /// Parameters are shown in the order in which the tree holds them.
 impl Outlined for Generics {
-    fn show(&self, out: &mut TreeText) -> Result<(), AllocError> {
+    fn show(&self, out: &mut TreeText) {
         if let Some(lt_token) = &self.lt_token {
-            out.mark("<", lt_token)?;
+            out.mark("<", lt_token);
         }
-        out.list(&self.params)?;
+        out.list(&self.params);
         if let Some(gt_token) = &self.gt_token {
-            out.mark(">", gt_token)?;
+            out.mark(">", gt_token);
         }
         match &self.where_clause {
             Some(clause) => clause.show(out),
-            None => Ok(()),
+            None => {}
         }
     }
 }
 
 impl Outlined for DataStruct {
-    fn show(&self, out: &mut TreeText) -> Result<(), AllocError> {
-        out.token("struct", self.struct_token.span)?;
-        self.fields.show(out)?;
+    fn show(&self, out: &mut TreeText) {
+        out.token("struct", self.struct_token.span);
+        self.fields.show(out);
         if let Some(semi_token) = &self.semi_token {
-            out.mark(";", semi_token)?;
+            out.mark(";", semi_token);
         }
-        Ok(())
     }
 }
 
 impl Outlined for DataEnum {
-    fn show(&self, out: &mut TreeText) -> Result<(), AllocError> {
-        out.token("enum", self.enum_token.span)?;
-        out.token("{", self.brace_token.opening)?;
-        out.list(&self.variants)?;
-        out.token("}", self.brace_token.closing)
+    fn show(&self, out: &mut TreeText) {
+        out.token("enum", self.enum_token.span);
+        out.token("{", self.brace_token.opening);
+        out.list(&self.variants);
+        out.token("}", self.brace_token.closing);
     }
 }
 
 impl Outlined for DataUnion {
-    fn show(&self, out: &mut TreeText) -> Result<(), AllocError> {
-        out.token("union", self.union_token.span)?;
-        self.fields.show(out)
+    fn show(&self, out: &mut TreeText) {
+        out.token("union", self.union_token.span);
+        self.fields.show(out);
     }
 }
 
 impl Outlined for Data {
-    fn show(&self, out: &mut TreeText) -> Result<(), AllocError> {
+    fn show(&self, out: &mut TreeText) {
         match self {
             Data::Struct(data) => data.show(out),
             Data::Enum(data) => data.show(out),
@@ -501,56 +517,55 @@ impl Outlined for Data {
 }
 
 impl Outlined for DeriveInput {
-    fn show(&self, out: &mut TreeText) -> Result<(), AllocError> {
-        out.attributes(&self.attrs)?;
-        self.vis.show(out)?;
-        self.ident.show(out)?;
-        self.generics.show(out)?;
-        self.shape.show(out)
+    fn show(&self, out: &mut TreeText) {
+        out.attributes(&self.attrs);
+        self.vis.show(out);
+        self.ident.show(out);
+        self.generics.show(out);
+        self.shape.show(out);
     }
 }
 
 impl Outlined for ItemEnum {
-    fn show(&self, out: &mut TreeText) -> Result<(), AllocError> {
-        out.attributes(&self.attrs)?;
-        self.vis.show(out)?;
-        out.token("enum", self.enum_token.span)?;
-        self.ident.show(out)?;
-        self.generics.show(out)?;
-        out.token("{", self.brace_token.opening)?;
-        out.list(&self.variants)?;
-        out.token("}", self.brace_token.closing)
+    fn show(&self, out: &mut TreeText) {
+        out.attributes(&self.attrs);
+        self.vis.show(out);
+        out.token("enum", self.enum_token.span);
+        self.ident.show(out);
+        self.generics.show(out);
+        out.token("{", self.brace_token.opening);
+        out.list(&self.variants);
+        out.token("}", self.brace_token.closing);
     }
 }
 
 impl Outlined for ItemStruct {
-    fn show(&self, out: &mut TreeText) -> Result<(), AllocError> {
-        out.attributes(&self.attrs)?;
-        self.vis.show(out)?;
-        out.token("struct", self.struct_token.span)?;
-        self.ident.show(out)?;
-        self.generics.show(out)?;
-        self.fields.show(out)?;
+    fn show(&self, out: &mut TreeText) {
+        out.attributes(&self.attrs);
+        self.vis.show(out);
+        out.token("struct", self.struct_token.span);
+        self.ident.show(out);
+        self.generics.show(out);
+        self.fields.show(out);
         if let Some(semi_token) = &self.semi_token {
-            out.mark(";", semi_token)?;
+            out.mark(";", semi_token);
         }
-        Ok(())
     }
 }
 
 impl Outlined for ItemUnion {
-    fn show(&self, out: &mut TreeText) -> Result<(), AllocError> {
-        out.attributes(&self.attrs)?;
-        self.vis.show(out)?;
-        out.token("union", self.union_token.span)?;
-        self.ident.show(out)?;
-        self.generics.show(out)?;
-        self.fields.show(out)
+    fn show(&self, out: &mut TreeText) {
+        out.attributes(&self.attrs);
+        self.vis.show(out);
+        out.token("union", self.union_token.span);
+        self.ident.show(out);
+        self.generics.show(out);
+        self.fields.show(out);
     }
 }
 
 impl Outlined for Item {
-    fn show(&self, out: &mut TreeText) -> Result<(), AllocError> {
+    fn show(&self, out: &mut TreeText) {
         match self {
             Item::Enum(item) => item.show(out),
             Item::Struct(item) => item.show(out),

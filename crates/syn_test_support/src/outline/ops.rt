@@ -1,23 +1,22 @@
 //! Operators: what each is called, and what it prints.
 
 use crate::outline::{Outlined, TreeText};
-use std::alloc::AllocError;
 use syn::op::{BinOp, UnOp};
 
 impl Outlined for BinOp {
-    fn show(&self, out: &mut TreeText) -> Result<(), AllocError> {
-        out.printed(name_of(self), self)
+    fn show(&self, out: &mut TreeText) {
+        out.printed(name_of(self), self);
     }
 }
 
 impl Outlined for UnOp {
-    fn show(&self, out: &mut TreeText) -> Result<(), AllocError> {
+    fn show(&self, out: &mut TreeText) {
         let name = match self {
             UnOp::Deref(_) => "Deref",
             UnOp::Not(_) => "Not",
             UnOp::Neg(_) => "Neg",
         };
-        out.printed(name, self)
+        out.printed(name, self);
     }
 }
 

@@ -1,82 +1,74 @@
 //! What patterns, expressions and statements are made of, and macros.
 
 use crate::outline::{Outlined, TreeText};
-use std::alloc::AllocError;
 use syn::Macro;
 use syn::expr::Label;
 use syn::lower::{AngleBracketedGenericArguments, Attribute, Member, Path, QSelf, Type};
 use syn::token::{Lifetime, Mut, Semi};
 
 /// Adds the attributes of a part, and then what it is called. So attributes stand before the word of what has them.
-pub(super) fn node(
-    word: &str,
-    attrs: &Vec<Attribute>,
-    out: &mut TreeText,
-) -> Result<(), AllocError> {
-    out.attributes(attrs)?;
-    out.word(word)
+pub(super) fn node(word: &str, attrs: &Vec<Attribute>, out: &mut TreeText) {
+    out.attributes(attrs);
+    out.word(word);
 }
 
 /// Adds what shows a path, with the type before it where there is one: how many of its words stand in the `< >` behind that, and
 /// `as` if it is there.
-pub(super) fn show_path(
-    qself: &Option<QSelf>,
-    path: &Path,
-    out: &mut TreeText,
-) -> Result<(), AllocError> {
+pub(super) fn show_path(qself: &Option<QSelf>, path: &Path, out: &mut TreeText) {
     if let Some(qself) = qself {
-        out.word("Qualified")?;
-        out.mark("<", &qself.lt_token)?;
-        show_type(&qself.ty, out)?;
+        out.word("Qualified");
+        out.mark("<", &qself.lt_token);
+        show_type(&qself.ty, out);
         if let Some(as_token) = &qself.as_token {
-            out.token("as", as_token.span)?;
+            out.token("as", as_token.span);
         }
-        write!(out.text, " {}", qself.position)?;
-        out.mark(">", &qself.gt_token)?;
+        let added = write!(out.text, " {}", qself.position);
+        out.note(added);
+        out.mark(">", &qself.gt_token);
     }
-    path.show(out)
+    path.show(out);
 }
 
 /// Adds what shows a type.
-pub(super) fn show_type(ty: &Type, out: &mut TreeText) -> Result<(), AllocError> {
-    ty.show(out)
+pub(super) fn show_type(ty: &Type, out: &mut TreeText) {
+    ty.show(out);
 }
 
 /// Adds what shows a lifetime.
-fn show_lifetime(lifetime: &Lifetime, out: &mut TreeText) -> Result<(), AllocError> {
-    out.token("'", lifetime.apostrophe)?;
-    lifetime.ident.show(out)
+fn show_lifetime(lifetime: &Lifetime, out: &mut TreeText) {
+    out.token("'", lifetime.apostrophe);
+    lifetime.ident.show(out);
 }
 
 /// Adds a lifetime, if there is one.
-pub(super) fn show_target(label: &Option<Lifetime>, out: &mut TreeText) -> Result<(), AllocError> {
+pub(super) fn show_target(label: &Option<Lifetime>, out: &mut TreeText) {
     match label {
         Some(lifetime) => show_lifetime(lifetime, out),
-        None => Ok(()),
+        None => {}
     }
 }
 
 /// Adds a label, if there is one.
-pub(super) fn show_label(label: &Option<Label>, out: &mut TreeText) -> Result<(), AllocError> {
+pub(super) fn show_label(label: &Option<Label>, out: &mut TreeText) {
     match label {
         Some(label) => label.show(out),
-        None => Ok(()),
+        None => {}
     }
 }
 
 /// Adds `mut`, if it is there.
-pub(super) fn show_mut(mutability: &Option<Mut>, out: &mut TreeText) -> Result<(), AllocError> {
+pub(super) fn show_mut(mutability: &Option<Mut>, out: &mut TreeText) {
     match mutability {
         Some(token) => out.token("mut", token.span),
-        None => Ok(()),
+        None => {}
     }
 }
 
 /// Adds `;`, if it is there.
-pub(super) fn show_semi(semi: &Option<Semi>, out: &mut TreeText) -> Result<(), AllocError> {
+pub(super) fn show_semi(semi: &Option<Semi>, out: &mut TreeText) {
     match semi {
         Some(token) => out.mark(";", token),
-        None => Ok(()),
+        None => {}
     }
 }
 
@@ -84,23 +76,23 @@ pub(super) fn show_semi(semi: &Option<Semi>, out: &mut TreeText) -> Result<(), A
 pub(super) fn show_arguments(
     arguments: &Option<AngleBracketedGenericArguments>,
     out: &mut TreeText,
-) -> Result<(), AllocError> {
+) {
     match arguments {
         Some(arguments) => out.printed("Arguments", arguments),
-        None => Ok(()),
+        None => {}
     }
 }
 
 impl Outlined for Label {
-    fn show(&self, out: &mut TreeText) -> Result<(), AllocError> {
-        show_lifetime(&self.name, out)?;
-        out.mark(":", &self.colon_token)
+    fn show(&self, out: &mut TreeText) {
+        show_lifetime(&self.name, out);
+        out.mark(":", &self.colon_token);
     }
 }
 
 /// A number is shown by what it prints.
 impl Outlined for Member {
-    fn show(&self, out: &mut TreeText) -> Result<(), AllocError> {
+    fn show(&self, out: &mut TreeText) {
         match self {
             Member::Named(ident) => ident.show(out),
             Member::Unnamed(index) => out.printed("Index", index),
@@ -109,9 +101,9 @@ impl Outlined for Member {
 }
 
 impl Outlined for Macro {
-    fn show(&self, out: &mut TreeText) -> Result<(), AllocError> {
-        self.path.show(out)?;
-        out.mark("!", &self.bang_token)?;
-        out.tokens_in(self.delimiter, &self.tokens)
+    fn show(&self, out: &mut TreeText) {
+        self.path.show(out);
+        out.mark("!", &self.bang_token);
+        out.tokens_in(self.delimiter, &self.tokens);
     }
 }

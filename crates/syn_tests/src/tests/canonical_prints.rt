@@ -1,10 +1,10 @@
 //! Canonical prints of streams, token by token, and where it is refused to compare two.
-use crate::tests::asserts::assert_text;
+use crate::tests::asserts::{assert_text, tokens_of, value};
 use std::alloc::Global;
-use syn::Result;
+use std::process::Abort;
 use syn::canon::{canonical, same_form};
 use syn::derive::DeriveInput;
-use syn::reader::{read_tokens, token_text};
+use syn::reader::token_text;
 use syn::restriction::Visibility;
 use syn::token::{Delimiter, Spacing, TokenStream};
 use syn_test_support::outline::outline;
@@ -18,75 +18,56 @@ const PRINTED: &str =
 
 /// Tokens keep their places. The `,` is Joint in the text, and the last character of each mark is Alone in the print.
 #[test]
-fn spans_and_spacing(rt: HostRuntime) -> Result<()> {
-    let tokens = read_tokens(rt.alloc(), "struct S(a,::b);")?;
-    assert_text(&rt, outline(rt.alloc(), &tokens)?.as_str(), READ);
-    let print = canonical::<DeriveInput>(tokens)?;
-    assert_text(&rt, outline(rt.alloc(), &print)?.as_str(), PRINTED);
-    Ok(())
+fn spans_and_spacing(rt: HostRuntime) {
+    let tokens = tokens_of(&rt, rt.alloc(), "struct S(a,::b);");
+    assert_text(&rt, outline(rt.alloc(), &tokens), READ);
+    let print = value(&rt, canonical::<DeriveInput>(tokens));
+    assert_text(&rt, outline(rt.alloc(), &print), PRINTED);
 }
 
 /// `pub ( in a :: b )`, with this spacing of the second `:`.
-fn restricted(alloc: Global, spacing: Spacing) -> Result<TokenStream> {
-    let mut content = TokenStream::new(alloc);
-    push_ident(&mut content, "in")?;
-    push_ident(&mut content, "a")?;
-    push_marks(&mut content, ":", Spacing::Joint)?;
-    push_marks(&mut content, ":", spacing)?;
-    push_ident(&mut content, "b")?;
-    let mut tokens = TokenStream::new(alloc);
-    push_ident(&mut tokens, "pub")?;
-    push_group(&mut tokens, Delimiter::Paren, content)?;
-    Ok(tokens)
+fn restricted(rt: &impl Abort, alloc: Global, spacing: Spacing) -> TokenStream {
+    let mut content = tokens_of(rt, alloc, "in a");
+    value(rt, push_marks(&mut content, ":", Spacing::Joint));
+    value(rt, push_marks(&mut content, ":", spacing));
+    value(rt, push_ident(&mut content, "b"));
+    let mut tokens = tokens_of(rt, alloc, "pub");
+    value(rt, push_group(&mut tokens, Delimiter::Paren, content));
+    tokens
 }
 
-/// Whether the canonical print of that, whichever spacing, is the one that is Alone.
-fn ends_alone(alloc: Global, spacing: Spacing) -> Result<bool> {
-    let print = canonical::<Visibility>(restricted(alloc, spacing)?)?;
-    let is_same = print == restricted(alloc, Spacing::Alone)?;
-    Ok(is_same && token_text(&print)?.as_str() == "pub ( in a :: b )")
-}
-
+/// The canonical print of that, whichever spacing, is the one that is Alone.
 #[test]
-fn joint_ends(rt: HostRuntime) -> Result<()> {
-    assert!(rt; ends_alone(rt.alloc(), Spacing::Joint)?);
-    assert!(rt; ends_alone(rt.alloc(), Spacing::Alone)?);
-    Ok(())
+fn joint_ends(rt: HostRuntime) {
+    for spacing in [Spacing::Joint, Spacing::Alone] {
+        let tokens = restricted(&rt, rt.alloc(), spacing);
+        let print = value(&rt, canonical::<Visibility>(tokens));
+        assert!(rt; print == restricted(&rt, rt.alloc(), Spacing::Alone));
+        assert_text(&rt, token_text(&print), "pub ( in a :: b )");
+    }
 }
 
-/// Whether both spacings are two streams of one form.
-fn differ_in_spacing(alloc: Global) -> Result<bool> {
-    let joint = restricted(alloc, Spacing::Joint)?;
-    let alone = restricted(alloc, Spacing::Alone)?;
-    Ok(joint != alone && same_form::<Visibility>(joint, alone)?)
-}
-
+/// The two spacings are two streams of one form.
 #[test]
-fn forms_without_spacing(rt: HostRuntime) -> Result<()> {
-    assert!(rt; differ_in_spacing(rt.alloc())?);
-    Ok(())
+fn forms_without_spacing(rt: HostRuntime) {
+    let joint = restricted(&rt, rt.alloc(), Spacing::Joint);
+    let alone = restricted(&rt, rt.alloc(), Spacing::Alone);
+    assert!(rt; joint != alone);
+    assert!(rt; value(&rt, same_form::<Visibility>(joint, alone)));
 }
 
-/// Whether two texts have the same form.
-fn are_alike(alloc: Global, left: &str, right: &str) -> Result<bool> {
-    same_form::<DeriveInput>(read_tokens(alloc, left)?, read_tokens(alloc, right)?)
-}
-
-/// Where that question is refused.
-fn unlike_at(alloc: Global, left: &str, right: &str) -> Result<usize> {
-    Ok(fault(are_alike(alloc, left, right))?.span.start)
-}
-
-/// It is refused where either is.
+/// It is refused to compare two forms where either is refused.
 #[test]
-fn refused_forms(rt: HostRuntime) -> Result<()> {
+fn refused_forms(rt: HostRuntime) {
     for (left, right, at) in [
         ("struct S", "struct S;", 8),
         ("struct S;", "struct S", 8),
         ("struct S", "struct", 8),
         ("struct S;", "struct S;;", 9),
     ] {
-        assert_eq!(rt; unlike_at(rt.alloc(), left, right)?, at, "{left}");
+        let left = tokens_of(&rt, rt.alloc(), left);
+        let right = tokens_of(&rt, rt.alloc(), right);
+        let missed = value(&rt, fault(same_form::<DeriveInput>(left, right)));
+        assert!(rt; missed.span.start == at, "not {at}");
     }
-    Ok(())
 }

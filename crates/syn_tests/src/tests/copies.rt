@@ -1,13 +1,14 @@
 //! Copies and equality of parts that no text is by itself.
+use crate::tests::asserts::{assert_text, tree_of, value};
 use crate::tests::handmade::{segment, signs};
 use std::alloc::Global;
+use std::process::Abort;
+use syn::TryClone;
 use syn::data::Fields;
-use syn::derive::{Data, DeriveInput};
+use syn::derive::{Data, DataStruct, DeriveInput};
 use syn::lower::{Generics, PathArguments};
 use syn::restriction::{VisRestricted, Visibility};
-use syn::{Result, TryClone};
 use syn_test_support::outline::{Outlined, outline};
-use syn_test_support::parsed;
 use syn_tokens::syntactic::compare::Compared;
 
 /// Whether both are the same, by both ways to ask that.
@@ -20,47 +21,43 @@ fn are_different<T: Compared + PartialEq>(left: &T, right: &T) -> bool {
     left != right && !left.is_same(right)
 }
 
-/// Whether both are shown alike, spans included.
-fn are_shown_alike<T: Outlined>(alloc: Global, left: &T, right: &T) -> Result<bool> {
-    Ok(outline(alloc, left)?.as_str() == outline(alloc, right)?.as_str())
-}
-
-/// Whether the tree's copy is the same as it, spans included, and not the same as the other tree.
-fn is_copied<T: TryClone + Compared + PartialEq + Outlined + Drop>(
+/// Fails where the tree's copy isn't the same as it, spans included, or is the same as the other tree.
+fn assert_copied<T: TryClone + Compared + PartialEq + Outlined + Drop>(
+    rt: &impl Abort,
     alloc: Global,
     tree: &T,
     other: &T,
-) -> Result<bool> {
-    let copy = tree.try_clone(alloc)?;
-    let is_same = are_same(&copy, tree) && are_different(&copy, other);
-    Ok(is_same && are_shown_alike(alloc, &copy, tree)?)
+) {
+    let copy = value(rt, tree.try_clone(alloc));
+    assert!(rt; are_same(&copy, tree) && are_different(&copy, other));
+    let want = value(rt, outline(alloc, tree));
+    assert_text(rt, outline(alloc, &copy), want.as_str());
 }
 
-/// Whether what a struct has of its own is copied, and so are its fields.
-fn is_shape_copied(alloc: Global, tree: &DeriveInput, other: &DeriveInput) -> Result<bool> {
-    let is_whole = is_copied(alloc, &tree.shape, &other.shape)?;
-    match (&tree.shape, &other.shape) {
-        (Data::Struct(data), Data::Struct(other_data)) => {
-            Ok(is_whole && is_copied(alloc, data, other_data)?)
-        }
-        _ => Ok(false),
+/// What the struct has of its own.
+fn data(input: &DeriveInput) -> Option<&DataStruct> {
+    match &input.shape {
+        Data::Struct(data) => Some(data),
+        _ => None,
     }
 }
 
 #[test]
-fn shapes(rt: HostRuntime) -> Result<()> {
-    let tree: DeriveInput = parsed(rt.alloc(), "pub struct S(pub(in a::b) ::c, d,);")?;
-    let other: DeriveInput = parsed(rt.alloc(), "struct S(pub c);")?;
-    assert!(rt; is_shape_copied(rt.alloc(), &tree, &other)?);
-    Ok(())
+fn shapes(rt: HostRuntime) {
+    let alloc = rt.alloc();
+    let tree: DeriveInput = tree_of(&rt, alloc, "pub struct S(pub(in a::b) ::c, d,);");
+    let other: DeriveInput = tree_of(&rt, alloc, "struct S(pub c);");
+    assert_copied(&rt, alloc, &tree.shape, &other.shape);
+    let of_tree = data(&tree).expect(&rt, "a struct");
+    let of_other = data(&other).expect(&rt, "a struct");
+    assert_copied(&rt, alloc, of_tree, of_other);
 }
 
 /// No fields, and some.
 #[test]
-fn no_fields(rt: HostRuntime) -> Result<()> {
-    let fields = Fields::Unnamed(parsed(rt.alloc(), "(a)")?);
-    assert!(rt; is_copied(rt.alloc(), &Fields::Unit, &fields)?);
-    Ok(())
+fn no_fields(rt: HostRuntime) {
+    let fields = Fields::Unnamed(tree_of(&rt, rt.alloc(), "(a)"));
+    assert_copied(&rt, rt.alloc(), &Fields::Unit, &fields);
 }
 
 /// The restriction of a visibility.
@@ -71,39 +68,30 @@ fn restriction(vis: &Visibility) -> Option<&VisRestricted> {
     }
 }
 
-fn is_restriction_copied(alloc: Global, vis: &Visibility, other: &Visibility) -> Result<bool> {
-    match (restriction(vis), restriction(other)) {
-        (Some(restricted), Some(other)) => is_copied(alloc, restricted, other),
-        _ => Ok(false),
-    }
-}
-
 #[test]
-fn restrictions(rt: HostRuntime) -> Result<()> {
-    let vis: Visibility = parsed(rt.alloc(), "pub(in a::b)")?;
-    let other: Visibility = parsed(rt.alloc(), "pub(self)")?;
-    assert!(rt; is_restriction_copied(rt.alloc(), &vis, &other)?);
-    Ok(())
-}
-
-/// Words of paths.
-fn is_segment_copied(alloc: Global) -> Result<bool> {
-    is_copied(alloc, &segment(alloc, "a")?, &segment(alloc, "b")?)
+fn restrictions(rt: HostRuntime) {
+    let vis: Visibility = tree_of(&rt, rt.alloc(), "pub(in a::b)");
+    let other: Visibility = tree_of(&rt, rt.alloc(), "pub(self)");
+    let restricted = restriction(&vis).expect(&rt, "a restriction");
+    let of_other = restriction(&other).expect(&rt, "a restriction");
+    assert_copied(&rt, rt.alloc(), restricted, of_other);
 }
 
 /// A word of a path, and no arguments.
 #[test]
-fn segments(rt: HostRuntime) -> Result<()> {
-    assert!(rt; is_segment_copied(rt.alloc())?);
+fn segments(rt: HostRuntime) {
+    let a = segment(&rt, rt.alloc(), "a");
+    let b = segment(&rt, rt.alloc(), "b");
+    assert_copied(&rt, rt.alloc(), &a, &b);
     let none = PathArguments::None;
-    assert!(rt; are_same(&none.try_clone(rt.alloc())?, &none));
-    Ok(())
+    let copy = value(&rt, none.try_clone(rt.alloc()));
+    assert!(rt; are_same(&copy, &none));
 }
 
 #[test]
-fn generics(rt: HostRuntime) -> Result<()> {
+fn generics(rt: HostRuntime) {
     let empty = Generics::empty(rt.alloc());
-    assert!(rt; is_copied(rt.alloc(), &signs(rt.alloc()), &empty)?);
-    assert!(rt; is_copied(rt.alloc(), &empty, &signs(rt.alloc()))?);
-    Ok(())
+    let signs = signs(rt.alloc());
+    assert_copied(&rt, rt.alloc(), &signs, &empty);
+    assert_copied(&rt, rt.alloc(), &empty, &signs);
 }

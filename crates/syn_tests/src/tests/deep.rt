@@ -1,34 +1,38 @@
 //! Texts and trees that are nested deep.
-use std::alloc::Global;
+use crate::tests::asserts::{tokens_of, tree_of, value};
+use std::alloc::{AllocError, Global};
+use std::process::Abort;
+use syn::TryClone;
 use syn::data::FieldsNamed;
 use syn::lower::Type;
 use syn::parse::{Parse, parse2};
-use syn::reader::{read_tokens, token_text};
-use syn::{Result, TryClone};
-use syn_test_support::{parsed, printed};
+use syn::print::ToTokens;
+use syn::reader::token_text;
+use syn_test_support::printed;
 
 const DEEP: usize = 100_000;
 
 /// One text so many times, a second one, and a third as often as the first.
-fn nested(alloc: Global, depth: usize, before: &str, inside: &str, behind: &str) -> Result<String> {
-    let mut text = String::new(alloc);
-    for _ in 0..depth {
-        text.push_str(before)?;
-    }
+fn repeated(
+    alloc: Global,
+    depth: usize,
+    before: &str,
+    inside: &str,
+    behind: &str,
+) -> Result<String, AllocError> {
+    let mut text = before.repeat(alloc, depth)?;
     text.push_str(inside)?;
-    for _ in 0..depth {
-        text.push_str(behind)?;
-    }
+    text.push_str(behind.repeat(alloc, depth)?.as_str())?;
     Ok(text)
 }
 
 #[test]
-fn read_and_written(rt: HostRuntime) -> Result<()> {
-    let text = nested(rt.alloc(), DEEP, "(", "", ")")?;
-    let tokens = read_tokens(rt.alloc(), text.as_str())?;
-    assert_eq!(rt; (tokens.len(), tokens.entries().len()), (1, 2 * DEEP));
-    assert_eq!(rt; token_text(&tokens)?.len(), 4 * DEEP - 1);
-    Ok(())
+fn read_and_written(rt: HostRuntime) {
+    let text = value(&rt, repeated(rt.alloc(), DEEP, "(", "", ")"));
+    let tokens = tokens_of(&rt, rt.alloc(), text.as_str());
+    assert!(rt; tokens.len() == 1);
+    assert!(rt; tokens.entries().len() == 2 * DEEP);
+    assert!(rt; value(&rt, token_text(&tokens)).len() == 4 * DEEP - 1);
 }
 
 /// In so many others may a type stand.
@@ -47,61 +51,65 @@ const AROUND: &[(&str, &str)] = &[
     ("<", ">::B"),
 ];
 
-/// Whether a type that is nested so is read, copied and printed, and its print read again as an equal one.
-fn is_copied_and_read_again(alloc: Global, before: &str, behind: &str) -> Result<bool> {
-    let text = nested(alloc, DEEP_TYPES, before, "u8", behind)?;
-    let ty: Type = parsed(alloc, text.as_str())?;
-    let copy = ty.try_clone(alloc)?;
-    let again: Type = parsed(alloc, printed(alloc, &copy)?.as_str())?;
-    Ok(copy == ty && again == ty)
+/// Fails where the text isn't read, copied and printed, and its print read again as an equal tree.
+fn assert_read_again<T: Parse + ToTokens + TryClone + PartialEq + Drop>(
+    rt: &impl Abort,
+    alloc: Global,
+    text: &str,
+) {
+    let tree: T = tree_of(rt, alloc, text);
+    assert!(rt;
+        value(rt, tree.try_clone(alloc)) == tree,
+        "a copy of {text}"
+    );
+    let print = value(rt, printed(alloc, &tree));
+    let again: T = tree_of(rt, alloc, print.as_str());
+    assert!(rt; again == tree, "{text}");
 }
 
 #[test]
-fn types(rt: HostRuntime) -> Result<()> {
+fn types(rt: HostRuntime) {
     for (before, behind) in AROUND {
-        let is_same = is_copied_and_read_again(rt.alloc(), before, behind)?;
-        assert!(rt; is_same, "of types in {before:?} and {behind:?}");
+        let text = value(&rt, repeated(rt.alloc(), DEEP_TYPES, before, "u8", behind));
+        assert_read_again::<Type>(&rt, rt.alloc(), text.as_str());
     }
-    Ok(())
 }
 
-/// Whether the text is refused as a `T` for want of memory, and not for its tokens.
-fn is_too_deep<T: Parse + Drop>(alloc: Global, text: &str) -> Result<bool> {
-    match parse2::<T>(read_tokens(alloc, text)?) {
-        Ok(_read) => Ok(false),
-        Err(error) => Ok(error.is_memory()),
-    }
+/// Fails where the text isn't refused as a `T` for want of memory, but read, or refused for its tokens.
+fn assert_too_deep<T: Parse + Drop>(rt: &impl Abort, alloc: Global, text: &str) {
+    let tokens = tokens_of(rt, alloc, text);
+    let answer = parse2::<T>(tokens);
+    assert!(rt;
+        matches!(&answer, Err(error) if error.is_memory()),
+        "{text}"
+    );
 }
 
 #[test]
-fn deeper_types_are_refused_for_memory(rt: HostRuntime) -> Result<()> {
+fn deeper_types_are_refused_for_memory(rt: HostRuntime) {
     for (before, behind) in AROUND {
         for depth in [DEEP_TYPES + 1, 10_000] {
-            let text = nested(rt.alloc(), depth, before, "u8", behind)?;
-            let is_refused = is_too_deep::<Type>(rt.alloc(), text.as_str())?;
-            assert!(rt; is_refused, "of {depth} types in {before:?} and {behind:?}");
+            let text = value(&rt, repeated(rt.alloc(), depth, before, "u8", behind));
+            assert_too_deep::<Type>(&rt, rt.alloc(), text.as_str());
         }
     }
-    Ok(())
 }
 
 /// In so many others may fields in braces stand.
 const DEEP_FIELDS: usize = 29;
 
 /// So many braces with one field around braces with one.
-fn fields_inside(alloc: Global, depth: usize) -> Result<String> {
-    nested(alloc, depth, "{ _: struct ", "{ a: u8 }", " }")
+fn fields_inside(alloc: Global, depth: usize) -> Result<String, AllocError> {
+    repeated(alloc, depth, "{ _: struct ", "{ a: u8 }", " }")
 }
 
 #[test]
-fn deeper_fields_are_refused_for_memory(rt: HostRuntime) -> Result<()> {
-    let text = fields_inside(rt.alloc(), DEEP_FIELDS)?;
-    let fields: FieldsNamed = parsed(rt.alloc(), text.as_str())?;
-    assert_eq!(rt; fields.named.len(), 1);
+fn deeper_fields_are_refused_for_memory(rt: HostRuntime) {
+    let text = value(&rt, fields_inside(rt.alloc(), DEEP_FIELDS));
+    let fields: FieldsNamed = tree_of(&rt, rt.alloc(), text.as_str());
+    assert!(rt; fields.named.len() == 1);
     for depth in [DEEP_FIELDS + 1, 10_000] {
-        let text = fields_inside(rt.alloc(), depth)?;
-        let is_refused = is_too_deep::<FieldsNamed>(rt.alloc(), text.as_str())?;
-        assert!(rt; is_refused, "of {depth} braces around braces");
+        let text = value(&rt, fields_inside(rt.alloc(), depth));
+        assert_too_deep::<FieldsNamed>(&rt, rt.alloc(), text.as_str());
     }
-    Ok(())
 }

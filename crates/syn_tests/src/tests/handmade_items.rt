@@ -1,94 +1,58 @@
 //! Structs and fields that no text gives: a `;` that isn't printed, and one that is though there is none; a name without a colon,
 //! and a colon without a name.
-use crate::tests::asserts::assert_text;
+use crate::tests::asserts::{
+    assert_equality, assert_print_shown, assert_printed, tokens_of, tree_of, value,
+};
 use std::alloc::Global;
-use syn::Result;
-use syn::data::{Field, FieldModifiers};
+use std::process::Abort;
+use syn::data::Field;
 use syn::item::ItemStruct;
 use syn::parse::ParseBuffer;
-use syn::reader::read_tokens;
-use syn::restriction::Visibility;
 use syn::token::{Colon, Ident, Semi};
-use syn_test_support::{parsed, print_shown, printed, span};
+use syn_test_support::span;
 
-/// A struct with fields in braces, and a `;` that isn't printed.
-fn with_semicolon(alloc: Global) -> Result<ItemStruct> {
-    let mut item: ItemStruct = parsed(alloc, "struct S { a: b }")?;
-    item.semi_token = Some(Semi::new([span(0, 1)]));
-    Ok(item)
+/// This struct with another `;`, or none.
+fn ended(rt: &impl Abort, alloc: Global, text: &str, semi_token: Option<Semi>) -> ItemStruct {
+    let mut item: ItemStruct = tree_of(rt, alloc, text);
+    item.semi_token = semi_token;
+    item
 }
 
-/// A struct in parentheses, and no `;`, which is printed.
-fn without_semicolon(alloc: Global) -> Result<ItemStruct> {
-    let mut item: ItemStruct = parsed(alloc, "struct S(a);")?;
-    item.semi_token = None;
-    Ok(item)
-}
-
-fn with_semicolon_printed(alloc: Global) -> Result<String> {
-    printed(alloc, &with_semicolon(alloc)?)
-}
-
-fn without_semicolon_shown(alloc: Global) -> Result<String> {
-    print_shown(alloc, &without_semicolon(alloc)?)
-}
-
-/// Whether a `;` that isn't printed is told from none.
-fn is_semicolon_told(alloc: Global, other: &ItemStruct) -> Result<bool> {
-    Ok(with_semicolon(alloc)? != *other)
-}
-
+/// Behind braces no `;` is printed, though one that is there is told from none; behind parentheses one always is.
 #[test]
-fn semicolons(rt: HostRuntime) -> Result<()> {
-    let print = with_semicolon_printed(rt.alloc())?;
-    assert_text(&rt, print.as_str(), "struct S { a : b }");
-    let print = without_semicolon_shown(rt.alloc())?;
+fn semicolons(rt: HostRuntime) {
+    let alloc = rt.alloc();
+    let semi = Some(Semi::new([span(0, 1)]));
+    let braces = ended(&rt, alloc, "struct S { a: b }", semi);
+    assert_printed(&rt, alloc, braces, "struct S { a : b }");
+    let braces = ended(&rt, alloc, "struct S { a: b }", semi);
+    let other = ended(&rt, alloc, "struct S { a: b }", None);
+    assert_equality(&rt, braces, other, false);
+    let parentheses = ended(&rt, alloc, "struct S(a);", None);
     let want = "struct@0..6 S@7..8 (@8..9 a@9..10 )@10..11 ;@0..0";
-    assert_text(&rt, print.as_str(), want);
-    let other: ItemStruct = parsed(rt.alloc(), "struct S { a: b }")?;
-    assert!(rt; is_semicolon_told(rt.alloc(), &other)?);
-    Ok(())
+    assert_print_shown(&rt, alloc, parentheses, want);
 }
 
-/// A field by hand of what this text has behind its name, with a name or none, and a colon or none.
-fn field(alloc: Global, text: &str, named: bool, colon: bool) -> Result<Field> {
-    let tokens = read_tokens(alloc, text)?;
-    let read = Field::parse_named(&mut ParseBuffer::new(&tokens))?;
-    let ident = if named {
-        Some(Ident::new(alloc, "n", span(0, 1))?)
+/// What this text has behind its name, as a field by hand, with a name or none, and a colon or none.
+fn field(rt: &impl Abort, alloc: Global, text: &str, named: bool, colon: bool) -> Field {
+    let tokens = tokens_of(rt, alloc, text);
+    let mut field = value(rt, Field::parse_named(&mut ParseBuffer::new(&tokens)));
+    field.ident = if named {
+        Some(value(rt, Ident::new(alloc, "n", span(0, 1))))
     } else {
         None
     };
-    let colon_token = if colon {
+    field.colon_token = if colon {
         Some(Colon::new([span(5, 6)]))
     } else {
         None
     };
-    Ok(Field {
-        attrs: Vec::new(alloc),
-        vis: Visibility::Inherited,
-        modifiers: FieldModifiers {},
-        ident,
-        colon_token,
-        ty: read.ty,
-        default: read.default,
-    })
-}
-
-/// What shows its print.
-fn field_shown(alloc: Global, text: &str, named: bool, colon: bool) -> Result<String> {
-    print_shown(alloc, &field(alloc, text, named, colon)?)
-}
-
-/// Whether a colon that isn't printed is told from none.
-fn is_colon_told(alloc: Global) -> Result<bool> {
-    let with = field(alloc, "a: b = 1", false, true)?;
-    Ok(with != field(alloc, "a: b = 1", false, false)?)
+    field
 }
 
 /// A colon is printed behind a name though there is none, and without a name no colon is; a default is printed in any case.
 #[test]
-fn field_names(rt: HostRuntime) -> Result<()> {
+fn field_names(rt: HostRuntime) {
     for (text, named, colon, want) in [
         ("a: b", false, false, "b@3..4"),
         ("a: b", false, true, "b@3..4"),
@@ -103,9 +67,15 @@ fn field_names(rt: HostRuntime) -> Result<()> {
             "n@0..1 :@0..0 b@3..4 =@5..6 Int1@7..8",
         ),
     ] {
-        let print = field_shown(rt.alloc(), text, named, colon)?;
-        assert_text(&rt, print.as_str(), want);
+        let field = field(&rt, rt.alloc(), text, named, colon);
+        assert_print_shown(&rt, rt.alloc(), field, want);
     }
-    assert!(rt; is_colon_told(rt.alloc())?);
-    Ok(())
+}
+
+/// A colon that isn't printed is told from none.
+#[test]
+fn colons(rt: HostRuntime) {
+    let with = field(&rt, rt.alloc(), "a: b = 1", false, true);
+    let without = field(&rt, rt.alloc(), "a: b = 1", false, false);
+    assert_equality(&rt, with, without, false);
 }

@@ -1,21 +1,16 @@
 //! Literals and expressions that are made by hand.
-use crate::tests::asserts::assert_text_of;
-use crate::tests::attributes::attributes;
+use crate::tests::asserts::{assert_equality, assert_printed, assert_text, tree_of, value};
+use crate::tests::attributes::outer;
 use std::alloc::Global;
+use std::process::Abort;
 use syn::lower::{Lit, LitByteStr, LitCStr, LitFloat, LitInt, LitStr};
-use syn::{Expr, ExprLit, LitKind, Literal, Result};
+use syn::{Expr, ExprLit, LitKind, Literal};
 use syn_test_support::outline::outline;
-use syn_test_support::{parsed, printed, span};
+use syn_test_support::span;
 
-/// What a token of this kind, whatever its text, is as a literal.
-fn of_kind(alloc: Global, kind: LitKind) -> Result<String> {
-    let lit = Lit::new(Literal::new(alloc, kind, "0", span(2, 3))?);
-    Ok(outline(alloc, &lit)?)
-}
-
-/// The kind of the token tells what it is, and not its text.
+/// The kind of the token tells what it is as a literal, and not its text.
 #[test]
-fn from_tokens(rt: HostRuntime) -> Result<()> {
+fn from_tokens(rt: HostRuntime) {
     for (kind, want) in [
         (LitKind::Str, "LitStr Str0@2..3"),
         (LitKind::ByteStr, "LitByteStr ByteStr0@2..3"),
@@ -25,54 +20,51 @@ fn from_tokens(rt: HostRuntime) -> Result<()> {
         (LitKind::Int, "LitInt Int0@2..3"),
         (LitKind::Float, "LitFloat Float0@2..3"),
     ] {
-        assert_text_of(&rt, want, of_kind(rt.alloc(), kind)?.as_str(), want);
+        let token = value(&rt, Literal::new(rt.alloc(), kind, "0", span(2, 3)));
+        assert_text(&rt, outline(rt.alloc(), &Lit::new(token)), want);
     }
-    Ok(())
 }
 
-/// What literals that are made by hand print.
-fn made(alloc: Global) -> Result<String> {
-    let mut text = printed(alloc, &LitStr::new(alloc, "\"a\"", span(0, 1))?)?;
-    text.push_str(printed(alloc, &LitByteStr::new(alloc, "b\"b\"", span(0, 1))?)?.as_str())?;
-    text.push_str(printed(alloc, &LitCStr::new(alloc, "c\"c\"", span(0, 1))?)?.as_str())?;
-    text.push_str(printed(alloc, &LitFloat::new(alloc, "1.5", span(0, 1))?)?.as_str())?;
-    Ok(text)
-}
-
-/// Whether two literals of one kind are equal, which have these texts and stand elsewhere.
-fn are_equal_tokens(alloc: Global, left: &str, right: &str) -> Result<bool> {
-    let left = LitInt::new(alloc, left, span(0, 1))?;
-    Ok(left == LitInt::new(alloc, right, span(4, 5))?)
+/// A whole number, by hand.
+fn int(rt: &impl Abort, alloc: Global, text: &str, start: usize) -> LitInt {
+    value(rt, LitInt::new(alloc, text, span(start, 9)))
 }
 
 #[test]
-fn by_hand(rt: HostRuntime) -> Result<()> {
-    assert_text_of(
-        &rt,
-        "by hand",
-        made(rt.alloc())?.as_str(),
-        "\"a\"b\"b\"c\"c\"1.5",
-    );
-    assert!(rt; are_equal_tokens(rt.alloc(), "1", "1")?);
-    assert!(rt; !are_equal_tokens(rt.alloc(), "1", "1u8")?);
-    let one = LitInt::new(rt.alloc(), "1", span(3, 4))?;
+fn by_hand(rt: HostRuntime) {
+    let alloc = rt.alloc();
+    let one = int(&rt, alloc, "1", 3);
     assert!(rt; one.token().kind() == LitKind::Int && one.span().start == 3);
-    Ok(())
+    assert_equality(&rt, one, int(&rt, alloc, "1", 4), true);
+    assert_equality(
+        &rt,
+        int(&rt, alloc, "1", 3),
+        int(&rt, alloc, "1u8", 4),
+        false,
+    );
 }
 
-/// The print of an expression that is made by hand.
-fn with_attributes(alloc: Global) -> Result<String> {
-    let expr = Expr::Lit(ExprLit {
-        attrs: attributes(alloc, "#[a] #[b(c)]", false)?,
-        lit: parsed(alloc, "1")?,
-    });
-    printed(alloc, &expr)
+/// What is made of a text prints that text.
+#[test]
+fn prints(rt: HostRuntime) {
+    let alloc = rt.alloc();
+    let place = span(0, 1);
+    let text = value(&rt, LitStr::new(alloc, "\"a\"", place));
+    assert_printed(&rt, alloc, text, "\"a\"");
+    let bytes = value(&rt, LitByteStr::new(alloc, "b\"b\"", place));
+    assert_printed(&rt, alloc, bytes, "b\"b\"");
+    let c_text = value(&rt, LitCStr::new(alloc, "c\"c\"", place));
+    assert_printed(&rt, alloc, c_text, "c\"c\"");
+    let float = value(&rt, LitFloat::new(alloc, "1.5", place));
+    assert_printed(&rt, alloc, float, "1.5");
 }
 
 /// Attributes that a literal holds as an expression are printed before it.
 #[test]
-fn attributes_of_expressions(rt: HostRuntime) -> Result<()> {
-    let text = with_attributes(rt.alloc())?;
-    assert_text_of(&rt, "by hand", text.as_str(), "# [ a ] # [ b ( c ) ] 1");
-    Ok(())
+fn attributes_of_expressions(rt: HostRuntime) {
+    let expr = Expr::Lit(ExprLit {
+        attrs: outer(&rt, rt.alloc(), "#[a] #[b(c)]"),
+        lit: tree_of(&rt, rt.alloc(), "1"),
+    });
+    assert_printed(&rt, rt.alloc(), expr, "# [ a ] # [ b ( c ) ] 1");
 }

@@ -1,27 +1,25 @@
 //! The fields of structs from both ends, and what they are called: names and places, their copies, equality and prints.
-use crate::tests::asserts::{assert_text, assert_text_of};
+use crate::tests::asserts::{assert_printed, assert_text, assert_text_of, tree_of, value};
 use std::alloc::{AllocError, Global};
 use std::fmt::Write as _;
+use std::process::Abort;
+use syn::TryClone;
 use syn::data::{Field, Fields, Index, MemberRef, Members};
-use syn::derive::{Data, DeriveInput};
+use syn::item::ItemStruct;
 use syn::lower::{Type, TypeTuple};
-use syn::punctuated::{IntoIter, Punctuated};
+use syn::punctuated::{IntoIter, Iter, Punctuated};
 use syn::token::{Comma, Paren, Span};
-use syn::{Error, Result, TryClone};
-use syn_test_support::{parsed, printed, refused, span};
+use syn_test_support::{printed, refused, span};
 use syn_tokens::syntactic::compare::Compared;
 
 /// The fields of the struct that the text spells.
-fn fields_of(alloc: Global, text: &str) -> Result<Fields> {
-    let DeriveInput { shape, .. } = parsed(alloc, text)?;
-    match shape {
-        Data::Struct(data) => Ok(data.fields),
-        Data::Enum(_) | Data::Union(_) => Err(Error::new(Span::call_site(), "no struct")),
-    }
+fn fields_of(rt: &impl Abort, alloc: Global, text: &str) -> Fields {
+    let item: ItemStruct = tree_of(rt, alloc, text);
+    item.fields
 }
 
 /// Adds what one field is called: its name, or its place and where its type begins.
-fn add_member(text: &mut String, member: &MemberRef<'_>) -> std::result::Result<(), AllocError> {
+fn add_member(text: &mut String, member: &MemberRef<'_>) -> Result<(), AllocError> {
     match member {
         MemberRef::Named(ident) => write!(text, "{};", ident.text()),
         MemberRef::Unnamed(member) => {
@@ -32,7 +30,7 @@ fn add_member(text: &mut String, member: &MemberRef<'_>) -> std::result::Result<
 }
 
 /// What fields are called, in order.
-fn described(alloc: Global, members: Members<'_>) -> std::result::Result<String, AllocError> {
+fn described(alloc: Global, members: Members<'_>) -> Result<String, AllocError> {
     let mut text = String::new(alloc);
     for member in members {
         add_member(&mut text, &member)?;
@@ -40,17 +38,15 @@ fn described(alloc: Global, members: Members<'_>) -> std::result::Result<String,
     Ok(text)
 }
 
-/// What the fields of the struct are called, behind so many of them.
-fn members_behind(alloc: Global, text: &str, taken: usize) -> Result<String> {
-    let fields = fields_of(alloc, text)?;
-    if fields.len() > 1000 {
-        return Err(Error::new(Span::call_site(), "too many fields"));
-    }
+/// Fails where the fields behind so many of them are called otherwise.
+fn assert_members(rt: &impl Abort, alloc: Global, fields: &Fields, taken: usize, want: &str) {
+    assert!(rt; fields.len() <= 1000);
     let mut members = fields.members();
     for _ in 0..taken {
         let _member = members.next();
     }
-    Ok(described(alloc, members.clone()?)?)
+    let copy = value(rt, members.clone());
+    assert_text(rt, described(alloc, copy), want);
 }
 
 const MEMBERS: &[(&str, usize, &str)] = &[
@@ -63,49 +59,39 @@ const MEMBERS: &[(&str, usize, &str)] = &[
 ];
 
 #[test]
-fn members(rt: HostRuntime) -> Result<()> {
+fn members(rt: HostRuntime) {
     for (text, taken, want) in MEMBERS {
-        let found = members_behind(rt.alloc(), text, *taken)?;
-        assert_text_of(&rt, text, found.as_str(), want);
+        let fields = fields_of(&rt, rt.alloc(), text);
+        assert_members(&rt, rt.alloc(), &fields, *taken, want);
     }
-    Ok(())
 }
 
-/// What the last field is called, where there are few.
-fn last_member(fields: &Fields) -> Option<MemberRef<'_>> {
-    if fields.len() > 1000 {
-        return None;
-    }
+/// What the last field is called.
+fn last_member<'a>(rt: &impl Abort, fields: &'a Fields) -> MemberRef<'a> {
+    assert!(rt; fields.len() <= 1000);
     let mut last = None;
     for member in fields.members() {
         last = Some(member);
     }
-    last
+    last.expect(rt, "a field")
 }
 
-/// Whether two members are equal, which they are by both ways to ask that, or by neither.
-fn are_equal(left: &MemberRef<'_>, right: &MemberRef<'_>) -> Option<bool> {
-    let is_equal = left == right;
-    if left.is_same(right) == is_equal {
-        Some(is_equal)
-    } else {
-        None
-    }
-}
-
-/// Whether a copy of what the last field of a struct is called equals what that of another is called.
-fn last_members_equal(alloc: Global, left: &str, right: &str) -> Result<Option<bool>> {
-    let left = fields_of(alloc, left)?;
-    let right = fields_of(alloc, right)?;
-    match (last_member(&left), last_member(&right)) {
-        (Some(left), Some(right)) => Ok(are_equal(&left.try_clone(alloc)?, &right)),
-        _ => Ok(None),
-    }
+/// Fails where a copy of the first equals the second by either way to ask that, and shouldn't, or the other way round.
+fn assert_member_equality(
+    rt: &impl Abort,
+    alloc: Global,
+    left: &MemberRef<'_>,
+    right: &MemberRef<'_>,
+    want: bool,
+) {
+    let copy = value(rt, left.try_clone(alloc));
+    assert!(rt; (copy == *right) == want, "not {want}");
+    assert!(rt; copy.is_same(right) == want, "not {want}");
 }
 
 /// Where the fields' types begin doesn't count.
 #[test]
-fn equality_of_members(rt: HostRuntime) -> Result<()> {
+fn equality_of_members(rt: HostRuntime) {
     for (left, right, want) in [
         ("struct S(u8, u16);", "struct Other(u8, bool);", true),
         ("struct S(u8);", "struct S(u8, u16);", false),
@@ -113,10 +99,23 @@ fn equality_of_members(rt: HostRuntime) -> Result<()> {
         ("struct S { a: u8 }", "struct S { b: u8 }", false),
         ("struct S { a: u8 }", "struct S(u8);", false),
     ] {
-        let found = last_members_equal(rt.alloc(), left, right)?;
-        assert_eq!(rt; found, Some(want), "{left:?} {right:?}");
+        let left = fields_of(&rt, rt.alloc(), left);
+        let right = fields_of(&rt, rt.alloc(), right);
+        let (left, right) = (last_member(&rt, &left), last_member(&rt, &right));
+        assert_member_equality(&rt, rt.alloc(), &left, &right, want);
     }
-    Ok(())
+}
+
+#[test]
+fn prints_of_members(rt: HostRuntime) {
+    for (text, want) in [
+        ("struct S(u8, u16);", "1"),
+        ("struct S { a: u8, r#in: u8 }", "r#in"),
+    ] {
+        let fields = fields_of(&rt, rt.alloc(), text);
+        let member = last_member(&rt, &fields);
+        assert_text_of(&rt, text, printed(rt.alloc(), &member), want);
+    }
 }
 
 /// The place of this number, at this byte.
@@ -128,177 +127,115 @@ fn place(index: u32, start: usize) -> Index {
 }
 
 #[test]
-fn places(rt: HostRuntime) -> Result<()> {
-    let copy = TryClone::try_clone(&place(10, 2), rt.alloc())?;
-    assert_eq!(rt; copy.span.start, 2);
+fn places(rt: HostRuntime) {
+    let copy = value(&rt, TryClone::try_clone(&place(10, 2), rt.alloc()));
+    assert!(rt; copy.span.start == 2);
     assert!(rt; copy == place(10, 7), "wherever it stands");
     assert!(rt; copy != place(1, 2));
     assert!(rt; copy != place(0, 2));
-    Ok(())
 }
 
 #[test]
-fn places_read(rt: HostRuntime) -> Result<()> {
+fn places_read(rt: HostRuntime) {
     for (text, want) in [("0", 0), ("10", 10), ("4294967295", 4_294_967_295)] {
-        let place: Index = parsed(rt.alloc(), text)?;
-        assert_eq!(rt; place.index, want);
+        let place: Index = tree_of(&rt, rt.alloc(), text);
+        assert!(rt; place.index == want, "{text}");
     }
     for text in ["01", "4294967296", "1u8", "1_0", "1.2", "\"1\""] {
-        let fault = refused::<Index>(rt.alloc(), text)?;
-        assert_text(&rt, fault.text, "expected unsuffixed integer");
-        assert_eq!(rt; fault.span.start, 0);
+        let fault = value(&rt, refused::<Index>(rt.alloc(), text));
+        assert!(rt; fault.text == "expected unsuffixed integer", "{text}");
+        assert!(rt; fault.span.start == 0, "{text}");
     }
-    Ok(())
 }
 
 #[test]
-fn prints_of_places(rt: HostRuntime) -> Result<()> {
+fn prints_of_places(rt: HostRuntime) {
     for (index, want) in [
         (0, "0"),
         (7, "7"),
         (10, "10"),
         (4_294_967_295, "4294967295"),
     ] {
-        let text = printed(rt.alloc(), &place(index, 3))?;
-        assert_text(&rt, text.as_str(), want);
-    }
-    Ok(())
-}
-
-/// What the last field of a struct is called, printed.
-fn last_member_printed(alloc: Global, text: &str) -> Result<String> {
-    let fields = fields_of(alloc, text)?;
-    match last_member(&fields) {
-        Some(member) => printed(alloc, &member),
-        None => Ok(String::new(alloc)),
+        assert_printed(&rt, rt.alloc(), place(index, 3), want);
     }
 }
 
-#[test]
-fn prints_of_members(rt: HostRuntime) -> Result<()> {
-    for (text, want) in [
-        ("struct S(u8, u16);", "1"),
-        ("struct S { a: u8, r#in: u8 }", "r#in"),
-    ] {
-        let found = last_member_printed(rt.alloc(), text)?;
-        assert_text_of(&rt, text, found.as_str(), want);
-    }
-    Ok(())
-}
-
-/// The name of a field.
-fn name_of(field: &Field) -> &str {
-    match &field.ident {
-        Some(ident) => ident.text(),
-        None => "",
-    }
-}
-
-/// Adds the name of a field, or `-` where there is none.
-fn add_name(text: &mut String, field: Option<&Field>) -> std::result::Result<(), AllocError> {
+/// The name of a field; `-` where there is no field.
+fn name_of(field: Option<&Field>) -> &str {
     match field {
-        Some(field) => text.push_str(name_of(field)),
-        None => text.push_str("-"),
+        Some(field) => match &field.ident {
+            Some(ident) => ident.text(),
+            None => "",
+        },
+        None => "-",
     }
 }
 
-/// Adds the name of the first of the fields, used up.
-fn add_first(
-    names: &mut String,
-    fields: &mut IntoIter<Field, Comma>,
-) -> std::result::Result<(), AllocError> {
-    add_name(names, fields.next().as_ref())
+/// The names of the first, the last, and of both again of what is then left.
+type Names = [&'static str; 4];
+
+/// Fails where the fields, used up, have other names.
+fn assert_taken(rt: &impl Abort, mut fields: IntoIter<Field, Comma>, names: &Names) {
+    assert!(rt; name_of(fields.next().as_ref()) == names[0]);
+    assert!(rt; name_of(fields.next_back().as_ref()) == names[1]);
+    assert!(rt; name_of(fields.next().as_ref()) == names[2]);
+    assert!(rt; name_of(fields.next_back().as_ref()) == names[3]);
 }
 
-/// Adds the name of the last.
-fn add_last(
-    names: &mut String,
-    fields: &mut IntoIter<Field, Comma>,
-) -> std::result::Result<(), AllocError> {
-    add_name(names, fields.next_back().as_ref())
-}
-
-/// Adds the name of the first, and of the last of those that are then left.
-fn add_both(
-    names: &mut String,
-    fields: &mut IntoIter<Field, Comma>,
-) -> std::result::Result<(), AllocError> {
-    add_first(names, fields)?;
-    add_last(names, fields)
-}
-
-/// The fields of the struct, used up: the first, the last, and the same again of what is then left.
-fn taken_from_both_ends(alloc: Global, text: &str) -> Result<String> {
-    let mut names = String::new(alloc);
-    let mut fields = fields_of(alloc, text)?.into_iter();
-    add_both(&mut names, &mut fields)?;
-    add_both(&mut names, &mut fields)?;
-    Ok(names)
-}
-
-/// The same, lent.
-fn lent_from_both_ends(alloc: Global, text: &str) -> Result<String> {
-    let fields = fields_of(alloc, text)?;
-    let mut names = String::new(alloc);
-    let mut lent = fields.iter();
-    add_name(&mut names, lent.next())?;
-    add_name(&mut names, lent.next_back())?;
-    let mut left = lent.clone()?;
-    add_name(&mut names, left.next_back())?;
-    add_name(&mut names, lent.next())?;
-    Ok(names)
+/// The same of fields that are lent; of those that are left a copy of the walk takes the last, and then it takes the first itself.
+fn assert_lent(rt: &impl Abort, mut fields: Iter<'_, Field, Comma>, names: &Names) {
+    assert!(rt; name_of(fields.next()) == names[0]);
+    assert!(rt; name_of(fields.next_back()) == names[1]);
+    let mut left = value(rt, fields.clone());
+    assert!(rt; name_of(left.next_back()) == names[2]);
+    assert!(rt; name_of(fields.next()) == names[3]);
 }
 
 #[test]
-fn both_ends(rt: HostRuntime) -> Result<()> {
+fn both_ends(rt: HostRuntime) {
     for (text, taken, lent) in [
-        ("struct S { a: u8, b: u8 }", "ab--", "ab--"),
-        ("struct S { a: u8, b: u8, c: u8 }", "acb-", "acbb"),
-        ("struct S;", "----", "----"),
-        ("struct S {}", "----", "----"),
+        (
+            "struct S { a: u8, b: u8 }",
+            ["a", "b", "-", "-"],
+            ["a", "b", "-", "-"],
+        ),
+        (
+            "struct S { a: u8, b: u8, c: u8 }",
+            ["a", "c", "b", "-"],
+            ["a", "c", "b", "b"],
+        ),
+        ("struct S;", ["-"; 4], ["-"; 4]),
+        ("struct S {}", ["-"; 4], ["-"; 4]),
     ] {
-        let found = taken_from_both_ends(rt.alloc(), text)?;
-        assert_text_of(&rt, text, found.as_str(), taken);
-        let found = lent_from_both_ends(rt.alloc(), text)?;
-        assert_text_of(&rt, text, found.as_str(), lent);
+        let fields = fields_of(&rt, rt.alloc(), text);
+        assert_lent(&rt, fields.iter(), &lent);
+        assert_taken(&rt, fields.into_iter(), &taken);
     }
-    Ok(())
-}
-
-/// The type of no values.
-fn unit_type(alloc: Global) -> Type {
-    Type::Tuple(TypeTuple {
-        paren_token: Paren::new(span(0, 1), span(1, 2)),
-        elems: Punctuated::new(alloc),
-    })
 }
 
 /// Makes `()` the type of a field, where there is one.
 fn make_unit(alloc: Global, field: Option<&mut Field>) {
     if let Some(field) = field {
-        field.ty = unit_type(alloc);
+        field.ty = Type::Tuple(TypeTuple {
+            paren_token: Paren::new(span(0, 1), span(1, 2)),
+            elems: Punctuated::new(alloc),
+        });
     }
 }
 
-/// The print of the fields once the type of the last is `()`, and then that of the first of those that are left.
-fn unit_ends(alloc: Global, text: &str) -> Result<String> {
-    let mut fields = fields_of(alloc, text)?;
-    let mut lent = fields.iter_mut();
-    make_unit(alloc, lent.next_back());
-    make_unit(alloc, lent.next());
-    printed(alloc, &fields)
-}
-
+/// The type of the last is `()`, and then that of the first of those that are left.
 #[test]
-fn changed_at_both_ends(rt: HostRuntime) -> Result<()> {
+fn changed_at_both_ends(rt: HostRuntime) {
     for (text, want) in [
         ("struct S(a, b, c);", "( ( ) , b , ( ) )"),
         ("struct S { a: b }", "{ a : ( ) }"),
         ("struct S();", "( )"),
         ("struct S;", ""),
     ] {
-        let found = unit_ends(rt.alloc(), text)?;
-        assert_text_of(&rt, text, found.as_str(), want);
+        let mut fields = fields_of(&rt, rt.alloc(), text);
+        let mut lent = fields.iter_mut();
+        make_unit(rt.alloc(), lent.next_back());
+        make_unit(rt.alloc(), lent.next());
+        assert_printed(&rt, rt.alloc(), fields, want);
     }
-    Ok(())
 }

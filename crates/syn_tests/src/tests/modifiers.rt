@@ -1,12 +1,13 @@
 //! The modifiers of items, fields and statements: none by default, and what is refused of those that are there.
-use crate::tests::asserts::assert_text;
+use crate::tests::asserts::{assert_equals_copy, assert_text};
 use std::alloc::{AllocError, Global};
 use std::fmt::Write as _;
+use std::process::Abort;
 use syn::data::FieldModifiers;
 use syn::item::{ConstModifiers, FnModifiers, ImplModifiers, TraitModifiers, TypeModifiers};
 use syn::stmt::LocalModifiers;
 use syn::token::{self, Auto, Not};
-use syn::{Fault, Result, TryClone};
+use syn::{Fault, Result};
 use syn_test_support::span;
 
 /// Adds where one fault is, and its text.
@@ -15,7 +16,7 @@ fn add_fault(text: &mut String, fault: &Fault) -> std::result::Result<(), AllocE
 }
 
 /// The faults of the answer; `ok` where there are none.
-fn faults(alloc: Global, answer: Result<()>) -> std::result::Result<String, AllocError> {
+fn faults(alloc: Global, answer: &Result<()>) -> std::result::Result<String, AllocError> {
     let mut text = String::new(alloc);
     match answer {
         Ok(()) => text.push_str("ok")?,
@@ -28,39 +29,34 @@ fn faults(alloc: Global, answer: Result<()>) -> std::result::Result<String, Allo
     Ok(text)
 }
 
+/// Fails where the answer has other faults.
+fn assert_faults(rt: &impl Abort, alloc: Global, answer: Result<()>, want: &str) {
+    assert_text(rt, faults(alloc, &answer), want);
+}
+
 /// `default` at this place.
 fn default_at(start: usize, end: usize) -> Option<token::Default> {
     Some(token::Default::new(span(start, end)))
 }
 
 #[test]
-fn absent(rt: HostRuntime) -> Result<()> {
-    let mut refused = 0;
-    for answer in [
-        FieldModifiers::default().require_empty(),
-        LocalModifiers::default().require_empty(),
-        ConstModifiers::default().require_empty(),
-        FnModifiers::default().require_empty(),
-        TypeModifiers::default().require_empty(),
-        ImplModifiers::default().require_empty(),
-        TraitModifiers::default().require_empty(),
-    ] {
-        if answer.is_err() {
-            refused = 1;
-        }
-    }
-    assert_eq!(rt; refused, 0);
-    Ok(())
+fn absent(rt: HostRuntime) {
+    assert!(rt;
+        FieldModifiers::default().require_empty().is_ok()
+            && LocalModifiers::default().require_empty().is_ok()
+            && ConstModifiers::default().require_empty().is_ok()
+            && FnModifiers::default().require_empty().is_ok()
+            && TypeModifiers::default().require_empty().is_ok()
+            && ImplModifiers::default().require_empty().is_ok()
+            && TraitModifiers::default().require_empty().is_ok()
+    );
 }
 
 /// Of what has no modifiers one is as another.
 #[test]
-fn of_fields_and_statements(rt: HostRuntime) -> Result<()> {
-    let field = FieldModifiers::default();
-    assert!(rt; field.try_clone(rt.alloc())? == field);
-    let statement = LocalModifiers::default();
-    assert!(rt; statement.try_clone(rt.alloc())? == statement);
-    Ok(())
+fn of_fields_and_statements(rt: HostRuntime) {
+    assert_equals_copy(&rt, rt.alloc(), FieldModifiers::default());
+    assert_equals_copy(&rt, rt.alloc(), LocalModifiers::default());
 }
 
 /// An `impl` with a `!` at 3 and a `default` at 9, or with one of these.
@@ -77,7 +73,7 @@ fn of_impl(defaultness: bool, polarity: bool) -> ImplModifiers {
 
 /// Each is reported, `default` before `!`.
 #[test]
-fn of_impls(rt: HostRuntime) -> Result<()> {
+fn of_impls(rt: HostRuntime) {
     for (defaultness, polarity, want) in [
         (false, false, "ok"),
         (true, false, "9: unexpected impl modifier;"),
@@ -89,32 +85,31 @@ fn of_impls(rt: HostRuntime) -> Result<()> {
         ),
     ] {
         let answer = of_impl(defaultness, polarity).require_empty();
-        assert_text(&rt, faults(rt.alloc(), answer)?.as_str(), want);
+        assert_faults(&rt, rt.alloc(), answer, want);
     }
-    Ok(())
 }
 
 #[test]
-fn of_others(rt: HostRuntime) -> Result<()> {
+fn of_others(rt: HostRuntime) {
+    let alloc = rt.alloc();
     let constant = ConstModifiers {
         defaultness: default_at(1, 8),
     };
-    let text = faults(rt.alloc(), constant.require_empty())?;
-    assert_text(&rt, text.as_str(), "1: unexpected const item modifier;");
+    let want = "1: unexpected const item modifier;";
+    assert_faults(&rt, alloc, constant.require_empty(), want);
     let function = FnModifiers {
         defaultness: default_at(2, 9),
     };
-    let text = faults(rt.alloc(), function.require_empty())?;
-    assert_text(&rt, text.as_str(), "2: unexpected function modifier;");
+    let want = "2: unexpected function modifier;";
+    assert_faults(&rt, alloc, function.require_empty(), want);
     let alias = TypeModifiers {
         defaultness: default_at(3, 10),
     };
-    let text = faults(rt.alloc(), alias.require_empty())?;
-    assert_text(&rt, text.as_str(), "3: unexpected type alias modifier;");
+    let want = "3: unexpected type alias modifier;";
+    assert_faults(&rt, alloc, alias.require_empty(), want);
     let auto = TraitModifiers {
         auto_token: Some(Auto::new(span(4, 8))),
     };
-    let text = faults(rt.alloc(), auto.require_empty())?;
-    assert_text(&rt, text.as_str(), "4: unexpected trait modifier;");
-    Ok(())
+    let want = "4: unexpected trait modifier;";
+    assert_faults(&rt, alloc, auto.require_empty(), want);
 }

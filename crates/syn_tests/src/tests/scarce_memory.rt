@@ -5,18 +5,19 @@
 ghost use Rattle.std.specs.Prelude.{None};
 
 use std::alloc::Global;
+use std::process::Abort;
 use syn::canon::{canonical, same_form};
 use syn::data::FieldsUnnamed;
 use syn::deferred::DeferredConstant;
 use syn::derive::DeriveInput;
-use syn::parse::ParseBuffer;
+use syn::parse::{Parse, ParseBuffer};
 use syn::print::ToTokens;
 use syn::punctuated::Punctuated;
 use syn::reader::{read_tokens, token_text};
 use syn::restriction::Visibility;
-use syn::token::{Ident, LitKind, Literal, TokenStream, TokenTree};
+use syn::token::{Ident, LitKind, Literal, TokenStream};
 use syn::{Expr, Result, TryClone};
-use syn_test_support::{fault, parsed, printed, refused_at, reprinted, span};
+use syn_test_support::{fault, parsed, printed, push_ident, refused_at, reprinted, span};
 
 const STRUCT: &str = "pub struct S(pub(in a::b) c, ::d::e,);";
 
@@ -37,13 +38,23 @@ fn are_right(first: Result<bool>, second: Result<bool>) -> bool {
     }
 }
 
+/// Fails where that isn't so.
+fn assert_right(rt: &impl Abort, first: Result<bool>, second: Result<bool>) {
+    assert!(rt; are_right(first, second));
+}
+
+/// Whether this is the text of the tokens.
+fn is_text(tokens: &TokenStream, want: &str) -> Result<bool> {
+    Ok(token_text(tokens)?.as_str() == want)
+}
+
 fn is_read(alloc: Global) -> Result<bool> {
     let tokens = read_tokens(alloc, STRUCT)?;
-    Ok(tokens.len() == 5 && token_text(&tokens)?.as_str() == PRINTED)
+    Ok(tokens.len() == 5 && is_text(&tokens, PRINTED)?)
 }
 
 fn is_source_read(alloc: Global) -> Result<bool> {
-    Ok(token_text(&read_tokens(alloc, SOURCE)?)?.as_str() == TEXT)
+    is_text(&read_tokens(alloc, SOURCE)?, TEXT)
 }
 
 fn is_refused_by_reader(alloc: Global) -> Result<bool> {
@@ -53,13 +64,13 @@ fn is_refused_by_reader(alloc: Global) -> Result<bool> {
 
 #[test]
 fn reader(rt: HostRuntime) {
-    assert!(rt; are_right(is_read(rt.alloc()), is_read(rt.alloc())));
-    assert!(rt; are_right(is_source_read(rt.alloc()), is_source_read(rt.alloc())));
-    assert!(rt;
-        are_right(
-            is_refused_by_reader(rt.alloc()),
-            is_refused_by_reader(rt.alloc())
-        )
+    let alloc = rt.alloc();
+    assert_right(&rt, is_read(alloc), is_read(alloc));
+    assert_right(&rt, is_source_read(alloc), is_source_read(alloc));
+    assert_right(
+        &rt,
+        is_refused_by_reader(alloc),
+        is_refused_by_reader(alloc),
     );
 }
 
@@ -74,13 +85,14 @@ fn is_refused(alloc: Global) -> Result<bool> {
 
 #[test]
 fn parsers(rt: HostRuntime) {
-    assert!(rt; are_right(is_reprinted(rt.alloc()), is_reprinted(rt.alloc())));
-    assert!(rt; are_right(is_refused(rt.alloc()), is_refused(rt.alloc())));
+    let alloc = rt.alloc();
+    assert_right(&rt, is_reprinted(alloc), is_reprinted(alloc));
+    assert_right(&rt, is_refused(alloc), is_refused(alloc));
 }
 
 fn is_canonical(alloc: Global) -> Result<bool> {
     let print = canonical::<DeriveInput>(read_tokens(alloc, STRUCT)?)?;
-    Ok(token_text(&print)?.as_str() == PRINTED)
+    is_text(&print, PRINTED)
 }
 
 fn has_same_form(alloc: Global) -> Result<bool> {
@@ -97,63 +109,84 @@ fn has_other_form(alloc: Global) -> Result<bool> {
 
 #[test]
 fn forms(rt: HostRuntime) {
-    assert!(rt; are_right(is_canonical(rt.alloc()), is_canonical(rt.alloc())));
-    assert!(rt; are_right(has_same_form(rt.alloc()), has_same_form(rt.alloc())));
-    assert!(rt; are_right(has_other_form(rt.alloc()), has_other_form(rt.alloc())));
+    let alloc = rt.alloc();
+    assert_right(&rt, is_canonical(alloc), is_canonical(alloc));
+    assert_right(&rt, has_same_form(alloc), has_same_form(alloc));
+    assert_right(&rt, has_other_form(alloc), has_other_form(alloc));
+}
+
+/// Whether the copy of a stream is equal to it, and so is that of a group in it.
+fn equals_copy(tokens: &TokenStream) -> Result<bool> {
+    let copy = tokens.try_clone(tokens.alloc())?;
+    let group = tokens.get(3)?;
+    Ok(copy == *tokens && group == copy.get(3)?)
 }
 
 fn is_copied(alloc: Global) -> Result<bool> {
-    let tokens = read_tokens(alloc, STRUCT)?;
-    let copy = tokens.try_clone(alloc)?;
-    let group = tokens.get(3)?;
-    Ok(copy == tokens && group == copy.get(3)?)
+    equals_copy(&read_tokens(alloc, STRUCT)?)
+}
+
+/// Whether what is left of a stream before any of it is read is equal to it, and so is what was read then.
+fn equals_rest(tokens: &TokenStream) -> Result<bool> {
+    let start = ParseBuffer::new(tokens);
+    let mut input = start.fork();
+    Ok(input.rest()? == *tokens && start.between(&input)? == *tokens)
 }
 
 fn is_taken_over(alloc: Global) -> Result<bool> {
-    let tokens = read_tokens(alloc, STRUCT)?;
-    let start = ParseBuffer::new(&tokens);
-    let mut input = start.fork();
-    let rest = input.rest()?;
-    Ok(rest == tokens && start.between(&input)? == tokens)
+    equals_rest(&read_tokens(alloc, STRUCT)?)
+}
+
+/// Whether the tree's copy is equal to it.
+fn is_equal_copied<T: TryClone + PartialEq + Drop>(alloc: Global, tree: T) -> Result<bool> {
+    Ok(tree.try_clone(alloc)? == tree)
 }
 
 fn is_tree_copied(alloc: Global) -> Result<bool> {
-    let tree: DeriveInput = parsed(alloc, STRUCT)?;
-    let copy = tree.try_clone(alloc)?;
-    Ok(copy == tree)
+    is_equal_copied::<DeriveInput>(alloc, parsed(alloc, STRUCT)?)
 }
 
 #[test]
 fn copies(rt: HostRuntime) {
-    assert!(rt; are_right(is_tree_copied(rt.alloc()), is_tree_copied(rt.alloc())));
-    assert!(rt; are_right(is_copied(rt.alloc()), is_copied(rt.alloc())));
-    assert!(rt; are_right(is_taken_over(rt.alloc()), is_taken_over(rt.alloc())));
+    let alloc = rt.alloc();
+    assert_right(&rt, is_tree_copied(alloc), is_tree_copied(alloc));
+    assert_right(&rt, is_copied(alloc), is_copied(alloc));
+    assert_right(&rt, is_taken_over(alloc), is_taken_over(alloc));
 }
+
+/// Whether the tree prints this text.
+fn prints<T: ToTokens + Drop>(alloc: Global, tree: T, want: &str) -> Result<bool> {
+    Ok(printed(alloc, &tree)?.as_str() == want)
+}
+
+const CALL: &str = "{ f::<A, 'a>(b) }";
+
+const CALL_PRINTED: &str = "{ f :: < 'a , A , > ( b ) }";
 
 /// Its print has lifetimes first, so it is read twice, and kept twice.
 fn is_deferred(alloc: Global) -> Result<bool> {
-    let deferred: DeferredConstant = parsed(alloc, "{ f::<A, 'a>(b) }")?;
+    let deferred: DeferredConstant = parsed(alloc, CALL)?;
     let copy = deferred.try_clone(alloc)?;
-    Ok(copy == deferred && printed(alloc, &copy)?.as_str() == "{ f :: < 'a , A , > ( b ) }")
+    Ok(copy == deferred && prints(alloc, copy, CALL_PRINTED)?)
 }
 
 fn is_made_by_hand(alloc: Global) -> Result<bool> {
     let tree: Expr = parsed(alloc, "{ a + 1 }")?;
-    let deferred: DeferredConstant = DeferredConstant::new(&tree, alloc)?;
-    Ok(printed(alloc, &deferred)?.as_str() == "{ a + 1 }")
+    let deferred: Result<DeferredConstant> = DeferredConstant::new(&tree, alloc);
+    prints(alloc, deferred?, "{ a + 1 }")
 }
 
 fn is_opened(alloc: Global) -> Result<bool> {
-    let deferred: DeferredConstant = parsed(alloc, "{ f::<A, 'a>(b) }")?;
-    let tree: Expr = deferred.open()?;
-    Ok(printed(alloc, &tree)?.as_str() == "{ f :: < 'a , A , > ( b ) }")
+    let deferred: DeferredConstant = parsed(alloc, CALL)?;
+    prints::<Expr>(alloc, deferred.open()?, CALL_PRINTED)
 }
 
 #[test]
 fn deferred_trees(rt: HostRuntime) {
-    assert!(rt; are_right(is_deferred(rt.alloc()), is_deferred(rt.alloc())));
-    assert!(rt; are_right(is_made_by_hand(rt.alloc()), is_made_by_hand(rt.alloc())));
-    assert!(rt; are_right(is_opened(rt.alloc()), is_opened(rt.alloc())));
+    let alloc = rt.alloc();
+    assert_right(&rt, is_deferred(alloc), is_deferred(alloc));
+    assert_right(&rt, is_made_by_hand(alloc), is_made_by_hand(alloc));
+    assert_right(&rt, is_opened(alloc), is_opened(alloc));
 }
 
 /// Whether a parse that is refused for want of memory leaves its buffer, and the next one is right.
@@ -184,33 +217,42 @@ fn rest_leaves(alloc: Global) -> Result<bool> {
 
 #[test]
 fn buffers(rt: HostRuntime) {
-    assert!(rt; are_right(parse_leaves(rt.alloc()), parse_leaves(rt.alloc())));
-    assert!(rt; are_right(rest_leaves(rt.alloc()), rest_leaves(rt.alloc())));
+    let alloc = rt.alloc();
+    assert_right(&rt, parse_leaves(alloc), parse_leaves(alloc));
+    assert_right(&rt, rest_leaves(alloc), rest_leaves(alloc));
 }
 
-/// Whether a refused print leaves the stream as it was.
-fn print_leaves(alloc: Global) -> Result<bool> {
-    let tree: Visibility = parsed(alloc, "pub(in a::b)")?;
-    let mut tokens = read_tokens(alloc, "x")?;
-    if let Err(error) = tree.to_tokens(&mut tokens) {
-        let is_left = error.is_memory() && token_text(&tokens)?.as_str() == "x";
-        tree.to_tokens(&mut tokens)?;
+/// Whether a refused print leaves the stream, which is `x`, as it was, and the next one is right.
+fn is_appended<T: ToTokens>(tree: &T, tokens: &mut TokenStream) -> Result<bool> {
+    if let Err(error) = tree.to_tokens(tokens) {
+        let is_left = error.is_memory() && is_text(tokens, "x")?;
+        tree.to_tokens(tokens)?;
         return Ok(is_left && tokens.len() == 3);
     }
-    Ok(token_text(&tokens)?.as_str() == "x pub ( in a :: b )")
+    is_text(tokens, "x pub ( in a :: b )")
 }
 
-/// Whether a refused push leaves the stream as it was.
+fn print_leaves(alloc: Global) -> Result<bool> {
+    let mut tokens = read_tokens(alloc, "x")?;
+    let tree: Visibility = parsed(alloc, "pub(in a::b)")?;
+    is_appended(&tree, &mut tokens)
+}
+
+/// Whether a refused push leaves the stream, which holds so many trees, as it was, and the next one is right.
+fn is_pushed(tokens: &mut TokenStream, count: usize) -> Result<bool> {
+    if let Err(error) = push_ident(tokens, "a") {
+        let is_left = error.is_memory() && tokens.len() == count;
+        push_ident(tokens, "a")?;
+        return Ok(is_left);
+    }
+    Ok(true)
+}
+
 fn push_leaves(alloc: Global) -> Result<bool> {
     let mut tokens = TokenStream::new(alloc);
     for count in 0..12 {
-        let ident = Ident::new(alloc, "a", span(0, 1))?;
-        if let Err(error) = tokens.push(TokenTree::Ident(ident)) {
-            if !error.is_memory() || tokens.len() != count {
-                return Ok(false);
-            }
-            let again = Ident::new(alloc, "a", span(0, 1))?;
-            tokens.push(TokenTree::Ident(again))?;
+        if !is_pushed(&mut tokens, count)? {
+            return Ok(false);
         }
     }
     Ok(tokens.len() == 12)
@@ -218,8 +260,9 @@ fn push_leaves(alloc: Global) -> Result<bool> {
 
 #[test]
 fn streams(rt: HostRuntime) {
-    assert!(rt; are_right(print_leaves(rt.alloc()), print_leaves(rt.alloc())));
-    assert!(rt; are_right(push_leaves(rt.alloc()), push_leaves(rt.alloc())));
+    let alloc = rt.alloc();
+    assert_right(&rt, print_leaves(alloc), print_leaves(alloc));
+    assert_right(&rt, push_leaves(alloc), push_leaves(alloc));
 }
 
 /// Whether refused pushes leave a list as it was.
@@ -247,28 +290,31 @@ fn list_keeps(alloc: Global) -> Result<bool> {
 
 #[test]
 fn lists(rt: HostRuntime) {
-    assert!(rt; are_right(list_keeps(rt.alloc()), list_keeps(rt.alloc())));
+    assert_right(&rt, list_keeps(rt.alloc()), list_keeps(rt.alloc()));
 }
 
 fn is_ident_made(alloc: Global) -> Result<bool> {
     let ident = Ident::new(alloc, "r#a", span(0, 1))?;
-    Ok(ident.try_clone(alloc)? == ident && ident.text() == "r#a")
+    Ok(ident.text() == "r#a" && is_equal_copied(alloc, ident)?)
 }
 
 fn is_literal_made(alloc: Global) -> Result<bool> {
     let literal = Literal::new(alloc, LitKind::Char, "'a'", span(0, 1))?;
-    Ok(literal.try_clone(alloc)? == literal && literal.text() == "'a'")
+    Ok(literal.text() == "'a'" && is_equal_copied(alloc, literal)?)
+}
+
+/// Whether the answer is a fault and no want of memory.
+fn is_fault<T>(answer: &Result<T>) -> bool {
+    matches!(answer, Err(error) if !error.is_memory())
 }
 
 /// A text that is no identifier is refused by a fault, whatever memory there is.
 #[test]
 fn leaves(rt: HostRuntime) {
-    assert!(rt; are_right(is_ident_made(rt.alloc()), is_ident_made(rt.alloc())));
-    assert!(rt; are_right(is_literal_made(rt.alloc()), is_literal_made(rt.alloc())));
+    let alloc = rt.alloc();
+    assert_right(&rt, is_ident_made(alloc), is_ident_made(alloc));
+    assert_right(&rt, is_literal_made(alloc), is_literal_made(alloc));
     for text in ["", "1a", "a-b", "r#"] {
-        assert!(rt;
-            Ident::new(rt.alloc(), text, span(0, 1)).is_err_and(|e| !e.is_memory()),
-            "{text}"
-        );
+        assert!(rt; is_fault(&Ident::new(alloc, text, span(0, 1))), "{text}");
     }
 }

@@ -1,50 +1,34 @@
 //! Types in groups without delimiters.
-use crate::tests::asserts::assert_text_of;
+use crate::tests::asserts::{assert_text_of, grouped, value};
 use std::alloc::Global;
+use std::process::Abort;
 use syn::Result;
 use syn::lower::Type;
 use syn::parse::ParseBuffer;
-use syn::reader::{read_tokens, token_text};
+use syn::reader::token_text;
 use syn::token::{Delimiter, Spacing, TokenStream};
 use syn_test_support::outline::outline;
-use syn_test_support::{fault, push_group, push_marks};
+use syn_test_support::{fault, push_marks};
 
 /// A type behind a mark, in a group without delimiters, and a mark behind the group.
-fn in_a_group(alloc: Global, text: &str) -> Result<TokenStream> {
-    let mut tokens = read_tokens(alloc, "&")?;
-    push_group(&mut tokens, Delimiter::None, read_tokens(alloc, text)?)?;
-    push_marks(&mut tokens, ";", Spacing::Alone)?;
-    Ok(tokens)
+fn in_a_group(rt: &impl Abort, alloc: Global, text: &str) -> TokenStream {
+    let mut tokens = grouped(rt, alloc, "&", Delimiter::None, text);
+    value(rt, push_marks(&mut tokens, ";", Spacing::Alone));
+    tokens
 }
 
-/// What shows the type in a group; nothing where this is no group.
+/// What shows the type in a group behind a reference; nothing where this is none.
 fn content_shown(alloc: Global, ty: &Type) -> Result<String> {
-    match ty {
-        Type::Group(group) => Ok(outline(alloc, &*group.elem)?),
-        _ => Ok(String::new(alloc)),
+    if let Type::Reference(reference) = ty
+        && let Type::Group(group) = &*reference.elem
+    {
+        return Ok(outline(alloc, &*group.elem)?);
     }
+    Ok(String::new(alloc))
 }
 
-/// The same of the type behind the reference at the front.
-fn inner_shown(alloc: Global, input: &mut ParseBuffer<'_>) -> Result<String> {
-    let ty: Type = input.parse()?;
-    match &ty {
-        Type::Reference(reference) => content_shown(alloc, &reference.elem),
-        _ => Ok(String::new(alloc)),
-    }
-}
-
-/// What shows the type in such a group.
-fn group_shown(alloc: Global, text: &str) -> Result<String> {
-    let tokens = in_a_group(alloc, text)?;
-    inner_shown(alloc, &mut ParseBuffer::new(&tokens))
-}
-
-/// What is left behind it.
-fn left_behind_group(alloc: Global, text: &str) -> Result<String> {
-    let tokens = in_a_group(alloc, text)?;
-    let mut input = ParseBuffer::new(&tokens);
-    let _shown = inner_shown(alloc, &mut input)?;
+/// What is left of the input.
+fn left(input: &mut ParseBuffer<'_>) -> Result<String> {
     token_text(&input.rest()?)
 }
 
@@ -58,28 +42,25 @@ const GROUPS: &[(&str, &str)] = &[
 
 /// A group without delimiters is a type of its own, and holds nothing but a type.
 #[test]
-fn groups(rt: HostRuntime) -> Result<()> {
+fn groups(rt: HostRuntime) {
     for (text, want) in GROUPS {
-        assert_text_of(&rt, text, group_shown(rt.alloc(), text)?.as_str(), want);
-        assert_text_of(
-            &rt,
-            text,
-            left_behind_group(rt.alloc(), text)?.as_str(),
-            ";",
-        );
+        let tokens = in_a_group(&rt, rt.alloc(), text);
+        let mut input = ParseBuffer::new(&tokens);
+        let ty: Type = value(&rt, input.parse());
+        assert_text_of(&rt, text, content_shown(rt.alloc(), &ty), want);
+        assert_text_of(&rt, text, left(&mut input), ";");
     }
-    Ok(())
 }
 
 #[test]
-fn refused_groups(rt: HostRuntime) -> Result<()> {
+fn refused_groups(rt: HostRuntime) {
     for (text, words) in [
         ("", "expected identifier"),
         ("T U", "unexpected token"),
         ("dyn T", "expected identifier"),
     ] {
-        let missed = fault(group_shown(rt.alloc(), text))?;
-        assert_text_of(&rt, text, missed.text, words);
+        let tokens = in_a_group(&rt, rt.alloc(), text);
+        let missed = value(&rt, fault(ParseBuffer::new(&tokens).parse::<Type>()));
+        assert!(rt; missed.text == words, "{text}");
     }
-    Ok(())
 }

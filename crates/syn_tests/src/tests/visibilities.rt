@@ -1,118 +1,88 @@
 //! Visibilities of tokens made by hand.
-use crate::tests::asserts::assert_text;
+use crate::tests::asserts::{assert_printed, grouped, tokens_of, value};
 use std::alloc::Global;
+use std::process::Abort;
 use syn::parse::{ParseBuffer, parse2};
-use syn::reader::read_tokens;
 use syn::restriction::Visibility;
 use syn::token::{Delimiter, TokenStream};
-use syn::{Fault, Result, Variant};
-use syn_test_support::{fault, printed, push_group, push_ident};
+use syn::{Result, Variant};
+use syn_test_support::{fault, push_group, push_ident};
 
 /// `pub` and a group that holds this identifier.
-fn restricted_by(alloc: Global, delimiter: Delimiter, text: &str) -> Result<TokenStream> {
+fn restricted_by(rt: &impl Abort, alloc: Global, delimiter: Delimiter, text: &str) -> TokenStream {
     let mut content = TokenStream::new(alloc);
-    push_ident(&mut content, text)?;
-    let mut tokens = TokenStream::new(alloc);
-    push_ident(&mut tokens, "pub")?;
-    push_group(&mut tokens, delimiter, content)?;
-    Ok(tokens)
+    value(rt, push_ident(&mut content, text));
+    let mut tokens = tokens_of(rt, alloc, "pub");
+    value(rt, push_group(&mut tokens, delimiter, content));
+    tokens
 }
 
-/// Whether the visibility at the front of the stream is restricted and all of it, or else `pub` alone, which leaves something.
-fn restricts(tokens: &TokenStream) -> Result<Option<bool>> {
-    let mut input = ParseBuffer::new(tokens);
-    let vis: Visibility = input.parse()?;
-    Ok(match (&vis, input.is_empty()) {
-        (Visibility::Restricted(_), true) => Some(true),
-        (Visibility::Public(_), false) => Some(false),
-        _ => None,
-    })
+/// What kind of visibility it is.
+fn kind(vis: &Visibility) -> &'static str {
+    match vis {
+        Visibility::Public(_) => "public",
+        Visibility::Restricted(_) => "restricted",
+        Visibility::Inherited => "inherited",
+    }
+}
+
+/// Fails where the visibility at the front of the stream is of another kind, or is all of it and shouldn't be, or the other way
+/// round.
+fn assert_front(rt: &impl Abort, tokens: TokenStream, want: &str, is_whole: bool) {
+    let mut input = ParseBuffer::new(&tokens);
+    let vis: Visibility = value(rt, input.parse());
+    let found = kind(&vis);
+    assert!(rt;
+        found == want && input.is_empty() == is_whole,
+        "{found}, not {want}, and all of it: {is_whole}"
+    );
 }
 
 /// A raw identifier is no word of the language, and a group without delimiters is no parentheses.
 #[test]
-fn by_hand(rt: HostRuntime) -> Result<()> {
-    for (delimiter, text, want) in [
-        (Delimiter::Paren, "crate", true),
-        (Delimiter::Paren, "r#crate", false),
-        (Delimiter::Paren, "r#self", false),
-        (Delimiter::Brace, "crate", false),
-        (Delimiter::None, "crate", false),
+fn by_hand(rt: HostRuntime) {
+    for (delimiter, text, want, is_whole) in [
+        (Delimiter::Paren, "crate", "restricted", true),
+        (Delimiter::Paren, "r#crate", "public", false),
+        (Delimiter::Paren, "r#self", "public", false),
+        (Delimiter::Brace, "crate", "public", false),
+        (Delimiter::None, "crate", "public", false),
     ] {
-        let tokens = restricted_by(rt.alloc(), delimiter, text)?;
-        assert_eq!(rt; restricts(&tokens)?, Some(want), "{text}");
+        let tokens = restricted_by(&rt, rt.alloc(), delimiter, text);
+        assert_front(&rt, tokens, want, is_whole);
     }
-    Ok(())
 }
 
-/// The fault of the whole.
-fn refused_whole(alloc: Global, delimiter: Delimiter, text: &str) -> Result<Fault> {
-    fault(parse2::<Visibility>(restricted_by(alloc, delimiter, text)?))
-}
-
+/// The whole is refused then.
 #[test]
-fn whole_by_hand(rt: HostRuntime) -> Result<()> {
+fn whole_by_hand(rt: HostRuntime) {
     for (delimiter, text) in [(Delimiter::Paren, "r#crate"), (Delimiter::None, "crate")] {
-        let fault = refused_whole(rt.alloc(), delimiter, text)?;
-        assert_eq!(rt; fault.text, "unexpected token", "{text}");
+        let tokens = restricted_by(&rt, rt.alloc(), delimiter, text);
+        let missed = value(&rt, fault(parse2::<Visibility>(tokens)));
+        assert!(rt; missed.text == "unexpected token", "{text}");
     }
-    Ok(())
-}
-
-/// An invisible group that holds the tokens of a text.
-fn invisible(alloc: Global, text: &str) -> Result<TokenStream> {
-    let mut tokens = TokenStream::new(alloc);
-    push_group(&mut tokens, Delimiter::None, read_tokens(alloc, text)?)?;
-    Ok(tokens)
-}
-
-/// Whether the visibility at the front of the stream is not written, and is all of it or leaves something.
-fn stands_for_none(tokens: &TokenStream) -> Result<Option<bool>> {
-    let mut input = ParseBuffer::new(tokens);
-    let vis: Visibility = input.parse()?;
-    Ok(match &vis {
-        Visibility::Inherited => Some(input.is_empty()),
-        _ => None,
-    })
 }
 
 /// An invisible group is a visibility where it holds nothing; any other is left.
 #[test]
-fn invisible_groups(rt: HostRuntime) -> Result<()> {
-    for (text, want) in [("", true), ("a", false), ("pub", false), ("()", false)] {
-        let tokens = invisible(rt.alloc(), text)?;
-        assert_eq!(rt; stands_for_none(&tokens)?, Some(want), "{text}");
+fn invisible_groups(rt: HostRuntime) {
+    for (text, is_whole) in [("", true), ("a", false), ("pub", false), ("()", false)] {
+        let tokens = grouped(&rt, rt.alloc(), "", Delimiter::None, text);
+        assert_front(&rt, tokens, "inherited", is_whole);
     }
-    Ok(())
 }
 
-/// The print of a variant whose name stands behind an invisible group.
-fn variant_behind(alloc: Global, text: &str) -> Result<String> {
-    let mut tokens = invisible(alloc, text)?;
-    push_ident(&mut tokens, "A")?;
-    let variant: Variant = parse2(tokens)?;
-    printed(alloc, &variant)
-}
-
-#[test]
-fn variants_behind_empty_groups(rt: HostRuntime) -> Result<()> {
-    let print = variant_behind(rt.alloc(), "")?;
-    assert_text(&rt, print.as_str(), "A");
-    Ok(())
-}
-
-/// The fault of a variant behind another group.
-fn refused_variant(alloc: Global, text: &str) -> Result<Fault> {
-    fault(variant_behind(alloc, text))
+/// A variant whose name stands behind an invisible group.
+fn variant_behind(rt: &impl Abort, alloc: Global, text: &str) -> Result<Variant> {
+    let mut tokens = grouped(rt, alloc, "", Delimiter::None, text);
+    value(rt, push_ident(&mut tokens, "A"));
+    parse2(tokens)
 }
 
 #[test]
-fn variants_behind_other_groups(rt: HostRuntime) -> Result<()> {
-    let fault = refused_variant(rt.alloc(), "pub")?;
-    assert_eq!(rt;
-        fault.text,
-        "expected identifier",
-        "a group that holds `pub`"
-    );
-    Ok(())
+fn variants_behind_groups(rt: HostRuntime) {
+    let variant = value(&rt, variant_behind(&rt, rt.alloc(), ""));
+    assert_printed(&rt, rt.alloc(), variant, "A");
+    let missed = value(&rt, fault(variant_behind(&rt, rt.alloc(), "pub")));
+    assert!(rt; missed.text == "expected identifier");
 }
