@@ -43,7 +43,8 @@ REFUSING = {'after_expression': 'MissingSemi'}
 
 # Looks that no part of a look is data of: a function tells each.
 TOLD = ['at_any_literal', 'at_lifetime', 'at_inner_attribute', 'at_arguments', 'at_association', 'at_turbofish', 'at_path_word',
-        'at_pattern_path', 'at_macro', 'at_brace_macro', 'at_lone_crate', 'at_crate_macro', 'at_bang', 'at_postfix_mark', 'at_block_like', 'at_whole_expression', 'at_unfinished']
+        'at_pattern_path', 'at_macro', 'at_brace_macro', 'at_lone_crate', 'at_crate_macro', 'at_bang', 'at_postfix_mark',
+        'at_block_like', 'at_whole_expression', 'at_unfinished']
 
 TOKENS = {
     ('name',): 'Name', ('index',): 'Index', ('name_or', ('self', 'Self', 'super', 'crate')): 'PathWord',
@@ -139,6 +140,8 @@ class Writer:
         texts = [self.form(form, way) for form, way in parts]
         while head.count('&') + sum(1 + text.count('&') for text in texts) > LARGEST:
             heaviest = max(range(len(texts)), key=lambda i: texts[i].count('&'))
+            if '&' not in texts[heaviest]:
+                raise ValueError(f'a look of {self.rule} refers to too many others: a function has to tell it')
             texts[heaviest] = self.cut(texts[heaviest], parts[heaviest][1])
         return self.named('Form', head + ', '.join('&' + text for text in texts) + ')')
 

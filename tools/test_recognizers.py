@@ -1,5 +1,6 @@
 #!/usr/bin/env python3
 """Tests of recognizers.py. Run it with no arguments."""
+import re
 import shutil
 import subprocess
 import sys
@@ -7,7 +8,7 @@ import tempfile
 import unittest
 from pathlib import Path
 
-from recognizers import ASKED, Writer, camel, rules_in
+from recognizers import ASKED, CRATE, LARGEST, Writer, camel, rules_in
 
 HERE = Path(__file__).resolve().parent
 TOP = HERE.parent
@@ -57,6 +58,28 @@ class Recognizers(unittest.TestCase):
 
     def test_what_stands_is_what_would_be_written(self):
         self.assertEqual(check(self.copy()), (0, ''))
+
+    def statics(self):
+        """The form of each static that is written, by its name."""
+        texts = [file.read_text() for file in (TOP / CRATE / 'src/rules').glob('*.rt')]
+        return dict(found for text in texts for found in re.findall(r'static (\w+): Form = (.*?);\n', text, re.DOTALL))
+
+    def test_no_static_is_large(self):
+        sizes = [form.count('&') for form in self.statics().values()]
+        self.assertGreater(len(sizes), len(self.writer.rules()))
+        self.assertLessEqual(max(sizes), LARGEST)
+
+    def test_each_part_stands_in_one_form(self):
+        forms = ' '.join(self.statics().values())
+        named = re.findall(r'Part::(\w+)', forms)
+        self.assertEqual(len(named), len(set(named)))
+        self.assertEqual(len(self.statics()), len(self.writer.rules()) + len(named))
+
+    def test_a_look_that_is_too_large_is_refused(self):
+        writer = Writer()
+        writer.rule = 'type'
+        with self.assertRaisesRegex(ValueError, 'a look of type refers to too many others'):
+            writer.made('When(' + '&' * LARGEST, [(('empty',), ()), (('empty',), ())])
 
     def told_of_change(self, name, old, new):
         """What the script says of a copy in which this text of a file is changed."""
