@@ -1,14 +1,15 @@
 #!/usr/bin/env python3
-"""Runs the tests of a crate with one request for memory refused: the first, the second, and so on.
+"""Runs tests or a program with one request for memory refused: the first, the second, and so on.
 
-    tools/scarce_memory.py [CRATE [FIRST [LAST]]]      syn_tests 1 60 where nothing else is said
-    tools/scarce_memory.py check_rows [FIRST [LAST]]
+    tools/scarce_memory.py [syn_tests [FIRST [LAST]]]      1 60 where nothing else is said
+    tools/scarce_memory.py PROGRAM [FIRST [LAST]]          check_rows or syn_canon
     tools/scarce_memory.py copies
 
-Each test that is judged has to pass, or to fail by the error of memory alone; those of a module scarce_memory have to
-pass. What does otherwise is printed with what it said.
+Each test has to pass, or to fail by the error of memory alone; those of a module scarce_memory have to pass. What does
+otherwise is printed with what it said.
 
-`check_rows` is a program: with its rows it has to end with status 3 and without a word, or to write what it is to write.
+A program has to end with status 3 and to write nothing, or to write what it is to write: check_rows of its rows, and
+syn_canon, which prints a struct.
 
 `copies` refuses each request of the copy of a stream of fifty groups, one in another: there has to be one, as the copy
 takes memory once, however deep the stream is.
@@ -23,13 +24,14 @@ import subprocess
 import sys
 from pathlib import Path
 
-# the tests of each crate that tell a want of memory from other errors: how their names begin
-JUDGED = {"syn_tests": "tests::", "syn_canon": "tests::scarce_memory::"}
-
-# a program that does nothing but answer its standard input
-PROGRAM = "check_rows"
-
 CRATES = Path(__file__).resolve().parent.parent / "crates"
+# the crate whose tests tell a want of memory from other errors
+TESTS = "syn_tests"
+# of a program its words, what stands on standard input, and what it is to write
+PROGRAMS = {
+    "check_rows": ([], CRATES / "check_rows/stdin", CRATES / "check_rows/stdout"),
+    "syn_canon": (["print", "derive"], "pub struct S(pub(in a) b::c,);", "pub struct S ( pub ( in a ) b :: c , ) ;\n"),
+}
 TEST = re.compile(r"test (\S+) \.\.\. (ok|FAILED)$")
 # how a test ends that hands on an error of memory, or expects an answer and has one: an `Error` without faults, or std's own
 WANT_OF_MEMORY = re.compile(r"([Ee]rror|an answer): (Error \{.*count: 0 \}|.*AllocError.*|AllocFailed .*|.*OutOfMemory.*)$")
@@ -49,24 +51,29 @@ def run(crate, number):
     return tests
 
 
-def run_program(number):
-    """The status of the program on its standard input, and what it wrote; no status where it didn't end."""
+def text_of(place):
+    """What a file holds, or the text itself."""
+    return place.read_text(encoding="utf-8") if isinstance(place, Path) else place
+
+
+def run_program(name, number):
+    """The status of the program, and what it wrote; no status where it didn't end."""
+    words, given, _ = PROGRAMS[name]
     # the steps are the interpreter's, which wouldn't get to the end; the compiled program answers
-    command = ["rt", "try", "--steps", "1000", "--fail-alloc", str(number)]
-    with open(CRATES / PROGRAM / "stdin", encoding="utf-8") as rows:
-        done = subprocess.run(command, cwd=CRATES / PROGRAM, stdin=rows, capture_output=True, text=True)
+    command = ["rt", "try", "--steps", "1000", "--fail-alloc", str(number), "--", *words]
+    done = subprocess.run(command, cwd=CRATES / name, input=text_of(given), capture_output=True, text=True)
     ended = re.search(r"(?m)^checked: ended status=(\d+)$", done.stderr)
     return ended and int(ended[1]), done.stdout
 
 
-def of_program(first, last):
+def of_program(name, first, last):
     """Refuses each of these requests of the program. Returns how many of the runs were wrong."""
     wrong = 0
-    answer = (CRATES / PROGRAM / "stdout").read_text(encoding="utf-8")
+    answer = text_of(PROGRAMS[name][2])
     for number in range(first, last + 1):
-        status, said = run_program(number)
+        status, said = run_program(name, number)
         is_right = (status, said.rstrip("\n")) in ((0, answer.rstrip("\n")), (3, ""))
-        print(f"{PROGRAM}, request {number}: status {status}" + ("" if is_right else f", wrong: {said!r}"), flush=True)
+        print(f"{name}, request {number}: status {status}" + ("" if is_right else f", wrong: {said!r}"), flush=True)
         wrong += not is_right
     return wrong
 
@@ -104,31 +111,32 @@ def copies():
     sys.exit(number - first != 1)
 
 
-def main():
-    parser = argparse.ArgumentParser(description=__doc__, formatter_class=argparse.RawDescriptionHelpFormatter)
-    parser.add_argument("crate", nargs="?", default="syn_tests", choices=[*JUDGED, PROGRAM, "copies"])
-    parser.add_argument("first", nargs="?", type=int, default=1)
-    parser.add_argument("last", nargs="?", type=int, default=60)
-    options = parser.parse_args()
-    crate = options.crate
-    if crate == "copies":
-        copies()
-    if crate == PROGRAM:
-        wrong = of_program(options.first, options.last)
-        print(f"{wrong} wrong")
-        sys.exit(1 if wrong else 0)
+def of_tests(first, last):
+    """Refuses each of these requests of every test. Returns how many of them went wrong."""
     wrong = 0
-    for number in range(options.first, options.last + 1):
-        tests = run(crate, number)
+    for number in range(first, last + 1):
+        tests = run(TESTS, number)
         if not tests:
-            sys.exit(f"{crate}, request {number}: no test ran")
-        tests = [test for test in tests if test[0].startswith(JUDGED[crate])]
+            sys.exit(f"{TESTS}, request {number}: no test ran")
         refused = sum(outcome == "FAILED" for _, outcome, _ in tests)
-        print(f"{crate}, request {number}: {len(tests)} tests, {refused} ended for want of memory", flush=True)
+        print(f"{TESTS}, request {number}: {len(tests)} tests, {refused} ended for want of memory", flush=True)
         for name, outcome, lines in tests:
             if is_wrong(name, outcome, lines):
                 wrong += 1
                 print(f"  {name}: " + "; ".join(lines))
+    return wrong
+
+
+def main():
+    parser = argparse.ArgumentParser(description=__doc__, formatter_class=argparse.RawDescriptionHelpFormatter)
+    parser.add_argument("crate", nargs="?", default=TESTS, choices=[TESTS, *PROGRAMS, "copies"])
+    parser.add_argument("first", nargs="?", type=int, default=1)
+    parser.add_argument("last", nargs="?", type=int, default=60)
+    options = parser.parse_args()
+    if options.crate == "copies":
+        copies()
+    first, last = options.first, options.last
+    wrong = of_tests(first, last) if options.crate == TESTS else of_program(options.crate, first, last)
     print(f"{wrong} wrong")
     sys.exit(1 if wrong else 0)
 

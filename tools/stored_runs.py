@@ -19,21 +19,27 @@ A file runs.txt holds runs apart by empty lines. Each line of one is a word, a c
     faults begin     how the line begins that it must write there, where the rest of it is no promise
     stdin, stdout, stderr     `closed`, `full` (the device that takes no byte) or `folder` (one that no byte can be read from),
                               in place of a pipe; nothing is compared then
+    breaks     `input`: standard input is a socket that gives the whole of `input`, and at the next read an error in place of the end
+    room       how many bytes standard output takes, as a file, before a write to it fails
     memory     how many MiB of address space the run has
 """
 
 import argparse
+import contextlib
 import os
 import re
 import resource
 import shlex
+import signal
+import socket
 import subprocess
 import sys
+import tempfile
 from dataclasses import dataclass, field
 from pathlib import Path
 
 TOP = Path(__file__).resolve().parent.parent
-WORDS = {"run", "args", "input", "times", "before", "behind", "status", "output", "faults", "faults begin", "stdin", "stdout", "stderr", "memory"}
+WORDS = {"run", "args", "input", "times", "before", "behind", "status", "output", "faults", "faults begin", "stdin", "stdout", "stderr", "breaks", "room", "memory"}
 # How the name of what each compiler built ends.
 BUILDS = ("", ".by-rattle")
 ESCAPES = {b"n": b"\n", b"t": b"\t", b"\\": b"\\"}
@@ -53,6 +59,8 @@ class Run:
     places: dict = field(default_factory=dict)
     memory: int = 0
     begins: bytes = None
+    breaks: bool = False
+    room: int = None
 
 
 def bytes_of(text):
@@ -89,6 +97,8 @@ def run_of(lines):
             raise ValueError(f"a run has no `{word}`: {lines[0]}")
     if {"faults", "faults begin"} <= {*words}:
         raise ValueError(f"a run has both `faults` and `faults begin`: {lines[0]}")
+    if words.get("breaks", "input") != "input":
+        raise ValueError(f"only `input` breaks: {lines[0]}")
     return Run(
         name=words["run"],
         args=shlex.split(words["args"]),
@@ -99,6 +109,8 @@ def run_of(lines):
         places={it: words[it] for it in ("stdin", "stdout", "stderr") if it in words},
         memory=int(words.get("memory", 0)),
         begins=bytes_of(words["faults begin"]) if "faults begin" in words else None,
+        breaks="breaks" in words,
+        room=int(words["room"]) if "room" in words else None,
     )
 
 
@@ -130,26 +142,52 @@ def place_of(number, place):
         os.close(opened)
 
 
-def differences(program, run):
-    """What the program does otherwise than the run says, in words."""
+def broken(text):
+    """A socket from which the text can be read, and then, in place of its end, an error: the other side left what was sent to it."""
+    ours, theirs = socket.socketpair()
+    with ours:
+        ours.setsockopt(socket.SOL_SOCKET, socket.SO_SNDBUF, 2 * len(text) + 4096)
+        ours.sendall(text)
+        theirs.sendall(b"left")
+    return theirs
+
+
+def ended(program, run):
+    """How the run ends: its status, and what it wrote to standard output and to standard error."""
 
     def prepare():
         resource.setrlimit(resource.RLIMIT_CORE, (0, 0))
         if run.memory:
             resource.setrlimit(resource.RLIMIT_AS, (run.memory << 20, run.memory << 20))
+        if run.room is not None:
+            # without the signal, a write behind the limit is an error
+            signal.signal(signal.SIGXFSZ, signal.SIG_IGN)
+            resource.setrlimit(resource.RLIMIT_FSIZE, (run.room, run.room))
         for number, stream in enumerate(("stdin", "stdout", "stderr")):
             if stream in run.places:
                 place_of(number, run.places[stream])
 
-    how = {"stdout": subprocess.PIPE, "stderr": subprocess.PIPE, "input": run.input, "cwd": "/", "env": {}}
+    how = {"stderr": subprocess.PIPE, "cwd": "/", "env": {}}
+    with tempfile.TemporaryFile() as file, broken(run.input) if run.breaks else contextlib.nullcontext() as given:
+        how |= {"stdin": given} if run.breaks else {"input": run.input}
+        how["stdout"] = subprocess.PIPE if run.room is None else file
+        done = subprocess.run([program, *run.args], preexec_fn=prepare, timeout=SECONDS, **how)
+        if run.room is not None:
+            file.seek(0)
+            done.stdout = file.read()
+    return done
+
+
+def differences(program, run):
+    """What the program does otherwise than the run says, in words."""
     try:
-        ended = subprocess.run([program, *run.args], preexec_fn=prepare, timeout=SECONDS, **how)
+        done = ended(program, run)
     except subprocess.TimeoutExpired:
         return [f"it had not ended after {SECONDS} seconds"]
     found = []
-    if ended.returncode != run.status:
-        found.append(f"status {ended.returncode} in place of {run.status}")
-    for stream, wrote, wanted in (("stdout", ended.stdout, run.output), ("stderr", ended.stderr, faults_of(run, ended.stderr))):
+    if done.returncode != run.status:
+        found.append(f"status {done.returncode} in place of {run.status}")
+    for stream, wrote, wanted in (("stdout", done.stdout, run.output), ("stderr", done.stderr, faults_of(run, done.stderr))):
         if stream not in run.places and wrote != wanted:
             found.append(f"{stream} {wrote[:200]!r} in place of {wanted[:200]!r}")
     return found

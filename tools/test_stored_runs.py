@@ -108,6 +108,22 @@ class Programs(unittest.TestCase):
             said = self.found(places=places, input=b"y", status=status, output=b"yx\n", faults=b"")
             self.assertEqual([it for it in said if it.startswith("status")], [], places)
 
+    def test_an_input_that_breaks(self):
+        self.build("program", "#!/bin/sh\ncat 2>/dev/null || exit 8\n")
+        self.assertEqual(self.found(input=b"some", breaks=True, status=8, output=b"some", faults=b""), [])
+        self.assertEqual(self.found(input=b"", breaks=True, status=8, output=b"", faults=b""), [])
+        many = b"x" * 300000
+        self.assertEqual(self.found(input=many, breaks=True, status=8, output=many, faults=b""), [])
+        self.assertEqual(self.found(input=b"some", status=0, output=b"some", faults=b""), [])
+        self.assertTrue(runs_of("run: a\nargs:\nstatus: 1\nbreaks: input\n")[0].breaks)
+        self.assertRaises(ValueError, runs_of, "run: a\nargs:\nstatus: 1\nbreaks: output\n")
+
+    def test_an_output_with_room_for_some_bytes(self):
+        self.build("program", "#!/bin/sh\nprintf 12345678 2>/dev/null || exit 8\n")
+        for room, status in ((0, 8), (3, 8), (8, 0), (9, 0)):
+            self.assertEqual(self.found(room=room, status=status, output=b"12345678"[:room], faults=b""), [], room)
+        self.assertEqual(runs_of("run: a\nargs:\nstatus: 1\nroom: 0\n")[0].room, 0)
+
     def test_memory(self):
         self.build("program", "#!/bin/sh\nulimit -v\n")
         self.assertEqual(self.found(memory=512, status=0, output=b"524288\n", faults=b""), [])

@@ -15,8 +15,6 @@ mod command;
 mod failure;
 mod kind;
 pub mod output;
-#[cfg(test)]
-mod tests;
 
 use crate::answer::answer;
 use crate::failure::Failure;

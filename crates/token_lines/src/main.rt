@@ -13,8 +13,6 @@ ghost use Rattle.std.specs.Prelude.{◌≡◌, ◌⊎◌};
 
 mod failure;
 mod line;
-#[cfg(test)]
-mod tests;
 
 use crate::failure::Failure;
 use crate::line::add_line;

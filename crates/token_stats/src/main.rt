@@ -16,8 +16,6 @@ ghost use Rattle.token_stats.specs.declared.failure.Failure.TheVariants.{OutOfMe
 
 mod failure;
 mod stats;
-#[cfg(test)]
-mod tests;
 mod walk;
 
 use crate::failure::Failure;

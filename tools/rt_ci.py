@@ -1,0 +1,143 @@
+#!/usr/bin/env python3
+"""Runs `rt ci`, with its tasks in an order that keeps the processors busy.
+
+    tools/rt_ci.py
+
+`rt ci` divides the processors by the number of tasks that are ready, and counts those that do nothing as well, such as the
+tests of a crate that has none. So on four processors a crate that all others wait for is proved by one job, while three
+processors wait with them. Here the task with the longest chain of others behind it gets a job for each processor, and others
+run beside it at a lower priority, so that they take what it leaves.
+
+What is proved, tried and run is all told by `rt ci`, and so is the verdict: of the kit only the function is replaced by which
+that orders its tasks. A kit without that function is an error.
+"""
+
+import argparse
+import importlib.machinery
+import importlib.util
+import os
+import queue
+import shutil
+import sys
+import threading
+from pathlib import Path
+
+# What is added to the niceness of a task that isn't the first.
+NICE = 10
+# How much of what rt reckons for a check with one job was ever taken, and how much of it each further job takes.
+TAKEN, TAKEN_BY_A_JOB = 0.6, 0.1
+
+
+class Task:
+    """A task of rt's: what it waits for, its lines, the memory that it needs, and the call that does it."""
+
+    def __init__(self, key, given):
+        self.key = key
+        self.waits, self.lines, self.needs, self.call = given
+        self.behind = self.lines
+        self.jobs = 0
+
+    def memory(self, jobs):
+        return self.needs * (TAKEN + TAKEN_BY_A_JOB * (jobs - 1))
+
+    def most_jobs(self, processors):
+        """Edits are tried one after another."""
+        return 1 if self.key[1] == "edits" else processors
+
+
+def chained(given):
+    """The tasks, those first that have the most lines in the longest chain of tasks behind them."""
+    tasks = {key: Task(key, it) for key, it in given.items()}
+    # a task comes after those that it waits for
+    for task in reversed(tasks.values()):
+        for below in task.waits:
+            tasks[below].behind = max(tasks[below].behind, tasks[below].lines + task.behind)
+    return sorted(tasks.values(), key=lambda it: -it.behind)
+
+
+class Lanes:
+    """Runs tasks side by side, each once those that it waits for have ended."""
+
+    def __init__(self, tasks, processors, memory):
+        self.left, self.processors, self.memory = tasks, processors, memory
+        self.running, self.given, self.ended = [], {}, queue.Queue()
+
+    def run(self):
+        """What each task gave. What one raised is raised."""
+        while self.left or self.running:
+            self.start_all()
+            task, gave, raised = self.ended.get()
+            if raised:
+                raise raised
+            self.running.remove(task)
+            self.given[task.key] = gave
+        return self.given
+
+    def start_all(self):
+        """Starts what is ready and has room: what has nothing to do at once, and the first of the others on all processors."""
+        ready = [it for it in self.left if all(below in self.given for below in it.waits)]
+        for task in ready:
+            if not task.lines:
+                self.start(task, 1, False)
+        ready = [it for it in ready if it.lines]
+        for at, task in enumerate(ready):
+            jobs = min(self.jobs(task, len(ready) - at), task.most_jobs(self.processors))
+            if jobs and self.has_room(task, jobs):
+                self.start(task, jobs, not self.is_first(task))
+
+    def is_first(self, task):
+        return all(it.behind <= task.behind for it in self.running)
+
+    def jobs(self, task, count):
+        """How many jobs a task gets where so many are ready: all processors where it is the first, and else a share of the rest."""
+        if self.is_first(task):
+            return self.processors
+        idle = 2 * self.processors - sum(it.jobs for it in self.running)
+        return min(self.processors, max(idle // count, min(idle, 1)))
+
+    def has_room(self, task, jobs):
+        taken = sum(it.memory(it.jobs) for it in self.running)
+        return not any(it.jobs for it in self.running) or taken + task.memory(jobs) <= self.memory
+
+    def start(self, task, jobs, is_behind):
+        task.jobs = jobs if task.lines else 0
+        self.left.remove(task)
+        self.running.append(task)
+        # a thread of its own: it can't take back that it is behind others, which what it starts inherits
+        threading.Thread(target=self.call, args=(task, jobs, is_behind), daemon=True).start()
+
+    def call(self, task, jobs, is_behind):
+        try:
+            if is_behind:
+                os.setpriority(os.PRIO_PROCESS, threading.get_native_id(), NICE)
+            self.ended.put((task, task.call(self.given, jobs), None))
+        except BaseException as raised:  # pylint: disable=broad-except
+            self.ended.put((task, None, raised))
+
+
+def kit():
+    """The module of the command `rt`."""
+    path = shutil.which("rt")
+    if not path:
+        sys.exit("rt_ci: there is no rt here")
+    path = str(Path(path).resolve())
+    loader = importlib.machinery.SourceFileLoader("rt", path)
+    made = importlib.util.module_from_spec(importlib.util.spec_from_loader("rt", loader))
+    sys.dont_write_bytecode = True
+    loader.exec_module(made)
+    if not all(callable(getattr(made, name, None)) for name in ("in_lanes", "processors", "free", "main")):
+        sys.exit(f"rt_ci: {path} is of another kit, which has no such function: run rt ci itself, and mend this script")
+    return made
+
+
+def main():
+    parser = argparse.ArgumentParser(description=__doc__, formatter_class=argparse.RawDescriptionHelpFormatter)
+    parser.parse_args()
+    rt = kit()
+    # some checks take more than is reckoned
+    rt.in_lanes = lambda tasks: Lanes(chained(tasks), rt.processors(), 0.85 * rt.free()).run()
+    sys.exit(rt.main(["ci"]))
+
+
+if __name__ == "__main__":
+    main()
