@@ -1,7 +1,8 @@
 #!/usr/bin/env python3
 """Runs `rt ci`, with its tasks in an order that keeps the processors busy.
 
-    tools/rt_ci.py
+    tools/rt_ci.py               of all crates
+    tools/rt_ci.py --product     without those that only test or measure: their proofs say nothing of the product
 
 `rt ci` divides the processors by the number of tasks that are ready, and counts those that do nothing as well, such as the
 tests of a crate that has none. So on four processors a crate that all others wait for is proved by one job, while three
@@ -10,17 +11,27 @@ run beside it at a lower priority, so that they take what it leaves.
 
 What is proved, tried and run is all told by `rt ci`, and so is the verdict: of the kit only the function is replaced by which
 that orders its tasks. A kit without that function is an error.
+
+With --product `rt ci` runs in a copy of the repository without these crates, in .git/rt_ci where there is a .git, and what it
+built is moved to the crates' folders out/. The tests are run by tools/try_tests.py then.
 """
 
 import argparse
+import contextlib
 import importlib.machinery
 import importlib.util
 import os
 import queue
+import re
 import shutil
 import sys
+import tempfile
 import threading
 from pathlib import Path
+
+TOP = Path(__file__).resolve().parent.parent
+# The crates that only test or measure.
+BESIDE = ("syn_outlines", "syn_tokens_tests", "syn_reader_tests", "syn_test_support", "syn_tests", "check_rows", "syn_bench")
 
 # What is added to the niceness of a task that isn't the first.
 NICE = 10
@@ -130,13 +141,61 @@ def kit():
     return made
 
 
+def copy_without(names, top, room):
+    """Copies the repository to a folder, without these crates, and without what rt made."""
+
+    def left_out(folder, found):
+        at = Path(folder)
+        if at == top:
+            return [".git"]
+        if at == top / "crates":
+            return [it for it in found if it in names]
+        return ["out"] if at.parent == top / "crates" else []
+
+    shutil.copytree(top, room, ignore=left_out, dirs_exist_ok=True)
+    listed = (top / "crates.txt").read_text(encoding="utf-8")
+    lines = [it for it in listed.splitlines(keepends=True) if re.split(r"[\s:]", it)[0] not in names]
+    (room / "crates.txt").write_text("".join(lines), encoding="utf-8")
+    # rt takes the folder with a .git for the top
+    (room / ".git").mkdir()
+
+
+def move_built(room, top):
+    """Moves what rt built of each crate to where it stands in the repository."""
+    for built in (room / "crates").glob("*/out"):
+        place = top / "crates" / built.parent.name / "out"
+        shutil.rmtree(place, ignore_errors=True)
+        shutil.move(built, place)
+
+
+@contextlib.contextmanager
+def repository(names, top=TOP):
+    """The folder in which rt ci is run: the repository, or a copy without these crates."""
+    if not names:
+        yield top
+        return
+    above = top / ".git"
+    with tempfile.TemporaryDirectory(prefix="rt_ci-", dir=above if above.is_dir() else None) as folder:
+        room = Path(folder)
+        copy_without(names, top, room)
+        try:
+            yield room
+        finally:
+            move_built(room, top)
+
+
 def main():
     parser = argparse.ArgumentParser(description=__doc__, formatter_class=argparse.RawDescriptionHelpFormatter)
-    parser.parse_args()
+    parser.add_argument("--product", action="store_true", help="without the crates that only test or measure")
+    options = parser.parse_args()
     rt = kit()
     # some checks take more than is reckoned
     rt.in_lanes = lambda tasks: Lanes(chained(tasks), rt.processors(), 0.85 * rt.free()).run()
-    sys.exit(rt.main(["ci"]))
+    with repository(BESIDE if options.product else ()) as folder:
+        os.chdir(folder)
+        status = rt.main(["ci"])
+        os.chdir(TOP)
+    sys.exit(status)
 
 
 if __name__ == "__main__":

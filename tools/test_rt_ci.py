@@ -1,11 +1,13 @@
 #!/usr/bin/env python3
 """Tests of rt_ci.py: every task is done once, behind those that it waits for, and the one with the longest chain gets the processors."""
 
+import tempfile
 import threading
 import unittest
+from pathlib import Path
 
 import rt_ci
-from rt_ci import Lanes, chained
+from rt_ci import Lanes, chained, repository
 
 
 class Calls:
@@ -102,6 +104,49 @@ class Tasks(unittest.TestCase):
 
     def test_the_kit_has_what_is_replaced(self):
         self.assertTrue(callable(rt_ci.kit().in_lanes))
+
+
+class Copies(unittest.TestCase):
+    def setUp(self):
+        folder = tempfile.TemporaryDirectory()
+        self.addCleanup(folder.cleanup)
+        self.top = Path(folder.name)
+        (self.top / ".git").mkdir()
+        (self.top / "crates.txt").write_text("# what stands on what\nlow:\nlow_tests: low\nhigh: low\n")
+        for name in ("low", "low_tests", "high"):
+            (self.top / "crates" / name / "src").mkdir(parents=True)
+            (self.top / "crates" / name / "src/lib.rt").write_text(name)
+            (self.top / "crates" / name / "out").mkdir()
+            (self.top / "crates" / name / "out/old").write_text("")
+
+    def test_all_crates(self):
+        with repository((), self.top) as folder:
+            self.assertEqual(folder, self.top)
+
+    def test_without_some_crates(self):
+        with repository(("low_tests",), self.top) as folder:
+            self.assertEqual((folder / "crates.txt").read_text(), "# what stands on what\nlow:\nhigh: low\n")
+            files = sorted(str(it.relative_to(folder)) for it in folder.rglob("*") if it.is_file())
+            self.assertEqual(files, ["crates.txt", "crates/high/src/lib.rt", "crates/low/src/lib.rt"])
+            self.assertTrue((folder / ".git").is_dir())
+            (folder / "crates/high/out").mkdir()
+            (folder / "crates/high/out/new").write_text("")
+        built = sorted(str(it.relative_to(self.top / "crates")) for it in (self.top / "crates").glob("*/out/*"))
+        self.assertEqual(built, ["high/out/new", "low/out/old", "low_tests/out/old"])
+        self.assertEqual([*(self.top / ".git").iterdir()], [])
+
+    def test_what_was_built_stays_where_it_fails(self):
+        with self.assertRaises(SystemExit):
+            with repository(("low_tests",), self.top) as folder:
+                (folder / "crates/low/out").mkdir()
+                raise SystemExit(2)
+        self.assertEqual([*(self.top / "crates/low/out").iterdir()], [])
+
+    def test_no_crate_of_the_product_stands_on_one_that_is_left_out(self):
+        for line in (rt_ci.TOP / "crates.txt").read_text().splitlines():
+            name, _, below = line.partition(":")
+            if name not in rt_ci.BESIDE:
+                self.assertEqual({*below.split()} & {*rt_ci.BESIDE}, set(), name)
 
 
 if __name__ == "__main__":
