@@ -35,6 +35,8 @@ BESIDE = ("syn_outlines", "syn_tokens_tests", "syn_reader_tests", "syn_test_supp
 
 # What is added to the niceness of a task that isn't the first.
 NICE = 10
+# How many jobs a check gets at most.
+MOST_JOBS = 8
 # How much of what rt reckons for a check with one job was ever taken, and how much of it each further job takes.
 TAKEN, TAKEN_BY_A_JOB = 0.6, 0.1
 
@@ -53,7 +55,7 @@ class Task:
 
     def most_jobs(self, processors):
         """Edits are tried one after another."""
-        return 1 if self.key[1] == "edits" else processors
+        return 1 if self.key[1] == "edits" else min(processors, MOST_JOBS)
 
 
 def chained(given):

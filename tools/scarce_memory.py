@@ -24,6 +24,8 @@ import subprocess
 import sys
 from pathlib import Path
 
+# How long a run may take, its build not counted: ./test has it wait for others.
+SECONDS = 1500
 CRATES = Path(__file__).resolve().parent.parent / "crates"
 # the crate whose tests tell a want of memory from other errors
 TESTS = "syn_tests"
@@ -39,7 +41,7 @@ WANT_OF_MEMORY = re.compile(r"([Ee]rror|an answer): (Error \{.*count: 0 \}|.*All
 
 def run(crate, number):
     """Each test of the run with its outcome and the lines that it printed."""
-    command = ["rt", "try", "--test", "--fail-alloc", str(number)]
+    command = ["rt", "try", "--test", "--seconds", str(SECONDS), "--fail-alloc", str(number)]
     done = subprocess.run(command, cwd=CRATES / crate, capture_output=True, text=True)
     tests = []
     for line in (done.stdout + done.stderr).splitlines():
@@ -60,7 +62,7 @@ def run_program(name, number):
     """The status of the program, and what it wrote; no status where it didn't end."""
     words, given, _ = PROGRAMS[name]
     # the steps are the interpreter's, which wouldn't get to the end; the compiled program answers
-    command = ["rt", "try", "--steps", "1000", "--fail-alloc", str(number), "--", *words]
+    command = ["rt", "try", "--steps", "1000", "--seconds", str(SECONDS), "--fail-alloc", str(number), "--", *words]
     done = subprocess.run(command, cwd=CRATES / name, input=text_of(given), capture_output=True, text=True)
     ended = re.search(r"(?m)^checked: ended status=(\d+)$", done.stderr)
     return ended and int(ended[1]), done.stdout

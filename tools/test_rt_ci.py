@@ -67,6 +67,12 @@ class Tasks(unittest.TestCase):
         calls.run()
         self.assertEqual(calls.jobs, {"first": 4, "second": 2, "third": 2})
 
+    def test_jobs_on_many_processors(self):
+        calls = Calls()
+        calls.add("a")
+        calls.run(processors=64)
+        self.assertEqual(calls.jobs, {"a": 8})
+
     def test_edits_get_one_job(self):
         calls = Calls()
         calls.add("a", kind="edits", lines=9)

@@ -94,7 +94,7 @@ class Programs(Trial):
         self.assertIn("didn't end well", self.program("wc -l\necho run=none proved=no >&2\nexit 2\n"))
 
     def test_it_hangs(self):
-        with mock.patch.object(try_tests, "SECONDS", 0.2):
+        with mock.patch.object(try_tests, "WITH_BUILD", 0.001):
             self.assertIn("didn't end well", self.program("exec sleep 5\n"))
 
 

@@ -1,7 +1,10 @@
 #!/usr/bin/env python3
 """Runs the tests of the crates, and each program on its own input, by trial builds: nothing is proved.
 
-    tools/try_tests.py [--jobs N] [CRATE ..]     all crates where none is named; as many side by side as there are processors
+    tools/try_tests.py [--jobs N] [--seconds N] [CRATE ..]     all crates where none is named
+
+As many run side by side as there are processors, or --jobs says. A run may take 300 seconds, or those of --seconds, and with
+its build four times as long.
 
 It works on a copy of the sources, so that one may go on writing meanwhile. A crate with tests fails where one of them
 fails, where not all of them ran, or where the run didn't end by itself. A program (a crate with a file `stdin` or
@@ -24,8 +27,8 @@ from pathlib import Path
 
 TOP = Path(__file__).resolve().parent.parent
 COMMAND = ["rt", "try"]
-# How long a run may take that is built, and how long with its build: the deep tests take a minute on a machine with other work.
-RUN_SECONDS, SECONDS = 300, 1200
+# How long a run may take that is built (the deep tests take a minute on a machine with other work), and how often that with its build.
+SECONDS, WITH_BUILD = 300, 4
 NOT_COPIED = ("out", "edits", "must-fail")
 TEST = re.compile(r"(?m)^test (\S+) \.\.\. (ok|FAILED)$")
 COUNT = re.compile(r"(?m)^tests: (\d+)$")
@@ -71,17 +74,17 @@ def copied(top, to):
             shutil.copyfile(top / name, to / name)
 
 
-def called(words, folder, given=b""):
+def called(words, folder, seconds, given=b""):
     """Runs the command in the folder. Returns what it wrote, what it said to standard error, and its status."""
     pipe = subprocess.PIPE
-    started = subprocess.Popen([*COMMAND, "--seconds", str(RUN_SECONDS), *words], cwd=folder, stdin=pipe, stdout=pipe, stderr=pipe)
+    started = subprocess.Popen([*COMMAND, "--seconds", str(seconds), *words], cwd=folder, stdin=pipe, stdout=pipe, stderr=pipe)
     try:
-        wrote, said = started.communicate(given, timeout=SECONDS)
+        wrote, said = started.communicate(given, timeout=WITH_BUILD * seconds)
     except subprocess.TimeoutExpired:
         # rt ends what it started where it is told to stop
         started.terminate()
         started.communicate()
-        return b"", f"no end after {SECONDS} s", None
+        return b"", f"no end after {WITH_BUILD * seconds} s", None
     return wrote, said.decode(errors="replace"), started.returncode
 
 
@@ -95,9 +98,9 @@ def without_passed(text):
     return re.sub(r"(?m)^test \S+ \.\.\. ok\n", "", text)
 
 
-def run_tests(folder):
+def run_tests(folder, seconds=SECONDS):
     """Runs the tests of the crate. Returns how many passed in words, and what went wrong, if something did."""
-    wrote, said, status = called(["--test"], folder)
+    wrote, said, status = called(["--test"], folder, seconds)
     text = wrote.decode(errors="replace") + said
     tests, counts = TEST.findall(text), COUNT.findall(text)
     passed = sum(outcome == "ok" for _, outcome in tests)
@@ -113,11 +116,11 @@ def run_tests(folder):
     return told, ""
 
 
-def run_program(folder):
+def run_program(folder, seconds=SECONDS):
     """Runs the program on its input. Returns its last line in words, and what went wrong, if something did."""
     read = lambda name: (folder / name).read_bytes() if (folder / name).is_file() else b""
     words = read("args").decode().splitlines()
-    wrote, said, _ = called(["--", *words] if words else [], folder, read("stdin"))
+    wrote, said, _ = called(["--", *words] if words else [], folder, seconds, read("stdin"))
     ended = ENDED.search(said)
     told = (wrote.decode(errors="replace").splitlines() or [""])[-1][:60]
     if not ended:
@@ -130,10 +133,10 @@ def run_program(folder):
     return told, ""
 
 
-def timed(name, run, room):
+def timed(name, run, room, seconds):
     """Runs one task, prints how it ended, and returns whether all is well."""
     start = time.monotonic()
-    told, wrong = run(room / "crates" / name)
+    told, wrong = run(room / "crates" / name, seconds)
     line = f"{'FAILED' if wrong else 'passed'}  {time.monotonic() - start:5.0f} s  {name}: {told}"
     print(line + (f"; {wrong}" if wrong else ""), flush=True)
     return not wrong
@@ -142,15 +145,16 @@ def timed(name, run, room):
 def main():
     parser = argparse.ArgumentParser(description=__doc__, formatter_class=argparse.RawDescriptionHelpFormatter)
     parser.add_argument("--jobs", type=int, default=len(os.sched_getaffinity(0)))
+    parser.add_argument("--seconds", type=int, default=SECONDS)
     parser.add_argument("crates", nargs="*", help="the crates whose tests and programs are run")
     options = parser.parse_args()
-    if options.jobs < 1:
-        parser.error("--jobs is at least 1")
+    if options.jobs < 1 or options.seconds < 1:
+        parser.error("--jobs and --seconds are at least 1")
     tasks = tasks_of(TOP, options.crates)
     with tempfile.TemporaryDirectory(prefix="try_tests-") as room:
         copied(TOP, Path(room))
         with concurrent.futures.ThreadPoolExecutor(options.jobs) as pool:
-            ended = list(pool.map(lambda task: timed(*task, Path(room)), tasks))
+            ended = list(pool.map(lambda task: timed(*task, Path(room), options.seconds), tasks))
     print(f"try_tests: {len(ended)} runs, {ended.count(False)} failed; nothing was proved")
     sys.exit(0 if ended and all(ended) else 1)
 
