@@ -12,7 +12,7 @@ run beside it at a lower priority, so that they take what it leaves.
 What is proved, tried and run is all told by `rt ci`, and so is the verdict: of the kit only the function is replaced by which
 that orders its tasks. A kit without that function is an error.
 
-With --product `rt ci` runs in a copy of the repository without these crates, in .git/rt_ci where there is a .git, and what it
+With --product `rt ci` runs in a copy of the repository without these crates, in a folder of .git where there is one, and what it
 built is moved to the crates' folders out/. The tests are run by tools/try_tests.py then.
 """
 
