@@ -5,6 +5,7 @@ import contextlib
 import io
 import os
 import tempfile
+import threading
 import time
 import unittest
 from pathlib import Path
@@ -420,6 +421,14 @@ class Checks(InCrate):
         self.assertFalse(prover.has_libraries([self.crate]))
 
 
+    def test_checks_side_by_side_share_the_processors(self):
+        for name, stand_in in [("available", lambda: 10**12), ("sched_getaffinity", lambda _: range(5))]:
+            module = memory if name == "available" else os
+            self.addCleanup(setattr, module, name, getattr(module, name))
+            setattr(module, name, stand_in)
+        self.assertEqual([prover.jobs(lanes) for lanes in (1, 2, 8)], [5, 3, 1])
+
+
 class GivesWay(unittest.TestCase):
     def setUp(self):
         self.free = [9, 9]
@@ -469,11 +478,32 @@ class Program(InCrate):
         with self.program("--check", "--said", str(folder)) as (said, ended):
             self.assertEqual((said, ended, folder.is_dir()), ("1 edits, 0 wrong\n", 0, True))
 
-    def test_each_turn_begins_with_another_crate_and_in_time_with_other_edits(self):
+    def crate_above(self):
         (self.top / "crates.txt").write_text("low:\nhigh: low\n")
         (self.top / "crates/high/src").mkdir(parents=True)
         (self.top / "crates/high/edits").mkdir()
         (self.top / "crates/high/src/lib.rt").write_text(SOURCE)
+
+    def test_the_edits_of_two_crates_are_tried_side_by_side(self):
+        self.crate_above()
+        self.edit("a", "clause: value", "old:         2", "new:         4")
+        (self.top / "crates/high/edits/b.edit").write_text((self.crate / "edits/a.edit").read_text())
+        both, lanes_of = threading.Barrier(2), {}
+
+        def checked(crate, folder, only, kept, end, lanes):
+            lanes_of[crate.name] = lanes
+            both.wait(timeout=30)
+            return f"fn {crate.name}::Name::first: no proof: `search` did not prove `returns-clause-value`\nonly=1 proved=0\n"
+
+        for name, stand_in in [("checked", checked), ("has_libraries", lambda crates, end: True)]:
+            self.addCleanup(setattr, prover, name, getattr(prover, name))
+            setattr(prover, name, stand_in)
+        with self.program() as (said, ended):
+            self.assertEqual((ended, lanes_of), (0, {"low": 2, "high": 2}), said)
+        self.assertIn("2 of 2 refused, 0 wrong", said)
+
+    def test_each_turn_begins_with_another_crate_and_in_time_with_other_edits(self):
+        self.crate_above()
         for crate, name in [("low", "a"), ("low", "b"), ("high", "c")]:
             (self.top / "crates" / crate / "edits" / f"{name}.edit").write_text("clause: value\nfile: src/lib.rt\nold:         2\nnew:         4\n")
         (self.crate / "must-fail").mkdir()

@@ -33,7 +33,7 @@ a table, is tried alone, of the function that it names, or by a check of the who
 is tried again in smaller packs, until it is alone.
 
 The libraries below are taken as `rt ci` left them, or built by `rt lib` where there are none. Whether the crate is proved as
-it is isn't asked.
+it is isn't asked. The edits of two crates are tried side by side.
 
 Not counted as refused is an edit that a proof file no longer fits only because it names what is gone: that says nothing
 of the contract. Ends with 1 where an edit is not refused, is refused for another clause than it names, names none, or
@@ -45,6 +45,7 @@ import resource
 import sys
 import tempfile
 import time
+from concurrent.futures import ThreadPoolExecutor
 from pathlib import Path
 
 from editlib import prover, rooms
@@ -54,6 +55,8 @@ from editlib.refusals import answer_of, clause_of
 TOP = Path(__file__).resolve().parent.parent
 # the most edits of one check, and where time is short: the prover takes some seconds for each refusal
 SIZE, SMALL = 80, 20
+# how many crates' edits are tried side by side: for much of its time a check is one process
+LANES = 2
 
 
 class Trial:
@@ -61,6 +64,7 @@ class Trial:
 
     def __init__(self, crate, lower, names, folder=None, end=None, start=0):
         self.crate, self.lower, self.folder, self.end = crate, lower, folder, end
+        self.lanes = 1
         self.size = SIZE if end is None else SMALL
         self.source, found, self.unfit = edits_of(crate, lower, names)
         self.edits = turned(found, start)
@@ -88,7 +92,7 @@ class Trial:
         start = time.monotonic()
         only = {function for edit in pack.edits for function in self.changed(edit)}
         with rooms.room(self.crate, pack.texts) as folder:
-            said = None if self.is_late() else prover.checked(self.crate, folder, only, kept, self.end)
+            said = None if self.is_late() else prover.checked(self.crate, folder, only, kept, self.end, self.lanes)
         if said is None:
             self.untried += pack.edits
             return []
@@ -227,15 +231,25 @@ def main():
     sys.exit(tell(options, trials_of(options, TOP)))
 
 
+def try_all(trials, is_recording):
+    """Tries the edits of all crates, those of some crates side by side, and compares what was refused with what they name."""
+    lanes = max(1, min(LANES, len(trials)))
+    for trial in trials:
+        trial.lanes = lanes
+    with ThreadPoolExecutor(lanes) as pool:
+        # what one of them raised is raised
+        list(pool.map(Trial.run, trials))
+    for trial in trials:
+        trial.compare(is_recording)
+
+
 def tell(options, trials):
     """Tries the edits, and tells what is wrong with them; 1 where that is anything."""
     start = time.monotonic()
     for trial in trials:
         trial.wrong += [] if options.record else unnamed(trial)
     if not options.check:
-        for trial in trials:
-            trial.run()
-            trial.compare(options.record)
+        try_all(trials, options.record)
     wrong = [f"{trial.crate.name}/{it}" for trial in trials for it in trial.wrong]
     number = sum(len(trial.edits) + len(trial.unfit) for trial in trials)
     refused = sum(len(trial.refused) for trial in trials)

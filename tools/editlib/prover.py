@@ -39,11 +39,12 @@ def has_libraries(crates, end=None):
     return True
 
 
-def jobs():
-    """How many processes may share a check."""
+def jobs(lanes=1):
+    """How many processes may share a check, where so many checks go on side by side."""
     said = os.environ.get("RT_JOBS", "")
     room = 1 + (memory.available() - NEED) // MORE
-    return int(said) if said.isdigit() and int(said) else max(1, min(len(os.sched_getaffinity(0)), room))
+    processors = -(-len(os.sched_getaffinity(0)) // lanes)
+    return int(said) if said.isdigit() and int(said) else max(1, min(processors, room))
 
 
 def words(crate, only):
@@ -63,7 +64,8 @@ def words(crate, only):
     return [str(it) for it in found]
 
 
-def checked(crate, folder, only, kept, end):
-    """What a check of the crate, changed as in this folder, said; none where no time was left for it."""
-    answer = memory.run([*words(crate, only), "--jobs", str(jobs()), "--incremental", kept], folder, end=end)
+def checked(crate, folder, only, kept, end, lanes=1):
+    """What a check of the crate, changed as in this folder, said, where so many go on side by side; none where no time was left for
+    it."""
+    answer = memory.run([*words(crate, only), "--jobs", str(jobs(lanes)), "--incremental", kept], folder, end=end)
     return answer and answer[1]
