@@ -457,7 +457,7 @@ class Program(InCrate):
     def test_without_time_nothing_is_tried_and_it_says_so(self):
         (self.top / "crates.txt").write_text("low:\n")
         self.edit("a", "clause: value", "old:         2", "new:         4")
-        options = SimpleNamespace(crate=None, names=[], said=None, minutes=-1, turn=0, record=False, check=False)
+        options = SimpleNamespace(crate=None, names=[], said=None, minutes=-1, turn=0, record=False, check=False, lacking=False)
         said = io.StringIO()
         with contextlib.redirect_stdout(said):
             status = try_edits.tell(options, try_edits.trials_of(options, self.top))
@@ -470,6 +470,15 @@ class Program(InCrate):
             self.edit("a", clause, "old:         2", "new:         4")
             with self.subTest(clause), self.program("--check") as (said, ended):
                 self.assertEqual(ended, status, said)
+
+    def test_public_functions_without_an_edit_are_listed(self):
+        (self.top / "crates.txt").write_text("low:\n")
+        self.edit("a", "clause: value", "old:         2", "new:         4")
+        with self.program("--lacking") as (said, ended):
+            self.assertEqual((said, ended), ("low::BoxCompared::is_same\n", None))
+        self.edit("b", "clause: same", "old:         true", "new:         false")
+        with self.program("--lacking") as (said, _):
+            self.assertEqual(said.strip(), "")
 
     def test_the_folder_of_what_was_said_need_not_be_there(self):
         (self.top / "crates.txt").write_text("low:\n")
@@ -512,7 +521,7 @@ class Program(InCrate):
         try_edits.SMALL = 1
         found = []
         for turn in range(4):
-            options = SimpleNamespace(crate=None, names=[], said=None, minutes=None, turn=turn, check=False)
+            options = SimpleNamespace(crate=None, names=[], said=None, minutes=None, turn=turn, check=False, lacking=False)
             found.append([edit.name for trial in try_edits.trials_of(options, self.top) for edit in trial.edits])
         self.assertEqual(found, [["a", "b", "c"], ["c", "a", "b"], ["b", "a", "c"], ["c", "b", "a"]])
 

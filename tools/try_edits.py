@@ -3,6 +3,7 @@
 
     tools/try_edits.py [CRATE [NAME..]]     the edits of crates/CRATE/edits (or those of these names); of every crate
     tools/try_edits.py --check              only whether each edit can be applied and names what it breaks; proves nothing
+    tools/try_edits.py --lacking [CRATE]    lists the public functions and methods of traits whose bodies no edit changes
     tools/try_edits.py --record [CRATE ..]  also writes the clause into the edits that name none
     --said FOLDER                           keeps what the prover said of each pack in a file there
     --minutes N                             ends after so many minutes, also a check that goes on, and says how many edits weren't
@@ -189,6 +190,12 @@ def why_not(told, answer):
     return "NOT REFUSED" if answer.ended else "no verdict"
 
 
+def lacking(trial):
+    """The public functions of the trial's crate that no edit changes."""
+    changed = {name for edit in trial.edits for name in edit.functions}
+    return [name for name in trial.source.public() if name not in changed]
+
+
 def unnamed(trial):
     """What is wrong with edits before any proof: each names a clause, and one that the contract has."""
     for edit in trial.edits:
@@ -210,7 +217,7 @@ def trials_of(options, top):
     end = None if options.minutes is None else time.monotonic() + 60 * options.minutes
     rounds = options.turn // max(1, len(has_edits))
     trials = [Trial(folder / name, lower[name], options.names, options.said, end, SMALL * rounds) for name in has_edits]
-    if not options.check and not options.names:
+    if not options.check and not options.names and not options.lacking:
         for trial in trials:
             trial.edits = [edit for edit in trial.edits if edit.path.parent.name != "must-fail"]
     return turned([trial for trial in trials if trial.edits or trial.unfit], options.turn)
@@ -221,6 +228,7 @@ def main():
     parser.add_argument("crate", nargs="?")
     parser.add_argument("names", nargs="*")
     parser.add_argument("--check", action="store_true")
+    parser.add_argument("--lacking", action="store_true")
     parser.add_argument("--record", action="store_true")
     parser.add_argument("--said", type=Path)
     parser.add_argument("--minutes", type=float)
@@ -228,7 +236,11 @@ def main():
     options = parser.parse_args()
     if options.said:
         options.said.mkdir(parents=True, exist_ok=True)
-    sys.exit(tell(options, trials_of(options, TOP)))
+    trials = trials_of(options, TOP)
+    if options.lacking:
+        print(*(name for trial in trials for name in lacking(trial)), sep="\n")
+        sys.exit()
+    sys.exit(tell(options, trials))
 
 
 def try_all(trials, is_recording):

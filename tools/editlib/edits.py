@@ -118,6 +118,13 @@ class Source:
         """The names of the crate's functions that have a body, with the crate's."""
         return [f"{self.name}::{it.name}" for functions in self.functions.values() for it in functions if it.body]
 
+    def public(self):
+        """The names of those that others may call, with the crate's: what is `pub`, and the methods of traits."""
+        for path, functions in self.functions.items():
+            lines = self.kept[path].split("\n")
+            heads = ((it, lines[it.first].lstrip()) for it in functions if it.body)
+            yield from (f"{self.name}::{it.name}" for it, head in heads if it.trait or head.startswith("pub "))
+
     def clauses_of(self, function):
         """The names of the clauses of a function's contract, by its name with the crate's; those of the trait that it implements
         where it has none of its own. Empty where that trait is none of the repository's."""
