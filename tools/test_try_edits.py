@@ -420,7 +420,6 @@ class Checks(InCrate):
         (self.kit / "bin/rt").write_text("#!/bin/sh\nexit 1\n")
         self.assertFalse(prover.has_libraries([self.crate]))
 
-
     def test_checks_side_by_side_share_the_processors(self):
         for name, stand_in in [("available", lambda: 10**12), ("sched_getaffinity", lambda _: range(5))]:
             module = memory if name == "available" else os
