@@ -3,14 +3,18 @@
 
     tools/rt_ci.py               of all crates
     tools/rt_ci.py --product     without those that only test or measure: their proofs say nothing of the product
+    --edits MINUTES              also tries wrong bodies for so many minutes, beside the proof of the crate that leaves the most
+                                 processors idle, over the libraries that stand built by then (tools/try_edits.py --built)
+    --turn N                     with which of them these begin
 
 `rt ci` divides the processors by the number of tasks that are ready, and counts those that do nothing as well, such as the
 tests of a crate that has none. So on four processors a crate that all others wait for is proved by one job, while three
 processors wait with them. Here the task with the longest chain of others behind it gets a job for each processor, and others
 run beside it at a lower priority, so that they take what it leaves.
 
-What is proved, tried and run is all told by `rt ci`, and so is the verdict: of the kit only the function is replaced by which
-that orders its tasks. A kit without that function is an error.
+What is proved and run is all told by `rt ci`, and so is the verdict: of the kit only the function is replaced by which that
+orders its tasks. A kit without that function is an error. What the edits said is printed behind it, and where one of them isn't
+refused the status is 1 as well.
 
 With --product `rt ci` runs in a copy of the repository without these crates, in a folder of .git where there is one, and what it
 built is moved to the crates' folders out/. The tests are run by tools/try_tests.py then.
@@ -24,6 +28,7 @@ import os
 import queue
 import re
 import shutil
+import subprocess
 import sys
 import tempfile
 import threading
@@ -33,6 +38,10 @@ TOP = Path(__file__).resolve().parent.parent
 # The crates that only test or measure.
 BESIDE = ("syn_outlines", "syn_tokens_tests", "syn_reader_tests", "syn_test_support", "syn_tests", "check_rows", "syn_bench")
 
+# The crate beside whose proof edits are tried: in its first minutes and in its last ones only one process runs.
+IDLE = "syn_expr"
+# The task that tries them, and what rt would reckon for its check with one job, in bytes.
+EDITS, EDITS_NEED = ("", "edits"), 10_000_000_000
 # What is added to the niceness of a task that isn't the first.
 NICE = 10
 # How many jobs a check gets at most.
@@ -128,6 +137,25 @@ class Lanes:
             self.ended.put((task, None, raised))
 
 
+class Edits:
+    """Wrong bodies, tried beside the proofs for so many minutes. `said` is what was said of them, and `status` is 1 where one wasn't
+    refused."""
+
+    def __init__(self, minutes, turn):
+        self.minutes, self.turn = minutes, turn
+        self.said, self.status = "", 0
+
+    def among(self, tasks):
+        """The tasks, and this one, which waits for the same libraries as the crate beside which it runs."""
+        proof = tasks.get((IDLE, "proof"))
+        return {**tasks, EDITS: (proof[0], 1, EDITS_NEED, self.call)} if self.minutes and proof else tasks
+
+    def call(self, _given, _jobs):
+        command = [sys.executable, "tools/try_edits.py", "--built", "--minutes", str(self.minutes), "--turn", str(self.turn)]
+        ran = subprocess.run(command, stdout=subprocess.PIPE, stderr=subprocess.STDOUT, text=True, errors="replace", check=False)
+        self.said, self.status = ran.stdout, 1 if ran.returncode else 0
+
+
 def kit():
     """The module of the command `rt`."""
     path = shutil.which("rt")
@@ -189,15 +217,18 @@ def repository(names, top=TOP):
 def main():
     parser = argparse.ArgumentParser(description=__doc__, formatter_class=argparse.RawDescriptionHelpFormatter)
     parser.add_argument("--product", action="store_true", help="without the crates that only test or measure")
+    parser.add_argument("--edits", type=float, default=0, metavar="MINUTES", help="how long edits are tried beside the proofs")
+    parser.add_argument("--turn", type=int, default=0, help="with which of them these begin")
     options = parser.parse_args()
-    rt = kit()
+    rt, edits = kit(), Edits(options.edits, options.turn)
     # some checks take more than is reckoned
-    rt.in_lanes = lambda tasks: Lanes(chained(tasks), rt.processors(), 0.85 * rt.free()).run()
+    rt.in_lanes = lambda tasks: Lanes(chained(edits.among(tasks)), rt.processors(), 0.85 * rt.free()).run()
     with repository(BESIDE if options.product else ()) as folder:
         os.chdir(folder)
         status = rt.main(["ci"])
         os.chdir(TOP)
-    sys.exit(status)
+    print(edits.said, end="")
+    sys.exit(status or edits.status)
 
 
 if __name__ == "__main__":

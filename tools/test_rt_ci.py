@@ -1,6 +1,7 @@
 #!/usr/bin/env python3
 """Tests of rt_ci.py: every task is done once, behind those that it waits for, and the one with the longest chain gets the processors."""
 
+import os
 import tempfile
 import threading
 import unittest
@@ -110,6 +111,46 @@ class Tasks(unittest.TestCase):
 
     def test_the_kit_has_what_is_replaced(self):
         self.assertTrue(callable(rt_ci.kit().in_lanes))
+
+
+class TriedEdits(unittest.TestCase):
+    """Edits beside the proofs, in a folder whose tools/try_edits.py is replaced."""
+
+    def setUp(self):
+        folder = tempfile.TemporaryDirectory()
+        self.addCleanup(folder.cleanup)
+        self.tools = Path(folder.name) / "tools"
+        self.tools.mkdir()
+        before = Path.cwd()
+        os.chdir(folder.name)
+        self.addCleanup(os.chdir, before)
+        self.calls = Calls()
+        self.calls.add("syn_low")
+        self.calls.add(rt_ci.IDLE, ["syn_low"], lines=9)
+
+    def run_with(self, edits, script):
+        (self.tools / "try_edits.py").write_text(script)
+        return Lanes(chained(edits.among(self.calls.tasks)), 4, 100_000_000_000).run()
+
+    def test_they_wait_for_what_the_largest_crate_waits_for(self):
+        edits = rt_ci.Edits(3, 7)
+        self.assertEqual(edits.among(self.calls.tasks)[rt_ci.EDITS][0], [("syn_low", "proof")])
+
+    def test_what_they_say(self):
+        edits = rt_ci.Edits(3, 7)
+        self.run_with(edits, "import sys; print(*sys.argv[1:])")
+        self.assertEqual((edits.said, edits.status), ("--built --minutes 3 --turn 7\n", 0))
+        self.assertEqual(self.calls.order, ["syn_low", rt_ci.IDLE])
+
+    def test_one_that_is_not_refused(self):
+        edits = rt_ci.Edits(3, 7)
+        self.run_with(edits, "import sys; sys.exit('NOT REFUSED')")
+        self.assertEqual((edits.said, edits.status), ("NOT REFUSED\n", 1))
+
+    def test_without_minutes(self):
+        edits = rt_ci.Edits(0, 7)
+        self.run_with(edits, "import sys; sys.exit(1)")
+        self.assertEqual((edits.said, edits.status), ("", 0))
 
 
 class Copies(unittest.TestCase):

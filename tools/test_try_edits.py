@@ -456,7 +456,7 @@ class Program(InCrate):
     def test_without_time_nothing_is_tried_and_it_says_so(self):
         (self.top / "crates.txt").write_text("low:\n")
         self.edit("a", "clause: value", "old:         2", "new:         4")
-        options = SimpleNamespace(crate=None, names=[], said=None, minutes=-1, turn=0, record=False, check=False, lacking=False)
+        options = SimpleNamespace(crate=None, names=[], said=None, minutes=-1, turn=0, record=False, check=False, lacking=False, built=False, users_of=None)
         said = io.StringIO()
         with contextlib.redirect_stdout(said):
             status = try_edits.tell(options, try_edits.trials_of(options, self.top))
@@ -510,6 +510,24 @@ class Program(InCrate):
             self.assertEqual((ended, lanes_of), (0, {"low": 2, "high": 2}), said)
         self.assertIn("2 of 2 refused, 0 wrong", said)
 
+    def test_only_of_crates_that_use_another(self):
+        self.crate_above()
+        for crate in ("low", "high"):
+            (self.top / "crates" / crate / "edits/a.edit").write_text("clause: value\nfile: src/lib.rt\nold:         2\nnew:         4\n")
+        for words, number in [((), 2), (("--users-of", "low"), 1), (("--users-of", "high"), 0)]:
+            with self.subTest(words), self.program("--check", *words) as (said, _):
+                self.assertEqual(said, f"{number} edits, 0 wrong\n")
+
+    def test_only_of_crates_over_built_libraries(self):
+        self.crate_above()
+        for crate in ("low", "high"):
+            (self.top / "crates" / crate / "edits/a.edit").write_text("clause: value\nfile: src/lib.rt\nold:         2\nnew:         4\n")
+        library = self.crate / "out/rlib/low.rlib"
+        for make, number in [(lambda: None, 1), (lambda: library.mkdir(parents=True), 1), ((library / "format").touch, 2)]:
+            make()
+            with self.program("--check", "--built") as (said, _):
+                self.assertEqual(said, f"{number} edits, 0 wrong\n")
+
     def test_each_turn_begins_with_another_crate_and_in_time_with_other_edits(self):
         self.crate_above()
         for crate, name in [("low", "a"), ("low", "b"), ("high", "c")]:
@@ -520,7 +538,7 @@ class Program(InCrate):
         try_edits.SMALL = 1
         found = []
         for turn in range(4):
-            options = SimpleNamespace(crate=None, names=[], said=None, minutes=None, turn=turn, check=False, lacking=False)
+            options = SimpleNamespace(crate=None, names=[], said=None, minutes=None, turn=turn, check=False, lacking=False, built=False, users_of=None)
             found.append([edit.name for trial in try_edits.trials_of(options, self.top) for edit in trial.edits])
         self.assertEqual(found, [["a", "b", "c"], ["c", "a", "b"], ["b", "a", "c"], ["c", "b", "a"]])
 

@@ -10,6 +10,8 @@
                                             tried
     --turn N                                begins with another crate for each N, and with other edits of it, so that in time
                                             all are tried
+    --built                                 only of crates for which `rt ci` has built all libraries below
+    --users-of OTHER                        only of crates that use this one
 
 An edit is a file of lines:
 
@@ -208,11 +210,18 @@ def unnamed(trial):
                     yield f"{edit.name}: {name} is no clause of {', '.join(sorted(edit.functions))} ({', '.join(known)})"
 
 
+def is_wanted(lower, options):
+    """Whether the edits of a crate over these libraries are to be tried."""
+    is_over = not options.users_of or options.users_of in [crate.name for crate in lower]
+    return is_over and (not options.built or all(prover.is_of_gate(crate) for crate in lower))
+
+
 def trials_of(options, top):
     """The crates that have edits, lowest first, or from the one on whose turn it is."""
     uses, folder = rooms.listed(top), top / "crates"
     lower = {name: [folder / it for it in rooms.below(name, uses)] for name in uses}
     names = [options.crate] if options.crate else sorted(uses, key=lambda name: len(lower[name]))
+    names = [name for name in names if is_wanted(lower[name], options)]
     has_edits = [name for name in names if [*(folder / name).glob("edits/*"), *(folder / name).glob("must-fail/*")]]
     end = None if options.minutes is None else time.monotonic() + 60 * options.minutes
     rounds = options.turn // max(1, len(has_edits))
@@ -233,6 +242,8 @@ def main():
     parser.add_argument("--said", type=Path)
     parser.add_argument("--minutes", type=float)
     parser.add_argument("--turn", type=int, default=0)
+    parser.add_argument("--built", action="store_true")
+    parser.add_argument("--users-of", metavar="OTHER")
     options = parser.parse_args()
     if options.said:
         options.said.mkdir(parents=True, exist_ok=True)
