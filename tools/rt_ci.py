@@ -152,7 +152,9 @@ class Edits:
 
     def call(self, _given, _jobs):
         command = [sys.executable, "tools/try_edits.py", "--built", "--minutes", str(self.minutes), "--turn", str(self.turn)]
-        ran = subprocess.run(command, stdout=subprocess.PIPE, stderr=subprocess.STDOUT, text=True, errors="replace", check=False)
+        # two checks go on side by side, and with one job each they take no more memory than is reckoned
+        how = {"env": {**os.environ, "RT_JOBS": "1"}, "stdout": subprocess.PIPE, "stderr": subprocess.STDOUT}
+        ran = subprocess.run(command, **how, text=True, errors="replace", check=False)
         self.said, self.status = ran.stdout, 1 if ran.returncode else 0
 
 

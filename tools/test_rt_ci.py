@@ -138,8 +138,8 @@ class TriedEdits(unittest.TestCase):
 
     def test_what_they_say(self):
         edits = rt_ci.Edits(3, 7)
-        self.run_with(edits, "import sys; print(*sys.argv[1:])")
-        self.assertEqual((edits.said, edits.status), ("--built --minutes 3 --turn 7\n", 0))
+        self.run_with(edits, "import os, sys; print(*sys.argv[1:], os.environ['RT_JOBS'])")
+        self.assertEqual((edits.said, edits.status), ("--built --minutes 3 --turn 7 1\n", 0))
         self.assertEqual(self.calls.order, ["syn_low", rt_ci.IDLE])
 
     def test_one_that_is_not_refused(self):
