@@ -4,6 +4,7 @@
 import contextlib
 import io
 import os
+import sys
 import tempfile
 import threading
 import time
@@ -436,6 +437,10 @@ class GivesWay(unittest.TestCase):
 
     def test_what_is_said_and_the_status(self):
         self.assertEqual(memory.run(["sh", "-c", "echo a; exit 3"], "/", 5, 3), (3, "a\n"))
+
+    def test_a_check_stays_in_its_session(self):
+        says_session = [sys.executable, "-c", "import os; print(os.getsid(0), os.getpgid(0) == os.getpid())"]
+        self.assertEqual(memory.run(says_session, "/", 5, 3), (0, f"{os.getsid(0)} True\n"))
 
     def test_what_is_ended_for_memory_begins_again(self):
         with tempfile.TemporaryDirectory() as folder:

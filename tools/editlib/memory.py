@@ -34,7 +34,8 @@ def begun(command, folder, said, room, end):
         time.sleep(LOOK)
     if is_over(end):
         return None
-    return subprocess.Popen(command, cwd=folder, stdout=said, stderr=subprocess.STDOUT, start_new_session=True)
+    # a group of its own, to be ended whole, but no session: Linux shares the processors out among sessions, whatever their niceness
+    return subprocess.Popen(command, cwd=folder, stdout=said, stderr=subprocess.STDOUT, process_group=0)
 
 
 def gave_way(process, least, end):
