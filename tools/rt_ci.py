@@ -5,6 +5,7 @@
     tools/rt_ci.py --product     without those that only test or measure: their proofs say nothing of the product
     --edits MINUTES              also tries wrong bodies for so many minutes, beside the proof of the crate that leaves the most
                                  processors idle, over the libraries that stand built by then (tools/try_edits.py --built)
+    --users MINUTES              the same of the crates that use that one, beside the proofs of the programs
     --turn N                     with which of them these begin
 
 `rt ci` divides the processors by the number of tasks that are ready, and counts those that do nothing as well, such as the
@@ -22,6 +23,7 @@ built is moved to the crates' folders out/. The tests are run by tools/try_tests
 
 import argparse
 import contextlib
+import functools
 import importlib.machinery
 import importlib.util
 import os
@@ -38,12 +40,15 @@ TOP = Path(__file__).resolve().parent.parent
 # The crates that only test or measure.
 BESIDE = ("syn_outlines", "syn_tokens_tests", "syn_reader_tests", "syn_test_support", "syn_tests", "check_rows", "syn_bench")
 
-# The crate beside whose proof edits are tried: in its first minutes and in its last ones only one process runs.
-IDLE = "syn_expr"
-# The task that tries them, and what rt would reckon for its check with one job, in bytes.
-EDITS, EDITS_NEED = ("", "edits"), 10_000_000_000
-# What is added to the niceness of a task that isn't the first.
-NICE = 10
+# The crate beside whose proof edits are tried: in its first minutes and in its last ones only one process runs. And the program
+# beside which those of the crates that use it are.
+IDLE, PROGRAM = "syn_expr", "syn_canon"
+# The tasks that try them, each with its number of lines and what rt would reckon for its check with one job, in bytes. The second
+# begins at once, as it has none, and so ends in time: a check of edits gives way where memory is short.
+EDITS, LOAD = ("", "edits"), (1, 10_000_000_000)
+USERS, NO_LOAD = ("users", "edits"), (0, 0)
+# What is added to the niceness of a task that isn't the first, and of what tries edits.
+NICE, NICER = 10, 15
 # How many jobs a check gets at most.
 MOST_JOBS = 8
 # How much of what rt reckons for a check with one job was ever taken, and how much of it each further job takes.
@@ -138,24 +143,33 @@ class Lanes:
 
 
 class Edits:
-    """Wrong bodies, tried beside the proofs for so many minutes. `said` is what was said of them, and `status` is 1 where one wasn't
-    refused."""
+    """Wrong bodies, tried beside the proofs for so many minutes, and those of the crates that use the largest one for others. `said` is
+    what was said of them, and `status` is 1 where one wasn't refused."""
 
-    def __init__(self, minutes, turn):
-        self.minutes, self.turn = minutes, turn
+    def __init__(self, minutes, users, turn):
+        self.minutes, self.users, self.turn = minutes, users, turn
         self.said, self.status = "", 0
 
     def among(self, tasks):
-        """The tasks, and this one, which waits for the same libraries as the crate beside which it runs."""
-        proof = tasks.get((IDLE, "proof"))
-        return {**tasks, EDITS: (proof[0], 1, EDITS_NEED, self.call)} if self.minutes and proof else tasks
+        """The tasks, and these, each of which waits for the same libraries as the crate beside which it runs."""
+        more = {}
+        for key, load, crate, minutes, words in (
+            (EDITS, LOAD, IDLE, self.minutes, []),
+            (USERS, NO_LOAD, PROGRAM, self.users, ["--users-of", IDLE]),
+        ):
+            proof = tasks.get((crate, "proof"))
+            if minutes and proof:
+                call = functools.partial(self.call, ["--built", *words, "--minutes", str(minutes), "--turn", str(self.turn)])
+                more[key] = (proof[0], *load, call)
+        return {**tasks, **more}
 
-    def call(self, _given, _jobs):
-        command = [sys.executable, "tools/try_edits.py", "--built", "--minutes", str(self.minutes), "--turn", str(self.turn)]
+    def call(self, words, _given, _jobs):
+        command = [sys.executable, "tools/try_edits.py", *words]
         # two checks go on side by side, and with one job each they take no more memory than is reckoned
         how = {"env": {**os.environ, "RT_JOBS": "1"}, "stdout": subprocess.PIPE, "stderr": subprocess.STDOUT}
-        ran = subprocess.run(command, **how, text=True, errors="replace", check=False)
-        self.said, self.status = ran.stdout, 1 if ran.returncode else 0
+        ran = subprocess.run(["nice", "-n", str(NICER), *command], **how, text=True, errors="replace", check=False)
+        self.said += ran.stdout
+        self.status |= 1 if ran.returncode else 0
 
 
 def kit():
@@ -220,9 +234,10 @@ def main():
     parser = argparse.ArgumentParser(description=__doc__, formatter_class=argparse.RawDescriptionHelpFormatter)
     parser.add_argument("--product", action="store_true", help="without the crates that only test or measure")
     parser.add_argument("--edits", type=float, default=0, metavar="MINUTES", help="how long edits are tried beside the proofs")
+    parser.add_argument("--users", type=float, default=0, metavar="MINUTES", help="how long those of the crates above are")
     parser.add_argument("--turn", type=int, default=0, help="with which of them these begin")
     options = parser.parse_args()
-    rt, edits = kit(), Edits(options.edits, options.turn)
+    rt, edits = kit(), Edits(options.edits, options.users, options.turn)
     # some checks take more than is reckoned
     rt.in_lanes = lambda tasks: Lanes(chained(edits.among(tasks)), rt.processors(), 0.85 * rt.free()).run()
     with repository(BESIDE if options.product else ()) as folder:

@@ -4,8 +4,10 @@
 import os
 import tempfile
 import threading
+import time
 import unittest
 from pathlib import Path
+from types import SimpleNamespace
 
 import rt_ci
 from rt_ci import Lanes, chained, repository
@@ -127,28 +129,48 @@ class TriedEdits(unittest.TestCase):
         self.calls = Calls()
         self.calls.add("syn_low")
         self.calls.add(rt_ci.IDLE, ["syn_low"], lines=9)
+        self.calls.add(rt_ci.PROGRAM, [rt_ci.IDLE], lines=3)
 
     def run_with(self, edits, script):
         (self.tools / "try_edits.py").write_text(script)
         return Lanes(chained(edits.among(self.calls.tasks)), 4, 100_000_000_000).run()
 
     def test_they_wait_for_what_the_largest_crate_waits_for(self):
-        edits = rt_ci.Edits(3, 7)
-        self.assertEqual(edits.among(self.calls.tasks)[rt_ci.EDITS][0], [("syn_low", "proof")])
+        tasks = rt_ci.Edits(3, 2, 7).among(self.calls.tasks)
+        self.assertEqual([tasks[key][0] for key in (rt_ci.EDITS, rt_ci.USERS)], [[("syn_low", "proof")], [(rt_ci.IDLE, "proof")]])
 
     def test_what_they_say(self):
-        edits = rt_ci.Edits(3, 7)
+        edits = rt_ci.Edits(3, 0, 7)
         self.run_with(edits, "import os, sys; print(*sys.argv[1:], os.environ['RT_JOBS'])")
         self.assertEqual((edits.said, edits.status), ("--built --minutes 3 --turn 7 1\n", 0))
-        self.assertEqual(self.calls.order, ["syn_low", rt_ci.IDLE])
+        self.assertEqual(self.calls.order, ["syn_low", rt_ci.IDLE, rt_ci.PROGRAM])
+
+    def test_those_of_its_users_are_tried_beside_a_program(self):
+        edits = rt_ci.Edits(0, 2, 7)
+        self.run_with(edits, "import sys; print(*sys.argv[1:])")
+        self.assertEqual(edits.said, f"--built --users-of {rt_ci.IDLE} --minutes 2 --turn 7\n")
+
+    def test_they_are_nicer_than_what_runs_beside(self):
+        edits = rt_ci.Edits(3, 0, 7)
+        self.run_with(edits, "import os; print(os.nice(0))")
+        self.assertEqual(edits.said, f"{min(19, os.nice(0) + rt_ci.NICE + rt_ci.NICER)}\n")
+
+    def test_those_of_its_users_begin_without_a_processor(self):
+        begun = self.tools / "begun"
+        waits = SimpleNamespace(wait=lambda seconds: [time.sleep(0.05) for _ in range(20 * seconds) if not begun.exists()])
+        self.calls.add(rt_ci.PROGRAM, [rt_ci.IDLE], lines=3, beside=waits)
+        (self.tools / "try_edits.py").write_text(f"open({str(begun)!r}, 'w')")
+        start = time.monotonic()
+        Lanes(chained(rt_ci.Edits(0, 2, 7).among(self.calls.tasks)), 1, 1).run()
+        self.assertLess(time.monotonic() - start, 9)
 
     def test_one_that_is_not_refused(self):
-        edits = rt_ci.Edits(3, 7)
-        self.run_with(edits, "import sys; sys.exit('NOT REFUSED')")
-        self.assertEqual((edits.said, edits.status), ("NOT REFUSED\n", 1))
+        for edits in (rt_ci.Edits(3, 0, 7), rt_ci.Edits(0, 3, 7)):
+            self.run_with(edits, "import sys; sys.exit('NOT REFUSED')")
+            self.assertEqual((edits.said, edits.status), ("NOT REFUSED\n", 1))
 
     def test_without_minutes(self):
-        edits = rt_ci.Edits(0, 7)
+        edits = rt_ci.Edits(0, 0, 7)
         self.run_with(edits, "import sys; sys.exit(1)")
         self.assertEqual((edits.said, edits.status), ("", 0))
 
