@@ -1,6 +1,6 @@
 #!/usr/bin/env python3
 """Writes the kinds of words and marks of crates/syn_tokens: src/token.rt, src/token/kind.rt,
-src/token/kind/*.rt, specs/Kinds*.antt.
+src/token/kind/*.rt, specs/Kinds*.antt; and of each kind the wrong bodies edits/text_of_*.edit and edits/fault_of_*.edit.
 
 Run it at the top of the repository; what it writes is committed. With --check it writes nothing, and fails where a file
 isn't as it would write it."""
@@ -111,13 +111,22 @@ use crate::token::WordKind;
 """ + "".join(word_kind(*kind) for kind in kinds)
 
 
+TRAITS = {1: "OneCharacter", 2: "TwoCharacters", 3: "ThreeCharacters"}
+
+
+def characters(text):
+    """The characters of a mark, and the function that gives them."""
+    if len(text) == 1:
+        return char(text), "character"
+    return "(" + ", ".join(char(c) for c in text) + ")", "characters"
+
+
 def mark_kind(name, text):
-    trait = {1: "OneCharacter", 2: "TwoCharacters", 3: "ThreeCharacters"}[len(text)]
+    trait = TRAITS[len(text)]
     ghosts = [("character", "first", "second", "third")[i + (len(text) > 1)] for i in range(len(text))]
     members = "".join(f"    ghost {g} = {{ {ord(c)} }};\n\n" for g, c in zip(ghosts, text))
     result = "char" if len(text) == 1 else "(" + ", ".join(["char"] * len(text)) + ")"
-    value = char(text) if len(text) == 1 else "(" + ", ".join(char(c) for c in text) + ")"
-    function = "character" if len(text) == 1 else "characters"
+    value, function = characters(text)
     known = "" if len(text) == 1 else "\n    ghost known = { refl };\n"
     printable = "refl" if len(text) == 1 else "(" + ", ".join(["refl"] * len(text)) + ")"
     return f"""
@@ -275,6 +284,36 @@ def antt_name(name):
     return "«Type»" if name == "Type" else name
 
 
+def wrong_body(file, function, right, wrong):
+    """An edit that has a function of a kind answer something else."""
+    return f"""clause: returns
+file: src/token/kind/{file}.rt
+in: token::kind::{file}::{function}
+old: {right}
+new: {wrong}
+"""
+
+
+def wrong_bodies(file, kinds, impl, answer):
+    """Of each kind: its text, and what a fault says of it, are those of the next one."""
+    for (name, text), (_, other) in zip(kinds, kinds[1:] + kinds[:1]):
+        (right, function), (wrong, _) = answer(text), answer(other)
+        yield f"text_of_{snake(name)}", wrong_body(file, f"{name}{impl}::{function}", right, wrong)
+        yield f"fault_of_{snake(name)}", wrong_body(file, f"{name}{impl}::expected", f'"expected `{text}`"', f'"expected `{other}`"')
+
+
+def edits():
+    """The wrong bodies of all words and marks."""
+    found = []
+    for file, _, kinds in WORD_FILES:
+        pairs = [(name, text) for name, text, _ in kinds]
+        found += wrong_bodies(file, pairs, "WordKind", lambda text: (f'"{text}"', "text"))
+    for file, kinds in (("marks", MARKS), ("long_marks", LONG_MARKS)):
+        for length, trait in TRAITS.items():
+            found += wrong_bodies(file, [it for it in kinds if len(it[1]) == length], trait, characters)
+    return {CRATE / "edits" / f"{name}.edit": text for name, text in found}
+
+
 def outputs():
     """What stands in each file that this script writes."""
     kind = CRATE / "src/token/kind"
@@ -287,7 +326,7 @@ def outputs():
     files[CRATE / "specs/KindsOfWords.antt"] = word_specs()
     files[CRATE / "specs/KindsOfMarks.antt"] = mark_specs()
     files[CRATE / "specs/Kinds.antt"] = group_specs()
-    return files
+    return {**files, **edits()}
 
 
 def main():
