@@ -4,7 +4,6 @@
 import os
 import subprocess
 import sys
-import tempfile
 import time
 import unittest
 from pathlib import Path
@@ -38,9 +37,7 @@ class LowPriority(unittest.TestCase):
 
     @unittest.skipUnless(Path("/proc/self/autogroup").exists(), "the kernel doesn't share the processors out among sessions")
     def test_a_session_that_it_began_is_lowered(self):
-        with tempfile.TemporaryDirectory() as folder:
-            in_session = "cd $0; echo $$ > pid; sleep 4; cat /proc/self/autogroup"
-            said = called("--nice", "9", "setsid", "--wait", "sh", "-c", in_session, folder)
+        said = called("--nice", "9", "setsid", "--wait", "sh", "-c", "sleep 4; cat /proc/self/autogroup")
         self.assertTrue(said.stdout.endswith(" nice 9\n"), said.stdout)
 
     def test_descendants_are_found_with_their_sessions(self):
