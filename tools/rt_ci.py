@@ -40,6 +40,29 @@ TOP = Path(__file__).resolve().parent.parent
 # The crates that only test or measure.
 BESIDE = ("syn_outlines", "syn_tokens_tests", "syn_reader_tests", "syn_test_support", "syn_tests", "check_rows", "syn_bench")
 
+# What the proof of a crate took, in seconds of processor: the tasks are ordered by it, and those of other crates by their lines, which
+# are about as many, but for what owns trees. It needn't be exact.
+SECONDS = {
+    "syn_grammar": 80,
+    "syn_tokens": 480,
+    "syn_parse": 280,
+    "syn_recognize": 610,
+    "syn_lower": 2300,
+    "syn_pat": 730,
+    "syn_expr_parse": 930,
+    "syn_expr": 5300,
+    "syn_tree": 1060,
+    "syn_reader": 280,
+    "syn": 270,
+    "syn_canon": 700,
+    "statement_macro": 480,
+    "list_fields": 400,
+    "first_steps": 270,
+    "own_syntax": 270,
+    "token_stats": 160,
+    "token_lines": 110,
+}
+
 # The crate beside whose proof edits are tried: in its first minutes and in its last ones only one process runs. And the program
 # beside which those of the crates that use it are.
 IDLE, PROGRAM = "syn_expr", "syn_canon"
@@ -49,19 +72,21 @@ EDITS, LOAD = ("", "edits"), (1, 10_000_000_000)
 USERS, NO_LOAD = ("users", "edits"), (0, 0)
 # What is added to the niceness of a task that isn't the first, and of what tries edits.
 NICE, NICER = 10, 15
-# How many jobs a check gets at most.
-MOST_JOBS = 8
+# How many jobs a check gets at most, and at least, where so many are left.
+MOST_JOBS, LEAST_JOBS = 8, 2
 # How much of what rt reckons for a check with one job was ever taken, and how much of it each further job takes.
 TAKEN, TAKEN_BY_A_JOB = 0.6, 0.1
 
 
 class Task:
-    """A task of rt's: what it waits for, its lines, the memory that it needs, and the call that does it."""
+    """A task of rt's: what it waits for, its lines, the memory that it needs, and the call that does it. `takes` is what it is likely to
+    take, and `behind` what the longest chain of tasks does that begins with it."""
 
     def __init__(self, key, given):
         self.key = key
         self.waits, self.lines, self.needs, self.call = given
-        self.behind = self.lines
+        self.takes = SECONDS.get(key[0], self.lines) if key[1] == "proof" and self.lines else self.lines
+        self.behind = self.takes
         self.jobs = 0
 
     def memory(self, jobs):
@@ -73,12 +98,12 @@ class Task:
 
 
 def chained(given):
-    """The tasks, those first that have the most lines in the longest chain of tasks behind them."""
+    """The tasks, those first whose longest chain of tasks takes longest."""
     tasks = {key: Task(key, it) for key, it in given.items()}
     # a task comes after those that it waits for
     for task in reversed(tasks.values()):
         for below in task.waits:
-            tasks[below].behind = max(tasks[below].behind, tasks[below].lines + task.behind)
+            tasks[below].behind = max(tasks[below].behind, tasks[below].takes + task.behind)
     return sorted(tasks.values(), key=lambda it: -it.behind)
 
 
@@ -120,7 +145,7 @@ class Lanes:
         if self.is_first(task):
             return self.processors
         idle = 2 * self.processors - sum(it.jobs for it in self.running)
-        return min(self.processors, max(idle // count, min(idle, 1)))
+        return min(self.processors, max(idle // count, min(idle, LEAST_JOBS)))
 
     def has_room(self, task, jobs):
         taken = sum(it.memory(it.jobs) for it in self.running)

@@ -70,6 +70,26 @@ class Tasks(unittest.TestCase):
         calls.run()
         self.assertEqual(calls.jobs, {"first": 4, "second": 2, "third": 2})
 
+    def test_each_gets_two_of_what_is_left(self):
+        calls = Calls()
+        three = threading.Barrier(3)
+        for number, name in enumerate(("first", "second", "third", "fourth", "fifth")):
+            calls.add(name, lines=9 - number, beside=three if number < 3 else None)
+        calls.run()
+        self.assertEqual([calls.jobs[it] for it in ("first", "second", "third")], [4, 2, 2])
+        self.assertEqual(sorted(calls.order[:3]), ["first", "second", "third"])
+
+    def test_what_was_measured_comes_before_lines(self):
+        calls = Calls()
+        calls.add("many lines", lines=rt_ci.SECONDS["list_fields"] - 1)
+        calls.add("list_fields", lines=1)
+        calls.add("syn_expr", lines=0)
+        self.assertEqual([it.key[0] for it in chained(calls.tasks)], ["list_fields", "many lines", "syn_expr"])
+
+    def test_every_crate_of_the_product_is_measured(self):
+        names = {it.split(":")[0] for it in (rt_ci.TOP / "crates.txt").read_text().splitlines() if ":" in it}
+        self.assertEqual(names - {*rt_ci.BESIDE}, {*rt_ci.SECONDS})
+
     def test_jobs_on_many_processors(self):
         calls = Calls()
         calls.add("a")
