@@ -70,8 +70,9 @@ IDLE, PROGRAM = "syn_expr", "syn_canon"
 # begins at once, as it has none, and so ends in time: a check of edits gives way where memory is short.
 EDITS, LOAD = ("", "edits"), (1, 10_000_000_000)
 USERS, NO_LOAD = ("users", "edits"), (0, 0)
-# What is added to the niceness of a task that isn't the first, and of what tries edits.
-NICE, NICER = 10, 15
+# What is added to the niceness of a task that isn't the first, and of the edits that run beside the largest crate. Those that run
+# beside the programs are one check at a time, which gets its share of the processors: with less none would end.
+NICE, NICER = 10, 19
 # How many jobs a check gets at most, and at least, where so many are left.
 MOST_JOBS, LEAST_JOBS = 8, 2
 # How much of what rt reckons for a check with one job was ever taken, and how much of it each further job takes.
@@ -178,21 +179,21 @@ class Edits:
     def among(self, tasks):
         """The tasks, and these, each of which waits for the same libraries as the crate beside which it runs."""
         more = {}
-        for key, load, crate, minutes, words in (
-            (EDITS, LOAD, IDLE, self.minutes, []),
-            (USERS, NO_LOAD, PROGRAM, self.users, ["--users-of", IDLE]),
+        for key, load, crate, minutes, niceness, words in (
+            (EDITS, LOAD, IDLE, self.minutes, NICER, []),
+            (USERS, NO_LOAD, PROGRAM, self.users, NICE, ["--users-of", IDLE, "--one-by-one"]),
         ):
             proof = tasks.get((crate, "proof"))
             if minutes and proof:
-                call = functools.partial(self.call, ["--built", *words, "--minutes", str(minutes), "--turn", str(self.turn)])
+                call = functools.partial(self.call, niceness, ["--built", *words, "--minutes", str(minutes), "--turn", str(self.turn)])
                 more[key] = (proof[0], *load, call)
         return {**tasks, **more}
 
-    def call(self, words, _given, _jobs):
+    def call(self, niceness, words, _given, _jobs):
         command = [sys.executable, "tools/try_edits.py", *words]
-        # two checks go on side by side, and with one job each they take no more memory than is reckoned
+        # two checks may go on side by side, and with one job each they take no more memory than is reckoned
         how = {"env": {**os.environ, "RT_JOBS": "1"}, "stdout": subprocess.PIPE, "stderr": subprocess.STDOUT}
-        ran = subprocess.run(["nice", "-n", str(NICER), *command], **how, text=True, errors="replace", check=False)
+        ran = subprocess.run(["nice", "-n", str(niceness), *command], **how, text=True, errors="replace", check=False)
         self.said += ran.stdout
         self.status |= 1 if ran.returncode else 0
 

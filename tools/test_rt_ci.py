@@ -168,12 +168,17 @@ class TriedEdits(unittest.TestCase):
     def test_those_of_its_users_are_tried_beside_a_program(self):
         edits = rt_ci.Edits(0, 2, 7)
         self.run_with(edits, "import sys; print(*sys.argv[1:])")
-        self.assertEqual(edits.said, f"--built --users-of {rt_ci.IDLE} --minutes 2 --turn 7\n")
+        self.assertEqual(edits.said, f"--built --users-of {rt_ci.IDLE} --one-by-one --minutes 2 --turn 7\n")
 
     def test_they_are_nicer_than_what_runs_beside(self):
         edits = rt_ci.Edits(3, 0, 7)
         self.run_with(edits, "import os; print(os.nice(0))")
         self.assertEqual(edits.said, f"{min(19, os.nice(0) + rt_ci.NICE + rt_ci.NICER)}\n")
+
+    def test_those_of_its_users_share_with_the_programs(self):
+        edits = rt_ci.Edits(0, 2, 7)
+        self.run_with(edits, "import os; print(os.nice(0))")
+        self.assertEqual(edits.said, f"{min(19, os.nice(0) + rt_ci.NICE)}\n")
 
     def test_those_of_its_users_begin_without_a_processor(self):
         begun = self.tools / "begun"

@@ -461,7 +461,7 @@ class Program(InCrate):
     def test_without_time_nothing_is_tried_and_it_says_so(self):
         (self.top / "crates.txt").write_text("low:\n")
         self.edit("a", "clause: value", "old:         2", "new:         4")
-        options = SimpleNamespace(crate=None, names=[], said=None, minutes=-1, turn=0, record=False, check=False, lacking=False, built=False, users_of=None)
+        options = SimpleNamespace(crate=None, names=[], said=None, minutes=-1, turn=0, record=False, check=False, lacking=False, built=False, users_of=None, one_by_one=False)
         said = io.StringIO()
         with contextlib.redirect_stdout(said):
             status = try_edits.tell(options, try_edits.trials_of(options, self.top))
@@ -515,6 +515,26 @@ class Program(InCrate):
             self.assertEqual((ended, lanes_of), (0, {"low": 2, "high": 2}), said)
         self.assertIn("2 of 2 refused, 0 wrong", said)
 
+    def test_one_crate_after_another(self):
+        self.crate_above()
+        self.edit("a", "clause: value", "old:         2", "new:         4")
+        (self.top / "crates/high/edits/b.edit").write_text((self.crate / "edits/a.edit").read_text())
+        alone, tried = threading.Lock(), []
+
+        def checked(crate, folder, only, kept, end, lanes):
+            is_alone = alone.acquire(blocking=False)
+            tried.append((crate.name, lanes, is_alone))
+            time.sleep(0.1)
+            if is_alone:
+                alone.release()
+            return f"fn {crate.name}::Name::first: no proof: `search` did not prove `returns-clause-value`\nonly=1 proved=0\n"
+
+        for name, stand_in in [("checked", checked), ("has_libraries", lambda crates, end: True)]:
+            self.addCleanup(setattr, prover, name, getattr(prover, name))
+            setattr(prover, name, stand_in)
+        with self.program("--one-by-one") as (said, ended):
+            self.assertEqual((ended, tried), (0, [("low", 1, True), ("high", 1, True)]), said)
+
     def test_only_of_crates_that_use_another(self):
         self.crate_above()
         for crate in ("low", "high"):
@@ -543,7 +563,7 @@ class Program(InCrate):
         try_edits.SMALL = 1
         found = []
         for turn in range(4):
-            options = SimpleNamespace(crate=None, names=[], said=None, minutes=None, turn=turn, check=False, lacking=False, built=False, users_of=None)
+            options = SimpleNamespace(crate=None, names=[], said=None, minutes=None, turn=turn, check=False, lacking=False, built=False, users_of=None, one_by_one=False)
             found.append([edit.name for trial in try_edits.trials_of(options, self.top) for edit in trial.edits])
         self.assertEqual(found, [["a", "b", "c"], ["c", "a", "b"], ["b", "a", "c"], ["c", "b", "a"]])
 

@@ -12,6 +12,7 @@
                                             all are tried
     --built                                 only of crates for which `rt ci` has built all libraries below
     --users-of OTHER                        only of crates that use this one
+    --one-by-one                            one crate after another, and not those of two side by side
 
 An edit is a file of lines:
 
@@ -244,6 +245,7 @@ def main():
     parser.add_argument("--turn", type=int, default=0)
     parser.add_argument("--built", action="store_true")
     parser.add_argument("--users-of", metavar="OTHER")
+    parser.add_argument("--one-by-one", action="store_true")
     options = parser.parse_args()
     if options.said:
         options.said.mkdir(parents=True, exist_ok=True)
@@ -254,9 +256,9 @@ def main():
     sys.exit(tell(options, trials))
 
 
-def try_all(trials, is_recording):
-    """Tries the edits of all crates, those of some crates side by side, and compares what was refused with what they name."""
-    lanes = max(1, min(LANES, len(trials)))
+def try_all(trials, is_recording, most):
+    """Tries the edits of all crates, those of so many side by side, and compares what was refused with what they name."""
+    lanes = max(1, min(most, len(trials)))
     for trial in trials:
         trial.lanes = lanes
     with ThreadPoolExecutor(lanes) as pool:
@@ -272,7 +274,7 @@ def tell(options, trials):
     for trial in trials:
         trial.wrong += [] if options.record else unnamed(trial)
     if not options.check:
-        try_all(trials, options.record)
+        try_all(trials, options.record, 1 if options.one_by_one else LANES)
     wrong = [f"{trial.crate.name}/{it}" for trial in trials for it in trial.wrong]
     number = sum(len(trial.edits) + len(trial.unfit) for trial in trials)
     refused = sum(len(trial.refused) for trial in trials)
