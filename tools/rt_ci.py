@@ -73,8 +73,9 @@ USERS, NO_LOAD = ("users", "edits"), (0, 0)
 # What is added to the niceness of a task that isn't the first, and of the edits that run beside the largest crate. Those that run
 # beside the programs are one check at a time, which gets its share of the processors: with less none would end.
 NICE, NICER = 10, 19
-# How many jobs a check gets at most, and at least, where so many are left.
-MOST_JOBS, LEAST_JOBS = 8, 2
+# How many jobs a check gets at most, and at least, where so many are left; and how many there are in all, for each processor: a check
+# is one process at its beginning and at its end.
+MOST_JOBS, LEAST_JOBS, JOBS = 8, 2, 2.5
 # How much of what rt reckons for a check with one job was ever taken, and how much of it each further job takes.
 TAKEN, TAKEN_BY_A_JOB = 0.6, 0.1
 
@@ -145,7 +146,7 @@ class Lanes:
         """How many jobs a task gets where so many are ready: all processors where it is the first, and else a share of the rest."""
         if self.is_first(task):
             return self.processors
-        idle = 2 * self.processors - sum(it.jobs for it in self.running)
+        idle = int(JOBS * self.processors) - sum(it.jobs for it in self.running)
         return min(self.processors, max(idle // count, min(idle, LEAST_JOBS)))
 
     def has_room(self, task, jobs):

@@ -68,16 +68,17 @@ class Tasks(unittest.TestCase):
         for name, lines in (("first", 10), ("second", 5), ("third", 4)):
             calls.add(name, lines=lines, beside=all_three)
         calls.run()
-        self.assertEqual(calls.jobs, {"first": 4, "second": 2, "third": 2})
+        self.assertEqual(calls.jobs, {"first": 4, "second": 3, "third": 3})
 
     def test_each_gets_two_of_what_is_left(self):
         calls = Calls()
-        three = threading.Barrier(3)
-        for number, name in enumerate(("first", "second", "third", "fourth", "fifth")):
-            calls.add(name, lines=9 - number, beside=three if number < 3 else None)
+        names = ("first", "second", "third", "fourth", "fifth", "sixth")
+        four = threading.Barrier(4)
+        for number, name in enumerate(names):
+            calls.add(name, lines=9 - number, beside=four if number < 4 else None)
         calls.run()
-        self.assertEqual([calls.jobs[it] for it in ("first", "second", "third")], [4, 2, 2])
-        self.assertEqual(sorted(calls.order[:3]), ["first", "second", "third"])
+        self.assertEqual([calls.jobs[it] for it in names[:4]], [4, 2, 2, 2])
+        self.assertEqual(sorted(calls.order[:4]), sorted(names[:4]))
 
     def test_what_was_measured_comes_before_lines(self):
         calls = Calls()
