@@ -13,19 +13,27 @@ import textwrap
 from pathlib import Path
 
 from grammarlib.source import Source
-from tokens import DECLARATIONS, EXPRESSIONS, LONG_MARKS, MARKS
+from tokens import DECLARATIONS, EXPRESSIONS, LONG_MARKS, MARKS, OTHERS
 
 CRATE = Path('crates/syn_recognize')
 GRAMMAR = Path('crates/syn_grammar')
 WRITTEN = 'Written by tools/recognizers.py; edits are lost.'
 
 # The rules that are read by name; those that they lead to are written too.
-ASKED = ['constant', 'whole_expression']
+ASKED = ['constant', 'whole_expression', 'statements', 'statement', 'block', 'derive_input', 'visibility', 'variant', 'named_field', 'unnamed_field',
+         'fields_named', 'fields_unnamed', 'structure', 'enumeration', 'union_item']
+
+# The rules of which trees can be deferred, and those that these lead to: nothing vanishes in them.
+DEFERRED = ['constant', 'whole_expression', 'statements', 'statement']
 
 # The files of rules: the first rule of each, and what it holds.
 TOPICS = [
     ('attributes', 'attributes', 'Attributes, and paths in module style.'),
+    ('visibilities', 'visibility', 'Visibilities.'),
     ('types', 'type_path', 'Paths in types, and types.'),
+    ('generics', 'generics', 'Generics, bounds and where clauses.'),
+    ('fields', 'fields_named', 'Fields and variants.'),
+    ('inputs', 'structure', 'Structs, enums, unions, and the input of a derive.'),
     ('patterns', 'expression_path', 'Paths in expressions, macros and patterns.'),
     ('lists', 'expressions', 'Lists of expressions.'),
     ('blocks', 'block', 'Blocks, and expressions with nothing before or behind them.'),
@@ -38,13 +46,26 @@ TOPICS = [
 # backend's tables"), so what goes beyond is a part, with a static of its own.
 LARGEST = 12
 
-# Rules whose refusal has words of its own, and the form that has them.
-REFUSING = {'after_expression': 'MissingSemi'}
+# Rules whose refusals have words of their own: where a form is never read, and where a mark is lacking.
+REFUSING = {'after_expression': 'MissingEnd', 'unnamed_field': 'DefaultValue'}
+LACKING = {'statement': (';', 'MissingSemi'), 'statement_end': (';', 'MissingSemi')}
+
+# Lists without which a part isn't printed, by their rules; what stands before each is told by src/fading.rt.
+FADING = {'lifetimes': 'Lifetimes', 'parameter_bounds': 'Bounds', 'predicates': 'Predicates'}
+
+# Lists in `< >`, by their first members.
+ORDERED = {('lifetime',): 'Arguments', ('rule', ('lifetime_parameter',)): 'Parameters'}
+
+# Unions that begin alike: src/unions.rt has a form that reads each without trying one rule after another.
+UNIONS = {'derive_input': 'DeriveInput'}
+
+# What is a part of its rule, however large it is, since others speak of it.
+CUT = [('structure_rest', ('second',)), ('enumeration_rest', ('second',)), ('union_item_rest', ('second',)), ('generics', ('first', 'second'))]
 
 # Looks that no part of a look is data of: a function tells each.
 TOLD = ['at_any_literal', 'at_lifetime', 'at_inner_attribute', 'at_arguments', 'at_association', 'at_turbofish', 'at_path_word',
         'at_pattern_path', 'at_macro', 'at_brace_macro', 'at_lone_crate', 'at_crate_macro', 'at_bang', 'at_postfix_mark',
-        'at_block_like', 'at_whole_expression', 'at_unfinished']
+        'at_block_like', 'at_whole_expression', 'at_unfinished', 'at_restriction', 'at_nameless_fields', 'at_parameter_end', 'at_predicate_end']
 
 TOKENS = {
     ('name',): 'Name', ('index',): 'Index', ('name_or', ('self', 'Self', 'super', 'crate')): 'PathWord',
@@ -60,6 +81,7 @@ def rules_in(form):
     if not isinstance(form, tuple):
         return []
     own = [form[1][0]] if form and form[0] == 'rule' else []
+    own += [k for k, in form[1]] if form and form[0] == 'one_of' else []
     return own + [k for part in form for k in rules_in(part)]
 
 
@@ -68,13 +90,13 @@ class Writer:
         self.source = Source(GRAMMAR)
         self.told = {self.source.looks[name]: name for name in TOLD}
         self.texts = {text: name for name, text in reversed(self.source.texts.items())}
-        self.rust = {text: name for name, text, *_ in DECLARATIONS + EXPRESSIONS + MARKS + LONG_MARKS}
+        self.rust = {text: name for name, text, *_ in DECLARATIONS + EXPRESSIONS + OTHERS + MARKS + LONG_MARKS}
         self.words, self.marks, self.shapes, self.variants = set(), set(), set(), set()
         self.uses, self.parts = set(), []
         self.rule = None
 
-    def rules(self):
-        found, asked = set(), list(ASKED)
+    def rules(self, asked=ASKED):
+        found, asked = set(), list(asked)
         while asked:
             rule = asked.pop()
             if rule not in found:
@@ -103,8 +125,8 @@ class Writer:
         name, *rest = it
         if name == 'at_literal' and rest[0] == ('Int',):
             return self.named('Look', 'Integer')
-        if name in ('ended', 'at_name'):
-            return self.named('Look', {'ended': 'Ended', 'at_name': 'Name'}[name])
+        if name in ('ended', 'at_name', 'at_empty_group'):
+            return self.named('Look', {'ended': 'Ended', 'at_name': 'Name', 'at_empty_group': 'EmptyGroup'}[name])
         if name in ('at_word', 'at_mark', 'at_group'):
             part = {'at_word': self.word, 'at_mark': self.mark, 'at_group': self.delimiter}[name](rest[0])
             return self.named('Look', f'{camel(name[3:])}({part})')
@@ -157,16 +179,38 @@ class Writer:
         return self.form(self.source.table[rule], ())
 
     def form(self, it, way):
+        text = self.whole(it, way)
+        return self.cut(text, way) if (self.rule, way) in CUT else text
+
+    def fading(self, look, part):
+        """A part that isn't printed where its list is empty."""
+        if part[0] == 'ordered':
+            assert look == ('at_mark', '<') and ORDERED[part[1]] == 'Parameters', part
+            return self.named('Form', 'Generics')
+        name, head, (last, (rule,)) = part
+        known = (('at_mark', ':'), ('mark', False, ':')) if rule != 'predicates' else (('at_word', 'where'), ('token', (), ('word', 'where')))
+        assert (name, last) == ('&', 'rule') and (look, head) == known, part
+        (self.marks if head[0] == 'mark' else self.words).add(look[1])
+        return self.named('Form', f'Fading({self.named("Fading", FADING[rule])})')
+
+    def whole(self, it, way):
         name, *rest = it
         if name in ('empty', 'lifetime', 'unshown'):
             return self.named('Form', camel(name))
         if name == 'one_of' and not rest[0]:
-            return self.named('Form', REFUSING.get(self.rule, 'Never'))
+            return self.named('Form', f'Never({self.named("Fault", REFUSING.get(self.rule, "Unexpected"))})')
+        if name == 'one_of':
+            return self.named('Form', f'Union({self.named("Union", UNIONS[self.rule])})')
+        if name == 'vanishing' and not rest[0]:
+            if rest[2][0] == 'ordered':
+                self.form(rest[2][2], (*way, 'first', 'second'))
+            return self.fading(rest[1], rest[2])
+        if name == 'mark' and LACKING.get(self.rule, ('',))[0] == rest[1]:
+            return self.named('Form', f'MarkElse({self.mark(rest[1])}, {self.named("Fault", LACKING[self.rule][1])})')
         if name == 'either':
             return self.both_ways(*rest, way)
         if name == 'ordered':
-            assert rest[0] == ('lifetime',), it
-            return self.made('Arguments(', [(rest[1], (*way, 'second'))])
+            return self.named('Form', f'Ordered({self.named("List", ORDERED[rest[0]])})')
         first, second = (*way, 'first'), (*way, 'second')
         parts = {
             'token': lambda: self.named('Form', f'Token({self.token(rest[1])})'),
@@ -178,6 +222,8 @@ class Writer:
             'when': lambda: self.made(f'When({self.look(rest[0])}, ', [(rest[1], first), (rest[2], second)]),
             'inside': lambda: self.made(f'Inside({self.delimiter(rest[0])}, ', [(rest[1], first)]),
             'shaped': lambda: self.made(f'Shaped({self.shape(rest[0])}, ', [(rest[1], first)]),
+            'vanishing': lambda: self.made(f'Hidden({self.look(rest[1])}, ', [(rest[2], first)]),
+            'captured': lambda: self.made('Captured(', [(rest[0], first)]),
         }
         if name not in parts:
             raise ValueError(f'no data for the form {it}')
@@ -189,7 +235,7 @@ class Writer:
         for (name, _, sentence), start, end in zip(TOPICS, starts, starts[1:]):
             yield name, sentence, [k for k in self.source.rules[start:end] if k in rules]
 
-    MODULES = {'Delimiter': 'syn_tokens::delimiter', 'Form': 'crate::form', 'Look': 'crate::look', 'Rule': 'crate::rules', 'Part': 'crate::rules', 'Shape': 'crate::shape',
+    MODULES = {'Fault': 'crate::fault', 'Fading': 'crate::fading', 'List': 'crate::list', 'Union': 'crate::unions', 'Delimiter': 'syn_tokens::delimiter', 'Form': 'crate::form', 'Look': 'crate::look', 'Rule': 'crate::rules', 'Part': 'crate::rules', 'Shape': 'crate::shape',
                'Variant': 'crate::shape', 'Token': 'crate::token', 'Word': 'crate::words', 'Mark': 'crate::words'}
 
     def imports(self):
@@ -227,20 +273,23 @@ class Writer:
         out['src/words.rt'] = self.words_file()
         out['specs/Names.antt'] = self.names_file(topics)
         out['specs/Parts.antt'] = self.parts_file()
-        out['proofs/Readable.antt'] = self.readable_file([k for _, _, rules in topics for k in rules])
+        out['proofs/Readable.antt'] = self.readable_file([k for _, _, rules in topics for k in rules], self.rules(DEFERRED))
         return {name: '\n'.join(lines) for name, lines in out.items()}
 
     def rules_file(self, topics):
         return [
             f'//! {WRITTEN}', '//!', '//! The rules of the grammar as data.', 'ghost use Rattle.std.specs.Prelude.{◌≡◌};',
             'ghost use Rattle.syn_grammar.specs.Run.{parse_form};', 'ghost use Rattle.syn_grammar.specs.Table.{table};',
-            'ghost use Rattle.syn_recognize.specs.Forms.{grammar_of};', 'ghost use Rattle.syn_recognize.specs.Names.{rule_of};',
+            'ghost use Rattle.syn_recognize.specs.Forms.{grammar_of};', 'ghost use Rattle.syn_recognize.specs.Names.{rule_of, settled};',
             'ghost use Rattle.syn_recognize.specs.Parts.{part_form};', '',
             'use crate::form::Form;', '', *[f'mod {name};' for name in sorted(name for name, _, _ in topics)], '',
             '/// A rule of the grammar.', '#[derive(Clone, Copy)]', 'pub enum Rule {', *[f'    {camel(k)},' for _, _, rules in topics for k in rules], '}', '',
             '/// The form of the rule.', "pub(crate) fn form_of(rule: Rule) -> &'static Form",
             '    ensures { parse_form (grammar_of result.now) ≡ parse_form (table (rule_of rule)) }', '{', '    match rule {',
             *[f'        Rule::{camel(k)} => &{name}::{k.upper()},' for name, _, rules in topics for k in rules], '    }', '}', '',
+            '/// Whether nothing vanishes in what the rule reads, and only lifetimes stand first in lists: where none stand there, it is printed as it is shown.',
+            'pub(crate) fn is_settled(rule: Rule) -> bool', '    ensures { result ≡ settled rule }', '{', '    match rule {',
+            *[f'        Rule::{camel(k)} => {"true" if k in self.rules(DEFERRED) else "false"},' for _, _, rules in topics for k in rules], '    }', '}', '',
             "/// A part of a rule's form that has a static of its own: Rattle's own compiler takes no larger ones.", '#[derive(Clone, Copy)]',
             'pub enum Part {', *[f'    {name},' for name, *_ in self.parts], '}', '',
             '/// The form of the part.', "pub(crate) fn form_of_part(part: Part) -> &'static Form",
@@ -294,9 +343,9 @@ class Writer:
         told = sorted(TOLD, key=lambda name: name in ('at_lifetime', 'at_path_word'))
         variants = sorted(self.variants)
         return [
-            f'-- {WRITTEN}', '-- WHAT WORDS, MARKS, LOOKS, SHAPES AND RULES AS DATA STAND FOR.',
+            f'-- {WRITTEN}', '-- WHAT WORDS, MARKS, LOOKS, SHAPES AND RULES AS DATA STAND FOR.', 'use Rattle.std.specs.Prelude.{Bool, true, false}',
             'use Rattle.syn_grammar.specs.Words.{Text, ' + ', '.join(name for _, name in texts + marks) + '}',
-            'use Rattle.syn_grammar.specs.Tokens.{Int, Look, ended, at_name, at_word, at_mark, at_group, at_literal, ◌or_else◌, ◌but_not◌, at_lifetime, at_path_word}',
+            'use Rattle.syn_grammar.specs.Tokens.{Int, Look, ended, at_name, at_word, at_mark, at_group, at_literal, at_empty_group, ◌or_else◌, ◌but_not◌, at_lifetime, at_path_word}',
             'use Rattle.syn_grammar.specs.Table.{' + ', '.join(told[:-2]) + '}',
             'use Rattle.syn_grammar.specs.Rules as rules', 'use Rattle.syn_grammar.specs.Rules.{Rule}',
             'use Rattle.syn_grammar.specs.Shape as shapes', 'use Rattle.syn_grammar.specs.Shape.{Shape, Variant}',
@@ -308,20 +357,22 @@ class Writer:
             'abbrev pub look_of : look.Look → Look', 'look_of Look-m.Ended = ended', 'look_of Look-m.Name = at_name', 'look_of (Look-m.Word w) = at_word (word_text w)',
             'look_of (Look-m.Mark m) = at_mark (mark_text m)', 'look_of (Look-m.Group d) = at_group (delimiter_of d)',
             "look_of (Look-m.Or' p c q d) = look_of c or_else look_of d", "look_of (Look-m.But' p c q d) = look_of c but_not look_of d",
-            'look_of Look-m.Integer = at_literal Int', *[f'look_of Look-m.{camel(name[3:])} = {name}' for name in TOLD], '',
+            'look_of Look-m.Integer = at_literal Int', 'look_of Look-m.EmptyGroup = at_empty_group', *[f'look_of Look-m.{camel(name[3:])} = {name}' for name in TOLD], '',
             'abbrev pub variant_of : variant.Variant → Variant', *[f'variant_of Variant-m.{name} = shapes.{name}' for name in variants], '',
             'abbrev pub shape_of : shape.Shape → Shape',
             *[f'shape_of (Shape-m.{camel(name)} v) = shapes.{name} (variant_of v)' if of else f'shape_of Shape-m.{camel(name)} = shapes.{name}' for name, of in self.shape_variants()], '',
-            'abbrev pub rule_of : rule.Rule → Rule', *[f'rule_of Rule-m.{camel(k)} = rules.{k}' for _, _, rules in topics for k in rules], '']
+            'abbrev pub rule_of : rule.Rule → Rule', *[f'rule_of Rule-m.{camel(k)} = rules.{k}' for _, _, rules in topics for k in rules], '',
+            '-- nothing vanishes in what the rule reads', 'abbrev pub settled : rule.Rule → Bool', *[f'settled Rule-m.{camel(k)} = {"true" if k in self.rules(DEFERRED) else "false"}' for _, _, rules in topics for k in rules], '']
 
-    def readable_file(self, rules):
+    def readable_file(self, rules, settled):
         at = 'Rattle.syn_recognize.specs.declared.rules.Rule'
         return [
-            f'-- {WRITTEN}', '-- The rules that are data.', 'use Rattle.std.proofs.Common.{◌≡◌, true, List, [], ◌∷◌, refl}',
-            'use Rattle.syn_grammar.specs.Rules as rules', 'use Rattle.syn_grammar.specs.Grammar.{among}', 'use Rattle.syn_recognize.specs.Names.{rule_of}',
+            f'-- {WRITTEN}', '-- The rules in which nothing vanishes.', 'use Rattle.std.proofs.Common.{◌≡◌, true, List, [], ◌∷◌, refl}',
+            'use Rattle.syn_grammar.specs.Rules as rules', 'use Rattle.syn_grammar.specs.Grammar.{among}', 'use Rattle.syn_recognize.specs.Names.{rule_of, settled}',
             f'use {at} as rule', f'use {at}.TheVariants as Rule-m', '',
-            'abbrev pub readable : List rules.Rule', 'readable =', *[f'    rules.{k} ∷' for k in rules], '    []', '',
-            'pub is_readable : (k : rule.Rule) → among (rule_of k) readable ≡ true', *[f'is_readable Rule-m.{camel(k)} = refl' for k in rules], '']
+            'abbrev pub readable : List rules.Rule', 'readable =', *[f'    rules.{k} ∷' for k in rules if k in settled], '    []', '',
+            'pub is_readable : (k : rule.Rule) → settled k ≡ true → among (rule_of k) readable ≡ true',
+            *[f'is_readable Rule-m.{camel(k)} e = ' + ('refl' if k in settled else 'absurd (cc e)') for k in rules], '']
 
 
 def write(files, folder):

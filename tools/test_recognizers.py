@@ -8,7 +8,7 @@ import tempfile
 import unittest
 from pathlib import Path
 
-from recognizers import ASKED, CRATE, LARGEST, Writer, camel, rules_in
+from recognizers import ASKED, CRATE, CUT, DEFERRED, LARGEST, Writer, camel, rules_in
 
 HERE = Path(__file__).resolve().parent
 TOP = HERE.parent
@@ -37,7 +37,7 @@ class Recognizers(unittest.TestCase):
         self.assertLessEqual({*ASKED}, {*rules})
         for rule in rules:
             self.assertLessEqual({*rules_in(self.writer.source.table[rule])}, {*rules}, rule)
-        self.assertNotIn('derive_input', rules)
+        self.assertNotIn('derive_input', self.writer.rules(DEFERRED))
 
     def test_rules_stand_in_the_order_of_the_table(self):
         rules = self.writer.rules()
@@ -73,7 +73,25 @@ class Recognizers(unittest.TestCase):
         forms = ' '.join(self.statics().values())
         named = re.findall(r'Part::(\w+)', forms)
         self.assertEqual(len(named), len(set(named)))
-        self.assertEqual(len(self.statics()), len(self.writer.rules()) + len(named))
+        elsewhere = re.findall(r'Part::(\w+)', ''.join((TOP / CRATE / 'src' / name).read_text() for name in ('list.rt', 'unions.rt')))
+        self.assertEqual(len(self.statics()), len(self.writer.rules()) + len({*named, *elsewhere}))
+
+    def test_parts_that_others_speak_of_have_statics(self):
+        for rule, way in CUT:
+            self.assertIn((rule, way), {(k, steps) for _, k, steps, _ in self.parts()})
+
+    def parts(self):
+        writer = Writer()
+        writer.files()
+        return writer.parts
+
+    def test_rules_that_settle_have_no_form_that_vanishes(self):
+        statics = self.statics()
+        for rule in self.writer.rules(DEFERRED):
+            for name, form in statics.items():
+                if re.fullmatch(rf'{rule.upper()}(_\d+)?', name):
+                    for kind in ('Generics', 'Fading', 'Hidden', 'Captured', 'List::Parameters'):
+                        self.assertNotIn(f'Form::{kind}', form, name)
 
     def test_a_look_that_is_too_large_is_refused(self):
         writer = Writer()

@@ -4,15 +4,17 @@ use Rattle.syn_grammar.specs.Words.{Text, less, greater}
 use Rattle.syn_grammar.specs.Tokens.{Span, Stream, end, punct, Delimiter, Look, ◌⧺◌, pick, no, ended}
 use Rattle.syn_grammar.specs.Rules.{Rule}
 use Rattle.syn_grammar.specs.Shape.{Shape}
-use Rattle.syn_grammar.specs.Grammar.{Syntax, Nothing, Both, Node, Left, Right, Group, Rest, Order, spell, Grammar, empty, lifetime, ◌&◌, when◌then◌else◌, inside, raw, rest_after, rule, shaped, unshown, ordered}
+use Rattle.syn_grammar.specs.Grammar.{Syntax, Nothing, Both, Node, Left, Right, Group, Rest, Order, spell, Grammar, empty, ◌&◌, when◌then◌else◌, inside, raw, rest_after, rule, shaped, unshown, ordered}
 use Rattle.syn_grammar.specs.Table.{table}
 use Rattle.syn_grammar.specs.Take.{Out, Parser, Opened, is_end, only, sees, take_group, take_mark}
 use Rattle.syn_grammar.specs.Values.{shape}
-use Rattle.syn_grammar.specs.Run.{wrap, and_then, branch, close, within, raw_of, rest_of, marks_of, parse_form, rows, union, close_row, row_closed, row_opened}
+use Rattle.syn_grammar.specs.Run.{wrap, and_then, branch, close, within, raw_of, rest_of, marks_of, parse_form, rows, close_row, row_closed, row_opened}
 use Rattle.syn_grammar.proofs.Looks.{sees_ended}
 use Rattle.syn_grammar.proofs.Run.{parse_rule_is}
 use Rattle.syn_grammar.proofs.Streams.{append_append}
 use Rattle.syn_grammar.proofs.Takes.{mark_told}
+use Rattle.syn_recognize.specs.declared.list.List as list
+use Rattle.syn_recognize.specs.Ordered.{first_form, other_form, member}
 use Rattle.syn_recognize.specs.PrintedRows.{way, row_of}
 use Rattle.syn_recognize.specs.Written.{Written, adds, enters, leaves}
 use Rattle.syn_recognize.specs.Copies.{Copy, Reached, Refused, copied, copied_row, next, closing, copy_form, copy_row}
@@ -137,15 +139,15 @@ unfolding copy_form
 shaped_is j g w ts = wrapped (shape j) (way_shape j) w (parse_form g ts)
 
 -- a list in `< >`
-pub ordered_is : (g : Grammar) (w : Written) (ts : Stream) → copy_form (ordered lifetime g) w ts ≡ next (next (copied w (take_mark less ts)) (copy_row g)) (λ v r. copied v (take_mark greater r))
+pub ordered_is : (k : list.List) (w : Written) (ts : Stream) → copy_form (ordered (first_form k) (other_form k)) w ts ≡ next (next (copied w (take_mark less ts)) (copy_row k)) (λ v r. copied v (take_mark greater r))
 unfolding copy_form copy_row adds
-ordered_is g w ts = go (take_mark less ts) (is_mark a less ts)
+ordered_is k w ts = go (take_mark less ts) (is_mark a less ts)
   where
     a : Bool
     a = w.printing
 
     l : Parser
-    l = rows (union (parse_form lifetime) (parse_form g))
+    l = rows (member k)
 
     -- of the opening and the closing mark and the list between them
     told : (x s y : Syntax) (r : Stream) → spell (marks_of x) end ≡ way a x → spell (marks_of y) end ≡ way a y →

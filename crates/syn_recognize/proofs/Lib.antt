@@ -5,7 +5,13 @@ pub mod Shapes
 pub mod Ways
 pub mod Writes
 pub mod Copied
+pub mod Exact
+pub mod Ordered
 pub mod Lists
+pub mod Solid
+pub mod FadingParts
+pub mod WrittenAside
+pub mod Alike
 pub mod Ends
 pub mod Trailing
 pub mod Todo
@@ -18,5 +24,7 @@ pub mod Integers
 pub mod Facts
 pub mod InnerAttributes
 pub mod TypeLooks
+pub mod Restricted
+pub mod Nameless
 pub mod PathLooks
 pub mod ExpressionLooks

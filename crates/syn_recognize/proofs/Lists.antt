@@ -1,29 +1,28 @@
 -- What is written of a list in `< >`, member by member.
-use Rattle.std.proofs.Common.{◌≡◌, ℕ, Bool, true, false, List, [], ◌∷◌, Some, None, nat_eq, map, drop, get_or, length, ◌+◌, ◌<◌, ◌≤◌, refl, sym, ap, ap₂, ◌∙◌, subst, true≢false}
-use Rattle.std.proofs.lemmas.Bool.{eqb-true, eq-eqb}
+use Rattle.std.proofs.Common.{◌≡◌, ℕ, Bool, true, false, List, [], ◌∷◌, Some, None, map, drop, get_or, length, ◌+◌, ◌<◌, ◌≤◌, refl, sym, ap, ap₂, ◌∙◌, subst, true≢false}
 use Rattle.std.proofs.lemmas.List.{at_drop_more, drop_all}
-use Rattle.syn_grammar.specs.Words.{Text, comma}
-use Rattle.syn_grammar.specs.Tokens.{Span, call_site, Stream, end, punct, ◌⧺◌, and, pick, same_text, at_lifetime}
-use Rattle.syn_grammar.specs.Grammar.{Syntax, Mark, Lifetime, Left, Right, Done, Last, More, chars, Grammar, lifetime, at_row_end, at_row_comma, print}
-use Rattle.syn_grammar.specs.Take.{Out, Parser, sees, taken, take_lifetime, take_mark}
-use Rattle.syn_grammar.specs.Run.{wrap, first_of, parse_form, rows, union, row_from, row_member, row_after, row_comma, last, more, span_of}
-use Rattle.syn_grammar.proofs.Looks.{sees_lifetime}
+use Rattle.syn_grammar.specs.Words.{comma}
+use Rattle.syn_grammar.specs.Tokens.{Span, call_site, Stream, end, punct, ◌⧺◌, and, pick}
+use Rattle.syn_grammar.specs.Grammar.{Syntax, Mark, Left, Right, Done, Last, More, chars, at_row_end, at_row_comma, print}
+use Rattle.syn_grammar.specs.Take.{Out, Parser, sees, take_mark}
+use Rattle.syn_grammar.specs.Run.{wrap, parse_form, rows, row_from, row_member, row_after, row_comma, last, more, span_of}
 use Rattle.syn_grammar.proofs.Run.{row_is}
-use Rattle.syn_grammar.proofs.Sets.{and_left, and_right, same_text_eq, same_text_refl}
 use Rattle.syn_grammar.proofs.Streams.{append_append}
 use Rattle.syn_grammar.proofs.Takes.{mark_told}
 use Rattle.syn_tokens.specs.Spans.{at}
-use Rattle.syn_tokens.specs.Idents.{IdentValue}
-use Rattle.syn_tokens.specs.Leaves.{syntax_of_apostrophe, syntax_of_mark}
+use Rattle.syn_tokens.specs.Building.{added}
+use Rattle.syn_tokens.specs.Leaves.{syntax_of_mark}
 use Rattle.syn_tokens.specs.declared.span.Span.{Span as T_Span}
 use Rattle.syn_recognize.specs.Late.{guess_of}
-use Rattle.syn_recognize.specs.declared.late.LateLifetime.{LateLifetime}
-use Rattle.syn_recognize.specs.Leaves.{lifetime_is_leaf}
+use Rattle.syn_recognize.specs.declared.late.Late.{Late}
+use Rattle.syn_recognize.specs.declared.list.List as list
+use Rattle.syn_recognize.specs.Ordered.{first_form, other_form, member, Tells}
 use Rattle.syn_recognize.specs.PrintedRows.{way, with_comma, firsts, print_firsts, others_of, print_row, row_of}
-use Rattle.syn_recognize.specs.Written.{Written, adds}
-use Rattle.syn_recognize.specs.Guesses.{Guesses, same_span, same_guess, same_guesses}
-use Rattle.syn_recognize.specs.Copies.{Copy, Reached, Refused, Stuck, Leads, copied, copied_row, copied_others, next, copy_form, copy_row, copy_others, after_member, after_other, none_left}
-use Rattle.syn_recognize.proofs.Ways.{way_mark, way_leaf, row_done_is, row_more_is, row_last_is, others_done_is, others_none_is, others_last_is}
+use Rattle.syn_recognize.specs.Written.{Written, adds, blank}
+use Rattle.syn_recognize.specs.Guesses.{Guesses, same_guess, same_guesses}
+use Rattle.syn_recognize.specs.Copies.{Copy, Reached, Refused, Stuck, Leads, copied, copied_row, copied_others, next, copy_form, copy_row, copy_others, after_member, after_other, none_left, guessed, late_comma, after_late, returning}
+use Rattle.syn_recognize.proofs.Exact.{guess_eq, guess_refl, guesses_eq}
+use Rattle.syn_recognize.proofs.Ways.{way_mark, row_done_is, row_more_is, row_last_is, others_done_is, others_none_is, others_last_is}
 use Rattle.syn_recognize.proofs.Writes.{adds_more, adds_none}
 use Rattle.syn_recognize.proofs.Copied.{nothing}
 
@@ -43,29 +42,21 @@ commas w s sp i = sym (ap (λ v. adds v i) (adds_more w s (punct 44 false sp end
 
 -- A LIST, by its first member
 
-module _ (g : Grammar) where
+module _ (k : list.List) where
   abbrev members : Parser
-  members = rows (union (parse_form lifetime) (parse_form g))
+  members = rows (member k)
 
-  none_stands : (ts : Stream) → sees at_row_end ts ≡ true → members ts ≡ Some (Done, ts)
-  none_stands ts e = row_is lifetime g ts ∙ ap (λ a. row_from a (union (parse_form lifetime) (parse_form g)) members ts) e
+  pub none_stands : (ts : Stream) → sees at_row_end ts ≡ true → members ts ≡ Some (Done, ts)
+  none_stands ts e = row_is (first_form k) (other_form k) ts ∙ ap (λ a. row_from a (member k) members ts) e
 
-  one_stands : (ts : Stream) → sees at_row_end ts ≡ false → members ts ≡ row_member (first_of (take_lifetime ts) (parse_form g ts)) members
-  one_stands ts e = row_is lifetime g ts ∙ ap (λ a. row_from a (union (parse_form lifetime) (parse_form g)) members ts) e
+  pub one_stands : (ts : Stream) → sees at_row_end ts ≡ false → members ts ≡ row_member (member k ts) members
+  one_stands ts e = row_is (first_form k) (other_form k) ts ∙ ap (λ a. row_from a (member k) members ts) e
 
-  first_stands : (ts : Stream) → sees at_row_end ts ≡ false → sees at_lifetime ts ≡ true → members ts ≡ row_member (wrap Left (take_lifetime ts)) members
-  first_stands ts e h = one_stands ts e ∙ go (take_lifetime ts) (sym (sees_lifetime ts) ∙ h)
-    where
-      go : (o : Out) → taken o ≡ true → row_member (first_of o (parse_form g ts)) members ≡ row_member (wrap Left o) members
-      go (Some p) k = refl
-      go None k = absurd (true≢false (sym k))
+  first_stands : (ts : Stream) → sees at_row_end ts ≡ false → Tells k ts true → members ts ≡ row_member (wrap Left (parse_form (first_form k) ts)) members
+  first_stands ts e h = one_stands ts e ∙ ap (λ o. row_member o members) h.is
 
-  other_stands : (ts : Stream) → sees at_row_end ts ≡ false → sees at_lifetime ts ≡ false → members ts ≡ row_member (wrap Right (parse_form g ts)) members
-  other_stands ts e h = one_stands ts e ∙ go (take_lifetime ts) (sym (sees_lifetime ts) ∙ h)
-    where
-      go : (o : Out) → taken o ≡ false → row_member (first_of o (parse_form g ts)) members ≡ row_member (wrap Right (parse_form g ts)) members
-      go (Some p) k = absurd (true≢false k)
-      go None k = refl
+  other_stands : (ts : Stream) → sees at_row_end ts ≡ false → Tells k ts false → members ts ≡ row_member (wrap Right (parse_form (other_form k) ts)) members
+  other_stands ts e h = one_stands ts e ∙ ap (λ o. row_member o members) h.is
 
 -- A MEMBER is written, and then its comma and what follows, or nothing; in one way of writing lists, by what it does with one member
 module _ (write : Written → Out → Copy) (finish : Written → Stream → Copy) (none : (w : Written) → write w None ≡ Refused) (l : Parser) (w : Written) where
@@ -96,23 +87,23 @@ module _ (write : Written → Out → Copy) (finish : Written → Stream → Cop
 
 -- A WHOLE LIST
 
-pub row_done : (g : Grammar) (w : Written) (ts : Stream) → sees at_row_end ts ≡ true → copy_row g w ts ≡ Reached w ts
+pub row_done : (k : list.List) (w : Written) (ts : Stream) → sees at_row_end ts ≡ true → copy_row k w ts ≡ Reached w ts
 unfolding copy_row
-row_done g w ts e = ap (copied_row w) (none_stands g ts e) ∙ nothing w _ ts (row_done_is w.printing)
+row_done k w ts e = ap (copied_row w) (none_stands k ts e) ∙ nothing w _ ts (row_done_is w.printing)
 
--- a lifetime before all others is written as it is read
-pub row_first : (g : Grammar) (w : Written) (ts : Stream) → sees at_row_end ts ≡ false → sees at_lifetime ts ≡ true → copy_row g w ts ≡ next (copied w (take_lifetime ts)) (after_member g)
-unfolding copy_row adds
-row_first g w ts e h = ap (copied_row w) (first_stands g ts e h) ∙ member_is copied_row Reached (λ v. refl) (members g) w Left told (λ s r. ap (λ i. Reached (adds w i) r) (row_last_is w.printing s)) (take_lifetime ts)
+-- a first member before all others is written as it is read
+pub row_first : (k : list.List) (w : Written) (ts : Stream) → sees at_row_end ts ≡ false → Tells k ts true → copy_row k w ts ≡ next (copy_form (first_form k) w ts) (after_member k)
+unfolding copy_row copy_form adds
+row_first k w ts e h = ap (copied_row w) (first_stands k ts e h) ∙ member_is copied_row Reached (λ v. refl) (members k) w Left told (λ s r. ap (λ i. Reached (adds w i) r) (row_last_is w.printing s)) (parse_form (first_form k) ts)
   where
     told : (s : Syntax) (sp : Span) (o : Out) → copied_row w (wrap (More true s sp) o) ≡ copied_row (adds (adds w (way w.printing s)) (punct 44 false sp end)) o
     told s sp None = refl
     told s sp (Some p) = ap (λ i. Reached (adds w i) p.1) (row_more_is w.printing s sp p.0) ∙ ap (λ v. Reached v p.1) (commas w (way w.printing s) sp (row_of w.printing p.0))
 
 -- so is each other member, where lists are shown
-pub row_other : (g : Grammar) (w : Written) (ts : Stream) → sees at_row_end ts ≡ false → sees at_lifetime ts ≡ false → w.printing ≡ false → copy_row g w ts ≡ next (copy_form g w ts) (after_member g)
+pub row_other : (k : list.List) (w : Written) (ts : Stream) → sees at_row_end ts ≡ false → Tells k ts false → w.printing ≡ false → copy_row k w ts ≡ next (copy_form (other_form k) w ts) (after_member k)
 unfolding copy_row copy_form adds
-row_other g w ts e h shown = ap (copied_row w) (other_stands g ts e h) ∙ member_is copied_row Reached (λ v. refl) (members g) w Right told ended (parse_form g ts)
+row_other k w ts e h shown = ap (copied_row w) (other_stands k ts e h) ∙ member_is copied_row Reached (λ v. refl) (members k) w Right told ended (parse_form (other_form k) ts)
   where
     more_is : (a : Bool) → a ≡ false → (s : Syntax) (sp : Span) (t : Syntax) → row_of a (More false s sp t) ≡ with_comma (way a s) sp (row_of a t)
     more_is true k s sp t = absurd (true≢false k)
@@ -129,16 +120,25 @@ row_other g w ts e h shown = ap (copied_row w) (other_stands g ts e h) ∙ membe
     ended : (s : Syntax) (r : Stream) → copied_row w (Some (Last false s, r)) ≡ Reached (adds w (way w.printing s)) r
     ended s r = ap (λ i. Reached (adds w i) r) (last_is w.printing shown s)
 
--- WHERE ITS LATE LIFETIMES WERE WRITTEN
+-- a late member is read once aside, and then again
+pub noted_is : (k : list.List) (w : Written) (ts : Stream) (a : Bool) → next (next (copy_form (first_form k) (blank a) ts) (returning w ts)) (copy_form (first_form k)) ≡ copy_form (first_form k) w ts
+unfolding copy_form
+noted_is k w ts a = go (parse_form (first_form k) ts) refl
+  where
+    go : (o : Out) → parse_form (first_form k) ts ≡ o → next (next (copied (blank a) o) (returning w ts)) (λ v r. copied v (parse_form (first_form k) r)) ≡ copied w o
+    go None e = refl
+    go (Some p) e = ap (copied w) e
 
-pub others_done : (g : Grammar) (w : Written) (ts : Stream) → sees at_row_end ts ≡ true → copy_others g [] w ts ≡ Reached w ts
+-- WHERE ITS LATE MEMBERS WERE WRITTEN
+
+pub others_done : (k : list.List) (w : Written) (ts : Stream) → sees at_row_end ts ≡ true → copy_others k [] w ts ≡ Reached w ts
 unfolding copy_others
-others_done g w ts e = ap (copied_others [] w) (none_stands g ts e) ∙ nothing w _ ts (others_done_is w.printing)
+others_done k w ts e = ap (copied_others [] w) (none_stands k ts e) ∙ nothing w _ ts (others_done_is w.printing)
 
 -- another member is written
-others_right : (g : Grammar) (l : Guesses) (w : Written) (o : Out) → copied_others l w (row_member (wrap Right o) (members g)) ≡ next (copied w o) (after_other g l)
+others_right : (k : list.List) (l : Guesses) (w : Written) (o : Out) → copied_others l w (row_member (wrap Right o) (members k)) ≡ next (copied w o) (after_other k l)
 unfolding copy_others adds
-others_right g l w o = member_is (copied_others l) (none_left l) (λ v. refl) (members g) w Right told ended o
+others_right k l w o = member_is (copied_others l) (none_left l) (λ v. refl) (members k) w Right told ended o
   where
     more_is : (a : Bool) (s : Syntax) (sp : Span) (t : Syntax) → others_of a (More false s sp t) ≡ with_comma (way a s) sp (others_of a t)
     more_is a s sp t = refl
@@ -150,81 +150,87 @@ others_right g l w o = member_is (copied_others l) (none_left l) (λ v. refl) (m
     ended : (s : Syntax) (r : Stream) → copied_others l w (Some (Last false s, r)) ≡ none_left l (adds w (way w.printing s)) r
     ended s r = ap (λ i. pick (same_guesses [] l) (Reached (adds w i) r) Stuck) (others_last_is w.printing s)
 
-pub others_other : (g : Grammar) (l : Guesses) (w : Written) (ts : Stream) → sees at_row_end ts ≡ false → sees at_lifetime ts ≡ false → copy_others g l w ts ≡ next (copy_form g w ts) (after_other g l)
+pub others_other : (k : list.List) (l : Guesses) (w : Written) (ts : Stream) → sees at_row_end ts ≡ false → Tells k ts false → copy_others k l w ts ≡ next (copy_form (other_form k) w ts) (after_other k l)
 unfolding copy_others copy_form
-others_other g l w ts e h = ap (copied_others l w) (other_stands g ts e h) ∙ others_right g l w (parse_form g ts)
+others_other k l w ts e h = ap (copied_others l w) (other_stands k ts e h) ∙ others_right k l w (parse_form (other_form k) ts)
 
--- EQUAL GUESSES
-
-span_refl : (a : Span) → same_span a a ≡ true
-span_refl a = ap₂ and (eq-eqb a.start a.start refl) (eq-eqb a.stop a.stop refl)
-
-span_eq : (a b : Span) → same_span a b ≡ true → a ≡ b
-span_eq a b e = ap₂ (λ x y. record { start = x; stop = y }) (eqb-true a.start b.start (and_left (nat_eq a.start b.start) _ e)) (eqb-true a.stop b.stop (and_right (nat_eq a.start b.start) _ e))
-
-guess_refl : (sp : Span) (x : Text) (sq c : Span) → same_guess (Lifetime sp x sq, c) (Lifetime sp x sq, c) ≡ true
-guess_refl sp x sq c = ap₂ and (same_text_refl x) (ap₂ and (span_refl sp) (ap₂ and (span_refl sq) (span_refl c)))
-
-guess_eq : (a b : Syntax × Span) → same_guess a b ≡ true → a ≡ b
-guess_eq (Lifetime sp x sq, c) (Lifetime so y sr, d) e = go (and_right (same_text x y) _ e)
+-- a member that was guessed isn't written again
+pub others_late : (k : list.List) (l : Guesses) (w : Written) (ts : Stream) → sees at_row_end ts ≡ false → Tells k ts true → Leads (copy_others k l w ts) (next (copy_form (first_form k) (blank true) ts) (after_late k l w))
+unfolding copy_others copy_form adds added
+others_late k l w ts e h = subst (λ o. Leads (copied_others l w o) (next (copied (blank true) (parse_form (first_form k) ts)) (after_late k l w))) (sym (first_stands k ts e h)) (member_read (parse_form (first_form k) ts))
   where
-    last_two : and (same_span sq sr) (same_span c d) ≡ true → ◌≡◌ {A = Span × Span} (sq, c) (sr, d)
-    last_two h = ap₂ (λ u v. (u, v)) (span_eq sq sr (and_left (same_span sq sr) _ h)) (span_eq c d (and_right (same_span sq sr) _ h))
+    more_read : (s : Syntax) (sp : Span) (m : Guesses) (o : Out) → Leads (copied_others m w (wrap (More true s sp) o)) (guessed m (print s) sp (λ n. copied_others n w o))
+    more_read s sp [] None = tt
+    more_read s sp [] (Some p) = tt
+    more_read s sp (g ∷ m) o = go (same_guess g (print s, sp)) refl o
+      where
+        go : (b : Bool) → same_guess g (print s, sp) ≡ b → (o : Out) → Leads (copied_others (g ∷ m) w (wrap (More true s sp) o)) (pick b (copied_others m w o) Stuck)
+        go false q o = tt
+        go true q None = refl
+        go true q (Some p) = same (same_guesses (firsts p.0) m)
+          where
+            here : same_guess (print s, sp) g ≡ true
+            here = ap (λ x. same_guess x g) (sym (guess_eq g (print s, sp) q)) ∙ guess_refl g
 
-    go : and (same_span sp so) (and (same_span sq sr) (same_span c d)) ≡ true → ◌≡◌ {A = Syntax × Span} (Lifetime sp x sq, c) (Lifetime so y sr, d)
-    go h =
-        ap₂ (λ (u : Span) (v : Span × Span). (Lifetime u x v.0, v.1)) (span_eq sp so (and_left (same_span sp so) _ h)) (last_two (and_right (same_span sp so) _ h))
-        ∙ ap (λ u. (Lifetime so u sr, d)) (same_text_eq x y (and_left (same_text x y) _ e))
-guess_eq _ _ e = absurd (true≢false (sym e))
+            same : (c : Bool) → Leads (pick (and (same_guess (print s, sp) g) c) (Reached (adds w (others_of w.printing p.0)) p.1) Stuck) (pick c (Reached (adds w (others_of w.printing p.0)) p.1) Stuck)
+            same true = ap (λ b. pick (and b true) (Reached (adds w (others_of w.printing p.0)) p.1) Stuck) here
+            same false = tt
 
-guesses_eq : (l m : Guesses) → same_guesses l m ≡ true → l ≡ m
-guesses_eq [] [] e = refl
-guesses_eq (a ∷ l) (b ∷ m) e = ap₂ (λ x y. x ∷ y) (guess_eq a b (and_left (same_guess a b) _ e)) (guesses_eq l m (and_right (same_guess a b) _ e))
-guesses_eq _ _ e = absurd (true≢false (sym e))
+    comma_read : (s : Syntax) (o : Out) → Leads (copied_others l w (row_comma (Left s) o (members k))) (late_comma k l w (print s) o)
+    comma_read s None = refl
+    comma_read s (Some c) = more_read s (span_of c.0) l (members k c.1)
 
--- a lifetime that was guessed isn't written again
-module _ (g : Grammar) (l : Guesses) (w : Written) (ts r : Stream) (sp : Span) (x : Text) (sq : Span) (e : sees at_row_end ts ≡ false) (h : sees at_lifetime ts ≡ true) (q : take_lifetime ts ≡ Some (Lifetime sp x sq, r)) where
-  late_stands : (b : Bool) → sees at_row_comma r ≡ b → members g ts ≡ row_after b (Left (Lifetime sp x sq)) r (members g)
-  late_stands b c = first_stands g ts e h ∙ ap (λ o. row_member (wrap Left o) (members g)) q ∙ ap (λ b. row_after b (Left (Lifetime sp x sq)) r (members g)) c
+    last_read : (s : Syntax) (r : Stream) (m : Guesses) → Leads (copied_others m w (Some (Last true s, r))) (guessed m (print s) call_site (λ n. none_left n w r))
+    last_read s r [] = tt
+    last_read s r (g ∷ m) = go (same_guess g (print s, call_site)) refl
+      where
+        go : (b : Bool) → same_guess g (print s, call_site) ≡ b → Leads (copied_others (g ∷ m) w (Some (Last true s, r))) (pick b (none_left m w r) Stuck)
+        go false q = tt
+        go true q = same m
+          where
+            here : same_guess (print s, call_site) g ≡ true
+            here = ap (λ x. same_guess x g) (sym (guess_eq g (print s, call_site) q)) ∙ guess_refl g
 
-  pub others_late : (c : Syntax) (m : Stream) → sees at_row_comma r ≡ true → take_mark comma r ≡ Some (c, m) → copy_others g ((Lifetime sp x sq, span_of c) ∷ l) w ts ≡ copy_others g l w m
-  unfolding copy_others
-  others_late c m k i =
-      ap (copied_others ((Lifetime sp x sq, span_of c) ∷ l) w) (late_stands true k ∙ ap (λ o. row_comma (Left (Lifetime sp x sq)) o (members g)) i) ∙ go (members g m)
-    where
-      go : (o : Out) → copied_others ((Lifetime sp x sq, span_of c) ∷ l) w (wrap (More true (Lifetime sp x sq) (span_of c)) o) ≡ copied_others l w o
-      go None = refl
-      go (Some p) =
-          ap (λ b. pick (and b (same_guesses (firsts p.0) l)) (Reached (adds w (others_of w.printing p.0)) p.1) Stuck) (guess_refl sp x sq (span_of c))
+            same : (n : Guesses) → Leads (copied_others (g ∷ n) w (Some (Last true s, r))) (none_left n w r)
+            same [] = ap (λ b. pick (and b true) (Reached (adds w (others_of w.printing (Last true s))) r) Stuck) here ∙ nothing w _ r (others_none_is w.printing s)
+            same (x ∷ n) = tt
 
-  pub others_late_last : sees at_row_comma r ≡ false → copy_others g ((Lifetime sp x sq, call_site) ∷ []) w ts ≡ Reached w r
-  unfolding copy_others
-  others_late_last k =
-      ap (copied_others ((Lifetime sp x sq, call_site) ∷ []) w) (late_stands false k)
-      ∙ ap (λ b. pick (and b true) (Reached (adds w (others_of w.printing (Last true (Lifetime sp x sq)))) r) Stuck) (guess_refl sp x sq call_site)
-      ∙ nothing w _ r (others_none_is w.printing (Lifetime sp x sq))
+    after_read : (s : Syntax) (r : Stream) (b : Bool) → Leads (copied_others l w (row_after b (Left s) r (members k))) (pick b (late_comma k l w (print s) (take_mark comma r)) (guessed l (print s) call_site (λ m. none_left m w r)))
+    after_read s r true = comma_read s (take_mark comma r)
+    after_read s r false = last_read s r l
 
--- late lifetimes are written with their commas
-pub late_written : (w v u : Written) (a : T_Span × IdentValue) (sp : T_Span) (l : List T_Span) → v ≡ adds w (way w.printing (syntax_of_apostrophe a)) → l ≡ sp ∷ [] →
-    u ≡ adds v (way v.printing (syntax_of_mark comma l)) → u ≡ adds w (print_firsts ((syntax_of_apostrophe a, at sp) ∷ []))
-late_written w v u a sp l e f g = g ∙ ap (λ m. adds v (way v.printing (syntax_of_mark comma m))) f ∙ ap (λ z. adds z (way z.printing (syntax_of_mark comma (sp ∷ [])))) e ∙ told
-  where
-    z : Written
-    z = adds w (way w.printing (syntax_of_apostrophe a))
+    member_read : (o : Out) → Leads (copied_others l w (row_member (wrap Left o) (members k))) (next (copied (blank true) o) (after_late k l w))
+    member_read None = refl
+    member_read (Some p) = after_read p.0 p.1 (sees at_row_comma p.1)
 
-    told : adds z (way z.printing (syntax_of_mark comma (sp ∷ []))) ≡ adds w (print_firsts ((syntax_of_apostrophe a, at sp) ∷ []))
-    told =
-        ap (adds z) (way_mark z.printing ((44, at sp) ∷ [])) ∙ adds_more w (way w.printing (syntax_of_apostrophe a)) (punct 44 false (at sp) end)
-        ∙ ap (λ i. adds w (i ⧺ punct 44 false (at sp) end)) (way_leaf w.printing (syntax_of_apostrophe a) (lifetime_is_leaf (at a.0) (at a.1.span) a.1.text))
+-- the guess that was right
+pub late_right : (l m : Guesses) (g : Stream × Span) (i : Stream) (sp : Span) (q : Guesses → Copy) → l ≡ g ∷ m → g ≡ (i, sp) → guessed l i sp q ≡ q m
+late_right l m g i sp q e f = ap (λ n. guessed n i sp q) e ∙ ap (λ x. pick (same_guess x (i, sp)) (q m) Stuck) f ∙ ap (λ b. pick b (q m) Stuck) (guess_refl (i, sp))
 
-pub late_step : (w v : Written) (l : List LateLifetime) (i : ℕ) (d : LateLifetime) → i < length l → v ≡ adds w (print_firsts (guess_of (get_or l i d) ∷ [])) →
+pub late_last : (k : list.List) (l m : Guesses) (g : Stream × Span) (u w : Written) (ts : Stream) → sees at_row_comma ts ≡ false → l ≡ g ∷ m → g ≡ (w.out.stream, call_site) → m ≡ [] → after_late k l u w ts ≡ Reached u ts
+late_last k l m g u w ts e h i j =
+    ap (λ b. pick b (late_comma k l u w.out.stream (take_mark comma ts)) (guessed l w.out.stream call_site (λ m. none_left m u ts))) e
+    ∙ late_right l m g w.out.stream call_site (λ m. none_left m u ts) h i ∙ ap (λ n. none_left n u ts) j
+
+pub late_more : (k : list.List) (l m : Guesses) (g : Stream × Span) (u w : Written) (ts r : Stream) (c : Syntax) → sees at_row_comma ts ≡ true → take_mark comma ts ≡ Some (c, r) → l ≡ g ∷ m → g ≡ (w.out.stream, span_of c) → after_late k l u w ts ≡ copy_others k m u r
+late_more k l m g u w ts r c e q h i =
+    ap (λ b. pick b (late_comma k l u w.out.stream (take_mark comma ts)) (guessed l w.out.stream call_site (λ m. none_left m u ts))) e
+    ∙ ap (late_comma k l u w.out.stream) q ∙ late_right l m g w.out.stream (span_of c) (λ m. copy_others k m u r) h i
+
+-- late members are written with their commas
+pub late_written : (w v u : Written) (i : Stream) (sp : T_Span) (l : List T_Span) → v ≡ adds w i → l ≡ sp ∷ [] → u ≡ adds v (way v.printing (syntax_of_mark comma l)) → u ≡ adds w (print_firsts ((i, at sp) ∷ []))
+late_written w v u i sp l e f g =
+    g ∙ ap (λ m. adds v (way v.printing (syntax_of_mark comma m))) f ∙ ap (adds v) (way_mark v.printing ((44, at sp) ∷ [])) ∙ ap (λ z. adds z (punct 44 false (at sp) end)) e
+    ∙ adds_more w i (punct 44 false (at sp) end)
+
+pub late_step : (w v : Written) (l : List Late) (i : ℕ) (d : Late) → i < length l → v ≡ adds w (print_firsts (guess_of (get_or l i d) ∷ [])) →
     adds v (print_firsts (map guess_of (drop (i + 1) l))) ≡ adds w (print_firsts (map guess_of (drop i l)))
 late_step w v l i d h e =
     let x = guess_of (get_or l i d) in
     ap (λ z. adds z (print_firsts (map guess_of (drop (i + 1) l)))) e ∙ adds_more w (print_firsts (x ∷ [])) (print_firsts (map guess_of (drop (i + 1) l)))
-    ∙ ap (adds w) (append_append (print x.0) (punct 44 false x.1 end) (print_firsts (map guess_of (drop (i + 1) l))) ∙ sym (at_drop_more (λ m. print_firsts (map guess_of m)) l i d h))
+    ∙ ap (adds w) (append_append x.0 (punct 44 false x.1 end) (print_firsts (map guess_of (drop (i + 1) l))) ∙ sym (at_drop_more (λ m. print_firsts (map guess_of m)) l i d h))
 
-pub late_done : (w : Written) (l : List LateLifetime) (i : ℕ) → length l ≤ i → adds w (print_firsts (map guess_of (drop i l))) ≡ w
+pub late_done : (w : Written) (l : List Late) (i : ℕ) → length l ≤ i → adds w (print_firsts (map guess_of (drop i l))) ≡ w
 late_done w l i h = ap (λ m. adds w (print_firsts (map guess_of m))) (drop_all i l h) ∙ adds_none w
 
 -- BEFORE THE FIRST OTHER MEMBER the guesses are written, where lists are printed
@@ -257,9 +263,9 @@ module _ (l : Guesses) (w : Written) (printed : w.printing ≡ true) where
       go true = comma_read (take_mark comma p.1)
       go false = guessed_tree (Last false p.0) p.1 refl
 
-pub row_guessed : (g : Grammar) (l : Guesses) (w : Written) (ts : Stream) → sees at_row_end ts ≡ false → sees at_lifetime ts ≡ false → w.printing ≡ true →
-    Leads (copy_row g w ts) (next (copy_form g (adds w (print_firsts l)) ts) (after_other g l))
+pub row_guessed : (k : list.List) (l : Guesses) (w : Written) (ts : Stream) → sees at_row_end ts ≡ false → Tells k ts false → w.printing ≡ true →
+    Leads (copy_row k w ts) (next (copy_form (other_form k) (adds w (print_firsts l)) ts) (after_other k l))
 unfolding copy_row copy_form
-row_guessed g l w ts e h k =
-    subst (λ o. Leads (copied_row w o) (next (copied (adds w (print_firsts l)) (parse_form g ts)) (after_other g l))) (sym (other_stands g ts e h))
-    (subst (Leads (copied_row w (row_member (wrap Right (parse_form g ts)) (members g)))) (others_right g l (adds w (print_firsts l)) (parse_form g ts)) (guessed_list l w k (parse_form g ts) (members g)))
+row_guessed k l w ts e h p =
+    subst (λ o. Leads (copied_row w o) (next (copied (adds w (print_firsts l)) (parse_form (other_form k) ts)) (after_other k l))) (sym (other_stands k ts e h))
+    (subst (Leads (copied_row w (row_member (wrap Right (parse_form (other_form k) ts)) (members k)))) (others_right k l (adds w (print_firsts l)) (parse_form (other_form k) ts)) (guessed_list l w p (parse_form (other_form k) ts) (members k)))

@@ -33,19 +33,27 @@ all_done o = refl
 nowhere : (s : Step) → after s Refused ≡ Refused
 nowhere (Step-m.Form f) = refl
 nowhere (Step-m.Close d c rest) = refl
-nowhere (Step-m.Row f n) = refl
-nowhere (Step-m.RowRest f n) = refl
-nowhere (Step-m.Others f l) = refl
-nowhere (Step-m.OthersRest f l) = refl
+nowhere (Step-m.Row k n) = refl
+nowhere (Step-m.RowRest k n) = refl
+nowhere (Step-m.Others k l) = refl
+nowhere (Step-m.OthersRest k l) = refl
+nowhere (Step-m.Note b ts n) = refl
+nowhere (Step-m.Skip k b l) = refl
+nowhere (Step-m.Forget b) = refl
+nowhere (Step-m.Capture b ts) = refl
 nowhere (Step-m.ByBraces f g) = refl
 
 stuck : (s : Step) → after s Stuck ≡ Stuck
 stuck (Step-m.Form f) = refl
 stuck (Step-m.Close d c rest) = refl
-stuck (Step-m.Row f n) = refl
-stuck (Step-m.RowRest f n) = refl
-stuck (Step-m.Others f l) = refl
-stuck (Step-m.OthersRest f l) = refl
+stuck (Step-m.Row k n) = refl
+stuck (Step-m.RowRest k n) = refl
+stuck (Step-m.Others k l) = refl
+stuck (Step-m.OthersRest k l) = refl
+stuck (Step-m.Note b ts n) = refl
+stuck (Step-m.Skip k b l) = refl
+stuck (Step-m.Forget b) = refl
+stuck (Step-m.Capture b ts) = refl
 stuck (Step-m.ByBraces f g) = refl
 
 pub refused : (l : List Step) (o : Copy) → o ≡ Refused → todo l o ≡ Refused

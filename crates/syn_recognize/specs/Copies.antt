@@ -1,15 +1,17 @@
 -- WHAT IS WRITTEN of what is read, behind what was written before.
-use Rattle.std.specs.Prelude.{◌≡◌, true, Bool, ℕ, false, [], Some, None, Result, Ok, Err}
+use Rattle.std.specs.Prelude.{◌≡◌, true, Bool, ℕ, false, [], ◌∷◌, Some, None, Result, Ok, Err}
 use Rattle.syn_grammar.specs.Words.{comma}
-use Rattle.syn_grammar.specs.Tokens.{Span, Stream, pick}
+use Rattle.syn_grammar.specs.Tokens.{Span, Stream, call_site, pick}
 use Rattle.syn_grammar.specs.Rules.{Rule}
-use Rattle.syn_grammar.specs.Grammar.{Grammar, lifetime, at_row_comma}
-use Rattle.syn_grammar.specs.Take.{Out, is_end, sees, take_mark}
-use Rattle.syn_grammar.specs.Run.{parse_form, rows, union}
+use Rattle.syn_grammar.specs.Grammar.{Grammar, at_row_comma}
+use Rattle.syn_grammar.specs.Take.{Out, before, is_end, sees, take_mark}
+use Rattle.syn_grammar.specs.Run.{parse_form, rows, span_of}
 use Rattle.syn_grammar.proofs.Said.{start_of}
 use Rattle.syn_recognize.specs.PrintedRows.{way, firsts, others_of, row_of}
 use Rattle.syn_recognize.specs.Written.{Written, adds, leaves}
-use Rattle.syn_recognize.specs.Guesses.{Guesses, same_guesses}
+use Rattle.syn_recognize.specs.Guesses.{Guesses, same_guess, same_guesses}
+use Rattle.syn_recognize.specs.Ordered.{member}
+use Rattle.syn_recognize.specs.declared.list.List as list
 use Rattle.syn_recognize.specs.Trailing.{ends_by}
 
 -- what is written then, and what is left; or nothing is read; or a guess was wrong, and nothing is known
@@ -56,34 +58,62 @@ closing c rest w ts = pick (is_end ts) (Reached (leaves c w) rest) Refused
 unfoldable pub copy_form : Grammar → Written → Stream → Copy
 copy_form g w ts = copied w (parse_form g ts)
 
--- LISTS of lifetimes and of another form
+-- ASIDE
+
+-- what was written before, and nothing more
+abbrev pub forgetting : Written → Written → Stream → Copy
+forgetting u w ts = Reached u ts
+
+-- the same, from there on
+abbrev pub returning : Written → Stream → Written → Stream → Copy
+returning u begin w ts = Reached u begin
+
+-- the same, and what was read from there on, as it is
+abbrev pub capturing : Written → Stream → Written → Stream → Copy
+capturing u begin w ts = Reached (adds u (before begin ts)) ts
+
+-- LISTS of members that are printed first, and others
 
 abbrev pub copied_row : Written → Out → Copy
 copied_row w (Some p) = Reached (adds w (row_of w.printing p.0)) p.1
 copied_row w None = Refused
 
-unfoldable pub copy_row : Grammar → Written → Stream → Copy
-copy_row g w ts = copied_row w (rows (union (parse_form lifetime) (parse_form g)) ts)
+unfoldable pub copy_row : list.List → Written → Stream → Copy
+copy_row k w ts = copied_row w (rows (member k) ts)
 
 -- what follows a member
-abbrev pub after_member : Grammar → Written → Stream → Copy
-after_member g w ts = pick (sees at_row_comma ts) (next (copied w (take_mark comma ts)) (copy_row g)) (Reached w ts)
+abbrev pub after_member : list.List → Written → Stream → Copy
+after_member k w ts = pick (sees at_row_comma ts) (next (copied w (take_mark comma ts)) (copy_row k)) (Reached w ts)
 
--- where the lifetimes of a list, or of what is left of it, were written already, as they were guessed
+-- where the first members of a list, or of what is left of it, were written already, as they were guessed
 abbrev pub copied_others : Guesses → Written → Out → Copy
 copied_others l w (Some p) = pick (same_guesses (firsts p.0) l) (Reached (adds w (others_of w.printing p.0)) p.1) Stuck
 copied_others l w None = Refused
 
-unfoldable pub copy_others : Grammar → Guesses → Written → Stream → Copy
-copy_others g l w ts = copied_others l w (rows (union (parse_form lifetime) (parse_form g)) ts)
+unfoldable pub copy_others : list.List → Guesses → Written → Stream → Copy
+copy_others k l w ts = copied_others l w (rows (member k) ts)
 
 -- no member is left
 abbrev pub none_left : Guesses → Written → Stream → Copy
 none_left l w ts = pick (same_guesses [] l) (Reached w ts) Stuck
 
 -- what follows another member there
-abbrev pub after_other : Grammar → Guesses → Written → Stream → Copy
-after_other g l w ts = pick (sees at_row_comma ts) (next (copied w (take_mark comma ts)) (copy_others g l)) (none_left l w ts)
+abbrev pub after_other : list.List → Guesses → Written → Stream → Copy
+after_other k l w ts = pick (sees at_row_comma ts) (next (copied w (take_mark comma ts)) (copy_others k l)) (none_left l w ts)
+
+-- the next guess is this
+abbrev pub guessed : Guesses → Stream → Span → (Guesses → Copy) → Copy
+guessed [] i sp q = Stuck
+guessed (p ∷ l) i sp q = pick (same_guess p (i, sp)) (q l) Stuck
+
+-- behind the comma of a member that was guessed, what follows
+abbrev pub late_comma : list.List → Guesses → Written → Stream → Out → Copy
+late_comma k l u i (Some c) = guessed l i (span_of c.0) (λ m. copy_others k m u c.1)
+late_comma k l u i None = Refused
+
+-- what follows a member that was guessed, and was written aside
+abbrev pub after_late : list.List → Guesses → Written → Written → Stream → Copy
+after_late k l u w ts = pick (sees at_row_comma ts) (late_comma k l u w.out.stream (take_mark comma ts)) (guessed l w.out.stream call_site (λ m. none_left m u ts))
 
 -- one of two forms, by whether what was written ends with a group in braces
 abbrev pub by_braces : Grammar → Grammar → Written → Stream → Copy

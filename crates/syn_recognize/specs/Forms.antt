@@ -1,9 +1,12 @@
 -- WHAT FORMS AS DATA STAND FOR.
-use Rattle.std.specs.Prelude.{false, [], ◌∷◌}
+use Rattle.std.specs.Prelude.{true, false, [], ◌∷◌}
 use Rattle.syn_grammar.specs.Words.{w_self, w_Self_type, w_super, w_crate}
 use Rattle.syn_grammar.specs.Rules.{whole_expression}
 use Rattle.syn_grammar.specs.Grammar as grammar
-use Rattle.syn_grammar.specs.Grammar.{Kind, Grammar, empty, token, mark, lifetime, ◌&◌, when◌then◌else◌, inside, raw, rest_after, either, one_of, rule, such, trailing_brace, no_trailing_brace, shaped, unshown, ordered}
+use Rattle.syn_recognize.specs.Ordered.{first_form, other_form, generics_form}
+use Rattle.syn_recognize.specs.Fading.{fading_form}
+use Rattle.syn_recognize.specs.Unions.{union_form}
+use Rattle.syn_grammar.specs.Grammar.{Kind, Grammar, empty, token, mark, lifetime, ◌&◌, when◌then◌else◌, inside, raw, rest_after, either, one_of, rule, such, trailing_brace, no_trailing_brace, shaped, unshown, ordered, vanishing, captured}
 use Rattle.syn_tokens.specs.Delimiters.{delimiter_of}
 use Rattle.syn_recognize.specs.Parts.{part_form}
 use Rattle.syn_recognize.specs.Names.{look_of, mark_text, word_text, rule_of, shape_of}
@@ -23,10 +26,10 @@ kind_of Token-m.Index = grammar.index
 
 abbrev pub grammar_of : Form → Grammar
 grammar_of Form-m.Empty = empty
-grammar_of Form-m.Never = one_of []
-grammar_of Form-m.MissingSemi = one_of []
+grammar_of (Form-m.Never e) = one_of []
 grammar_of (Form-m.Token t) = token [] (kind_of t)
 grammar_of (Form-m.Mark m) = mark false (mark_text m)
+grammar_of (Form-m.MarkElse m e) = mark false (mark_text m)
 grammar_of Form-m.Lifetime = lifetime
 grammar_of (Form-m.Then' p f q g) = grammar_of f & grammar_of g
 grammar_of (Form-m.When' c p f q g) = when (look_of c) then (grammar_of f) else (grammar_of g)
@@ -37,5 +40,10 @@ grammar_of (Form-m.Rule k) = rule (rule_of k)
 grammar_of (Form-m.Part p) = part_form p
 grammar_of (Form-m.Shaped' j p f) = shaped (shape_of j) (grammar_of f)
 grammar_of Form-m.Unshown = unshown
-grammar_of (Form-m.Arguments' p f) = ordered lifetime (grammar_of f)
+grammar_of (Form-m.Ordered k) = ordered (first_form k) (other_form k)
+grammar_of Form-m.Generics = generics_form
+grammar_of (Form-m.Fading k) = fading_form k
+grammar_of (Form-m.Hidden' c p f) = vanishing true (look_of c) (grammar_of f)
+grammar_of (Form-m.Captured' p f) = captured (grammar_of f)
+grammar_of (Form-m.Union k) = union_form k
 grammar_of (Form-m.ByBraces' p f q g) = either (such trailing_brace (rule whole_expression) & grammar_of f) (such no_trailing_brace (rule whole_expression) & grammar_of g)

@@ -8,9 +8,13 @@ pub mod PrintedRows
 pub mod Written
 pub mod Guesses
 pub mod Late
+pub mod Ordered
+pub mod Fading
+pub mod Restricted
 pub mod LoneLiterals
 pub mod Quiet
 pub mod Copies
+pub mod Unions
 pub mod Steps
 pub mod Printed
 pub mod Parts

@@ -1,8 +1,9 @@
 -- Written by tools/recognizers.py; edits are lost.
 -- WHAT WORDS, MARKS, LOOKS, SHAPES AND RULES AS DATA STAND FOR.
-use Rattle.syn_grammar.specs.Words.{Text, w_as, w_break, w_const, w_continue, w_else, w_false, w_for, w_if, w_in, w_let, w_loop, w_mut, w_ref, w_return, w_Self_type, w_true, w_underscore, w_unsafe, w_while, ampersand, and_and, ampersand_equals, caret, caret_equals, colon, comma, dot, dots, equals, equal_equal, greater_equals, greater, less_equals, less, minus, minus_equals, not_equals, exclamation, bar, bar_equals, or_or, colons, percent, percent_equals, plus, plus_equals, pound, question, arrow, semicolon, less_less, less_less_equals, greater_greater, greater_greater_equals, slash, slash_equals, star, star_equals}
-use Rattle.syn_grammar.specs.Tokens.{Int, Look, ended, at_name, at_word, at_mark, at_group, at_literal, ◌or_else◌, ◌but_not◌, at_lifetime, at_path_word}
-use Rattle.syn_grammar.specs.Table.{at_any_literal, at_inner_attribute, at_arguments, at_association, at_turbofish, at_pattern_path, at_macro, at_brace_macro, at_lone_crate, at_crate_macro, at_bang, at_postfix_mark, at_block_like, at_whole_expression, at_unfinished}
+use Rattle.std.specs.Prelude.{Bool, true, false}
+use Rattle.syn_grammar.specs.Words.{Text, w_as, w_break, w_const, w_continue, w_else, w_enum, w_false, w_for, w_if, w_in, w_let, w_loop, w_mut, w_pub, w_ref, w_return, w_Self_type, w_struct, w_true, w_underscore, w_union, w_unsafe, w_where, w_while, ampersand, and_and, ampersand_equals, caret, caret_equals, colon, comma, dot, dots, equals, equal_equal, greater_equals, greater, less_equals, less, minus, minus_equals, not_equals, exclamation, bar, bar_equals, or_or, colons, percent, percent_equals, plus, plus_equals, pound, question, arrow, semicolon, less_less, less_less_equals, greater_greater, greater_greater_equals, slash, slash_equals, star, star_equals}
+use Rattle.syn_grammar.specs.Tokens.{Int, Look, ended, at_name, at_word, at_mark, at_group, at_literal, at_empty_group, ◌or_else◌, ◌but_not◌, at_lifetime, at_path_word}
+use Rattle.syn_grammar.specs.Table.{at_any_literal, at_inner_attribute, at_arguments, at_association, at_turbofish, at_pattern_path, at_macro, at_brace_macro, at_lone_crate, at_crate_macro, at_bang, at_postfix_mark, at_block_like, at_whole_expression, at_unfinished, at_restriction, at_nameless_fields, at_parameter_end, at_predicate_end}
 use Rattle.syn_grammar.specs.Rules as rules
 use Rattle.syn_grammar.specs.Rules.{Rule}
 use Rattle.syn_grammar.specs.Shape as shapes
@@ -27,6 +28,7 @@ word_text Word-m.Break = w_break
 word_text Word-m.Const = w_const
 word_text Word-m.Continue = w_continue
 word_text Word-m.Else = w_else
+word_text Word-m.Enum = w_enum
 word_text Word-m.False = w_false
 word_text Word-m.For = w_for
 word_text Word-m.If = w_if
@@ -34,12 +36,16 @@ word_text Word-m.In = w_in
 word_text Word-m.Let = w_let
 word_text Word-m.Loop = w_loop
 word_text Word-m.Mut = w_mut
+word_text Word-m.Pub = w_pub
 word_text Word-m.Ref = w_ref
 word_text Word-m.Return = w_return
 word_text Word-m.SelfType = w_Self_type
+word_text Word-m.Struct = w_struct
 word_text Word-m.True = w_true
 word_text Word-m.Underscore = w_underscore
+word_text Word-m.Union = w_union
 word_text Word-m.Unsafe = w_unsafe
+word_text Word-m.Where = w_where
 word_text Word-m.While = w_while
 
 abbrev pub mark_text : Mark → Text
@@ -92,6 +98,7 @@ look_of (Look-m.Group d) = at_group (delimiter_of d)
 look_of (Look-m.Or' p c q d) = look_of c or_else look_of d
 look_of (Look-m.But' p c q d) = look_of c but_not look_of d
 look_of Look-m.Integer = at_literal Int
+look_of Look-m.EmptyGroup = at_empty_group
 look_of Look-m.AnyLiteral = at_any_literal
 look_of Look-m.Lifetime = at_lifetime
 look_of Look-m.InnerAttribute = at_inner_attribute
@@ -109,6 +116,10 @@ look_of Look-m.PostfixMark = at_postfix_mark
 look_of Look-m.BlockLike = at_block_like
 look_of Look-m.WholeExpression = at_whole_expression
 look_of Look-m.Unfinished = at_unfinished
+look_of Look-m.Restriction = at_restriction
+look_of Look-m.NamelessFields = at_nameless_fields
+look_of Look-m.ParameterEnd = at_parameter_end
+look_of Look-m.PredicateEnd = at_predicate_end
 
 abbrev pub variant_of : variant.Variant → Variant
 variant_of Variant-m.Assign = shapes.Assign
@@ -135,6 +146,7 @@ variant_of Variant-m.While = shapes.While
 
 abbrev pub shape_of : shape.Shape → Shape
 shape_of Shape-m.ALocal = shapes.a_local
+shape_of Shape-m.Attributed = shapes.attributed
 shape_of (Shape-m.BehindIt v) = shapes.behind_it (variant_of v)
 shape_of Shape-m.Bracketed = shapes.bracketed
 shape_of Shape-m.Chain = shapes.chain
@@ -159,6 +171,8 @@ rule_of Rule-m.UnsafeWord = rules.unsafe_word
 rule_of Rule-m.MetaValue = rules.meta_value
 rule_of Rule-m.ModulePath = rules.module_path
 rule_of Rule-m.ModuleWords = rules.module_words
+rule_of Rule-m.Visibility = rules.visibility
+rule_of Rule-m.Restriction = rules.restriction
 rule_of Rule-m.TypePath = rules.type_path
 rule_of Rule-m.TypeWords = rules.type_words
 rule_of Rule-m.TypeArguments = rules.type_arguments
@@ -170,6 +184,35 @@ rule_of Rule-m.PathAsType = rules.path_as_type
 rule_of Rule-m.Type = rules.type
 rule_of Rule-m.Types = rules.types
 rule_of Rule-m.Constant = rules.constant
+rule_of Rule-m.Generics = rules.generics
+rule_of Rule-m.LifetimeParameter = rules.lifetime_parameter
+rule_of Rule-m.Lifetimes = rules.lifetimes
+rule_of Rule-m.ParameterBounds = rules.parameter_bounds
+rule_of Rule-m.Bound = rules.bound
+rule_of Rule-m.TraitBound = rules.trait_bound
+rule_of Rule-m.BoundLifetimes = rules.bound_lifetimes
+rule_of Rule-m.LifetimeParameters = rules.lifetime_parameters
+rule_of Rule-m.WhereClause = rules.where_clause
+rule_of Rule-m.Predicates = rules.predicates
+rule_of Rule-m.Predicate = rules.predicate
+rule_of Rule-m.PredicateBounds = rules.predicate_bounds
+rule_of Rule-m.FieldsNamed = rules.fields_named
+rule_of Rule-m.NamedFields = rules.named_fields
+rule_of Rule-m.NamedField = rules.named_field
+rule_of Rule-m.NamelessFields = rules.nameless_fields
+rule_of Rule-m.UnnamedField = rules.unnamed_field
+rule_of Rule-m.UnnamedFields = rules.unnamed_fields
+rule_of Rule-m.FieldsUnnamed = rules.fields_unnamed
+rule_of Rule-m.Variant = rules.variant
+rule_of Rule-m.Variants = rules.variants
+rule_of Rule-m.Structure = rules.structure
+rule_of Rule-m.StructureRest = rules.structure_rest
+rule_of Rule-m.StructureBody = rules.structure_body
+rule_of Rule-m.Enumeration = rules.enumeration
+rule_of Rule-m.EnumerationRest = rules.enumeration_rest
+rule_of Rule-m.UnionItem = rules.union_item
+rule_of Rule-m.UnionItemRest = rules.union_item_rest
+rule_of Rule-m.DeriveInput = rules.derive_input
 rule_of Rule-m.ExpressionPath = rules.expression_path
 rule_of Rule-m.ExpressionWords = rules.expression_words
 rule_of Rule-m.QualifiedExpressionPath = rules.qualified_expression_path
@@ -217,4 +260,109 @@ rule_of Rule-m.Statements = rules.statements
 rule_of Rule-m.StatementRest = rules.statement_rest
 rule_of Rule-m.AfterBlock = rules.after_block
 rule_of Rule-m.AfterExpression = rules.after_expression
+rule_of Rule-m.Statement = rules.statement
+rule_of Rule-m.StatementEnd = rules.statement_end
 rule_of Rule-m.Local = rules.local
+
+-- nothing vanishes in what the rule reads
+abbrev pub settled : rule.Rule → Bool
+settled Rule-m.Attributes = true
+settled Rule-m.InnerAttributes = true
+settled Rule-m.Meta = true
+settled Rule-m.UnsafePath = true
+settled Rule-m.UnsafeWord = true
+settled Rule-m.MetaValue = true
+settled Rule-m.ModulePath = true
+settled Rule-m.ModuleWords = true
+settled Rule-m.Visibility = false
+settled Rule-m.Restriction = false
+settled Rule-m.TypePath = true
+settled Rule-m.TypeWords = true
+settled Rule-m.TypeArguments = true
+settled Rule-m.ReturnType = true
+settled Rule-m.GenericArguments = true
+settled Rule-m.GenericArgument = true
+settled Rule-m.QualifiedPath = true
+settled Rule-m.PathAsType = true
+settled Rule-m.Type = true
+settled Rule-m.Types = true
+settled Rule-m.Constant = true
+settled Rule-m.Generics = false
+settled Rule-m.LifetimeParameter = false
+settled Rule-m.Lifetimes = false
+settled Rule-m.ParameterBounds = false
+settled Rule-m.Bound = false
+settled Rule-m.TraitBound = false
+settled Rule-m.BoundLifetimes = false
+settled Rule-m.LifetimeParameters = false
+settled Rule-m.WhereClause = false
+settled Rule-m.Predicates = false
+settled Rule-m.Predicate = false
+settled Rule-m.PredicateBounds = false
+settled Rule-m.FieldsNamed = false
+settled Rule-m.NamedFields = false
+settled Rule-m.NamedField = false
+settled Rule-m.NamelessFields = false
+settled Rule-m.UnnamedField = false
+settled Rule-m.UnnamedFields = false
+settled Rule-m.FieldsUnnamed = false
+settled Rule-m.Variant = false
+settled Rule-m.Variants = false
+settled Rule-m.Structure = false
+settled Rule-m.StructureRest = false
+settled Rule-m.StructureBody = false
+settled Rule-m.Enumeration = false
+settled Rule-m.EnumerationRest = false
+settled Rule-m.UnionItem = false
+settled Rule-m.UnionItemRest = false
+settled Rule-m.DeriveInput = false
+settled Rule-m.ExpressionPath = true
+settled Rule-m.ExpressionWords = true
+settled Rule-m.QualifiedExpressionPath = true
+settled Rule-m.PathAsExpression = true
+settled Rule-m.MacroInvocation = true
+settled Rule-m.Pattern = true
+settled Rule-m.Patterns = true
+settled Rule-m.Expressions = true
+settled Rule-m.ArrayContent = true
+settled Rule-m.Block = true
+settled Rule-m.Body = true
+settled Rule-m.PlainBody = true
+settled Rule-m.NoInnerAttributes = true
+settled Rule-m.Primary = true
+settled Rule-m.BlockLike = true
+settled Rule-m.IfExpression = true
+settled Rule-m.LoopExpression = true
+settled Rule-m.Postfixes = true
+settled Rule-m.Member = true
+settled Rule-m.Unary = true
+settled Rule-m.Casts = true
+settled Rule-m.Cast = true
+settled Rule-m.Products = true
+settled Rule-m.Product = true
+settled Rule-m.Sums = true
+settled Rule-m.Sum = true
+settled Rule-m.Shifts = true
+settled Rule-m.Shift = true
+settled Rule-m.BitAnds = true
+settled Rule-m.BitAnd = true
+settled Rule-m.BitXors = true
+settled Rule-m.BitXor = true
+settled Rule-m.BitOrs = true
+settled Rule-m.BitOr = true
+settled Rule-m.Compared = true
+settled Rule-m.Comparison = true
+settled Rule-m.Conjunctions = true
+settled Rule-m.Conjunction = true
+settled Rule-m.Disjunctions = true
+settled Rule-m.Disjunction = true
+settled Rule-m.Assigned = true
+settled Rule-m.WholeExpression = true
+settled Rule-m.OperandRest = true
+settled Rule-m.Statements = true
+settled Rule-m.StatementRest = true
+settled Rule-m.AfterBlock = true
+settled Rule-m.AfterExpression = true
+settled Rule-m.Statement = true
+settled Rule-m.StatementEnd = true
+settled Rule-m.Local = true

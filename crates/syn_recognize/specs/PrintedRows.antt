@@ -1,4 +1,4 @@
--- HOW A LIST WITH LIFETIMES FIRST IS PRINTED in the order of its tokens, where the lifetimes that stand behind some other member
+-- HOW A LIST WITH SOME MEMBERS FIRST IS PRINTED in the order of its tokens, where those of them that stand behind some other member
 -- are known beforehand.
 use Rattle.std.specs.Prelude.{Bool, true, false, List, [], ◌∷◌}
 use Rattle.syn_grammar.specs.Tokens.{Span, call_site, Stream, end, punct, ◌⧺◌}
@@ -13,16 +13,16 @@ way false s = show s
 abbrev pub with_comma : Stream → Span → Stream → Stream
 with_comma i sp j = i ⧺ punct 44 false sp j
 
--- the members of the first form, each with the span of its comma; the last, where it has none, gets one
-abbrev pub firsts : Syntax → List (Syntax × Span)
-firsts (More true s sp t) = (s, sp) ∷ firsts t
+-- what is printed of the members of the first form, each with the span of its comma; the last, where it has none, gets one
+abbrev pub firsts : Syntax → List (Stream × Span)
+firsts (More true s sp t) = (print s, sp) ∷ firsts t
 firsts (More false s sp t) = firsts t
-firsts (Last true s) = (s, call_site) ∷ []
+firsts (Last true s) = (print s, call_site) ∷ []
 firsts _ = []
 
-abbrev pub print_firsts : List (Syntax × Span) → Stream
+abbrev pub print_firsts : List (Stream × Span) → Stream
 print_firsts [] = end
-print_firsts (p ∷ l) = with_comma (print p.0) p.1 (print_firsts l)
+print_firsts (p ∷ l) = with_comma p.0 p.1 (print_firsts l)
 
 -- the other members
 abbrev pub others_of : Bool → Syntax → Stream

@@ -4,7 +4,7 @@ use Rattle.syn_grammar.specs.Tokens.{Stream}
 use Rattle.syn_tokens.specs.Spans.{at}
 use Rattle.syn_recognize.specs.Forms.{grammar_of}
 use Rattle.syn_recognize.specs.Written.{Written}
-use Rattle.syn_recognize.specs.Copies.{Copy, Reached, Refused, Leads, next, closing, copy_form, copy_row, after_member, copy_others, after_other, by_braces}
+use Rattle.syn_recognize.specs.Copies.{Copy, Reached, Refused, Leads, next, closing, forgetting, returning, capturing, copy_form, copy_row, after_member, copy_others, after_other, after_late, by_braces}
 use Rattle.syn_recognize.specs.declared.step.Step.{Step}
 use Rattle.syn_recognize.specs.declared.step.Step.TheVariants as Step-m
 
@@ -12,10 +12,14 @@ use Rattle.syn_recognize.specs.declared.step.Step.TheVariants as Step-m
 abbrev pub after : Step → Copy → Copy
 after (Step-m.Form f) o = next o (copy_form (grammar_of f.now))
 after (Step-m.Close d c rest) o = next o (closing (at c) rest)
-after (Step-m.Row f n) o = next o (copy_row (grammar_of f.now))
-after (Step-m.RowRest f n) o = next o (after_member (grammar_of f.now))
-after (Step-m.Others f l) o = next o (copy_others (grammar_of f.now) l)
-after (Step-m.OthersRest f l) o = next o (after_other (grammar_of f.now) l)
+after (Step-m.Row k n) o = next o (copy_row k)
+after (Step-m.RowRest k n) o = next o (after_member k)
+after (Step-m.Others k l) o = next o (copy_others k l)
+after (Step-m.OthersRest k l) o = next o (after_other k l)
+after (Step-m.Note b ts n) o = next o (returning b.value ts)
+after (Step-m.Skip k b l) o = next o (after_late k l b.value)
+after (Step-m.Forget b) o = next o (forgetting b.value)
+after (Step-m.Capture b ts) o = next o (capturing b.value ts)
 after (Step-m.ByBraces f g) o = next o (by_braces (grammar_of f.now) (grammar_of g.now))
 
 -- all steps, the last of the list first

@@ -1,5 +1,5 @@
 -- WHERE A FORM STANDS IN ANOTHER.
-use Rattle.syn_grammar.specs.Grammar.{Grammar, ◌&◌, when◌then◌else◌, inside, either, shaped, ordered}
+use Rattle.syn_grammar.specs.Grammar.{Grammar, ◌&◌, when◌then◌else◌, inside, either, shaped, ordered, vanishing, captured}
 
 -- the first form that a form is made of, or the only one
 abbrev pub first : Grammar → Grammar
@@ -9,6 +9,8 @@ first (inside d g) = g
 first (either g h) = g
 first (shaped j g) = g
 first (ordered g h) = g
+first (vanishing b c g) = g
+first (captured g) = g
 first g = g
 
 -- the second one

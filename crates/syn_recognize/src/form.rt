@@ -1,8 +1,12 @@
 //! The forms of the grammar as data.
+use crate::fading::Fading;
+use crate::fault::Fault;
+use crate::list::List;
 use crate::look::Look;
 use crate::rules::{Part, Rule};
 use crate::shape::Shape;
 use crate::token::Token;
+use crate::unions::Union;
 use crate::words::Mark;
 use syn_tokens::delimiter::Delimiter;
 
@@ -10,11 +14,12 @@ use syn_tokens::delimiter::Delimiter;
 #[derive(Clone, Copy)]
 pub enum Form {
     Empty,
-    Never,
-    /// Never read either: something stands where a statement should end.
-    MissingSemi,
+    /// Never read, for this reason.
+    Never(Fault),
     Token(Token),
     Mark(Mark),
+    /// A mark, refused for this reason where it doesn't stand.
+    MarkElse(Mark, Fault),
     Lifetime,
     Then(&'static Form, &'static Form),
     When(Look, &'static Form, &'static Form),
@@ -25,8 +30,18 @@ pub enum Form {
     Part(Part),
     Shaped(Shape, &'static Form),
     Unshown,
-    /// Lifetimes and another form in `< >`.
-    Arguments(&'static Form),
+    /// A list in `< >`.
+    Ordered(List),
+    /// Parameters in `< >`, where `<` stands next; not printed where there are none.
+    Generics,
+    /// A part that isn't printed where its list is empty.
+    Fading(Fading),
+    /// A part that is never printed, where the look holds.
+    Hidden(Look, &'static Form),
+    /// A part that is kept as the tokens that it is read of.
+    Captured(&'static Form),
+    /// One of several rules that begin alike.
+    Union(Union),
     /// A whole expression, and what follows it: the first form where its last token tree is a group in braces, else the second.
     ByBraces(&'static Form, &'static Form),
 }

@@ -1,11 +1,15 @@
 //! Reads past what a rule of the grammar reads, and writes its tokens, without building a tree; and trees that are kept as their tokens.
 #![tactic(auto)]
 
+mod aside;
 pub mod deferred;
 pub mod expression_looks;
+mod fading;
+mod fault;
 pub mod field_numbers;
 mod form;
 mod late;
+mod list;
 mod literals;
 mod look;
 pub mod looks;
@@ -17,6 +21,7 @@ mod shape;
 mod step;
 mod steps;
 mod token;
+mod unions;
 mod words;
 mod writer;
 

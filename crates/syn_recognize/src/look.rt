@@ -3,6 +3,7 @@ ghost use Rattle.std.specs.Prelude.{◌≡◌};
 ghost use Rattle.syn_grammar.specs.Promises.{OrMemory};
 ghost use Rattle.syn_grammar.specs.Tokens as grammar;
 ghost use Rattle.syn_grammar.specs.Take.{sees};
+ghost use Rattle.syn_grammar.specs.Table as table;
 ghost use Rattle.syn_tokens.specs.Delimiters.{delimiter_of};
 ghost use Rattle.syn_parse.specs.Refusals.{IsSyntax};
 ghost use Rattle.syn_recognize.specs.Names.{look_of};
@@ -15,6 +16,7 @@ use syn_parse::read::refusal::Parsed;
 use syn_tokens::delimiter::Delimiter;
 use syn_tokens::ident::Ident;
 use syn_tokens::literal::Literal;
+use syn_tokens::token::{Brace, Comma, Eq, Gt, Semi};
 use syn_tokens::{lifetime, token};
 
 /// A condition on what stands next.
@@ -28,6 +30,7 @@ pub enum Look {
     Or(&'static Look, &'static Look),
     But(&'static Look, &'static Look),
     Integer,
+    EmptyGroup,
     AnyLiteral,
     Lifetime,
     InnerAttribute,
@@ -45,6 +48,10 @@ pub enum Look {
     BlockLike,
     WholeExpression,
     Unfinished,
+    Restriction,
+    NamelessFields,
+    ParameterEnd,
+    PredicateEnd,
 }
 
 /// Whether a group with these delimiters stands next.
@@ -73,6 +80,7 @@ pub(crate) fn holds(look: &Look, input: &ParseBuffer<'_>) -> Parsed<bool>
         Look::Or(one, other) => Ok(holds(one, input)? || holds(other, input)?),
         Look::But(one, other) => Ok(holds(one, input)? && !holds(other, input)?),
         Look::Integer => looks::at_integer(input),
+        Look::EmptyGroup => Ok(looks::at_empty_group(input)),
         Look::AnyLiteral => Ok(input.peek::<Literal>()),
         Look::Lifetime => Ok(input.peek::<lifetime::Lifetime>()),
         Look::InnerAttribute => Ok(looks::at_inner_attribute(input)),
@@ -90,5 +98,39 @@ pub(crate) fn holds(look: &Look, input: &ParseBuffer<'_>) -> Parsed<bool>
         Look::BlockLike => Ok(at_block_like(input)),
         Look::WholeExpression => Ok(at_whole_expression(input)),
         Look::Unfinished => Ok(at_unfinished(input)),
+        Look::Restriction => Ok(looks::at_restriction(input)),
+        Look::NamelessFields => Ok(looks::at_nameless_fields(input)),
+        Look::ParameterEnd => Ok(at_parameter_end(input)),
+        Look::PredicateEnd => Ok(at_predicate_end(input)),
     }
+}
+
+/// Whether what ends the bounds of a parameter stands next: `,`, `>` or `=`.
+#[tactic(auto, using(syn_grammar::proofs::Looks::sees_or))]
+pub(crate) fn at_parameter_end(input: &ParseBuffer<'_>) -> bool
+    ensures { result ≡ sees table.at_parameter_end input.now }
+{
+    input.peek::<Comma>() || input.peek::<Gt>() || input.peek::<Eq>()
+}
+
+/// Whether what ends a where clause, or the bounds of its predicates, stands next: the end, a group in braces, `,`, `;`, `=` or a `:`
+/// that isn't `::`.
+#[tactic(auto, using(syn_grammar::proofs::Looks::sees_or))]
+pub(crate) fn at_predicate_end(input: &ParseBuffer<'_>) -> bool
+    ensures { result ≡ sees table.at_predicate_end input.now }
+{
+    input.is_empty()
+        || input.peek::<Brace>()
+        || input.peek::<Comma>()
+        || input.peek::<Semi>()
+        || input.peek::<Eq>()
+        || at_lone_colon(input)
+}
+
+/// Whether `:` stands next, and not `::`.
+#[tactic(auto, using(syn_grammar::proofs::Looks::sees_but))]
+fn at_lone_colon(input: &ParseBuffer<'_>) -> bool
+    ensures { result ≡ sees table.at_lone_colon input.now }
+{
+    input.peek::<token::Colon>() && !input.peek::<token::PathSep>()
 }

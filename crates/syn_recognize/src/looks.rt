@@ -9,14 +9,16 @@ ghost use Rattle.syn_parse.specs.Form.{by};
 ghost use Rattle.syn_parse.specs.Peeks.{past};
 ghost use Rattle.syn_parse.specs.Refusals.{IsSyntax};
 ghost use Rattle.syn_recognize.specs.FieldNumbers.{is_integer};
+ghost use Rattle.syn_recognize.specs.Restricted.{lone_word};
 
 use syn_parse::buffer::ParseBuffer;
-use syn_parse::read::Peek;
 use syn_parse::read::refusal::{Parsed, Refusal};
+use syn_parse::read::{End, Peek};
 use syn_tokens::ident::Ident;
 use syn_tokens::literal::{LitKind, Literal};
 use syn_tokens::token::{
-    Brace, Crate, Eq, Le, Lt, Ne, Not, Paren, PathSep, Pound, SelfType, SelfValue, Super,
+    Brace, Crate, Eq, In, Le, Lt, Ne, Not, Paren, PathSep, Pound, SelfType, SelfValue, Struct,
+    Super, Union, kind,
 };
 
 /// Whether `#` stands next, and `!` behind it.
@@ -88,6 +90,44 @@ pub fn at_path_word(input: &ParseBuffer<'_>) -> bool
         || input.peek::<SelfType>()
         || input.peek::<Super>()
         || input.peek::<Crate>()
+}
+
+/// Whether parentheses stand next that hold `crate`, `self` or `super` alone, or begin with `in`.
+#[tactic(auto, using(crate::proofs::Restricted::restriction_seen))]
+pub fn at_restriction(input: &ParseBuffer<'_>) -> bool
+    ensures { result ≡ sees table.at_restriction input.now }
+{
+    match input.peek_group::<kind::Paren>() {
+        Some(content) => content.peek::<In>() || is_lone_word(&content),
+        None => false,
+    }
+}
+
+/// Whether `crate`, `self` or `super` is all that is left.
+fn is_lone_word(content: &ParseBuffer<'_>) -> bool
+    ensures { result ≡ lone_word content.now }
+{
+    (content.peek::<Crate>() || content.peek::<SelfValue>() || content.peek::<Super>())
+        && content.peek2::<End>()
+}
+
+/// Whether an invisible group without content stands next, which stands for a visibility that isn't written.
+#[tactic(auto, using(crate::proofs::Restricted::empty_group_seen))]
+pub fn at_empty_group(input: &ParseBuffer<'_>) -> bool
+    ensures { result ≡ sees grammar.at_empty_group input.now }
+{
+    match input.peek_group::<kind::Group>() {
+        Some(content) => content.is_empty(),
+        None => false,
+    }
+}
+
+/// Whether `struct` stands next, or `union` with a group in braces behind it.
+#[tactic(auto, using(crate::proofs::Nameless::nameless_seen))]
+pub fn at_nameless_fields(input: &ParseBuffer<'_>) -> bool
+    ensures { result ≡ sees table.at_nameless_fields input.now }
+{
+    input.peek::<Struct>() || (input.peek::<Union>() && input.peek2::<Brace>())
 }
 
 /// `!`, and not `!=`.

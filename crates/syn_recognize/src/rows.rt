@@ -1,24 +1,23 @@
-//! Lists of lifetimes and of another form in `< >`. Shown, their members stand as they are read. Printed, lifetimes stand first: those
-//! behind some other member were noted when the list was shown, are written before it, and compared where they are read.
+//! Lists in `< >`, of members that are printed first, and others. Shown, their members stand as they are read. Printed, the first ones
+//! that stand behind some other member were noted when the list was shown, are written before it, and compared where they are read.
 ghost use Rattle.std.specs.Prelude.{◌≡◌, true, false, [], ◌∷◌, map, OnOk};
 ghost use Rattle.syn_grammar.specs.Promises.{OrMemory};
-ghost use Rattle.syn_grammar.specs.Tokens.{at_lifetime, call_site};
-ghost use Rattle.syn_grammar.specs.Grammar.{ordered, lifetime, at_row_end};
-ghost use Rattle.syn_grammar.specs.Take.{sees, take_lifetime};
+ghost use Rattle.syn_grammar.specs.Grammar.{ordered, at_row_end};
+ghost use Rattle.syn_grammar.specs.Take.{sees};
 ghost use Rattle.syn_grammar.specs.Run.{span_of};
 ghost use Rattle.syn_tokens.specs.Spans.{at};
 ghost use Rattle.syn_tokens.specs.Kinds.{comma_syntax};
-ghost use Rattle.syn_tokens.specs.Leaves.{syntax_of_apostrophe};
 ghost use Rattle.syn_parse.specs.Refusals.{IsSyntax};
 ghost use Rattle.syn_recognize.specs.Late.{guess_of};
-ghost use Rattle.syn_recognize.specs.Forms.{grammar_of};
+ghost use Rattle.syn_recognize.specs.Ordered.{first_form, other_form, Tells};
 ghost use Rattle.syn_recognize.specs.PrintedRows.{print_firsts};
 ghost use Rattle.syn_recognize.specs.Written.{adds};
-ghost use Rattle.syn_recognize.specs.Copies.{copied, next, copy_form, copy_row, after_member, copy_others, after_other};
-ghost use Rattle.syn_recognize.specs.Steps.{Steps, Guessing};
+ghost use Rattle.syn_recognize.specs.Copies.{next, copy_form, copy_row, after_member, copy_others, after_other, after_late, returning};
+ghost use Rattle.syn_recognize.specs.Steps.{Steps, Guessing, Runs};
 
 use crate::form::Form;
-use crate::late::{Guesses, LateLifetime};
+use crate::late::{Guesses, Late};
+use crate::list::{List, at_first, first_of, other_of};
 use crate::step::Step;
 use crate::token::copy;
 use crate::words::Mark;
@@ -26,25 +25,24 @@ use crate::writer::Writer;
 use std::alloc::AllocError;
 use syn_parse::buffer::ParseBuffer;
 use syn_parse::read::refusal::{Parsed, Refusal};
-use syn_tokens::lifetime::Lifetime;
 use syn_tokens::span::Span;
 use syn_tokens::token::{Comma, Gt, Lt};
 
 static GREATER: Form = Form::Mark(Mark::Gt);
 
-/// Reads lifetimes and another form in `< >`.
+/// Reads a list in `< >`.
 #[tactic(auto, using(crate::proofs::Todo::push, crate::proofs::Copied::ordered_is), unfolding(crate::specs::Copies::copy_form))]
-pub(crate) fn read_arguments<'a>(
-    other: &'static Form,
+pub(crate) fn read_ordered<'a>(
+    list: List,
     steps: &mut Vec<Step<'a>>,
     out: &mut Writer,
     input: &mut ParseBuffer<'a>,
 ) -> Parsed<()>
-    ensures { Steps IsSyntax steps.old.items (copy_form (ordered lifetime (grammar_of other.now)) out.old input.old) result steps.new.items out.new input.new }
+    ensures { Steps IsSyntax steps.old.items (copy_form (ordered (first_form list) (other_form list)) out.old input.old) result steps.new.items out.new input.new }
 {
     copy::<Lt>(out, input)?;
     steps.push(Step::Form(&GREATER))?;
-    steps.push(Step::Row(other, None))?;
+    steps.push(Step::Row(list, None))?;
     Ok(())
 }
 
@@ -53,89 +51,98 @@ pub(crate) fn read_arguments<'a>(
 /// Reads a list up to `>`.
 #[tactic(auto, using(crate::proofs::Lists::row_done, crate::proofs::Lists::row_first, crate::proofs::Lists::row_other))]
 pub(crate) fn read_row<'a>(
-    other: &'static Form,
-    list: Option<usize>,
+    list: List,
+    number: Option<usize>,
     steps: &mut Vec<Step<'a>>,
     out: &mut Writer,
     input: &mut ParseBuffer<'a>,
 ) -> Parsed<()>
-    ensures { Guessing IsSyntax steps.old.items (copy_row (grammar_of other.now) out.old input.old) result steps.new.items out.new input.new }
+    ensures { Guessing IsSyntax steps.old.items (copy_row list out.old input.old) result steps.new.items out.new input.new }
 {
     if input.peek::<Gt>() {
         return Ok(());
     }
-    if input.peek::<Lifetime>() {
-        return read_first(other, list, steps, out, input);
+    if at_first(list, input)? {
+        return read_first(list, number, steps, out, input);
     }
     if out.is_printing() {
-        return read_guessed(other, steps, out, input);
+        return read_guessed(list, steps, out, input);
     }
-    read_other(other, list, steps, out, input)
+    read_other(list, number, steps, out, input)
 }
 
-/// Reads a lifetime, and notes it where it is a late one.
-#[tactic(auto, using(crate::proofs::Todo::push))]
+/// Reads a member that is printed first; where it is a late one, it is read twice, once aside, to be noted as it is printed.
+#[tactic(auto, using(crate::proofs::Todo::push, crate::proofs::Lists::noted_is))]
 fn read_first<'a>(
-    other: &'static Form,
-    list: Option<usize>,
+    list: List,
+    number: Option<usize>,
     steps: &mut Vec<Step<'a>>,
     out: &mut Writer,
-    input: &mut ParseBuffer<'a>,
+    input: &ParseBuffer<'a>,
 ) -> Parsed<()>
-    ensures { Steps IsSyntax steps.old.items (next (copied out.old (take_lifetime input.old)) (after_member (grammar_of other.now))) result steps.new.items out.new input.new }
+    ensures { Steps IsSyntax steps.old.items (next (copy_form (first_form list) out.old input.now) (after_member list)) result steps.new.items out.new input.now }
 {
-    note_late(list, out, input)?;
-    steps.push(Step::RowRest(other, list))?;
-    copy::<Lifetime>(out, input)
-}
-
-/// Notes the lifetime that stands next, where its list has another member already. Refused only where memory is.
-fn note_late(list: Option<usize>, out: &mut Writer, input: &ParseBuffer<'_>) -> Parsed<()>
-    ensures { OrMemory IsSyntax result (λ x. out.new ≡ out.old) }
-{
-    match list {
-        Some(list) => match late_lifetime(input) {
-            Some(late) => Ok(out.note(list, late)?),
-            None => Err(Refusal::Memory),
-        },
+    steps.push(Step::RowRest(list, number))?;
+    steps.push(Step::Form(first_of(list)))?;
+    match number {
+        Some(number) => {
+            let before = out.aside(true)?;
+            steps.push(Step::Note(before, input.fork(), number))?;
+            steps.push(Step::Form(first_of(list)))?;
+            Ok(())
+        }
         None => Ok(()),
     }
 }
 
-/// The lifetime that stands next, and its comma.
-fn late_lifetime(input: &ParseBuffer<'_>) -> Option<LateLifetime> {
-    let mut ahead = input.fork();
-    let lifetime: Lifetime = ahead.read().ok()?;
-    let comma = if ahead.peek::<Comma>() {
-        ahead.span()
+/// Notes what was written aside as a late member, goes back there, and on with what was written before.
+pub(crate) fn note<'a>(
+    before: Box<Writer>,
+    begin: &ParseBuffer<'a>,
+    number: usize,
+    out: &mut Writer,
+    input: &mut ParseBuffer<'a>,
+) -> Parsed<()>
+    ensures { Runs IsSyntax (returning before.value begin.now out.old input.old) result out.new input.new }
+{
+    let comma = comma_at(input);
+    let tokens = out.put_back(before)?;
+    out.note(number, Late { tokens, comma })?;
+    input.advance_to(begin);
+    Ok(())
+}
+
+/// Where the comma stands that stands next; 0 to 0 where none does.
+fn comma_at(input: &ParseBuffer<'_>) -> Span {
+    if input.peek::<Comma>() {
+        input.span()
     } else {
         Span::call_site()
-    };
-    Some(LateLifetime { lifetime, comma })
+    }
 }
 
 /// Reads another member, where lists are shown.
 #[tactic(auto, using(crate::proofs::Todo::push))]
 fn read_other<'a>(
-    other: &'static Form,
-    list: Option<usize>,
+    list: List,
+    number: Option<usize>,
     steps: &mut Vec<Step<'a>>,
     out: &mut Writer,
     input: &ParseBuffer<'a>,
 ) -> Parsed<()>
-    ensures { Steps IsSyntax steps.old.items (next (copy_form (grammar_of other.now) out.old input.now) (after_member (grammar_of other.now))) result steps.new.items out.new input.now }
+    ensures { Steps IsSyntax steps.old.items (next (copy_form (other_form list) out.old input.now) (after_member list)) result steps.new.items out.new input.now }
 {
-    let number = number_of(list, out)?;
-    steps.push(Step::RowRest(other, Some(number)))?;
-    steps.push(Step::Form(other))?;
+    let number = number_of(number, out)?;
+    steps.push(Step::RowRest(list, Some(number)))?;
+    steps.push(Step::Form(other_of(list)))?;
     Ok(())
 }
 
 /// The number of a list that has another member now.
-fn number_of(list: Option<usize>, out: &mut Writer) -> Result<usize, AllocError>
+fn number_of(number: Option<usize>, out: &mut Writer) -> Result<usize, AllocError>
     ensures { out.new ≡ out.old }
 {
-    match list {
+    match number {
         Some(number) => Ok(number),
         None => out.begin_list(),
     }
@@ -144,66 +151,64 @@ fn number_of(list: Option<usize>, out: &mut Writer) -> Result<usize, AllocError>
 /// Reads what follows a member.
 #[tactic(auto, using(crate::proofs::Todo::push))]
 pub(crate) fn read_row_rest<'a>(
-    other: &'static Form,
-    list: Option<usize>,
+    list: List,
+    number: Option<usize>,
     steps: &mut Vec<Step<'a>>,
     out: &mut Writer,
     input: &mut ParseBuffer<'a>,
 ) -> Parsed<()>
-    ensures { Steps IsSyntax steps.old.items (after_member (grammar_of other.now) out.old input.old) result steps.new.items out.new input.new }
+    ensures { Steps IsSyntax steps.old.items (after_member list out.old input.old) result steps.new.items out.new input.new }
 {
     if input.peek::<Comma>() {
         copy::<Comma>(out, input)?;
-        steps.push(Step::Row(other, list))?;
+        steps.push(Step::Row(list, number))?;
     }
     Ok(())
 }
 
-// A LIST WITH ITS LATE LIFETIMES WRITTEN
+// A LIST WITH ITS LATE MEMBERS WRITTEN
 
-/// Writes the late lifetimes of a list, and reads its first other member, where lists are printed.
+/// Writes the late members of a list, and reads its first other member, where lists are printed.
 #[tactic(auto, using(crate::proofs::Todo::push))]
 fn read_guessed<'a>(
-    other: &'static Form,
+    list: List,
     steps: &mut Vec<Step<'a>>,
     out: &mut Writer,
     input: &ParseBuffer<'a>,
 ) -> Parsed<()>
     requires printing { out.old.printing ≡ true }
     requires member { sees at_row_end input.now ≡ false }
-    requires other { sees at_lifetime input.now ≡ false }
-    ensures { Guessing IsSyntax steps.old.items (copy_row (grammar_of other.now) out.old input.now) result steps.new.items out.new input.now }
+    requires other { Tells list input.now false }
+    ensures { Guessing IsSyntax steps.old.items (copy_row list out.old input.now) result steps.new.items out.new input.now }
 {
     let noted = out.noted();
     write_all(&noted, out)?;
-    steps.push(Step::OthersRest(other, Guesses::of(noted)))?;
-    steps.push(Step::Form(other))?;
+    steps.push(Step::OthersRest(list, Guesses::of(noted)))?;
+    steps.push(Step::Form(other_of(list)))?;
     Ok(())
 }
 
 /// Reads what is left of a list.
-#[tactic(auto, using(crate::proofs::Todo::push, crate::proofs::Lists::others_done, crate::proofs::Lists::others_other))]
+#[tactic(auto, using(crate::proofs::Lists::others_done, crate::proofs::Lists::others_other))]
 pub(crate) fn read_others<'a>(
-    other: &'static Form,
+    list: List,
     late: Guesses,
     steps: &mut Vec<Step<'a>>,
     out: &mut Writer,
     input: &mut ParseBuffer<'a>,
 ) -> Parsed<()>
-    ensures { Steps IsSyntax steps.old.items (copy_others (grammar_of other.now) late out.old input.old) result steps.new.items out.new input.new }
+    ensures { Guessing IsSyntax steps.old.items (copy_others list late out.old input.old) result steps.new.items out.new input.new }
 {
     if input.peek::<Gt>() {
         return no_more(&late);
     }
-    if input.peek::<Lifetime>() {
-        return skip_late(other, late, steps, out, input);
+    if at_first(list, input)? {
+        return read_late(list, late, steps, out, input);
     }
-    steps.push(Step::OthersRest(other, late))?;
-    steps.push(Step::Form(other))?;
-    Ok(())
+    read_another(list, late, steps, out, input)
 }
 
-/// Refused where lifetimes are still expected: it never is, since the list was read before.
+/// Refused where members are still expected: it never is, since the list was read before.
 fn no_more(late: &Guesses) -> Parsed<()>
     ensures { OrMemory IsSyntax result (λ x. late.now ≡ []) }
 {
@@ -214,46 +219,71 @@ fn no_more(late: &Guesses) -> Parsed<()>
     }
 }
 
-/// Reads a late lifetime, which was written already, and its comma. It is the one that is expected, since the list was read before.
-fn skip_late<'a>(
-    other: &'static Form,
-    mut late: Guesses,
+/// Reads another member, and what follows it.
+#[tactic(auto, using(crate::proofs::Todo::push))]
+fn read_another<'a>(
+    list: List,
+    late: Guesses,
     steps: &mut Vec<Step<'a>>,
     out: &Writer,
-    input: &mut ParseBuffer<'a>,
+    input: &ParseBuffer<'a>,
 ) -> Parsed<()>
-    requires member { sees at_row_end input.old ≡ false }
-    requires lifetime { sees at_lifetime input.old ≡ true }
-    ensures { Steps IsSyntax steps.old.items (copy_others (grammar_of other.now) late out.now input.old) result steps.new.items out.now input.new }
+    ensures { Steps IsSyntax steps.old.items (next (copy_form (other_form list) out.now input.now) (after_other list late)) result steps.new.items out.now input.now }
 {
-    let Some(guess) = late.next() else {
-        return Err(Refusal::Memory);
-    };
-    let Ok(lifetime) = input.read::<Lifetime>() else {
-        return Err(Refusal::Memory);
-    };
-    if !input.peek::<Comma>() {
-        return skip_last(&guess, &lifetime, &late);
-    }
-    let Ok(comma) = input.read::<Comma>() else {
-        return Err(Refusal::Memory);
-    };
-    if !guess.is(&lifetime, place_of(&comma)) {
-        return Err(Refusal::Memory);
-    }
-    steps.push(Step::Others(other, late))?;
+    steps.push(Step::OthersRest(list, late))?;
+    steps.push(Step::Form(other_of(list)))?;
     Ok(())
 }
 
-/// Refused where this isn't the lifetime that is expected at the end of a list.
-fn skip_last(guess: &LateLifetime, lifetime: &Lifetime, late: &Guesses) -> Parsed<()>
-    ensures guess { OrMemory IsSyntax result (λ x. guess_of guess.now ≡ (syntax_of_apostrophe (lifetime.now.apostrophe, lifetime.now.ident), call_site)) }
-    ensures last { OrMemory IsSyntax result (λ x. late.now ≡ []) }
+/// Reads a late member aside, as it was written already.
+#[tactic(auto, using(crate::proofs::Todo::push))]
+fn read_late<'a>(
+    list: List,
+    late: Guesses,
+    steps: &mut Vec<Step<'a>>,
+    out: &mut Writer,
+    input: &ParseBuffer<'a>,
+) -> Parsed<()>
+    requires member { sees at_row_end input.now ≡ false }
+    requires first { Tells list input.now true }
+    ensures { Guessing IsSyntax steps.old.items (copy_others list late out.old input.now) result steps.new.items out.new input.now }
 {
-    if !guess.is(lifetime, Span::call_site()) {
+    let before = out.aside(true)?;
+    steps.push(Step::Skip(list, before, late))?;
+    steps.push(Step::Form(first_of(list)))?;
+    Ok(())
+}
+
+/// Goes on behind a late member, and its comma, with what was written before. It is the one that is expected, since the list was read
+/// before.
+#[tactic(auto, using(crate::proofs::Todo::push, crate::proofs::Lists::late_last, crate::proofs::Lists::late_more))]
+pub(crate) fn skip_late<'a>(
+    list: List,
+    before: Box<Writer>,
+    mut late: Guesses,
+    steps: &mut Vec<Step<'a>>,
+    out: &mut Writer,
+    input: &mut ParseBuffer<'a>,
+) -> Parsed<()>
+    ensures { Steps IsSyntax steps.old.items (after_late list late before.value out.old input.old) result steps.new.items out.new input.new }
+{
+    let member = out.put_back(before)?;
+    let Some(guess) = late.next() else {
+        return Err(Refusal::Memory);
+    };
+    if !input.peek::<Comma>() {
+        if !guess.is(&member, Span::call_site()) {
+            return Err(Refusal::Memory);
+        }
+        no_more(&late)?;
+        return Ok(());
+    }
+    let comma: Comma = input.read()?;
+    if !guess.is(&member, place_of(&comma)) {
         return Err(Refusal::Memory);
     }
-    no_more(late)
+    steps.push(Step::Others(list, late))?;
+    Ok(())
 }
 
 /// Where a comma stands.
@@ -267,25 +297,25 @@ fn place_of(comma: &Comma) -> Span
 /// Reads what follows another member.
 #[tactic(auto, using(crate::proofs::Todo::push))]
 pub(crate) fn read_others_rest<'a>(
-    other: &'static Form,
+    list: List,
     late: Guesses,
     steps: &mut Vec<Step<'a>>,
     out: &mut Writer,
     input: &mut ParseBuffer<'a>,
 ) -> Parsed<()>
-    ensures { Steps IsSyntax steps.old.items (after_other (grammar_of other.now) late out.old input.old) result steps.new.items out.new input.new }
+    ensures { Steps IsSyntax steps.old.items (after_other list late out.old input.old) result steps.new.items out.new input.new }
 {
     if !input.peek::<Comma>() {
         return no_more(&late);
     }
     copy::<Comma>(out, input)?;
-    steps.push(Step::Others(other, late))?;
+    steps.push(Step::Others(list, late))?;
     Ok(())
 }
 
-/// Writes late lifetimes, each with its comma.
+/// Writes late members, each with its comma.
 #[tactic(auto, using(crate::proofs::Lists::late_step, crate::proofs::Lists::late_done))]
-fn write_all(noted: &Vec<LateLifetime>, out: &mut Writer) -> Result<(), AllocError>
+fn write_all(noted: &Vec<Late>, out: &mut Writer) -> Result<(), AllocError>
     ensures { OnOk result (out.new ≡ adds out.old (print_firsts (map guess_of noted.now.items))) }
 {
     for late in noted {
@@ -294,12 +324,11 @@ fn write_all(noted: &Vec<LateLifetime>, out: &mut Writer) -> Result<(), AllocErr
     Ok(())
 }
 
-/// Writes a late lifetime and its comma.
-#[tactic(auto, using(crate::specs::Leaves::lifetime_is_leaf))]
-fn write_late(late: &LateLifetime, out: &mut Writer) -> Result<(), AllocError>
+/// Writes a late member and its comma.
+fn write_late(late: &Late, out: &mut Writer) -> Result<(), AllocError>
     ensures { OnOk result (out.new ≡ adds out.old (print_firsts (guess_of late.now ∷ []))) }
 {
-    out.write(&late.lifetime)?;
+    out.append(&late.tokens)?;
     out.write(&Comma::new([late.comma]))?;
     Ok(())
 }

@@ -6,6 +6,7 @@
 #[derive(Clone, Copy)]
 pub enum Shape {
     ALocal,
+    Attributed,
     BehindIt(Variant),
     Bracketed,
     Chain,

@@ -1,6 +1,8 @@
 //! What is still to be done.
 use crate::form::Form;
 use crate::late::Guesses;
+use crate::list::List;
+use crate::writer::Writer;
 use syn_parse::buffer::ParseBuffer;
 use syn_tokens::delimiter::Delimiter;
 use syn_tokens::span::Span;
@@ -12,14 +14,22 @@ pub enum Step<'a> {
     Form(&'static Form),
     /// Asks that nothing is left of a group with these delimiters, of which the closing one stands there, and goes on behind it.
     Close(Delimiter, Span, ParseBuffer<'a>),
-    /// Reads a list of lifetimes and of this form, up to `>`; behind some member of this form, the list of that number.
-    Row(&'static Form, Option<usize>),
+    /// Reads a list up to `>`; behind some member that isn't printed first, the list of that number.
+    Row(List, Option<usize>),
     /// Reads what follows a member of such a list.
-    RowRest(&'static Form, Option<usize>),
-    /// Reads what is left of such a list, of which these lifetimes were written already.
-    Others(&'static Form, Guesses),
-    /// Reads what follows a member of this form there.
-    OthersRest(&'static Form, Guesses),
+    RowRest(List, Option<usize>),
+    /// Reads what is left of such a list, of which these members were written already.
+    Others(List, Guesses),
+    /// Reads what follows another member there.
+    OthersRest(List, Guesses),
+    /// Notes what was written aside as a late member of the list of that number, goes back there, and on with what was written before.
+    Note(Box<Writer>, ParseBuffer<'a>, usize),
+    /// What was written aside is the next late member: goes on with what was written before.
+    Skip(List, Box<Writer>, Guesses),
+    /// Goes on with what was written before.
+    Forget(Box<Writer>),
+    /// The same, and writes what was read from there on, as it is.
+    Capture(Box<Writer>, ParseBuffer<'a>),
     /// Reads the first form where a group in braces was read last, else the second.
     ByBraces(&'static Form, &'static Form),
 }

@@ -5,6 +5,7 @@ ghost use Rattle.syn_grammar.specs.Tokens.{end};
 ghost use Rattle.syn_grammar.specs.Grammar as grammar;
 ghost use Rattle.syn_grammar.specs.Grammar.{◌&◌, when◌then◌else◌, either, such, trailing_brace, no_trailing_brace};
 ghost use Rattle.syn_grammar.specs.Rules.{whole_expression};
+ghost use Rattle.syn_grammar.specs.Take.{take_mark};
 ghost use Rattle.syn_tokens.specs.Delimiters.{delimiter_of};
 ghost use Rattle.syn_tokens.specs.Spans.{at};
 ghost use Rattle.syn_parse.specs.Refusals.{IsSyntax};
@@ -12,16 +13,23 @@ ghost use Rattle.syn_recognize.specs.Forms.{grammar_of, kind_of};
 ghost use Rattle.syn_recognize.specs.Parts.{part_form};
 ghost use Rattle.syn_recognize.specs.Names.{look_of, mark_text, rule_of, shape_of};
 ghost use Rattle.syn_recognize.specs.Copies as copies;
-ghost use Rattle.syn_recognize.specs.Copies.{Reached, copy_form, by_braces};
+ghost use Rattle.syn_recognize.specs.Copies.{Copies, Reached, copy_form, by_braces};
+ghost use Rattle.syn_recognize.specs.Unions.{union_form};
 ghost use Rattle.syn_recognize.specs.Steps.{Steps, Guessing, Runs, after};
 
+use crate::aside::{capture, forget, read_captured, read_hidden};
+use crate::fading::{read_fading, read_generics};
+use crate::fault::Fault;
 use crate::form::Form;
 use crate::look::{Look, holds};
-use crate::rows::{read_arguments, read_others, read_others_rest, read_row, read_row_rest};
+use crate::rows::{
+    note, read_ordered, read_others, read_others_rest, read_row, read_row_rest, skip_late,
+};
 use crate::rules::{Part, Rule, form_of, form_of_part};
 use crate::shape::Shape;
 use crate::step::Step;
 use crate::token::{copy, copy_token};
+use crate::unions::{Union, form_of_union};
 use crate::words::{Mark, copy_mark};
 use crate::writer::Writer;
 use syn_parse::buffer::ParseBuffer;
@@ -45,10 +53,14 @@ pub(crate) fn take<'a>(
     match step {
         Step::Form(form) => read_form(form, steps, out, input),
         Step::Close(delimiter, closing, rest) => leave(delimiter, closing, &rest, out, input),
-        Step::Row(other, list) => read_row(other, list, steps, out, input),
-        Step::RowRest(other, list) => read_row_rest(other, list, steps, out, input),
-        Step::Others(other, late) => read_others(other, late, steps, out, input),
-        Step::OthersRest(other, late) => read_others_rest(other, late, steps, out, input),
+        Step::Row(list, number) => read_row(list, number, steps, out, input),
+        Step::RowRest(list, number) => read_row_rest(list, number, steps, out, input),
+        Step::Others(list, late) => read_others(list, late, steps, out, input),
+        Step::OthersRest(list, late) => read_others_rest(list, late, steps, out, input),
+        Step::Note(before, begin, number) => note(before, &begin, number, out, input),
+        Step::Skip(list, before, late) => skip_late(list, before, late, steps, out, input),
+        Step::Forget(before) => forget(before, out, input),
+        Step::Capture(before, begin) => capture(before, &begin, out, input),
         Step::ByBraces(one, other) => read_by_braces(one, other, steps, out, input),
     }
 }
@@ -65,10 +77,10 @@ fn read_form<'a>(
 {
     match form {
         Form::Empty => Ok(()),
-        Form::Never => Err(input.refusal("unexpected token")),
-        Form::MissingSemi => Err(input.refusal("unexpected token, expected `;`")),
+        Form::Never(fault) => Err(fault.refusal(input)),
         Form::Token(token) => copy_token(*token, out, input),
         Form::Mark(mark) => copy_mark(*mark, out, input),
+        Form::MarkElse(mark, fault) => copy_mark_else(*mark, *fault, out, input),
         Form::Lifetime => copy::<Lifetime>(out, input),
         Form::Then(one, other) => read_both(one, other, steps, out, input),
         Form::When(look, one, other) => choose(look, one, other, steps, out, input),
@@ -79,7 +91,12 @@ fn read_form<'a>(
         Form::Part(part) => read_part(*part, steps, out, input),
         Form::Shaped(shape, part) => read_shaped(*shape, part, steps, out, input),
         Form::Unshown => Ok(()),
-        Form::Arguments(other) => read_arguments(other, steps, out, input),
+        Form::Ordered(list) => read_ordered(*list, steps, out, input),
+        Form::Generics => read_generics(steps, out, input),
+        Form::Fading(part) => read_fading(*part, steps, out, input),
+        Form::Hidden(look, form) => read_hidden(look, form, steps, out, input),
+        Form::Captured(form) => read_captured(form, steps, out, input),
+        Form::Union(union) => read_union(*union, steps, out, input),
         Form::ByBraces(one, other) => read_value(one, other, steps, out, input),
     }
 }
@@ -146,6 +163,37 @@ fn read_part<'a>(
 {
     steps.push(Step::Form(form_of_part(part)))?;
     Ok(())
+}
+
+/// Reads a union of rules that begin alike.
+#[tactic(auto, using(crate::proofs::Todo::push, crate::proofs::Alike::alike_is))]
+fn read_union<'a>(
+    union: Union,
+    steps: &mut Vec<Step<'a>>,
+    out: &Writer,
+    input: &ParseBuffer<'a>,
+) -> Parsed<()>
+    ensures { Steps IsSyntax steps.old.items (copy_form (union_form union) out.now input.now) result steps.new.items out.now input.now }
+{
+    steps.push(Step::Form(form_of_union(union)))?;
+    Ok(())
+}
+
+/// Reads and writes a mark, and says this where it doesn't stand.
+fn copy_mark_else(
+    mark: Mark,
+    fault: Fault,
+    out: &mut Writer,
+    input: &mut ParseBuffer<'_>,
+) -> Parsed<()>
+    ensures { Copies IsSyntax out.old (take_mark (mark_text mark) input.old) result out.new input.new }
+{
+    let refusal = fault.refusal(input);
+    match copy_mark(mark, out, input) {
+        Ok(()) => Ok(()),
+        Err(Refusal::Memory) => Err(Refusal::Memory),
+        Err(Refusal::Syntax { .. }) => Err(refusal),
+    }
 }
 
 /// Reads a form whose value is built in its own way.

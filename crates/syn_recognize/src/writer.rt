@@ -9,10 +9,11 @@ ghost use Rattle.syn_parse.specs.Refusals.{IsSyntax};
 ghost use Rattle.syn_tokens.specs.Cursors.{before_next};
 ghost use Rattle.syn_recognize.specs.Trailing.{ends_by, is_brace, is_brace_group, IsLeaf};
 
-use crate::late::LateLifetime;
+use crate::late::Late;
 use std::alloc::{AllocError, Global};
 use std::collections::VecDeque;
 use std::marker::Model;
+use std::mem;
 use syn_parse::read::refusal::{Parsed, Refusal};
 use syn_tokens::delimiter::Delimiter;
 use syn_tokens::print::Print;
@@ -23,15 +24,22 @@ use syn_tokens::stream::cursor::TokenTreeRef;
 
 /// The tokens that were written, and whether the last tree of them, in the innermost open group, is a group in braces.
 #[derive(Drop)]
-pub(crate) struct Writer {
+pub struct Writer {
     out: StreamBuilder,
     braces: bool,
     /// Whether lists are written with their lifetimes first.
     printing: bool,
-    /// Of each list in `< >` that has some other member: the lifetimes behind its first other member. The lists stand in the order
-    /// of these members. Where nothing is printed they are noted here; printing takes them away from the front.
-    late: VecDeque<Vec<LateLifetime>>,
+    /// Of each list in `< >` that has some other member: the members behind its first other member that are printed first. The
+    /// lists stand in the order of these members. Where nothing is printed they are noted here; printing takes them away from the
+    /// front.
+    late: VecDeque<Vec<Late>>,
+    /// In how many others it was made to be aside.
+    depth: usize,
 }
+
+/// How many writers may be aside in each other. What one of them keeps as tokens the one around it keeps too, so that more would take
+/// more time than the tokens do.
+const DEEPEST: usize = 200;
 
 impl Model for Writer {
     ghost use Rattle.std.specs.Prelude.{◌≡◌, false};
@@ -57,11 +65,12 @@ impl Writer {
             braces: false,
             printing: false,
             late: VecDeque::new(alloc),
+            depth: 0,
         }
     }
 
-    /// Nothing was written yet; trees are written as they are printed, with these late lifetimes of lists.
-    pub(crate) fn printing(alloc: Global, late: VecDeque<Vec<LateLifetime>>) -> Writer
+    /// Nothing was written yet; trees are written as they are printed, with these late members of lists.
+    pub(crate) fn printing(alloc: Global, late: VecDeque<Vec<Late>>) -> Writer
         ensures { result ≡ blank true }
     {
         Writer {
@@ -69,6 +78,7 @@ impl Writer {
             braces: false,
             printing: true,
             late,
+            depth: 0,
         }
     }
 
@@ -88,8 +98,8 @@ impl Writer {
         Ok(number)
     }
 
-    /// Notes a late lifetime of the list of this number.
-    pub(crate) fn note(&mut self, list: usize, late: LateLifetime) -> Result<(), AllocError>
+    /// Notes a late member of the list of this number.
+    pub(crate) fn note(&mut self, list: usize, late: Late) -> Result<(), AllocError>
         ensures { self.new ≡ self.old }
     {
         match self.late.get_mut(list) {
@@ -99,7 +109,7 @@ impl Writer {
     }
 
     /// What was noted of the next list.
-    pub(crate) fn noted(&mut self) -> Vec<LateLifetime>
+    pub(crate) fn noted(&mut self) -> Vec<Late>
         ensures { self.new ≡ self.old }
     {
         match self.late.pop_front() {
@@ -162,9 +172,39 @@ impl Writer {
         self.braces
     }
 
-    /// What was written, where no group is open any more, and what was noted.
-    pub(crate) fn finish(self) -> Parsed<(TokenStream, VecDeque<Vec<LateLifetime>>)>
-        requires { self.out.open_groups ≡ [] }
+    /// Writes nothing, so that what follows is written aside: as it is shown, or as it is printed. Answers what was written so far.
+    /// Refused as memory is, too, where too many are aside in each other.
+    pub(crate) fn aside(&mut self, printing: bool) -> Parsed<Box<Writer>>
+        ensures before { OrMemory IsSyntax result (λ before. before.value ≡ self.old) }
+        ensures blank { OrMemory IsSyntax result (λ before. self.new ≡ blank printing) }
+    {
+        if self.depth >= DEEPEST {
+            return Err(Refusal::Memory);
+        }
+        let alloc = self.out.alloc();
+        let aside = Writer {
+            out: StreamBuilder::new(alloc),
+            braces: false,
+            printing,
+            late: VecDeque::new(alloc),
+            depth: self.depth + 1,
+        };
+        let before = mem::replace(self, aside);
+        Ok(Box::new(alloc, before)?)
+    }
+
+    /// Goes on with what was written before, and answers what was written aside.
+    pub(crate) fn put_back(&mut self, before: Box<Writer>) -> Parsed<TokenStream>
+        ensures aside { OrMemory IsSyntax result (λ aside. aside ≡ self.old.out.stream) }
+        ensures before { OrMemory IsSyntax result (λ aside. self.new ≡ before.value) }
+    {
+        let aside = mem::replace(self, Box::into_inner(before));
+        let (tokens, _late) = aside.finish()?;
+        Ok(tokens)
+    }
+
+    /// What was written, and what was noted. Refused where a group is still open, which none ever is, as memory is.
+    pub(crate) fn finish(self) -> Parsed<(TokenStream, VecDeque<Vec<Late>>)>
         ensures { OrMemory IsSyntax result (λ done. done.0 ≡ self.out.stream) }
     {
         match self.out.finish() {

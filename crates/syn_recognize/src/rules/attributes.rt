@@ -1,6 +1,7 @@
 //! Written by tools/recognizers.py; edits are lost.
 //!
 //! Attributes, and paths in module style.
+use crate::fault::Fault;
 use crate::form::Form;
 use crate::look::Look;
 use crate::rules::Rule;
@@ -55,7 +56,11 @@ pub(super) static META: Form = Form::Then(
 
 /// The word `unsafe` as a path of one word. (A meta asks for it only where `unsafe` stands next.)
 pub(super) static UNSAFE_PATH: Form = Form::Then(
-    &Form::When(Look::Mark(Mark::PathSep), &Form::Never, &Form::Empty),
+    &Form::When(
+        Look::Mark(Mark::PathSep),
+        &Form::Never(Fault::Unexpected),
+        &Form::Empty,
+    ),
     &Form::Rule(Rule::UnsafeWord),
 );
 
@@ -68,7 +73,11 @@ pub(super) static UNSAFE_WORD: Form = Form::Then(
             &Form::Shaped(Shape::Untagged, &Form::Empty),
         ),
     ),
-    &Form::When(Look::Mark(Mark::PathSep), &Form::Never, &Form::Empty),
+    &Form::When(
+        Look::Mark(Mark::PathSep),
+        &Form::Never(Fault::Unexpected),
+        &Form::Empty,
+    ),
 );
 
 /// The value of an attribute: a group of any content; or `=` and all that is left, one token tree at least; or nothing.

@@ -1,6 +1,7 @@
 //! Written by tools/recognizers.py; edits are lost.
 //!
 //! Blocks, and expressions with nothing before or behind them.
+use crate::fault::Fault;
 use crate::form::Form;
 use crate::look::Look;
 use crate::rules::{Part, Rule};
@@ -34,7 +35,7 @@ pub(super) static PLAIN_BODY: Form = Form::Inside(
 /// printed.
 pub(super) static NO_INNER_ATTRIBUTES: Form = Form::When(
     Look::InnerAttribute,
-    &Form::Never,
+    &Form::Never(Fault::Unexpected),
     &Form::Unshown,
 );
 
@@ -51,7 +52,11 @@ pub(super) static PRIMARY_1: Form = Form::Shaped(
         &Form::Token(Token::Word(Word::Break)),
         &Form::Then(
             &Form::When(Look::Lifetime, &Form::Lifetime, &Form::Empty),
-            &Form::When(Look::WholeExpression, &Form::Never, &Form::Empty),
+            &Form::When(
+                Look::WholeExpression,
+                &Form::Never(Fault::Unexpected),
+                &Form::Empty,
+            ),
         ),
     ),
 );
@@ -208,7 +213,11 @@ pub(super) static IF_EXPRESSION_1: Form = Form::When(
             &Form::Shaped(
                 Shape::Operand(Variant::Block),
                 &Form::Then(
-                    &Form::When(Look::Lifetime, &Form::Never, &Form::Empty),
+                    &Form::When(
+                        Look::Lifetime,
+                        &Form::Never(Fault::Unexpected),
+                        &Form::Empty,
+                    ),
                     &Form::Rule(Rule::PlainBody),
                 ),
             ),

@@ -1,6 +1,7 @@
 //! Written by tools/recognizers.py; edits are lost.
 //!
 //! Operators, and whole expressions.
+use crate::fault::Fault;
 use crate::form::Form;
 use crate::look::Look;
 use crate::rules::{Part, Rule};
@@ -430,7 +431,11 @@ pub(super) static WHOLE_EXPRESSION: Form = Form::Shaped(
         &Form::Rule(Rule::Disjunction),
         &Form::Then(
             &Form::Rule(Rule::Assigned),
-            &Form::When(Look::Unfinished, &Form::Never, &Form::Empty),
+            &Form::When(
+                Look::Unfinished,
+                &Form::Never(Fault::Unexpected),
+                &Form::Empty,
+            ),
         ),
     ),
 );

@@ -1,6 +1,7 @@
 //! Written by tools/recognizers.py; edits are lost.
 //!
 //! Paths in expressions, macros and patterns.
+use crate::fault::Fault;
 use crate::form::Form;
 use crate::look::Look;
 use crate::rules::{Part, Rule};
@@ -94,7 +95,11 @@ pub(super) static PATH_AS_EXPRESSION: Form = Form::When(
 pub(super) static MACRO_INVOCATION: Form = Form::Then(
     &Form::Rule(Rule::ModulePath),
     &Form::Then(
-        &Form::When(Look::Bang, &Form::Mark(Mark::Not), &Form::Never),
+        &Form::When(
+            Look::Bang,
+            &Form::Mark(Mark::Not),
+            &Form::Never(Fault::Unexpected),
+        ),
         &Form::When(
             Look::Group(Delimiter::Paren),
             &Form::Raw(Delimiter::Paren),
@@ -153,7 +158,11 @@ pub(super) static PATTERN_2: Form = Form::When(
     &Form::Part(Part::Pattern1),
     &Form::Then(
         &Form::Token(Token::Name),
-        &Form::When(Look::Mark(Mark::PathSep), &Form::Never, &Form::Empty),
+        &Form::When(
+            Look::Mark(Mark::PathSep),
+            &Form::Never(Fault::Unexpected),
+            &Form::Empty,
+        ),
     ),
 );
 

@@ -1,6 +1,7 @@
 //! Written by tools/recognizers.py; edits are lost.
 //!
 //! Statements.
+use crate::fault::Fault;
 use crate::form::Form;
 use crate::look::Look;
 use crate::rules::{Part, Rule};
@@ -78,7 +79,7 @@ pub(super) static STATEMENT_REST: Form = Form::When(
             ),
             &Form::When(
                 Look::PostfixMark,
-                &Form::Never,
+                &Form::Never(Fault::Unexpected),
                 &Form::Rule(Rule::AfterBlock),
             ),
         ),
@@ -89,7 +90,7 @@ pub(super) static STATEMENT_REST: Form = Form::When(
 /// A part of `statement_rest`.
 pub(super) static STATEMENT_REST_1: Form = Form::When(
     Look::LoneCrate,
-    &Form::Never,
+    &Form::Never(Fault::Unexpected),
     &Form::When(
         Look::BlockLike,
         &Form::Shaped(
@@ -148,7 +149,92 @@ pub(super) static AFTER_BLOCK: Form = Form::When(
 pub(super) static AFTER_EXPRESSION: Form = Form::When(
     Look::Mark(Mark::Semi),
     &Form::Then(&Form::Mark(Mark::Semi), &Form::Rule(Rule::Statements)),
-    &Form::When(Look::Ended, &Form::Empty, &Form::MissingSemi),
+    &Form::When(Look::Ended, &Form::Empty, &Form::Never(Fault::MissingEnd)),
+);
+
+/// A statement alone: attributes; and a macro in braces, a block or what ends with one, with `;` or without it; one of
+/// these that goes on, or another expression, with `;`; or a local. What begins an item is refused, as long as none are
+/// read.
+pub(super) static STATEMENT: Form = Form::Shaped(
+    Shape::Attributed,
+    &Form::Then(
+        &Form::Rule(Rule::Attributes),
+        &Form::When(
+            Look::CrateMacro,
+            &Form::Shaped(
+                Shape::SaidMacro,
+                &Form::Then(
+                    &Form::Shaped(
+                        Shape::Operand(Variant::Macro),
+                        &Form::Rule(Rule::MacroInvocation),
+                    ),
+                    &Form::When(
+                        Look::PostfixMark,
+                        &Form::Never(Fault::Unexpected),
+                        &Form::Rule(Rule::StatementEnd),
+                    ),
+                ),
+            ),
+            &Form::Part(Part::Statement2),
+        ),
+    ),
+);
+
+/// A part of `statement`.
+pub(super) static STATEMENT_1: Form = Form::When(
+    Look::LoneCrate,
+    &Form::Never(Fault::Unexpected),
+    &Form::When(
+        Look::BlockLike,
+        &Form::Shaped(
+            Shape::Said,
+            &Form::Then(
+                &Form::Rule(Rule::BlockLike),
+                &Form::Rule(Rule::StatementEnd),
+            ),
+        ),
+        &Form::Shaped(
+            Shape::Said,
+            &Form::Then(
+                &Form::Rule(Rule::WholeExpression),
+                &Form::MarkElse(Mark::Semi, Fault::MissingSemi),
+            ),
+        ),
+    ),
+);
+
+/// A part of `statement`.
+pub(super) static STATEMENT_2: Form = Form::When(
+    Look::BraceMacro,
+    &Form::Shaped(
+        Shape::SaidMacro,
+        &Form::Then(
+            &Form::Shaped(
+                Shape::Operand(Variant::Macro),
+                &Form::Rule(Rule::MacroInvocation),
+            ),
+            &Form::Rule(Rule::StatementEnd),
+        ),
+    ),
+    &Form::When(
+        Look::Word(Word::Let),
+        &Form::Shaped(Shape::ALocal, &Form::Rule(Rule::Local)),
+        &Form::Part(Part::Statement1),
+    ),
+);
+
+/// What follows a block or a macro in braces, in a statement alone: `;`; what goes on it, and `;`; or nothing.
+pub(super) static STATEMENT_END: Form = Form::When(
+    Look::Mark(Mark::Semi),
+    &Form::MarkElse(Mark::Semi, Fault::MissingSemi),
+    &Form::When(
+        Look::PostfixMark,
+        &Form::Then(
+            &Form::Rule(Rule::OperandRest),
+            &Form::MarkElse(Mark::Semi, Fault::MissingSemi),
+        ),
+        &Form::Empty,
+    ),
 );
 
 /// A local: `let`, a pattern with a type behind a colon or without one, `=` and an expression or none, and `;`. Behind
@@ -178,7 +264,11 @@ pub(super) static LOCAL_1: Form = Form::Shaped(
             &Form::Shaped(
                 Shape::Operand(Variant::Block),
                 &Form::Then(
-                    &Form::When(Look::Lifetime, &Form::Never, &Form::Empty),
+                    &Form::When(
+                        Look::Lifetime,
+                        &Form::Never(Fault::Unexpected),
+                        &Form::Empty,
+                    ),
                     &Form::Rule(Rule::PlainBody),
                 ),
             ),

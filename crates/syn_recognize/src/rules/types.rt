@@ -1,7 +1,9 @@
 //! Written by tools/recognizers.py; edits are lost.
 //!
 //! Paths in types, and types.
+use crate::fault::Fault;
 use crate::form::Form;
+use crate::list::List;
 use crate::look::Look;
 use crate::rules::{Part, Rule};
 use crate::shape::{Shape, Variant};
@@ -77,7 +79,7 @@ pub(super) static RETURN_TYPE: Form = Form::When(
 
 /// Generic arguments in `< >`: lifetimes and others in any order, separated by commas; the last comma may stand or not.
 /// Lifetimes are printed first.
-pub(super) static GENERIC_ARGUMENTS: Form = Form::Arguments(&Form::Rule(Rule::GenericArgument));
+pub(super) static GENERIC_ARGUMENTS: Form = Form::Ordered(List::Arguments);
 
 /// A generic argument that isn't a lifetime: a name, `=` and a type, where `=` follows the name; a constant; or a type.
 pub(super) static GENERIC_ARGUMENT: Form = Form::When(
@@ -229,7 +231,11 @@ pub(super) static CONSTANT: Form = Form::Shaped(
         &Form::Shaped(
             Shape::Operand(Variant::Block),
             &Form::Then(
-                &Form::When(Look::Lifetime, &Form::Never, &Form::Empty),
+                &Form::When(
+                    Look::Lifetime,
+                    &Form::Never(Fault::Unexpected),
+                    &Form::Empty,
+                ),
                 &Form::Rule(Rule::PlainBody),
             ),
         ),

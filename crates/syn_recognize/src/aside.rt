@@ -1,0 +1,75 @@
+//! What is read without being written where it stands.
+ghost use Rattle.std.specs.Prelude.{◌≡◌, true, false};
+ghost use Rattle.syn_grammar.specs.Grammar.{vanishing, captured};
+ghost use Rattle.syn_parse.specs.Refusals.{IsSyntax};
+ghost use Rattle.syn_recognize.specs.Forms.{grammar_of};
+ghost use Rattle.syn_recognize.specs.Names.{look_of};
+ghost use Rattle.syn_recognize.specs.Copies.{copy_form, forgetting, capturing};
+ghost use Rattle.syn_recognize.specs.Steps.{Steps, Runs};
+
+use crate::form::Form;
+use crate::look::{Look, holds};
+use crate::step::Step;
+use crate::writer::Writer;
+use syn_parse::buffer::ParseBuffer;
+use syn_parse::read::refusal::{Parsed, Refusal};
+
+/// Reads a part that is never printed, where the look holds.
+#[tactic(auto, using(crate::proofs::Todo::push, crate::proofs::WrittenAside::hidden_absent, crate::proofs::WrittenAside::hidden_is))]
+pub(crate) fn read_hidden<'a>(
+    look: &Look,
+    form: &'static Form,
+    steps: &mut Vec<Step<'a>>,
+    out: &mut Writer,
+    input: &ParseBuffer<'a>,
+) -> Parsed<()>
+    ensures { Steps IsSyntax steps.old.items (copy_form (vanishing true (look_of look.now) (grammar_of form.now)) out.old input.now) result steps.new.items out.new input.now }
+{
+    if !holds(look, input)? {
+        return Ok(());
+    }
+    let before = out.aside(false)?;
+    steps.push(Step::Forget(before))?;
+    steps.push(Step::Form(form))?;
+    Ok(())
+}
+
+/// Goes on with what was written before.
+pub(crate) fn forget(before: Box<Writer>, out: &mut Writer, input: &ParseBuffer<'_>) -> Parsed<()>
+    ensures { Runs IsSyntax (forgetting before.value out.old input.now) result out.new input.now }
+{
+    let _written = out.put_back(before)?;
+    Ok(())
+}
+
+/// Reads a part that is kept as the tokens that it is read of.
+#[tactic(auto, using(crate::proofs::Todo::push, crate::proofs::WrittenAside::captured_is))]
+pub(crate) fn read_captured<'a>(
+    form: &'static Form,
+    steps: &mut Vec<Step<'a>>,
+    out: &mut Writer,
+    input: &ParseBuffer<'a>,
+) -> Parsed<()>
+    ensures { Steps IsSyntax steps.old.items (copy_form (captured (grammar_of form.now)) out.old input.now) result steps.new.items out.new input.now }
+{
+    let before = out.aside(false)?;
+    steps.push(Step::Capture(before, input.fork()))?;
+    steps.push(Step::Form(form))?;
+    Ok(())
+}
+
+/// Goes on with what was written before, and writes what was read from there on, as it is.
+pub(crate) fn capture<'a>(
+    before: Box<Writer>,
+    begin: &ParseBuffer<'a>,
+    out: &mut Writer,
+    input: &ParseBuffer<'a>,
+) -> Parsed<()>
+    ensures { Runs IsSyntax (capturing before.value begin.now out.old input.now) result out.new input.now }
+{
+    let _written = out.put_back(before)?;
+    match begin.between(input) {
+        Ok(tokens) => Ok(out.append(&tokens)?),
+        Err(_memory) => Err(Refusal::Memory),
+    }
+}

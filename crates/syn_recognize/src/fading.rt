@@ -1,0 +1,223 @@
+//! Parts that aren't printed where their list is empty: a colon or `where`, and a list. And generics.
+ghost use Rattle.std.specs.Prelude.{◌≡◌, true, false, []};
+ghost use Rattle.syn_grammar.specs.Take.{sees};
+ghost use Rattle.syn_grammar.specs.Words.{colon, w_where};
+ghost use Rattle.syn_grammar.specs.Rules.{lifetime_parameter};
+ghost use Rattle.syn_grammar.specs.Grammar.{rule, mark, token, word, ordered};
+ghost use Rattle.syn_grammar.specs.Run.{parse_form};
+ghost use Rattle.syn_grammar.specs.Table.{at_less, parameter};
+ghost use Rattle.syn_parse.specs.Refusals.{IsSyntax};
+ghost use Rattle.syn_recognize.specs.Forms.{grammar_of};
+ghost use Rattle.syn_recognize.specs.Names.{rule_of};
+ghost use Rattle.syn_recognize.specs.Ordered.{generics_form};
+ghost use Rattle.syn_recognize.specs.Fading.{fading_form, fading_look, head_form, list_rule, begins_list, Skips};
+ghost use Rattle.syn_recognize.specs.Copies.{copy_form, next};
+ghost use Rattle.syn_recognize.specs.Steps.{Steps};
+
+use crate::form::Form;
+use crate::list::List;
+use crate::look::{at_parameter_end, at_predicate_end};
+use crate::rules::{Rule, form_of};
+use crate::step::Step;
+use crate::token::Token;
+use crate::words::{Mark, Word};
+use crate::writer::Writer;
+use syn_parse::buffer::ParseBuffer;
+use syn_parse::read::refusal::Parsed;
+use syn_tokens::lifetime::Lifetime;
+use syn_tokens::token::{Colon, Gt, Lt, Where};
+
+/// A part that isn't printed where its list is empty.
+#[derive(Clone, Copy)]
+pub enum Fading {
+    /// `:`, and the lifetimes that a lifetime outlives.
+    Lifetimes,
+    /// `:`, and the bounds of a parameter.
+    Bounds,
+    /// `where`, and its predicates.
+    Predicates,
+}
+
+static COLON: Form = Form::Mark(Mark::Colon);
+
+static WHERE: Form = Form::Token(Token::Word(Word::Where));
+
+static PARAMETERS: Form = Form::Ordered(List::Parameters);
+
+/// What stands before the list.
+fn head(part: Fading) -> &'static Form
+    ensures { grammar_of result.now ≡ head_form part }
+{
+    match part {
+        Fading::Lifetimes => &COLON,
+        Fading::Bounds => &COLON,
+        Fading::Predicates => &WHERE,
+    }
+}
+
+/// The rule of the list.
+fn list_of(part: Fading) -> Rule
+    ensures { rule_of result ≡ list_rule part }
+{
+    match part {
+        Fading::Lifetimes => Rule::Lifetimes,
+        Fading::Bounds => Rule::ParameterBounds,
+        Fading::Predicates => Rule::Predicates,
+    }
+}
+
+/// Whether what stands before the list stands next.
+fn at_head(part: Fading, input: &ParseBuffer<'_>) -> bool
+    ensures { result ≡ sees (fading_look part) input.now }
+{
+    match part {
+        Fading::Lifetimes => input.peek::<Colon>(),
+        Fading::Bounds => input.peek::<Colon>(),
+        Fading::Predicates => input.peek::<Where>(),
+    }
+}
+
+/// Reads what stands before the list, and writes nothing.
+fn skip_head(part: Fading, input: &mut ParseBuffer<'_>) -> Parsed<()>
+    ensures { Skips IsSyntax (parse_form (head_form part) input.old) result input.new }
+{
+    match part {
+        Fading::Lifetimes => skip_colon(input),
+        Fading::Bounds => skip_colon(input),
+        Fading::Predicates => skip_where(input),
+    }
+}
+
+/// Reads a colon.
+fn skip_colon(input: &mut ParseBuffer<'_>) -> Parsed<()>
+    ensures { Skips IsSyntax (parse_form (mark false colon) input.old) result input.new }
+{
+    let _colon: Colon = input.read()?;
+    Ok(())
+}
+
+/// Reads `where`.
+fn skip_where(input: &mut ParseBuffer<'_>) -> Parsed<()>
+    ensures { Skips IsSyntax (parse_form (token [] (word w_where)) input.old) result input.new }
+{
+    let _where: Where = input.read()?;
+    Ok(())
+}
+
+/// Whether a list that stands next has a member.
+fn begins_list(part: Fading, input: &ParseBuffer<'_>) -> bool
+    ensures { result ≡ begins_list part input.now }
+{
+    match part {
+        Fading::Lifetimes => input.peek::<Lifetime>(),
+        Fading::Bounds => !at_parameter_end(input),
+        Fading::Predicates => !at_predicate_end(input),
+    }
+}
+
+/// Reads such a part, where it stands next.
+#[tactic(auto, using(crate::proofs::FadingParts::fading_absent, crate::proofs::FadingParts::fading_shown))]
+pub(crate) fn read_fading<'a>(
+    part: Fading,
+    steps: &mut Vec<Step<'a>>,
+    out: &Writer,
+    input: &mut ParseBuffer<'a>,
+) -> Parsed<()>
+    ensures { Steps IsSyntax steps.old.items (copy_form (fading_form part) out.now input.old) result steps.new.items out.now input.new }
+{
+    if !at_head(part, input) {
+        return Ok(());
+    }
+    if out.is_printing() {
+        return read_printed(part, steps, out, input);
+    }
+    read_whole(part, steps, out, input)
+}
+
+/// Reads what stands before the list, and the list.
+#[tactic(auto, using(crate::proofs::Todo::push, crate::proofs::Copied::rule_is))]
+fn read_whole<'a>(
+    part: Fading,
+    steps: &mut Vec<Step<'a>>,
+    out: &Writer,
+    input: &ParseBuffer<'a>,
+) -> Parsed<()>
+    ensures { Steps IsSyntax steps.old.items (next (copy_form (head_form part) out.now input.now) (copy_form (rule (list_rule part)))) result steps.new.items out.now input.now }
+{
+    steps.push(Step::Form(form_of(list_of(part))))?;
+    steps.push(Step::Form(head(part)))?;
+    Ok(())
+}
+
+/// The same, where nothing is printed of an empty list.
+#[tactic(auto, using(crate::proofs::FadingParts::fading_bare, crate::proofs::FadingParts::fading_kept, crate::proofs::FadingParts::fading_refused))]
+fn read_printed<'a>(
+    part: Fading,
+    steps: &mut Vec<Step<'a>>,
+    out: &Writer,
+    input: &mut ParseBuffer<'a>,
+) -> Parsed<()>
+    requires printing { out.now.printing ≡ true }
+    requires head { sees (fading_look part) input.old ≡ true }
+    ensures { Steps IsSyntax steps.old.items (copy_form (fading_form part) out.now input.old) result steps.new.items out.now input.new }
+{
+    let mut ahead = input.fork();
+    skip_head(part, &mut ahead)?;
+    if begins_list(part, &ahead) {
+        return read_whole(part, steps, out, input);
+    }
+    input.advance_to(&ahead);
+    Ok(())
+}
+
+/// Reads generics, where they stand next.
+#[tactic(auto, using(crate::proofs::FadingParts::generics_absent, crate::proofs::FadingParts::generics_shown))]
+pub(crate) fn read_generics<'a>(
+    steps: &mut Vec<Step<'a>>,
+    out: &Writer,
+    input: &mut ParseBuffer<'a>,
+) -> Parsed<()>
+    ensures { Steps IsSyntax steps.old.items (copy_form generics_form out.now input.old) result steps.new.items out.now input.new }
+{
+    if !input.peek::<Lt>() {
+        return Ok(());
+    }
+    if out.is_printing() {
+        return read_printed_generics(steps, out, input);
+    }
+    read_parameters(steps, out, input)
+}
+
+/// Reads parameters in `< >`.
+#[tactic(auto, using(crate::proofs::Todo::push))]
+fn read_parameters<'a>(
+    steps: &mut Vec<Step<'a>>,
+    out: &Writer,
+    input: &ParseBuffer<'a>,
+) -> Parsed<()>
+    ensures { Steps IsSyntax steps.old.items (copy_form (ordered (rule lifetime_parameter) parameter) out.now input.now) result steps.new.items out.now input.now }
+{
+    steps.push(Step::Form(&PARAMETERS))?;
+    Ok(())
+}
+
+/// Reads generics, of which nothing is printed where they have no parameters.
+#[tactic(auto, using(crate::proofs::FadingParts::generics_bare, crate::proofs::FadingParts::generics_kept, crate::proofs::FadingParts::generics_refused, crate::proofs::FadingParts::generics_open))]
+fn read_printed_generics<'a>(
+    steps: &mut Vec<Step<'a>>,
+    out: &Writer,
+    input: &mut ParseBuffer<'a>,
+) -> Parsed<()>
+    requires printing { out.now.printing ≡ true }
+    requires head { sees at_less input.old ≡ true }
+    ensures { Steps IsSyntax steps.old.items (copy_form generics_form out.now input.old) result steps.new.items out.now input.new }
+{
+    let mut ahead = input.fork();
+    let _less: Lt = ahead.read()?;
+    if !ahead.peek::<Gt>() {
+        return read_parameters(steps, out, input);
+    }
+    let _greater: Gt = ahead.read()?;
+    input.advance_to(&ahead);
+    Ok(())
+}

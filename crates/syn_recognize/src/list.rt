@@ -1,0 +1,79 @@
+//! Lists in `< >`: which members are printed first, and which are not.
+ghost use Rattle.std.specs.Prelude.{◌≡◌};
+ghost use Rattle.syn_grammar.specs.Run.{parse_rule};
+ghost use Rattle.syn_grammar.specs.Rules.{attributes};
+ghost use Rattle.syn_grammar.specs.Promises.{OrMemory};
+ghost use Rattle.syn_parse.specs.Refusals.{IsSyntax};
+ghost use Rattle.syn_recognize.specs.Forms.{grammar_of};
+ghost use Rattle.syn_recognize.specs.Ordered.{first_form, other_form, Tells, LeadsTo};
+
+use crate::form::Form;
+use crate::rules::{Part, Rule};
+use syn_parse::buffer::ParseBuffer;
+use syn_parse::read::refusal::{Parsed, Refusal};
+use syn_tokens::lifetime::Lifetime;
+use syn_tokens::token::{Pound, kind};
+
+/// A list in `< >`, of members that are printed first, and others.
+#[derive(Clone, Copy)]
+pub enum List {
+    /// Lifetimes, and other arguments.
+    Arguments,
+    /// Lifetime parameters, and other parameters.
+    Parameters,
+}
+
+static LIFETIME: Form = Form::Lifetime;
+
+static ARGUMENT: Form = Form::Rule(Rule::GenericArgument);
+
+static LIFETIME_PARAMETER: Form = Form::Rule(Rule::LifetimeParameter);
+
+static PARAMETER: Form = Form::Part(Part::Generics2);
+
+/// The form of the members that are printed first.
+pub(crate) fn first_of(list: List) -> &'static Form
+    ensures { grammar_of result.now ≡ first_form list }
+{
+    match list {
+        List::Arguments => &LIFETIME,
+        List::Parameters => &LIFETIME_PARAMETER,
+    }
+}
+
+/// The form of the others.
+pub(crate) fn other_of(list: List) -> &'static Form
+    ensures { grammar_of result.now ≡ other_form list }
+{
+    match list {
+        List::Arguments => &ARGUMENT,
+        List::Parameters => &PARAMETER,
+    }
+}
+
+/// Whether a member that stands next is one that is printed first. Refused only where memory is.
+#[tactic(auto, using(crate::proofs::Ordered::arguments_told, crate::proofs::Ordered::parameters_told))]
+pub(crate) fn at_first(list: List, input: &ParseBuffer<'_>) -> Parsed<bool>
+    ensures { OrMemory IsSyntax result (λ answer. Tells list input.now answer) }
+{
+    match list {
+        List::Arguments => Ok(input.peek::<Lifetime>()),
+        List::Parameters => at_lifetime_parameter(input),
+    }
+}
+
+/// Whether a lifetime stands behind the attributes that stand next.
+fn at_lifetime_parameter(input: &ParseBuffer<'_>) -> Parsed<bool>
+    ensures { OrMemory IsSyntax result (λ answer. LeadsTo (parse_rule attributes input.now) answer) }
+{
+    let mut ahead = input.fork();
+    'attributes: while ahead.peek::<Pound>() {
+        let Ok(_pound) = ahead.read::<Pound>() else {
+            return Err(Refusal::Memory);
+        };
+        let Ok((_brackets, _content)) = ahead.read_group::<kind::Bracket>() else {
+            return Ok(false);
+        };
+    }
+    Ok(ahead.peek::<Lifetime>())
+}
