@@ -1,0 +1,88 @@
+-- The laws of the grammar, of what was printed of a whole stream.
+use Rattle.std.proofs.Common.{◌≡◌, true, Some, None, sym, subst, ap, ◌∙◌, inl, inr}
+use Rattle.std.specs.Prelude.{Bool, IsTrue, ◌↔◌, List, Result, Ok, Err}
+use Rattle.std.specs.Result.{IsErrAnd}
+use Rattle.syn_grammar.specs.Tokens.{Stream, end, plain, visible}
+use Rattle.syn_grammar.specs.Rules.{Rule}
+use Rattle.syn_grammar.specs.Grammar.{Syntax, print, normal}
+use Rattle.syn_grammar.specs.Laws.{Derives}
+use Rattle.syn_grammar.specs.Take.{only}
+use Rattle.syn_grammar.specs.Run.{parse_rule, value_of}
+use Rattle.syn_grammar.specs.Promises.{Refused}
+use Rattle.syn_grammar.proofs.Means.{means, parse_rule_found}
+use Rattle.syn_grammar.proofs.Takes.{end_found}
+use Rattle.syn_grammar.proofs.Proved.{print_is_read, print_is_visible, normal_prints, same_form}
+use Rattle.syn_grammar.proofs.PrintedValues.{print_value}
+use Rattle.syn_recognize.specs.DeferredTokens.{whole_only}
+use Rattle.syn_tokens.specs.Faults.{FaultValue, IsSyntaxError}
+use Rattle.syn_parse.specs.Refusals.{IsSyntax, IsRefusedAs}
+use Rattle.syn_parse.specs.declared.read.refusal.Refusal.{Refusal}
+use Rattle.syn_parse.proofs.Refused.{refused_by_syntax}
+use Rattle.syn_answers.specs.Canonical.{IsCanonical, IsSameForm, CanonicalOutcome, SameFormOutcome, WholeOutcome}
+use Rattle.syn_answers.specs.Whole.{IsWholePrint}
+
+-- trees of equal normal forms print alike
+alike : (s t : Syntax) → normal s ≡ normal t → plain (print s) ≡ plain (print t)
+alike s t e = sym (normal_prints s) ∙ ap print e ∙ normal_prints t
+
+-- the tree whose print it is
+abbrev Printed : Rule → Stream → Stream → Type 0
+Printed k ts p = (t : Syntax) × Derives k ts t × (p ≡ print t)
+
+tree_of : (k : Rule) (ts p : Stream) → IsWholePrint k ts p → Printed k ts p
+tree_of k ts p (s, e, q) = let (t, d, v) = (means k ts s end).0 e in (t, d, q ∙ ap print (sym v) ∙ print_value t)
+
+pub derived_of : (k : Rule) (ts p : Stream) → IsWholePrint k ts p → (tree : Syntax) × Derives k ts tree
+derived_of k ts p h = let (t, d, q) = tree_of k ts p h in (t, d)
+
+pub canonical_of : (k : Rule) (ts p : Stream) → IsWholePrint k ts p → visible ts ≡ true → IsCanonical k ts p
+canonical_of k ts p h v =
+    let (t, d, q) = tree_of k ts p h in
+    let (u, x, i) = print_is_read k ts t d in
+    record {
+      tree = t;
+      derived = d;
+      prints = q;
+      seen = ap visible q ∙ print_is_visible k ts t v d;
+      again = u;
+      reads_again = subst (λ z. Derives k z u) (sym q) x;
+      same_normal = i;
+      prints_again = alike u t i ∙ ap plain (sym q);
+    }
+
+pub refused_of : (k : Rule) (ts : Stream) → whole_only (parse_rule k ts) ≡ None → Refused k ts
+refused_of k ts e s a = absurd (cc (sym e ∙ ap whole_only (parse_rule_found k ts s end a) ∙ ap (λ b. only b (Some (value_of s, end))) end_found))
+
+pub same_form_of : (k : Rule) (a b p q : Stream) (x : Bool) → IsWholePrint k a p → IsWholePrint k b q → IsTrue x ↔ (plain p ≡ plain q) → IsSameForm k a b x
+same_form_of k a b p q x h i y =
+    let (u, d, f) = tree_of k a p h in
+    let (w, e, g) = tree_of k b q i in
+    let z = same_form k a b u w d e in
+    let prints : IsTrue x ↔ (plain (print u) ≡ plain (print w)) =
+    subst (λ m. IsTrue x ↔ (plain m ≡ plain (print w))) f (subst (λ n. IsTrue x ↔ (plain p ≡ plain n)) g y) in
+    record {
+      left_tree = u;
+      left_derived = d;
+      right_tree = w;
+      right_derived = e;
+      by_normal = (λ j. z.1 (prints.0 j), λ n. prints.1 (z.0 n));
+      by_print = prints;
+    }
+
+-- REFUSALS
+
+pub canonical_err : (k : Rule) (ts : Stream) (r : Result Stream (List FaultValue)) (e : Refusal) → IsErrAnd r (λ f. IsRefusedAs e f) → (IsSyntax e → whole_only (parse_rule k ts) ≡ None) → CanonicalOutcome IsSyntaxError k ts r
+canonical_err k ts (Ok p) e h n = absurd h
+canonical_err k ts (Err f) e h n = λ v s. refused_of k ts (n (refused_by_syntax e f h s))
+
+pub derived_err : (k : Rule) (ts : Stream) (r : Result (Unit {0}) (List FaultValue)) (e : Refusal) → IsErrAnd r (λ f. IsRefusedAs e f) → (IsSyntax e → whole_only (parse_rule k ts) ≡ None) → WholeOutcome IsSyntaxError k ts r
+derived_err k ts (Ok p) e h n = absurd h
+derived_err k ts (Err f) e h n = λ v s. refused_of k ts (n (refused_by_syntax e f h s))
+
+pub same_form_err_left : (k : Rule) (a b : Stream) (r : Result Bool (List FaultValue)) (e : Refusal) → IsErrAnd r (λ f. IsRefusedAs e f) → (IsSyntax e → whole_only (parse_rule k a) ≡ None) → SameFormOutcome IsSyntaxError k a b r
+same_form_err_left k a b (Ok p) e h n = absurd h
+same_form_err_left k a b (Err f) e h n = λ v w s. inl (refused_of k a (n (refused_by_syntax e f h s)))
+
+pub same_form_err_right : (k : Rule) (a b : Stream) (r : Result Bool (List FaultValue)) (e : Refusal) → IsErrAnd r (λ f. IsRefusedAs e f) → (IsSyntax e → whole_only (parse_rule k b) ≡ None) → SameFormOutcome IsSyntaxError k a b r
+same_form_err_right k a b (Ok p) e h n = absurd h
+same_form_err_right k a b (Err f) e h n = λ v w s. inr (refused_of k b (n (refused_by_syntax e f h s)))

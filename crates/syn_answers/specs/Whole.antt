@@ -1,0 +1,15 @@
+-- WHAT IS PRINTED OF A WHOLE STREAM.
+use Rattle.std.specs.Prelude.{◌≡◌, Some, None, Result, Ok, Err}
+use Rattle.syn_grammar.specs.Tokens.{Stream, end}
+use Rattle.syn_grammar.specs.Rules.{Rule}
+use Rattle.syn_grammar.specs.Grammar.{Syntax, print}
+use Rattle.syn_grammar.specs.Run.{parse_rule}
+use Rattle.syn_recognize.specs.DeferredTokens.{whole_only}
+
+-- the rule reads the whole stream, and p is what is printed of it
+abbrev pub IsWholePrint : Rule → Stream → Stream → Type 0
+IsWholePrint k ts p = (s : Syntax) × (parse_rule k ts ≡ Some (s, end)) × (p ≡ print s)
+
+abbrev pub WholePrint : {E : Type 0} → (E → Type 0) → Rule → Stream → Result Stream E → Type 0
+WholePrint refusal k ts (Ok p) = IsWholePrint k ts p
+WholePrint refusal k ts (Err e) = refusal e → whole_only (parse_rule k ts) ≡ None

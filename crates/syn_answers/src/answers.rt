@@ -1,0 +1,57 @@
+//! Canonical prints, and whether two streams have the same, by the rules of the grammar.
+ghost use Rattle.syn_answers.specs.Canonical.{CanonicalOutcome, SameFormOutcome, WholeOutcome};
+ghost use Rattle.syn_answers.specs.Whole.{WholePrint};
+ghost use Rattle.syn_parse.specs.Refusals.{IsSyntax};
+ghost use Rattle.syn_recognize.specs.Names.{rule_of};
+ghost use Rattle.syn_tokens.specs.Faults.{IsSyntaxError};
+
+use syn_parse::buffer::ParseBuffer;
+use syn_parse::read::refusal::Parsed;
+use syn_recognize::{Rule, recognized_and_printed};
+use syn_tokens::error::Result;
+use syn_tokens::stream::TokenStream;
+
+/// What the rule reads of the whole stream, as it is printed.
+fn printed_whole(rule: Rule, tokens: &TokenStream) -> Parsed<TokenStream>
+    ensures { WholePrint IsSyntax (rule_of rule) tokens.now result }
+{
+    let mut input = ParseBuffer::new(tokens);
+    let read = recognized_and_printed(rule, &mut input)?;
+    input.read_end()?;
+    Ok(read.printed)
+}
+
+/// The canonical print of what the tokens spell: the print of the tree that the rule derives of the whole stream.
+///
+/// It is refused where the rule derives none: with a fault at a token that can't stand there, or at the first token that is
+/// left over; else only where memory is. The stream is used up, whatever the answer. It takes no stack, however deep the
+/// stream is nested.
+#[tactic(auto, using(crate::proofs::Canons::canonical_of))]
+pub fn canonical_by(rule: Rule, tokens: TokenStream) -> Result<TokenStream>
+    ensures canonical { CanonicalOutcome IsSyntaxError (rule_of rule) tokens result }
+{
+    Ok(printed_whole(rule, &tokens)?)
+}
+
+/// Whether the rule derives a tree of the whole stream: refused as `canonical_by` refuses it. No more is kept of it.
+#[tactic(auto, using(crate::proofs::Canons::derived_of))]
+pub fn derived_by(rule: Rule, tokens: TokenStream) -> Result<()>
+    ensures derived { WholeOutcome IsSyntaxError (rule_of rule) tokens result }
+{
+    let _printed = printed_whole(rule, &tokens)?;
+    Ok(())
+}
+
+/// Whether two streams spell the same, but for spans and for what no print keeps: whether the normal forms of the trees that
+/// the rule derives of them are equal, which is whether their canonical prints are, spans aside.
+///
+/// It is refused where the rule derives none of one of them, or where memory is refused. Both streams are used up, whatever
+/// the answer.
+#[tactic(auto, using(crate::proofs::Canons::same_form_of))]
+pub fn same_form_by(rule: Rule, left: TokenStream, right: TokenStream) -> Result<bool>
+    ensures same_form { SameFormOutcome IsSyntaxError (rule_of rule) left right result }
+{
+    let left_print = printed_whole(rule, &left)?;
+    let right_print = printed_whole(rule, &right)?;
+    Ok(left_print == right_print)
+}
