@@ -109,7 +109,7 @@ def outputs():
     trees = Together(patterns, operators, expressions, source)
     files[CRATES / "syn/src/kinds.rt"] = canonical(trees, KINDS)
     files[CRATES / "syn_canon/src/kind.rt"] = kind_enum(KINDS)
-    files[CRATES / "syn_canon/src/by_kind.rt"] = dispatch(trees, KINDS)
+    files[CRATES / "syn_canon/src/by_kind.rt"] = dispatch(KINDS)
     files[CRATES / "syn_canon/specs/Kinds.antt"] = kind_specs(KINDS)
     return files
 

@@ -305,7 +305,7 @@ table entry =
     def test_a_wrapper_is_a_kind_too(self):
         source = self.crate()
         self.assertIn("use crate::canon::Wrapped;\n", canonical(source, [("thing", "Thing", "thing"), ("wrapped", "Wrapped", "thing")]))
-        self.assertIn("use syn::canon::Wrapped;\nuse syn::things::Thing;\n", dispatch(source, [("thing", "Thing", "thing"), ("wrapped", "Wrapped", "thing")]))
+        self.assertIn("        Kind::Thing => Rule::AThing,\n", dispatch([("thing", "Thing", "a_thing")]))
 
     def test_the_kinds_of_the_program(self):
         kinds = [("fields-unnamed", "FieldsUnnamed", "fields_unnamed")]

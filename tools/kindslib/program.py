@@ -65,37 +65,24 @@ impl Kind {{
 """
 
 
-def dispatch(source, kinds):
-    def arms(function):
-        return "".join(f"        Kind::{camel(word)} => {function}::<{name}>(tokens),\n" for word, name, _ in kinds)
-
+def dispatch(kinds):
+    arms = "".join(f"        Kind::{camel(word)} => Rule::{camel(rule.replace('_', '-'))},\n" for word, _, rule in kinds)
     return f"""//! {WRITTEN}
 //!
-//! What the program answers of each kind.
-ghost use Rattle.std.specs.Prelude.{{◌≡◌, true, IfOk, IfErr, OnOk, string_bytes}};
-ghost use Rattle.syn_grammar.specs.Tokens.{{visible}};
+//! By which rule each kind is read.
+ghost use Rattle.std.specs.Prelude.{{◌≡◌}};
+ghost use Rattle.syn_recognize.specs.Names as names;
 ghost use Rattle.syn_canon.specs.Kinds.{{rule_of}};
-ghost use Rattle.syn_canon.specs.Answers.{{IsPrinted, IsDerived, IsUnderived}};
 
-{imports(source, by_syn, "syn", kinds, [("crate::answer", "check"), ("crate::answer", "print"), ("crate::failure", "Failure"), ("crate::kind", "Kind"), ("syn::token", "TokenStream")])}
-/// What `print` writes of the tokens.
-pub(crate) fn print_as(kind: Kind, tokens: TokenStream) -> Result<String, Failure>
-    requires {{ visible tokens ≡ true }}
-    ensures ok {{ IfOk result (λ text. IsPrinted (rule_of kind) tokens (string_bytes text)) }}
-    ensures err {{ IfErr result (IsUnderived (rule_of kind) tokens) }}
+use crate::kind::Kind;
+use syn_recognize::Rule;
+
+/// The rule by which a kind is read.
+pub(crate) fn rule_by(kind: Kind) -> Rule
+    ensures {{ names.rule_of result ≡ rule_of kind }}
 {{
     match kind {{
-{arms("print")}    }}
-}}
-
-/// Whether the tokens are of the kind; no more is kept of them.
-pub(crate) fn check_as(kind: Kind, tokens: TokenStream) -> Result<(), Failure>
-    requires {{ visible tokens ≡ true }}
-    ensures ok {{ OnOk result (IsDerived (rule_of kind) tokens) }}
-    ensures err {{ IfErr result (IsUnderived (rule_of kind) tokens) }}
-{{
-    match kind {{
-{arms("check")}    }}
+{arms}    }}
 }}
 """
 

@@ -11,7 +11,7 @@ use Rattle.syn_grammar.specs.Promises as grammar
 use Rattle.syn_tokens.specs.Faults.{FaultValue, IsSyntaxError}
 use Rattle.syn_reader.specs.Spelling.{Spells, IsFaultWithin}
 use Rattle.syn_reader.specs.Texts.{text_of}
-use Rattle.syn.specs.Canonical.{IsCanonical}
+use Rattle.syn_answers.specs.Canonical.{IsCanonical}
 use Rattle.syn_canon.specs.declared.command.Command.{Command}
 use Rattle.syn_canon.specs.declared.command.Command.TheVariants.{Print, Check}
 use Rattle.syn_canon.specs.declared.failure.Failure.{Failure}

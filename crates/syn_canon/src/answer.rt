@@ -3,19 +3,20 @@ ghost use Rattle.std.specs.Prelude.{◌≡◌, ◌↔◌, true, Err, IfOk, IfErr
 ghost use Rattle.std.specs.Str.{IsUtf8};
 ghost use Rattle.std.specs.Io.KnownBytes.{IsAtEnd};
 ghost use Rattle.syn_grammar.specs.Tokens.{visible};
+ghost use Rattle.syn_canon.specs.Kinds.{rule_of};
 ghost use Rattle.syn_canon.specs.Words.{IsCommand, NoCommand};
 ghost use Rattle.syn_canon.specs.Answers.{IsRead, IsPrinted, IsDerived, IsAnswer, IsUnderived, IsUnread, IsNoAnswer};
 ghost use Rattle.syn_canon.specs.declared.failure.Failure.TheVariants.{Usage};
 
-use crate::by_kind::{check_as, print_as};
+use crate::by_kind::rule_by;
 use crate::command::Command;
 use crate::failure::Failure;
+use crate::kind::Kind;
 use std::alloc::Global;
 use std::io::Read;
-use syn::canon::{Canonical, canonical};
-use syn::parse::parse2;
-use syn::reader::{read_tokens, token_text};
-use syn::token::TokenStream;
+use syn_answers::answers::{canonical_by, derived_by};
+use syn_reader::reader::{read_tokens, token_text};
+use syn_tokens::stream::TokenStream;
 
 /// What the words ask of the text in `input`: the whole text that is to be written. The words are looked at before
 /// anything is read.
@@ -36,9 +37,9 @@ pub(crate) fn answer<R: Read>(
     // The tokens have texts of their own, and what follows wants memory.
     drop(text);
     match command {
-        Command::Print(kind) => print_as(kind, tokens),
+        Command::Print(kind) => print(kind, tokens),
         Command::Check(kind) => {
-            check_as(kind, tokens)?;
+            check(kind, tokens)?;
             Ok(String::from_str(alloc, "ok\n")?)
         }
     }
@@ -58,22 +59,21 @@ fn read_text<R: Read>(alloc: Global, input: &mut R) -> Result<String, Failure>
 }
 
 /// The canonical text, and a newline.
-pub(crate) fn print<T: Canonical + Drop>(tokens: TokenStream) -> Result<String, Failure>
+fn print(kind: Kind, tokens: TokenStream) -> Result<String, Failure>
     requires { visible tokens ≡ true }
-    ensures ok { IfOk result (λ text. IsPrinted T.rule tokens (string_bytes text)) }
-    ensures err { IfErr result (IsUnderived T.rule tokens) }
+    ensures ok { IfOk result (λ text. IsPrinted (rule_of kind) tokens (string_bytes text)) }
+    ensures err { IfErr result (IsUnderived (rule_of kind) tokens) }
 {
-    let mut text = token_text(&canonical::<T>(tokens)?)?;
+    let mut text = token_text(&canonical_by(rule_by(kind), tokens)?)?;
     text.push('\n')?;
     Ok(text)
 }
 
-/// Whether the tokens are of the type; no more is kept of them.
-pub(crate) fn check<T: Canonical + Drop>(tokens: TokenStream) -> Result<(), Failure>
+/// Whether the tokens are of the kind; no more is kept of them.
+fn check(kind: Kind, tokens: TokenStream) -> Result<(), Failure>
     requires { visible tokens ≡ true }
-    ensures ok { OnOk result (IsDerived T.rule tokens) }
-    ensures err { IfErr result (IsUnderived T.rule tokens) }
+    ensures ok { OnOk result (IsDerived (rule_of kind) tokens) }
+    ensures err { IfErr result (IsUnderived (rule_of kind) tokens) }
 {
-    let _value = parse2::<T>(tokens)?;
-    Ok(())
+    Ok(derived_by(rule_by(kind), tokens)?)
 }

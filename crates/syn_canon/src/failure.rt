@@ -7,7 +7,7 @@ ghost use Rattle.syn_canon.specs.declared.failure.Failure.TheVariants.{OutOfMemo
 use std::alloc::{AllocError, AllocFailed};
 use std::io::ErrorKind;
 use std::{fmt, io};
-use syn::error::Error;
+use syn_tokens::error::Error;
 
 /// Why a run ends without an answer.
 #[derive(Drop)]
