@@ -1,6 +1,7 @@
 pub mod Calls
 pub mod Form
 pub mod FirstTokens
+pub mod Firsts
 pub mod Listing
 pub mod Looked
 pub mod Meanings

@@ -28,6 +28,7 @@ use syn_tokens::token::{DelimiterKind, Delimiters};
 pub mod call;
 mod captures;
 mod custom;
+pub mod first;
 mod first_token;
 mod leaves;
 mod marks;
