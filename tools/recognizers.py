@@ -1,6 +1,6 @@
 #!/usr/bin/env python3
 """Writes the table of the grammar as data of crates/syn_recognize: src/rules.rt, src/rules/*.rt, src/shape.rt, src/words.rt,
-specs/Names.antt, specs/Parts.antt and proofs/Readable.antt.
+specs/Names.antt, specs/Parts.antt, proofs/Known.antt and proofs/Readable.antt.
 
 Run it at the top of the repository; what it writes is committed. With --check it writes nothing, and fails where a file
 isn't as it would write it. It formats what it writes by `rt fmt`."""
@@ -91,6 +91,7 @@ class Writer:
         self.told = {self.source.looks[name]: name for name in TOLD}
         self.texts = {text: name for name, text in reversed(self.source.texts.items())}
         self.rust = {text: name for name, text, *_ in DECLARATIONS + EXPRESSIONS + OTHERS + MARKS + LONG_MARKS}
+        self.spelled = {name: text for text, name in self.rust.items()}
         self.words, self.marks, self.shapes, self.variants = set(), set(), set(), set()
         self.uses, self.parts = set(), []
         self.rule = None
@@ -273,6 +274,7 @@ class Writer:
         out['src/words.rt'] = self.words_file()
         out['specs/Names.antt'] = self.names_file(topics)
         out['specs/Parts.antt'] = self.parts_file()
+        out['proofs/Known.antt'] = self.known_file()
         out['proofs/Readable.antt'] = self.readable_file([k for _, _, rules in topics for k in rules], self.rules(DEFERRED))
         return {name: '\n'.join(lines) for name, lines in out.items()}
 
@@ -320,21 +322,36 @@ class Writer:
         function = lambda sentence, head, promise, kind, names, arm: [
             f'/// {sentence}', f'pub(crate) fn {head}', f'    ensures {{ {promise} }}', '{', f'    match {"it" if "(it:" in head else kind.lower()} {{',
             *[f'        {kind}::{name} => {arm.format(name)},' for name in names], '    }', '}', '']
+        keywords = self.source.value('keywords')
         look = ('{}, input: &ParseBuffer<\'_>) -> bool', 'input.peek::<{}>()')
         copy = ('{}, out: &mut Writer, input: &mut ParseBuffer<\'_>) -> Parsed<()>', 'copy::<{}>(out, input)')
         copies = 'Copies IsSyntax out.old ({}) result out.new input.new'
         return [
             f'//! {WRITTEN}', '//!', '//! Words and marks as data.', 'ghost use Rattle.std.specs.Prelude.{◌≡◌};',
-            'ghost use Rattle.syn_grammar.specs.Tokens as grammar;', 'ghost use Rattle.syn_grammar.specs.Grammar.{word};', 'ghost use Rattle.syn_grammar.specs.Take.{sees, take_token, take_mark};',
+            'ghost use Rattle.syn_grammar.specs.Tokens as grammar;', 'ghost use Rattle.syn_grammar.specs.Tokens.{one_of_texts};', 'ghost use Rattle.syn_grammar.specs.Words.{keywords};', 'ghost use Rattle.syn_grammar.specs.Grammar.{word};', 'ghost use Rattle.syn_grammar.specs.Take.{sees, take_token, take_mark};',
             'ghost use Rattle.syn_parse.specs.Refusals.{IsSyntax};', 'ghost use Rattle.syn_recognize.specs.Copies.{Copies};',
-            'ghost use Rattle.syn_recognize.specs.Names.{word_text, mark_text};', '', 'use crate::token::copy;', 'use crate::writer::Writer;',
+            'ghost use Rattle.syn_recognize.specs.May as may;', 'ghost use Rattle.syn_recognize.specs.May.{head_of};', 'ghost use Rattle.syn_recognize.specs.Names.{word_text, mark_text};', '', 'use crate::token::copy;', 'use crate::writer::Writer;',
             'use syn_parse::buffer::ParseBuffer;', 'use syn_parse::read::refusal::Parsed;', 'use syn_tokens::token;', '',
             '/// A word.', '#[derive(Clone, Copy)]', 'pub enum Word {', *[f'    {name},' for name in words], '}', '',
             '/// A mark.', '#[derive(Clone, Copy)]', 'pub enum Mark {', *[f'    {name},' for name in marks], '}', '',
             *function('Whether this word stands next.', 'at_word(' + look[0].format('word: Word'), 'result ≡ sees (grammar.at_word (word_text word)) input.now', 'Word', words, look[1].format('token::{}')),
             *function('Whether this mark stands next.', 'at_mark(' + look[0].format('mark: Mark'), 'result ≡ sees (grammar.at_mark (mark_text mark)) input.now', 'Mark', marks, look[1].format('token::{}')),
             *function('Reads and writes this word.', 'copy_word(' + copy[0].format('it: Word'), copies.format('take_token (word (word_text it)) input.old'), 'Word', words, copy[1].format('token::{}')),
-            *function('Reads and writes this mark.', 'copy_mark(' + copy[0].format('mark: Mark'), copies.format('take_mark (mark_text mark) input.old'), 'Mark', marks, copy[1].format('token::{}'))]
+            *function('Reads and writes this mark.', 'copy_mark(' + copy[0].format('mark: Mark'), copies.format('take_mark (mark_text mark) input.old'), 'Mark', marks, copy[1].format('token::{}')),
+            '/// Whether this word is a keyword, and no word that is one at some places alone.', 'pub(crate) fn is_known(word: Word) -> bool', '    ensures { result ≡ one_of_texts (word_text word) keywords }', '{', '    match word {',
+            *[f'        Word::{name} => {str(self.spelled[name] in keywords).lower()},' for name in words], '    }', '}', '',
+            '/// The first character of this mark.', 'pub(crate) fn first_of(mark: Mark) -> char', '    ensures { result ≡ head_of (mark_text mark) }', '{', '    match mark {',
+            *[f"        Mark::{name} => '{self.spelled[name][0]}'," for name in marks], '    }', '}', '',
+            '/// Whether this mark has one character alone.', 'pub(crate) fn is_one(mark: Mark) -> bool', '    ensures { result ≡ may.is_one (mark_text mark) }', '{', '    match mark {',
+            *[f'        Mark::{name} => {str(len(self.spelled[name]) == 1).lower()},' for name in marks], '    }', '}', '']
+
+    def known_file(self):
+        at = 'Rattle.syn_recognize.specs.declared.words.Mark'
+        marks = sorted(self.rust[text] for text in self.marks)
+        return [
+            f'-- {WRITTEN}', '-- What one look at the next token tree tells marks by: each has a first character.', 'use Rattle.std.proofs.Common.{◌≡◌, false, refl}',
+            'use Rattle.syn_recognize.specs.May.{is_empty_text}', 'use Rattle.syn_recognize.specs.Names.{mark_text}', f'use {at}.{{Mark}}', f'use {at}.TheVariants as Mark-m', '',
+            'pub known_mark : (m : Mark) → is_empty_text (mark_text m) ≡ false', *[f'known_mark Mark-m.{name} = refl' for name in marks], '']
 
     def names_file(self, topics):
         at = 'Rattle.syn_recognize.specs.declared'

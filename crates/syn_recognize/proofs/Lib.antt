@@ -28,3 +28,7 @@ pub mod Restricted
 pub mod Nameless
 pub mod PathLooks
 pub mod ExpressionLooks
+pub mod Known
+pub mod May
+pub mod Ladder
+pub mod Opened

@@ -15,6 +15,9 @@ pub mod LoneLiterals
 pub mod Quiet
 pub mod Copies
 pub mod Unions
+pub mod May
+pub mod Ladder
+pub mod Opens
 pub mod Steps
 pub mod Printed
 pub mod Parts

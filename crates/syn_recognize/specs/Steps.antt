@@ -1,10 +1,12 @@
 -- WHAT IS STILL TO BE DONE, as a function from what is written and left before to what is written and left behind it.
-use Rattle.std.specs.Prelude.{◌≡◌, List, [], ◌∷◌, Result, Ok, Err}
+use Rattle.std.specs.Prelude.{◌≡◌, ◌-◌, List, [], ◌∷◌, Result, Ok, Err}
 use Rattle.syn_grammar.specs.Tokens.{Stream}
+use Rattle.syn_grammar.specs.Grammar.{Grammar}
 use Rattle.syn_tokens.specs.Spans.{at}
 use Rattle.syn_recognize.specs.Forms.{grammar_of}
 use Rattle.syn_recognize.specs.Written.{Written}
 use Rattle.syn_recognize.specs.Copies.{Copy, Reached, Refused, Leads, next, closing, forgetting, returning, capturing, copy_form, copy_row, after_member, copy_others, after_other, after_late, by_braces}
+use Rattle.syn_recognize.specs.Ladder.{climb}
 use Rattle.syn_recognize.specs.declared.step.Step.{Step}
 use Rattle.syn_recognize.specs.declared.step.Step.TheVariants as Step-m
 
@@ -21,6 +23,7 @@ after (Step-m.Skip k b l) o = next o (after_late k l b.value)
 after (Step-m.Forget b) o = next o (forgetting b.value)
 after (Step-m.Capture b ts) o = next o (capturing b.value ts)
 after (Step-m.ByBraces f g) o = next o (by_braces (grammar_of f.now) (grammar_of g.now))
+after (Step-m.Levels a b) o = next o (climb (b - a) a)
 
 -- all steps, the last of the list first
 unfoldable pub todo : List Step → Copy → Copy
@@ -41,3 +44,17 @@ Guessing refusal old out (Err e) new w ts = refusal e → out ≡ Refused
 abbrev pub Runs : {E : Type 0} → (E → Type 0) → Copy → Result (Unit {0}) E → Written → Stream → Type 0
 Runs refusal out (Ok x) w ts = out ≡ Reached w ts
 Runs refusal out (Err e) w ts = refusal e → out ≡ Refused
+
+-- the same of several steps: nothing is read by all that was to be done
+abbrev pub Reads : {E : Type 0} → (E → Type 0) → List Step → Copy → Result (Unit {0}) E → List Step → Written → Stream → Type 0
+Reads refusal old out (Ok x) new w ts = todo old out ≡ todo new (Reached w ts)
+Reads refusal old out (Err e) new w ts = refusal e → todo old out ≡ Refused
+
+-- and where one of them may begin with a guess
+abbrev pub Leading : {E : Type 0} → (E → Type 0) → List Step → Copy → Result (Unit {0}) E → List Step → Written → Stream → Type 0
+Leading refusal old out (Ok x) new w ts = Leads (todo old out) (todo new (Reached w ts))
+Leading refusal old out (Err e) new w ts = refusal e → todo old out ≡ Refused
+
+-- what was to be done is what is still to be done once this form is read
+pub record GoesOn (old : List Step) (out : Copy) (new : List Step) (g : Grammar) (w : Written) (ts : Stream) : Type 0 where
+  pub same : todo old out ≡ todo new (copy_form g w ts)

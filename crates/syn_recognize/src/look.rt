@@ -2,16 +2,23 @@
 ghost use Rattle.std.specs.Prelude.{◌≡◌};
 ghost use Rattle.syn_grammar.specs.Promises.{OrMemory};
 ghost use Rattle.syn_grammar.specs.Tokens as grammar;
+ghost use Rattle.syn_grammar.specs.Tokens.{one_of_texts};
+ghost use Rattle.syn_grammar.specs.Words.{keywords};
 ghost use Rattle.syn_grammar.specs.Take.{sees};
 ghost use Rattle.syn_grammar.specs.Table as table;
 ghost use Rattle.syn_tokens.specs.Delimiters.{delimiter_of};
 ghost use Rattle.syn_parse.specs.Refusals.{IsSyntax};
-ghost use Rattle.syn_recognize.specs.Names.{look_of};
+ghost use Rattle.syn_parse.specs.Firsts.{Begins};
+ghost use Rattle.syn_recognize.specs.Names.{look_of, mark_text, word_text};
+ghost use Rattle.syn_recognize.specs.May as may;
+ghost use Rattle.syn_recognize.specs.May.{head_of};
+ghost use Rattle.syn_recognize.specs.declared.look.Look.TheVariants.{PredicateEnd, Unfinished};
 
 use crate::expression_looks::{at_block_like, at_postfix_mark, at_unfinished, at_whole_expression};
 use crate::looks;
-use crate::words::{Mark, Word, at_mark, at_word};
+use crate::words::{Mark, Word, at_mark, at_word, first_of, is_known, is_one};
 use syn_parse::buffer::ParseBuffer;
+use syn_parse::buffer::first::First;
 use syn_parse::read::refusal::Parsed;
 use syn_tokens::delimiter::Delimiter;
 use syn_tokens::ident::Ident;
@@ -133,4 +140,245 @@ fn at_lone_colon(input: &ParseBuffer<'_>) -> bool
     ensures { result ≡ sees table.at_lone_colon input.now }
 {
     input.peek::<token::Colon>() && !input.peek::<token::PathSep>()
+}
+
+// WHAT ONE LOOK TELLS
+
+/// Whether this character of a mark stands next.
+pub(crate) fn is_mark(character: char, next: First) -> bool
+    ensures { result ≡ may.is_mark character next }
+{
+    match next {
+        First::Mark(c) => character == c,
+        First::Ended => false,
+        First::Name => false,
+        First::Keyword => false,
+        First::Literal => false,
+        First::Group(_) => false,
+    }
+}
+
+/// Whether a keyword stands next.
+pub(crate) fn is_keyword(next: First) -> bool
+    ensures { result ≡ may.is_keyword next }
+{
+    match next {
+        First::Keyword => true,
+        First::Ended => false,
+        First::Name => false,
+        First::Literal => false,
+        First::Mark(_) => false,
+        First::Group(_) => false,
+    }
+}
+
+/// Whether an identifier that is no keyword stands next.
+fn is_name(next: First) -> bool
+    ensures { result ≡ may.is_name next }
+{
+    match next {
+        First::Name => true,
+        First::Ended => false,
+        First::Keyword => false,
+        First::Literal => false,
+        First::Mark(_) => false,
+        First::Group(_) => false,
+    }
+}
+
+/// Whether a literal stands next.
+fn is_literal(next: First) -> bool
+    ensures { result ≡ may.is_literal next }
+{
+    match next {
+        First::Literal => true,
+        First::Ended => false,
+        First::Name => false,
+        First::Keyword => false,
+        First::Mark(_) => false,
+        First::Group(_) => false,
+    }
+}
+
+/// Whether nothing stands next.
+fn is_ended(next: First) -> bool
+    ensures { result ≡ may.is_ended next }
+{
+    match next {
+        First::Ended => true,
+        First::Name => false,
+        First::Keyword => false,
+        First::Literal => false,
+        First::Mark(_) => false,
+        First::Group(_) => false,
+    }
+}
+
+/// Whether a group with these delimiters stands next.
+pub(crate) fn is_group(delimiter: Delimiter, next: First) -> bool
+    ensures { result ≡ may.is_group (delimiter_of delimiter) next }
+{
+    match next {
+        First::Group(d) => delimiter == d,
+        First::Ended => false,
+        First::Name => false,
+        First::Keyword => false,
+        First::Literal => false,
+        First::Mark(_) => false,
+    }
+}
+
+/// Whether a group stands next.
+fn is_any_group(next: First) -> bool
+    ensures { result ≡ may.is_any_group next }
+{
+    match next {
+        First::Group(_) => true,
+        First::Ended => false,
+        First::Name => false,
+        First::Keyword => false,
+        First::Literal => false,
+        First::Mark(_) => false,
+    }
+}
+
+/// Whether a keyword stands next, where this word is one; else whether another name does.
+fn is_of_kind(word: Word, next: First) -> bool
+    ensures { result ≡ may.is_word (one_of_texts (word_text word) keywords) next }
+{
+    if is_known(word) {
+        is_keyword(next)
+    } else {
+        is_name(next)
+    }
+}
+
+/// Whether a mark stands next that begins as this one does.
+fn is_begun(mark: Mark, next: First) -> bool
+    ensures { result ≡ may.is_mark (head_of (mark_text mark)) next }
+{
+    is_mark(first_of(mark), next)
+}
+
+/// Whether the look may hold where this stands next: where not, nothing else has to be looked at.
+fn may_hold(look: &Look, next: First) -> bool
+    ensures { result ≡ may.may_hold look.now next }
+{
+    match look {
+        Look::Ended => is_ended(next),
+        Look::Name => is_name(next),
+        Look::Word(word) => is_of_kind(*word, next),
+        Look::Mark(mark) => is_begun(*mark, next),
+        Look::Group(delimiter) => is_group(*delimiter, next),
+        Look::Or(one, other) => may_hold(one, next) || may_hold(other, next),
+        Look::But(one, _) => may_hold(one, next),
+        Look::Integer => is_literal(next),
+        Look::AnyLiteral => is_literal(next),
+        Look::Lifetime => is_mark('\'', next),
+        Look::InnerAttribute => is_mark('#', next),
+        Look::Arguments => {
+            is_mark('<', next) || is_group(Delimiter::Paren, next) || is_mark(':', next)
+        }
+        Look::Association => is_name(next),
+        Look::Turbofish => is_mark(':', next),
+        Look::PathWord => is_name(next) || is_keyword(next),
+        Look::PatternPath => {
+            is_mark(':', next) || is_mark('<', next) || is_keyword(next) || is_name(next)
+        }
+        Look::Macro => is_name(next) || is_keyword(next) || is_mark(':', next),
+        Look::BraceMacro => is_name(next) || is_keyword(next) || is_mark(':', next),
+        Look::LoneCrate => is_keyword(next),
+        Look::CrateMacro => is_keyword(next),
+        Look::Bang => is_mark('!', next),
+        Look::PostfixMark => is_mark('?', next) || is_mark('.', next),
+        Look::BlockLike => {
+            is_group(Delimiter::Brace, next) || is_mark('\'', next) || is_keyword(next)
+        }
+        Look::WholeExpression => true,
+        Look::Unfinished => may_go_on(next),
+        Look::EmptyGroup => is_any_group(next),
+        Look::Restriction => is_group(Delimiter::Paren, next),
+        Look::NamelessFields => is_keyword(next) || is_name(next),
+        Look::ParameterEnd => is_mark(',', next) || is_mark('>', next) || is_mark('=', next),
+        Look::PredicateEnd => may_end_predicate(next),
+    }
+}
+
+/// Whether a postfix or a comparison may stand next.
+pub(crate) fn may_go_on(next: First) -> bool
+    ensures { result ≡ may.may_hold Unfinished next }
+{
+    is_group(Delimiter::Paren, next)
+        || is_group(Delimiter::Bracket, next)
+        || is_mark('?', next)
+        || is_mark('.', next)
+        || is_mark('=', next)
+        || is_mark('!', next)
+        || is_mark('<', next)
+        || is_mark('>', next)
+}
+
+/// Whether what ends a where clause, or the bounds of its predicates, may stand next.
+fn may_end_predicate(next: First) -> bool
+    ensures { result ≡ may.may_hold PredicateEnd next }
+{
+    is_ended(next)
+        || is_group(Delimiter::Brace, next)
+        || is_mark(',', next)
+        || is_mark(';', next)
+        || is_mark('=', next)
+        || is_mark(':', next)
+}
+
+/// Whether one look tells of the condition all that there is to tell.
+fn tells(look: &Look) -> bool
+    ensures { result ≡ may.tells look.now }
+{
+    match look {
+        Look::Ended => true,
+        Look::Name => true,
+        Look::AnyLiteral => true,
+        Look::Group(_) => true,
+        Look::Mark(mark) => is_one(*mark),
+        Look::Word(_) => false,
+        Look::Or(_, _) => false,
+        Look::But(_, _) => false,
+        Look::Integer => false,
+        Look::Lifetime => false,
+        Look::InnerAttribute => false,
+        Look::Arguments => false,
+        Look::Association => false,
+        Look::Turbofish => false,
+        Look::PathWord => false,
+        Look::PatternPath => false,
+        Look::Macro => false,
+        Look::BraceMacro => false,
+        Look::LoneCrate => false,
+        Look::CrateMacro => false,
+        Look::Bang => false,
+        Look::PostfixMark => false,
+        Look::BlockLike => false,
+        Look::WholeExpression => false,
+        Look::Unfinished => false,
+        Look::EmptyGroup => false,
+        Look::Restriction => false,
+        Look::NamelessFields => false,
+        Look::ParameterEnd => false,
+        Look::PredicateEnd => false,
+    }
+}
+
+/// Whether the look holds of what stands next, which is this. Refused only where memory is.
+#[tactic(auto, using(crate::proofs::May::look_not, crate::proofs::May::look_sure))]
+pub(crate) fn holds_next(look: &Look, next: First, input: &ParseBuffer<'_>) -> Parsed<bool>
+    requires { Begins next input.now }
+    ensures { OrMemory IsSyntax result (λ answer. answer ≡ sees (look_of look.now) input.now) }
+{
+    if !may_hold(look, next) {
+        return Ok(false);
+    }
+    if tells(look) {
+        return Ok(true);
+    }
+    holds(look, input)
 }

@@ -30,6 +30,8 @@ pub enum Step<'a> {
     Forget(Box<Writer>),
     /// The same, and writes what was read from there on, as it is.
     Capture(Box<Writer>, ParseBuffer<'a>),
+    /// Reads the levels of operators from the first number on, those that bind most tightly first, up to the second.
+    Levels(usize, usize),
     /// Reads the first form where a group in braces was read last, else the second.
     ByBraces(&'static Form, &'static Form),
 }

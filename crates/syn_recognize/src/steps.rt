@@ -1,5 +1,5 @@
 //! What each step does.
-ghost use Rattle.std.specs.Prelude.{◌≡◌, OnOk};
+ghost use Rattle.std.specs.Prelude.{◌≡◌, ◌<◌, ◌-◌, [], ◌∷◌, ◌++◌, MatchOption, OnOk};
 ghost use Rattle.syn_grammar.specs.Promises.{OrMemory};
 ghost use Rattle.syn_grammar.specs.Tokens.{end};
 ghost use Rattle.syn_grammar.specs.Grammar as grammar;
@@ -11,28 +11,33 @@ ghost use Rattle.syn_tokens.specs.Spans.{at};
 ghost use Rattle.syn_parse.specs.Refusals.{IsSyntax};
 ghost use Rattle.syn_recognize.specs.Forms.{grammar_of, kind_of};
 ghost use Rattle.syn_recognize.specs.Parts.{part_form};
-ghost use Rattle.syn_recognize.specs.Names.{look_of, mark_text, rule_of, shape_of};
+ghost use Rattle.syn_recognize.specs.Names.{look_of, mark_text, rule_of};
 ghost use Rattle.syn_recognize.specs.Copies as copies;
 ghost use Rattle.syn_recognize.specs.Copies.{Copies, Reached, copy_form, by_braces};
 ghost use Rattle.syn_recognize.specs.Unions.{union_form};
-ghost use Rattle.syn_recognize.specs.Steps.{Steps, Guessing, Runs, after};
+ghost use Rattle.syn_parse.specs.Firsts.{Begins};
+ghost use Rattle.syn_recognize.specs.Ladder.{climb};
+ghost use Rattle.syn_recognize.specs.declared.step.Step.TheVariants.{Levels};
+ghost use Rattle.syn_recognize.specs.Steps.{Steps, Guessing, GoesOn, Leading, Reads, Runs, after};
 
 use crate::aside::{capture, forget, read_captured, read_hidden};
 use crate::fading::{read_fading, read_generics};
 use crate::fault::Fault;
 use crate::form::Form;
-use crate::look::{Look, holds};
+use crate::levels::{behind, first_level, height_of};
+use crate::look::{Look, holds_next};
+use crate::operands::{opened, operand};
 use crate::rows::{
     note, read_ordered, read_others, read_others_rest, read_row, read_row_rest, skip_late,
 };
 use crate::rules::{Part, Rule, form_of, form_of_part};
-use crate::shape::Shape;
 use crate::step::Step;
 use crate::token::{copy, copy_token};
 use crate::unions::{Union, form_of_union};
 use crate::words::{Mark, copy_mark};
 use crate::writer::Writer;
 use syn_parse::buffer::ParseBuffer;
+use syn_parse::buffer::first::First;
 use syn_parse::read::refusal::{Parsed, Refusal};
 use syn_tokens::delimiter::Delimiter;
 use syn_tokens::lifetime::Lifetime;
@@ -40,9 +45,28 @@ use syn_tokens::span::Span;
 use syn_tokens::stream::TokenStream;
 use syn_tokens::token::{DelimiterKind, kind};
 
-/// Does one step.
-#[tactic(auto, using(crate::proofs::Todo::guessing))]
+static EMPTY: Form = Form::Empty;
+
+/// Does one step, and those behind it up to the next token.
+#[tactic(auto, using(crate::proofs::Todo::reads_lead, crate::proofs::Todo::guessing_leads))]
 pub(crate) fn take<'a>(
+    step: Step<'a>,
+    steps: &mut Vec<Step<'a>>,
+    out: &mut Writer,
+    input: &mut ParseBuffer<'a>,
+) -> Parsed<()>
+    ensures { Leading IsSyntax steps.old.items (after step.entry (Reached out.old input.old)) result steps.new.items out.new input.new }
+{
+    match step {
+        Step::Form(form) => read_form(form, steps, out, input),
+        Step::Levels(from, to) => read_levels(from, to, steps, out, input),
+        other => take_other(other, steps, out, input),
+    }
+}
+
+/// Does a step that isn't to read a form, or levels.
+#[tactic(auto, using(crate::proofs::Todo::guessing))]
+fn take_other<'a>(
     step: Step<'a>,
     steps: &mut Vec<Step<'a>>,
     out: &mut Writer,
@@ -51,7 +75,8 @@ pub(crate) fn take<'a>(
     ensures { Guessing IsSyntax steps.old.items (after step.entry (Reached out.old input.old)) result steps.new.items out.new input.new }
 {
     match step {
-        Step::Form(form) => read_form(form, steps, out, input),
+        Step::Form(_) => Err(Refusal::Memory),
+        Step::Levels(_, _) => Err(Refusal::Memory),
         Step::Close(delimiter, closing, rest) => leave(delimiter, closing, &rest, out, input),
         Step::Row(list, number) => read_row(list, number, steps, out, input),
         Step::RowRest(list, number) => read_row_rest(list, number, steps, out, input),
@@ -65,9 +90,246 @@ pub(crate) fn take<'a>(
     }
 }
 
-/// Reads a form, or says what is to be read for it.
-#[tactic(auto, unfolding(crate::specs::Copies::copy_form))]
+/// Reads the levels that stand behind an operand, from the first number on up to the second: the first of them that may read something.
+fn read_levels<'a>(
+    from: usize,
+    to: usize,
+    steps: &mut Vec<Step<'a>>,
+    out: &mut Writer,
+    input: &mut ParseBuffer<'a>,
+) -> Parsed<()>
+    ensures { Reads IsSyntax steps.old.items (climb (to - from) from out.old input.old) result steps.new.items out.new input.new }
+{
+    let level = first_level(from, to, input.first());
+    if level < to {
+        return read_level(level, to, steps, out, input);
+    }
+    Ok(())
+}
+
+/// Reads a level, and puts off those behind it.
+#[tactic(auto, using(crate::proofs::Todo::goes_read, crate::proofs::Todo::goes_first, crate::proofs::Ladder::begun))]
+fn read_level<'a>(
+    level: usize,
+    to: usize,
+    steps: &mut Vec<Step<'a>>,
+    out: &mut Writer,
+    input: &mut ParseBuffer<'a>,
+) -> Parsed<()>
+    requires { level < to }
+    ensures { Reads IsSyntax steps.old.items (climb (to - level) level out.old input.old) result steps.new.items out.new input.new }
+{
+    let Some(form) = behind(level) else {
+        return Err(Refusal::Memory);
+    };
+    steps.push(Step::Levels(level + 1, to))?;
+    read_form(form, steps, out, input)
+}
+
+/// Reads a form, or says what is to be read for it; where nothing is to be read for it, the same of what was put off.
+#[tactic(auto, using(crate::proofs::Todo::goes_read, crate::proofs::Todo::steps_read))]
 fn read_form<'a>(
+    form: &'static Form,
+    steps: &mut Vec<Step<'a>>,
+    out: &mut Writer,
+    input: &mut ParseBuffer<'a>,
+) -> Parsed<()>
+    ensures { Reads IsSyntax steps.old.items (copy_form (grammar_of form.now) out.old input.old) result steps.new.items out.new input.new }
+{
+    let first = descend(form, steps, out, input)?;
+    read_leaf(first, steps, out, input)
+}
+
+/// Goes down to the first form that reads something itself, and puts off what follows it. Refused only where memory is.
+#[tactic(auto, using(crate::proofs::Todo::goes_here))]
+fn descend<'a>(
+    form: &'static Form,
+    steps: &mut Vec<Step<'a>>,
+    out: &Writer,
+    input: &ParseBuffer<'a>,
+) -> Parsed<&'static Form>
+    ensures { OrMemory IsSyntax result (λ first. GoesOn steps.old.items (copy_form (grammar_of form.now) out.now input.now) steps.new.items (grammar_of first.now) out.now input.now) }
+{
+    let next = input.first();
+    let mut form = form;
+    'down: for _level in 0..u64::MAX {
+        match below(form, next, steps, out, input)? {
+            Some(first) => form = first,
+            None => match resumed(form, next, steps, out, input)? {
+                Some(first) => form = first,
+                None => return Ok(form),
+            },
+        }
+    }
+    Err(Refusal::Memory)
+}
+
+/// Behind a form that reads nothing: the form that was put off last, where that is one.
+#[tactic(auto, using(crate::proofs::Copied::empty_is, crate::proofs::Copied::unshown_is))]
+fn resumed<'a>(
+    form: &'static Form,
+    next: First,
+    steps: &mut Vec<Step<'a>>,
+    out: &Writer,
+    input: &ParseBuffer<'a>,
+) -> Parsed<Option<&'static Form>>
+    requires { Begins next input.now }
+    ensures { OrMemory IsSyntax result (λ found. MatchOption found (steps.new.items ≡ steps.old.items) (λ first. GoesOn steps.old.items (copy_form (grammar_of form.now) out.now input.now) steps.new.items (grammar_of first.now) out.now input.now)) }
+{
+    match form {
+        Form::Empty => next_form(next, steps, out, input),
+        Form::Unshown => next_form(next, steps, out, input),
+        _ => Ok(None),
+    }
+}
+
+/// The form that was put off last, where that is one; of levels that were, what the first of them reads that may read something.
+#[tactic(auto, using(crate::proofs::Todo::goes_back))]
+fn next_form<'a>(
+    next: First,
+    steps: &mut Vec<Step<'a>>,
+    out: &Writer,
+    input: &ParseBuffer<'a>,
+) -> Parsed<Option<&'static Form>>
+    requires { Begins next input.now }
+    ensures { OrMemory IsSyntax result (λ found. MatchOption found (steps.new.items ≡ steps.old.items) (λ first. GoesOn steps.old.items (Reached out.now input.now) steps.new.items (grammar_of first.now) out.now input.now)) }
+{
+    let Some(step) = steps.pop() else {
+        return Ok(None);
+    };
+    match step {
+        Step::Form(form) => Ok(Some(form)),
+        Step::Levels(from, to) => Ok(Some(next_level(from, to, next, steps, out, input)?)),
+        other => {
+            steps.push(other)?;
+            Ok(None)
+        }
+    }
+}
+
+/// What the first level reads that may read something; the others are put off.
+#[tactic(auto, using(crate::proofs::Ladder::goes_up, crate::proofs::Ladder::goes_past))]
+fn next_level<'a>(
+    from: usize,
+    to: usize,
+    next: First,
+    steps: &mut Vec<Step<'a>>,
+    _out: &Writer,
+    _input: &ParseBuffer<'a>,
+) -> Parsed<&'static Form>
+    requires { Begins next _input.now }
+    ensures { OrMemory IsSyntax result (λ first. GoesOn (steps.old.items ++ Levels from to ∷ []) (Reached _out.now _input.now) steps.new.items (grammar_of first.now) _out.now _input.now) }
+{
+    let level = first_level(from, to, next);
+    if to <= level {
+        return Ok(&EMPTY);
+    }
+    let Some(form) = behind(level) else {
+        return Err(Refusal::Memory);
+    };
+    steps.push(Step::Levels(level + 1, to))?;
+    Ok(form)
+}
+
+/// The form that begins where this one does, of those that it is made of, where it is made of some; what follows that is put off.
+/// Refused only where memory is.
+#[tactic(auto, using(crate::proofs::Todo::goes_here, crate::proofs::Copied::shaped_is))]
+fn below<'a>(
+    form: &'static Form,
+    next: First,
+    steps: &mut Vec<Step<'a>>,
+    out: &Writer,
+    input: &ParseBuffer<'a>,
+) -> Parsed<Option<&'static Form>>
+    requires { Begins next input.now }
+    ensures { OrMemory IsSyntax result (λ found. MatchOption found (steps.new.items ≡ steps.old.items) (λ first. GoesOn steps.old.items (copy_form (grammar_of form.now) out.now input.now) steps.new.items (grammar_of first.now) out.now input.now)) }
+{
+    match form {
+        Form::Then(one, other) => Ok(Some(put_off(one, other, steps, out, input)?)),
+        Form::When(look, one, other) => Ok(Some(choose(look, one, other, next, out, input)?)),
+        Form::Rule(rule) => Ok(Some(begin_rule(*rule, next, steps, out, input)?)),
+        Form::Part(part) => Ok(Some(begin_part(*part, out, input))),
+        Form::Union(union) => Ok(Some(begin_union(*union, out, input))),
+        Form::Shaped(_, part) => Ok(Some(part)),
+        _ => Ok(None),
+    }
+}
+
+/// Goes on with the first of two forms, and puts off the second.
+#[tactic(auto, using(crate::proofs::Todo::goes_first, crate::proofs::Copied::then_is))]
+fn put_off<'a>(
+    one: &'static Form,
+    other: &'static Form,
+    steps: &mut Vec<Step<'a>>,
+    out: &Writer,
+    input: &ParseBuffer<'a>,
+) -> Parsed<&'static Form>
+    ensures { OrMemory IsSyntax result (λ first. GoesOn steps.old.items (copy_form (grammar_of one.now & grammar_of other.now) out.now input.now) steps.new.items (grammar_of first.now) out.now input.now) }
+{
+    steps.push(Step::Form(other))?;
+    Ok(one)
+}
+
+/// The form of a part.
+#[tactic(auto, unfolding(crate::specs::Copies::copy_form))]
+fn begin_part(part: Part, out: &Writer, input: &ParseBuffer<'_>) -> &'static Form
+    ensures { copy_form (part_form part) out.now input.now ≡ copy_form (grammar_of result.now) out.now input.now }
+{
+    form_of_part(part)
+}
+
+/// A form of which the same is written as of a union of rules that begin alike.
+#[tactic(auto, using(crate::proofs::Alike::alike_is))]
+fn begin_union(union: Union, out: &Writer, input: &ParseBuffer<'_>) -> &'static Form
+    ensures { copy_form (union_form union) out.now input.now ≡ copy_form (grammar_of result.now) out.now input.now }
+{
+    form_of_union(union)
+}
+
+/// Chooses a form by what stands next, which is this.
+#[tactic(auto, using(crate::proofs::Copied::when_is))]
+fn choose(
+    look: &Look,
+    one: &'static Form,
+    other: &'static Form,
+    next: First,
+    out: &Writer,
+    input: &ParseBuffer<'_>,
+) -> Parsed<&'static Form>
+    requires { Begins next input.now }
+    ensures { OrMemory IsSyntax result (λ first. copy_form (when (look_of look.now) then (grammar_of one.now) else (grammar_of other.now)) out.now input.now ≡ copy_form (grammar_of first.now) out.now input.now) }
+{
+    if holds_next(look, next, input)? {
+        Ok(one)
+    } else {
+        Ok(other)
+    }
+}
+
+/// Goes on with the form of a rule; of an operand with levels behind it with that of a unary one, and puts off the levels.
+#[tactic(auto, using(crate::proofs::Opened::goes_opened))]
+fn begin_rule<'a>(
+    rule: Rule,
+    next: First,
+    steps: &mut Vec<Step<'a>>,
+    out: &Writer,
+    input: &ParseBuffer<'a>,
+) -> Parsed<&'static Form>
+    requires { Begins next input.now }
+    ensures { OrMemory IsSyntax result (λ first. GoesOn steps.old.items (copy_form (grammar.rule (rule_of rule)) out.now input.now) steps.new.items (grammar_of first.now) out.now input.now) }
+{
+    match height_of(rule) {
+        Some(height) => {
+            steps.push(Step::Levels(0, height))?;
+            Ok(operand(next))
+        }
+        None => Ok(opened(rule, next)),
+    }
+}
+
+/// Reads a form that isn't made of another that begins where it does.
+#[tactic(auto, unfolding(crate::specs::Copies::copy_form))]
+fn read_leaf<'a>(
     form: &'static Form,
     steps: &mut Vec<Step<'a>>,
     out: &mut Writer,
@@ -82,101 +344,23 @@ fn read_form<'a>(
         Form::Mark(mark) => copy_mark(*mark, out, input),
         Form::MarkElse(mark, fault) => copy_mark_else(*mark, *fault, out, input),
         Form::Lifetime => copy::<Lifetime>(out, input),
-        Form::Then(one, other) => read_both(one, other, steps, out, input),
-        Form::When(look, one, other) => choose(look, one, other, steps, out, input),
         Form::Inside(delimiter, content) => enter(*delimiter, content, steps, out, input),
         Form::Raw(delimiter) => copy_group(*delimiter, out, input),
         Form::RestAfter(mark) => copy_rest(*mark, out, input),
-        Form::Rule(rule) => read_rule(*rule, steps, out, input),
-        Form::Part(part) => read_part(*part, steps, out, input),
-        Form::Shaped(shape, part) => read_shaped(*shape, part, steps, out, input),
         Form::Unshown => Ok(()),
         Form::Ordered(list) => read_ordered(*list, steps, out, input),
         Form::Generics => read_generics(steps, out, input),
         Form::Fading(part) => read_fading(*part, steps, out, input),
         Form::Hidden(look, form) => read_hidden(look, form, steps, out, input),
         Form::Captured(form) => read_captured(form, steps, out, input),
-        Form::Union(union) => read_union(*union, steps, out, input),
         Form::ByBraces(one, other) => read_value(one, other, steps, out, input),
+        Form::Then(_, _) => Err(Refusal::Memory),
+        Form::When(_, _, _) => Err(Refusal::Memory),
+        Form::Rule(_) => Err(Refusal::Memory),
+        Form::Part(_) => Err(Refusal::Memory),
+        Form::Shaped(_, _) => Err(Refusal::Memory),
+        Form::Union(_) => Err(Refusal::Memory),
     }
-}
-
-/// Reads one form and then the other.
-#[tactic(auto, using(crate::proofs::Todo::push, crate::proofs::Copied::then_is))]
-fn read_both<'a>(
-    one: &'static Form,
-    other: &'static Form,
-    steps: &mut Vec<Step<'a>>,
-    out: &Writer,
-    input: &ParseBuffer<'a>,
-) -> Parsed<()>
-    ensures { Steps IsSyntax steps.old.items (copy_form (grammar_of one.now & grammar_of other.now) out.now input.now) result steps.new.items out.now input.now }
-{
-    steps.push(Step::Form(other))?;
-    steps.push(Step::Form(one))?;
-    Ok(())
-}
-
-/// Chooses a form by what stands next.
-#[tactic(auto, using(crate::proofs::Todo::push, crate::proofs::Copied::when_is))]
-fn choose<'a>(
-    look: &Look,
-    one: &'static Form,
-    other: &'static Form,
-    steps: &mut Vec<Step<'a>>,
-    out: &Writer,
-    input: &ParseBuffer<'a>,
-) -> Parsed<()>
-    ensures { Steps IsSyntax steps.old.items (copy_form (when (look_of look.now) then (grammar_of one.now) else (grammar_of other.now)) out.now input.now) result steps.new.items out.now input.now }
-{
-    if holds(look, input)? {
-        steps.push(Step::Form(one))?;
-    } else {
-        steps.push(Step::Form(other))?;
-    }
-    Ok(())
-}
-
-/// Reads a rule.
-#[tactic(auto, using(crate::proofs::Todo::push, crate::proofs::Copied::rule_is))]
-fn read_rule<'a>(
-    rule: Rule,
-    steps: &mut Vec<Step<'a>>,
-    out: &Writer,
-    input: &ParseBuffer<'a>,
-) -> Parsed<()>
-    ensures { Steps IsSyntax steps.old.items (copy_form (grammar.rule (rule_of rule)) out.now input.now) result steps.new.items out.now input.now }
-{
-    steps.push(Step::Form(form_of(rule)))?;
-    Ok(())
-}
-
-/// Reads a part of a rule.
-#[tactic(auto, using(crate::proofs::Todo::push), unfolding(crate::specs::Copies::copy_form))]
-fn read_part<'a>(
-    part: Part,
-    steps: &mut Vec<Step<'a>>,
-    out: &Writer,
-    input: &ParseBuffer<'a>,
-) -> Parsed<()>
-    ensures { Steps IsSyntax steps.old.items (copy_form (part_form part) out.now input.now) result steps.new.items out.now input.now }
-{
-    steps.push(Step::Form(form_of_part(part)))?;
-    Ok(())
-}
-
-/// Reads a union of rules that begin alike.
-#[tactic(auto, using(crate::proofs::Todo::push, crate::proofs::Alike::alike_is))]
-fn read_union<'a>(
-    union: Union,
-    steps: &mut Vec<Step<'a>>,
-    out: &Writer,
-    input: &ParseBuffer<'a>,
-) -> Parsed<()>
-    ensures { Steps IsSyntax steps.old.items (copy_form (union_form union) out.now input.now) result steps.new.items out.now input.now }
-{
-    steps.push(Step::Form(form_of_union(union)))?;
-    Ok(())
 }
 
 /// Reads and writes a mark, and says this where it doesn't stand.
@@ -194,21 +378,6 @@ fn copy_mark_else(
         Err(Refusal::Memory) => Err(Refusal::Memory),
         Err(Refusal::Syntax { .. }) => Err(refusal),
     }
-}
-
-/// Reads a form whose value is built in its own way.
-#[tactic(auto, using(crate::proofs::Todo::push, crate::proofs::Copied::shaped_is))]
-fn read_shaped<'a>(
-    _shape: Shape,
-    form: &'static Form,
-    steps: &mut Vec<Step<'a>>,
-    out: &Writer,
-    input: &ParseBuffer<'a>,
-) -> Parsed<()>
-    ensures { Steps IsSyntax steps.old.items (copy_form (grammar.shaped (shape_of _shape) (grammar_of form.now)) out.now input.now) result steps.new.items out.now input.now }
-{
-    steps.push(Step::Form(form))?;
-    Ok(())
 }
 
 // GROUPS

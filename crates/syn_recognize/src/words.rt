@@ -3,10 +3,14 @@
 //! Words and marks as data.
 ghost use Rattle.std.specs.Prelude.{◌≡◌};
 ghost use Rattle.syn_grammar.specs.Tokens as grammar;
+ghost use Rattle.syn_grammar.specs.Tokens.{one_of_texts};
+ghost use Rattle.syn_grammar.specs.Words.{keywords};
 ghost use Rattle.syn_grammar.specs.Grammar.{word};
 ghost use Rattle.syn_grammar.specs.Take.{sees, take_token, take_mark};
 ghost use Rattle.syn_parse.specs.Refusals.{IsSyntax};
 ghost use Rattle.syn_recognize.specs.Copies.{Copies};
+ghost use Rattle.syn_recognize.specs.May as may;
+ghost use Rattle.syn_recognize.specs.May.{head_of};
 ghost use Rattle.syn_recognize.specs.Names.{word_text, mark_text};
 
 use crate::token::copy;
@@ -243,5 +247,131 @@ pub(crate) fn copy_mark(mark: Mark, out: &mut Writer, input: &mut ParseBuffer<'_
         Mark::SlashEq => copy::<token::SlashEq>(out, input),
         Mark::Star => copy::<token::Star>(out, input),
         Mark::StarEq => copy::<token::StarEq>(out, input),
+    }
+}
+
+/// Whether this word is a keyword, and no word that is one at some places alone.
+pub(crate) fn is_known(word: Word) -> bool
+    ensures { result ≡ one_of_texts (word_text word) keywords }
+{
+    match word {
+        Word::As => true,
+        Word::Break => true,
+        Word::Const => true,
+        Word::Continue => true,
+        Word::Else => true,
+        Word::Enum => true,
+        Word::False => true,
+        Word::For => true,
+        Word::If => true,
+        Word::In => true,
+        Word::Let => true,
+        Word::Loop => true,
+        Word::Mut => true,
+        Word::Pub => true,
+        Word::Ref => true,
+        Word::Return => true,
+        Word::SelfType => true,
+        Word::Struct => true,
+        Word::True => true,
+        Word::Underscore => true,
+        Word::Union => false,
+        Word::Unsafe => true,
+        Word::Where => true,
+        Word::While => true,
+    }
+}
+
+/// The first character of this mark.
+pub(crate) fn first_of(mark: Mark) -> char
+    ensures { result ≡ head_of (mark_text mark) }
+{
+    match mark {
+        Mark::And => '&',
+        Mark::AndAnd => '&',
+        Mark::AndEq => '&',
+        Mark::Caret => '^',
+        Mark::CaretEq => '^',
+        Mark::Colon => ':',
+        Mark::Comma => ',',
+        Mark::Dot => '.',
+        Mark::DotDot => '.',
+        Mark::Eq => '=',
+        Mark::EqEq => '=',
+        Mark::Ge => '>',
+        Mark::Gt => '>',
+        Mark::Le => '<',
+        Mark::Lt => '<',
+        Mark::Minus => '-',
+        Mark::MinusEq => '-',
+        Mark::Ne => '!',
+        Mark::Not => '!',
+        Mark::Or => '|',
+        Mark::OrEq => '|',
+        Mark::OrOr => '|',
+        Mark::PathSep => ':',
+        Mark::Percent => '%',
+        Mark::PercentEq => '%',
+        Mark::Plus => '+',
+        Mark::PlusEq => '+',
+        Mark::Pound => '#',
+        Mark::Question => '?',
+        Mark::RArrow => '-',
+        Mark::Semi => ';',
+        Mark::Shl => '<',
+        Mark::ShlEq => '<',
+        Mark::Shr => '>',
+        Mark::ShrEq => '>',
+        Mark::Slash => '/',
+        Mark::SlashEq => '/',
+        Mark::Star => '*',
+        Mark::StarEq => '*',
+    }
+}
+
+/// Whether this mark has one character alone.
+pub(crate) fn is_one(mark: Mark) -> bool
+    ensures { result ≡ may.is_one (mark_text mark) }
+{
+    match mark {
+        Mark::And => true,
+        Mark::AndAnd => false,
+        Mark::AndEq => false,
+        Mark::Caret => true,
+        Mark::CaretEq => false,
+        Mark::Colon => true,
+        Mark::Comma => true,
+        Mark::Dot => true,
+        Mark::DotDot => false,
+        Mark::Eq => true,
+        Mark::EqEq => false,
+        Mark::Ge => false,
+        Mark::Gt => true,
+        Mark::Le => false,
+        Mark::Lt => true,
+        Mark::Minus => true,
+        Mark::MinusEq => false,
+        Mark::Ne => false,
+        Mark::Not => true,
+        Mark::Or => true,
+        Mark::OrEq => false,
+        Mark::OrOr => false,
+        Mark::PathSep => false,
+        Mark::Percent => true,
+        Mark::PercentEq => false,
+        Mark::Plus => true,
+        Mark::PlusEq => false,
+        Mark::Pound => true,
+        Mark::Question => true,
+        Mark::RArrow => false,
+        Mark::Semi => true,
+        Mark::Shl => false,
+        Mark::ShlEq => false,
+        Mark::Shr => false,
+        Mark::ShrEq => false,
+        Mark::Slash => true,
+        Mark::SlashEq => false,
+        Mark::Star => true,
+        Mark::StarEq => false,
     }
 }

@@ -1,0 +1,11 @@
+use Rattle.syn_recognize.proofs.Opened.{keyword_opens, literal_opens, name_opens}
+use Rattle.syn_recognize.proofs.operands.operand.Goals as goal
+
+pub returns-in-Name : goal.returns-in-Name
+returns-in-Name c = name_opens c.args.next c.in-Name.is
+
+pub returns-in-Keyword : goal.returns-in-Keyword
+returns-in-Keyword c = keyword_opens c.args.next c.in-Keyword.is
+
+pub returns-in-Literal : goal.returns-in-Literal
+returns-in-Literal c = literal_opens c.args.next c.in-Literal.is

@@ -1,0 +1,155 @@
+//! Levels of operators. Behind an operand one look tells which of them may go on with it, so that the others cost no step.
+ghost use Rattle.std.specs.Prelude.{◌≡◌, false, MatchOption};
+ghost use Rattle.syn_grammar.specs.Rules.{assigned, compared};
+ghost use Rattle.syn_grammar.specs.Run.{parse_form};
+ghost use Rattle.syn_grammar.specs.Table.{table};
+ghost use Rattle.syn_parse.specs.declared.buffer.first.First.TheVariants.{Group};
+ghost use Rattle.syn_recognize.specs.Forms.{grammar_of};
+ghost use Rattle.syn_recognize.specs.Ladder.{Passes, Rung, ends, level_form, loud};
+ghost use Rattle.syn_recognize.specs.Names.{rule_of};
+
+use crate::fault::Fault;
+use crate::form::Form;
+use crate::look::{Look, is_keyword, is_mark, may_go_on};
+use crate::rules::{Rule, form_of};
+use syn_parse::buffer::first::First;
+use syn_tokens::delimiter::Delimiter;
+
+/// Nothing stands next that would go on with an expression.
+static FINISHED: Form = Form::When(
+    Look::Unfinished,
+    &Form::Never(Fault::Unexpected),
+    &Form::Empty,
+);
+
+/// How many levels the rule reads behind a unary one; none where it reads something else.
+#[tactic(auto, using(crate::proofs::Ladder::cast_rung, crate::proofs::Ladder::product_rung, crate::proofs::Ladder::sum_rung, crate::proofs::Ladder::shift_rung, crate::proofs::Ladder::bit_and_rung, crate::proofs::Ladder::bit_xor_rung, crate::proofs::Ladder::bit_or_rung, crate::proofs::Ladder::comparison_rung, crate::proofs::Ladder::conjunction_rung, crate::proofs::Ladder::disjunction_rung, crate::proofs::Ladder::whole_rung))]
+pub(crate) fn height_of(rule: Rule) -> Option<usize>
+    ensures { MatchOption result (Unit {0}) (λ height. Rung (rule_of rule) height) }
+{
+    match rule {
+        Rule::Cast => Some(1),
+        Rule::Product => Some(2),
+        Rule::Sum => Some(3),
+        Rule::Shift => Some(4),
+        Rule::BitAnd => Some(5),
+        Rule::BitXor => Some(6),
+        Rule::BitOr => Some(7),
+        Rule::Comparison => Some(8),
+        Rule::Conjunction => Some(9),
+        Rule::Disjunction => Some(10),
+        Rule::WholeExpression => Some(12),
+        _ => None,
+    }
+}
+
+/// What the level of this number reads behind an operand.
+#[tactic(auto, unfolding(crate::specs::Ladder::level_form))]
+pub(crate) fn behind(level: usize) -> Option<&'static Form>
+    ensures { MatchOption result (Unit {0}) (λ form. parse_form (grammar_of form.now) ≡ parse_form (level_form level)) }
+{
+    match level {
+        0 => Some(form_of(Rule::Casts)),
+        1 => Some(form_of(Rule::Products)),
+        2 => Some(form_of(Rule::Sums)),
+        3 => Some(form_of(Rule::Shifts)),
+        4 => Some(form_of(Rule::BitAnds)),
+        5 => Some(form_of(Rule::BitXors)),
+        6 => Some(form_of(Rule::BitOrs)),
+        7 => Some(form_of(Rule::Compared)),
+        8 => Some(form_of(Rule::Conjunctions)),
+        9 => Some(form_of(Rule::Disjunctions)),
+        10 => Some(form_of(Rule::Assigned)),
+        11 => Some(&FINISHED),
+        _ => None,
+    }
+}
+
+/// The first of the levels from one number on that may read something where this stands next; where none does, the number up to which
+/// they go.
+#[tactic(auto, using(crate::proofs::Ladder::passes_none, crate::proofs::Ladder::passes_more, crate::proofs::Ladder::passes_all, crate::proofs::Ladder::passes_ended))]
+pub(crate) fn first_level(from: usize, to: usize, next: First) -> usize
+    ensures { Passes from to result next }
+{
+    if ends(next) {
+        return to;
+    }
+    'levels: for level in from..to {
+        if may_read(level, next) {
+            return level;
+        }
+    }
+    to
+}
+
+/// Whether it is clear at once that no level reads anything where this stands next.
+fn ends(next: First) -> bool
+    ensures { result ≡ ends next }
+{
+    match next {
+        First::Ended => true,
+        First::Name => true,
+        First::Literal => true,
+        First::Keyword => false,
+        First::Mark(character) => character == ',' || character == ';',
+        First::Group(delimiter) => is_brace(delimiter),
+    }
+}
+
+/// Whether these are braces.
+fn is_brace(delimiter: Delimiter) -> bool
+    ensures { result ≡ ends (Group delimiter) }
+{
+    match delimiter {
+        Delimiter::Brace => true,
+        Delimiter::Paren => false,
+        Delimiter::Bracket => false,
+        Delimiter::None => false,
+    }
+}
+
+/// Whether the level may read something where this stands next.
+#[tactic(auto, unfolding(crate::specs::Ladder::level_form))]
+fn may_read(level: usize, next: First) -> bool
+    ensures { result ≡ false → loud (level_form level) next ≡ false }
+{
+    match level {
+        0 => is_keyword(next),
+        1 => is_mark('*', next) || is_mark('/', next) || is_mark('%', next),
+        2 => is_mark('+', next) || is_mark('-', next),
+        3 => is_mark('<', next) || is_mark('>', next),
+        4 => is_mark('&', next),
+        5 => is_mark('^', next),
+        6 => is_mark('|', next),
+        7 => may_compare(next),
+        8 => is_mark('&', next),
+        9 => is_mark('|', next),
+        10 => may_assign(next),
+        11 => may_go_on(next),
+        _ => true,
+    }
+}
+
+/// Whether a comparison may stand next.
+fn may_compare(next: First) -> bool
+    ensures { result ≡ loud (table compared) next }
+{
+    is_mark('=', next) || is_mark('!', next) || is_mark('<', next) || is_mark('>', next)
+}
+
+/// Whether an assignment may stand next.
+fn may_assign(next: First) -> bool
+    ensures { result ≡ loud (table assigned) next }
+{
+    is_mark('=', next)
+        || is_mark('+', next)
+        || is_mark('-', next)
+        || is_mark('*', next)
+        || is_mark('/', next)
+        || is_mark('%', next)
+        || is_mark('^', next)
+        || is_mark('&', next)
+        || is_mark('|', next)
+        || is_mark('<', next)
+        || is_mark('>', next)
+}
