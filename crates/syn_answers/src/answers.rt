@@ -7,7 +7,7 @@ ghost use Rattle.syn_tokens.specs.Faults.{IsSyntaxError};
 
 use syn_parse::buffer::ParseBuffer;
 use syn_parse::read::refusal::Parsed;
-use syn_recognize::{Rule, recognized_and_printed};
+use syn_recognize::{Rule, printed_by};
 use syn_tokens::error::Result;
 use syn_tokens::stream::TokenStream;
 
@@ -16,9 +16,9 @@ fn printed_whole(rule: Rule, tokens: &TokenStream) -> Parsed<TokenStream>
     ensures { WholePrint IsSyntax (rule_of rule) tokens.now result }
 {
     let mut input = ParseBuffer::new(tokens);
-    let read = recognized_and_printed(rule, &mut input)?;
+    let printed = printed_by(rule, &mut input)?;
     input.read_end()?;
-    Ok(read.printed)
+    Ok(printed)
 }
 
 /// The canonical print of what the tokens spell: the print of the tree that the rule derives of the whole stream.

@@ -1,4 +1,4 @@
--- WHAT CALLERS ARE PROMISED where they want both: what is shown, and what is printed.
+-- WHAT CALLERS ARE PROMISED where they want both: what is shown, and what is printed; or what is printed alone.
 use Rattle.std.specs.Prelude.{◌≡◌, Some, None, Result, Ok, Err}
 use Rattle.syn_grammar.specs.Tokens.{Stream}
 use Rattle.syn_grammar.specs.Rules.{Rule}
@@ -10,3 +10,8 @@ use Rattle.syn_recognize.specs.declared.reading.ShownAndPrinted.{ShownAndPrinted
 abbrev pub ShowsAndPrints : {E : Type 0} → (E → Type 0) → Rule → Stream → Result ShownAndPrinted E → Stream → Type 0
 ShowsAndPrints refusal k ts (Ok tokens) r = (s : Syntax) × (parse_rule k ts ≡ Some (s, r)) × (tokens.shown ≡ show s) × (tokens.printed ≡ print s)
 ShowsAndPrints refusal k ts (Err e) r = refusal e → parse_rule k ts ≡ None
+
+-- a rule's answer, what is left behind it, and what is printed of it
+abbrev pub Prints : {E : Type 0} → (E → Type 0) → Rule → Stream → Result Stream E → Stream → Type 0
+Prints refusal k ts (Ok tokens) r = (s : Syntax) × (parse_rule k ts ≡ Some (s, r)) × (tokens ≡ print s)
+Prints refusal k ts (Err e) r = refusal e → parse_rule k ts ≡ None

@@ -27,5 +27,5 @@ mod unions;
 mod words;
 mod writer;
 
-pub use reading::{ShownAndPrinted, recognized_and_printed};
+pub use reading::{ShownAndPrinted, printed_by, recognized_and_printed};
 pub use rules::Rule;

@@ -6,13 +6,14 @@ ghost use Rattle.syn_parse.specs.Refusals.{IsSyntax};
 ghost use Rattle.syn_recognize.specs.Copies.{Reached, copied, least};
 ghost use Rattle.syn_recognize.specs.Names.{rule_of};
 ghost use Rattle.syn_recognize.specs.Steps.{Runs, todo};
-ghost use Rattle.syn_recognize.specs.Printed.{ShowsAndPrints};
+ghost use Rattle.syn_recognize.specs.Printed.{Prints, ShowsAndPrints};
 
 use crate::quiet::is_quiet;
 use crate::rules::{Rule, form_of, is_settled};
 use crate::step::Step;
 use crate::steps::take;
 use crate::writer::Writer;
+use std::collections::VecDeque;
 use syn_parse::buffer::ParseBuffer;
 use syn_parse::read::refusal::{Parsed, Refusal};
 use syn_tokens::stream::TokenStream;
@@ -79,4 +80,46 @@ pub fn recognized_and_printed(rule: Rule, input: &mut ParseBuffer<'_>) -> Parsed
     write_rule(rule, &mut out, input)?;
     let (printed, _left) = out.finish()?;
     Ok(ShownAndPrinted { shown, printed })
+}
+
+/// Reads what the rule reads, and writes its tokens as they are printed, once. Where some list has a member that is printed before one
+/// that stands before it, it is refused as memory is.
+#[tactic(auto, using(crate::proofs::Shown::no_group_open, crate::proofs::Shown::not_read, crate::proofs::Shown::kept, crate::proofs::Shown::moved))]
+fn printed_at_once(rule: Rule, input: &mut ParseBuffer<'_>) -> Parsed<TokenStream>
+    ensures reads { Prints IsSyntax (rule_of rule) input.old result input.new }
+    ensures kept { Kept input.old result input.new }
+    ensures moved { Takes (least (rule_of rule)) input.old result input.new }
+{
+    let mut out = Writer::printing(input.alloc(), VecDeque::new(input.alloc()));
+    write_rule(rule, &mut out, input)?;
+    let (printed, _left) = out.finish()?;
+    Ok(printed)
+}
+
+/// The same, with such lists: all is read twice.
+fn printed_by_shown(rule: Rule, input: &mut ParseBuffer<'_>) -> Parsed<TokenStream>
+    ensures reads { Prints IsSyntax (rule_of rule) input.old result input.new }
+    ensures kept { Kept input.old result input.new }
+    ensures moved { Takes (least (rule_of rule)) input.old result input.new }
+{
+    let read = recognized_and_printed(rule, input)?;
+    Ok(read.printed)
+}
+
+/// Reads what the rule reads: its tokens as they are printed. They are written once, and read three times at most, where a list has a
+/// member that is printed before one that stands before it. Refused, it says nothing of what is left.
+pub fn printed_by(rule: Rule, input: &mut ParseBuffer<'_>) -> Parsed<TokenStream>
+    ensures reads { Prints IsSyntax (rule_of rule) input.old result input.new }
+    ensures kept { Kept input.old result input.new }
+    ensures moved { Takes (least (rule_of rule)) input.old result input.new }
+{
+    let mut ahead = input.fork();
+    match printed_at_once(rule, &mut ahead) {
+        Ok(printed) => {
+            input.advance_to(&ahead);
+            Ok(printed)
+        }
+        Err(Refusal::Memory) => printed_by_shown(rule, input),
+        Err(Refusal::Syntax { span, text }) => Err(Refusal::Syntax { span, text }),
+    }
 }
