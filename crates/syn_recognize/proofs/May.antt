@@ -12,7 +12,7 @@ use Rattle.syn_tokens.specs.Delimiters.{delimiter_of}
 use Rattle.syn_parse.specs.Firsts.{Begins}
 use Rattle.syn_parse.specs.declared.buffer.first.First.{First}
 use Rattle.syn_parse.specs.declared.buffer.first.First.TheVariants as F
-use Rattle.syn_recognize.specs.May.{head_of, is_literal, is_mark, is_one, is_word, may, may_hold, tells}
+use Rattle.syn_recognize.specs.May.{sure, head_of, is_literal, is_mark, is_one, is_word, may, may_hold, tells}
 use Rattle.syn_recognize.specs.Names.{look_of, mark_text}
 use Rattle.syn_recognize.specs.declared.look.Look as look
 use Rattle.syn_recognize.specs.declared.look.Look.TheVariants as Look-m
@@ -272,6 +272,14 @@ no_false false e = absurd (true≢false e)
 front_sure : (f : First) (ts : Stream) (p : Terminal → Bool) → Begins f ts → None f (λ t. no (p t)) → p (lookahead ts).terminal ≡ true
 front_sure f ts p b h = no_false (p (lookahead ts).terminal) (at_front f ts (λ t. no (p t)) b h)
 
+or_true : (a : Bool) → or a true ≡ true
+or_true true = refl
+or_true false = refl
+
+or_sure : (a d x y : Bool) → (a ≡ true → x ≡ true) → (d ≡ true → y ≡ true) → or a d ≡ true → or x y ≡ true
+or_sure true d x y h k m = ap (λ z. or z y) (h refl)
+or_sure false d x y h k m = ap (or x) (k m) ∙ or_true x
+
 not_so : {X : Type 0} → false ≡ true → X
 not_so e = absurd (true≢false (sym e))
 
@@ -295,6 +303,23 @@ name_sure F.Literal ts b m = not_so m
 name_sure (F.Mark c) ts b m = not_so m
 name_sure (F.Group d) ts b m = not_so m
 
+group_sure : (e : grammar.Delimiter) (f : First) → may (at_group e) f ≡ true → None f (λ t. no (grammar.is_group e t))
+group_sure e (F.Group d) m = λ v. ap no m
+group_sure e F.Ended m = not_so m
+group_sure e F.Name m = not_so m
+group_sure e F.Keyword m = not_so m
+group_sure e F.Literal m = not_so m
+group_sure e (F.Mark c) m = not_so m
+
+-- ANY CONDITION of which one look says that it holds
+pub surely : (c : Look) (f : First) (ts : Stream) → Begins f ts → sure c f ≡ true → sees c ts ≡ true
+unfolding sees lookahead_at
+surely ended f ts b m = front_sure f ts grammar.is_ended b (ended_sure f m)
+surely at_name f ts b m = name_sure f ts b m
+surely (at_group d) f ts b m = front_sure f ts (grammar.is_group d) b (group_sure d f m)
+surely (c or_else d) f ts b m = or_sure (sure c f) (sure d f) (sees c ts) (sees d ts) (surely c f ts b) (surely d f ts b) m
+surely c f ts b m = not_so m
+
 any_literal : Terminal → Bool
 any_literal t = answers at_any_literal (lookahead_with t [])
 
@@ -315,14 +340,6 @@ literal_sure F.Name m = not_so m
 literal_sure F.Keyword m = not_so m
 literal_sure (F.Mark c) m = not_so m
 literal_sure (F.Group d) m = not_so m
-
-group_sure : (e : grammar.Delimiter) (f : First) → may (at_group e) f ≡ true → None f (λ t. no (grammar.is_group e t))
-group_sure e (F.Group d) m = λ v. ap no m
-group_sure e F.Ended m = not_so m
-group_sure e F.Name m = not_so m
-group_sure e F.Keyword m = not_so m
-group_sure e F.Literal m = not_so m
-group_sure e (F.Mark c) m = not_so m
 
 mark_sure : (x : Text) (f : First) → is_one x ≡ true → is_mark (head_of x) f ≡ true → None f (λ t. no (starts_mark x t))
 mark_sure (e ∷ []) (F.Mark c) o m = λ l. ap (λ z. no (and z true)) m

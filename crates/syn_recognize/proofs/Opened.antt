@@ -1,23 +1,26 @@
 -- What a rule reads where it is known what stands next.
 use Rattle.std.proofs.Common.{◌≡◌, ℕ, zero, suc, Bool, true, false, List, [], ◌∷◌, ◌++◌, ◌-◌, arith, refl, sym, ap, ap₂, subst, ◌∙◌}
 use Rattle.syn_grammar.specs.Tokens.{Stream, Look, Paren, Bracket, pick}
-use Rattle.syn_grammar.specs.Rules.{Rule, attributes, unary, primary, path_as_expression, expression_path, expression_words, expressions, array_content, macro_invocation, postfixes}
-use Rattle.syn_grammar.specs.Grammar.{any_literal, Grammar, empty, token, inside, ◌&◌, when◌then◌else◌, rule, shaped, unshown, among}
-use Rattle.syn_grammar.specs.Table.{table, at_any_literal, at_bracket, at_macro, at_paren}
+use Rattle.syn_grammar.specs.Rules.{type, type_arguments, type_path, type_words, path_as_type, Rule, attributes, unary, primary, path_as_expression, expression_path, expression_words, expressions, array_content, macro_invocation, postfixes}
+use Rattle.syn_grammar.specs.Grammar.{any_literal, mark, name_or, Grammar, empty, token, inside, ◌&◌, when◌then◌else◌, rule, shaped, unshown, among}
+use Rattle.syn_grammar.specs.Table.{table, at_any_literal, at_arguments, at_colons, at_macro}
 use Rattle.syn_grammar.specs.Take.{sees}
 use Rattle.syn_grammar.specs.Run.{parse_form}
+use Rattle.syn_grammar.specs.Shape.{untagged}
+use Rattle.syn_grammar.specs.Words.{colons, w_Self_type}
+use Rattle.syn_grammar.specs.Take.{Parser}
 use Rattle.syn_parse.specs.Firsts.{Begins}
 use Rattle.syn_parse.specs.declared.buffer.first.First.{First}
 use Rattle.syn_parse.specs.declared.buffer.first.First.TheVariants as F
 use Rattle.syn_tokens.specs.declared.delimiter.Delimiter.{Delimiter}
 use Rattle.syn_tokens.specs.declared.delimiter.Delimiter.TheVariants as D
-use Rattle.syn_recognize.specs.May.{may}
+use Rattle.syn_recognize.specs.May.{may, sure}
 use Rattle.syn_recognize.specs.Written.{Written}
-use Rattle.syn_recognize.specs.Copies.{next, copy_form}
+use Rattle.syn_recognize.specs.Copies.{copied, next, copy_form}
 use Rattle.syn_recognize.specs.Ladder.{loud, climb, Rung}
 use Rattle.syn_recognize.specs.Opens.{Opens, both, either_way, pruned}
 use Rattle.syn_recognize.proofs.Copied.{empty_is, unshown_is, rule_is, shaped_is, then_is, when_is}
-use Rattle.syn_recognize.proofs.May.{never}
+use Rattle.syn_recognize.proofs.May.{never, surely}
 use Rattle.syn_recognize.specs.Steps.{GoesOn}
 use Rattle.syn_recognize.specs.declared.step.Step.{Step}
 use Rattle.syn_recognize.specs.declared.step.Step.TheVariants as Step-m
@@ -36,9 +39,10 @@ both_is g h p ts e w = then_is g h w ts
 both_same : (a g h p : Grammar) (ts : Stream) → Same a g ts → Same p h ts → Same (both a h p) (g & h) ts
 both_same a g h p ts e i w = both_is a h p ts i w ∙ ap (λ o. next o (copy_form h)) (e w) ∙ sym (then_is g h w ts)
 
-either_same : (b : Bool) (c : Look) (a g p h : Grammar) (ts : Stream) → (b ≡ false → sees c ts ≡ false) → Same a g ts → Same p h ts → Same (either_way b c a p) (when c then g else h) ts
-either_same true c a g p h ts n e i w = when_is c a p w ts ∙ ap₂ (pick (sees c ts)) (e w) (i w) ∙ sym (when_is c g h w ts)
-either_same false c a g p h ts n e i w = i w ∙ sym (when_is c g h w ts ∙ ap (λ b. pick b (copy_form g w ts) (copy_form h w ts)) (n refl))
+either_same : (d b : Bool) (c : Look) (a g p h : Grammar) (ts : Stream) → (d ≡ true → sees c ts ≡ true) → (b ≡ false → sees c ts ≡ false) → Same a g ts → Same p h ts → Same (either_way d b c a p) (when c then g else h) ts
+either_same true b c a g p h ts y n e i w = e w ∙ sym (when_is c g h w ts ∙ ap (λ z. pick z (copy_form g w ts) (copy_form h w ts)) (y refl))
+either_same false true c a g p h ts y n e i w = when_is c a p w ts ∙ ap₂ (pick (sees c ts)) (e w) (i w) ∙ sym (when_is c g h w ts)
+either_same false false c a g p h ts y n e i w = i w ∙ sym (when_is c g h w ts ∙ ap (λ b. pick b (copy_form g w ts) (copy_form h w ts)) (n refl))
 
 pick_same : (b : Bool) (a : Grammar) (k : Rule) (ts : Stream) → Same a (table k) ts → Same (pick b a (rule k)) (rule k) ts
 pick_same true a k ts e w = e w ∙ sym (rule_is k (table k) w ts refl)
@@ -46,7 +50,7 @@ pick_same false a k ts e w = refl
 
 pruned_is : (ks : List Rule) (n : ℕ) (f : First) (g : Grammar) (ts : Stream) → Begins f ts → Same (pruned ks n f g) g ts
 pruned_is ks zero f g ts b w = refl
-pruned_is ks (suc n) f (when c then g else h) ts b w = either_same (may c f) c (pruned ks n f g) g (pruned ks n f h) h ts (never c f ts b) (pruned_is ks n f g ts b) (pruned_is ks n f h ts b) w
+pruned_is ks (suc n) f (when c then g else h) ts b w = either_same (sure c f) (may c f) c (pruned ks n f g) g (pruned ks n f h) h ts (surely c f ts b) (never c f ts b) (pruned_is ks n f g ts b) (pruned_is ks n f h ts b) w
 pruned_is ks (suc n) f (shaped j g) ts b w = pruned_is ks n f g ts b w ∙ sym (shaped_is j g w ts)
 pruned_is ks (suc n) f (g & h) ts b w = both_same (pruned ks n f g) g h (pruned ks n f h) ts (pruned_is ks n f g ts b) (pruned_is ks n f h ts b) w
 pruned_is ks (suc n) f (rule k) ts b w = pick_same (among k ks) (pruned ks n f (table k)) k ts (pruned_is ks n f (table k) ts b) w
@@ -97,13 +101,13 @@ pub literal_opens : (f : First) → f ≡ F.Literal → Opens f literal_form una
 literal_opens f e = subst (λ z. Opens z literal_form unary) (sym e) (opens_pruned beginnings F.Literal literal_form unary refl)
 
 abbrev pub parentheses_form : Grammar
-parentheses_form = (when at_paren then (inside Paren (rule expressions)) else rule expression_words) & rule postfixes
+parentheses_form = inside Paren (rule expressions) & rule postfixes
 
 pub parentheses_open : (d : Delimiter) → d ≡ D.Paren → Opens (F.Group d) parentheses_form unary
 parentheses_open d e = subst (λ z. Opens (F.Group z) parentheses_form unary) (sym e) (opens_pruned beginnings (F.Group D.Paren) parentheses_form unary refl)
 
 abbrev pub brackets_form : Grammar
-brackets_form = (when at_bracket then (inside Bracket (rule array_content)) else rule expression_words) & rule postfixes
+brackets_form = inside Bracket (rule array_content) & rule postfixes
 
 pub brackets_open : (d : Delimiter) → d ≡ D.Bracket → Opens (F.Group d) brackets_form unary
 brackets_open d e = subst (λ z. Opens (F.Group z) brackets_form unary) (sym e) (opens_pruned beginnings (F.Group D.Bracket) brackets_form unary refl)
@@ -113,3 +117,18 @@ keyword_form = rule primary & rule postfixes
 
 pub keyword_opens : (f : First) → f ≡ F.Keyword → Opens f keyword_form unary
 keyword_opens f e = subst (λ z. Opens z keyword_form unary) (sym e) (opens_pruned (unary ∷ attributes ∷ []) F.Keyword keyword_form unary refl)
+
+-- WHAT TYPES AND THEIR WORDS BEGIN WITH
+
+pub opens_as_pruned : (ks : List Rule) (f : First) (g : Grammar) (k : Rule) → parse_form g ≡ parse_form (pruned ks 30 f (rule k)) → Opens f g k
+unfolding Opens copy_form
+opens_as_pruned ks f g k e = λ w ts b. sym (pruned_is ks 30 f (rule k) ts b w) ∙ sym (ap (λ (p : Parser). copied w (p ts)) e)
+
+abbrev pub words_form : Grammar
+words_form = (token [] (name_or (w_Self_type ∷ [])) & shaped untagged (when at_arguments then (rule type_arguments) else empty)) & (when at_colons then (mark false colons & rule type_words) else empty)
+
+pub type_opens : (f : First) → f ≡ F.Name → Opens f words_form type
+type_opens f e = subst (λ z. Opens z words_form type) (sym e) (opens_as_pruned (type ∷ path_as_type ∷ type_path ∷ type_words ∷ []) F.Name words_form type refl)
+
+pub words_open : (f : First) → f ≡ F.Name → Opens f words_form type_words
+words_open f e = subst (λ z. Opens z words_form type_words) (sym e) (opens_as_pruned (type_words ∷ []) F.Name words_form type_words refl)

@@ -65,6 +65,14 @@ may (c or_else d) f = or (may c f) (may d f)
 may (c and_also d) f = may c f
 may (c but_not d) f = may c f
 
+-- the condition holds there for sure
+abbrev pub sure : Look → First → Bool
+sure ended f = is_ended f
+sure at_name f = is_name f
+sure (at_group d) f = is_group d f
+sure (c or_else d) f = or (sure c f) (sure d f)
+sure _ f = false
+
 -- the same of conditions as data
 abbrev pub may_hold : look.Look → First → Bool
 may_hold Look-m.Ended f = is_ended f

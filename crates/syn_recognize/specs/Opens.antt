@@ -6,7 +6,7 @@ use Rattle.syn_grammar.specs.Grammar.{Grammar, empty, ◌&◌, when◌then◌els
 use Rattle.syn_grammar.specs.Table.{table}
 use Rattle.syn_parse.specs.Firsts.{Begins}
 use Rattle.syn_parse.specs.declared.buffer.first.First.{First}
-use Rattle.syn_recognize.specs.May.{may}
+use Rattle.syn_recognize.specs.May.{may, sure}
 use Rattle.syn_recognize.specs.Written.{Written}
 use Rattle.syn_recognize.specs.Copies.{copy_form}
 
@@ -20,14 +20,16 @@ both empty h p = p
 both unshown h p = p
 both g h p = g & h
 
-abbrev pub either_way : Bool → Look → Grammar → Grammar → Grammar
-either_way true c g h = when c then g else h
-either_way false c g h = h
+-- a choice, by whether its condition holds for sure, and whether it may hold
+abbrev pub either_way : Bool → Bool → Look → Grammar → Grammar → Grammar
+either_way true b c g h = g
+either_way false true c g h = when c then g else h
+either_way false false c g h = h
 
 -- a form without what is ruled out, in so many steps; these rules are opened
 abbrev pub pruned : List Rule → ℕ → First → Grammar → Grammar
 pruned ks zero f g = g
-pruned ks (suc n) f (when c then g else h) = either_way (may c f) c (pruned ks n f g) (pruned ks n f h)
+pruned ks (suc n) f (when c then g else h) = either_way (sure c f) (may c f) c (pruned ks n f g) (pruned ks n f h)
 pruned ks (suc n) f (shaped j g) = pruned ks n f g
 pruned ks (suc n) f (g & h) = both (pruned ks n f g) h (pruned ks n f h)
 pruned ks (suc n) f (rule k) = pick (among k ks) (pruned ks n f (table k)) (rule k)

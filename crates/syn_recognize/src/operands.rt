@@ -1,6 +1,6 @@
 //! What a rule reads where it is known what stands next: forms of operands without the conditions that this rules out.
 ghost use Rattle.std.specs.Prelude.{◌≡◌};
-ghost use Rattle.syn_grammar.specs.Rules.{postfixes, unary};
+ghost use Rattle.syn_grammar.specs.Rules.{postfixes, type, type_words, unary};
 ghost use Rattle.syn_grammar.specs.Table.{table};
 ghost use Rattle.syn_parse.specs.declared.buffer.first.First.TheVariants.{Group};
 ghost use Rattle.syn_recognize.specs.Forms.{grammar_of};
@@ -11,7 +11,9 @@ ghost use Rattle.syn_recognize.specs.Opens.{Opens};
 use crate::form::Form;
 use crate::look::{Look, is_group, is_mark};
 use crate::rules::{Rule, form_of};
+use crate::shape::Shape;
 use crate::token::Token;
+use crate::words::Mark;
 use syn_parse::buffer::first::First;
 use syn_tokens::delimiter::Delimiter;
 
@@ -40,22 +42,34 @@ static LITERAL: Form = Form::Then(
 
 /// One that begins with parentheses.
 static PARENTHESES: Form = Form::Then(
-    &Form::When(
-        Look::Group(Delimiter::Paren),
-        &Form::Inside(Delimiter::Paren, &Form::Rule(Rule::Expressions)),
-        &Form::Rule(Rule::ExpressionWords),
-    ),
+    &Form::Inside(Delimiter::Paren, &Form::Rule(Rule::Expressions)),
     &Form::Rule(Rule::Postfixes),
 );
 
 /// One that begins with brackets.
 static BRACKETS: Form = Form::Then(
-    &Form::When(
-        Look::Group(Delimiter::Bracket),
-        &Form::Inside(Delimiter::Bracket, &Form::Rule(Rule::ArrayContent)),
-        &Form::Rule(Rule::ExpressionWords),
-    ),
+    &Form::Inside(Delimiter::Bracket, &Form::Rule(Rule::ArrayContent)),
     &Form::Rule(Rule::Postfixes),
+);
+
+/// Words of a type's path of which the first is an identifier that is no keyword.
+static WORDS: Form = Form::Then(
+    &Form::Then(
+        &Form::Token(Token::NameOrSelfType),
+        &Form::Shaped(
+            Shape::Untagged,
+            &Form::When(
+                Look::Arguments,
+                &Form::Rule(Rule::TypeArguments),
+                &Form::Empty,
+            ),
+        ),
+    ),
+    &Form::When(
+        Look::Mark(Mark::PathSep),
+        &Form::Then(&Form::Mark(Mark::PathSep), &Form::Rule(Rule::TypeWords)),
+        &Form::Empty,
+    ),
 );
 
 static EMPTY: Form = Form::Empty;
@@ -68,6 +82,8 @@ pub(crate) fn opened(rule: Rule, next: First) -> &'static Form
     match rule {
         Rule::Unary => operand(next),
         Rule::Postfixes => postfix(next),
+        Rule::Type => type_by(next),
+        Rule::TypeWords => words_by(next),
         _ => form_of(rule),
     }
 }
@@ -108,6 +124,28 @@ fn postfix(next: First) -> &'static Form
         form_of(Rule::Postfixes)
     } else {
         &EMPTY
+    }
+}
+
+/// A form that is read as a type is.
+#[tactic(auto, using(crate::proofs::Opened::opens_rule))]
+fn type_by(next: First) -> &'static Form
+    ensures { Opens next (grammar_of result.now) type }
+{
+    match next {
+        First::Name => &WORDS,
+        _ => form_of(Rule::Type),
+    }
+}
+
+/// A form that is read as the words of a type's path are.
+#[tactic(auto, using(crate::proofs::Opened::opens_rule))]
+fn words_by(next: First) -> &'static Form
+    ensures { Opens next (grammar_of result.now) type_words }
+{
+    match next {
+        First::Name => &WORDS,
+        _ => form_of(Rule::TypeWords),
     }
 }
 
