@@ -319,25 +319,29 @@ class Writer:
 
     def words_file(self):
         words, marks = (sorted(self.rust[text] for text in texts) for texts in (self.words, self.marks))
-        function = lambda sentence, head, promise, kind, names, arm: [
-            f'/// {sentence}', f'pub(crate) fn {head}', f'    ensures {{ {promise} }}', '{', f'    match {"it" if "(it:" in head else kind.lower()} {{',
-            *[f'        {kind}::{name} => {arm.format(name)},' for name in names], '    }', '}', '']
+        function = lambda sentence, head, promise, kind, names, arm, *tactics: [
+            f'/// {sentence}', *tactics, f'pub(crate) fn {head}', f'    ensures {{ {promise} }}', '{', f'    match {"it" if "(it:" in head else kind.lower()} {{',
+            *[f'        {kind}::{name} => {arm(name)},' for name in names], '    }', '}', '']
         keywords = self.source.value('keywords')
-        look = ('{}, input: &ParseBuffer<\'_>) -> bool', 'input.peek::<{}>()')
-        copy = ('{}, out: &mut Writer, input: &mut ParseBuffer<\'_>) -> Parsed<()>', 'copy::<{}>(out, input)')
+        look = '{}, input: &ParseBuffer<\'_>) -> bool'
+        peeked = lambda name: f'input.peek::<token::{name}>()'
+        copy = '{}, out: &mut Writer, input: &mut ParseBuffer<\'_>) -> Parsed<()>'
+        said = lambda name: f'"expected `{self.spelled[name]}`"'
+        copied_word = lambda name: f'copy_text("{self.spelled[name]}", {said(name)}, out, input)'
+        copied_mark = lambda name: f'copy_mark{len(self.spelled[name])}({", ".join(map(repr, self.spelled[name]))}, {said(name)}, out, input)'
         copies = 'Copies IsSyntax out.old ({}) result out.new input.new'
         return [
             f'//! {WRITTEN}', '//!', '//! Words and marks as data.', 'ghost use Rattle.std.specs.Prelude.{◌≡◌};',
             'ghost use Rattle.syn_grammar.specs.Tokens as grammar;', 'ghost use Rattle.syn_grammar.specs.Tokens.{one_of_texts};', 'ghost use Rattle.syn_grammar.specs.Words.{keywords};', 'ghost use Rattle.syn_grammar.specs.Grammar.{word};', 'ghost use Rattle.syn_grammar.specs.Take.{sees, take_token, take_mark};',
             'ghost use Rattle.syn_parse.specs.Refusals.{IsSyntax};', 'ghost use Rattle.syn_recognize.specs.Copies.{Copies};',
-            'ghost use Rattle.syn_recognize.specs.May as may;', 'ghost use Rattle.syn_recognize.specs.May.{head_of};', 'ghost use Rattle.syn_recognize.specs.Names.{word_text, mark_text};', '', 'use crate::token::copy;', 'use crate::writer::Writer;',
+            'ghost use Rattle.syn_recognize.specs.May as may;', 'ghost use Rattle.syn_recognize.specs.May.{head_of};', 'ghost use Rattle.syn_recognize.specs.Names.{word_text, mark_text};', '', 'use crate::token::{copy_mark1, copy_mark2, copy_mark3, copy_text};', 'use crate::writer::Writer;',
             'use syn_parse::buffer::ParseBuffer;', 'use syn_parse::read::refusal::Parsed;', 'use syn_tokens::token;', '',
             '/// A word.', '#[derive(Clone, Copy)]', 'pub enum Word {', *[f'    {name},' for name in words], '}', '',
             '/// A mark.', '#[derive(Clone, Copy)]', 'pub enum Mark {', *[f'    {name},' for name in marks], '}', '',
-            *function('Whether this word stands next.', 'at_word(' + look[0].format('word: Word'), 'result ≡ sees (grammar.at_word (word_text word)) input.now', 'Word', words, look[1].format('token::{}')),
-            *function('Whether this mark stands next.', 'at_mark(' + look[0].format('mark: Mark'), 'result ≡ sees (grammar.at_mark (mark_text mark)) input.now', 'Mark', marks, look[1].format('token::{}')),
-            *function('Reads and writes this word.', 'copy_word(' + copy[0].format('it: Word'), copies.format('take_token (word (word_text it)) input.old'), 'Word', words, copy[1].format('token::{}')),
-            *function('Reads and writes this mark.', 'copy_mark(' + copy[0].format('mark: Mark'), copies.format('take_mark (mark_text mark) input.old'), 'Mark', marks, copy[1].format('token::{}')),
+            *function('Whether this word stands next.', 'at_word(' + look.format('word: Word'), 'result ≡ sees (grammar.at_word (word_text word)) input.now', 'Word', words, peeked),
+            *function('Whether this mark stands next.', 'at_mark(' + look.format('mark: Mark'), 'result ≡ sees (grammar.at_mark (mark_text mark)) input.now', 'Mark', marks, peeked),
+            *function('Reads and writes this word.', 'copy_word(' + copy.format('it: Word'), copies.format('take_token (word (word_text it)) input.old'), 'Word', words, copied_word, '#[tactic(auto, unfolding(syn_tokens::specs::Leaves::is_known_word))]'),
+            *function('Reads and writes this mark.', 'copy_mark(' + copy.format('mark: Mark'), copies.format('take_mark (mark_text mark) input.old'), 'Mark', marks, copied_mark, '#[tactic(auto, unfolding(syn_tokens::specs::Punct::is_punct_character))]'),
             '/// Whether this word is a keyword, and no word that is one at some places alone.', 'pub(crate) fn is_known(word: Word) -> bool', '    ensures { result ≡ one_of_texts (word_text word) keywords }', '{', '    match word {',
             *[f'        Word::{name} => {str(self.spelled[name] in keywords).lower()},' for name in words], '    }', '}', '',
             '/// The first character of this mark.', 'pub(crate) fn first_of(mark: Mark) -> char', '    ensures { result ≡ head_of (mark_text mark) }', '{', '    match mark {',

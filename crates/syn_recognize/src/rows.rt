@@ -19,14 +19,13 @@ use crate::form::Form;
 use crate::late::{Guesses, Late};
 use crate::list::{List, at_first, first_of, other_of};
 use crate::step::Step;
-use crate::token::copy;
-use crate::words::Mark;
+use crate::words::{Mark, copy_mark};
 use crate::writer::Writer;
 use std::alloc::AllocError;
 use syn_parse::buffer::ParseBuffer;
 use syn_parse::read::refusal::{Parsed, Refusal};
 use syn_tokens::span::Span;
-use syn_tokens::token::{Comma, Gt, Lt};
+use syn_tokens::token::{Comma, Gt};
 
 static GREATER: Form = Form::Mark(Mark::Gt);
 
@@ -40,7 +39,7 @@ pub(crate) fn read_ordered<'a>(
 ) -> Parsed<()>
     ensures { Steps IsSyntax steps.old.items (copy_form (ordered (first_form list) (other_form list)) out.old input.old) result steps.new.items out.new input.new }
 {
-    copy::<Lt>(out, input)?;
+    copy_mark(Mark::Lt, out, input)?;
     steps.push(Step::Form(&GREATER))?;
     steps.push(Step::Row(list, None))?;
     Ok(())
@@ -160,7 +159,7 @@ pub(crate) fn read_row_rest<'a>(
     ensures { Steps IsSyntax steps.old.items (after_member list out.old input.old) result steps.new.items out.new input.new }
 {
     if input.peek::<Comma>() {
-        copy::<Comma>(out, input)?;
+        copy_mark(Mark::Comma, out, input)?;
         steps.push(Step::Row(list, number))?;
     }
     Ok(())
@@ -308,7 +307,7 @@ pub(crate) fn read_others_rest<'a>(
     if !input.peek::<Comma>() {
         return no_more(&late);
     }
-    copy::<Comma>(out, input)?;
+    copy_mark(Mark::Comma, out, input)?;
     steps.push(Step::Others(list, late))?;
     Ok(())
 }

@@ -1,27 +1,29 @@
 //! Tokens as data, and how each is read and written.
-ghost use Rattle.std.specs.Prelude.{◌≡◌, ◌∷◌, []};
+ghost use Rattle.std.specs.Prelude.{◌≡◌, ◌∷◌, [], true};
 ghost use Rattle.syn_grammar.specs.Words.{w_self, w_Self_type, w_super, w_crate};
 ghost use Rattle.syn_grammar.specs.Tokens.{one_of_texts};
-ghost use Rattle.syn_grammar.specs.Grammar.{name_or, index, is_index};
-ghost use Rattle.syn_grammar.specs.Take.{take_token};
+ghost use Rattle.syn_grammar.specs.Grammar.{word, name_or, index, is_index};
+ghost use Rattle.syn_grammar.specs.Take.{take_token, take_mark};
+ghost use Rattle.syn_tokens.specs.Leaves.{is_known_word};
+ghost use Rattle.syn_tokens.specs.Spelled.{is_plain_word};
+ghost use Rattle.syn_tokens.specs.Punct.{is_punct_character};
 ghost use Rattle.syn_parse.specs.Form.{parse};
 ghost use Rattle.syn_parse.specs.Refusals.{IsSyntax};
 ghost use Rattle.syn_recognize.specs.Copies.{Copies};
 ghost use Rattle.syn_recognize.specs.Forms.{kind_of};
-ghost use Rattle.syn_recognize.specs.Leaves.{token_is_leaf, lifetime_is_leaf, mark_is_leaf};
+ghost use Rattle.syn_recognize.specs.Leaves.{token_is_leaf, lifetime_is_leaf};
 
 use crate::field_numbers::field_number;
 use crate::words::{Word, copy_word};
 use crate::writer::Writer;
 use syn_parse::buffer::ParseBuffer;
+use syn_parse::read::Read;
 use syn_parse::read::refusal::Parsed;
-use syn_parse::read::{Read, ReadMark};
 use syn_tokens::ident::Ident;
 use syn_tokens::lifetime::Lifetime;
 use syn_tokens::literal::{LitKind, Literal};
 use syn_tokens::print::Print;
-use syn_tokens::token;
-use syn_tokens::token::WordKind;
+use syn_tokens::punct::Spacing;
 
 /// A token that is no mark.
 #[derive(Clone, Copy)]
@@ -62,14 +64,6 @@ impl Leaf for Lifetime {
     ghost leaf = { λ ts r x e. lifetime_is_leaf _ _ _ };
 }
 
-impl<K: WordKind> Leaf for token::Word<K> {
-    ghost leaf = { λ ts r x e. token_is_leaf _ _ };
-}
-
-impl<K: ReadMark<N>, const N: usize> Leaf for token::Mark<K, N> {
-    ghost leaf = { λ ts r x e. mark_is_leaf K.text ts r _ e };
-}
-
 /// Reads and writes a `T`.
 pub(crate) fn copy<T: Leaf>(out: &mut Writer, input: &mut ParseBuffer<'_>) -> Parsed<()>
     ensures { Copies IsSyntax out.old (parse T.form input.old) result out.new input.new }
@@ -92,6 +86,80 @@ pub(crate) fn copy_token(token: Token, out: &mut Writer, input: &mut ParseBuffer
         Token::Literal => copy::<Literal>(out, input),
         Token::Index => copy_index(out, input),
     }
+}
+
+/// Reads and writes the word of this text; where it doesn't stand, this is said.
+#[tactic(auto, using(crate::proofs::Writes::word_is))]
+pub(crate) fn copy_text(
+    text: &'static str,
+    expected: &'static str,
+    out: &mut Writer,
+    input: &mut ParseBuffer<'_>,
+) -> Parsed<()>
+    requires known { is_known_word text.now ≡ true }
+    requires plain { is_plain_word text.now ≡ true }
+    ensures { Copies IsSyntax out.old (take_token (word text.now) input.old) result out.new input.new }
+{
+    let span = input.read_word(text, expected)?;
+    out.write_word(text, span)?;
+    Ok(())
+}
+
+/// Reads and writes the mark of this character; where it doesn't stand, this is said.
+#[tactic(auto, using(crate::proofs::Writes::one_is))]
+pub(crate) fn copy_mark1(
+    c: char,
+    expected: &'static str,
+    out: &mut Writer,
+    input: &mut ParseBuffer<'_>,
+) -> Parsed<()>
+    requires { is_punct_character c ≡ true }
+    ensures { Copies IsSyntax out.old (take_mark (c ∷ []) input.old) result out.new input.new }
+{
+    let [first] = input.read_mark1(c, expected)?;
+    out.write_punct(c, Spacing::Alone, first)?;
+    Ok(())
+}
+
+/// Reads and writes the mark of these characters; where it doesn't stand, this is said.
+#[tactic(auto, using(crate::proofs::Writes::two_are))]
+pub(crate) fn copy_mark2(
+    c: char,
+    d: char,
+    expected: &'static str,
+    out: &mut Writer,
+    input: &mut ParseBuffer<'_>,
+) -> Parsed<()>
+    requires first { is_punct_character c ≡ true }
+    requires second { is_punct_character d ≡ true }
+    ensures { Copies IsSyntax out.old (take_mark (c ∷ d ∷ []) input.old) result out.new input.new }
+{
+    let [first, second] = input.read_mark2(c, d, expected)?;
+    out.write_punct(c, Spacing::Joint, first)?;
+    out.write_punct(d, Spacing::Alone, second)?;
+    Ok(())
+}
+
+/// Reads and writes the mark of these characters; where it doesn't stand, this is said.
+#[tactic(auto, using(crate::proofs::Writes::three_are))]
+pub(crate) fn copy_mark3(
+    c: char,
+    d: char,
+    e: char,
+    expected: &'static str,
+    out: &mut Writer,
+    input: &mut ParseBuffer<'_>,
+) -> Parsed<()>
+    requires first { is_punct_character c ≡ true }
+    requires second { is_punct_character d ≡ true }
+    requires third { is_punct_character e ≡ true }
+    ensures { Copies IsSyntax out.old (take_mark (c ∷ d ∷ e ∷ []) input.old) result out.new input.new }
+{
+    let [first, second, third] = input.read_mark3(c, d, e, expected)?;
+    out.write_punct(c, Spacing::Joint, first)?;
+    out.write_punct(d, Spacing::Joint, second)?;
+    out.write_punct(e, Spacing::Alone, third)?;
+    Ok(())
 }
 
 /// An identifier that is no keyword, or one of the keywords of paths.

@@ -1,5 +1,8 @@
 //! What is written.
 ghost use Rattle.std.specs.Prelude.{◌≡◌, [], true, false, OnOk};
+ghost use Rattle.syn_grammar.specs.Tokens.{ident, leaf, punct, end};
+ghost use Rattle.syn_tokens.specs.Punct.{is_joint, is_punct_character};
+ghost use Rattle.syn_tokens.specs.Spelled.{is_plain_word};
 ghost use Rattle.syn_tokens.specs.Spans.{at};
 ghost use Rattle.syn_tokens.specs.Delimiters.{delimiter_of};
 ghost use Rattle.syn_recognize.specs.PrintedRows.{way};
@@ -17,6 +20,7 @@ use std::mem;
 use syn_parse::read::refusal::{Parsed, Refusal};
 use syn_tokens::delimiter::Delimiter;
 use syn_tokens::print::Print;
+use syn_tokens::punct::Spacing;
 use syn_tokens::span::Span;
 use syn_tokens::stream::TokenStream;
 use syn_tokens::stream::builder::StreamBuilder;
@@ -124,13 +128,45 @@ impl Writer {
         requires { IsLeaf (T.syntax token.now) }
         ensures { OnOk result (self.new ≡ adds self.old (way self.old.printing (T.syntax token.now))) }
     {
-        if token.print_in(&mut self.out).is_err() {
+        let written = token.print_in(&mut self.out);
+        if written.is_err() {
             self.out = StreamBuilder::new(self.out.alloc());
-            self.braces = false;
-            return Err(AllocError);
         }
         self.braces = false;
-        Ok(())
+        written
+    }
+
+    /// Writes the word of this text; refused, all that was written is lost.
+    #[tactic(auto, using(syn_tokens::specs::Spelled::word_is_identifier, crate::proofs::Trailing::trees_end, crate::proofs::Writes::adds_is))]
+    pub(crate) fn write_word(&mut self, text: &str, span: Span) -> Result<(), AllocError>
+        requires { is_plain_word text.now ≡ true }
+        ensures { OnOk result (self.new ≡ adds self.old (leaf (ident text.now) (at span) end)) }
+    {
+        let written = self.out.add_word(text, span);
+        if written.is_err() {
+            self.out = StreamBuilder::new(self.out.alloc());
+        }
+        self.braces = false;
+        written
+    }
+
+    /// Writes one character of a mark; refused, all that was written is lost.
+    #[tactic(auto, using(crate::proofs::Trailing::trees_end, crate::proofs::Writes::adds_is))]
+    pub(crate) fn write_punct(
+        &mut self,
+        character: char,
+        spacing: Spacing,
+        span: Span,
+    ) -> Result<(), AllocError>
+        requires { is_punct_character character ≡ true }
+        ensures { OnOk result (self.new ≡ adds self.old (punct character (is_joint spacing) (at span) end)) }
+    {
+        let written = self.out.add_punct(character, spacing, span);
+        if written.is_err() {
+            self.out = StreamBuilder::new(self.out.alloc());
+        }
+        self.braces = false;
+        written
     }
 
     /// Writes these token trees, as they are; refused, it leaves all as it was.

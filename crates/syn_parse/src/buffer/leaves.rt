@@ -76,9 +76,10 @@ impl<'a> ParseBuffer<'a> {
         Ok(ident.to_ident()?)
     }
 
-    /// The identifier of this text.
+    /// The identifier of this text, which some rule of the grammar may ask for: its span. Where it doesn't stand next it is
+    /// refused there, with the fault that is handed in.
     #[tactic(auto, using(crate::proofs::Words::take_word, crate::proofs::Words::take_no_word), unfolding(syn_grammar::specs::Take::left))]
-    pub(crate) fn read_word(&mut self, text: &str, expected: &'static str) -> Parsed<Span>
+    pub fn read_word(&mut self, text: &str, expected: &'static str) -> Parsed<Span>
         requires { is_known_word text.now ≡ true }
         ensures reads { Computes IsSyntax (syntax_of_word text.now) (take_token (word text.now) self.old) result self.new }
         ensures moved { Takes 1 self.old result self.new }

@@ -14,9 +14,9 @@ use crate::read::refusal::Parsed;
 use syn_tokens::span::Span;
 
 impl<'a> ParseBuffer<'a> {
-    /// A mark of one character.
+    /// A mark of one character: where it stands. Where it doesn't stand next it is refused there, with the fault that is handed in.
     #[tactic(auto, using(crate::proofs::FirstTokens::mark_is))]
-    pub(crate) fn read_mark1(&mut self, c: char, expected: &'static str) -> Parsed<[Span; 1]>
+    pub fn read_mark1(&mut self, c: char, expected: &'static str) -> Parsed<[Span; 1]>
         ensures reads { Computes IsSyntax (syntax_of_mark (c ∷ [])) (take_mark (c ∷ []) self.old) result self.new }
         ensures moved { Takes 1 self.old result self.new }
         ensures fault { IfErr result (RefusedNext self.old expected.now) }
@@ -28,14 +28,10 @@ impl<'a> ParseBuffer<'a> {
         Ok([first])
     }
 
-    /// A mark of two characters, the first of them Joint.
+    /// A mark of two characters, the first of them Joint: where its characters stand. Where it doesn't stand next it is refused
+    /// there, with the fault that is handed in.
     #[tactic(auto, using(crate::proofs::FirstTokens::mark_is))]
-    pub(crate) fn read_mark2(
-        &mut self,
-        c: char,
-        d: char,
-        expected: &'static str,
-    ) -> Parsed<[Span; 2]>
+    pub fn read_mark2(&mut self, c: char, d: char, expected: &'static str) -> Parsed<[Span; 2]>
         ensures reads { Computes IsSyntax (syntax_of_mark (c ∷ d ∷ [])) (take_mark (c ∷ d ∷ []) self.old) result self.new }
         ensures moved { Takes 1 self.old result self.new }
         ensures fault { IfErr result (RefusedNext self.old expected.now) }
@@ -50,9 +46,10 @@ impl<'a> ParseBuffer<'a> {
         Ok([first, second])
     }
 
-    /// A mark of three characters, all but the last of them Joint.
+    /// A mark of three characters, all but the last of them Joint: where its characters stand. Where it doesn't stand next it is refused
+    /// there, with the fault that is handed in.
     #[tactic(auto, using(crate::proofs::FirstTokens::mark_is))]
-    pub(crate) fn read_mark3(
+    pub fn read_mark3(
         &mut self,
         c: char,
         d: char,
