@@ -42,9 +42,10 @@ TOPICS = [
     ('statements', 'operand_rest', 'Statements.'),
 ]
 
-# How many references to forms and looks a static holds at most. Rattle's own compiler refuses some with 22 ("too much code for the
-# backend's tables"), so what goes beyond is a part, with a static of its own.
-LARGEST = 12
+# How many references to forms and looks a static holds at most; what goes beyond is a part, with a static of its own. Rattle's own compiler
+# takes no type of more than some 512 parts ("too much code for the backend's tables"), and a static is one with the parts of all forms
+# and looks in it: some 40 a form.
+LARGEST = 11
 
 # Rules whose refusals have words of their own: where a form is never read, and where a mark is lacking.
 REFUSING = {'after_expression': 'MissingEnd', 'unnamed_field': 'DefaultValue'}
@@ -223,7 +224,7 @@ class Writer:
             'when': lambda: self.made(f'When({self.look(rest[0])}, ', [(rest[1], first), (rest[2], second)]),
             'inside': lambda: self.made(f'Inside({self.delimiter(rest[0])}, ', [(rest[1], first)]),
             'shaped': lambda: self.made(f'Shaped({self.shape(rest[0])}, ', [(rest[1], first)]),
-            'vanishing': lambda: self.made(f'Hidden({self.look(rest[1])}, ', [(rest[2], first)]),
+            'vanishing': lambda: self.made(f'Hidden(&{self.look(rest[1])}, ', [(rest[2], first)]),
             'captured': lambda: self.made('Captured(', [(rest[0], first)]),
         }
         if name not in parts:

@@ -37,7 +37,7 @@ pub enum Form {
     /// A part that isn't printed where its list is empty.
     Fading(Fading),
     /// A part that is never printed, where the look holds.
-    Hidden(Look, &'static Form),
+    Hidden(&'static Look, &'static Form),
     /// A part that is kept as the tokens that it is read of.
     Captured(&'static Form),
     /// One of several rules that begin alike.

@@ -29,7 +29,7 @@ static ARGUMENT: Form = Form::Rule(Rule::GenericArgument);
 
 static LIFETIME_PARAMETER: Form = Form::Rule(Rule::LifetimeParameter);
 
-static PARAMETER: Form = Form::Part(Part::Generics2);
+static PARAMETER: Form = Form::Part(Part::Generics3);
 
 /// The form of the members that are printed first.
 pub(crate) fn first_of(list: List) -> &'static Form

@@ -43,7 +43,24 @@ pub(super) static NO_INNER_ATTRIBUTES: Form = Form::When(
 /// brackets, an invisible group that holds an expression, a block or what ends with one, `return` with an expression or
 /// without it, `break` or `continue` with a lifetime or without it, or a path. Behind `break` and its lifetime nothing
 /// stands that an expression may begin with.
-pub(super) static PRIMARY: Form = Form::Shaped(Shape::Choice, &Form::Part(Part::Primary5));
+pub(super) static PRIMARY: Form = Form::Shaped(
+    Shape::Choice,
+    &Form::When(
+        Look::Word(Word::True),
+        &Form::Shaped(
+            Shape::Operand(Variant::Lit),
+            &Form::Token(Token::Word(Word::True)),
+        ),
+        &Form::When(
+            Look::Word(Word::False),
+            &Form::Shaped(
+                Shape::Operand(Variant::Lit),
+                &Form::Token(Token::Word(Word::False)),
+            ),
+            &Form::Part(Part::Primary5),
+        ),
+    ),
+);
 
 /// A part of `primary`.
 pub(super) static PRIMARY_1: Form = Form::Shaped(
@@ -104,52 +121,38 @@ pub(super) static PRIMARY_3: Form = Form::When(
 
 /// A part of `primary`.
 pub(super) static PRIMARY_4: Form = Form::When(
-    Look::Group(Delimiter::Paren),
+    Look::Group(Delimiter::Bracket),
     &Form::Shaped(
         Shape::Bracketed,
-        &Form::Inside(Delimiter::Paren, &Form::Rule(Rule::Expressions)),
+        &Form::Inside(Delimiter::Bracket, &Form::Rule(Rule::ArrayContent)),
     ),
     &Form::When(
-        Look::Group(Delimiter::Bracket),
+        Look::Group(Delimiter::None),
         &Form::Shaped(
-            Shape::Bracketed,
-            &Form::Inside(Delimiter::Bracket, &Form::Rule(Rule::ArrayContent)),
+            Shape::Operand(Variant::Grouped),
+            &Form::Inside(Delimiter::None, &Form::Rule(Rule::WholeExpression)),
         ),
-        &Form::When(
-            Look::Group(Delimiter::None),
-            &Form::Shaped(
-                Shape::Operand(Variant::Grouped),
-                &Form::Inside(Delimiter::None, &Form::Rule(Rule::WholeExpression)),
-            ),
-            &Form::Part(Part::Primary3),
-        ),
+        &Form::Part(Part::Primary3),
     ),
 );
 
 /// A part of `primary`.
 pub(super) static PRIMARY_5: Form = Form::When(
-    Look::Word(Word::True),
-    &Form::Shaped(
-        Shape::Operand(Variant::Lit),
-        &Form::Token(Token::Word(Word::True)),
-    ),
+    Look::AnyLiteral,
+    &Form::Shaped(Shape::Operand(Variant::Lit), &Form::Token(Token::Literal)),
     &Form::When(
-        Look::Word(Word::False),
+        Look::Macro,
         &Form::Shaped(
-            Shape::Operand(Variant::Lit),
-            &Form::Token(Token::Word(Word::False)),
+            Shape::Operand(Variant::Macro),
+            &Form::Rule(Rule::MacroInvocation),
         ),
         &Form::When(
-            Look::AnyLiteral,
-            &Form::Shaped(Shape::Operand(Variant::Lit), &Form::Token(Token::Literal)),
-            &Form::When(
-                Look::Macro,
-                &Form::Shaped(
-                    Shape::Operand(Variant::Macro),
-                    &Form::Rule(Rule::MacroInvocation),
-                ),
-                &Form::Part(Part::Primary4),
+            Look::Group(Delimiter::Paren),
+            &Form::Shaped(
+                Shape::Bracketed,
+                &Form::Inside(Delimiter::Paren, &Form::Rule(Rule::Expressions)),
             ),
+            &Form::Part(Part::Primary4),
         ),
     ),
 );
@@ -231,7 +234,17 @@ pub(super) static IF_EXPRESSION_1: Form = Form::When(
 /// block.
 pub(super) static LOOP_EXPRESSION: Form = Form::Shaped(
     Shape::Choice,
-    &Form::Part(Part::LoopExpression2),
+    &Form::When(
+        Look::Word(Word::Loop),
+        &Form::Shaped(
+            Shape::Operand(Variant::Loop),
+            &Form::Then(
+                &Form::Token(Token::Word(Word::Loop)),
+                &Form::Rule(Rule::Body),
+            ),
+        ),
+        &Form::Part(Part::LoopExpression2),
+    ),
 );
 
 /// A part of `loop_expression`.
@@ -251,23 +264,13 @@ pub(super) static LOOP_EXPRESSION_1: Form = Form::Shaped(
 
 /// A part of `loop_expression`.
 pub(super) static LOOP_EXPRESSION_2: Form = Form::When(
-    Look::Word(Word::Loop),
+    Look::Word(Word::While),
     &Form::Shaped(
-        Shape::Operand(Variant::Loop),
+        Shape::Operand(Variant::While),
         &Form::Then(
-            &Form::Token(Token::Word(Word::Loop)),
-            &Form::Rule(Rule::Body),
+            &Form::Token(Token::Word(Word::While)),
+            &Form::Then(&Form::Rule(Rule::WholeExpression), &Form::Rule(Rule::Body)),
         ),
     ),
-    &Form::When(
-        Look::Word(Word::While),
-        &Form::Shaped(
-            Shape::Operand(Variant::While),
-            &Form::Then(
-                &Form::Token(Token::Word(Word::While)),
-                &Form::Then(&Form::Rule(Rule::WholeExpression), &Form::Rule(Rule::Body)),
-            ),
-        ),
-        &Form::Part(Part::LoopExpression1),
-    ),
+    &Form::Part(Part::LoopExpression1),
 );

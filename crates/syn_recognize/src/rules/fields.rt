@@ -134,38 +134,38 @@ pub(super) static FIELDS_UNNAMED: Form = Form::Inside(
 /// none; and perhaps a value behind `=`.
 pub(super) static VARIANT: Form = Form::Then(
     &Form::Rule(Rule::Attributes),
-    &Form::Then(
-        &Form::Hidden(
-            Look::Or(&Look::Word(Word::Pub), &Look::EmptyGroup),
-            &Form::When(
-                Look::Word(Word::Pub),
-                &Form::Rule(Rule::Visibility),
-                &Form::Inside(Delimiter::None, &Form::Empty),
-            ),
-        ),
-        &Form::Part(Part::Variant1),
-    ),
+    &Form::Part(Part::Variant2),
 );
 
 /// A part of `variant`.
 pub(super) static VARIANT_1: Form = Form::Then(
-    &Form::Token(Token::Name),
-    &Form::Then(
+    &Form::When(
+        Look::Group(Delimiter::Brace),
+        &Form::Rule(Rule::FieldsNamed),
         &Form::When(
-            Look::Group(Delimiter::Brace),
-            &Form::Rule(Rule::FieldsNamed),
-            &Form::When(
-                Look::Group(Delimiter::Paren),
-                &Form::Rule(Rule::FieldsUnnamed),
-                &Form::Empty,
-            ),
-        ),
-        &Form::When(
-            Look::Mark(Mark::Eq),
-            &Form::Then(&Form::Mark(Mark::Eq), &Form::Rule(Rule::WholeExpression)),
+            Look::Group(Delimiter::Paren),
+            &Form::Rule(Rule::FieldsUnnamed),
             &Form::Empty,
         ),
     ),
+    &Form::When(
+        Look::Mark(Mark::Eq),
+        &Form::Then(&Form::Mark(Mark::Eq), &Form::Rule(Rule::WholeExpression)),
+        &Form::Empty,
+    ),
+);
+
+/// A part of `variant`.
+pub(super) static VARIANT_2: Form = Form::Then(
+    &Form::Hidden(
+        &Look::Or(&Look::Word(Word::Pub), &Look::EmptyGroup),
+        &Form::When(
+            Look::Word(Word::Pub),
+            &Form::Rule(Rule::Visibility),
+            &Form::Inside(Delimiter::None, &Form::Empty),
+        ),
+    ),
+    &Form::Then(&Form::Token(Token::Name), &Form::Part(Part::Variant1)),
 );
 
 /// Variants, separated by commas; the last comma may stand or not.

@@ -15,18 +15,15 @@ pub(super) static GENERICS: Form = Form::Generics;
 
 /// A part of `generics`.
 pub(super) static GENERICS_1: Form = Form::Then(
-    &Form::Token(Token::Word(Word::Const)),
+    &Form::Token(Token::Name),
     &Form::Then(
-        &Form::Token(Token::Name),
+        &Form::Mark(Mark::Colon),
         &Form::Then(
-            &Form::Mark(Mark::Colon),
-            &Form::Then(
-                &Form::Rule(Rule::Type),
-                &Form::When(
-                    Look::Mark(Mark::Eq),
-                    &Form::Then(&Form::Mark(Mark::Eq), &Form::Rule(Rule::Constant)),
-                    &Form::Empty,
-                ),
+            &Form::Rule(Rule::Type),
+            &Form::When(
+                Look::Mark(Mark::Eq),
+                &Form::Then(&Form::Mark(Mark::Eq), &Form::Rule(Rule::Constant)),
+                &Form::Empty,
             ),
         ),
     ),
@@ -34,21 +31,27 @@ pub(super) static GENERICS_1: Form = Form::Then(
 
 /// A part of `generics`.
 pub(super) static GENERICS_2: Form = Form::Then(
+    &Form::Token(Token::Name),
+    &Form::Then(
+        &Form::Fading(Fading::Bounds),
+        &Form::When(
+            Look::Mark(Mark::Eq),
+            &Form::Then(&Form::Mark(Mark::Eq), &Form::Rule(Rule::Type)),
+            &Form::Empty,
+        ),
+    ),
+);
+
+/// A part of `generics`.
+pub(super) static GENERICS_3: Form = Form::Then(
     &Form::Rule(Rule::Attributes),
     &Form::When(
         Look::Word(Word::Const),
-        &Form::Part(Part::Generics1),
         &Form::Then(
-            &Form::Token(Token::Name),
-            &Form::Then(
-                &Form::Fading(Fading::Bounds),
-                &Form::When(
-                    Look::Mark(Mark::Eq),
-                    &Form::Then(&Form::Mark(Mark::Eq), &Form::Rule(Rule::Type)),
-                    &Form::Empty,
-                ),
-            ),
+            &Form::Token(Token::Word(Word::Const)),
+            &Form::Part(Part::Generics1),
         ),
+        &Form::Part(Part::Generics2),
     ),
 );
 

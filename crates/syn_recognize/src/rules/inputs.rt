@@ -41,13 +41,16 @@ pub(super) static STRUCTURE_BODY: Form = Form::When(
         &Form::Rule(Rule::FieldsUnnamed),
         &Form::Then(&Form::Rule(Rule::WhereClause), &Form::Mark(Mark::Semi)),
     ),
-    &Form::Then(
-        &Form::Rule(Rule::WhereClause),
-        &Form::When(
-            Look::Group(Delimiter::Brace),
-            &Form::Then(&Form::Unshown, &Form::Rule(Rule::FieldsNamed)),
-            &Form::Mark(Mark::Semi),
-        ),
+    &Form::Part(Part::StructureBody1),
+);
+
+/// A part of `structure_body`.
+pub(super) static STRUCTURE_BODY_1: Form = Form::Then(
+    &Form::Rule(Rule::WhereClause),
+    &Form::When(
+        Look::Group(Delimiter::Brace),
+        &Form::Then(&Form::Unshown, &Form::Rule(Rule::FieldsNamed)),
+        &Form::Mark(Mark::Semi),
     ),
 );
 

@@ -24,7 +24,7 @@ pub(super) static EXPRESSION_PATH: Form = Form::Then(
 /// arguments where `::` and `<` stand next; or `self`, `super` or `crate`; and where `::` stands next, that mark and
 /// more words.
 pub(super) static EXPRESSION_WORDS: Form = Form::Then(
-    &Form::Shaped(Shape::Untagged, &Form::Part(Part::ExpressionWords1)),
+    &Form::Part(Part::ExpressionWords2),
     &Form::When(
         Look::Mark(Mark::PathSep),
         &Form::Then(
@@ -36,22 +36,28 @@ pub(super) static EXPRESSION_WORDS: Form = Form::Then(
 );
 
 /// A part of `expression_words`.
-pub(super) static EXPRESSION_WORDS_1: Form = Form::When(
-    Look::Or(&Look::Name, &Look::Word(Word::SelfType)),
-    &Form::Then(
-        &Form::Token(Token::NameOrSelfType),
-        &Form::Shaped(
-            Shape::Untagged,
-            &Form::When(
-                Look::Turbofish,
-                &Form::Rule(Rule::TypeArguments),
-                &Form::Empty,
-            ),
+pub(super) static EXPRESSION_WORDS_1: Form = Form::Then(
+    &Form::Token(Token::NameOrSelfType),
+    &Form::Shaped(
+        Shape::Untagged,
+        &Form::When(
+            Look::Turbofish,
+            &Form::Rule(Rule::TypeArguments),
+            &Form::Empty,
         ),
     ),
-    &Form::Then(
-        &Form::Token(Token::NameOrPathStart),
-        &Form::Shaped(Shape::Untagged, &Form::Empty),
+);
+
+/// A part of `expression_words`.
+pub(super) static EXPRESSION_WORDS_2: Form = Form::Shaped(
+    Shape::Untagged,
+    &Form::When(
+        Look::Or(&Look::Name, &Look::Word(Word::SelfType)),
+        &Form::Part(Part::ExpressionWords1),
+        &Form::Then(
+            &Form::Token(Token::NameOrPathStart),
+            &Form::Shaped(Shape::Untagged, &Form::Empty),
+        ),
     ),
 );
 
@@ -59,27 +65,27 @@ pub(super) static EXPRESSION_WORDS_1: Form = Form::When(
 /// then `::` and words. An `as` that a tree made by hand holds without a path is not printed.
 pub(super) static QUALIFIED_EXPRESSION_PATH: Form = Form::Then(
     &Form::Mark(Mark::Lt),
-    &Form::Part(Part::QualifiedExpressionPath1),
+    &Form::Then(
+        &Form::Rule(Rule::Type),
+        &Form::Part(Part::QualifiedExpressionPath1),
+    ),
 );
 
 /// A part of `qualified_expression_path`.
 pub(super) static QUALIFIED_EXPRESSION_PATH_1: Form = Form::Then(
-    &Form::Rule(Rule::Type),
-    &Form::Then(
-        &Form::When(
-            Look::Word(Word::As),
-            &Form::Then(
-                &Form::Token(Token::Word(Word::As)),
-                &Form::Rule(Rule::TypePath),
-            ),
-            &Form::Unshown,
-        ),
+    &Form::When(
+        Look::Word(Word::As),
         &Form::Then(
-            &Form::Mark(Mark::Gt),
-            &Form::Then(
-                &Form::Mark(Mark::PathSep),
-                &Form::Rule(Rule::ExpressionWords),
-            ),
+            &Form::Token(Token::Word(Word::As)),
+            &Form::Rule(Rule::TypePath),
+        ),
+        &Form::Unshown,
+    ),
+    &Form::Then(
+        &Form::Mark(Mark::Gt),
+        &Form::Then(
+            &Form::Mark(Mark::PathSep),
+            &Form::Rule(Rule::ExpressionWords),
         ),
     ),
 );
@@ -117,22 +123,7 @@ pub(super) static MACRO_INVOCATION: Form = Form::Then(
 pub(super) static PATTERN: Form = Form::When(
     Look::Word(Word::Underscore),
     &Form::Token(Token::Word(Word::Underscore)),
-    &Form::When(
-        Look::Group(Delimiter::Paren),
-        &Form::Inside(Delimiter::Paren, &Form::Rule(Rule::Patterns)),
-        &Form::When(
-            Look::PatternPath,
-            &Form::Then(
-                &Form::Rule(Rule::PathAsExpression),
-                &Form::When(
-                    Look::Group(Delimiter::Paren),
-                    &Form::Inside(Delimiter::Paren, &Form::Rule(Rule::Patterns)),
-                    &Form::Empty,
-                ),
-            ),
-            &Form::Part(Part::Pattern2),
-        ),
-    ),
+    &Form::Part(Part::Pattern3),
 );
 
 /// A part of `pattern`.
@@ -163,6 +154,24 @@ pub(super) static PATTERN_2: Form = Form::When(
             &Form::Never(Fault::Unexpected),
             &Form::Empty,
         ),
+    ),
+);
+
+/// A part of `pattern`.
+pub(super) static PATTERN_3: Form = Form::When(
+    Look::Group(Delimiter::Paren),
+    &Form::Inside(Delimiter::Paren, &Form::Rule(Rule::Patterns)),
+    &Form::When(
+        Look::PatternPath,
+        &Form::Then(
+            &Form::Rule(Rule::PathAsExpression),
+            &Form::When(
+                Look::Group(Delimiter::Paren),
+                &Form::Inside(Delimiter::Paren, &Form::Rule(Rule::Patterns)),
+                &Form::Empty,
+            ),
+        ),
+        &Form::Part(Part::Pattern2),
     ),
 );
 

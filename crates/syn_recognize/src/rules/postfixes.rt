@@ -60,26 +60,23 @@ pub(super) static POSTFIXES_2: Form = Form::When(
 pub(super) static MEMBER: Form = Form::When(
     Look::Integer,
     &Form::Token(Token::Index),
-    &Form::Part(Part::Member1),
+    &Form::Then(&Form::Token(Token::Name), &Form::Part(Part::Member1)),
 );
 
 /// A part of `member`.
-pub(super) static MEMBER_1: Form = Form::Then(
-    &Form::Token(Token::Name),
-    &Form::When(
-        Look::Mark(Mark::PathSep),
+pub(super) static MEMBER_1: Form = Form::When(
+    Look::Mark(Mark::PathSep),
+    &Form::Then(
+        &Form::Mark(Mark::PathSep),
         &Form::Then(
-            &Form::Mark(Mark::PathSep),
-            &Form::Then(
-                &Form::Rule(Rule::GenericArguments),
-                &Form::Inside(Delimiter::Paren, &Form::Rule(Rule::Expressions)),
-            ),
-        ),
-        &Form::When(
-            Look::Group(Delimiter::Paren),
+            &Form::Rule(Rule::GenericArguments),
             &Form::Inside(Delimiter::Paren, &Form::Rule(Rule::Expressions)),
-            &Form::Empty,
         ),
+    ),
+    &Form::When(
+        Look::Group(Delimiter::Paren),
+        &Form::Inside(Delimiter::Paren, &Form::Rule(Rule::Expressions)),
+        &Form::Empty,
     ),
 );
 
@@ -87,55 +84,55 @@ pub(super) static MEMBER_1: Form = Form::Then(
 /// expression with what goes on it.
 pub(super) static UNARY: Form = Form::Shaped(
     Shape::Leading,
-    &Form::Then(
-        &Form::Rule(Rule::Attributes),
-        &Form::When(
-            Look::Mark(Mark::Minus),
-            &Form::Shaped(
-                Shape::Operand(Variant::Unary),
-                &Form::Then(&Form::Mark(Mark::Minus), &Form::Rule(Rule::Unary)),
-            ),
-            &Form::Part(Part::Unary2),
-        ),
-    ),
+    &Form::Then(&Form::Rule(Rule::Attributes), &Form::Part(Part::Unary3)),
 );
 
 /// A part of `unary`.
-pub(super) static UNARY_1: Form = Form::When(
-    Look::Mark(Mark::And),
-    &Form::Shaped(
-        Shape::Operand(Variant::Reference),
+pub(super) static UNARY_1: Form = Form::Shaped(
+    Shape::Operand(Variant::Reference),
+    &Form::Then(
+        &Form::Mark(Mark::And),
         &Form::Then(
-            &Form::Mark(Mark::And),
-            &Form::Then(
-                &Form::When(
-                    Look::Word(Word::Mut),
-                    &Form::Token(Token::Word(Word::Mut)),
-                    &Form::Empty,
-                ),
-                &Form::Rule(Rule::Unary),
+            &Form::When(
+                Look::Word(Word::Mut),
+                &Form::Token(Token::Word(Word::Mut)),
+                &Form::Empty,
             ),
+            &Form::Rule(Rule::Unary),
         ),
-    ),
-    &Form::Shaped(
-        Shape::Chain,
-        &Form::Then(&Form::Rule(Rule::Primary), &Form::Rule(Rule::Postfixes)),
     ),
 );
 
 /// A part of `unary`.
 pub(super) static UNARY_2: Form = Form::When(
-    Look::Mark(Mark::Not),
+    Look::Mark(Mark::Star),
     &Form::Shaped(
         Shape::Operand(Variant::Unary),
-        &Form::Then(&Form::Mark(Mark::Not), &Form::Rule(Rule::Unary)),
+        &Form::Then(&Form::Mark(Mark::Star), &Form::Rule(Rule::Unary)),
     ),
     &Form::When(
-        Look::Mark(Mark::Star),
+        Look::Mark(Mark::And),
+        &Form::Part(Part::Unary1),
+        &Form::Shaped(
+            Shape::Chain,
+            &Form::Then(&Form::Rule(Rule::Primary), &Form::Rule(Rule::Postfixes)),
+        ),
+    ),
+);
+
+/// A part of `unary`.
+pub(super) static UNARY_3: Form = Form::When(
+    Look::Mark(Mark::Minus),
+    &Form::Shaped(
+        Shape::Operand(Variant::Unary),
+        &Form::Then(&Form::Mark(Mark::Minus), &Form::Rule(Rule::Unary)),
+    ),
+    &Form::When(
+        Look::Mark(Mark::Not),
         &Form::Shaped(
             Shape::Operand(Variant::Unary),
-            &Form::Then(&Form::Mark(Mark::Star), &Form::Rule(Rule::Unary)),
+            &Form::Then(&Form::Mark(Mark::Not), &Form::Rule(Rule::Unary)),
         ),
-        &Form::Part(Part::Unary1),
+        &Form::Part(Part::Unary2),
     ),
 );

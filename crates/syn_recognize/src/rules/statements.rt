@@ -13,31 +13,34 @@ use crate::words::{Mark, Word};
 /// operators of each level.
 pub(super) static OPERAND_REST: Form = Form::Then(
     &Form::Rule(Rule::Postfixes),
+    &Form::Part(Part::OperandRest2),
+);
+
+/// A part of `operand_rest`.
+pub(super) static OPERAND_REST_1: Form = Form::Then(
+    &Form::Rule(Rule::BitXors),
     &Form::Then(
-        &Form::Rule(Rule::Casts),
+        &Form::Rule(Rule::BitOrs),
         &Form::Then(
-            &Form::Rule(Rule::Products),
+            &Form::Rule(Rule::Compared),
             &Form::Then(
-                &Form::Rule(Rule::Sums),
-                &Form::Then(&Form::Rule(Rule::Shifts), &Form::Part(Part::OperandRest1)),
+                &Form::Rule(Rule::Conjunctions),
+                &Form::Then(&Form::Rule(Rule::Disjunctions), &Form::Rule(Rule::Assigned)),
             ),
         ),
     ),
 );
 
 /// A part of `operand_rest`.
-pub(super) static OPERAND_REST_1: Form = Form::Then(
-    &Form::Rule(Rule::BitAnds),
+pub(super) static OPERAND_REST_2: Form = Form::Then(
+    &Form::Rule(Rule::Casts),
     &Form::Then(
-        &Form::Rule(Rule::BitXors),
+        &Form::Rule(Rule::Products),
         &Form::Then(
-            &Form::Rule(Rule::BitOrs),
+            &Form::Rule(Rule::Sums),
             &Form::Then(
-                &Form::Rule(Rule::Compared),
-                &Form::Then(
-                    &Form::Rule(Rule::Conjunctions),
-                    &Form::Then(&Form::Rule(Rule::Disjunctions), &Form::Rule(Rule::Assigned)),
-                ),
+                &Form::Rule(Rule::Shifts),
+                &Form::Then(&Form::Rule(Rule::BitAnds), &Form::Part(Part::OperandRest1)),
             ),
         ),
     ),

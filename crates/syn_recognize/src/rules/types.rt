@@ -24,7 +24,7 @@ pub(super) static TYPE_PATH: Form = Form::Then(
 /// The words of a path in a type: each an identifier that isn't a keyword, or `Self`, with its arguments where they
 /// stand next; or `self`, `super` or `crate`; and where `::` stands next, that mark and more words.
 pub(super) static TYPE_WORDS: Form = Form::Then(
-    &Form::Shaped(Shape::Untagged, &Form::Part(Part::TypeWords1)),
+    &Form::Part(Part::TypeWords2),
     &Form::When(
         Look::Mark(Mark::PathSep),
         &Form::Then(&Form::Mark(Mark::PathSep), &Form::Rule(Rule::TypeWords)),
@@ -33,22 +33,28 @@ pub(super) static TYPE_WORDS: Form = Form::Then(
 );
 
 /// A part of `type_words`.
-pub(super) static TYPE_WORDS_1: Form = Form::When(
-    Look::Or(&Look::Name, &Look::Word(Word::SelfType)),
-    &Form::Then(
-        &Form::Token(Token::NameOrSelfType),
-        &Form::Shaped(
-            Shape::Untagged,
-            &Form::When(
-                Look::Arguments,
-                &Form::Rule(Rule::TypeArguments),
-                &Form::Empty,
-            ),
+pub(super) static TYPE_WORDS_1: Form = Form::Then(
+    &Form::Token(Token::NameOrSelfType),
+    &Form::Shaped(
+        Shape::Untagged,
+        &Form::When(
+            Look::Arguments,
+            &Form::Rule(Rule::TypeArguments),
+            &Form::Empty,
         ),
     ),
-    &Form::Then(
-        &Form::Token(Token::NameOrPathStart),
-        &Form::Shaped(Shape::Untagged, &Form::Empty),
+);
+
+/// A part of `type_words`.
+pub(super) static TYPE_WORDS_2: Form = Form::Shaped(
+    Shape::Untagged,
+    &Form::When(
+        Look::Or(&Look::Name, &Look::Word(Word::SelfType)),
+        &Form::Part(Part::TypeWords1),
+        &Form::Then(
+            &Form::Token(Token::NameOrPathStart),
+            &Form::Shaped(Shape::Untagged, &Form::Empty),
+        ),
     ),
 );
 
@@ -108,25 +114,22 @@ pub(super) static GENERIC_ARGUMENT_1: Form = Form::When(
 /// `as` that a tree made by hand holds without a path is not printed.
 pub(super) static QUALIFIED_PATH: Form = Form::Then(
     &Form::Mark(Mark::Lt),
-    &Form::Part(Part::QualifiedPath1),
+    &Form::Then(&Form::Rule(Rule::Type), &Form::Part(Part::QualifiedPath1)),
 );
 
 /// A part of `qualified_path`.
 pub(super) static QUALIFIED_PATH_1: Form = Form::Then(
-    &Form::Rule(Rule::Type),
-    &Form::Then(
-        &Form::When(
-            Look::Word(Word::As),
-            &Form::Then(
-                &Form::Token(Token::Word(Word::As)),
-                &Form::Rule(Rule::TypePath),
-            ),
-            &Form::Unshown,
-        ),
+    &Form::When(
+        Look::Word(Word::As),
         &Form::Then(
-            &Form::Mark(Mark::Gt),
-            &Form::Then(&Form::Mark(Mark::PathSep), &Form::Rule(Rule::TypeWords)),
+            &Form::Token(Token::Word(Word::As)),
+            &Form::Rule(Rule::TypePath),
         ),
+        &Form::Unshown,
+    ),
+    &Form::Then(
+        &Form::Mark(Mark::Gt),
+        &Form::Then(&Form::Mark(Mark::PathSep), &Form::Rule(Rule::TypeWords)),
     ),
 );
 

@@ -22,7 +22,7 @@ pub(super) static VISIBILITY: Form = Form::When(
         ),
     ),
     &Form::Hidden(
-        Look::EmptyGroup,
+        &Look::EmptyGroup,
         &Form::Inside(Delimiter::None, &Form::Empty),
     ),
 );
