@@ -48,8 +48,14 @@ TOPICS = [
 LARGEST = 11
 
 # Rules whose refusals have words of their own: where a form is never read, and where a mark is lacking.
-REFUSING = {'after_expression': 'MissingEnd', 'unnamed_field': 'DefaultValue'}
+REFUSING = {'after_expression': 'MissingEnd', 'unnamed_field': 'DefaultValue', 'primary': 'BreakValue'}
 LACKING = {'statement': (';', 'MissingSemi'), 'statement_end': (';', 'MissingSemi')}
+
+# Tokens and marks of rules at which a form that is left out may stand: src/left_out.rt says which.
+PLACES = {
+    ('expression_words', 'NameOrPathStart'): 'Expression', ('type_words', 'NameOrPathStart'): 'Type', ('pattern', 'Name'): 'Pattern',
+    ('member', 'Name'): 'Member', ('loop_expression', 'Word(Word::In)'): 'Behind', ('local', 'Semi'): 'Behind',
+}
 
 # Lists without which a part isn't printed, by their rules; what stands before each is told by src/fading.rt.
 FADING = {'lifetimes': 'Lifetimes', 'parameter_bounds': 'Bounds', 'predicates': 'Predicates'}
@@ -144,6 +150,11 @@ class Writer:
             return self.named('Token', 'Literal')
         return self.named('Token', TOKENS[kind])
 
+    def placed(self, kind, it):
+        """A token or a mark; of some it is said where they stand."""
+        place = PLACES.get((self.rule, it.split('::', 1)[1]))
+        return self.named('Form', f'{kind}At({it}, {self.named("Place", place)})' if place else f'{kind}({it})')
+
     def shape(self, it):
         name, *rest = it
         self.shapes.add(it[0] if not rest else (it[0],))
@@ -215,8 +226,8 @@ class Writer:
             return self.named('Form', f'Ordered({self.named("List", ORDERED[rest[0]])})')
         first, second = (*way, 'first'), (*way, 'second')
         parts = {
-            'token': lambda: self.named('Form', f'Token({self.token(rest[1])})'),
-            'mark': lambda: self.named('Form', f'Mark({self.mark(rest[1])})'),
+            'token': lambda: self.placed('Token', self.token(rest[1])),
+            'mark': lambda: self.placed('Mark', self.mark(rest[1])),
             'raw': lambda: self.named('Form', f'Raw({self.delimiter(rest[0])})'),
             'rest_after': lambda: self.named('Form', f'RestAfter({self.mark(rest[0])})'),
             'rule': lambda: self.named('Form', f'Rule({self.named("Rule", camel(rest[0][0]))})'),
@@ -237,7 +248,7 @@ class Writer:
         for (name, _, sentence), start, end in zip(TOPICS, starts, starts[1:]):
             yield name, sentence, [k for k in self.source.rules[start:end] if k in rules]
 
-    MODULES = {'Fault': 'crate::fault', 'Fading': 'crate::fading', 'List': 'crate::list', 'Union': 'crate::unions', 'Delimiter': 'syn_tokens::delimiter', 'Form': 'crate::form', 'Look': 'crate::look', 'Rule': 'crate::rules', 'Part': 'crate::rules', 'Shape': 'crate::shape',
+    MODULES = {'Fault': 'crate::fault', 'Fading': 'crate::fading', 'List': 'crate::list', 'Place': 'crate::left_out', 'Union': 'crate::unions', 'Delimiter': 'syn_tokens::delimiter', 'Form': 'crate::form', 'Look': 'crate::look', 'Rule': 'crate::rules', 'Part': 'crate::rules', 'Shape': 'crate::shape',
                'Variant': 'crate::shape', 'Token': 'crate::token', 'Word': 'crate::words', 'Mark': 'crate::words'}
 
     def imports(self):
@@ -330,6 +341,9 @@ class Writer:
         said = lambda name: f'"expected `{self.spelled[name]}`"'
         copied_word = lambda name: f'copy_text("{self.spelled[name]}", {said(name)}, out, input)'
         copied_mark = lambda name: f'copy_mark{len(self.spelled[name])}({", ".join(map(repr, self.spelled[name]))}, {said(name)}, out, input)'
+        lacking = lambda kind, names: [
+            f'/// What is said where this {kind.lower()} is expected at the end.', f"pub(crate) fn {kind.lower()}_at_end({kind.lower()}: {kind}) -> &'static str {{", f'    match {kind.lower()} {{',
+            *[f'        {kind}::{name} => "unexpected end of input, expected `{self.spelled[name]}`",' for name in names], '    }', '}', '']
         copies = 'Copies IsSyntax out.old ({}) result out.new input.new'
         return [
             f'//! {WRITTEN}', '//!', '//! Words and marks as data.', 'ghost use Rattle.std.specs.Prelude.{◌≡◌};',
@@ -343,6 +357,7 @@ class Writer:
             *function('Whether this mark stands next.', 'at_mark(' + look.format('mark: Mark'), 'result ≡ sees (grammar.at_mark (mark_text mark)) input.now', 'Mark', marks, peeked),
             *function('Reads and writes this word.', 'copy_word(' + copy.format('it: Word'), copies.format('take_token (word (word_text it)) input.old'), 'Word', words, copied_word, '#[tactic(auto, unfolding(syn_tokens::specs::Leaves::is_known_word))]'),
             *function('Reads and writes this mark.', 'copy_mark(' + copy.format('mark: Mark'), copies.format('take_mark (mark_text mark) input.old'), 'Mark', marks, copied_mark, '#[tactic(auto, unfolding(syn_tokens::specs::Punct::is_punct_character))]'),
+            *lacking('Word', words), *lacking('Mark', marks),
             '/// Whether this word is a keyword, and no word that is one at some places alone.', 'pub(crate) fn is_known(word: Word) -> bool', '    ensures { result ≡ one_of_texts (word_text word) keywords }', '{', '    match word {',
             *[f'        Word::{name} => {str(self.spelled[name] in keywords).lower()},' for name in words], '    }', '}', '',
             '/// The first character of this mark.', 'pub(crate) fn first_of(mark: Mark) -> char', '    ensures { result ≡ head_of (mark_text mark) }', '{', '    match mark {',

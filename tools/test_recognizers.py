@@ -8,7 +8,7 @@ import tempfile
 import unittest
 from pathlib import Path
 
-from recognizers import ASKED, CRATE, CUT, DEFERRED, LARGEST, Writer, camel, rules_in
+from recognizers import ASKED, CRATE, CUT, DEFERRED, LARGEST, PLACES, Writer, camel, rules_in
 
 HERE = Path(__file__).resolve().parent
 TOP = HERE.parent
@@ -84,6 +84,12 @@ class Recognizers(unittest.TestCase):
         writer = Writer()
         writer.files()
         return writer.parts
+
+    def test_each_place_stands_in_its_rule(self):
+        statics = self.statics()
+        for (rule, it), place in PLACES.items():
+            forms = ' '.join(form for name, form in statics.items() if re.fullmatch(rf'{rule.upper()}(_\d+)?', name))
+            self.assertRegex(forms, rf'At\(\w+::{re.escape(it)}, Place::{place}\)', rule)
 
     def test_rules_that_settle_have_no_form_that_vanishes(self):
         statics = self.statics()

@@ -28,7 +28,9 @@ abbrev pub grammar_of : Form → Grammar
 grammar_of Form-m.Empty = empty
 grammar_of (Form-m.Never e) = one_of []
 grammar_of (Form-m.Token t) = token [] (kind_of t)
+grammar_of (Form-m.TokenAt t p) = token [] (kind_of t)
 grammar_of (Form-m.Mark m) = mark false (mark_text m)
+grammar_of (Form-m.MarkAt m p) = mark false (mark_text m)
 grammar_of (Form-m.MarkElse m e) = mark false (mark_text m)
 grammar_of Form-m.Lifetime = lifetime
 grammar_of (Form-m.Then' p f q g) = grammar_of f & grammar_of g

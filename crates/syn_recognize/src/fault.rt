@@ -15,6 +15,8 @@ pub enum Fault {
     MissingSemi,
     /// A field without a name has a default.
     DefaultValue,
+    /// An expression stands behind `break`.
+    BreakValue,
 }
 
 impl Fault {
@@ -29,6 +31,7 @@ impl Fault {
             Fault::DefaultValue => input.refusal_behind(
                 "field default value is only supported in structs with named fields",
             ),
+            Fault::BreakValue => input.refusal("`break` with a value is not read here"),
         }
     }
 }

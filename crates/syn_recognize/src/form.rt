@@ -1,6 +1,7 @@
 //! The forms of the grammar as data.
 use crate::fading::Fading;
 use crate::fault::Fault;
+use crate::left_out::Place;
 use crate::list::List;
 use crate::look::Look;
 use crate::rules::{Part, Rule};
@@ -17,7 +18,11 @@ pub enum Form {
     /// Never read, for this reason.
     Never(Fault),
     Token(Token),
+    /// A token at a place where another form could stand in Rust.
+    TokenAt(Token, Place),
     Mark(Mark),
+    /// A mark at such a place.
+    MarkAt(Mark, Place),
     /// A mark, refused for this reason where it doesn't stand.
     MarkElse(Mark, Fault),
     Lifetime,

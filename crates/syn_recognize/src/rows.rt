@@ -17,6 +17,7 @@ ghost use Rattle.syn_recognize.specs.Steps.{Steps, Guessing, Runs};
 
 use crate::form::Form;
 use crate::late::{Guesses, Late};
+use crate::left_out::Place;
 use crate::list::{List, at_first, first_of, other_of};
 use crate::step::Step;
 use crate::words::{Mark, copy_mark};
@@ -27,7 +28,7 @@ use syn_parse::read::refusal::{Parsed, Refusal};
 use syn_tokens::span::Span;
 use syn_tokens::token::{Comma, Gt};
 
-static GREATER: Form = Form::Mark(Mark::Gt);
+static GREATER: Form = Form::MarkAt(Mark::Gt, Place::Behind);
 
 /// Reads a list in `< >`.
 #[tactic(auto, using(crate::proofs::Todo::push, crate::proofs::Copied::ordered_is), unfolding(crate::specs::Copies::copy_form))]

@@ -27,6 +27,7 @@ use crate::form::Form;
 use crate::levels::{behind, first_level, height_of};
 use crate::look::{Look, holds_next};
 use crate::operands::{opened, operand};
+use crate::refused::{left_over, told};
 use crate::rows::{
     note, read_ordered, read_others, read_others_rest, read_row, read_row_rest, skip_late,
 };
@@ -137,7 +138,10 @@ fn read_form<'a>(
     ensures { Reads IsSyntax steps.old.items (copy_form (grammar_of form.now) out.old input.old) result steps.new.items out.new input.new }
 {
     let first = descend(form, steps, out, input)?;
-    read_leaf(first, steps, out, input)
+    match read_leaf(first, steps, out, input) {
+        Ok(()) => Ok(()),
+        Err(refusal) => Err(told(refusal, first, input)),
+    }
 }
 
 /// Goes down to the first form that reads something itself, and puts off what follows it. Refused only where memory is.
@@ -341,7 +345,9 @@ fn read_leaf<'a>(
         Form::Empty => Ok(()),
         Form::Never(fault) => Err(fault.refusal(input)),
         Form::Token(token) => copy_token(*token, out, input),
+        Form::TokenAt(token, _) => copy_token(*token, out, input),
         Form::Mark(mark) => copy_mark(*mark, out, input),
+        Form::MarkAt(mark, _) => copy_mark(*mark, out, input),
         Form::MarkElse(mark, fault) => copy_mark_else(*mark, *fault, out, input),
         Form::Lifetime => copy::<Lifetime>(out, input),
         Form::Inside(delimiter, content) => enter(*delimiter, content, steps, out, input),
@@ -430,7 +436,7 @@ fn leave<'a>(
     ensures { Runs IsSyntax (copies.closing (at closing) rest.now out.old input.old) result out.new input.new }
 {
     if !input.is_empty() {
-        return Err(input.refusal("unexpected token"));
+        return Err(left_over(input));
     }
     out.close(delimiter, closing)?;
     input.advance_to(rest);

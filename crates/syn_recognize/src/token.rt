@@ -177,11 +177,12 @@ fn copy_path_word(out: &mut Writer, input: &mut ParseBuffer<'_>) -> Parsed<()>
 fn copy_name_or_self_type(out: &mut Writer, input: &mut ParseBuffer<'_>) -> Parsed<()>
     ensures { Copies IsSyntax out.old (take_token (name_or (w_Self_type ∷ [])) input.old) result out.new input.new }
 {
-    let refusal = input.refusal("expected identifier");
-    let ident = input.read_identifier()?;
+    let mut ahead = input.fork();
+    let ident = ahead.read_identifier()?;
     if ident.is_keyword() && !is_self_type(&ident) {
-        return Err(refusal);
+        return Err(input.refusal("expected identifier"));
     }
+    input.advance_to(&ahead);
     out.write(&ident)?;
     Ok(())
 }
@@ -191,11 +192,12 @@ fn copy_name_or_self_type(out: &mut Writer, input: &mut ParseBuffer<'_>) -> Pars
 fn copy_name_or_path_start(out: &mut Writer, input: &mut ParseBuffer<'_>) -> Parsed<()>
     ensures { Copies IsSyntax out.old (take_token (name_or (w_self ∷ w_super ∷ w_crate ∷ [])) input.old) result out.new input.new }
 {
-    let refusal = input.refusal("expected identifier");
-    let ident = input.read_identifier()?;
+    let mut ahead = input.fork();
+    let ident = ahead.read_identifier()?;
     if ident.is_keyword() && !is_path_start(&ident) {
-        return Err(refusal);
+        return Err(input.refusal("expected identifier"));
     }
+    input.advance_to(&ahead);
     out.write(&ident)?;
     Ok(())
 }

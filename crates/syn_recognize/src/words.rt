@@ -252,6 +252,81 @@ pub(crate) fn copy_mark(mark: Mark, out: &mut Writer, input: &mut ParseBuffer<'_
     }
 }
 
+/// What is said where this word is expected at the end.
+pub(crate) fn word_at_end(word: Word) -> &'static str {
+    match word {
+        Word::As => "unexpected end of input, expected `as`",
+        Word::Break => "unexpected end of input, expected `break`",
+        Word::Const => "unexpected end of input, expected `const`",
+        Word::Continue => "unexpected end of input, expected `continue`",
+        Word::Else => "unexpected end of input, expected `else`",
+        Word::Enum => "unexpected end of input, expected `enum`",
+        Word::False => "unexpected end of input, expected `false`",
+        Word::For => "unexpected end of input, expected `for`",
+        Word::If => "unexpected end of input, expected `if`",
+        Word::In => "unexpected end of input, expected `in`",
+        Word::Let => "unexpected end of input, expected `let`",
+        Word::Loop => "unexpected end of input, expected `loop`",
+        Word::Mut => "unexpected end of input, expected `mut`",
+        Word::Pub => "unexpected end of input, expected `pub`",
+        Word::Ref => "unexpected end of input, expected `ref`",
+        Word::Return => "unexpected end of input, expected `return`",
+        Word::SelfType => "unexpected end of input, expected `Self`",
+        Word::Struct => "unexpected end of input, expected `struct`",
+        Word::True => "unexpected end of input, expected `true`",
+        Word::Underscore => "unexpected end of input, expected `_`",
+        Word::Union => "unexpected end of input, expected `union`",
+        Word::Unsafe => "unexpected end of input, expected `unsafe`",
+        Word::Where => "unexpected end of input, expected `where`",
+        Word::While => "unexpected end of input, expected `while`",
+    }
+}
+
+/// What is said where this mark is expected at the end.
+pub(crate) fn mark_at_end(mark: Mark) -> &'static str {
+    match mark {
+        Mark::And => "unexpected end of input, expected `&`",
+        Mark::AndAnd => "unexpected end of input, expected `&&`",
+        Mark::AndEq => "unexpected end of input, expected `&=`",
+        Mark::Caret => "unexpected end of input, expected `^`",
+        Mark::CaretEq => "unexpected end of input, expected `^=`",
+        Mark::Colon => "unexpected end of input, expected `:`",
+        Mark::Comma => "unexpected end of input, expected `,`",
+        Mark::Dot => "unexpected end of input, expected `.`",
+        Mark::DotDot => "unexpected end of input, expected `..`",
+        Mark::Eq => "unexpected end of input, expected `=`",
+        Mark::EqEq => "unexpected end of input, expected `==`",
+        Mark::Ge => "unexpected end of input, expected `>=`",
+        Mark::Gt => "unexpected end of input, expected `>`",
+        Mark::Le => "unexpected end of input, expected `<=`",
+        Mark::Lt => "unexpected end of input, expected `<`",
+        Mark::Minus => "unexpected end of input, expected `-`",
+        Mark::MinusEq => "unexpected end of input, expected `-=`",
+        Mark::Ne => "unexpected end of input, expected `!=`",
+        Mark::Not => "unexpected end of input, expected `!`",
+        Mark::Or => "unexpected end of input, expected `|`",
+        Mark::OrEq => "unexpected end of input, expected `|=`",
+        Mark::OrOr => "unexpected end of input, expected `||`",
+        Mark::PathSep => "unexpected end of input, expected `::`",
+        Mark::Percent => "unexpected end of input, expected `%`",
+        Mark::PercentEq => "unexpected end of input, expected `%=`",
+        Mark::Plus => "unexpected end of input, expected `+`",
+        Mark::PlusEq => "unexpected end of input, expected `+=`",
+        Mark::Pound => "unexpected end of input, expected `#`",
+        Mark::Question => "unexpected end of input, expected `?`",
+        Mark::RArrow => "unexpected end of input, expected `->`",
+        Mark::Semi => "unexpected end of input, expected `;`",
+        Mark::Shl => "unexpected end of input, expected `<<`",
+        Mark::ShlEq => "unexpected end of input, expected `<<=`",
+        Mark::Shr => "unexpected end of input, expected `>>`",
+        Mark::ShrEq => "unexpected end of input, expected `>>=`",
+        Mark::Slash => "unexpected end of input, expected `/`",
+        Mark::SlashEq => "unexpected end of input, expected `/=`",
+        Mark::Star => "unexpected end of input, expected `*`",
+        Mark::StarEq => "unexpected end of input, expected `*=`",
+    }
+}
+
 /// Whether this word is a keyword, and no word that is one at some places alone.
 pub(crate) fn is_known(word: Word) -> bool
     ensures { result ≡ one_of_texts (word_text word) keywords }

@@ -3,6 +3,7 @@
 //! Blocks, and expressions with nothing before or behind them.
 use crate::fault::Fault;
 use crate::form::Form;
+use crate::left_out::Place;
 use crate::look::Look;
 use crate::rules::{Part, Rule};
 use crate::shape::{Shape, Variant};
@@ -71,7 +72,7 @@ pub(super) static PRIMARY_1: Form = Form::Shaped(
             &Form::When(Look::Lifetime, &Form::Lifetime, &Form::Empty),
             &Form::When(
                 Look::WholeExpression,
-                &Form::Never(Fault::Unexpected),
+                &Form::Never(Fault::BreakValue),
                 &Form::Empty,
             ),
         ),
@@ -255,7 +256,7 @@ pub(super) static LOOP_EXPRESSION_1: Form = Form::Shaped(
         &Form::Then(
             &Form::Rule(Rule::Pattern),
             &Form::Then(
-                &Form::Token(Token::Word(Word::In)),
+                &Form::TokenAt(Token::Word(Word::In), Place::Behind),
                 &Form::Then(&Form::Rule(Rule::WholeExpression), &Form::Rule(Rule::Body)),
             ),
         ),

@@ -3,6 +3,7 @@
 //! Paths in expressions, macros and patterns.
 use crate::fault::Fault;
 use crate::form::Form;
+use crate::left_out::Place;
 use crate::look::Look;
 use crate::rules::{Part, Rule};
 use crate::shape::Shape;
@@ -55,7 +56,7 @@ pub(super) static EXPRESSION_WORDS_2: Form = Form::Shaped(
         Look::Or(&Look::Name, &Look::Word(Word::SelfType)),
         &Form::Part(Part::ExpressionWords1),
         &Form::Then(
-            &Form::Token(Token::NameOrPathStart),
+            &Form::TokenAt(Token::NameOrPathStart, Place::Expression),
             &Form::Shaped(Shape::Untagged, &Form::Empty),
         ),
     ),
@@ -139,7 +140,7 @@ pub(super) static PATTERN_1: Form = Form::Then(
             &Form::Token(Token::Word(Word::Mut)),
             &Form::Empty,
         ),
-        &Form::Token(Token::Name),
+        &Form::TokenAt(Token::Name, Place::Pattern),
     ),
 );
 
@@ -148,7 +149,7 @@ pub(super) static PATTERN_2: Form = Form::When(
     Look::Or(&Look::Word(Word::Ref), &Look::Word(Word::Mut)),
     &Form::Part(Part::Pattern1),
     &Form::Then(
-        &Form::Token(Token::Name),
+        &Form::TokenAt(Token::Name, Place::Pattern),
         &Form::When(
             Look::Mark(Mark::PathSep),
             &Form::Never(Fault::Unexpected),

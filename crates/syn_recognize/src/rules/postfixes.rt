@@ -2,6 +2,7 @@
 //!
 //! What stands before an expression, and behind it.
 use crate::form::Form;
+use crate::left_out::Place;
 use crate::look::Look;
 use crate::rules::{Part, Rule};
 use crate::shape::{Shape, Variant};
@@ -60,7 +61,10 @@ pub(super) static POSTFIXES_2: Form = Form::When(
 pub(super) static MEMBER: Form = Form::When(
     Look::Integer,
     &Form::Token(Token::Index),
-    &Form::Then(&Form::Token(Token::Name), &Form::Part(Part::Member1)),
+    &Form::Then(
+        &Form::TokenAt(Token::Name, Place::Member),
+        &Form::Part(Part::Member1),
+    ),
 );
 
 /// A part of `member`.

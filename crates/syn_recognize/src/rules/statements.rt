@@ -3,6 +3,7 @@
 //! Statements.
 use crate::fault::Fault;
 use crate::form::Form;
+use crate::left_out::Place;
 use crate::look::Look;
 use crate::rules::{Part, Rule};
 use crate::shape::{Shape, Variant};
@@ -296,5 +297,5 @@ pub(super) static LOCAL_2: Form = Form::Then(
         ),
         &Form::Empty,
     ),
-    &Form::Mark(Mark::Semi),
+    &Form::MarkAt(Mark::Semi, Place::Behind),
 );

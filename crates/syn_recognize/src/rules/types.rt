@@ -3,6 +3,7 @@
 //! Paths in types, and types.
 use crate::fault::Fault;
 use crate::form::Form;
+use crate::left_out::Place;
 use crate::list::List;
 use crate::look::Look;
 use crate::rules::{Part, Rule};
@@ -52,7 +53,7 @@ pub(super) static TYPE_WORDS_2: Form = Form::Shaped(
         Look::Or(&Look::Name, &Look::Word(Word::SelfType)),
         &Form::Part(Part::TypeWords1),
         &Form::Then(
-            &Form::Token(Token::NameOrPathStart),
+            &Form::TokenAt(Token::NameOrPathStart, Place::Type),
             &Form::Shaped(Shape::Untagged, &Form::Empty),
         ),
     ),

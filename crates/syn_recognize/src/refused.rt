@@ -1,0 +1,92 @@
+//! What is said of a form that isn't read: what is expected there; or what else stands there, or that nothing does.
+ghost use Rattle.syn_parse.specs.Refusals.{IsSyntax};
+
+use crate::form::Form;
+use crate::left_out::Place;
+use crate::token::Token;
+use crate::words::{Mark, mark_at_end, word_at_end};
+use syn_parse::buffer::ParseBuffer;
+use syn_parse::read::refusal::Refusal;
+use syn_tokens::delimiter::Delimiter;
+
+/// The refusal of a form that stands next, by the refusal of what reads it. Where nothing stands next, and where a form of Rust stands
+/// there that is left out, it says so; all else of it stays.
+pub(crate) fn told(refusal: Refusal, form: &Form, input: &ParseBuffer<'_>) -> Refusal
+    ensures { IsSyntax result → IsSyntax refusal }
+{
+    match refusal {
+        Refusal::Memory => Refusal::Memory,
+        Refusal::Syntax { span, text } => Refusal::Syntax {
+            span,
+            text: text_of(text, form, input),
+        },
+    }
+}
+
+/// The refusal of what is left over in a group.
+pub(crate) fn left_over(input: &ParseBuffer<'_>) -> Refusal
+    ensures { IsSyntax result }
+{
+    match Place::Behind.left_out(input) {
+        Some(text) => input.refusal(text),
+        None => input.refusal("unexpected token"),
+    }
+}
+
+/// What is said where the form doesn't stand, in place of the text.
+fn text_of(text: &'static str, form: &Form, input: &ParseBuffer<'_>) -> &'static str {
+    let known = if input.is_empty() {
+        at_end(form)
+    } else {
+        left_out(form, input)
+    };
+    match known {
+        Some(known) => known,
+        None => text,
+    }
+}
+
+/// What is said of a form that is left out, where one may stand.
+fn left_out(form: &Form, input: &ParseBuffer<'_>) -> Option<&'static str> {
+    match form {
+        Form::TokenAt(_, place) => place.left_out(input),
+        Form::MarkAt(_, place) => place.left_out(input),
+        Form::Inside(Delimiter::Brace, _) => Place::Behind.left_out(input),
+        _ => None,
+    }
+}
+
+/// What is said of a form that is expected at the end, where it is one token or a group.
+fn at_end(form: &Form) -> Option<&'static str> {
+    match form {
+        Form::Token(token) => token_at_end(*token),
+        Form::TokenAt(token, _) => token_at_end(*token),
+        Form::Mark(mark) => Some(mark_at_end(*mark)),
+        Form::MarkAt(mark, _) => Some(mark_at_end(*mark)),
+        Form::Ordered(_) => Some(mark_at_end(Mark::Lt)),
+        Form::Lifetime => Some("unexpected end of input, expected lifetime"),
+        Form::Inside(delimiter, _) => Some(group_at_end(*delimiter)),
+        Form::Raw(delimiter) => Some(group_at_end(*delimiter)),
+        _ => None,
+    }
+}
+
+/// What is said where this token is expected at the end. The number of a field is expected where an integer stands alone.
+fn token_at_end(token: Token) -> Option<&'static str> {
+    match token {
+        Token::Word(word) => Some(word_at_end(word)),
+        Token::Literal => Some("unexpected end of input, expected literal"),
+        Token::Index => None,
+        _ => Some("unexpected end of input, expected identifier"),
+    }
+}
+
+/// What is said where a group with these delimiters is expected at the end.
+fn group_at_end(delimiter: Delimiter) -> &'static str {
+    match delimiter {
+        Delimiter::Paren => "unexpected end of input, expected parentheses",
+        Delimiter::Brace => "unexpected end of input, expected curly braces",
+        Delimiter::Bracket => "unexpected end of input, expected square brackets",
+        Delimiter::None => "unexpected end of input, expected invisible group",
+    }
+}
