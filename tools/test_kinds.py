@@ -8,7 +8,7 @@ from pathlib import Path
 from kindslib.grammar import HEAD, rows
 from kindslib.impls import comparisons, copies, import_lines, prints
 from kindslib.lists import comma_lists, list_rules
-from kindslib.program import canonical, dispatch, kind_enum, kind_specs
+from kindslib.program import canonical, comparisons_of_answers, dispatch, kind_enum, kind_specs
 from kindslib.source import MARK, Fault, Source
 from kindslib.views import endings, plain_views
 
@@ -306,6 +306,11 @@ table entry =
         source = self.crate()
         self.assertIn("use crate::canon::Wrapped;\n", canonical(source, [("thing", "Thing", "thing"), ("wrapped", "Wrapped", "thing")]))
         self.assertIn("        Kind::Thing => Rule::AThing,\n", dispatch([("thing", "Thing", "a_thing")]))
+
+    def test_a_kind_is_compared_by_its_trees_and_its_rule(self):
+        text = comparisons_of_answers(self.crate(), [("a-thing", "Thing", "a_thing"), ("wrapped", "Wrapped", "thing")])
+        self.assertIn("use syn::canon::Wrapped;\nuse syn::things::Thing;\n", text)
+        self.assertIn('    compare::<Thing>(case, "a-thing", Rule::AThing, tally)?;\n    compare::<Wrapped>(case, "wrapped", Rule::Thing, tally)?;\n', text)
 
     def test_the_kinds_of_the_program(self):
         kinds = [("fields-unnamed", "FieldsUnnamed", "fields_unnamed")]

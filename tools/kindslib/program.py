@@ -87,6 +87,21 @@ pub(crate) fn rule_by(kind: Kind) -> Rule
 """
 
 
+def comparisons_of_answers(source, kinds):
+    calls = "".join(f'    compare::<{name}>(case, "{word}", Rule::{camel(rule)}, tally)?;\n' for word, name, rule in kinds)
+    others = [("crate::case", "Case"), ("crate::compared", "compare"), ("crate::failure", "Failure"), ("crate::tally", "Tally"), ("syn_recognize", "Rule")]
+    return f"""//! {WRITTEN}
+//!
+//! Each kind, by its trees and by the rule that reads it.
+
+{imports(source, by_syn, "syn", kinds, others)}
+/// Compares what is answered about the text as each kind.
+pub(crate) fn compare_as_each(case: &Case<'_>, tally: &mut Tally) -> Result<(), Failure> {{
+{calls}    Ok(())
+}}
+"""
+
+
 def kind_specs(kinds):
     names = ", ".join(camel(word) for word, _, _ in kinds)
     words = "".join(f'word_of {camel(word)} = codes "{word}"\n' for word, _, _ in kinds)

@@ -1,0 +1,109 @@
+//! What both ways answer about a text as one kind.
+
+use crate::answer::Answer;
+use crate::case::{Case, Kind, Question};
+use crate::failure::Failure;
+use crate::tally::Tally;
+use syn::canon::{Canonical, canonical, same_form};
+use syn::reader::{read_tokens, token_text};
+use syn::token::TokenStream;
+use syn_answers::answers::{canonical_by, derived_by, same_form_by};
+use syn_recognize::Rule;
+
+/// Compares what is answered about the text as a `T`, by trees and by the rule that reads it. The word names the kind.
+pub(crate) fn compare<T: Canonical + Drop>(
+    case: &Case<'_>,
+    word: &'static str,
+    rule: Rule,
+    tally: &mut Tally,
+) -> Result<(), Failure> {
+    let kind = Kind { word, rule };
+    compare_prints::<T>(case, &kind, tally)?;
+    let Some(print) = print_of(case, rule)? else {
+        return Ok(());
+    };
+    compare_forms::<T>(case, &kind, Question::LikePrint, &print, tally)?;
+    compare_forms::<T>(case, &kind, Question::LikeBefore, case.before, tally)?;
+    compare_forms::<T>(case, &kind, Question::BeforeLike, case.before, tally)
+}
+
+/// Compares the prints, and whether there is one.
+fn compare_prints<T: Canonical + Drop>(
+    case: &Case<'_>,
+    kind: &Kind,
+    tally: &mut Tally,
+) -> Result<(), Failure> {
+    let by_tree = printed_by_tree::<T>(case)?;
+    let by_rule = printed_by_rule(case, kind.rule)?;
+    tally.add(case, kind, Question::Print, &by_tree, &by_rule)?;
+    let checked = checked_by_rule(case, kind.rule)?;
+    tally.add(case, kind, Question::Check, &by_tree.as_check(), &checked)
+}
+
+fn printed_by_tree<T: Canonical + Drop>(case: &Case<'_>) -> Result<Answer, Failure> {
+    let tokens = case.tokens.try_clone(case.alloc)?;
+    Answer::of_print(case.alloc, &canonical::<T>(tokens))
+}
+
+fn printed_by_rule(case: &Case<'_>, rule: Rule) -> Result<Answer, Failure> {
+    let tokens = case.tokens.try_clone(case.alloc)?;
+    Answer::of_print(case.alloc, &canonical_by(rule, tokens))
+}
+
+fn checked_by_rule(case: &Case<'_>, rule: Rule) -> Result<Answer, Failure> {
+    let tokens = case.tokens.try_clone(case.alloc)?;
+    Ok(Answer::of_check(&derived_by(rule, tokens)))
+}
+
+/// Compares what is answered whether the text and another one have the same form.
+fn compare_forms<T: Canonical + Drop>(
+    case: &Case<'_>,
+    kind: &Kind,
+    question: Question,
+    other: &TokenStream,
+    tally: &mut Tally,
+) -> Result<(), Failure> {
+    let (left, right) = match question {
+        Question::BeforeLike => (other, case.tokens),
+        _ => (case.tokens, other),
+    };
+    let by_tree = form_by_tree::<T>(case, left, right)?;
+    let by_rule = form_by_rule(case, kind.rule, left, right)?;
+    tally.add(case, kind, question, &by_tree, &by_rule)
+}
+
+fn form_by_tree<T: Canonical + Drop>(
+    case: &Case<'_>,
+    left: &TokenStream,
+    right: &TokenStream,
+) -> Result<Answer, Failure> {
+    let left = left.try_clone(case.alloc)?;
+    let right = right.try_clone(case.alloc)?;
+    Ok(Answer::of_form(&same_form::<T>(left, right)))
+}
+
+fn form_by_rule(
+    case: &Case<'_>,
+    rule: Rule,
+    left: &TokenStream,
+    right: &TokenStream,
+) -> Result<Answer, Failure> {
+    let left = left.try_clone(case.alloc)?;
+    let right = right.try_clone(case.alloc)?;
+    Ok(Answer::of_form(&same_form_by(rule, left, right)))
+}
+
+/// The tokens of the text of the canonical print, where there is one.
+fn print_of(case: &Case<'_>, rule: Rule) -> Result<Option<TokenStream>, Failure> {
+    let tokens = case.tokens.try_clone(case.alloc)?;
+    match canonical_by(rule, tokens) {
+        Ok(print) => Ok(Some(read_again(case, &print)?)),
+        Err(_) => Ok(None),
+    }
+}
+
+/// The tokens of the text of a stream.
+fn read_again(case: &Case<'_>, tokens: &TokenStream) -> Result<TokenStream, Failure> {
+    let text = token_text(tokens)?;
+    Ok(read_tokens(case.alloc, text.as_str())?)
+}

@@ -1,0 +1,173 @@
+#!/usr/bin/env python3
+"""Compares what is answered by trees with what is answered by recognition, on texts with known answers, rows and random texts.
+
+    tools/compare_answers.py [--stage N] [--count N] [--seed N] [--conformance FILE] [--oracle FOLDER] [--bin PROGRAM]
+
+The program `tree_answers` is asked (its src/main.rt tells the questions): as each kind, for the print of each text, whether it has one, and
+whether it has the form of its print and of the text before it. The answers, and the bytes at which a text is refused, have to be the
+same. The texts are
+
+- those of the conformance cases, in the file beside the repository;
+- both lines of each row of `check_rows`, so that texts which are to be compared follow each other;
+- random ones, as many as --count says, by the generator of the other reading beside the repository: derivations of each kind that is
+  built at the stage, each followed by itself with a few tokens changed.
+
+What isn't beside the repository is left out, and named. The program is run by a trial build, in a copy of the sources, or is
+PROGRAM. The status is 0 where nothing differs, 1 where something does, and 2 where the program didn't end well.
+"""
+import argparse
+import importlib
+import itertools
+import json
+import re
+import subprocess
+import sys
+import tempfile
+from collections import Counter
+from pathlib import Path
+
+import try_tests
+
+TOP = Path(__file__).resolve().parent.parent
+ROWS = TOP / "crates/check_rows/stdin"
+CONFORMANCE = TOP.parent / "shared/conformance/shared.jsonl"
+ORACLE = TOP.parent / "shared/oracle"
+CRATE = "tree_answers"
+# How much of the grammar is built, where no stage is named.
+STAGE = 4
+# A trial takes at most a MiB of input.
+CHUNK = 1_000_000
+# How long a run may take, its build not counted: ./test has it wait for others.
+SECONDS = 3600
+# No random text is longer.
+LONGEST = 4000
+# How many of the answers that differ are shown, of three lines each.
+SHOWN = 20
+ESCAPES = {"n": "\n", "t": "\t", "s": " ", "\\": "\\", "e": ""}
+COUNT = re.compile(r"(\d+) ([a-z ]+)")
+
+
+def conformance_texts(path, stage):
+    """What the cases that have answers at the stage give to the program, where that is text; each once."""
+    cases = map(json.loads, path.read_text(encoding="utf-8").splitlines())
+    live = [case for case in cases if case["stage"] <= stage and (case["until"] is None or stage <= case["until"])]
+    return dict.fromkeys(case["stdin"] for case in live if "stdin" in case)
+
+
+def row_texts(path):
+    """What the lines of the rows stand for."""
+    for section in path.read_text(encoding="utf-8").split("\n\n"):
+        lines = list(itertools.dropwhile(lambda line: line.startswith("#"), section.splitlines()))
+        for line in lines[1:]:
+            yield re.sub(r"\\(.)", lambda found: ESCAPES[found[1]], line.removeprefix("    "))
+
+
+def random_texts(folder, stage, count, seed):
+    """Derivations of each kind, each followed by itself changed."""
+    sys.path.insert(0, str(folder))
+    gen, oracle, mkrender = (importlib.import_module(name) for name in ("gen", "oracle", "mkrender"))
+    made = gen.G(seed, stage)
+    kinds = [kind for kind, (_, since) in oracle.KINDS.items() if since <= stage]
+    texts = []
+    while len(texts) < count:
+        kind = kinds[len(texts) // 2 % len(kinds)]
+        trees = made.trees(made.atoms(kind, made.r.randint(0, 3)), 0)
+        changed = made.mutate(trees, made.ch(1, 1, 2, 3))
+        pair = [mkrender.render(each, made.r, made.ch(0, 0.3, 0.9)) for each in (trees, changed)]
+        if max(map(len, pair)) <= LONGEST:
+            texts += pair
+    return texts[:count]
+
+
+def chunks(texts, size=CHUNK):
+    """The lines of the texts, as many together as one run takes."""
+    lines, length = [], 0
+    for text in texts:
+        line = text.encode().hex() + "\n"
+        if lines and length + len(line) > size:
+            yield "".join(lines)
+            lines, length = [], 0
+        lines.append(line)
+        length += len(line)
+    if lines:
+        yield "".join(lines)
+
+
+def gathered(options):
+    """The texts, in the order of their sources."""
+    texts = []
+    if there(options.conformance, "the conformance cases"):
+        texts += conformance_texts(options.conformance, options.stage)
+    texts += row_texts(ROWS)
+    if there(options.oracle / "oracle.py", "random texts"):
+        texts += random_texts(options.oracle, options.stage, options.count, options.seed)
+    return texts
+
+
+def there(path, name):
+    """Whether the file is there; else it is named what is left out."""
+    if not path.is_file():
+        print(f"left out: {name}; {path} isn't there")
+    return path.is_file()
+
+
+def asked(program, inputs):
+    """How this program ends on each input, and what it writes."""
+    runs = [subprocess.run([program], input=text, capture_output=True, text=True) for text in inputs]
+    return [(run.returncode, run.stdout) for run in runs]
+
+
+def tried(inputs):
+    """The same of one trial build."""
+    with tempfile.TemporaryDirectory(prefix="compare_answers-") as folder:
+        room = Path(folder)
+        try_tests.copied(TOP, room)
+        (room / "cases").mkdir()
+        for number, text in enumerate(inputs):
+            (room / f"cases/{number:04}").write_text(text)
+        # the steps are the interpreter's, which wouldn't get to the end; the compiled program answers
+        words = ["--steps", "1000", "--cases", str(room / "cases")]
+        wrote, said, _ = try_tests.called(words, room / "crates" / CRATE, SECONDS)
+    statuses = re.findall(r"(?m)^case=\d+ run=ended status=(\d+) ", said)
+    parts = re.split(r"(?m)^== \d+\n", wrote.decode())[1:]
+    if len(statuses) != len(inputs) or len(parts) != len(inputs):
+        raise RuntimeError(f"{len(statuses)} of {len(inputs)} runs ended\n{try_tests.end_of(said)}")
+    return [(int(status), part) for status, part in zip(statuses, parts)]
+
+
+def summed(answers):
+    """What was counted in all, and the lines of what differs."""
+    counts, differences = Counter(), []
+    for status, wrote in answers:
+        *lines, last = wrote.splitlines() or [""]
+        found = {name: int(number) for number, name in COUNT.findall(last)}
+        if "differ" not in found or status != (found["differ"] > 0):
+            raise RuntimeError(f"the program ended with status {status}, and wrote {last!r} at the end")
+        counts.update(found)
+        differences += lines
+    return counts, differences
+
+
+def main():
+    parser = argparse.ArgumentParser(description=__doc__, formatter_class=argparse.RawDescriptionHelpFormatter)
+    parser.add_argument("--stage", type=int, default=STAGE, help="how much of the grammar is built (4)")
+    parser.add_argument("--count", type=int, default=20000, help="how many random texts (20000)")
+    parser.add_argument("--seed", type=int, default=1)
+    parser.add_argument("--conformance", type=Path, default=CONFORMANCE, help="the file of cases with answers")
+    parser.add_argument("--oracle", type=Path, default=ORACLE, help="the folder of the other reading")
+    parser.add_argument("--bin", help="the program, built")
+    options = parser.parse_args()
+    inputs = list(chunks(gathered(options)))
+    try:
+        counts, differences = summed(asked(options.bin, inputs) if options.bin else tried(inputs))
+    except (OSError, RuntimeError) as error:
+        print(f"compare_answers: {error}", file=sys.stderr)
+        sys.exit(2)
+    for line in differences[: 3 * SHOWN]:
+        print(line)
+    print(", ".join(f"{number} {name}" for name, number in counts.items()))
+    sys.exit(1 if counts["differ"] else 0)
+
+
+if __name__ == "__main__":
+    main()
