@@ -47,6 +47,7 @@ SECONDS = {
     "syn_tokens": 480,
     "syn_parse": 280,
     "syn_recognize": 610,
+    "syn_answers": 47,
     "syn_lower": 2300,
     "syn_pat": 730,
     "syn_expr_parse": 930,
