@@ -5,7 +5,7 @@ use Rattle.syn_grammar.specs.Tokens.{Stream, and, no, or, pick}
 use Rattle.syn_grammar.proofs.Sets.{no_true, and_left, and_right, or_split}
 use Rattle.syn_grammar.specs.Rules.{Rule, unary, cast, product, sum, shift, bit_and, bit_xor, bit_or, comparison, conjunction, disjunction, whole_expression}
 use Rattle.syn_grammar.specs.Shape.{chain}
-use Rattle.syn_grammar.specs.Grammar.{Grammar, empty, ◌&◌, when◌then◌else◌, rule, shaped}
+use Rattle.syn_grammar.specs.Grammar.{Grammar, empty, unshown, vanishing, ◌&◌, when◌then◌else◌, rule, shaped}
 use Rattle.syn_grammar.specs.Table.{table}
 use Rattle.syn_grammar.specs.Take.{Parser}
 use Rattle.syn_grammar.specs.Run.{parse_form}
@@ -17,7 +17,8 @@ use Rattle.syn_parse.specs.declared.buffer.first.First.{First}
 use Rattle.syn_parse.specs.declared.buffer.first.First.TheVariants as F
 use Rattle.syn_tokens.specs.declared.delimiter.Delimiter.TheVariants as D
 use Rattle.syn_recognize.specs.May.{may}
-use Rattle.syn_recognize.proofs.Copied.{rule_is, shaped_is, then_is, when_is, empty_is}
+use Rattle.syn_recognize.proofs.Copied.{rule_is, shaped_is, then_is, when_is, empty_is, unshown_is}
+use Rattle.syn_recognize.proofs.WrittenAside.{hidden_absent}
 use Rattle.syn_recognize.specs.Steps.{todo, Reads, GoesOn}
 use Rattle.syn_recognize.specs.declared.step.Step.{Step}
 use Rattle.syn_recognize.specs.declared.step.Step.TheVariants as Step-m
@@ -134,6 +135,8 @@ of_level n g e w ts = level_is ladder n w ts ∙ sym (ap (λ (p : Parser). copie
 
 pub silent : (g : Grammar) (f : First) (w : Written) (ts : Stream) → Begins f ts → loud g f ≡ false → copy_form g w ts ≡ Reached w ts
 silent empty f w ts b e = empty_is w ts
+silent unshown f w ts b e = unshown_is w ts
+silent (vanishing true c g) f w ts b e = hidden_absent c g w ts (never c f ts b e)
 silent (when c then g else h) f w ts b e =
     when_is c g h w ts ∙ ap (λ v. pick v (copy_form g w ts) (copy_form h w ts)) (never c f ts b (or_left (may c f) (loud h f) e))
     ∙ silent h f w ts b (or_right (may c f) (loud h f) e)

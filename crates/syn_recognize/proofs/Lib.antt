@@ -32,3 +32,4 @@ pub mod Known
 pub mod May
 pub mod Ladder
 pub mod Opened
+pub mod Beginnings

@@ -124,6 +124,11 @@ pub opens_as_pruned : (ks : List Rule) (f : First) (g : Grammar) (k : Rule) → 
 unfolding Opens copy_form
 opens_as_pruned ks f g k e = λ w ts b. sym (pruned_is ks 30 f (rule k) ts b w) ∙ sym (ap (λ (p : Parser). copied w (p ts)) e)
 
+-- one that is read as the form of another rule, which alone is left of it there
+pub opens_through : (ks : List Rule) (f : First) (g : Grammar) (j k : Rule) → pruned ks 30 f (rule k) ≡ rule j → parse_form g ≡ parse_form (table j) → Opens f g k
+unfolding Opens
+opens_through ks f g j k e h = λ w ts b. sym (pruned_is ks 30 f (rule k) ts b w) ∙ ap (λ p. copy_form p w ts) e ∙ rule_is j g w ts h
+
 abbrev pub words_form : Grammar
 words_form = (token [] (name_or (w_Self_type ∷ [])) & shaped untagged (when at_arguments then (rule type_arguments) else empty)) & (when at_colons then (mark false colons & rule type_words) else empty)
 

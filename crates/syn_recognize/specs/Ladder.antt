@@ -3,7 +3,7 @@
 use Rattle.std.specs.Prelude.{◌≡◌, ◌-◌, ℕ, zero, suc, Bool, true, false, List, [], ◌∷◌, nat_eq}
 use Rattle.syn_grammar.specs.Tokens.{Stream, or}
 use Rattle.syn_grammar.specs.Rules.{Rule, casts, products, sums, shifts, bit_ands, bit_xors, bit_ors, compared, conjunctions, disjunctions, assigned, unary}
-use Rattle.syn_grammar.specs.Grammar.{Grammar, empty, when◌then◌else◌, one_of, rule}
+use Rattle.syn_grammar.specs.Grammar.{Grammar, empty, unshown, vanishing, when◌then◌else◌, one_of, rule}
 use Rattle.syn_grammar.specs.Table.{table, at_unfinished}
 use Rattle.syn_parse.specs.Firsts.{Begins}
 use Rattle.syn_parse.specs.declared.buffer.first.First.{First}
@@ -40,6 +40,8 @@ climb (suc k) n w ts = next (copy_form (level n) w ts) (climb k (suc n))
 -- the form may read something where this stands next; where not, it is one that reads nothing there
 abbrev pub loud : Grammar → First → Bool
 loud empty f = false
+loud unshown f = false
+loud (vanishing true c g) f = may c f
 loud (when c then g else h) f = or (may c f) (loud h f)
 loud g f = true
 

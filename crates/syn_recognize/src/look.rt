@@ -229,7 +229,7 @@ pub(crate) fn is_group(delimiter: Delimiter, next: First) -> bool
 }
 
 /// Whether a group stands next.
-fn is_any_group(next: First) -> bool
+pub(crate) fn is_any_group(next: First) -> bool
     ensures { result ≡ may.is_any_group next }
 {
     match next {

@@ -1,15 +1,15 @@
 //! What a rule reads where it is known what stands next: forms of operands without the conditions that this rules out.
 ghost use Rattle.std.specs.Prelude.{◌≡◌};
-ghost use Rattle.syn_grammar.specs.Rules.{postfixes, type, type_words, unary};
+ghost use Rattle.syn_grammar.specs.Rules.{attributes, generic_argument, meta, module_path, postfixes, type, type_arguments, type_path, type_words, unary, visibility};
 ghost use Rattle.syn_grammar.specs.Table.{table};
-ghost use Rattle.syn_parse.specs.declared.buffer.first.First.TheVariants.{Group};
+ghost use Rattle.syn_parse.specs.declared.buffer.first.First.TheVariants as first;
 ghost use Rattle.syn_recognize.specs.Forms.{grammar_of};
 ghost use Rattle.syn_recognize.specs.Ladder.{loud};
 ghost use Rattle.syn_recognize.specs.Names.{rule_of};
 ghost use Rattle.syn_recognize.specs.Opens.{Opens};
 
 use crate::form::Form;
-use crate::look::{Look, is_group, is_mark};
+use crate::look::{Look, is_any_group, is_group, is_keyword, is_mark};
 use crate::rules::{Rule, form_of};
 use crate::shape::Shape;
 use crate::token::Token;
@@ -72,10 +72,27 @@ static WORDS: Form = Form::Then(
     ),
 );
 
+/// A type in parentheses.
+static TUPLE: Form = Form::Inside(Delimiter::Paren, &Form::Rule(Rule::Types));
+
+/// A generic argument that begins with an identifier that is no keyword.
+static ARGUMENT: Form = Form::When(
+    Look::Association,
+    &Form::Then(
+        &Form::Token(Token::Name),
+        &Form::Then(&Form::Mark(Mark::Eq), &Form::Rule(Rule::Type)),
+    ),
+    &Form::Rule(Rule::Type),
+);
+
+/// The meta of an attribute that begins so.
+static META: Form = Form::Then(&Form::Rule(Rule::ModuleWords), &Form::Rule(Rule::MetaValue));
+
 static EMPTY: Form = Form::Empty;
 
 /// A form that is read as the rule is, where this stands next.
 #[tactic(auto, using(crate::proofs::Opened::opens_rule))]
+#[inline(never)]
 pub(crate) fn opened(rule: Rule, next: First) -> &'static Form
     ensures { Opens next (grammar_of result.now) (rule_of rule) }
 {
@@ -83,13 +100,21 @@ pub(crate) fn opened(rule: Rule, next: First) -> &'static Form
         Rule::Unary => operand(next),
         Rule::Postfixes => postfix(next),
         Rule::Type => type_by(next),
+        Rule::TypePath => path_by(next),
         Rule::TypeWords => words_by(next),
+        Rule::TypeArguments => arguments_by(next),
+        Rule::GenericArgument => argument_by(next),
+        Rule::Attributes => attributes_by(next),
+        Rule::Meta => meta_by(next),
+        Rule::ModulePath => module_path_by(next),
+        Rule::Visibility => visibility_by(next),
         _ => form_of(rule),
     }
 }
 
 /// A form that is read as a unary level is.
 #[tactic(auto, using(crate::proofs::Opened::opens_rule))]
+#[inline(never)]
 pub(crate) fn operand(next: First) -> &'static Form
     ensures { Opens next (grammar_of result.now) unary }
 {
@@ -105,7 +130,7 @@ pub(crate) fn operand(next: First) -> &'static Form
 /// A form that is read as a unary level is where such a group stands next.
 #[tactic(auto, using(crate::proofs::Opened::opens_rule))]
 fn group_operand(delimiter: Delimiter) -> &'static Form
-    ensures { Opens (Group delimiter) (grammar_of result.now) unary }
+    ensures { Opens (first.Group delimiter) (grammar_of result.now) unary }
 {
     match delimiter {
         Delimiter::Paren => &PARENTHESES,
@@ -128,13 +153,53 @@ fn postfix(next: First) -> &'static Form
 }
 
 /// A form that is read as a type is.
-#[tactic(auto, using(crate::proofs::Opened::opens_rule))]
+#[tactic(auto, using(crate::proofs::Opened::opens_rule, crate::proofs::Beginnings::type_by_keyword))]
 fn type_by(next: First) -> &'static Form
     ensures { Opens next (grammar_of result.now) type }
 {
     match next {
         First::Name => &WORDS,
+        First::Keyword => form_of(Rule::TypeWords),
+        First::Mark(character) => type_by_mark(character),
+        First::Group(delimiter) => type_by_group(delimiter),
         _ => form_of(Rule::Type),
+    }
+}
+
+/// A form that is read as a type is where this character of a mark stands next.
+#[tactic(auto, using(crate::proofs::Opened::opens_rule, crate::proofs::Beginnings::colon_type, crate::proofs::Beginnings::less_type))]
+fn type_by_mark(character: char) -> &'static Form
+    ensures { Opens (first.Mark character) (grammar_of result.now) type }
+{
+    match character {
+        ':' => form_of(Rule::TypePath),
+        '<' => form_of(Rule::PathAsType),
+        _ => form_of(Rule::Type),
+    }
+}
+
+/// A form that is read as a type is where such a group stands next.
+#[tactic(auto, using(crate::proofs::Opened::opens_rule))]
+fn type_by_group(delimiter: Delimiter) -> &'static Form
+    ensures { Opens (first.Group delimiter) (grammar_of result.now) type }
+{
+    match delimiter {
+        Delimiter::Paren => &TUPLE,
+        Delimiter::Bracket => form_of(Rule::Type),
+        Delimiter::Brace => form_of(Rule::Type),
+        Delimiter::None => form_of(Rule::Type),
+    }
+}
+
+/// A form that is read as a path in a type is.
+#[tactic(auto, using(crate::proofs::Opened::opens_rule, crate::proofs::Beginnings::path_by_keyword))]
+fn path_by(next: First) -> &'static Form
+    ensures { Opens next (grammar_of result.now) type_path }
+{
+    match next {
+        First::Name => &WORDS,
+        First::Keyword => form_of(Rule::TypeWords),
+        _ => form_of(Rule::TypePath),
     }
 }
 
@@ -149,6 +214,86 @@ fn words_by(next: First) -> &'static Form
     }
 }
 
+/// A form that is read as the arguments of a word in a type's path are.
+#[tactic(auto, using(crate::proofs::Opened::opens_rule))]
+fn arguments_by(next: First) -> &'static Form
+    ensures { Opens next (grammar_of result.now) type_arguments }
+{
+    match next {
+        First::Mark(character) => arguments_by_mark(character),
+        _ => form_of(Rule::TypeArguments),
+    }
+}
+
+/// A form that is read as such arguments are where this character of a mark stands next.
+#[tactic(auto, using(crate::proofs::Opened::opens_rule, crate::proofs::Beginnings::less_arguments))]
+fn arguments_by_mark(character: char) -> &'static Form
+    ensures { Opens (first.Mark character) (grammar_of result.now) type_arguments }
+{
+    match character {
+        '<' => form_of(Rule::GenericArguments),
+        _ => form_of(Rule::TypeArguments),
+    }
+}
+
+/// A form that is read as a generic argument is.
+#[tactic(auto, using(crate::proofs::Opened::opens_rule))]
+fn argument_by(next: First) -> &'static Form
+    ensures { Opens next (grammar_of result.now) generic_argument }
+{
+    match next {
+        First::Name => &ARGUMENT,
+        _ => form_of(Rule::GenericArgument),
+    }
+}
+
+/// A form that is read as attributes are.
+#[tactic(auto, using(crate::proofs::Opened::opens_rule, crate::proofs::Opened::opens_silent))]
+fn attributes_by(next: First) -> &'static Form
+    ensures { Opens next (grammar_of result.now) attributes }
+{
+    if may_be_attribute(next) {
+        form_of(Rule::Attributes)
+    } else {
+        &EMPTY
+    }
+}
+
+/// A form that is read as the meta of an attribute is.
+#[tactic(auto, using(crate::proofs::Opened::opens_rule))]
+fn meta_by(next: First) -> &'static Form
+    ensures { Opens next (grammar_of result.now) meta }
+{
+    match next {
+        First::Name => &META,
+        _ => form_of(Rule::Meta),
+    }
+}
+
+/// A form that is read as a path in module style is.
+#[tactic(auto, using(crate::proofs::Opened::opens_rule, crate::proofs::Beginnings::module_path_by_name, crate::proofs::Beginnings::module_path_by_keyword))]
+fn module_path_by(next: First) -> &'static Form
+    ensures { Opens next (grammar_of result.now) module_path }
+{
+    match next {
+        First::Name => form_of(Rule::ModuleWords),
+        First::Keyword => form_of(Rule::ModuleWords),
+        _ => form_of(Rule::ModulePath),
+    }
+}
+
+/// A form that is read as a visibility is.
+#[tactic(auto, using(crate::proofs::Opened::opens_rule, crate::proofs::Opened::opens_silent))]
+fn visibility_by(next: First) -> &'static Form
+    ensures { Opens next (grammar_of result.now) visibility }
+{
+    if may_be_visibility(next) {
+        form_of(Rule::Visibility)
+    } else {
+        &EMPTY
+    }
+}
+
 /// Whether a postfix may stand next.
 fn may_follow(next: First) -> bool
     ensures { result ≡ loud (table postfixes) next }
@@ -157,4 +302,18 @@ fn may_follow(next: First) -> bool
         || is_group(Delimiter::Bracket, next)
         || is_mark('?', next)
         || is_mark('.', next)
+}
+
+/// Whether an attribute may stand next.
+fn may_be_attribute(next: First) -> bool
+    ensures { result ≡ loud (table attributes) next }
+{
+    is_mark('#', next)
+}
+
+/// Whether a visibility that is written may stand next.
+fn may_be_visibility(next: First) -> bool
+    ensures { result ≡ loud (table visibility) next }
+{
+    is_keyword(next) || is_any_group(next)
 }
