@@ -121,6 +121,13 @@ impl<'a> ParseBuffer<'a> {
         self.end = fork.end;
     }
 
+    /// What is left, as a cursor, which sees one token tree after another and reads nothing.
+    pub fn cursor(&self) -> Cursor<'a>
+        ensures { result ≡ self.now }
+    {
+        self.tokens.fork()
+    }
+
     /// Where what is read takes its memory from.
     pub fn alloc(&self) -> Global {
         self.alloc
