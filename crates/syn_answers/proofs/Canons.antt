@@ -1,4 +1,4 @@
--- The laws of the grammar, of what was printed of a whole stream.
+-- The laws of the grammar, of what was read and printed of a whole stream.
 use Rattle.std.proofs.Common.{◌≡◌, true, Some, None, sym, subst, ap, ◌∙◌, inl, inr}
 use Rattle.std.specs.Prelude.{Bool, IsTrue, ◌↔◌, List, Result, Ok, Err}
 use Rattle.std.specs.Result.{IsErrAnd}
@@ -19,7 +19,7 @@ use Rattle.syn_parse.specs.Refusals.{IsSyntax, IsRefusedAs}
 use Rattle.syn_parse.specs.declared.read.refusal.Refusal.{Refusal}
 use Rattle.syn_parse.proofs.Refused.{refused_by_syntax}
 use Rattle.syn_answers.specs.Canonical.{IsCanonical, IsSameForm, CanonicalOutcome, SameFormOutcome, WholeOutcome}
-use Rattle.syn_answers.specs.Whole.{IsWholePrint}
+use Rattle.syn_answers.specs.Whole.{IsWhole, IsWholePrint}
 
 -- trees of equal normal forms print alike
 alike : (s t : Syntax) → normal s ≡ normal t → plain (print s) ≡ plain (print t)
@@ -32,8 +32,8 @@ Printed k ts p = (t : Syntax) × Derives k ts t × (p ≡ print t)
 tree_of : (k : Rule) (ts p : Stream) → IsWholePrint k ts p → Printed k ts p
 tree_of k ts p (s, e, q) = let (t, d, v) = (means k ts s end).0 e in (t, d, q ∙ ap print (sym v) ∙ print_value t)
 
-pub derived_of : (k : Rule) (ts p : Stream) → IsWholePrint k ts p → (tree : Syntax) × Derives k ts tree
-derived_of k ts p h = let (t, d, q) = tree_of k ts p h in (t, d)
+pub derived_of : (k : Rule) (ts : Stream) → IsWhole k ts → (tree : Syntax) × Derives k ts tree
+derived_of k ts (s, e) = let (t, d, v) = (means k ts s end).0 e in (t, d)
 
 pub canonical_of : (k : Rule) (ts p : Stream) → IsWholePrint k ts p → visible ts ≡ true → IsCanonical k ts p
 canonical_of k ts p h v =

@@ -1,13 +1,13 @@
 //! Canonical prints, and whether two streams have the same, by the rules of the grammar.
 ghost use Rattle.syn_answers.specs.Canonical.{CanonicalOutcome, SameFormOutcome, WholeOutcome};
-ghost use Rattle.syn_answers.specs.Whole.{WholePrint};
+ghost use Rattle.syn_answers.specs.Whole.{WholePrint, WholeRead};
 ghost use Rattle.syn_parse.specs.Refusals.{IsSyntax};
 ghost use Rattle.syn_recognize.specs.Names.{rule_of};
 ghost use Rattle.syn_tokens.specs.Faults.{IsSyntaxError};
 
 use syn_parse::buffer::ParseBuffer;
 use syn_parse::read::refusal::Parsed;
-use syn_recognize::{Rule, printed_by};
+use syn_recognize::{Rule, printed_by, read_by};
 use syn_tokens::error::Result;
 use syn_tokens::stream::TokenStream;
 
@@ -19,6 +19,16 @@ fn printed_whole(rule: Rule, tokens: &TokenStream) -> Parsed<TokenStream>
     let printed = printed_by(rule, &mut input)?;
     input.read_end()?;
     Ok(printed)
+}
+
+/// Whether the rule reads the whole stream. Nothing is kept of it.
+fn read_whole(rule: Rule, tokens: &TokenStream) -> Parsed<()>
+    ensures { WholeRead IsSyntax (rule_of rule) tokens.now result }
+{
+    let mut input = ParseBuffer::new(tokens);
+    read_by(rule, &mut input)?;
+    input.read_end()?;
+    Ok(())
 }
 
 /// The canonical print of what the tokens spell: the print of the tree that the rule derives of the whole stream.
@@ -33,13 +43,13 @@ pub fn canonical_by(rule: Rule, tokens: TokenStream) -> Result<TokenStream>
     Ok(printed_whole(rule, &tokens)?)
 }
 
-/// Whether the rule derives a tree of the whole stream: refused as `canonical_by` refuses it. No more is kept of it.
+/// Whether the rule derives a tree of the whole stream: refused as `canonical_by` refuses it. Nothing is written, and the tokens
+/// are read once.
 #[tactic(auto, using(crate::proofs::Canons::derived_of))]
 pub fn derived_by(rule: Rule, tokens: TokenStream) -> Result<()>
     ensures derived { WholeOutcome IsSyntaxError (rule_of rule) tokens result }
 {
-    let _printed = printed_whole(rule, &tokens)?;
-    Ok(())
+    Ok(read_whole(rule, &tokens)?)
 }
 
 /// Whether two streams spell the same, but for spans and for what no print keeps: whether the normal forms of the trees that

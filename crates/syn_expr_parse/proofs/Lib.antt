@@ -9,5 +9,4 @@ pub mod Postfixes
 pub mod Primary
 pub mod Spines
 pub mod StatementLists
-pub mod Trailing
 pub mod Unary

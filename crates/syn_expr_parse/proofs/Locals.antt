@@ -11,7 +11,7 @@ use Rattle.syn_grammar.specs.Values.{untag}
 use Rattle.syn_grammar.specs.Run.{wrap, and_then, branch, first_of, such_as, parse_rule, parse_form}
 use Rattle.syn_recognize.specs.Trailing.{ends_by}
 use Rattle.syn_expr_parse.specs.StatementForms.{then_by, diverges, diverging_form, local_init_form, local_value, local_value_form, valued}
-use Rattle.syn_expr_parse.proofs.Trailing.{trailing_brace_read}
+use Rattle.syn_recognize.proofs.Trailing.{trailing_brace_read}
 
 abbrev otherwise_form : Grammar
 otherwise_form = shaped untagged (when at_word w_else then diverging_form else empty)

@@ -1,5 +1,5 @@
 -- What is written of a list in `< >`, member by member.
-use Rattle.std.proofs.Common.{◌≡◌, ℕ, Bool, true, false, List, [], ◌∷◌, Some, None, map, drop, get_or, length, ◌+◌, ◌<◌, ◌≤◌, refl, sym, ap, ap₂, ◌∙◌, subst, true≢false}
+use Rattle.std.proofs.Common.{◌≡◌, ℕ, Bool, true, false, List, [], ◌∷◌, Some, None, map, drop, get_or, length, ◌+◌, ◌<◌, ◌≤◌, refl, sym, ap, ◌∙◌, subst, true≢false}
 use Rattle.std.proofs.lemmas.List.{at_drop_more, drop_all}
 use Rattle.syn_grammar.specs.Words.{comma}
 use Rattle.syn_grammar.specs.Tokens.{Span, call_site, Stream, end, punct, ◌⧺◌, and, pick}
@@ -18,7 +18,7 @@ use Rattle.syn_recognize.specs.declared.late.Late.{Late}
 use Rattle.syn_recognize.specs.declared.list.List as list
 use Rattle.syn_recognize.specs.Ordered.{first_form, other_form, member, Tells}
 use Rattle.syn_recognize.specs.PrintedRows.{way, with_comma, firsts, print_firsts, others_of, print_row, row_of}
-use Rattle.syn_recognize.specs.Written.{Written, adds, blank}
+use Rattle.syn_recognize.specs.Written.{Written, adds, blank, stream_of}
 use Rattle.syn_recognize.specs.Guesses.{Guesses, same_guess, same_guesses}
 use Rattle.syn_recognize.specs.Copies.{Copy, Reached, Refused, Stuck, Leads, copied, copied_row, copied_others, next, copy_form, copy_row, copy_others, after_member, after_other, none_left, guessed, late_comma, after_late, returning}
 use Rattle.syn_recognize.proofs.Exact.{guess_eq, guess_refl, guesses_eq}
@@ -207,15 +207,15 @@ others_late k l w ts e h = subst (λ o. Leads (copied_others l w o) (next (copie
 pub late_right : (l m : Guesses) (g : Stream × Span) (i : Stream) (sp : Span) (q : Guesses → Copy) → l ≡ g ∷ m → g ≡ (i, sp) → guessed l i sp q ≡ q m
 late_right l m g i sp q e f = ap (λ n. guessed n i sp q) e ∙ ap (λ x. pick (same_guess x (i, sp)) (q m) Stuck) f ∙ ap (λ b. pick b (q m) Stuck) (guess_refl (i, sp))
 
-pub late_last : (k : list.List) (l m : Guesses) (g : Stream × Span) (u w : Written) (ts : Stream) → sees at_row_comma ts ≡ false → l ≡ g ∷ m → g ≡ (w.out.stream, call_site) → m ≡ [] → after_late k l u w ts ≡ Reached u ts
+pub late_last : (k : list.List) (l m : Guesses) (g : Stream × Span) (u w : Written) (ts : Stream) → sees at_row_comma ts ≡ false → l ≡ g ∷ m → g ≡ (stream_of w, call_site) → m ≡ [] → after_late k l u w ts ≡ Reached u ts
 late_last k l m g u w ts e h i j =
-    ap (λ b. pick b (late_comma k l u w.out.stream (take_mark comma ts)) (guessed l w.out.stream call_site (λ m. none_left m u ts))) e
-    ∙ late_right l m g w.out.stream call_site (λ m. none_left m u ts) h i ∙ ap (λ n. none_left n u ts) j
+    ap (λ b. pick b (late_comma k l u (stream_of w) (take_mark comma ts)) (guessed l (stream_of w) call_site (λ m. none_left m u ts))) e
+    ∙ late_right l m g (stream_of w) call_site (λ m. none_left m u ts) h i ∙ ap (λ n. none_left n u ts) j
 
-pub late_more : (k : list.List) (l m : Guesses) (g : Stream × Span) (u w : Written) (ts r : Stream) (c : Syntax) → sees at_row_comma ts ≡ true → take_mark comma ts ≡ Some (c, r) → l ≡ g ∷ m → g ≡ (w.out.stream, span_of c) → after_late k l u w ts ≡ copy_others k m u r
+pub late_more : (k : list.List) (l m : Guesses) (g : Stream × Span) (u w : Written) (ts r : Stream) (c : Syntax) → sees at_row_comma ts ≡ true → take_mark comma ts ≡ Some (c, r) → l ≡ g ∷ m → g ≡ (stream_of w, span_of c) → after_late k l u w ts ≡ copy_others k m u r
 late_more k l m g u w ts r c e q h i =
-    ap (λ b. pick b (late_comma k l u w.out.stream (take_mark comma ts)) (guessed l w.out.stream call_site (λ m. none_left m u ts))) e
-    ∙ ap (late_comma k l u w.out.stream) q ∙ late_right l m g w.out.stream (span_of c) (λ m. copy_others k m u r) h i
+    ap (λ b. pick b (late_comma k l u (stream_of w) (take_mark comma ts)) (guessed l (stream_of w) call_site (λ m. none_left m u ts))) e
+    ∙ ap (late_comma k l u (stream_of w)) q ∙ late_right l m g (stream_of w) (span_of c) (λ m. copy_others k m u r) h i
 
 -- late members are written with their commas
 pub late_written : (w v u : Written) (i : Stream) (sp : T_Span) (l : List T_Span) → v ≡ adds w i → l ≡ sp ∷ [] → u ≡ adds v (way v.printing (syntax_of_mark comma l)) → u ≡ adds w (print_firsts ((i, at sp) ∷ []))

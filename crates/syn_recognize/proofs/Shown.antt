@@ -1,5 +1,5 @@
 -- What was written of a whole rule.
-use Rattle.std.proofs.Common.{◌≡◌, [], Some, None, refl, sym, ap, ◌∙◌, ◌≤◌, Bool, true, false, ◌+◌, arith, true≢false}
+use Rattle.std.proofs.Common.{◌≡◌, Some, None, refl, sym, ap, ◌∙◌, ◌≤◌, Bool, true, false, ◌+◌, arith, true≢false}
 use Rattle.syn_grammar.specs.Tokens.{Stream}
 use Rattle.syn_grammar.specs.Rules.{Rule}
 use Rattle.syn_grammar.specs.Grammar.{Syntax, show, print, among}
@@ -9,7 +9,7 @@ use Rattle.syn_grammar.proofs.Run.{Less, parse_rule_less}
 use Rattle.syn_grammar.proofs.Said.{start_of}
 use Rattle.syn_tokens.specs.Building.{added}
 use Rattle.syn_recognize.specs.PrintedRows.{way}
-use Rattle.syn_recognize.specs.Written.{Written, adds, blank}
+use Rattle.syn_recognize.specs.Written.{Written, adds, blank, stream_of}
 use Rattle.syn_recognize.specs.Quiet.{quiet}
 use Rattle.syn_recognize.specs.Copies.{Copy, Reached, Refused, copied, least, least_of}
 use Rattle.syn_recognize.proofs.Readable.{readable}
@@ -30,24 +30,24 @@ is_read (Reached w ts) = true
 is_read _ = false
 
 -- the tree that was read, and what was written of it
-abbrev Tree : Bool → Rule → Stream → Written → Stream → Type 0
-Tree a k ts w r = (s : Syntax) × (parse_rule k ts ≡ Some (s, r)) × (w ≡ adds (blank a) (way a s))
+abbrev Tree : Written → Rule → Stream → Written → Stream → Type 0
+Tree u k ts w r = (s : Syntax) × (parse_rule k ts ≡ Some (s, r)) × (w ≡ adds u (way u.printing s))
 
-tree_of : (a : Bool) (k : Rule) (w : Written) (ts r : Stream) → copied (blank a) (parse_rule k ts) ≡ Reached w r → Tree a k ts w r
+tree_of : (u : Written) (k : Rule) (w : Written) (ts r : Stream) → copied u (parse_rule k ts) ≡ Reached w r → Tree u k ts w r
 unfolding rest_of written_of is_read
-tree_of a k w ts r e = go (parse_rule k ts) refl e
+tree_of u k w ts r e = go (parse_rule k ts) refl e
   where
-    go : (o : Out) → parse_rule k ts ≡ o → copied (blank a) o ≡ Reached w r → Tree a k ts w r
+    go : (o : Out) → parse_rule k ts ≡ o → copied u o ≡ Reached w r → Tree u k ts w r
     go None q e = absurd (true≢false (sym (ap is_read e)))
-    go (Some p) q e = (p.0, q ∙ ap (λ i. Some (p.0, i)) (ap (rest_of r) e), sym (ap (written_of (blank a)) e))
+    go (Some p) q e = (p.0, q ∙ ap (λ i. Some (p.0, i)) (ap (rest_of r) e), sym (ap (written_of u) e))
 
-pub shown : (a : Bool) (k : Rule) (w : Written) (ts r i : Stream) → copied (blank a) (parse_rule k ts) ≡ Reached w r → i ≡ w.out.stream → (s : Syntax) × (parse_rule k ts ≡ Some (s, r)) × (i ≡ way a s)
+pub shown : (a : Bool) (k : Rule) (w : Written) (ts r i : Stream) → copied (blank a) (parse_rule k ts) ≡ Reached w r → i ≡ stream_of w → (s : Syntax) × (parse_rule k ts ≡ Some (s, r)) × (i ≡ way a s)
 unfolding adds added
-shown a k w ts r i e f = let (s, q, v) = tree_of a k w ts r e in (s, q, f ∙ ap (λ (u : Written). u.out.stream) v)
+shown a k w ts r i e f = let (s, q, v) = tree_of (blank a) k w ts r e in (s, q, f ∙ ap stream_of v)
 
-pub no_group_open : (a : Bool) (k : Rule) (w : Written) (ts r : Stream) → copied (blank a) (parse_rule k ts) ≡ Reached w r → w.out.open_groups ≡ []
-unfolding adds added
-no_group_open a k w ts r e = let (s, q, v) = tree_of a k w ts r e in ap (λ (u : Written). u.out.open_groups) v
+-- a tree was read, whatever is written of it
+pub read : (u : Written) (k : Rule) (w : Written) (ts r : Stream) → copied u (parse_rule k ts) ≡ Reached w r → (s : Syntax) × (parse_rule k ts ≡ Some (s, r))
+read u k w ts r e = let (s, q, v) = tree_of u k w ts r e in (s, q)
 
 pub not_read : (w : Written) (o : Out) → copied w o ≡ Refused → o ≡ None
 unfolding is_read
@@ -55,18 +55,18 @@ not_read w None e = refl
 not_read w (Some p) e = absurd (true≢false (ap is_read e))
 
 -- at least so many tokens fewer are left
-pub moved : (a : Bool) (k : Rule) (w : Written) (ts r : Stream) → copied (blank a) (parse_rule k ts) ≡ Reached w r → left r + least k ≤ left ts
-moved a k w ts r e = let (s, q, v) = tree_of a k w ts r e in go (start_of k).nullable (parse_rule_less k ts (s, r) q)
+pub moved : (u : Written) (k : Rule) (w : Written) (ts r : Stream) → copied u (parse_rule k ts) ≡ Reached w r → left r + least k ≤ left ts
+moved u k w ts r e = let (s, q) = read u k w ts r e in go (start_of k).nullable (parse_rule_less k ts (s, r) q)
   where
     go : (b : Bool) → Less b ts r → left r + least_of b ≤ left ts
     go true h = omega (arith, h)
     go false h = omega (arith, h)
 
-pub kept : (a : Bool) (k : Rule) (w : Written) (ts r : Stream) → copied (blank a) (parse_rule k ts) ≡ Reached w r → left r ≤ left ts
-kept a k w ts r e = let m = moved a k w ts r e in omega (arith, m)
+pub kept : (u : Written) (k : Rule) (w : Written) (ts r : Stream) → copied u (parse_rule k ts) ≡ Reached w r → left r ≤ left ts
+kept u k w ts r e = let m = moved u k w ts r e in omega (arith, m)
 
 -- in both ways it's one tree
-pub both_written : (k : Rule) (w v : Written) (ts r q i j : Stream) → copied (blank false) (parse_rule k ts) ≡ Reached w q → i ≡ w.out.stream → copied (blank true) (parse_rule k ts) ≡ Reached v r → j ≡ v.out.stream →
+pub both_written : (k : Rule) (w v : Written) (ts r q i j : Stream) → copied (blank false) (parse_rule k ts) ≡ Reached w q → i ≡ stream_of w → copied (blank true) (parse_rule k ts) ≡ Reached v r → j ≡ stream_of v →
     (s : Syntax) × (parse_rule k ts ≡ Some (s, r)) × (i ≡ show s) × (j ≡ print s)
 both_written k w v ts r q i j e f g h =
     let (s, d, x) = shown false k w ts q i e f in
@@ -81,7 +81,7 @@ both_written k w v ts r q i j e f g h =
     tree_is {s} z = ap (tree_from s) z
 
 -- where no lifetime stands there
-pub both_quiet : (k : Rule) (w : Written) (ts r i j : Stream) → among k readable ≡ true → copied (blank false) (parse_rule k ts) ≡ Reached w r → i ≡ w.out.stream → quiet i ≡ true → j ≡ i →
+pub both_quiet : (k : Rule) (w : Written) (ts r i j : Stream) → among k readable ≡ true → copied (blank false) (parse_rule k ts) ≡ Reached w r → i ≡ stream_of w → quiet i ≡ true → j ≡ i →
     (s : Syntax) × (parse_rule k ts ≡ Some (s, r)) × (i ≡ show s) × (j ≡ print s)
 both_quiet k w ts r i j a e f q h =
     let (s, d, x) = shown false k w ts r i e f in

@@ -5,7 +5,7 @@ use Rattle.syn_grammar.specs.Tokens.{Stream, pick}
 use Rattle.syn_grammar.specs.Rules.{Rule, whole_expression}
 use Rattle.syn_grammar.specs.Grammar.{Syntax, Such, Node, Left, Right, Both, ends_brace, trailing_brace, no_trailing_brace, Grammar, ◌&◌, either, rule, such}
 use Rattle.syn_grammar.specs.Table.{table}
-use Rattle.syn_grammar.specs.Take.{Out, Parser}
+use Rattle.syn_grammar.specs.Take.{Out, Parser, before}
 use Rattle.syn_grammar.specs.Run.{and_then, such_as, first_of, wrap, parse_form, parse_rule}
 use Rattle.syn_grammar.proofs.Run.{parse_rule_is}
 use Rattle.syn_recognize.specs.PrintedRows.{way}
@@ -17,7 +17,7 @@ use Rattle.syn_recognize.specs.declared.step.Step.{Step}
 use Rattle.syn_recognize.specs.declared.step.Step.TheVariants as Step-m
 use Rattle.syn_recognize.proofs.Ways.{way_such, way_left, way_right, way_node}
 use Rattle.syn_recognize.proofs.Copied.{wrapped, behind, rule_is}
-use Rattle.syn_recognize.proofs.Trailing.{value_ends}
+use Rattle.syn_recognize.proofs.Trailing.{trailing_brace_read}
 
 -- what is put on top is done first
 pub push : (l : List Step) (s : Step) (o : Copy) → todo (l ++ s ∷ []) o ≡ todo l (after s o)
@@ -41,7 +41,7 @@ nowhere (Step-m.Note b ts n) = refl
 nowhere (Step-m.Skip k b l) = refl
 nowhere (Step-m.Forget b) = refl
 nowhere (Step-m.Capture b ts) = refl
-nowhere (Step-m.ByBraces f g) = refl
+nowhere (Step-m.ByBraces f g ts) = refl
 nowhere (Step-m.Levels a b) = refl
 
 stuck : (s : Step) → after s Stuck ≡ Stuck
@@ -55,7 +55,7 @@ stuck (Step-m.Note b ts n) = refl
 stuck (Step-m.Skip k b l) = refl
 stuck (Step-m.Forget b) = refl
 stuck (Step-m.Capture b ts) = refl
-stuck (Step-m.ByBraces f g) = refl
+stuck (Step-m.ByBraces f g ts) = refl
 stuck (Step-m.Levels a b) = refl
 
 pub refused : (l : List Step) (o : Copy) → o ≡ Refused → todo l o ≡ Refused
@@ -99,9 +99,9 @@ done_unless refusal (Err e) l o w ts A B a b k = λ h. absurd (a h)
 
 -- a whole expression, and then one of two forms, by whether it ends with a group in braces
 by_braces_is : (g h : Grammar) (w : Written) (ts : Stream) → copy_form (either (such trailing_brace (rule whole_expression) & g) (such no_trailing_brace (rule whole_expression) & h)) w ts
-    ≡ next (copy_form (rule whole_expression) w ts) (by_braces g h)
+    ≡ next (copy_form (rule whole_expression) w ts) (by_braces g h ts)
 unfolding copy_form
-by_braces_is g h w ts = go (parse_rule whole_expression ts) (value_ends ts)
+by_braces_is g h w ts = go (parse_rule whole_expression ts) (trailing_brace_read ts)
   where
     v : Syntax → Written
     v s = adds w (way w.printing s)
@@ -118,14 +118,14 @@ by_braces_is g h w ts = go (parse_rule whole_expression ts) (value_ends ts)
         first_left (Some p) = wrapped Left way_left w (Some p)
     first false s r e = rw e (wrapped Right way_right w (wrap (Both (Such s)) (parse_form h r)) ∙ followed h s r)
 
-    go : (o : Out) → ((s : Syntax) (r : Stream) → o ≡ Some (s, r) → (u : Written) → ends_by false (adds u (way u.printing s)).out.stream ≡ ends_brace s) →
-        copied w (first_of (and_then (such_as trailing_brace o) (parse_form g)) (and_then (such_as no_trailing_brace o) (parse_form h))) ≡ next (copied w o) (by_braces g h)
+    go : (o : Out) → ((s : Syntax) (r : Stream) → o ≡ Some (s, r) → ends_by false (before ts r) ≡ ends_brace s) →
+        copied w (first_of (and_then (such_as trailing_brace o) (parse_form g)) (and_then (such_as no_trailing_brace o) (parse_form h))) ≡ next (copied w o) (by_braces g h ts)
     go None k = refl
-    go (Some p) k = first (ends_by false (v p.0).out.stream) p.0 p.1 (sym (k p.0 p.1 refl w))
+    go (Some p) k = first (ends_by false (before ts p.1)) p.0 p.1 (sym (k p.0 p.1 refl))
 
 pub value_is : (u g h : Grammar) (w : Written) (ts : Stream) → parse_form u ≡ parse_form (table whole_expression) →
-    copy_form (either (such trailing_brace (rule whole_expression) & g) (such no_trailing_brace (rule whole_expression) & h)) w ts ≡ next (copy_form u w ts) (by_braces g h)
-value_is u g h w ts e = by_braces_is g h w ts ∙ ap (λ o. next o (by_braces g h)) (rule_is whole_expression u w ts e)
+    copy_form (either (such trailing_brace (rule whole_expression) & g) (such no_trailing_brace (rule whole_expression) & h)) w ts ≡ next (copy_form u w ts) (by_braces g h ts)
+value_is u g h w ts e = by_braces_is g h w ts ∙ ap (λ o. next o (by_braces g h ts)) (rule_is whole_expression u w ts e)
 
 -- what is written of a rule is what is written of its form
 pub rule_left : (k : Rule) (g : Grammar) (w : Written) (ts : Stream) → parse_form g ≡ parse_form (table k) → copied w (parse_rule k ts) ≡ todo [] (copy_form g w ts)

@@ -1,12 +1,12 @@
 -- What is read without being written where it stands.
 use Rattle.std.proofs.Common.{◌≡◌, Bool, true, false, Some, None, refl, ap, ◌∙◌}
 use Rattle.syn_grammar.specs.Tokens.{Stream, Look, end}
-use Rattle.syn_grammar.specs.Grammar.{Syntax, Nothing, Right, Vanishing, Captured, Grammar, vanishing, captured}
+use Rattle.syn_grammar.specs.Grammar.{Nothing, Right, Vanishing, Captured, Grammar, vanishing, captured}
 use Rattle.syn_grammar.specs.Take.{Out, before, sees}
-use Rattle.syn_grammar.specs.Run.{branch, caught, parse_form, vanish, wrap}
+use Rattle.syn_grammar.specs.Run.{branch, caught, parse_form, vanish}
 use Rattle.syn_recognize.specs.PrintedRows.{way}
-use Rattle.syn_recognize.specs.Written.{Written, adds, blank}
-use Rattle.syn_recognize.specs.Copies.{Copy, Reached, copied, copy_form, next, forgetting, capturing}
+use Rattle.syn_recognize.specs.Written.{Written, adds, unwritten}
+use Rattle.syn_recognize.specs.Copies.{Reached, copied, copy_form, next, forgetting, capturing}
 use Rattle.syn_recognize.proofs.Copied.{nothing}
 
 gone : (a : Bool) → way a (Vanishing true (Right Nothing)) ≡ end
@@ -17,11 +17,11 @@ pub hidden_absent : (c : Look) (g : Grammar) (w : Written) (ts : Stream) → see
 unfolding copy_form
 hidden_absent c g w ts e = ap (λ a. copied w (vanish true (branch a (parse_form g ts) (Some (Nothing, ts))))) e ∙ nothing w _ ts (gone w.printing)
 
-pub hidden_is : (c : Look) (g : Grammar) (w : Written) (ts : Stream) → sees c ts ≡ true → copy_form (vanishing true c g) w ts ≡ next (copy_form g (blank false) ts) (forgetting w)
+pub hidden_is : (c : Look) (g : Grammar) (w : Written) (ts : Stream) → sees c ts ≡ true → copy_form (vanishing true c g) w ts ≡ next (copy_form g unwritten ts) (forgetting w)
 unfolding copy_form
 hidden_is c g w ts e = ap (λ a. copied w (vanish true (branch a (parse_form g ts) (Some (Nothing, ts))))) e ∙ go (parse_form g ts)
   where
-    go : (o : Out) → copied w (vanish true (branch true o (Some (Nothing, ts)))) ≡ next (copied (blank false) o) (forgetting w)
+    go : (o : Out) → copied w (vanish true (branch true o (Some (Nothing, ts)))) ≡ next (copied unwritten o) (forgetting w)
     go None = refl
     go (Some p) = nothing w _ p.1 (gone w.printing)
 
@@ -29,10 +29,10 @@ way_captured : (a : Bool) (i : Stream) → way a (Captured Nothing i) ≡ i
 way_captured true i = refl
 way_captured false i = refl
 
-pub captured_is : (g : Grammar) (w : Written) (ts : Stream) → copy_form (captured g) w ts ≡ next (copy_form g (blank false) ts) (capturing w ts)
+pub captured_is : (g : Grammar) (w : Written) (ts : Stream) → copy_form (captured g) w ts ≡ next (copy_form g unwritten ts) (capturing w ts)
 unfolding copy_form
 captured_is g w ts = go (parse_form g ts)
   where
-    go : (o : Out) → copied w (caught ts o) ≡ next (copied (blank false) o) (capturing w ts)
+    go : (o : Out) → copied w (caught ts o) ≡ next (copied unwritten o) (capturing w ts)
     go None = refl
     go (Some p) = ap (λ i. Reached (adds w i) p.1) (way_captured w.printing (before ts p.1))

@@ -8,7 +8,7 @@ use Rattle.syn_grammar.specs.Take.{Out, before, is_end, sees, take_mark}
 use Rattle.syn_grammar.specs.Run.{parse_form, rows, span_of}
 use Rattle.syn_grammar.proofs.Said.{start_of}
 use Rattle.syn_recognize.specs.PrintedRows.{way, firsts, others_of, row_of}
-use Rattle.syn_recognize.specs.Written.{Written, adds, leaves}
+use Rattle.syn_recognize.specs.Written.{Written, adds, leaves, stream_of}
 use Rattle.syn_recognize.specs.Guesses.{Guesses, same_guess, same_guesses}
 use Rattle.syn_recognize.specs.Ordered.{member}
 use Rattle.syn_recognize.specs.declared.list.List as list
@@ -113,8 +113,8 @@ late_comma k l u i None = Refused
 
 -- what follows a member that was guessed, and was written aside
 abbrev pub after_late : list.List → Guesses → Written → Written → Stream → Copy
-after_late k l u w ts = pick (sees at_row_comma ts) (late_comma k l u w.out.stream (take_mark comma ts)) (guessed l w.out.stream call_site (λ m. none_left m u ts))
+after_late k l u w ts = pick (sees at_row_comma ts) (late_comma k l u (stream_of w) (take_mark comma ts)) (guessed l (stream_of w) call_site (λ m. none_left m u ts))
 
--- one of two forms, by whether what was written ends with a group in braces
-abbrev pub by_braces : Grammar → Grammar → Written → Stream → Copy
-by_braces g h w ts = pick (ends_by false w.out.stream) (copy_form g w ts) (copy_form h w ts)
+-- one of two forms, by whether what was read from there on ends with a group in braces
+abbrev pub by_braces : Grammar → Grammar → Stream → Written → Stream → Copy
+by_braces g h begin w ts = pick (ends_by false (before begin ts)) (copy_form g w ts) (copy_form h w ts)

@@ -1,4 +1,4 @@
--- WHAT CALLERS ARE PROMISED where they want both: what is shown, and what is printed; or what is printed alone.
+-- WHAT CALLERS ARE PROMISED where they want both: what is shown, and what is printed; or what is printed alone; or neither.
 use Rattle.std.specs.Prelude.{◌≡◌, Some, None, Result, Ok, Err}
 use Rattle.syn_grammar.specs.Tokens.{Stream}
 use Rattle.syn_grammar.specs.Rules.{Rule}
@@ -15,3 +15,8 @@ ShowsAndPrints refusal k ts (Err e) r = refusal e → parse_rule k ts ≡ None
 abbrev pub Prints : {E : Type 0} → (E → Type 0) → Rule → Stream → Result Stream E → Stream → Type 0
 Prints refusal k ts (Ok tokens) r = (s : Syntax) × (parse_rule k ts ≡ Some (s, r)) × (tokens ≡ print s)
 Prints refusal k ts (Err e) r = refusal e → parse_rule k ts ≡ None
+
+-- whether a rule reads something, and what is left behind it
+abbrev pub ReadsBy : {E : Type 0} → (E → Type 0) → Rule → Stream → Result (Unit {0}) E → Stream → Type 0
+ReadsBy refusal k ts (Ok x) r = (s : Syntax) × (parse_rule k ts ≡ Some (s, r))
+ReadsBy refusal k ts (Err e) r = refusal e → parse_rule k ts ≡ None

@@ -22,7 +22,7 @@ after (Step-m.Note b ts n) o = next o (returning b.value ts)
 after (Step-m.Skip k b l) o = next o (after_late k l b.value)
 after (Step-m.Forget b) o = next o (forgetting b.value)
 after (Step-m.Capture b ts) o = next o (capturing b.value ts)
-after (Step-m.ByBraces f g) o = next o (by_braces (grammar_of f.now) (grammar_of g.now))
+after (Step-m.ByBraces f g ts) o = next o (by_braces (grammar_of f.now) (grammar_of g.now) ts)
 after (Step-m.Levels a b) o = next o (climb (b - a) a)
 
 -- all steps, the last of the list first

@@ -21,7 +21,6 @@ abbrev pub is_brace_group : TokenTreeRef → Bool
 is_brace_group (N.Group g) = is_brace (delimiter_of g.delimiter)
 is_brace_group _ = false
 
--- some token, and no group, that is printed as it is shown
+-- what is printed as it is shown
 pub record IsLeaf (s : Syntax) : Type 0 where
   pub shown : print s ≡ show s
-  pub plain : (b : Bool) → ends_by b (show s) ≡ false

@@ -28,7 +28,7 @@ pub(crate) fn read_hidden<'a>(
     if !holds(look, input)? {
         return Ok(());
     }
-    let before = out.aside(false)?;
+    let before = out.drop_aside()?;
     steps.push(Step::Forget(before))?;
     steps.push(Step::Form(form))?;
     Ok(())
@@ -38,7 +38,7 @@ pub(crate) fn read_hidden<'a>(
 pub(crate) fn forget(before: Box<Writer>, out: &mut Writer, input: &ParseBuffer<'_>) -> Parsed<()>
     ensures { Runs IsSyntax (forgetting before.value out.old input.now) result out.new input.now }
 {
-    let _written = out.put_back(before)?;
+    let _dropped = out.put_back(before)?;
     Ok(())
 }
 
@@ -52,13 +52,15 @@ pub(crate) fn read_captured<'a>(
 ) -> Parsed<()>
     ensures { Steps IsSyntax steps.old.items (copy_form (captured (grammar_of form.now)) out.old input.now) result steps.new.items out.new input.now }
 {
-    let before = out.aside(false)?;
+    let before = out.drop_aside()?;
     steps.push(Step::Capture(before, input.fork()))?;
     steps.push(Step::Form(form))?;
     Ok(())
 }
 
-/// Goes on with what was written before, and writes what was read from there on, as it is.
+/// Goes on with what was written before, and writes what was read from there on, as it is. Where what is written is dropped, so that
+/// such a part stands in another one, nothing is copied.
+#[tactic(auto, using(crate::proofs::Writes::adds_nothing))]
 pub(crate) fn capture<'a>(
     before: Box<Writer>,
     begin: &ParseBuffer<'a>,
@@ -67,7 +69,10 @@ pub(crate) fn capture<'a>(
 ) -> Parsed<()>
     ensures { Runs IsSyntax (capturing before.value begin.now out.old input.now) result out.new input.now }
 {
-    let _written = out.put_back(before)?;
+    let _dropped = out.put_back(before)?;
+    if out.is_dropping() {
+        return Ok(());
+    }
     match begin.between(input) {
         Ok(tokens) => Ok(out.append(&tokens)?),
         Err(_memory) => Err(Refusal::Memory),

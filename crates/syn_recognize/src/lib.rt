@@ -2,6 +2,7 @@
 #![tactic(auto)]
 
 mod aside;
+mod braces;
 pub mod deferred;
 pub mod expression_looks;
 mod fading;
@@ -29,5 +30,5 @@ mod unions;
 mod words;
 mod writer;
 
-pub use reading::{ShownAndPrinted, printed_by, recognized_and_printed};
+pub use reading::{ShownAndPrinted, printed_by, read_by, recognized_and_printed};
 pub use rules::Rule;

@@ -6,7 +6,7 @@ ghost use Rattle.syn_parse.specs.Refusals.{IsSyntax};
 ghost use Rattle.syn_recognize.specs.Copies.{Reached, copied, least};
 ghost use Rattle.syn_recognize.specs.Names.{rule_of};
 ghost use Rattle.syn_recognize.specs.Steps.{Runs, todo};
-ghost use Rattle.syn_recognize.specs.Printed.{Prints, ShowsAndPrints};
+ghost use Rattle.syn_recognize.specs.Printed.{Prints, ReadsBy, ShowsAndPrints};
 
 use crate::quiet::is_quiet;
 use crate::rules::{Rule, form_of, is_settled};
@@ -52,6 +52,19 @@ fn write_rule(rule: Rule, out: &mut Writer, input: &mut ParseBuffer<'_>) -> Pars
     run(&mut steps, out, input)
 }
 
+/// Reads what the rule reads, and keeps nothing of it. It takes no memory but for what is still to be done, and no stack. Refused, with
+/// a fault at a token that can't stand there, or where memory is, it says nothing of what is left.
+#[tactic(auto, using(crate::proofs::Shown::read, crate::proofs::Shown::not_read, crate::proofs::Shown::kept, crate::proofs::Shown::moved))]
+pub fn read_by(rule: Rule, input: &mut ParseBuffer<'_>) -> Parsed<()>
+    ensures reads { ReadsBy IsSyntax (rule_of rule) input.old result input.new }
+    ensures kept { Kept input.old result input.new }
+    ensures moved { Takes (least (rule_of rule)) input.old result input.new }
+{
+    let mut out = Writer::dropping(input.alloc());
+    write_rule(rule, &mut out, input)?;
+    Ok(())
+}
+
 /// What was read: its tokens as they are shown, and as they are printed.
 #[derive(Drop)]
 pub struct ShownAndPrinted {
@@ -61,7 +74,7 @@ pub struct ShownAndPrinted {
 
 /// Reads what the rule reads: its tokens as they are shown, and as they are printed. Where a lifetime stands among them, or a part
 /// may vanish, all is read twice, since lists are printed with their lifetimes first. Refused, it says nothing of what is left.
-#[tactic(auto, using(crate::proofs::Shown::no_group_open, crate::proofs::Shown::not_read, crate::proofs::Shown::kept, crate::proofs::Shown::moved))]
+#[tactic(auto, using(crate::proofs::Shown::not_read, crate::proofs::Shown::kept, crate::proofs::Shown::moved))]
 pub fn recognized_and_printed(rule: Rule, input: &mut ParseBuffer<'_>) -> Parsed<ShownAndPrinted>
     ensures reads { ShowsAndPrints IsSyntax (rule_of rule) input.old result input.new }
     ensures kept { Kept input.old result input.new }
@@ -84,7 +97,7 @@ pub fn recognized_and_printed(rule: Rule, input: &mut ParseBuffer<'_>) -> Parsed
 
 /// Reads what the rule reads, and writes its tokens as they are printed, once. Where some list has a member that is printed before one
 /// that stands before it, it is refused as memory is.
-#[tactic(auto, using(crate::proofs::Shown::no_group_open, crate::proofs::Shown::not_read, crate::proofs::Shown::kept, crate::proofs::Shown::moved))]
+#[tactic(auto, using(crate::proofs::Shown::not_read, crate::proofs::Shown::kept, crate::proofs::Shown::moved))]
 fn printed_at_once(rule: Rule, input: &mut ParseBuffer<'_>) -> Parsed<TokenStream>
     ensures reads { Prints IsSyntax (rule_of rule) input.old result input.new }
     ensures kept { Kept input.old result input.new }

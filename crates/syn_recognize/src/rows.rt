@@ -86,7 +86,7 @@ fn read_first<'a>(
     steps.push(Step::Form(first_of(list)))?;
     match number {
         Some(number) => {
-            let before = out.aside(true)?;
+            let before = out.print_aside()?;
             steps.push(Step::Note(before, input.fork(), number))?;
             steps.push(Step::Form(first_of(list)))?;
             Ok(())
@@ -133,19 +133,20 @@ fn read_other<'a>(
     ensures { Steps IsSyntax steps.old.items (next (copy_form (other_form list) out.old input.now) (after_member list)) result steps.new.items out.new input.now }
 {
     let number = number_of(number, out)?;
-    steps.push(Step::RowRest(list, Some(number)))?;
+    steps.push(Step::RowRest(list, number))?;
     steps.push(Step::Form(other_of(list)))?;
     Ok(())
 }
 
-/// The number of a list that has another member now.
-fn number_of(number: Option<usize>, out: &mut Writer) -> Result<usize, AllocError>
+/// The number of a list that has another member now; none where what is written is dropped, so that nothing is to be noted.
+fn number_of(number: Option<usize>, out: &mut Writer) -> Result<Option<usize>, AllocError>
     ensures { out.new ≡ out.old }
 {
-    match number {
-        Some(number) => Ok(number),
-        None => out.begin_list(),
+    if number.is_some() || out.is_dropping() {
+        return Ok(number);
     }
+    let begun = out.begin_list()?;
+    Ok(Some(begun))
 }
 
 /// Reads what follows a member.
@@ -248,7 +249,7 @@ fn read_late<'a>(
     requires first { Tells list input.now true }
     ensures { Guessing IsSyntax steps.old.items (copy_others list late out.old input.now) result steps.new.items out.new input.now }
 {
-    let before = out.aside(true)?;
+    let before = out.print_aside()?;
     steps.push(Step::Skip(list, before, late))?;
     steps.push(Step::Form(first_of(list)))?;
     Ok(())

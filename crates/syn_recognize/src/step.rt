@@ -32,6 +32,6 @@ pub enum Step<'a> {
     Capture(Box<Writer>, ParseBuffer<'a>),
     /// Reads the levels of operators from the first number on, those that bind most tightly first, up to the second.
     Levels(usize, usize),
-    /// Reads the first form where a group in braces was read last, else the second.
-    ByBraces(&'static Form, &'static Form),
+    /// Reads the first form where a group in braces was read last, from there on, else the second.
+    ByBraces(&'static Form, &'static Form, ParseBuffer<'a>),
 }

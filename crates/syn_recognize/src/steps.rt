@@ -15,12 +15,14 @@ ghost use Rattle.syn_recognize.specs.Names.{look_of, mark_text, rule_of};
 ghost use Rattle.syn_recognize.specs.Copies as copies;
 ghost use Rattle.syn_recognize.specs.Copies.{Copies, Reached, copy_form, by_braces};
 ghost use Rattle.syn_recognize.specs.Unions.{union_form};
+ghost use Rattle.syn_recognize.specs.Written.{adds};
 ghost use Rattle.syn_parse.specs.Firsts.{Begins};
 ghost use Rattle.syn_recognize.specs.Ladder.{climb};
 ghost use Rattle.syn_recognize.specs.declared.step.Step.TheVariants.{Levels};
 ghost use Rattle.syn_recognize.specs.Steps.{Steps, Guessing, GoesOn, Leading, Reads, Runs, after};
 
 use crate::aside::{capture, forget, read_captured, read_hidden};
+use crate::braces::has_trailing_brace;
 use crate::fading::{read_fading, read_generics};
 use crate::fault::Fault;
 use crate::form::Form;
@@ -87,7 +89,9 @@ fn take_other<'a>(
         Step::Skip(list, before, late) => skip_late(list, before, late, steps, out, input),
         Step::Forget(before) => forget(before, out, input),
         Step::Capture(before, begin) => capture(before, &begin, out, input),
-        Step::ByBraces(one, other) => read_by_braces(one, other, steps, out, input),
+        Step::ByBraces(one, other, begin) => {
+            read_by_braces(one, other, &begin, steps, out, input)
+        }
     }
 }
 
@@ -462,9 +466,21 @@ fn copy_group_by<K: DelimiterKind>(out: &mut Writer, input: &mut ParseBuffer<'_>
 {
     let (delimiters, mut content) = input.read_group::<K>()?;
     out.open(K::delimiter(), delimiters.opening)?;
-    let tokens = all_of(&mut content)?;
-    out.append(&tokens)?;
+    append_all(&mut content, out)?;
     out.close(K::delimiter(), delimiters.closing)?;
+    Ok(())
+}
+
+/// Writes all that is left, as it is; where what is written is dropped, nothing is copied.
+#[tactic(auto, using(crate::proofs::Writes::adds_nothing))]
+fn append_all(input: &mut ParseBuffer<'_>, out: &mut Writer) -> Parsed<()>
+    ensures { OrMemory IsSyntax result (λ x. out.new ≡ adds out.old input.old) }
+{
+    if out.is_dropping() {
+        return Ok(());
+    }
+    let tokens = all_of(input)?;
+    out.append(&tokens)?;
     Ok(())
 }
 
@@ -506,23 +522,24 @@ fn read_value<'a>(
 ) -> Parsed<()>
     ensures { Steps IsSyntax steps.old.items (copy_form (either (such trailing_brace (grammar.rule whole_expression) & grammar_of one.now) (such no_trailing_brace (grammar.rule whole_expression) & grammar_of other.now)) out.now input.now) result steps.new.items out.now input.now }
 {
-    steps.push(Step::ByBraces(one, other))?;
+    steps.push(Step::ByBraces(one, other, input.fork()))?;
     steps.push(Step::Form(form_of(Rule::WholeExpression)))?;
     Ok(())
 }
 
-/// Reads the first form where a group in braces was written last, else the second.
+/// Reads the first form where a group in braces was read last, from there on, else the second.
 #[tactic(auto, using(crate::proofs::Todo::push))]
 fn read_by_braces<'a>(
     one: &'static Form,
     other: &'static Form,
+    begin: &ParseBuffer<'a>,
     steps: &mut Vec<Step<'a>>,
-    out: &Writer,
+    _out: &Writer,
     input: &ParseBuffer<'a>,
 ) -> Parsed<()>
-    ensures { Steps IsSyntax steps.old.items (by_braces (grammar_of one.now) (grammar_of other.now) out.now input.now) result steps.new.items out.now input.now }
+    ensures { Steps IsSyntax steps.old.items (by_braces (grammar_of one.now) (grammar_of other.now) begin.now _out.now input.now) result steps.new.items _out.now input.now }
 {
-    if out.ends_with_braces() {
+    if has_trailing_brace(begin, input) {
         steps.push(Step::Form(one))?;
     } else {
         steps.push(Step::Form(other))?;

@@ -36,7 +36,7 @@ returns-clause-kept c =
     let ts = c.args.input.now in
     let two = c.write_rule-2.new in
     let printed : copied (blank true) (parse_rule k ts) ≡ Reached two.out two.input = search rules in
-    kept true k two.out ts two.input printed
+    kept (blank true) k two.out ts two.input printed
 
 pub returns-clause-moved : goal.returns-clause-moved
 returns-clause-moved c =
@@ -44,4 +44,4 @@ returns-clause-moved c =
     let ts = c.args.input.now in
     let two = c.write_rule-2.new in
     let printed : copied (blank true) (parse_rule k ts) ≡ Reached two.out two.input = search rules in
-    moved true k two.out ts two.input printed
+    moved (blank true) k two.out ts two.input printed

@@ -14,5 +14,5 @@ returns c =
     let w = c.args.out.now in
     let ts = c.args.input.now in
     let steps = c.args.steps.now.items in
-    let pushed : todo steps (next (copy_form (first_form k) (blank true) ts) (after_late k l w)) ≡ todo c.push-2.new.self.items (Reached c.aside.new.self ts) = search (rules, push) in
+    let pushed : todo steps (next (copy_form (first_form k) (blank true) ts) (after_late k l w)) ≡ todo c.push-2.new.self.items (Reached c.print_aside.new.self ts) = search (rules, push) in
     subst (Leads (todo steps (copy_others k l w ts))) pushed (leads_todo steps (copy_others k l w ts) (next (copy_form (first_form k) (blank true) ts) (after_late k l w)) (others_late k l w ts c.requires.member c.requires.first))
