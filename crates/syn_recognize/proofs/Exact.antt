@@ -1,12 +1,12 @@
 -- The same tokens, spans too.
-use Rattle.std.proofs.Common.{◌≡◌, ℕ, Bool, true, false, List, [], ◌∷◌, nat_eq, drop, get_or, length, ◌+◌, ◌<◌, ◌≤◌, refl, sym, ap, ap₂, ◌∙◌, subst, true≢false}
+use Rattle.std.proofs.Common.{◌≡◌, ℕ, Bool, true, false, List, [], ◌∷◌, nat_eq, drop, get_or, length, ◌+◌, ◌<◌, ◌≤◌, refl, sym, ap, ap₂, ◌∙◌, true≢false}
 use Rattle.std.proofs.lemmas.Bool.{eqb-true, eq-eqb}
 use Rattle.std.proofs.lemmas.List.{at_drop_more, drop_all}
-use Rattle.syn_grammar.specs.Tokens.{Span, call_site, Delimiter, Leaf, Stream, end, leaf, punct, group, and}
+use Rattle.syn_grammar.specs.Tokens.{Span, Delimiter, Leaf, Stream, end, leaf, punct, group, and}
 use Rattle.syn_grammar.specs.Same.{same_stream}
 use Rattle.syn_grammar.proofs.Same.{same_stream_plain, same_stream_refl, and_both}
 use Rattle.syn_grammar.proofs.Sets.{and_left, and_right}
-use Rattle.syn_tokens.specs.Entries.{encode, decode}
+use Rattle.syn_tokens.specs.Entries.{encode}
 use Rattle.syn_tokens.proofs.Entries.{decoded}
 use Rattle.syn_tokens.specs.declared.stream.entry.Token.{Token as Entry}
 use Rattle.syn_recognize.specs.Guesses.{Guesses, same_span, same_tokens, same_guess, same_guesses}

@@ -1,15 +1,14 @@
 -- Parts that aren't printed where their list is empty.
-use Rattle.std.proofs.Common.{◌≡◌, Bool, true, false, [], ◌∷◌, Some, None, refl, sym, ap, ap₂, ◌∙◌, subst, true≢false}
+use Rattle.std.proofs.Common.{◌≡◌, Bool, true, false, Some, None, refl, sym, ap, ap₂, ◌∙◌, subst, true≢false}
 use Rattle.syn_grammar.specs.Words.{colon, comma, less, greater, w_where}
-use Rattle.syn_grammar.specs.Tokens.{Stream, Look, Leaf, ident, literal, end, and, no, pick, same_text, at_lifetime}
+use Rattle.syn_grammar.specs.Tokens.{Stream, Look, Leaf, ident, literal, end, and, no, pick, same_text}
 use Rattle.syn_grammar.specs.Rules.{lifetimes, parameter_bounds, predicates, lifetime_parameter}
-use Rattle.syn_grammar.specs.Grammar.{Syntax, Nothing, Token, Both, Left, Right, Node, Vanishing, Order, Done, Last, More, bare, bare_leaf, word, fits, show, renew, at_row_comma, Grammar, ◌&◌, rule, ordered, vanishing, at_row_end}
+use Rattle.syn_grammar.specs.Grammar.{Syntax, Nothing, Both, Left, Right, Node, Vanishing, Order, Done, Last, More, bare, bare_leaf, word, fits, show, renew, at_row_comma, Grammar, ◌&◌, rule, ordered, vanishing, at_row_end}
 use Rattle.syn_grammar.specs.Table.{table, at_less, parameter, at_parameter_end, at_predicate_end}
 use Rattle.syn_grammar.specs.Take.{Out, sees, take_mark}
-use Rattle.syn_grammar.specs.Run.{and_then, branch, first_of, parse_form, parse_rule, vanish, wrap, rows, row_opened, row_closed, close_row, row_member, row_after, row_comma, marks_of, last, more, span_of}
+use Rattle.syn_grammar.specs.Run.{and_then, branch, first_of, parse_form, parse_rule, vanish, wrap, rows, row_opened, row_closed, close_row, row_member, row_after, row_comma, marks_of, span_of}
 use Rattle.syn_grammar.proofs.Each.{lifetimes_is, parameter_bounds_is, predicates_is}
 use Rattle.syn_grammar.proofs.Run.{inv_wrap, inv_then}
-use Rattle.syn_grammar.proofs.Sets.{same_text_eq, same_text_refl}
 use Rattle.syn_grammar.proofs.Takes.{TreeAndRest, mark_told, token_told}
 use Rattle.syn_tokens.specs.Leaves.{is_known_word}
 use Rattle.syn_parse.proofs.Words.{fits_word}
@@ -21,7 +20,7 @@ use Rattle.syn_recognize.specs.Ordered.{generics_form, member, first_form, other
 use Rattle.syn_recognize.specs.Fading.{head_form, fading_look, list_rule, fading_form, begins_list}
 use Rattle.syn_recognize.specs.PrintedRows.{way}
 use Rattle.syn_recognize.specs.Written.{Written, adds}
-use Rattle.syn_recognize.specs.Copies.{Copy, Reached, Refused, copied, copy_form, next}
+use Rattle.syn_recognize.specs.Copies.{Reached, Refused, copied, copy_form, next}
 use Rattle.syn_recognize.proofs.Copied.{nothing, then_is}
 use Rattle.syn_recognize.proofs.Solid.{NeverBare, never_bare, rule_never_bare, shown, shows}
 use Rattle.syn_recognize.proofs.Lists.{none_stands, one_stands}

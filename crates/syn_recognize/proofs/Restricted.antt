@@ -1,10 +1,9 @@
 -- The conditions of the grammar on a visibility, by looking into groups: what follows `pub`, and what stands for none.
-use Rattle.std.proofs.Common.{◌≡◌, ℕ, Bool, true, false, [], ◌∷◌, ◌++◌, Option, Some, None, refl, sym, ap, ap₂, ◌∙◌, subst, true≢false}
-use Rattle.syn_grammar.specs.Words.{Text, keywords, contextual, w_in, w_crate, w_self, w_super}
-use Rattle.syn_grammar.specs.Tokens.{Stream, end, leaf, punct, group, ident, literal, Paren, Brace, Bracket, None as Invisible, or, and, pick, has_fact, Fact, same_fact, Asked, asked_by_path_word, Lone_word, Begins_in, Before_end, Lookahead, facts_for, asked, leaf_terminal, lookahead, answers, is_word, is_ended, one_of_texts, Terminal, Word, Name, Span, Look, ended, at_word, at_empty_group, ◌or_else◌, ◌and_also◌, ahead}
+use Rattle.std.proofs.Common.{◌≡◌, ℕ, Bool, true, false, [], ◌∷◌, Option, Some, None, refl, sym, ap, ap₂, ◌∙◌, subst, true≢false}
+use Rattle.syn_grammar.specs.Words.{Text, w_in, w_crate, w_self, w_super}
+use Rattle.syn_grammar.specs.Tokens.{Stream, end, leaf, punct, group, ident, literal, Paren, Brace, Bracket, None as Invisible, or, and, pick, has_fact, asked_by_path_word, Lone_word, Begins_in, Before_end, facts_for, asked, leaf_terminal, lookahead, answers, is_word, is_ended, Terminal, Span, Look, ended, at_word, at_empty_group, ◌or_else◌, ◌and_also◌, ahead}
 use Rattle.syn_grammar.specs.Take.{sees, lookahead_at, take_token, Opened, take_group}
 use Rattle.syn_grammar.specs.Table.{at_restriction}
-use Rattle.syn_grammar.proofs.Sets.{same_text_eq}
 use Rattle.syn_grammar.proofs.Looks.{holds_nothing_of, sees_empty_group, sees_group, sees_word}
 use Rattle.syn_parse.specs.Peeks.{past}
 use Rattle.syn_parse.specs.Opened.{content_of}

@@ -1,14 +1,14 @@
 -- What is read of a bound or of a predicate is never bare, so a list of such that was read is bare only where it is empty.
-use Rattle.std.proofs.Common.{◌≡◌, ℕ, zero, suc, Bool, true, false, [], ◌∷◌, Option, Some, None, ◌⊎◌, inl, inr, refl, sym, ap, ap₂, ◌∙◌}
-use Rattle.syn_grammar.specs.Words.{Text, colon}
-use Rattle.syn_grammar.specs.Tokens.{Stream, and, or, no, pick, same_text}
+use Rattle.std.proofs.Common.{◌≡◌, ℕ, zero, suc, Bool, true, false, Some, refl, sym, ap, ◌∙◌}
+use Rattle.syn_grammar.specs.Words.{colon}
+use Rattle.syn_grammar.specs.Tokens.{Stream, and, or, no, same_text}
 use Rattle.syn_grammar.specs.Rules.{Rule}
-use Rattle.syn_grammar.specs.Shape.{Shape, untagged}
-use Rattle.syn_grammar.specs.Grammar.{Grammar, mark, lifetime, ◌&◌, when◌then◌else◌, inside, rule, shaped, Syntax, Nothing, Mark, Both, Left, Right, Node, Added, bare, chars}
+use Rattle.syn_grammar.specs.Shape.{untagged}
+use Rattle.syn_grammar.specs.Grammar.{Grammar, mark, lifetime, ◌&◌, when◌then◌else◌, inside, rule, shaped, Syntax, Left, Right, Node, bare}
 use Rattle.syn_grammar.specs.Table.{table}
-use Rattle.syn_grammar.specs.Take.{Out, sees, take_mark, take_group}
+use Rattle.syn_grammar.specs.Take.{Out, sees, take_group}
 use Rattle.syn_grammar.specs.Values.{untag}
-use Rattle.syn_grammar.specs.Run.{branch, parse_rule, parse_form, wrap}
+use Rattle.syn_grammar.specs.Run.{branch, parse_rule, parse_form}
 use Rattle.syn_grammar.proofs.Run.{inv_wrap, inv_then, inv_within, parse_rule_is}
 use Rattle.syn_grammar.proofs.Sets.{and_left, and_right}
 use Rattle.syn_grammar.proofs.Takes.{TreeAndRest, lifetime_told, mark_told}
