@@ -1,0 +1,260 @@
+#!/usr/bin/env python3
+"""Runs the built program on texts of every form that may stand in itself, so many levels deep, and fails where one isn't answered as it must
+be: by status 0, or 1 where a token is wrong at the innermost place; and where four times the levels take much more than four times as long.
+
+A form's text is, with as many levels as are asked for: what stands before, the opening of each level, the middle, the closing of each level,
+and what stands behind. Of each form a line is printed: its name, and the most seconds of processor that one of its runs took. Words may be
+given: then those forms alone are run whose names contain one of them.
+"""
+
+import argparse
+import os
+import resource
+import subprocess
+import sys
+import tempfile
+import threading
+from dataclasses import dataclass
+from pathlib import Path
+
+TOP = Path(__file__).resolve().parent.parent
+# What is usual for a main thread.
+STACK = 8 << 20
+# Beyond this in place of the middle no form is read.
+WRONG = " => "
+
+
+@dataclass(frozen=True)
+class Place:
+    """Where a form stands: a text of this kind, and what is around the form in it."""
+
+    kind: str
+    before: str
+    behind: str
+
+
+TYPE = Place("derive", "struct S { a: ", " }")
+FIELDS = Place("derive", "struct S { ", " }")
+BOUND = Place("derive", "struct S<T: ", ">;")
+WHERE = Place("derive", "struct S where T: for<'a> ", ";")
+PREDICATE = Place("derive", "struct S where ", ": T;")
+PARAMETERS = Place("derive", "struct S<", ">;")
+DEFAULT = Place("derive", "struct S { a: u8 = ", " }")
+VALUE = Place("derive", "enum E { A = ", " }")
+ATTRIBUTES = Place("derive", "", " struct S;")
+VISIBILITY = Place("visibility", "pub(in a", ")")
+EXPRESSION = Place("stmts", "let _ = ", ";")
+STATEMENTS = Place("stmts", "", "")
+STATEMENT = Place("stmt", "", ";")
+PATTERN = Place("stmts", "let ", " = a;")
+
+
+@dataclass(frozen=True)
+class Form:
+    """A form that may stand in itself. `raw`: what is inside is kept as tokens, so that no token is wrong there."""
+
+    name: str
+    place: Place
+    opening: str
+    middle: str
+    closing: str = ""
+    raw: bool = False
+
+    def text(self, levels, middle=None):
+        inside = self.middle if middle is None else middle
+        return self.place.before + self.opening * levels + inside + self.closing * levels + self.place.behind
+
+
+FORMS = [
+    Form("types in parentheses", TYPE, "(", "u8", ")"),
+    Form("tuple types", TYPE, "(u8, ", "u8", ")"),
+    Form("slice types", TYPE, "[", "u8", "]"),
+    Form("array types", TYPE, "[", "u8", "; 1]"),
+    Form("lengths of array types", TYPE, "[u8; { let _: ", "u8", "; }]"),
+    Form("references", TYPE, "&'a mut ", "u8"),
+    Form("pointers", TYPE, "*const ", "u8"),
+    Form("qualified paths", TYPE, "<", "u8", " as A>::B"),
+    Form("qualified paths without `as`", TYPE, "<", "u8", ">::B"),
+    Form("words of type paths", TYPE, "a::", "A"),
+    Form("path arguments", TYPE, "A<", "u8", ">"),
+    Form("path arguments in paths as they are cast", TYPE, "<u8 as A<", "u8", ">>::B"),
+    Form("associated types", TYPE, "A<B = ", "u8", ">"),
+    Form("lists with late lifetimes", TYPE, "A<u8, ", "u8", ", 'a>"),
+    Form("lists with late lifetimes first", TYPE, "A<u8, 'a, ", "u8", ">"),
+    Form("late lifetimes in one list", PARAMETERS, "T, 'a: 'b + 'c, ", "T"),
+    Form("arguments in parentheses", TYPE, "A(", "u8", ")"),
+    Form("return types", TYPE, "A() -> ", "u8"),
+    Form("constant arguments", TYPE, "A<{ let _: ", "u8", "; }>"),
+    Form("constant arguments in expressions", EXPRESSION, "A::<{ ", "a", " }>"),
+    Form("nameless structs", FIELDS, "_: struct { ", "a: u8", " }"),
+    Form("nameless unions", FIELDS, "a: u8, _: union { ", "a: u8", ", b: u8 }"),
+    Form("nameless structs with late lifetimes", FIELDS, "_: struct { a: A<u8, 'a>, ", "a: u8", " }"),
+    Form("nameless structs and blocks", FIELDS, "_: struct { a: u8 = { let _ = b else { c }; }, ", "a: u8", " }"),
+    Form("types in bounds", BOUND, "A<", "u8", ">"),
+    Form("bounds", BOUND, "A + ", "A"),
+    Form("lifetimes of bounds", BOUND, "for<'a> A + ", "A"),
+    Form("bounds of a predicate", WHERE, "A + ", "A"),
+    Form("types in bounds of a predicate", WHERE, "A<", "u8", ">"),
+    Form("types of predicates", PREDICATE, "A<", "u8", ">"),
+    Form("predicates", PREDICATE, "T: A, ", "T"),
+    Form("parameters with attributes", PARAMETERS, "#[a] T: A = B, ", "T"),
+    Form("fields", FIELDS, "pub a: u8, ", "a: u8"),
+    Form("defaults of fields", DEFAULT, "(", "1", ")"),
+    Form("values of variants", VALUE, "(", "1", ")"),
+    Form("attributes", ATTRIBUTES, "#[a]", ""),
+    Form("groups in an attribute", Place("derive", "#[a(", ")] struct S;"), "([{", "a", "}])", raw=True),
+    Form("tokens in an attribute", Place("derive", "#[a = ", "] struct S;"), "(", "a", ")", raw=True),
+    Form("words of a restricted visibility", VISIBILITY, "::a", ""),
+    Form("parentheses", EXPRESSION, "(", "a", ")"),
+    Form("parentheses in a statement", STATEMENTS, "(", "a", ")"),
+    Form("parentheses in one statement", STATEMENT, "(", "a", ")"),
+    Form("tuples", EXPRESSION, "(a, ", "a", ")"),
+    Form("arrays", EXPRESSION, "[", "a", "]"),
+    Form("repeated values", EXPRESSION, "[", "a", "; 1]"),
+    Form("numbers of values", EXPRESSION, "[a; ", "1", "]"),
+    Form("calls", EXPRESSION, "a(", "a", ")"),
+    Form("calls of calls", EXPRESSION, "", "a", "()"),
+    Form("method calls", EXPRESSION, "a.b(", "a", ")"),
+    Form("method calls in a row", EXPRESSION, "", "a", ".b()"),
+    Form("method calls with arguments of types", EXPRESSION, "a.b::<u8>(", "a", ")"),
+    Form("types of method calls", EXPRESSION, "a.b::<[u8; ", "1", "]>()"),
+    Form("indexes", EXPRESSION, "a[", "a", "]"),
+    Form("indexes in a row", EXPRESSION, "", "a", "[1]"),
+    Form("members", EXPRESSION, "", "a", ".b"),
+    Form("numbered members", EXPRESSION, "", "a", ".0 "),
+    Form("`?`", EXPRESSION, "", "a", "?"),
+    Form("`!`", EXPRESSION, "!", "a"),
+    Form("signs", EXPRESSION, "-", "a"),
+    Form("`*`", EXPRESSION, "*", "a"),
+    Form("`&`", EXPRESSION, "&", "a"),
+    Form("`&mut`", EXPRESSION, "&mut ", "a"),
+    Form("casts", EXPRESSION, "", "a", " as u8"),
+    Form("casts in parentheses", EXPRESSION, "(", "a", " as u8)"),
+    Form("types of casts", EXPRESSION, "a as [u8; ", "1", "]"),
+    *(Form(f"`{it}` in a row", EXPRESSION, f"a {it} ", "a") for it in ("*", "/", "%", "+", "-", "<<", ">>", "&", "^", "|", "&&", "||", "=", "+=", "<<=")),
+    *(Form(f"`{it}` in parentheses", EXPRESSION, f"(a {it} ", "a", ")") for it in ("*", "-", "<<", "==", "<", ">=", "||", "=")),
+    Form("every level", EXPRESSION, "a = a || a && a | a ^ a & a << a + a * -a as u8 | ", "a"),
+    Form("operators in a statement", STATEMENTS, "a + ", "a"),
+    Form("`return`", EXPRESSION, "return ", "a"),
+    Form("blocks", EXPRESSION, "{ ", "a", " }"),
+    Form("blocks in statements", STATEMENTS, "{ ", "a", " }"),
+    Form("blocks in a block", Place("block", "{", "}"), "{ ", "a", " }"),
+    Form("blocks with inner attributes", EXPRESSION, "{ #![a] ", "a", " }"),
+    Form("inner attributes", Place("stmts", "{ ", " }"), "#![a]", ""),
+    Form("labelled blocks", EXPRESSION, "'a: { ", "a", " }"),
+    Form("`unsafe`", EXPRESSION, "unsafe { ", "a", " }"),
+    Form("`else if`", STATEMENTS, "if a {} else ", "{}"),
+    Form("`else if` as a value", EXPRESSION, "if a {} else ", "{}"),
+    Form("`else` and `if` in braces", EXPRESSION, "if a {} else { ", "a", " }"),
+    Form("`if` in `if`", EXPRESSION, "if a { ", "a", " }"),
+    Form("`if` as a condition", EXPRESSION, "if ", "a", " {}"),
+    Form("`while`", STATEMENTS, "while a { ", "a", " }"),
+    Form("`while` as a condition", STATEMENTS, "while ", "a", " {}"),
+    Form("`loop`", STATEMENTS, "loop { ", "a", " }"),
+    Form("`for`", STATEMENTS, "for a in a { ", "a", " }"),
+    Form("`for` over blocks", STATEMENTS, "for a in { ", "a", " } {}"),
+    Form("locals in locals", STATEMENTS, "let _ = { ", "a", " };"),
+    Form("types of locals", STATEMENTS, "let _: [u8; { ", "a", " }] = a;"),
+    Form("`let` with `else`", STATEMENTS, "let _ = a else { ", "a", " };"),
+    Form("calls in `let` with `else`", STATEMENTS, "let _ = a({ ", "a", " }) else { a };"),
+    Form("statements", STATEMENTS, "a; let b = c; ", "a"),
+    Form("blocks in a row", STATEMENTS, "{ a } ", "a"),
+    Form("blocks that go on", STATEMENTS, "{ ", "a", " }.b;"),
+    Form("`;`", STATEMENTS, ";", ""),
+    Form("attributes of statements", STATEMENTS, "#[a] ", "a"),
+    Form("attributes of operands", EXPRESSION, "#[a] -", "a"),
+    Form("macros", EXPRESSION, "m!(", "a", ")", raw=True),
+    Form("macros in brackets and braces", EXPRESSION, "m![{", "a", "}]", raw=True),
+    Form("macros in statements", STATEMENTS, "m! { ", "a", " }", raw=True),
+    Form("words of paths", EXPRESSION, "a::", "a"),
+    Form("words of a macro's path", EXPRESSION, "a::", "m!()"),
+    Form("qualified paths in expressions", EXPRESSION, "<[u8; ", "1", "]>::B"),
+    Form("types in expressions", EXPRESSION, "A::<[u8; ", "1", "]>"),
+    Form("tuple patterns", PATTERN, "(a, ", "a", ")"),
+    Form("patterns in parentheses", PATTERN, "(", "a", ")"),
+    Form("patterns of tuple structs", PATTERN, "A(", "a", ")"),
+    Form("types in patterns", PATTERN, "A::<[u8; { let ", "a", " = a; }]>"),
+]
+
+# Delimiters that nothing closes.
+UNCLOSED = [
+    Form("unclosed parentheses", EXPRESSION, "(", ""),
+    Form("unclosed brackets", EXPRESSION, "[", ""),
+    Form("unclosed braces", STATEMENTS, "{", ""),
+    Form("unclosed groups of each kind", STATEMENTS, "([{", ""),
+    Form("unclosed `<`", TYPE, "A<", "u8"),
+    Form("unclosed nameless structs", FIELDS, "_: struct { ", "a: u8"),
+]
+
+
+def limited():
+    """What the child has: the usual stack."""
+    resource.setrlimit(resource.RLIMIT_STACK, (STACK, resource.getrlimit(resource.RLIMIT_STACK)[1]))
+
+
+def run(binary, task, kind, text, seconds):
+    """The program's status, and the seconds of processor that it took; no status where it took longer than that."""
+    with tempfile.TemporaryFile() as given:
+        given.write(text.encode())
+        given.seek(0)
+        child = subprocess.Popen([binary, task, kind], stdin=given, stdout=subprocess.DEVNULL, stderr=subprocess.DEVNULL, preexec_fn=limited)
+        late = threading.Timer(seconds, child.kill)
+        late.start()
+        _pid, ended, used = os.wait4(child.pid, 0)
+        late.cancel()
+        child.returncode = os.waitstatus_to_exitcode(ended)
+    return child.returncode, used.ru_utime + used.ru_stime
+
+
+def runs_of(form):
+    """What is done with a form: the task, what stands in the place of its middle, and the status that is wanted."""
+    if form in UNCLOSED:
+        return [("print", None, 1)]
+    wrong = [] if form.raw else [("print", form.middle + WRONG, 1)]
+    return [("print", None, 0), ("check", None, 0), *wrong]
+
+
+def tried(form, options):
+    """The most seconds that a run of the form took, and what was wrong."""
+    most, faults = 0.0, []
+    for task, middle, wanted in runs_of(form):
+        took = []
+        for levels in (options.levels // 4, options.levels):
+            status, seconds = run(options.bin, task, form.place.kind, form.text(levels, middle), options.seconds)
+            took.append(seconds)
+            if status != wanted:
+                faults.append(f"{task}, {levels} levels: status {status} in place of {wanted}" + ("" if middle is None else ", with a wrong token"))
+        few, many = took
+        if many > options.growth * few + options.noise:
+            faults.append(f"{task}: {few:.2f} s for {options.levels // 4} levels, {many:.2f} s for {options.levels}")
+        most = max(most, many)
+    return most, faults
+
+
+def parsed(words):
+    parser = argparse.ArgumentParser(description=__doc__.splitlines()[0])
+    parser.add_argument("words", nargs="*", help="those forms alone whose names contain one of these")
+    parser.add_argument("--bin", default=str(TOP / "crates/syn_canon/out/syn_canon"), help="the built program")
+    parser.add_argument("--levels", type=int, default=100_000, help="how many levels; a quarter of them is run too")
+    parser.add_argument("--seconds", type=float, default=20, help="how long a run may take")
+    parser.add_argument("--growth", type=float, default=8, help="how many times as long four times the levels may take")
+    parser.add_argument("--noise", type=float, default=0.1, help="the seconds that this may be wrong by")
+    return parser.parse_args(words)
+
+
+def main(words=None):
+    options = parsed(words)
+    forms = [it for it in FORMS + UNCLOSED if not options.words or any(word in it.name for word in options.words)]
+    wrong = 0
+    for form in forms:
+        seconds, faults = tried(form, options)
+        print(f"{form.name:45} {seconds:6.2f} s", flush=True)
+        for fault in faults:
+            print(f"    {fault}", flush=True)
+        wrong += bool(faults)
+    print(f"{len(forms) - wrong} of {len(forms)} forms passed")
+    return 1 if wrong or not forms else 0
+
+
+if __name__ == "__main__":
+    sys.exit(main())
