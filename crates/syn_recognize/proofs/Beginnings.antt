@@ -1,17 +1,20 @@
--- What types, their arguments and attributes begin with.
+-- What types, their arguments, attributes, expressions and statements begin with.
 use Rattle.std.proofs.Common.{◌≡◌, ℕ, false, List, [], ◌∷◌, refl, sym, subst}
 use Rattle.syn_grammar.specs.Tokens.{Paren}
-use Rattle.syn_grammar.specs.Rules.{generic_argument, generic_arguments, meta, meta_value, module_path, module_words, path_as_type, type, type_arguments, type_path, type_words, types}
-use Rattle.syn_grammar.specs.Grammar.{Grammar, ◌&◌, when◌then◌else◌, inside, mark, name, rule, token}
-use Rattle.syn_grammar.specs.Table.{table, at_association}
+use Rattle.syn_grammar.specs.Rules.{after_block, after_expression, attributes, expression_words, macro_invocation, member, postfixes, statement_rest, statements, whole_expression, generic_argument, generic_arguments, meta, meta_value, module_path, module_words, path_as_type, type, type_arguments, type_path, type_words, types}
+use Rattle.syn_grammar.specs.Grammar.{Grammar, empty, ◌&◌, when◌then◌else◌, inside, mark, name, name_or, rule, shaped, token}
+use Rattle.syn_grammar.specs.Shape.{untagged}
+use Rattle.syn_grammar.specs.Table.{table, at_association, at_brace_macro, at_colons, at_turbofish}
 use Rattle.syn_grammar.specs.Run.{parse_form}
-use Rattle.syn_grammar.specs.Words.{equals}
+use Rattle.syn_grammar.specs.Words.{colons, equals, w_Self_type}
 use Rattle.syn_parse.specs.declared.buffer.first.First.{First}
 use Rattle.syn_parse.specs.declared.buffer.first.First.TheVariants as F
 use Rattle.syn_tokens.specs.declared.delimiter.Delimiter.{Delimiter}
 use Rattle.syn_tokens.specs.declared.delimiter.Delimiter.TheVariants as D
 use Rattle.syn_recognize.specs.Opens.{Opens}
-use Rattle.syn_recognize.proofs.Opened.{opens_as_pruned, opens_pruned, opens_through, words_form}
+use Rattle.syn_recognize.specs.Parts.{part_form}
+use Rattle.syn_recognize.specs.declared.rules.Part.TheVariants as Part-m
+use Rattle.syn_recognize.proofs.Opened.{opens_as_pruned, opens_pruned, opens_so_far, opens_through, words_form}
 
 -- TYPES
 
@@ -60,3 +63,31 @@ module_path_by_name f g e h = subst (λ z. Opens z g module_path) (sym e) (opens
 
 pub module_path_by_keyword : (f : First) (g : Grammar) → f ≡ F.Keyword → parse_form g ≡ parse_form (table module_words) → Opens f g module_path
 module_path_by_keyword f g e h = subst (λ z. Opens z g module_path) (sym e) (opens_through (module_path ∷ []) F.Keyword g module_words module_path refl h)
+
+-- EXPRESSIONS
+
+pub dot_postfix : (c : ℕ) (g : Grammar) → c ≡ 46 → parse_form g ≡ parse_form (part_form Part-m.Postfixes1) → Opens (F.Mark c) g postfixes
+dot_postfix c g e h = subst (λ z. Opens (F.Mark z) g postfixes) (sym e) (opens_so_far (postfixes ∷ []) 4 (F.Mark 46) g postfixes h)
+
+pub member_by_name : (f : First) (g : Grammar) → f ≡ F.Name → parse_form g ≡ parse_form (part_form Part-m.Member1) → Opens f g member
+member_by_name f g e h = subst (λ z. Opens z g member) (sym e) (opens_as_pruned (member ∷ []) F.Name g member h)
+
+abbrev pub expression_words_form : Grammar
+expression_words_form = (token [] (name_or (w_Self_type ∷ [])) & shaped untagged (when at_turbofish then (rule type_arguments) else empty)) & (when at_colons then (mark false colons & rule expression_words) else empty)
+
+pub expression_words_open : (f : First) → f ≡ F.Name → Opens f expression_words_form expression_words
+expression_words_open f e = subst (λ z. Opens z expression_words_form expression_words) (sym e) (opens_as_pruned (expression_words ∷ []) F.Name expression_words_form expression_words refl)
+
+-- STATEMENTS
+
+abbrev pub statement_form : Grammar
+statement_form = when at_brace_macro then (rule macro_invocation & rule after_block) else (rule whole_expression & rule after_expression)
+
+pub statements_open : (f : First) → f ≡ F.Name → Opens f statement_form statements
+statements_open f e = subst (λ z. Opens z statement_form statements) (sym e) (opens_as_pruned (statements ∷ attributes ∷ statement_rest ∷ []) F.Name statement_form statements refl)
+
+pub statement_opens : (f : First) → f ≡ F.Name → Opens f statement_form statement_rest
+statement_opens f e = subst (λ z. Opens z statement_form statement_rest) (sym e) (opens_as_pruned (statement_rest ∷ []) F.Name statement_form statement_rest refl)
+
+pub statements_by_keyword : (f : First) (g : Grammar) → f ≡ F.Keyword → parse_form g ≡ parse_form (table statement_rest) → Opens f g statements
+statements_by_keyword f g e h = subst (λ z. Opens z g statements) (sym e) (opens_through (statements ∷ attributes ∷ []) F.Keyword g statement_rest statements refl h)

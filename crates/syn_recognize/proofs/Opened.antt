@@ -124,6 +124,11 @@ pub opens_as_pruned : (ks : List Rule) (f : First) (g : Grammar) (k : Rule) → 
 unfolding Opens copy_form
 opens_as_pruned ks f g k e = λ w ts b. sym (pruned_is ks 30 f (rule k) ts b w) ∙ sym (ap (λ (p : Parser). copied w (p ts)) e)
 
+-- in so many steps
+pub opens_so_far : (ks : List Rule) (n : ℕ) (f : First) (g : Grammar) (k : Rule) → parse_form g ≡ parse_form (pruned ks n f (rule k)) → Opens f g k
+unfolding Opens copy_form
+opens_so_far ks n f g k e = λ w ts b. sym (pruned_is ks n f (rule k) ts b w) ∙ sym (ap (λ (p : Parser). copied w (p ts)) e)
+
 -- one that is read as the form of another rule, which alone is left of it there
 pub opens_through : (ks : List Rule) (f : First) (g : Grammar) (j k : Rule) → pruned ks 30 f (rule k) ≡ rule j → parse_form g ≡ parse_form (table j) → Opens f g k
 unfolding Opens

@@ -1,6 +1,6 @@
 //! What a rule reads where it is known what stands next: forms of operands without the conditions that this rules out.
 ghost use Rattle.std.specs.Prelude.{◌≡◌};
-ghost use Rattle.syn_grammar.specs.Rules.{attributes, generic_argument, meta, module_path, postfixes, type, type_arguments, type_path, type_words, unary, visibility};
+ghost use Rattle.syn_grammar.specs.Rules.{attributes, expression_words, generic_argument, member, meta, module_path, postfixes, statement_rest, statements, type, type_arguments, type_path, type_words, unary, visibility};
 ghost use Rattle.syn_grammar.specs.Table.{table};
 ghost use Rattle.syn_parse.specs.declared.buffer.first.First.TheVariants as first;
 ghost use Rattle.syn_recognize.specs.Forms.{grammar_of};
@@ -10,7 +10,7 @@ ghost use Rattle.syn_recognize.specs.Opens.{Opens};
 
 use crate::form::Form;
 use crate::look::{Look, is_any_group, is_group, is_keyword, is_mark};
-use crate::rules::{Rule, form_of};
+use crate::rules::{Part, Rule, form_of, form_of_part};
 use crate::shape::Shape;
 use crate::token::Token;
 use crate::words::Mark;
@@ -88,6 +88,42 @@ static ARGUMENT: Form = Form::When(
 /// The meta of an attribute that begins so.
 static META: Form = Form::Then(&Form::Rule(Rule::ModuleWords), &Form::Rule(Rule::MetaValue));
 
+/// Words of an expression's path of which the first is such an identifier.
+static EXPRESSION_WORDS: Form = Form::Then(
+    &Form::Then(
+        &Form::Token(Token::NameOrSelfType),
+        &Form::Shaped(
+            Shape::Untagged,
+            &Form::When(
+                Look::Turbofish,
+                &Form::Rule(Rule::TypeArguments),
+                &Form::Empty,
+            ),
+        ),
+    ),
+    &Form::When(
+        Look::Mark(Mark::PathSep),
+        &Form::Then(
+            &Form::Mark(Mark::PathSep),
+            &Form::Rule(Rule::ExpressionWords),
+        ),
+        &Form::Empty,
+    ),
+);
+
+/// A statement that begins with one, and those that follow: a macro in braces, or an expression.
+static STATEMENT: Form = Form::When(
+    Look::BraceMacro,
+    &Form::Then(
+        &Form::Rule(Rule::MacroInvocation),
+        &Form::Rule(Rule::AfterBlock),
+    ),
+    &Form::Then(
+        &Form::Rule(Rule::WholeExpression),
+        &Form::Rule(Rule::AfterExpression),
+    ),
+);
+
 static EMPTY: Form = Form::Empty;
 
 /// A form that is read as the rule is, where this stands next.
@@ -108,6 +144,10 @@ pub(crate) fn opened(rule: Rule, next: First) -> &'static Form
         Rule::Meta => meta_by(next),
         Rule::ModulePath => module_path_by(next),
         Rule::Visibility => visibility_by(next),
+        Rule::ExpressionWords => expression_words_by(next),
+        Rule::Member => member_by(next),
+        Rule::Statements => statements_by(next),
+        Rule::StatementRest => statement_by(next),
         _ => form_of(rule),
     }
 }
@@ -145,10 +185,23 @@ fn group_operand(delimiter: Delimiter) -> &'static Form
 fn postfix(next: First) -> &'static Form
     ensures { Opens next (grammar_of result.now) postfixes }
 {
-    if may_follow(next) {
-        form_of(Rule::Postfixes)
-    } else {
-        &EMPTY
+    if !may_follow(next) {
+        return &EMPTY;
+    }
+    match next {
+        First::Mark(character) => postfix_by_mark(character),
+        _ => form_of(Rule::Postfixes),
+    }
+}
+
+/// A form that is read as postfixes are where this character of a mark stands next.
+#[tactic(auto, using(crate::proofs::Opened::opens_rule, crate::proofs::Beginnings::dot_postfix))]
+fn postfix_by_mark(character: char) -> &'static Form
+    ensures { Opens (first.Mark character) (grammar_of result.now) postfixes }
+{
+    match character {
+        '.' => form_of_part(Part::Postfixes1),
+        _ => form_of(Rule::Postfixes),
     }
 }
 
@@ -316,4 +369,49 @@ fn may_be_visibility(next: First) -> bool
     ensures { result ≡ loud (table visibility) next }
 {
     is_keyword(next) || is_any_group(next)
+}
+
+/// A form that is read as the words of an expression's path are.
+#[tactic(auto, using(crate::proofs::Opened::opens_rule))]
+fn expression_words_by(next: First) -> &'static Form
+    ensures { Opens next (grammar_of result.now) expression_words }
+{
+    match next {
+        First::Name => &EXPRESSION_WORDS,
+        _ => form_of(Rule::ExpressionWords),
+    }
+}
+
+/// A form that is read as a member is.
+#[tactic(auto, using(crate::proofs::Opened::opens_rule, crate::proofs::Beginnings::member_by_name))]
+fn member_by(next: First) -> &'static Form
+    ensures { Opens next (grammar_of result.now) member }
+{
+    match next {
+        First::Name => form_of_part(Part::Member1),
+        _ => form_of(Rule::Member),
+    }
+}
+
+/// A form that is read as statements are.
+#[tactic(auto, using(crate::proofs::Opened::opens_rule, crate::proofs::Beginnings::statements_by_keyword))]
+fn statements_by(next: First) -> &'static Form
+    ensures { Opens next (grammar_of result.now) statements }
+{
+    match next {
+        First::Name => &STATEMENT,
+        First::Keyword => form_of(Rule::StatementRest),
+        _ => form_of(Rule::Statements),
+    }
+}
+
+/// A form that is read as a statement behind its attributes is, with those that follow.
+#[tactic(auto, using(crate::proofs::Opened::opens_rule))]
+fn statement_by(next: First) -> &'static Form
+    ensures { Opens next (grammar_of result.now) statement_rest }
+{
+    match next {
+        First::Name => &STATEMENT,
+        _ => form_of(Rule::StatementRest),
+    }
 }
