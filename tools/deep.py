@@ -238,7 +238,7 @@ def parsed(words):
     parser.add_argument("--levels", type=int, default=100_000, help="how many levels; a quarter of them is run too")
     parser.add_argument("--seconds", type=float, default=20, help="how long a run may take")
     parser.add_argument("--growth", type=float, default=8, help="how many times as long four times the levels may take")
-    parser.add_argument("--noise", type=float, default=0.1, help="the seconds that this may be wrong by")
+    parser.add_argument("--noise", type=float, default=0.3, help="the seconds that this may be wrong by")
     return parser.parse_args(words)
 
 

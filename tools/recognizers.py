@@ -67,7 +67,7 @@ ORDERED = {('lifetime',): 'Arguments', ('rule', ('lifetime_parameter',)): 'Param
 UNIONS = {'derive_input': 'DeriveInput'}
 
 # What is a part of its rule, however large it is, since others speak of it.
-CUT = [('structure_rest', ('second',)), ('enumeration_rest', ('second',)), ('union_item_rest', ('second',)), ('generics', ('first', 'second'))]
+CUT = [('structure_rest', ('second',)), ('enumeration_rest', ('second',)), ('union_item_rest', ('second',)), ('generics', ('first', 'second')), ('member', ('second',))]
 
 # Looks that no part of a look is data of: a function tells each.
 TOLD = ['at_any_literal', 'at_lifetime', 'at_inner_attribute', 'at_arguments', 'at_association', 'at_turbofish', 'at_path_word',

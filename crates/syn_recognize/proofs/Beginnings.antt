@@ -69,7 +69,7 @@ module_path_by_keyword f g e h = subst (λ z. Opens z g module_path) (sym e) (op
 pub dot_postfix : (c : ℕ) (g : Grammar) → c ≡ 46 → parse_form g ≡ parse_form (part_form Part-m.Postfixes1) → Opens (F.Mark c) g postfixes
 dot_postfix c g e h = subst (λ z. Opens (F.Mark z) g postfixes) (sym e) (opens_so_far (postfixes ∷ []) 4 (F.Mark 46) g postfixes h)
 
-pub member_by_name : (f : First) (g : Grammar) → f ≡ F.Name → parse_form g ≡ parse_form (part_form Part-m.Member1) → Opens f g member
+pub member_by_name : (f : First) (g : Grammar) → f ≡ F.Name → parse_form g ≡ parse_form (part_form Part-m.Member2) → Opens f g member
 member_by_name f g e h = subst (λ z. Opens z g member) (sym e) (opens_as_pruned (member ∷ []) F.Name g member h)
 
 abbrev pub expression_words_form : Grammar

@@ -388,7 +388,7 @@ fn member_by(next: First) -> &'static Form
     ensures { Opens next (grammar_of result.now) member }
 {
     match next {
-        First::Name => form_of_part(Part::Member1),
+        First::Name => form_of_part(Part::Member2),
         _ => form_of(Rule::Member),
     }
 }

@@ -61,10 +61,7 @@ pub(super) static POSTFIXES_2: Form = Form::When(
 pub(super) static MEMBER: Form = Form::When(
     Look::Integer,
     &Form::Token(Token::Index),
-    &Form::Then(
-        &Form::TokenAt(Token::Name, Place::Member),
-        &Form::Part(Part::Member1),
-    ),
+    &Form::Part(Part::Member2),
 );
 
 /// A part of `member`.
@@ -82,6 +79,12 @@ pub(super) static MEMBER_1: Form = Form::When(
         &Form::Inside(Delimiter::Paren, &Form::Rule(Rule::Expressions)),
         &Form::Empty,
     ),
+);
+
+/// A part of `member`.
+pub(super) static MEMBER_2: Form = Form::Then(
+    &Form::TokenAt(Token::Name, Place::Member),
+    &Form::Part(Part::Member1),
 );
 
 /// A unary level: attributes, which belong to all of it; and `-`, `!`, `*`, `&` or `&mut` before another, or an
