@@ -43,7 +43,7 @@ TOPICS = [
 ]
 
 # How many references to forms and looks a static holds at most; what goes beyond is a part, with a static of its own. Rattle's own compiler
-# takes no type of more than some 512 parts ("too much code for the backend's tables"), and a static is one with the parts of all forms
+# refuses a type of 585 parts and takes one of 540 ("too much code for the backend's tables"), and a static is one with the parts of all forms
 # and looks in it: some 40 a form.
 LARGEST = 11
 
