@@ -731,6 +731,312 @@ summary_of true statement = record { stays = []; moves = []; nullable = false; g
 summary_of true statement_end = record { stays = []; moves = []; nullable = false; gone = []; ends = []; halts = []; shuns = [] }
 summary_of true local = record { stays = Word w_let ∷ []; moves = []; nullable = false; gone = []; ends = []; halts = []; shuns = [] }
 
+-- the same of its full form, where what is shown of it is read
+abbrev pub shown_heard_of : Rule → Bool
+shown_heard_of attributes = true
+shown_heard_of inner_attributes = false
+shown_heard_of meta = false
+shown_heard_of unsafe_path = false
+shown_heard_of unsafe_word = false
+shown_heard_of meta_value = false
+shown_heard_of module_path = true
+shown_heard_of module_words = true
+shown_heard_of visibility = true
+shown_heard_of restriction = true
+shown_heard_of type_path = true
+shown_heard_of type_words = true
+shown_heard_of type_arguments = true
+shown_heard_of return_type = false
+shown_heard_of generic_arguments = true
+shown_heard_of generic_argument = false
+shown_heard_of qualified_path = true
+shown_heard_of path_as_type = true
+shown_heard_of type = true
+shown_heard_of types = true
+shown_heard_of constant = true
+shown_heard_of generics = false
+shown_heard_of lifetime_parameter = false
+shown_heard_of lifetimes = false
+shown_heard_of parameter_bounds = false
+shown_heard_of bound = false
+shown_heard_of trait_bound = true
+shown_heard_of bound_lifetimes = false
+shown_heard_of lifetime_parameters = false
+shown_heard_of where_clause = false
+shown_heard_of predicates = false
+shown_heard_of predicate = false
+shown_heard_of predicate_bounds = false
+shown_heard_of fields_named = true
+shown_heard_of named_fields = false
+shown_heard_of named_field = false
+shown_heard_of nameless_fields = true
+shown_heard_of unnamed_field = true
+shown_heard_of unnamed_fields = true
+shown_heard_of fields_unnamed = false
+shown_heard_of variant = false
+shown_heard_of variants = false
+shown_heard_of structure = false
+shown_heard_of structure_rest = false
+shown_heard_of structure_body = false
+shown_heard_of enumeration = false
+shown_heard_of enumeration_rest = false
+shown_heard_of union_item = false
+shown_heard_of union_item_rest = false
+shown_heard_of derive_input = false
+shown_heard_of expression_path = true
+shown_heard_of expression_words = true
+shown_heard_of qualified_expression_path = true
+shown_heard_of path_as_expression = true
+shown_heard_of macro_invocation = true
+shown_heard_of pattern = true
+shown_heard_of patterns = true
+shown_heard_of expressions = true
+shown_heard_of array_content = false
+shown_heard_of block = true
+shown_heard_of body = true
+shown_heard_of plain_body = true
+shown_heard_of no_inner_attributes = false
+shown_heard_of primary = true
+shown_heard_of block_like = true
+shown_heard_of if_expression = true
+shown_heard_of loop_expression = true
+shown_heard_of postfixes = true
+shown_heard_of member = false
+shown_heard_of unary = true
+shown_heard_of casts = true
+shown_heard_of cast = true
+shown_heard_of products = true
+shown_heard_of product = true
+shown_heard_of sums = true
+shown_heard_of sum = true
+shown_heard_of shifts = true
+shown_heard_of shift = true
+shown_heard_of bit_ands = true
+shown_heard_of bit_and = true
+shown_heard_of bit_xors = true
+shown_heard_of bit_xor = true
+shown_heard_of bit_ors = true
+shown_heard_of bit_or = true
+shown_heard_of compared = true
+shown_heard_of comparison = true
+shown_heard_of conjunctions = true
+shown_heard_of conjunction = true
+shown_heard_of disjunctions = true
+shown_heard_of disjunction = true
+shown_heard_of assigned = true
+shown_heard_of whole_expression = true
+shown_heard_of operand_rest = false
+shown_heard_of statements = true
+shown_heard_of statement_rest = true
+shown_heard_of after_block = false
+shown_heard_of after_expression = true
+shown_heard_of statement = false
+shown_heard_of statement_end = false
+shown_heard_of local = true
+
+-- how what is shown of it may differ from what it read
+abbrev pub shown_summary_of : Bool → Rule → Summary
+shown_summary_of false attributes = record { stays = []; moves = move (Punctuation pound) (Punctuation pound) [] ∷ []; nullable = true; gone = []; ends = []; halts = at_pound ∷ []; shuns = [] }
+shown_summary_of false inner_attributes = record { stays = Punctuation pound ∷ []; moves = []; nullable = true; gone = []; ends = []; halts = at_inner_attribute ∷ []; shuns = [] }
+shown_summary_of false meta = record { stays = []; moves = move (Word w_unsafe) (Word w_unsafe) [] ∷ move (Punctuation colons) (Punctuation colons) [] ∷ move Name Name [] ∷ move (Word w_union) (Word w_union) [] ∷ move (Word w_auto) (Word w_auto) [] ∷ move (Word w_default) (Word w_default) [] ∷ move (Word w_safe) (Word w_safe) [] ∷ move (Word w_self) (Word w_self) [] ∷ move (Word w_Self_type) (Word w_Self_type) [] ∷ move (Word w_super) (Word w_super) [] ∷ move (Word w_crate) (Word w_crate) [] ∷ []; nullable = false; gone = []; ends = ended ∷ []; halts = at_equals ∷ at_bracket ∷ at_brace ∷ at_paren ∷ at_colons ∷ []; shuns = [] }
+shown_summary_of false unsafe_path = record { stays = []; moves = move (Word w_unsafe) (Word w_unsafe) [] ∷ []; nullable = false; gone = []; ends = []; halts = at_colons ∷ []; shuns = [] }
+shown_summary_of false unsafe_word = record { stays = []; moves = move (Word w_unsafe) (Word w_unsafe) [] ∷ []; nullable = false; gone = []; ends = []; halts = at_colons ∷ []; shuns = [] }
+shown_summary_of false meta_value = record { stays = Delimited Paren false ∷ Delimited Brace false ∷ Delimited Bracket false ∷ Punctuation equals ∷ []; moves = move (Punctuation (61 ∷ 62 ∷ [])) (Punctuation equals) [] ∷ move (Punctuation equal_equal) (Punctuation equals) [] ∷ []; nullable = true; gone = []; ends = ended ∷ []; halts = at_equals ∷ at_bracket ∷ at_brace ∷ at_paren ∷ []; shuns = [] }
+shown_summary_of false module_path = record { stays = []; moves = move (Punctuation colons) (Punctuation colons) [] ∷ move Name Name [] ∷ move (Word w_union) (Word w_union) [] ∷ move (Word w_auto) (Word w_auto) [] ∷ move (Word w_default) (Word w_default) [] ∷ move (Word w_safe) (Word w_safe) [] ∷ move (Word w_self) (Word w_self) [] ∷ move (Word w_Self_type) (Word w_Self_type) [] ∷ move (Word w_super) (Word w_super) [] ∷ move (Word w_crate) (Word w_crate) [] ∷ []; nullable = false; gone = []; ends = []; halts = at_colons ∷ []; shuns = [] }
+shown_summary_of false module_words = record { stays = []; moves = move Name Name [] ∷ move (Word w_union) (Word w_union) [] ∷ move (Word w_auto) (Word w_auto) [] ∷ move (Word w_default) (Word w_default) [] ∷ move (Word w_safe) (Word w_safe) [] ∷ move (Word w_self) (Word w_self) [] ∷ move (Word w_Self_type) (Word w_Self_type) [] ∷ move (Word w_super) (Word w_super) [] ∷ move (Word w_crate) (Word w_crate) [] ∷ []; nullable = false; gone = []; ends = []; halts = at_colons ∷ []; shuns = [] }
+shown_summary_of false visibility = record { stays = Word w_pub ∷ []; moves = []; nullable = true; gone = Delimited None true ∷ []; ends = []; halts = at_restriction ∷ at_empty_group ∷ at_word w_pub ∷ []; shuns = at_empty_group ∷ at_word w_pub ∷ [] }
+shown_summary_of false restriction = record { stays = Word w_in ∷ []; moves = move (Punctuation colons) (Punctuation colons) [] ∷ move Name Name [] ∷ move (Word w_union) (Word w_union) [] ∷ move (Word w_auto) (Word w_auto) [] ∷ move (Word w_default) (Word w_default) [] ∷ move (Word w_safe) (Word w_safe) [] ∷ move (Word w_self) (Word w_self) [] ∷ move (Word w_Self_type) (Word w_Self_type) [] ∷ move (Word w_super) (Word w_super) [] ∷ move (Word w_crate) (Word w_crate) [] ∷ []; nullable = false; gone = []; ends = []; halts = at_colons ∷ []; shuns = [] }
+shown_summary_of false type_path = record { stays = []; moves = move (Punctuation colons) (Punctuation colons) [] ∷ move Name Name [] ∷ move (Word w_union) (Word w_union) [] ∷ move (Word w_auto) (Word w_auto) [] ∷ move (Word w_default) (Word w_default) [] ∷ move (Word w_safe) (Word w_safe) [] ∷ move (Word w_Self_type) (Word w_Self_type) [] ∷ move (Word w_self) (Word w_self) [] ∷ move (Word w_super) (Word w_super) [] ∷ move (Word w_crate) (Word w_crate) [] ∷ []; nullable = false; gone = []; ends = at_equals ∷ at_paren ∷ at_less ∷ ((at_colons or_else at_less_only or_else at_paren or_else at_word w_as) but_not at_colons) ∷ (at_colons but_not at_colons) ∷ ((at_bang or_else at_colons and_also ahead Before_macro) but_not at_colons) ∷ ((at_path_rest and_also ahead Bang_brace) but_not at_colons) ∷ ((at_path_rest and_also ahead Bang_name) but_not at_colons) ∷ at_name ∷ at_brace ∷ at_word w_trait ∷ (at_word w_unsafe or_else at_word w_impl) ∷ ended ∷ []; halts = at_colons ∷ at_arguments ∷ at_arrow ∷ []; shuns = [] }
+shown_summary_of false type_words = record { stays = []; moves = move Name Name [] ∷ move (Word w_union) (Word w_union) [] ∷ move (Word w_auto) (Word w_auto) [] ∷ move (Word w_default) (Word w_default) [] ∷ move (Word w_safe) (Word w_safe) [] ∷ move (Word w_Self_type) (Word w_Self_type) [] ∷ move (Word w_self) (Word w_self) [] ∷ move (Word w_super) (Word w_super) [] ∷ move (Word w_crate) (Word w_crate) [] ∷ []; nullable = false; gone = []; ends = at_equals ∷ at_paren ∷ at_less ∷ ((at_colons or_else at_less_only or_else at_paren or_else at_word w_as) but_not at_colons) ∷ (at_colons but_not at_colons) ∷ ((at_bang or_else at_colons and_also ahead Before_macro) but_not at_colons) ∷ ((at_path_rest and_also ahead Bang_brace) but_not at_colons) ∷ ((at_path_rest and_also ahead Bang_name) but_not at_colons) ∷ at_name ∷ at_brace ∷ at_word w_trait ∷ (at_word w_unsafe or_else at_word w_impl) ∷ ended ∷ []; halts = at_colons ∷ at_arguments ∷ at_arrow ∷ []; shuns = [] }
+shown_summary_of false type_arguments = record { stays = Delimited Paren false ∷ []; moves = move (Punctuation colons) (Punctuation colons) [] ∷ move (Punctuation less) (Punctuation less) [] ∷ move (Punctuation less_less_equals) (Punctuation less) [] ∷ move (Punctuation less_equals) (Punctuation less) [] ∷ move (Punctuation less_less) (Punctuation less) [] ∷ []; nullable = false; gone = []; ends = at_equals ∷ at_paren ∷ at_less ∷ ((at_colons or_else at_less_only or_else at_paren or_else at_word w_as) but_not at_colons) ∷ (at_colons but_not at_colons) ∷ ((at_bang or_else at_colons and_also ahead Before_macro) but_not at_colons) ∷ ((at_path_rest and_also ahead Bang_brace) but_not at_colons) ∷ ((at_path_rest and_also ahead Bang_name) but_not at_colons) ∷ at_name ∷ at_brace ∷ at_word w_trait ∷ (at_word w_unsafe or_else at_word w_impl) ∷ ended ∷ []; halts = at_colons ∷ at_arguments ∷ at_arrow ∷ []; shuns = [] }
+shown_summary_of false return_type = record { stays = Punctuation arrow ∷ []; moves = []; nullable = true; gone = []; ends = at_equals ∷ at_paren ∷ at_less ∷ ((at_colons or_else at_less_only or_else at_paren or_else at_word w_as) but_not at_colons) ∷ (at_colons but_not at_colons) ∷ ((at_bang or_else at_colons and_also ahead Before_macro) but_not at_colons) ∷ ((at_path_rest and_also ahead Bang_brace) but_not at_colons) ∷ ((at_path_rest and_also ahead Bang_name) but_not at_colons) ∷ at_name ∷ at_brace ∷ at_word w_trait ∷ (at_word w_unsafe or_else at_word w_impl) ∷ ended ∷ []; halts = at_colons ∷ at_arguments ∷ at_arrow ∷ []; shuns = [] }
+shown_summary_of false generic_arguments = record { stays = []; moves = move (Punctuation less) (Punctuation less) [] ∷ move (Punctuation less_less_equals) (Punctuation less) [] ∷ move (Punctuation less_equals) (Punctuation less) [] ∷ move (Punctuation less_less) (Punctuation less) [] ∷ []; nullable = false; gone = []; ends = []; halts = []; shuns = [] }
+shown_summary_of false generic_argument = record { stays = Delimited Brace false ∷ Word w_true ∷ Word w_false ∷ Literal Str ∷ Literal ByteStr ∷ Literal CStr ∷ Literal Byte ∷ Literal Char ∷ Literal Int ∷ Literal Float ∷ Punctuation ampersand ∷ Punctuation star ∷ Delimited Paren false ∷ Delimited Bracket false ∷ Delimited None false ∷ Name ∷ Word w_union ∷ Word w_auto ∷ Word w_default ∷ Word w_safe ∷ Word w_Self_type ∷ Word w_self ∷ Word w_super ∷ Word w_crate ∷ []; moves = move Name Name (Before_equals ∷ []) ∷ move (Word w_union) (Word w_union) (Before_equals ∷ []) ∷ move (Word w_auto) (Word w_auto) (Before_equals ∷ []) ∷ move (Word w_default) (Word w_default) (Before_equals ∷ []) ∷ move (Word w_safe) (Word w_safe) (Before_equals ∷ []) ∷ move (Punctuation and_and) (Punctuation ampersand) [] ∷ move (Punctuation ampersand_equals) (Punctuation ampersand) [] ∷ move (Punctuation star_equals) (Punctuation star) [] ∷ move (Punctuation exclamation) (Punctuation exclamation) [] ∷ move (Punctuation not_equals) (Punctuation exclamation) [] ∷ move (Punctuation less) (Punctuation less) [] ∷ move (Punctuation less_less_equals) (Punctuation less) [] ∷ move (Punctuation less_equals) (Punctuation less) [] ∷ move (Punctuation less_less) (Punctuation less) [] ∷ move (Punctuation colons) (Punctuation colons) [] ∷ []; nullable = false; gone = []; ends = at_equals ∷ at_paren ∷ at_less ∷ ((at_colons or_else at_less_only or_else at_paren or_else at_word w_as) but_not at_colons) ∷ (at_colons but_not at_colons) ∷ ((at_bang or_else at_colons and_also ahead Before_macro) but_not at_colons) ∷ ((at_path_rest and_also ahead Bang_brace) but_not at_colons) ∷ ((at_path_rest and_also ahead Bang_name) but_not at_colons) ∷ at_name ∷ at_brace ∷ at_word w_trait ∷ (at_word w_unsafe or_else at_word w_impl) ∷ ended ∷ []; halts = at_colons ∷ at_arguments ∷ at_arrow ∷ []; shuns = [] }
+shown_summary_of false qualified_path = record { stays = []; moves = move (Punctuation less) (Punctuation less) [] ∷ move (Punctuation less_less_equals) (Punctuation less) [] ∷ move (Punctuation less_equals) (Punctuation less) [] ∷ move (Punctuation less_less) (Punctuation less) [] ∷ []; nullable = false; gone = []; ends = at_equals ∷ at_paren ∷ at_less ∷ ((at_colons or_else at_less_only or_else at_paren or_else at_word w_as) but_not at_colons) ∷ (at_colons but_not at_colons) ∷ ((at_bang or_else at_colons and_also ahead Before_macro) but_not at_colons) ∷ ((at_path_rest and_also ahead Bang_brace) but_not at_colons) ∷ ((at_path_rest and_also ahead Bang_name) but_not at_colons) ∷ at_name ∷ at_brace ∷ at_word w_trait ∷ (at_word w_unsafe or_else at_word w_impl) ∷ ended ∷ []; halts = at_colons ∷ at_arguments ∷ at_arrow ∷ []; shuns = [] }
+shown_summary_of false path_as_type = record { stays = []; moves = move (Punctuation less) (Punctuation less) [] ∷ move (Punctuation less_less_equals) (Punctuation less) [] ∷ move (Punctuation less_equals) (Punctuation less) [] ∷ move (Punctuation less_less) (Punctuation less) [] ∷ move (Punctuation colons) (Punctuation colons) [] ∷ move Name Name [] ∷ move (Word w_union) (Word w_union) [] ∷ move (Word w_auto) (Word w_auto) [] ∷ move (Word w_default) (Word w_default) [] ∷ move (Word w_safe) (Word w_safe) [] ∷ move (Word w_Self_type) (Word w_Self_type) [] ∷ move (Word w_self) (Word w_self) [] ∷ move (Word w_super) (Word w_super) [] ∷ move (Word w_crate) (Word w_crate) [] ∷ []; nullable = false; gone = []; ends = at_equals ∷ at_paren ∷ at_less ∷ ((at_colons or_else at_less_only or_else at_paren or_else at_word w_as) but_not at_colons) ∷ (at_colons but_not at_colons) ∷ ((at_bang or_else at_colons and_also ahead Before_macro) but_not at_colons) ∷ ((at_path_rest and_also ahead Bang_brace) but_not at_colons) ∷ ((at_path_rest and_also ahead Bang_name) but_not at_colons) ∷ at_name ∷ at_brace ∷ at_word w_trait ∷ (at_word w_unsafe or_else at_word w_impl) ∷ ended ∷ []; halts = at_colons ∷ at_arguments ∷ at_arrow ∷ []; shuns = [] }
+shown_summary_of false type = record { stays = Punctuation ampersand ∷ Punctuation star ∷ Delimited Paren false ∷ Delimited Bracket false ∷ Delimited None false ∷ []; moves = move (Punctuation and_and) (Punctuation ampersand) [] ∷ move (Punctuation ampersand_equals) (Punctuation ampersand) [] ∷ move (Punctuation star_equals) (Punctuation star) [] ∷ move (Punctuation exclamation) (Punctuation exclamation) [] ∷ move (Punctuation not_equals) (Punctuation exclamation) [] ∷ move (Punctuation less) (Punctuation less) [] ∷ move (Punctuation less_less_equals) (Punctuation less) [] ∷ move (Punctuation less_equals) (Punctuation less) [] ∷ move (Punctuation less_less) (Punctuation less) [] ∷ move (Punctuation colons) (Punctuation colons) [] ∷ move Name Name [] ∷ move (Word w_union) (Word w_union) [] ∷ move (Word w_auto) (Word w_auto) [] ∷ move (Word w_default) (Word w_default) [] ∷ move (Word w_safe) (Word w_safe) [] ∷ move (Word w_Self_type) (Word w_Self_type) [] ∷ move (Word w_self) (Word w_self) [] ∷ move (Word w_super) (Word w_super) [] ∷ move (Word w_crate) (Word w_crate) [] ∷ []; nullable = false; gone = []; ends = at_equals ∷ at_paren ∷ at_less ∷ ((at_colons or_else at_less_only or_else at_paren or_else at_word w_as) but_not at_colons) ∷ (at_colons but_not at_colons) ∷ ((at_bang or_else at_colons and_also ahead Before_macro) but_not at_colons) ∷ ((at_path_rest and_also ahead Bang_brace) but_not at_colons) ∷ ((at_path_rest and_also ahead Bang_name) but_not at_colons) ∷ at_name ∷ at_brace ∷ at_word w_trait ∷ (at_word w_unsafe or_else at_word w_impl) ∷ ended ∷ []; halts = at_colons ∷ at_arguments ∷ at_arrow ∷ []; shuns = [] }
+shown_summary_of false types = record { stays = Punctuation ampersand ∷ Punctuation star ∷ Delimited Paren false ∷ Delimited Bracket false ∷ Delimited None false ∷ []; moves = move (Punctuation and_and) (Punctuation ampersand) [] ∷ move (Punctuation ampersand_equals) (Punctuation ampersand) [] ∷ move (Punctuation star_equals) (Punctuation star) [] ∷ move (Punctuation exclamation) (Punctuation exclamation) [] ∷ move (Punctuation not_equals) (Punctuation exclamation) [] ∷ move (Punctuation less) (Punctuation less) [] ∷ move (Punctuation less_less_equals) (Punctuation less) [] ∷ move (Punctuation less_equals) (Punctuation less) [] ∷ move (Punctuation less_less) (Punctuation less) [] ∷ move (Punctuation colons) (Punctuation colons) [] ∷ move Name Name [] ∷ move (Word w_union) (Word w_union) [] ∷ move (Word w_auto) (Word w_auto) [] ∷ move (Word w_default) (Word w_default) [] ∷ move (Word w_safe) (Word w_safe) [] ∷ move (Word w_Self_type) (Word w_Self_type) [] ∷ move (Word w_self) (Word w_self) [] ∷ move (Word w_super) (Word w_super) [] ∷ move (Word w_crate) (Word w_crate) [] ∷ []; nullable = true; gone = []; ends = ended ∷ at_equals ∷ at_paren ∷ at_less ∷ ((at_colons or_else at_less_only or_else at_paren or_else at_word w_as) but_not at_colons) ∷ (at_colons but_not at_colons) ∷ ((at_bang or_else at_colons and_also ahead Before_macro) but_not at_colons) ∷ ((at_path_rest and_also ahead Bang_brace) but_not at_colons) ∷ ((at_path_rest and_also ahead Bang_name) but_not at_colons) ∷ at_name ∷ at_brace ∷ at_word w_trait ∷ (at_word w_unsafe or_else at_word w_impl) ∷ []; halts = at_comma ∷ at_colons ∷ at_arguments ∷ at_arrow ∷ []; shuns = [] }
+shown_summary_of false constant = record { stays = Delimited Brace false ∷ Word w_true ∷ Word w_false ∷ Literal Str ∷ Literal ByteStr ∷ Literal CStr ∷ Literal Byte ∷ Literal Char ∷ Literal Int ∷ Literal Float ∷ []; moves = []; nullable = false; gone = []; ends = []; halts = []; shuns = [] }
+shown_summary_of false generics = record { stays = []; moves = move (Punctuation less) (Punctuation less) [] ∷ move (Punctuation less_less_equals) (Punctuation less) [] ∷ move (Punctuation less_equals) (Punctuation less) [] ∷ move (Punctuation less_less) (Punctuation less) [] ∷ []; nullable = true; gone = []; ends = []; halts = at_less ∷ []; shuns = [] }
+shown_summary_of false lifetime_parameter = record { stays = Punctuation lifetime_mark ∷ []; moves = move (Punctuation pound) (Punctuation pound) [] ∷ []; nullable = false; gone = []; ends = []; halts = at_plus ∷ at_lifetime ∷ at_colon ∷ []; shuns = [] }
+shown_summary_of false lifetimes = record { stays = Punctuation lifetime_mark ∷ []; moves = []; nullable = true; gone = []; ends = []; halts = at_plus ∷ at_lifetime ∷ []; shuns = [] }
+shown_summary_of false parameter_bounds = record { stays = Punctuation lifetime_mark ∷ Delimited Paren false ∷ Punctuation question ∷ Word w_for ∷ []; moves = move (Punctuation colons) (Punctuation colons) [] ∷ move Name Name [] ∷ move (Word w_union) (Word w_union) [] ∷ move (Word w_auto) (Word w_auto) [] ∷ move (Word w_default) (Word w_default) [] ∷ move (Word w_safe) (Word w_safe) [] ∷ move (Word w_Self_type) (Word w_Self_type) [] ∷ move (Word w_self) (Word w_self) [] ∷ move (Word w_super) (Word w_super) [] ∷ move (Word w_crate) (Word w_crate) [] ∷ []; nullable = true; gone = []; ends = at_parameter_end ∷ at_equals ∷ at_paren ∷ at_less ∷ ((at_colons or_else at_less_only or_else at_paren or_else at_word w_as) but_not at_colons) ∷ (at_colons but_not at_colons) ∷ ((at_bang or_else at_colons and_also ahead Before_macro) but_not at_colons) ∷ ((at_path_rest and_also ahead Bang_brace) but_not at_colons) ∷ ((at_path_rest and_also ahead Bang_name) but_not at_colons) ∷ at_name ∷ at_brace ∷ at_word w_trait ∷ (at_word w_unsafe or_else at_word w_impl) ∷ ended ∷ []; halts = at_plus ∷ at_colons ∷ at_arguments ∷ at_arrow ∷ []; shuns = [] }
+shown_summary_of false bound = record { stays = Punctuation lifetime_mark ∷ Delimited Paren false ∷ Punctuation question ∷ Word w_for ∷ []; moves = move (Punctuation colons) (Punctuation colons) [] ∷ move Name Name [] ∷ move (Word w_union) (Word w_union) [] ∷ move (Word w_auto) (Word w_auto) [] ∷ move (Word w_default) (Word w_default) [] ∷ move (Word w_safe) (Word w_safe) [] ∷ move (Word w_Self_type) (Word w_Self_type) [] ∷ move (Word w_self) (Word w_self) [] ∷ move (Word w_super) (Word w_super) [] ∷ move (Word w_crate) (Word w_crate) [] ∷ []; nullable = false; gone = []; ends = at_equals ∷ at_paren ∷ at_less ∷ ((at_colons or_else at_less_only or_else at_paren or_else at_word w_as) but_not at_colons) ∷ (at_colons but_not at_colons) ∷ ((at_bang or_else at_colons and_also ahead Before_macro) but_not at_colons) ∷ ((at_path_rest and_also ahead Bang_brace) but_not at_colons) ∷ ((at_path_rest and_also ahead Bang_name) but_not at_colons) ∷ at_name ∷ at_brace ∷ at_word w_trait ∷ (at_word w_unsafe or_else at_word w_impl) ∷ ended ∷ []; halts = at_colons ∷ at_arguments ∷ at_arrow ∷ []; shuns = [] }
+shown_summary_of false trait_bound = record { stays = Punctuation question ∷ Word w_for ∷ []; moves = move (Punctuation colons) (Punctuation colons) [] ∷ move Name Name [] ∷ move (Word w_union) (Word w_union) [] ∷ move (Word w_auto) (Word w_auto) [] ∷ move (Word w_default) (Word w_default) [] ∷ move (Word w_safe) (Word w_safe) [] ∷ move (Word w_Self_type) (Word w_Self_type) [] ∷ move (Word w_self) (Word w_self) [] ∷ move (Word w_super) (Word w_super) [] ∷ move (Word w_crate) (Word w_crate) [] ∷ []; nullable = false; gone = []; ends = at_equals ∷ at_paren ∷ at_less ∷ ((at_colons or_else at_less_only or_else at_paren or_else at_word w_as) but_not at_colons) ∷ (at_colons but_not at_colons) ∷ ((at_bang or_else at_colons and_also ahead Before_macro) but_not at_colons) ∷ ((at_path_rest and_also ahead Bang_brace) but_not at_colons) ∷ ((at_path_rest and_also ahead Bang_name) but_not at_colons) ∷ at_name ∷ at_brace ∷ at_word w_trait ∷ (at_word w_unsafe or_else at_word w_impl) ∷ ended ∷ []; halts = at_colons ∷ at_arguments ∷ at_arrow ∷ []; shuns = [] }
+shown_summary_of false bound_lifetimes = record { stays = []; moves = move (Punctuation less) (Punctuation less) [] ∷ move (Punctuation less_less_equals) (Punctuation less) [] ∷ move (Punctuation less_equals) (Punctuation less) [] ∷ move (Punctuation less_less) (Punctuation less) [] ∷ []; nullable = false; gone = []; ends = []; halts = []; shuns = [] }
+shown_summary_of false lifetime_parameters = record { stays = Punctuation lifetime_mark ∷ []; moves = move (Punctuation pound) (Punctuation pound) [] ∷ []; nullable = true; gone = []; ends = at_greater ∷ []; halts = at_comma ∷ at_colon ∷ at_plus ∷ at_lifetime ∷ []; shuns = [] }
+shown_summary_of false where_clause = record { stays = Word w_where ∷ []; moves = []; nullable = true; gone = []; ends = at_predicate_end ∷ at_equals ∷ at_paren ∷ at_less ∷ ((at_colons or_else at_less_only or_else at_paren or_else at_word w_as) but_not at_colons) ∷ (at_colons but_not at_colons) ∷ ((at_bang or_else at_colons and_also ahead Before_macro) but_not at_colons) ∷ ((at_path_rest and_also ahead Bang_brace) but_not at_colons) ∷ ((at_path_rest and_also ahead Bang_name) but_not at_colons) ∷ at_name ∷ at_brace ∷ at_word w_trait ∷ (at_word w_unsafe or_else at_word w_impl) ∷ ended ∷ []; halts = at_comma ∷ at_plus ∷ at_lifetime ∷ at_colons ∷ at_arguments ∷ at_arrow ∷ at_word w_where ∷ []; shuns = [] }
+shown_summary_of false predicates = record { stays = Punctuation lifetime_mark ∷ Word w_for ∷ Punctuation ampersand ∷ Punctuation star ∷ Delimited Paren false ∷ Delimited Bracket false ∷ Delimited None false ∷ []; moves = move (Punctuation and_and) (Punctuation ampersand) [] ∷ move (Punctuation ampersand_equals) (Punctuation ampersand) [] ∷ move (Punctuation star_equals) (Punctuation star) [] ∷ move (Punctuation exclamation) (Punctuation exclamation) [] ∷ move (Punctuation not_equals) (Punctuation exclamation) [] ∷ move (Punctuation less) (Punctuation less) [] ∷ move (Punctuation less_less_equals) (Punctuation less) [] ∷ move (Punctuation less_equals) (Punctuation less) [] ∷ move (Punctuation less_less) (Punctuation less) [] ∷ move (Punctuation colons) (Punctuation colons) [] ∷ move Name Name [] ∷ move (Word w_union) (Word w_union) [] ∷ move (Word w_auto) (Word w_auto) [] ∷ move (Word w_default) (Word w_default) [] ∷ move (Word w_safe) (Word w_safe) [] ∷ move (Word w_Self_type) (Word w_Self_type) [] ∷ move (Word w_self) (Word w_self) [] ∷ move (Word w_super) (Word w_super) [] ∷ move (Word w_crate) (Word w_crate) [] ∷ []; nullable = true; gone = []; ends = at_predicate_end ∷ at_equals ∷ at_paren ∷ at_less ∷ ((at_colons or_else at_less_only or_else at_paren or_else at_word w_as) but_not at_colons) ∷ (at_colons but_not at_colons) ∷ ((at_bang or_else at_colons and_also ahead Before_macro) but_not at_colons) ∷ ((at_path_rest and_also ahead Bang_brace) but_not at_colons) ∷ ((at_path_rest and_also ahead Bang_name) but_not at_colons) ∷ at_name ∷ at_brace ∷ at_word w_trait ∷ (at_word w_unsafe or_else at_word w_impl) ∷ ended ∷ []; halts = at_comma ∷ at_plus ∷ at_lifetime ∷ at_colons ∷ at_arguments ∷ at_arrow ∷ []; shuns = [] }
+shown_summary_of false predicate = record { stays = Punctuation lifetime_mark ∷ Word w_for ∷ Punctuation ampersand ∷ Punctuation star ∷ Delimited Paren false ∷ Delimited Bracket false ∷ Delimited None false ∷ []; moves = move (Punctuation and_and) (Punctuation ampersand) [] ∷ move (Punctuation ampersand_equals) (Punctuation ampersand) [] ∷ move (Punctuation star_equals) (Punctuation star) [] ∷ move (Punctuation exclamation) (Punctuation exclamation) [] ∷ move (Punctuation not_equals) (Punctuation exclamation) [] ∷ move (Punctuation less) (Punctuation less) [] ∷ move (Punctuation less_less_equals) (Punctuation less) [] ∷ move (Punctuation less_equals) (Punctuation less) [] ∷ move (Punctuation less_less) (Punctuation less) [] ∷ move (Punctuation colons) (Punctuation colons) [] ∷ move Name Name [] ∷ move (Word w_union) (Word w_union) [] ∷ move (Word w_auto) (Word w_auto) [] ∷ move (Word w_default) (Word w_default) [] ∷ move (Word w_safe) (Word w_safe) [] ∷ move (Word w_Self_type) (Word w_Self_type) [] ∷ move (Word w_self) (Word w_self) [] ∷ move (Word w_super) (Word w_super) [] ∷ move (Word w_crate) (Word w_crate) [] ∷ []; nullable = false; gone = []; ends = at_predicate_end ∷ at_equals ∷ at_paren ∷ at_less ∷ ((at_colons or_else at_less_only or_else at_paren or_else at_word w_as) but_not at_colons) ∷ (at_colons but_not at_colons) ∷ ((at_bang or_else at_colons and_also ahead Before_macro) but_not at_colons) ∷ ((at_path_rest and_also ahead Bang_brace) but_not at_colons) ∷ ((at_path_rest and_also ahead Bang_name) but_not at_colons) ∷ at_name ∷ at_brace ∷ at_word w_trait ∷ (at_word w_unsafe or_else at_word w_impl) ∷ ended ∷ []; halts = at_plus ∷ at_lifetime ∷ at_colons ∷ at_arguments ∷ at_arrow ∷ []; shuns = [] }
+shown_summary_of false predicate_bounds = record { stays = Punctuation lifetime_mark ∷ Delimited Paren false ∷ Punctuation question ∷ Word w_for ∷ []; moves = move (Punctuation colons) (Punctuation colons) [] ∷ move Name Name [] ∷ move (Word w_union) (Word w_union) [] ∷ move (Word w_auto) (Word w_auto) [] ∷ move (Word w_default) (Word w_default) [] ∷ move (Word w_safe) (Word w_safe) [] ∷ move (Word w_Self_type) (Word w_Self_type) [] ∷ move (Word w_self) (Word w_self) [] ∷ move (Word w_super) (Word w_super) [] ∷ move (Word w_crate) (Word w_crate) [] ∷ []; nullable = true; gone = []; ends = at_predicate_end ∷ at_equals ∷ at_paren ∷ at_less ∷ ((at_colons or_else at_less_only or_else at_paren or_else at_word w_as) but_not at_colons) ∷ (at_colons but_not at_colons) ∷ ((at_bang or_else at_colons and_also ahead Before_macro) but_not at_colons) ∷ ((at_path_rest and_also ahead Bang_brace) but_not at_colons) ∷ ((at_path_rest and_also ahead Bang_name) but_not at_colons) ∷ at_name ∷ at_brace ∷ at_word w_trait ∷ (at_word w_unsafe or_else at_word w_impl) ∷ ended ∷ []; halts = at_plus ∷ at_colons ∷ at_arguments ∷ at_arrow ∷ []; shuns = [] }
+shown_summary_of false fields_named = record { stays = Delimited Brace false ∷ []; moves = []; nullable = false; gone = []; ends = []; halts = []; shuns = [] }
+shown_summary_of false named_fields = record { stays = Word w_pub ∷ Word w_underscore ∷ []; moves = move (Punctuation pound) (Punctuation pound) [] ∷ move Name Name [] ∷ move (Word w_union) (Word w_union) [] ∷ move (Word w_auto) (Word w_auto) [] ∷ move (Word w_default) (Word w_default) [] ∷ move (Word w_safe) (Word w_safe) [] ∷ move (Delimited None true) (Word w_underscore) [] ∷ move (Delimited None true) Name [] ∷ move (Delimited None true) (Word w_union) [] ∷ move (Delimited None true) (Word w_auto) [] ∷ move (Delimited None true) (Word w_default) [] ∷ move (Delimited None true) (Word w_safe) [] ∷ []; nullable = true; gone = []; ends = ended ∷ at_equals ∷ at_paren ∷ at_less ∷ ((at_colons or_else at_less_only or_else at_paren or_else at_word w_as) but_not at_colons) ∷ (at_colons but_not at_colons) ∷ ((at_bang or_else at_colons and_also ahead Before_macro) but_not at_colons) ∷ ((at_path_rest and_also ahead Bang_brace) but_not at_colons) ∷ ((at_path_rest and_also ahead Bang_name) but_not at_colons) ∷ at_name ∷ at_brace ∷ at_word w_trait ∷ (at_word w_unsafe or_else at_word w_impl) ∷ (((at_colons or_else at_less_only or_else at_paren or_else at_word w_as) but_not at_colons) but_not at_word w_as) ∷ (at_paren but_not at_paren) ∷ ((((at_colons or_else at_less_only or_else at_paren or_else at_word w_as) but_not at_colons) but_not at_paren) but_not at_word w_as) ∷ ((((at_colons or_else at_less_only or_else at_paren or_else at_word w_as) but_not at_colons) but_not at_word w_as) but_not at_paren) ∷ []; halts = at_comma ∷ at_equals ∷ at_unfinished ∷ at_mark greater_greater_equals ∷ at_mark less_less_equals ∷ at_mark bar_equals ∷ at_mark ampersand_equals ∷ at_mark caret_equals ∷ at_mark percent_equals ∷ at_mark slash_equals ∷ at_mark star_equals ∷ at_mark minus_equals ∷ at_mark plus_equals ∷ at_equals_operator ∷ at_mark or_or ∷ at_mark and_and ∷ at_colons ∷ at_arguments ∷ at_mark greater_equals ∷ at_mark less_equals ∷ at_greater_operator ∷ at_less_operator ∷ at_mark not_equals ∷ at_mark equal_equal ∷ at_bar_operator ∷ at_arrow ∷ at_caret_operator ∷ at_ampersand_operator ∷ at_greater_greater_operator ∷ at_less_less_operator ∷ at_minus_operator ∷ at_plus_operator ∷ at_percent_operator ∷ at_slash_operator ∷ at_star_operator ∷ at_word w_as ∷ at_dot ∷ at_question ∷ at_bracket ∷ at_paren ∷ at_whole_expression ∷ at_lifetime ∷ at_word w_else ∷ at_turbofish ∷ []; shuns = [] }
+shown_summary_of false named_field = record { stays = Word w_pub ∷ Word w_underscore ∷ []; moves = move (Punctuation pound) (Punctuation pound) [] ∷ move Name Name [] ∷ move (Word w_union) (Word w_union) [] ∷ move (Word w_auto) (Word w_auto) [] ∷ move (Word w_default) (Word w_default) [] ∷ move (Word w_safe) (Word w_safe) [] ∷ move (Delimited None true) (Word w_underscore) [] ∷ move (Delimited None true) Name [] ∷ move (Delimited None true) (Word w_union) [] ∷ move (Delimited None true) (Word w_auto) [] ∷ move (Delimited None true) (Word w_default) [] ∷ move (Delimited None true) (Word w_safe) [] ∷ []; nullable = false; gone = []; ends = at_equals ∷ at_paren ∷ at_less ∷ (((at_colons or_else at_less_only or_else at_paren or_else at_word w_as) but_not at_colons) but_not at_word w_as) ∷ (at_colons but_not at_colons) ∷ ((at_bang or_else at_colons and_also ahead Before_macro) but_not at_colons) ∷ ((at_path_rest and_also ahead Bang_brace) but_not at_colons) ∷ ((at_path_rest and_also ahead Bang_name) but_not at_colons) ∷ at_name ∷ at_brace ∷ at_word w_trait ∷ (at_word w_unsafe or_else at_word w_impl) ∷ ended ∷ (at_paren but_not at_paren) ∷ ((((at_colons or_else at_less_only or_else at_paren or_else at_word w_as) but_not at_colons) but_not at_paren) but_not at_word w_as) ∷ ((((at_colons or_else at_less_only or_else at_paren or_else at_word w_as) but_not at_colons) but_not at_word w_as) but_not at_paren) ∷ ((at_colons or_else at_less_only or_else at_paren or_else at_word w_as) but_not at_colons) ∷ []; halts = at_unfinished ∷ at_mark greater_greater_equals ∷ at_mark less_less_equals ∷ at_mark bar_equals ∷ at_mark ampersand_equals ∷ at_mark caret_equals ∷ at_mark percent_equals ∷ at_mark slash_equals ∷ at_mark star_equals ∷ at_mark minus_equals ∷ at_mark plus_equals ∷ at_equals_operator ∷ at_mark or_or ∷ at_mark and_and ∷ at_mark greater_equals ∷ at_mark less_equals ∷ at_greater_operator ∷ at_less_operator ∷ at_mark not_equals ∷ at_mark equal_equal ∷ at_bar_operator ∷ at_caret_operator ∷ at_ampersand_operator ∷ at_greater_greater_operator ∷ at_less_less_operator ∷ at_minus_operator ∷ at_plus_operator ∷ at_percent_operator ∷ at_slash_operator ∷ at_star_operator ∷ at_word w_as ∷ at_dot ∷ at_question ∷ at_bracket ∷ at_paren ∷ at_whole_expression ∷ at_lifetime ∷ at_colons ∷ at_arguments ∷ at_arrow ∷ at_word w_else ∷ at_turbofish ∷ at_equals ∷ []; shuns = [] }
+shown_summary_of false nameless_fields = record { stays = Word w_struct ∷ Word w_union ∷ []; moves = []; nullable = false; gone = []; ends = []; halts = []; shuns = [] }
+shown_summary_of false unnamed_field = record { stays = Word w_pub ∷ Punctuation ampersand ∷ Punctuation star ∷ Delimited Paren false ∷ Delimited Bracket false ∷ Delimited None false ∷ Name ∷ Word w_union ∷ Word w_auto ∷ Word w_default ∷ Word w_safe ∷ Word w_Self_type ∷ Word w_self ∷ Word w_super ∷ Word w_crate ∷ []; moves = move (Punctuation pound) (Punctuation pound) [] ∷ move (Punctuation and_and) (Punctuation ampersand) [] ∷ move (Punctuation ampersand_equals) (Punctuation ampersand) [] ∷ move (Punctuation star_equals) (Punctuation star) [] ∷ move (Punctuation exclamation) (Punctuation exclamation) [] ∷ move (Punctuation not_equals) (Punctuation exclamation) [] ∷ move (Punctuation less) (Punctuation less) [] ∷ move (Punctuation less_less_equals) (Punctuation less) [] ∷ move (Punctuation less_equals) (Punctuation less) [] ∷ move (Punctuation less_less) (Punctuation less) [] ∷ move (Punctuation colons) (Punctuation colons) [] ∷ move (Delimited None true) (Punctuation ampersand) [] ∷ move (Delimited None true) (Punctuation star) [] ∷ move (Delimited None true) (Delimited Paren false) [] ∷ move (Delimited None true) (Delimited Bracket false) [] ∷ move (Delimited None true) (Delimited None false) [] ∷ move (Delimited None true) Name [] ∷ move (Delimited None true) (Word w_union) [] ∷ move (Delimited None true) (Word w_auto) [] ∷ move (Delimited None true) (Word w_default) [] ∷ move (Delimited None true) (Word w_safe) [] ∷ move (Delimited None true) (Word w_Self_type) [] ∷ move (Delimited None true) (Word w_self) [] ∷ move (Delimited None true) (Word w_super) [] ∷ move (Delimited None true) (Word w_crate) [] ∷ move (Delimited None true) (Punctuation exclamation) [] ∷ move (Delimited None true) (Punctuation less) [] ∷ move (Delimited None true) (Punctuation colons) [] ∷ []; nullable = false; gone = []; ends = (at_equals but_not at_equals) ∷ at_paren ∷ at_less ∷ ((at_colons or_else at_less_only or_else at_paren or_else at_word w_as) but_not at_colons) ∷ (at_colons but_not at_colons) ∷ ((at_bang or_else at_colons and_also ahead Before_macro) but_not at_colons) ∷ ((at_path_rest and_also ahead Bang_brace) but_not at_colons) ∷ ((at_path_rest and_also ahead Bang_name) but_not at_colons) ∷ at_name ∷ at_brace ∷ at_word w_trait ∷ (at_word w_unsafe or_else at_word w_impl) ∷ ended ∷ []; halts = at_equals ∷ at_colons ∷ at_arguments ∷ at_arrow ∷ []; shuns = [] }
+shown_summary_of false unnamed_fields = record { stays = Word w_pub ∷ Punctuation ampersand ∷ Punctuation star ∷ Delimited Paren false ∷ Delimited Bracket false ∷ Delimited None false ∷ Name ∷ Word w_union ∷ Word w_auto ∷ Word w_default ∷ Word w_safe ∷ Word w_Self_type ∷ Word w_self ∷ Word w_super ∷ Word w_crate ∷ []; moves = move (Punctuation pound) (Punctuation pound) [] ∷ move (Punctuation and_and) (Punctuation ampersand) [] ∷ move (Punctuation ampersand_equals) (Punctuation ampersand) [] ∷ move (Punctuation star_equals) (Punctuation star) [] ∷ move (Punctuation exclamation) (Punctuation exclamation) [] ∷ move (Punctuation not_equals) (Punctuation exclamation) [] ∷ move (Punctuation less) (Punctuation less) [] ∷ move (Punctuation less_less_equals) (Punctuation less) [] ∷ move (Punctuation less_equals) (Punctuation less) [] ∷ move (Punctuation less_less) (Punctuation less) [] ∷ move (Punctuation colons) (Punctuation colons) [] ∷ move (Delimited None true) (Punctuation ampersand) [] ∷ move (Delimited None true) (Punctuation star) [] ∷ move (Delimited None true) (Delimited Paren false) [] ∷ move (Delimited None true) (Delimited Bracket false) [] ∷ move (Delimited None true) (Delimited None false) [] ∷ move (Delimited None true) Name [] ∷ move (Delimited None true) (Word w_union) [] ∷ move (Delimited None true) (Word w_auto) [] ∷ move (Delimited None true) (Word w_default) [] ∷ move (Delimited None true) (Word w_safe) [] ∷ move (Delimited None true) (Word w_Self_type) [] ∷ move (Delimited None true) (Word w_self) [] ∷ move (Delimited None true) (Word w_super) [] ∷ move (Delimited None true) (Word w_crate) [] ∷ move (Delimited None true) (Punctuation exclamation) [] ∷ move (Delimited None true) (Punctuation less) [] ∷ move (Delimited None true) (Punctuation colons) [] ∷ []; nullable = true; gone = []; ends = ended ∷ (at_equals but_not at_equals) ∷ at_paren ∷ at_less ∷ ((at_colons or_else at_less_only or_else at_paren or_else at_word w_as) but_not at_colons) ∷ (at_colons but_not at_colons) ∷ ((at_bang or_else at_colons and_also ahead Before_macro) but_not at_colons) ∷ ((at_path_rest and_also ahead Bang_brace) but_not at_colons) ∷ ((at_path_rest and_also ahead Bang_name) but_not at_colons) ∷ at_name ∷ at_brace ∷ at_word w_trait ∷ (at_word w_unsafe or_else at_word w_impl) ∷ []; halts = at_comma ∷ at_equals ∷ at_colons ∷ at_arguments ∷ at_arrow ∷ []; shuns = [] }
+shown_summary_of false fields_unnamed = record { stays = []; moves = move (Delimited Paren false) (Delimited Paren false) [] ∷ []; nullable = false; gone = []; ends = []; halts = []; shuns = [] }
+shown_summary_of false variant = record { stays = []; moves = move (Punctuation pound) (Punctuation pound) [] ∷ move Name Name [] ∷ move (Word w_union) (Word w_union) [] ∷ move (Word w_auto) (Word w_auto) [] ∷ move (Word w_default) (Word w_default) [] ∷ move (Word w_safe) (Word w_safe) [] ∷ move (Word w_pub) Name [] ∷ move (Word w_pub) (Word w_union) [] ∷ move (Word w_pub) (Word w_auto) [] ∷ move (Word w_pub) (Word w_default) [] ∷ move (Word w_pub) (Word w_safe) [] ∷ move (Delimited None true) Name [] ∷ move (Delimited None true) (Word w_union) [] ∷ move (Delimited None true) (Word w_auto) [] ∷ move (Delimited None true) (Word w_default) [] ∷ move (Delimited None true) (Word w_safe) [] ∷ []; nullable = false; gone = []; ends = at_equals ∷ at_paren ∷ at_less ∷ (((at_colons or_else at_less_only or_else at_paren or_else at_word w_as) but_not at_colons) but_not at_word w_as) ∷ (at_colons but_not at_colons) ∷ ((at_bang or_else at_colons and_also ahead Before_macro) but_not at_colons) ∷ ((at_path_rest and_also ahead Bang_brace) but_not at_colons) ∷ ((at_path_rest and_also ahead Bang_name) but_not at_colons) ∷ at_name ∷ at_brace ∷ at_word w_trait ∷ (at_word w_unsafe or_else at_word w_impl) ∷ ended ∷ (at_paren but_not at_paren) ∷ ((((at_colons or_else at_less_only or_else at_paren or_else at_word w_as) but_not at_colons) but_not at_paren) but_not at_word w_as) ∷ ((((at_colons or_else at_less_only or_else at_paren or_else at_word w_as) but_not at_colons) but_not at_word w_as) but_not at_paren) ∷ []; halts = at_unfinished ∷ at_mark greater_greater_equals ∷ at_mark less_less_equals ∷ at_mark bar_equals ∷ at_mark ampersand_equals ∷ at_mark caret_equals ∷ at_mark percent_equals ∷ at_mark slash_equals ∷ at_mark star_equals ∷ at_mark minus_equals ∷ at_mark plus_equals ∷ at_equals_operator ∷ at_mark or_or ∷ at_mark and_and ∷ at_mark greater_equals ∷ at_mark less_equals ∷ at_greater_operator ∷ at_less_operator ∷ at_mark not_equals ∷ at_mark equal_equal ∷ at_bar_operator ∷ at_caret_operator ∷ at_ampersand_operator ∷ at_greater_greater_operator ∷ at_less_less_operator ∷ at_minus_operator ∷ at_plus_operator ∷ at_percent_operator ∷ at_slash_operator ∷ at_star_operator ∷ at_word w_as ∷ at_dot ∷ at_question ∷ at_bracket ∷ at_paren ∷ at_whole_expression ∷ at_lifetime ∷ at_colons ∷ at_arguments ∷ at_arrow ∷ at_word w_else ∷ at_turbofish ∷ at_equals ∷ at_brace ∷ []; shuns = [] }
+shown_summary_of false variants = record { stays = []; moves = move (Punctuation pound) (Punctuation pound) [] ∷ move Name Name [] ∷ move (Word w_union) (Word w_union) [] ∷ move (Word w_auto) (Word w_auto) [] ∷ move (Word w_default) (Word w_default) [] ∷ move (Word w_safe) (Word w_safe) [] ∷ move (Word w_pub) Name [] ∷ move (Word w_pub) (Word w_union) [] ∷ move (Word w_pub) (Word w_auto) [] ∷ move (Word w_pub) (Word w_default) [] ∷ move (Word w_pub) (Word w_safe) [] ∷ move (Delimited None true) Name [] ∷ move (Delimited None true) (Word w_union) [] ∷ move (Delimited None true) (Word w_auto) [] ∷ move (Delimited None true) (Word w_default) [] ∷ move (Delimited None true) (Word w_safe) [] ∷ []; nullable = true; gone = []; ends = ended ∷ at_equals ∷ at_paren ∷ at_less ∷ (((at_colons or_else at_less_only or_else at_paren or_else at_word w_as) but_not at_colons) but_not at_word w_as) ∷ (at_colons but_not at_colons) ∷ ((at_bang or_else at_colons and_also ahead Before_macro) but_not at_colons) ∷ ((at_path_rest and_also ahead Bang_brace) but_not at_colons) ∷ ((at_path_rest and_also ahead Bang_name) but_not at_colons) ∷ at_name ∷ at_brace ∷ at_word w_trait ∷ (at_word w_unsafe or_else at_word w_impl) ∷ (at_paren but_not at_paren) ∷ ((((at_colons or_else at_less_only or_else at_paren or_else at_word w_as) but_not at_colons) but_not at_paren) but_not at_word w_as) ∷ ((((at_colons or_else at_less_only or_else at_paren or_else at_word w_as) but_not at_colons) but_not at_word w_as) but_not at_paren) ∷ []; halts = at_comma ∷ at_equals ∷ at_paren ∷ at_brace ∷ at_unfinished ∷ at_mark greater_greater_equals ∷ at_mark less_less_equals ∷ at_mark bar_equals ∷ at_mark ampersand_equals ∷ at_mark caret_equals ∷ at_mark percent_equals ∷ at_mark slash_equals ∷ at_mark star_equals ∷ at_mark minus_equals ∷ at_mark plus_equals ∷ at_equals_operator ∷ at_mark or_or ∷ at_mark and_and ∷ at_mark greater_equals ∷ at_mark less_equals ∷ at_greater_operator ∷ at_less_operator ∷ at_mark not_equals ∷ at_mark equal_equal ∷ at_bar_operator ∷ at_caret_operator ∷ at_ampersand_operator ∷ at_greater_greater_operator ∷ at_less_less_operator ∷ at_minus_operator ∷ at_plus_operator ∷ at_percent_operator ∷ at_slash_operator ∷ at_star_operator ∷ at_word w_as ∷ at_dot ∷ at_question ∷ at_bracket ∷ at_whole_expression ∷ at_lifetime ∷ at_colons ∷ at_arguments ∷ at_arrow ∷ at_word w_else ∷ at_turbofish ∷ []; shuns = [] }
+shown_summary_of false structure = record { stays = Word w_pub ∷ Word w_struct ∷ []; moves = move (Punctuation pound) (Punctuation pound) [] ∷ move (Delimited None true) (Word w_struct) [] ∷ []; nullable = false; gone = []; ends = []; halts = []; shuns = [] }
+shown_summary_of false structure_rest = record { stays = Word w_pub ∷ Word w_struct ∷ []; moves = move (Delimited None true) (Word w_struct) [] ∷ []; nullable = false; gone = []; ends = []; halts = []; shuns = [] }
+shown_summary_of false structure_body = record { stays = Word w_where ∷ Delimited Brace false ∷ Punctuation semicolon ∷ []; moves = move (Delimited Paren false) (Delimited Paren false) [] ∷ []; nullable = false; gone = []; ends = []; halts = []; shuns = [] }
+shown_summary_of false enumeration = record { stays = Word w_pub ∷ Word w_enum ∷ []; moves = move (Punctuation pound) (Punctuation pound) [] ∷ move (Delimited None true) (Word w_enum) [] ∷ []; nullable = false; gone = []; ends = []; halts = []; shuns = [] }
+shown_summary_of false enumeration_rest = record { stays = Word w_pub ∷ Word w_enum ∷ []; moves = move (Delimited None true) (Word w_enum) [] ∷ []; nullable = false; gone = []; ends = []; halts = []; shuns = [] }
+shown_summary_of false union_item = record { stays = Word w_pub ∷ []; moves = move (Punctuation pound) (Punctuation pound) [] ∷ move (Word w_union) (Word w_union) [] ∷ move (Delimited None true) (Word w_union) [] ∷ []; nullable = false; gone = []; ends = []; halts = []; shuns = [] }
+shown_summary_of false union_item_rest = record { stays = Word w_pub ∷ []; moves = move (Word w_union) (Word w_union) [] ∷ move (Delimited None true) (Word w_union) [] ∷ []; nullable = false; gone = []; ends = []; halts = []; shuns = [] }
+shown_summary_of false derive_input = record { stays = Word w_pub ∷ Word w_struct ∷ Word w_enum ∷ []; moves = move (Punctuation pound) (Punctuation pound) [] ∷ move (Delimited None true) (Word w_struct) [] ∷ move (Delimited None true) (Word w_enum) [] ∷ move (Word w_union) (Word w_union) [] ∷ move (Delimited None true) (Word w_union) [] ∷ []; nullable = false; gone = []; ends = []; halts = []; shuns = [] }
+shown_summary_of false expression_path = record { stays = []; moves = move (Punctuation colons) (Punctuation colons) [] ∷ move Name Name [] ∷ move (Word w_union) (Word w_union) [] ∷ move (Word w_auto) (Word w_auto) [] ∷ move (Word w_default) (Word w_default) [] ∷ move (Word w_safe) (Word w_safe) [] ∷ move (Word w_Self_type) (Word w_Self_type) [] ∷ move (Word w_self) (Word w_self) [] ∷ move (Word w_super) (Word w_super) [] ∷ move (Word w_crate) (Word w_crate) [] ∷ []; nullable = false; gone = []; ends = at_equals ∷ at_paren ∷ at_less ∷ ((at_colons or_else at_less_only or_else at_paren or_else at_word w_as) but_not at_colons) ∷ (at_colons but_not at_colons) ∷ ((at_bang or_else at_colons and_also ahead Before_macro) but_not at_colons) ∷ ((at_path_rest and_also ahead Bang_brace) but_not at_colons) ∷ ((at_path_rest and_also ahead Bang_name) but_not at_colons) ∷ at_name ∷ at_brace ∷ at_word w_trait ∷ (at_word w_unsafe or_else at_word w_impl) ∷ ended ∷ []; halts = at_colons ∷ at_turbofish ∷ at_arrow ∷ at_arguments ∷ []; shuns = [] }
+shown_summary_of false expression_words = record { stays = []; moves = move Name Name [] ∷ move (Word w_union) (Word w_union) [] ∷ move (Word w_auto) (Word w_auto) [] ∷ move (Word w_default) (Word w_default) [] ∷ move (Word w_safe) (Word w_safe) [] ∷ move (Word w_Self_type) (Word w_Self_type) [] ∷ move (Word w_self) (Word w_self) [] ∷ move (Word w_super) (Word w_super) [] ∷ move (Word w_crate) (Word w_crate) [] ∷ []; nullable = false; gone = []; ends = at_equals ∷ at_paren ∷ at_less ∷ ((at_colons or_else at_less_only or_else at_paren or_else at_word w_as) but_not at_colons) ∷ (at_colons but_not at_colons) ∷ ((at_bang or_else at_colons and_also ahead Before_macro) but_not at_colons) ∷ ((at_path_rest and_also ahead Bang_brace) but_not at_colons) ∷ ((at_path_rest and_also ahead Bang_name) but_not at_colons) ∷ at_name ∷ at_brace ∷ at_word w_trait ∷ (at_word w_unsafe or_else at_word w_impl) ∷ ended ∷ []; halts = at_colons ∷ at_turbofish ∷ at_arrow ∷ at_arguments ∷ []; shuns = [] }
+shown_summary_of false qualified_expression_path = record { stays = []; moves = move (Punctuation less) (Punctuation less) [] ∷ move (Punctuation less_less_equals) (Punctuation less) [] ∷ move (Punctuation less_equals) (Punctuation less) [] ∷ move (Punctuation less_less) (Punctuation less) [] ∷ []; nullable = false; gone = []; ends = at_equals ∷ at_paren ∷ at_less ∷ ((at_colons or_else at_less_only or_else at_paren or_else at_word w_as) but_not at_colons) ∷ (at_colons but_not at_colons) ∷ ((at_bang or_else at_colons and_also ahead Before_macro) but_not at_colons) ∷ ((at_path_rest and_also ahead Bang_brace) but_not at_colons) ∷ ((at_path_rest and_also ahead Bang_name) but_not at_colons) ∷ at_name ∷ at_brace ∷ at_word w_trait ∷ (at_word w_unsafe or_else at_word w_impl) ∷ ended ∷ []; halts = at_colons ∷ at_turbofish ∷ at_arrow ∷ at_arguments ∷ []; shuns = [] }
+shown_summary_of false path_as_expression = record { stays = []; moves = move (Punctuation less) (Punctuation less) [] ∷ move (Punctuation less_less_equals) (Punctuation less) [] ∷ move (Punctuation less_equals) (Punctuation less) [] ∷ move (Punctuation less_less) (Punctuation less) [] ∷ move (Punctuation colons) (Punctuation colons) [] ∷ move Name Name [] ∷ move (Word w_union) (Word w_union) [] ∷ move (Word w_auto) (Word w_auto) [] ∷ move (Word w_default) (Word w_default) [] ∷ move (Word w_safe) (Word w_safe) [] ∷ move (Word w_Self_type) (Word w_Self_type) [] ∷ move (Word w_self) (Word w_self) [] ∷ move (Word w_super) (Word w_super) [] ∷ move (Word w_crate) (Word w_crate) [] ∷ []; nullable = false; gone = []; ends = at_equals ∷ at_paren ∷ at_less ∷ ((at_colons or_else at_less_only or_else at_paren or_else at_word w_as) but_not at_colons) ∷ (at_colons but_not at_colons) ∷ ((at_bang or_else at_colons and_also ahead Before_macro) but_not at_colons) ∷ ((at_path_rest and_also ahead Bang_brace) but_not at_colons) ∷ ((at_path_rest and_also ahead Bang_name) but_not at_colons) ∷ at_name ∷ at_brace ∷ at_word w_trait ∷ (at_word w_unsafe or_else at_word w_impl) ∷ ended ∷ []; halts = at_colons ∷ at_turbofish ∷ at_arrow ∷ at_arguments ∷ []; shuns = [] }
+shown_summary_of false macro_invocation = record { stays = []; moves = move (Punctuation colons) (Punctuation colons) [] ∷ move Name Name [] ∷ move (Word w_union) (Word w_union) [] ∷ move (Word w_auto) (Word w_auto) [] ∷ move (Word w_default) (Word w_default) [] ∷ move (Word w_safe) (Word w_safe) [] ∷ move (Word w_self) (Word w_self) [] ∷ move (Word w_Self_type) (Word w_Self_type) [] ∷ move (Word w_super) (Word w_super) [] ∷ move (Word w_crate) (Word w_crate) [] ∷ []; nullable = false; gone = []; ends = []; halts = []; shuns = [] }
+shown_summary_of false pattern = record { stays = Word w_underscore ∷ Delimited Paren false ∷ Punctuation colons ∷ Name ∷ Word w_union ∷ Word w_auto ∷ Word w_default ∷ Word w_safe ∷ Word w_Self_type ∷ Word w_self ∷ Word w_super ∷ Word w_crate ∷ Word w_ref ∷ []; moves = move (Punctuation less) (Punctuation less) [] ∷ move (Punctuation less_less_equals) (Punctuation less) [] ∷ move (Punctuation less_equals) (Punctuation less) [] ∷ move (Punctuation less_less) (Punctuation less) [] ∷ move (Word w_mut) (Word w_mut) [] ∷ []; nullable = false; gone = []; ends = at_equals ∷ at_paren ∷ at_less ∷ ((at_colons or_else at_less_only or_else at_paren or_else at_word w_as) but_not at_colons) ∷ (at_colons but_not at_colons) ∷ ((at_bang or_else at_colons and_also ahead Before_macro) but_not at_colons) ∷ ((at_path_rest and_also ahead Bang_brace) but_not at_colons) ∷ ((at_path_rest and_also ahead Bang_name) but_not at_colons) ∷ at_name ∷ at_brace ∷ at_word w_trait ∷ (at_word w_unsafe or_else at_word w_impl) ∷ ended ∷ []; halts = at_paren ∷ at_colons ∷ at_turbofish ∷ at_arrow ∷ at_arguments ∷ []; shuns = [] }
+shown_summary_of false patterns = record { stays = Word w_underscore ∷ Delimited Paren false ∷ Punctuation colons ∷ Name ∷ Word w_union ∷ Word w_auto ∷ Word w_default ∷ Word w_safe ∷ Word w_Self_type ∷ Word w_self ∷ Word w_super ∷ Word w_crate ∷ Word w_ref ∷ []; moves = move (Punctuation less) (Punctuation less) [] ∷ move (Punctuation less_less_equals) (Punctuation less) [] ∷ move (Punctuation less_equals) (Punctuation less) [] ∷ move (Punctuation less_less) (Punctuation less) [] ∷ move (Word w_mut) (Word w_mut) [] ∷ []; nullable = true; gone = []; ends = ended ∷ at_equals ∷ at_paren ∷ at_less ∷ ((at_colons or_else at_less_only or_else at_paren or_else at_word w_as) but_not at_colons) ∷ (at_colons but_not at_colons) ∷ ((at_bang or_else at_colons and_also ahead Before_macro) but_not at_colons) ∷ ((at_path_rest and_also ahead Bang_brace) but_not at_colons) ∷ ((at_path_rest and_also ahead Bang_name) but_not at_colons) ∷ at_name ∷ at_brace ∷ at_word w_trait ∷ (at_word w_unsafe or_else at_word w_impl) ∷ []; halts = at_comma ∷ at_paren ∷ at_colons ∷ at_turbofish ∷ at_arrow ∷ at_arguments ∷ []; shuns = [] }
+shown_summary_of false expressions = record { stays = Punctuation minus ∷ Punctuation star ∷ Punctuation ampersand ∷ Word w_true ∷ Word w_false ∷ Literal Str ∷ Literal ByteStr ∷ Literal CStr ∷ Literal Byte ∷ Literal Char ∷ Literal Int ∷ Literal Float ∷ Punctuation colons ∷ Name ∷ Word w_union ∷ Word w_auto ∷ Word w_default ∷ Word w_safe ∷ Word w_self ∷ Word w_Self_type ∷ Word w_super ∷ Word w_crate ∷ Delimited Paren false ∷ Delimited Bracket false ∷ Delimited None false ∷ Word w_if ∷ Punctuation lifetime_mark ∷ Delimited Brace false ∷ Word w_loop ∷ Word w_while ∷ Word w_for ∷ Word w_return ∷ Word w_break ∷ Word w_continue ∷ []; moves = move (Punctuation pound) (Punctuation pound) [] ∷ move (Punctuation arrow) (Punctuation minus) [] ∷ move (Punctuation minus_equals) (Punctuation minus) [] ∷ move (Punctuation exclamation) (Punctuation exclamation) [] ∷ move (Punctuation not_equals) (Punctuation exclamation) [] ∷ move (Punctuation star_equals) (Punctuation star) [] ∷ move (Punctuation and_and) (Punctuation ampersand) [] ∷ move (Punctuation ampersand_equals) (Punctuation ampersand) [] ∷ move (Word w_unsafe) (Word w_unsafe) [] ∷ move (Punctuation less) (Punctuation less) [] ∷ move (Punctuation less_less_equals) (Punctuation less) [] ∷ move (Punctuation less_equals) (Punctuation less) [] ∷ move (Punctuation less_less) (Punctuation less) [] ∷ []; nullable = true; gone = []; ends = ended ∷ at_equals ∷ at_paren ∷ at_less ∷ (((at_colons or_else at_less_only or_else at_paren or_else at_word w_as) but_not at_colons) but_not at_word w_as) ∷ (at_colons but_not at_colons) ∷ ((at_bang or_else at_colons and_also ahead Before_macro) but_not at_colons) ∷ ((at_path_rest and_also ahead Bang_brace) but_not at_colons) ∷ ((at_path_rest and_also ahead Bang_name) but_not at_colons) ∷ at_name ∷ at_brace ∷ at_word w_trait ∷ (at_word w_unsafe or_else at_word w_impl) ∷ (at_paren but_not at_paren) ∷ ((((at_colons or_else at_less_only or_else at_paren or_else at_word w_as) but_not at_colons) but_not at_paren) but_not at_word w_as) ∷ ((((at_colons or_else at_less_only or_else at_paren or_else at_word w_as) but_not at_colons) but_not at_word w_as) but_not at_paren) ∷ []; halts = at_comma ∷ at_unfinished ∷ at_mark greater_greater_equals ∷ at_mark less_less_equals ∷ at_mark bar_equals ∷ at_mark ampersand_equals ∷ at_mark caret_equals ∷ at_mark percent_equals ∷ at_mark slash_equals ∷ at_mark star_equals ∷ at_mark minus_equals ∷ at_mark plus_equals ∷ at_equals_operator ∷ at_mark or_or ∷ at_mark and_and ∷ at_mark greater_equals ∷ at_mark less_equals ∷ at_greater_operator ∷ at_less_operator ∷ at_mark not_equals ∷ at_mark equal_equal ∷ at_bar_operator ∷ at_caret_operator ∷ at_ampersand_operator ∷ at_greater_greater_operator ∷ at_less_less_operator ∷ at_minus_operator ∷ at_plus_operator ∷ at_percent_operator ∷ at_slash_operator ∷ at_star_operator ∷ at_word w_as ∷ at_dot ∷ at_question ∷ at_bracket ∷ at_paren ∷ at_whole_expression ∷ at_lifetime ∷ at_colons ∷ at_arguments ∷ at_arrow ∷ at_word w_else ∷ at_turbofish ∷ []; shuns = [] }
+shown_summary_of false array_content = record { stays = Punctuation minus ∷ Punctuation star ∷ Punctuation ampersand ∷ Word w_true ∷ Word w_false ∷ Literal Str ∷ Literal ByteStr ∷ Literal CStr ∷ Literal Byte ∷ Literal Char ∷ Literal Int ∷ Literal Float ∷ Punctuation colons ∷ Name ∷ Word w_union ∷ Word w_auto ∷ Word w_default ∷ Word w_safe ∷ Word w_self ∷ Word w_Self_type ∷ Word w_super ∷ Word w_crate ∷ Delimited Paren false ∷ Delimited Bracket false ∷ Delimited None false ∷ Word w_if ∷ Punctuation lifetime_mark ∷ Delimited Brace false ∷ Word w_loop ∷ Word w_while ∷ Word w_for ∷ Word w_return ∷ Word w_break ∷ Word w_continue ∷ []; moves = move (Punctuation pound) (Punctuation pound) [] ∷ move (Punctuation arrow) (Punctuation minus) [] ∷ move (Punctuation minus_equals) (Punctuation minus) [] ∷ move (Punctuation exclamation) (Punctuation exclamation) [] ∷ move (Punctuation not_equals) (Punctuation exclamation) [] ∷ move (Punctuation star_equals) (Punctuation star) [] ∷ move (Punctuation and_and) (Punctuation ampersand) [] ∷ move (Punctuation ampersand_equals) (Punctuation ampersand) [] ∷ move (Word w_unsafe) (Word w_unsafe) [] ∷ move (Punctuation less) (Punctuation less) [] ∷ move (Punctuation less_less_equals) (Punctuation less) [] ∷ move (Punctuation less_equals) (Punctuation less) [] ∷ move (Punctuation less_less) (Punctuation less) [] ∷ []; nullable = true; gone = []; ends = at_equals ∷ at_paren ∷ at_less ∷ (((at_colons or_else at_less_only or_else at_paren or_else at_word w_as) but_not at_colons) but_not at_word w_as) ∷ (at_colons but_not at_colons) ∷ ((at_bang or_else at_colons and_also ahead Before_macro) but_not at_colons) ∷ ((at_path_rest and_also ahead Bang_brace) but_not at_colons) ∷ ((at_path_rest and_also ahead Bang_name) but_not at_colons) ∷ at_name ∷ at_brace ∷ at_word w_trait ∷ (at_word w_unsafe or_else at_word w_impl) ∷ ended ∷ (at_paren but_not at_paren) ∷ ((((at_colons or_else at_less_only or_else at_paren or_else at_word w_as) but_not at_colons) but_not at_paren) but_not at_word w_as) ∷ ((((at_colons or_else at_less_only or_else at_paren or_else at_word w_as) but_not at_colons) but_not at_word w_as) but_not at_paren) ∷ []; halts = at_unfinished ∷ at_mark greater_greater_equals ∷ at_mark less_less_equals ∷ at_mark bar_equals ∷ at_mark ampersand_equals ∷ at_mark caret_equals ∷ at_mark percent_equals ∷ at_mark slash_equals ∷ at_mark star_equals ∷ at_mark minus_equals ∷ at_mark plus_equals ∷ at_equals_operator ∷ at_mark or_or ∷ at_mark and_and ∷ at_mark greater_equals ∷ at_mark less_equals ∷ at_greater_operator ∷ at_less_operator ∷ at_mark not_equals ∷ at_mark equal_equal ∷ at_bar_operator ∷ at_caret_operator ∷ at_ampersand_operator ∷ at_greater_greater_operator ∷ at_less_less_operator ∷ at_minus_operator ∷ at_plus_operator ∷ at_percent_operator ∷ at_slash_operator ∷ at_star_operator ∷ at_word w_as ∷ at_dot ∷ at_question ∷ at_bracket ∷ at_paren ∷ at_whole_expression ∷ at_lifetime ∷ at_colons ∷ at_arguments ∷ at_arrow ∷ at_word w_else ∷ at_turbofish ∷ at_comma ∷ at_semicolon ∷ []; shuns = [] }
+shown_summary_of false block = record { stays = Delimited Brace false ∷ []; moves = []; nullable = false; gone = []; ends = []; halts = []; shuns = [] }
+shown_summary_of false body = record { stays = Delimited Brace false ∷ []; moves = []; nullable = false; gone = []; ends = []; halts = []; shuns = [] }
+shown_summary_of false plain_body = record { stays = Delimited Brace false ∷ []; moves = []; nullable = false; gone = []; ends = []; halts = []; shuns = [] }
+shown_summary_of false no_inner_attributes = record { stays = []; moves = []; nullable = true; gone = []; ends = []; halts = at_inner_attribute ∷ []; shuns = [] }
+shown_summary_of false primary = record { stays = Word w_true ∷ Word w_false ∷ Literal Str ∷ Literal ByteStr ∷ Literal CStr ∷ Literal Byte ∷ Literal Char ∷ Literal Int ∷ Literal Float ∷ Punctuation colons ∷ Name ∷ Word w_union ∷ Word w_auto ∷ Word w_default ∷ Word w_safe ∷ Word w_self ∷ Word w_Self_type ∷ Word w_super ∷ Word w_crate ∷ Delimited Paren false ∷ Delimited Bracket false ∷ Delimited None false ∷ Word w_if ∷ Punctuation lifetime_mark ∷ Delimited Brace false ∷ Word w_loop ∷ Word w_while ∷ Word w_for ∷ Word w_return ∷ Word w_break ∷ Word w_continue ∷ []; moves = move (Word w_unsafe) (Word w_unsafe) [] ∷ move (Punctuation less) (Punctuation less) [] ∷ move (Punctuation less_less_equals) (Punctuation less) [] ∷ move (Punctuation less_equals) (Punctuation less) [] ∷ move (Punctuation less_less) (Punctuation less) [] ∷ []; nullable = false; gone = []; ends = at_equals ∷ at_paren ∷ at_less ∷ (((at_colons or_else at_less_only or_else at_paren or_else at_word w_as) but_not at_colons) but_not at_word w_as) ∷ (at_colons but_not at_colons) ∷ ((at_bang or_else at_colons and_also ahead Before_macro) but_not at_colons) ∷ ((at_path_rest and_also ahead Bang_brace) but_not at_colons) ∷ ((at_path_rest and_also ahead Bang_name) but_not at_colons) ∷ at_name ∷ at_brace ∷ at_word w_trait ∷ (at_word w_unsafe or_else at_word w_impl) ∷ ended ∷ (at_paren but_not at_paren) ∷ ((((at_colons or_else at_less_only or_else at_paren or_else at_word w_as) but_not at_colons) but_not at_paren) but_not at_word w_as) ∷ ((((at_colons or_else at_less_only or_else at_paren or_else at_word w_as) but_not at_colons) but_not at_word w_as) but_not at_paren) ∷ ((at_colons or_else at_less_only or_else at_paren or_else at_word w_as) but_not at_colons) ∷ []; halts = at_word w_else ∷ at_unfinished ∷ at_mark greater_greater_equals ∷ at_mark less_less_equals ∷ at_mark bar_equals ∷ at_mark ampersand_equals ∷ at_mark caret_equals ∷ at_mark percent_equals ∷ at_mark slash_equals ∷ at_mark star_equals ∷ at_mark minus_equals ∷ at_mark plus_equals ∷ at_equals_operator ∷ at_mark or_or ∷ at_mark and_and ∷ at_mark greater_equals ∷ at_mark less_equals ∷ at_greater_operator ∷ at_less_operator ∷ at_mark not_equals ∷ at_mark equal_equal ∷ at_bar_operator ∷ at_caret_operator ∷ at_ampersand_operator ∷ at_greater_greater_operator ∷ at_less_less_operator ∷ at_minus_operator ∷ at_plus_operator ∷ at_percent_operator ∷ at_slash_operator ∷ at_star_operator ∷ at_word w_as ∷ at_dot ∷ at_question ∷ at_bracket ∷ at_paren ∷ at_whole_expression ∷ at_lifetime ∷ at_colons ∷ at_arguments ∷ at_arrow ∷ at_turbofish ∷ []; shuns = [] }
+shown_summary_of false block_like = record { stays = Word w_if ∷ Punctuation lifetime_mark ∷ Delimited Brace false ∷ Word w_loop ∷ Word w_while ∷ Word w_for ∷ []; moves = move (Word w_unsafe) (Word w_unsafe) [] ∷ []; nullable = false; gone = []; ends = []; halts = at_word w_else ∷ []; shuns = [] }
+shown_summary_of false if_expression = record { stays = Word w_if ∷ []; moves = []; nullable = false; gone = []; ends = []; halts = at_word w_else ∷ []; shuns = [] }
+shown_summary_of false loop_expression = record { stays = Word w_loop ∷ Word w_while ∷ Word w_for ∷ []; moves = []; nullable = false; gone = []; ends = []; halts = []; shuns = [] }
+shown_summary_of false postfixes = record { stays = Delimited Paren false ∷ Delimited Bracket false ∷ Punctuation question ∷ Punctuation dot ∷ []; moves = []; nullable = true; gone = []; ends = []; halts = at_dot ∷ at_question ∷ at_bracket ∷ at_paren ∷ at_colons ∷ []; shuns = [] }
+shown_summary_of false member = record { stays = Literal Int ∷ []; moves = move Name Name [] ∷ move (Word w_union) (Word w_union) [] ∷ move (Word w_auto) (Word w_auto) [] ∷ move (Word w_default) (Word w_default) [] ∷ move (Word w_safe) (Word w_safe) [] ∷ []; nullable = false; gone = []; ends = []; halts = at_paren ∷ at_colons ∷ []; shuns = [] }
+shown_summary_of false unary = record { stays = Punctuation minus ∷ Punctuation star ∷ Punctuation ampersand ∷ Word w_true ∷ Word w_false ∷ Literal Str ∷ Literal ByteStr ∷ Literal CStr ∷ Literal Byte ∷ Literal Char ∷ Literal Int ∷ Literal Float ∷ Punctuation colons ∷ Name ∷ Word w_union ∷ Word w_auto ∷ Word w_default ∷ Word w_safe ∷ Word w_self ∷ Word w_Self_type ∷ Word w_super ∷ Word w_crate ∷ Delimited Paren false ∷ Delimited Bracket false ∷ Delimited None false ∷ Word w_if ∷ Punctuation lifetime_mark ∷ Delimited Brace false ∷ Word w_loop ∷ Word w_while ∷ Word w_for ∷ Word w_return ∷ Word w_break ∷ Word w_continue ∷ []; moves = move (Punctuation pound) (Punctuation pound) [] ∷ move (Punctuation arrow) (Punctuation minus) [] ∷ move (Punctuation minus_equals) (Punctuation minus) [] ∷ move (Punctuation exclamation) (Punctuation exclamation) [] ∷ move (Punctuation not_equals) (Punctuation exclamation) [] ∷ move (Punctuation star_equals) (Punctuation star) [] ∷ move (Punctuation and_and) (Punctuation ampersand) [] ∷ move (Punctuation ampersand_equals) (Punctuation ampersand) [] ∷ move (Word w_unsafe) (Word w_unsafe) [] ∷ move (Punctuation less) (Punctuation less) [] ∷ move (Punctuation less_less_equals) (Punctuation less) [] ∷ move (Punctuation less_equals) (Punctuation less) [] ∷ move (Punctuation less_less) (Punctuation less) [] ∷ []; nullable = false; gone = []; ends = at_equals ∷ (at_paren but_not at_paren) ∷ at_less ∷ (((at_colons or_else at_less_only or_else at_paren or_else at_word w_as) but_not at_colons) but_not at_paren) ∷ (at_colons but_not at_colons) ∷ ((at_bang or_else at_colons and_also ahead Before_macro) but_not at_colons) ∷ ((at_path_rest and_also ahead Bang_brace) but_not at_colons) ∷ ((at_path_rest and_also ahead Bang_name) but_not at_colons) ∷ at_name ∷ at_brace ∷ at_word w_trait ∷ (at_word w_unsafe or_else at_word w_impl) ∷ ended ∷ ((((at_colons or_else at_less_only or_else at_paren or_else at_word w_as) but_not at_colons) but_not at_word w_as) but_not at_paren) ∷ ((((at_colons or_else at_less_only or_else at_paren or_else at_word w_as) but_not at_colons) but_not at_paren) but_not at_word w_as) ∷ []; halts = at_dot ∷ at_question ∷ at_bracket ∷ at_paren ∷ at_whole_expression ∷ at_lifetime ∷ at_colons ∷ at_unfinished ∷ at_mark greater_greater_equals ∷ at_mark less_less_equals ∷ at_mark bar_equals ∷ at_mark ampersand_equals ∷ at_mark caret_equals ∷ at_mark percent_equals ∷ at_mark slash_equals ∷ at_mark star_equals ∷ at_mark minus_equals ∷ at_mark plus_equals ∷ at_equals_operator ∷ at_mark or_or ∷ at_word w_else ∷ at_mark and_and ∷ at_mark greater_equals ∷ at_mark less_equals ∷ at_greater_operator ∷ at_less_operator ∷ at_mark not_equals ∷ at_mark equal_equal ∷ at_bar_operator ∷ at_turbofish ∷ at_arrow ∷ at_caret_operator ∷ at_ampersand_operator ∷ at_greater_greater_operator ∷ at_less_less_operator ∷ at_arguments ∷ at_minus_operator ∷ at_plus_operator ∷ at_percent_operator ∷ at_slash_operator ∷ at_star_operator ∷ at_word w_as ∷ []; shuns = [] }
+shown_summary_of false casts = record { stays = Word w_as ∷ []; moves = []; nullable = true; gone = []; ends = at_equals ∷ at_paren ∷ at_less ∷ (((at_colons or_else at_less_only or_else at_paren or_else at_word w_as) but_not at_colons) but_not at_word w_as) ∷ (at_colons but_not at_colons) ∷ ((at_bang or_else at_colons and_also ahead Before_macro) but_not at_colons) ∷ ((at_path_rest and_also ahead Bang_brace) but_not at_colons) ∷ ((at_path_rest and_also ahead Bang_name) but_not at_colons) ∷ at_name ∷ at_brace ∷ at_word w_trait ∷ (at_word w_unsafe or_else at_word w_impl) ∷ ended ∷ []; halts = at_word w_as ∷ at_colons ∷ at_arguments ∷ at_arrow ∷ []; shuns = [] }
+shown_summary_of false cast = record { stays = Punctuation minus ∷ Punctuation star ∷ Punctuation ampersand ∷ Word w_true ∷ Word w_false ∷ Literal Str ∷ Literal ByteStr ∷ Literal CStr ∷ Literal Byte ∷ Literal Char ∷ Literal Int ∷ Literal Float ∷ Punctuation colons ∷ Name ∷ Word w_union ∷ Word w_auto ∷ Word w_default ∷ Word w_safe ∷ Word w_self ∷ Word w_Self_type ∷ Word w_super ∷ Word w_crate ∷ Delimited Paren false ∷ Delimited Bracket false ∷ Delimited None false ∷ Word w_if ∷ Punctuation lifetime_mark ∷ Delimited Brace false ∷ Word w_loop ∷ Word w_while ∷ Word w_for ∷ Word w_return ∷ Word w_break ∷ Word w_continue ∷ []; moves = move (Punctuation pound) (Punctuation pound) [] ∷ move (Punctuation arrow) (Punctuation minus) [] ∷ move (Punctuation minus_equals) (Punctuation minus) [] ∷ move (Punctuation exclamation) (Punctuation exclamation) [] ∷ move (Punctuation not_equals) (Punctuation exclamation) [] ∷ move (Punctuation star_equals) (Punctuation star) [] ∷ move (Punctuation and_and) (Punctuation ampersand) [] ∷ move (Punctuation ampersand_equals) (Punctuation ampersand) [] ∷ move (Word w_unsafe) (Word w_unsafe) [] ∷ move (Punctuation less) (Punctuation less) [] ∷ move (Punctuation less_less_equals) (Punctuation less) [] ∷ move (Punctuation less_equals) (Punctuation less) [] ∷ move (Punctuation less_less) (Punctuation less) [] ∷ []; nullable = false; gone = []; ends = at_equals ∷ at_paren ∷ at_less ∷ (((at_colons or_else at_less_only or_else at_paren or_else at_word w_as) but_not at_colons) but_not at_word w_as) ∷ (at_colons but_not at_colons) ∷ ((at_bang or_else at_colons and_also ahead Before_macro) but_not at_colons) ∷ ((at_path_rest and_also ahead Bang_brace) but_not at_colons) ∷ ((at_path_rest and_also ahead Bang_name) but_not at_colons) ∷ at_name ∷ at_brace ∷ at_word w_trait ∷ (at_word w_unsafe or_else at_word w_impl) ∷ ended ∷ (at_paren but_not at_paren) ∷ ((((at_colons or_else at_less_only or_else at_paren or_else at_word w_as) but_not at_colons) but_not at_paren) but_not at_word w_as) ∷ ((((at_colons or_else at_less_only or_else at_paren or_else at_word w_as) but_not at_colons) but_not at_word w_as) but_not at_paren) ∷ []; halts = at_word w_as ∷ at_colons ∷ at_arguments ∷ at_arrow ∷ at_dot ∷ at_question ∷ at_bracket ∷ at_paren ∷ at_whole_expression ∷ at_lifetime ∷ at_unfinished ∷ at_mark greater_greater_equals ∷ at_mark less_less_equals ∷ at_mark bar_equals ∷ at_mark ampersand_equals ∷ at_mark caret_equals ∷ at_mark percent_equals ∷ at_mark slash_equals ∷ at_mark star_equals ∷ at_mark minus_equals ∷ at_mark plus_equals ∷ at_equals_operator ∷ at_mark or_or ∷ at_word w_else ∷ at_mark and_and ∷ at_mark greater_equals ∷ at_mark less_equals ∷ at_greater_operator ∷ at_less_operator ∷ at_mark not_equals ∷ at_mark equal_equal ∷ at_bar_operator ∷ at_turbofish ∷ at_caret_operator ∷ at_ampersand_operator ∷ at_greater_greater_operator ∷ at_less_less_operator ∷ at_minus_operator ∷ at_plus_operator ∷ at_percent_operator ∷ at_slash_operator ∷ at_star_operator ∷ []; shuns = [] }
+shown_summary_of false products = record { stays = Punctuation star ∷ Punctuation slash ∷ Punctuation percent ∷ []; moves = []; nullable = true; gone = []; ends = at_equals ∷ at_paren ∷ at_less ∷ (((at_colons or_else at_less_only or_else at_paren or_else at_word w_as) but_not at_colons) but_not at_word w_as) ∷ (at_colons but_not at_colons) ∷ ((at_bang or_else at_colons and_also ahead Before_macro) but_not at_colons) ∷ ((at_path_rest and_also ahead Bang_brace) but_not at_colons) ∷ ((at_path_rest and_also ahead Bang_name) but_not at_colons) ∷ at_name ∷ at_brace ∷ at_word w_trait ∷ (at_word w_unsafe or_else at_word w_impl) ∷ ended ∷ (at_paren but_not at_paren) ∷ ((((at_colons or_else at_less_only or_else at_paren or_else at_word w_as) but_not at_colons) but_not at_paren) but_not at_word w_as) ∷ ((((at_colons or_else at_less_only or_else at_paren or_else at_word w_as) but_not at_colons) but_not at_word w_as) but_not at_paren) ∷ []; halts = at_percent_operator ∷ at_slash_operator ∷ at_star_operator ∷ at_word w_as ∷ at_colons ∷ at_arguments ∷ at_arrow ∷ at_dot ∷ at_question ∷ at_bracket ∷ at_paren ∷ at_whole_expression ∷ at_lifetime ∷ at_unfinished ∷ at_mark greater_greater_equals ∷ at_mark less_less_equals ∷ at_mark bar_equals ∷ at_mark ampersand_equals ∷ at_mark caret_equals ∷ at_mark percent_equals ∷ at_mark slash_equals ∷ at_mark star_equals ∷ at_mark minus_equals ∷ at_mark plus_equals ∷ at_equals_operator ∷ at_mark or_or ∷ at_word w_else ∷ at_mark and_and ∷ at_mark greater_equals ∷ at_mark less_equals ∷ at_greater_operator ∷ at_less_operator ∷ at_mark not_equals ∷ at_mark equal_equal ∷ at_bar_operator ∷ at_turbofish ∷ at_caret_operator ∷ at_ampersand_operator ∷ at_greater_greater_operator ∷ at_less_less_operator ∷ at_minus_operator ∷ at_plus_operator ∷ []; shuns = [] }
+shown_summary_of false product = record { stays = Punctuation minus ∷ Punctuation star ∷ Punctuation ampersand ∷ Word w_true ∷ Word w_false ∷ Literal Str ∷ Literal ByteStr ∷ Literal CStr ∷ Literal Byte ∷ Literal Char ∷ Literal Int ∷ Literal Float ∷ Punctuation colons ∷ Name ∷ Word w_union ∷ Word w_auto ∷ Word w_default ∷ Word w_safe ∷ Word w_self ∷ Word w_Self_type ∷ Word w_super ∷ Word w_crate ∷ Delimited Paren false ∷ Delimited Bracket false ∷ Delimited None false ∷ Word w_if ∷ Punctuation lifetime_mark ∷ Delimited Brace false ∷ Word w_loop ∷ Word w_while ∷ Word w_for ∷ Word w_return ∷ Word w_break ∷ Word w_continue ∷ []; moves = move (Punctuation pound) (Punctuation pound) [] ∷ move (Punctuation arrow) (Punctuation minus) [] ∷ move (Punctuation minus_equals) (Punctuation minus) [] ∷ move (Punctuation exclamation) (Punctuation exclamation) [] ∷ move (Punctuation not_equals) (Punctuation exclamation) [] ∷ move (Punctuation star_equals) (Punctuation star) [] ∷ move (Punctuation and_and) (Punctuation ampersand) [] ∷ move (Punctuation ampersand_equals) (Punctuation ampersand) [] ∷ move (Word w_unsafe) (Word w_unsafe) [] ∷ move (Punctuation less) (Punctuation less) [] ∷ move (Punctuation less_less_equals) (Punctuation less) [] ∷ move (Punctuation less_equals) (Punctuation less) [] ∷ move (Punctuation less_less) (Punctuation less) [] ∷ []; nullable = false; gone = []; ends = at_equals ∷ at_paren ∷ at_less ∷ (((at_colons or_else at_less_only or_else at_paren or_else at_word w_as) but_not at_colons) but_not at_word w_as) ∷ (at_colons but_not at_colons) ∷ ((at_bang or_else at_colons and_also ahead Before_macro) but_not at_colons) ∷ ((at_path_rest and_also ahead Bang_brace) but_not at_colons) ∷ ((at_path_rest and_also ahead Bang_name) but_not at_colons) ∷ at_name ∷ at_brace ∷ at_word w_trait ∷ (at_word w_unsafe or_else at_word w_impl) ∷ ended ∷ (at_paren but_not at_paren) ∷ ((((at_colons or_else at_less_only or_else at_paren or_else at_word w_as) but_not at_colons) but_not at_paren) but_not at_word w_as) ∷ ((((at_colons or_else at_less_only or_else at_paren or_else at_word w_as) but_not at_colons) but_not at_word w_as) but_not at_paren) ∷ []; halts = at_percent_operator ∷ at_slash_operator ∷ at_star_operator ∷ at_word w_as ∷ at_colons ∷ at_arguments ∷ at_arrow ∷ at_dot ∷ at_question ∷ at_bracket ∷ at_paren ∷ at_whole_expression ∷ at_lifetime ∷ at_unfinished ∷ at_mark greater_greater_equals ∷ at_mark less_less_equals ∷ at_mark bar_equals ∷ at_mark ampersand_equals ∷ at_mark caret_equals ∷ at_mark percent_equals ∷ at_mark slash_equals ∷ at_mark star_equals ∷ at_mark minus_equals ∷ at_mark plus_equals ∷ at_equals_operator ∷ at_mark or_or ∷ at_word w_else ∷ at_mark and_and ∷ at_mark greater_equals ∷ at_mark less_equals ∷ at_greater_operator ∷ at_less_operator ∷ at_mark not_equals ∷ at_mark equal_equal ∷ at_bar_operator ∷ at_turbofish ∷ at_caret_operator ∷ at_ampersand_operator ∷ at_greater_greater_operator ∷ at_less_less_operator ∷ at_minus_operator ∷ at_plus_operator ∷ []; shuns = [] }
+shown_summary_of false sums = record { stays = Punctuation plus ∷ Punctuation minus ∷ []; moves = move (Punctuation arrow) (Punctuation minus) [] ∷ []; nullable = true; gone = []; ends = at_equals ∷ at_paren ∷ at_less ∷ (((at_colons or_else at_less_only or_else at_paren or_else at_word w_as) but_not at_colons) but_not at_word w_as) ∷ (at_colons but_not at_colons) ∷ ((at_bang or_else at_colons and_also ahead Before_macro) but_not at_colons) ∷ ((at_path_rest and_also ahead Bang_brace) but_not at_colons) ∷ ((at_path_rest and_also ahead Bang_name) but_not at_colons) ∷ at_name ∷ at_brace ∷ at_word w_trait ∷ (at_word w_unsafe or_else at_word w_impl) ∷ ended ∷ (at_paren but_not at_paren) ∷ ((((at_colons or_else at_less_only or_else at_paren or_else at_word w_as) but_not at_colons) but_not at_paren) but_not at_word w_as) ∷ ((((at_colons or_else at_less_only or_else at_paren or_else at_word w_as) but_not at_colons) but_not at_word w_as) but_not at_paren) ∷ []; halts = at_minus_operator ∷ at_plus_operator ∷ at_percent_operator ∷ at_slash_operator ∷ at_star_operator ∷ at_word w_as ∷ at_colons ∷ at_arguments ∷ at_arrow ∷ at_dot ∷ at_question ∷ at_bracket ∷ at_paren ∷ at_whole_expression ∷ at_lifetime ∷ at_unfinished ∷ at_mark greater_greater_equals ∷ at_mark less_less_equals ∷ at_mark bar_equals ∷ at_mark ampersand_equals ∷ at_mark caret_equals ∷ at_mark percent_equals ∷ at_mark slash_equals ∷ at_mark star_equals ∷ at_mark minus_equals ∷ at_mark plus_equals ∷ at_equals_operator ∷ at_mark or_or ∷ at_word w_else ∷ at_mark and_and ∷ at_mark greater_equals ∷ at_mark less_equals ∷ at_greater_operator ∷ at_less_operator ∷ at_mark not_equals ∷ at_mark equal_equal ∷ at_bar_operator ∷ at_turbofish ∷ at_caret_operator ∷ at_ampersand_operator ∷ at_greater_greater_operator ∷ at_less_less_operator ∷ []; shuns = [] }
+shown_summary_of false sum = record { stays = Punctuation minus ∷ Punctuation star ∷ Punctuation ampersand ∷ Word w_true ∷ Word w_false ∷ Literal Str ∷ Literal ByteStr ∷ Literal CStr ∷ Literal Byte ∷ Literal Char ∷ Literal Int ∷ Literal Float ∷ Punctuation colons ∷ Name ∷ Word w_union ∷ Word w_auto ∷ Word w_default ∷ Word w_safe ∷ Word w_self ∷ Word w_Self_type ∷ Word w_super ∷ Word w_crate ∷ Delimited Paren false ∷ Delimited Bracket false ∷ Delimited None false ∷ Word w_if ∷ Punctuation lifetime_mark ∷ Delimited Brace false ∷ Word w_loop ∷ Word w_while ∷ Word w_for ∷ Word w_return ∷ Word w_break ∷ Word w_continue ∷ []; moves = move (Punctuation pound) (Punctuation pound) [] ∷ move (Punctuation arrow) (Punctuation minus) [] ∷ move (Punctuation minus_equals) (Punctuation minus) [] ∷ move (Punctuation exclamation) (Punctuation exclamation) [] ∷ move (Punctuation not_equals) (Punctuation exclamation) [] ∷ move (Punctuation star_equals) (Punctuation star) [] ∷ move (Punctuation and_and) (Punctuation ampersand) [] ∷ move (Punctuation ampersand_equals) (Punctuation ampersand) [] ∷ move (Word w_unsafe) (Word w_unsafe) [] ∷ move (Punctuation less) (Punctuation less) [] ∷ move (Punctuation less_less_equals) (Punctuation less) [] ∷ move (Punctuation less_equals) (Punctuation less) [] ∷ move (Punctuation less_less) (Punctuation less) [] ∷ []; nullable = false; gone = []; ends = at_equals ∷ at_paren ∷ at_less ∷ (((at_colons or_else at_less_only or_else at_paren or_else at_word w_as) but_not at_colons) but_not at_word w_as) ∷ (at_colons but_not at_colons) ∷ ((at_bang or_else at_colons and_also ahead Before_macro) but_not at_colons) ∷ ((at_path_rest and_also ahead Bang_brace) but_not at_colons) ∷ ((at_path_rest and_also ahead Bang_name) but_not at_colons) ∷ at_name ∷ at_brace ∷ at_word w_trait ∷ (at_word w_unsafe or_else at_word w_impl) ∷ ended ∷ (at_paren but_not at_paren) ∷ ((((at_colons or_else at_less_only or_else at_paren or_else at_word w_as) but_not at_colons) but_not at_paren) but_not at_word w_as) ∷ ((((at_colons or_else at_less_only or_else at_paren or_else at_word w_as) but_not at_colons) but_not at_word w_as) but_not at_paren) ∷ []; halts = at_minus_operator ∷ at_plus_operator ∷ at_percent_operator ∷ at_slash_operator ∷ at_star_operator ∷ at_word w_as ∷ at_colons ∷ at_arguments ∷ at_arrow ∷ at_dot ∷ at_question ∷ at_bracket ∷ at_paren ∷ at_whole_expression ∷ at_lifetime ∷ at_unfinished ∷ at_mark greater_greater_equals ∷ at_mark less_less_equals ∷ at_mark bar_equals ∷ at_mark ampersand_equals ∷ at_mark caret_equals ∷ at_mark percent_equals ∷ at_mark slash_equals ∷ at_mark star_equals ∷ at_mark minus_equals ∷ at_mark plus_equals ∷ at_equals_operator ∷ at_mark or_or ∷ at_word w_else ∷ at_mark and_and ∷ at_mark greater_equals ∷ at_mark less_equals ∷ at_greater_operator ∷ at_less_operator ∷ at_mark not_equals ∷ at_mark equal_equal ∷ at_bar_operator ∷ at_turbofish ∷ at_caret_operator ∷ at_ampersand_operator ∷ at_greater_greater_operator ∷ at_less_less_operator ∷ []; shuns = [] }
+shown_summary_of false shifts = record { stays = Punctuation greater_greater ∷ []; moves = move (Punctuation less_less) (Punctuation less_less) [] ∷ []; nullable = true; gone = []; ends = at_equals ∷ at_paren ∷ at_less ∷ (((at_colons or_else at_less_only or_else at_paren or_else at_word w_as) but_not at_colons) but_not at_word w_as) ∷ (at_colons but_not at_colons) ∷ ((at_bang or_else at_colons and_also ahead Before_macro) but_not at_colons) ∷ ((at_path_rest and_also ahead Bang_brace) but_not at_colons) ∷ ((at_path_rest and_also ahead Bang_name) but_not at_colons) ∷ at_name ∷ at_brace ∷ at_word w_trait ∷ (at_word w_unsafe or_else at_word w_impl) ∷ ended ∷ (at_paren but_not at_paren) ∷ ((((at_colons or_else at_less_only or_else at_paren or_else at_word w_as) but_not at_colons) but_not at_paren) but_not at_word w_as) ∷ ((((at_colons or_else at_less_only or_else at_paren or_else at_word w_as) but_not at_colons) but_not at_word w_as) but_not at_paren) ∷ []; halts = at_greater_greater_operator ∷ at_less_less_operator ∷ at_minus_operator ∷ at_plus_operator ∷ at_percent_operator ∷ at_slash_operator ∷ at_star_operator ∷ at_word w_as ∷ at_colons ∷ at_arguments ∷ at_arrow ∷ at_dot ∷ at_question ∷ at_bracket ∷ at_paren ∷ at_whole_expression ∷ at_lifetime ∷ at_unfinished ∷ at_mark greater_greater_equals ∷ at_mark less_less_equals ∷ at_mark bar_equals ∷ at_mark ampersand_equals ∷ at_mark caret_equals ∷ at_mark percent_equals ∷ at_mark slash_equals ∷ at_mark star_equals ∷ at_mark minus_equals ∷ at_mark plus_equals ∷ at_equals_operator ∷ at_mark or_or ∷ at_word w_else ∷ at_mark and_and ∷ at_mark greater_equals ∷ at_mark less_equals ∷ at_greater_operator ∷ at_less_operator ∷ at_mark not_equals ∷ at_mark equal_equal ∷ at_bar_operator ∷ at_turbofish ∷ at_caret_operator ∷ at_ampersand_operator ∷ []; shuns = [] }
+shown_summary_of false shift = record { stays = Punctuation minus ∷ Punctuation star ∷ Punctuation ampersand ∷ Word w_true ∷ Word w_false ∷ Literal Str ∷ Literal ByteStr ∷ Literal CStr ∷ Literal Byte ∷ Literal Char ∷ Literal Int ∷ Literal Float ∷ Punctuation colons ∷ Name ∷ Word w_union ∷ Word w_auto ∷ Word w_default ∷ Word w_safe ∷ Word w_self ∷ Word w_Self_type ∷ Word w_super ∷ Word w_crate ∷ Delimited Paren false ∷ Delimited Bracket false ∷ Delimited None false ∷ Word w_if ∷ Punctuation lifetime_mark ∷ Delimited Brace false ∷ Word w_loop ∷ Word w_while ∷ Word w_for ∷ Word w_return ∷ Word w_break ∷ Word w_continue ∷ []; moves = move (Punctuation pound) (Punctuation pound) [] ∷ move (Punctuation arrow) (Punctuation minus) [] ∷ move (Punctuation minus_equals) (Punctuation minus) [] ∷ move (Punctuation exclamation) (Punctuation exclamation) [] ∷ move (Punctuation not_equals) (Punctuation exclamation) [] ∷ move (Punctuation star_equals) (Punctuation star) [] ∷ move (Punctuation and_and) (Punctuation ampersand) [] ∷ move (Punctuation ampersand_equals) (Punctuation ampersand) [] ∷ move (Word w_unsafe) (Word w_unsafe) [] ∷ move (Punctuation less) (Punctuation less) [] ∷ move (Punctuation less_less_equals) (Punctuation less) [] ∷ move (Punctuation less_equals) (Punctuation less) [] ∷ move (Punctuation less_less) (Punctuation less) [] ∷ []; nullable = false; gone = []; ends = at_equals ∷ at_paren ∷ at_less ∷ (((at_colons or_else at_less_only or_else at_paren or_else at_word w_as) but_not at_colons) but_not at_word w_as) ∷ (at_colons but_not at_colons) ∷ ((at_bang or_else at_colons and_also ahead Before_macro) but_not at_colons) ∷ ((at_path_rest and_also ahead Bang_brace) but_not at_colons) ∷ ((at_path_rest and_also ahead Bang_name) but_not at_colons) ∷ at_name ∷ at_brace ∷ at_word w_trait ∷ (at_word w_unsafe or_else at_word w_impl) ∷ ended ∷ (at_paren but_not at_paren) ∷ ((((at_colons or_else at_less_only or_else at_paren or_else at_word w_as) but_not at_colons) but_not at_paren) but_not at_word w_as) ∷ ((((at_colons or_else at_less_only or_else at_paren or_else at_word w_as) but_not at_colons) but_not at_word w_as) but_not at_paren) ∷ []; halts = at_greater_greater_operator ∷ at_less_less_operator ∷ at_minus_operator ∷ at_plus_operator ∷ at_percent_operator ∷ at_slash_operator ∷ at_star_operator ∷ at_word w_as ∷ at_colons ∷ at_arguments ∷ at_arrow ∷ at_dot ∷ at_question ∷ at_bracket ∷ at_paren ∷ at_whole_expression ∷ at_lifetime ∷ at_unfinished ∷ at_mark greater_greater_equals ∷ at_mark less_less_equals ∷ at_mark bar_equals ∷ at_mark ampersand_equals ∷ at_mark caret_equals ∷ at_mark percent_equals ∷ at_mark slash_equals ∷ at_mark star_equals ∷ at_mark minus_equals ∷ at_mark plus_equals ∷ at_equals_operator ∷ at_mark or_or ∷ at_word w_else ∷ at_mark and_and ∷ at_mark greater_equals ∷ at_mark less_equals ∷ at_greater_operator ∷ at_less_operator ∷ at_mark not_equals ∷ at_mark equal_equal ∷ at_bar_operator ∷ at_turbofish ∷ at_caret_operator ∷ at_ampersand_operator ∷ []; shuns = [] }
+shown_summary_of false bit_ands = record { stays = Punctuation ampersand ∷ []; moves = []; nullable = true; gone = []; ends = at_equals ∷ at_paren ∷ at_less ∷ (((at_colons or_else at_less_only or_else at_paren or_else at_word w_as) but_not at_colons) but_not at_word w_as) ∷ (at_colons but_not at_colons) ∷ ((at_bang or_else at_colons and_also ahead Before_macro) but_not at_colons) ∷ ((at_path_rest and_also ahead Bang_brace) but_not at_colons) ∷ ((at_path_rest and_also ahead Bang_name) but_not at_colons) ∷ at_name ∷ at_brace ∷ at_word w_trait ∷ (at_word w_unsafe or_else at_word w_impl) ∷ ended ∷ (at_paren but_not at_paren) ∷ ((((at_colons or_else at_less_only or_else at_paren or_else at_word w_as) but_not at_colons) but_not at_paren) but_not at_word w_as) ∷ ((((at_colons or_else at_less_only or_else at_paren or_else at_word w_as) but_not at_colons) but_not at_word w_as) but_not at_paren) ∷ []; halts = at_ampersand_operator ∷ at_greater_greater_operator ∷ at_less_less_operator ∷ at_minus_operator ∷ at_plus_operator ∷ at_percent_operator ∷ at_slash_operator ∷ at_star_operator ∷ at_word w_as ∷ at_colons ∷ at_arguments ∷ at_arrow ∷ at_dot ∷ at_question ∷ at_bracket ∷ at_paren ∷ at_whole_expression ∷ at_lifetime ∷ at_unfinished ∷ at_mark greater_greater_equals ∷ at_mark less_less_equals ∷ at_mark bar_equals ∷ at_mark ampersand_equals ∷ at_mark caret_equals ∷ at_mark percent_equals ∷ at_mark slash_equals ∷ at_mark star_equals ∷ at_mark minus_equals ∷ at_mark plus_equals ∷ at_equals_operator ∷ at_mark or_or ∷ at_word w_else ∷ at_mark and_and ∷ at_mark greater_equals ∷ at_mark less_equals ∷ at_greater_operator ∷ at_less_operator ∷ at_mark not_equals ∷ at_mark equal_equal ∷ at_bar_operator ∷ at_turbofish ∷ at_caret_operator ∷ []; shuns = [] }
+shown_summary_of false bit_and = record { stays = Punctuation minus ∷ Punctuation star ∷ Punctuation ampersand ∷ Word w_true ∷ Word w_false ∷ Literal Str ∷ Literal ByteStr ∷ Literal CStr ∷ Literal Byte ∷ Literal Char ∷ Literal Int ∷ Literal Float ∷ Punctuation colons ∷ Name ∷ Word w_union ∷ Word w_auto ∷ Word w_default ∷ Word w_safe ∷ Word w_self ∷ Word w_Self_type ∷ Word w_super ∷ Word w_crate ∷ Delimited Paren false ∷ Delimited Bracket false ∷ Delimited None false ∷ Word w_if ∷ Punctuation lifetime_mark ∷ Delimited Brace false ∷ Word w_loop ∷ Word w_while ∷ Word w_for ∷ Word w_return ∷ Word w_break ∷ Word w_continue ∷ []; moves = move (Punctuation pound) (Punctuation pound) [] ∷ move (Punctuation arrow) (Punctuation minus) [] ∷ move (Punctuation minus_equals) (Punctuation minus) [] ∷ move (Punctuation exclamation) (Punctuation exclamation) [] ∷ move (Punctuation not_equals) (Punctuation exclamation) [] ∷ move (Punctuation star_equals) (Punctuation star) [] ∷ move (Punctuation and_and) (Punctuation ampersand) [] ∷ move (Punctuation ampersand_equals) (Punctuation ampersand) [] ∷ move (Word w_unsafe) (Word w_unsafe) [] ∷ move (Punctuation less) (Punctuation less) [] ∷ move (Punctuation less_less_equals) (Punctuation less) [] ∷ move (Punctuation less_equals) (Punctuation less) [] ∷ move (Punctuation less_less) (Punctuation less) [] ∷ []; nullable = false; gone = []; ends = at_equals ∷ at_paren ∷ at_less ∷ (((at_colons or_else at_less_only or_else at_paren or_else at_word w_as) but_not at_colons) but_not at_word w_as) ∷ (at_colons but_not at_colons) ∷ ((at_bang or_else at_colons and_also ahead Before_macro) but_not at_colons) ∷ ((at_path_rest and_also ahead Bang_brace) but_not at_colons) ∷ ((at_path_rest and_also ahead Bang_name) but_not at_colons) ∷ at_name ∷ at_brace ∷ at_word w_trait ∷ (at_word w_unsafe or_else at_word w_impl) ∷ ended ∷ (at_paren but_not at_paren) ∷ ((((at_colons or_else at_less_only or_else at_paren or_else at_word w_as) but_not at_colons) but_not at_paren) but_not at_word w_as) ∷ ((((at_colons or_else at_less_only or_else at_paren or_else at_word w_as) but_not at_colons) but_not at_word w_as) but_not at_paren) ∷ []; halts = at_ampersand_operator ∷ at_greater_greater_operator ∷ at_less_less_operator ∷ at_minus_operator ∷ at_plus_operator ∷ at_percent_operator ∷ at_slash_operator ∷ at_star_operator ∷ at_word w_as ∷ at_colons ∷ at_arguments ∷ at_arrow ∷ at_dot ∷ at_question ∷ at_bracket ∷ at_paren ∷ at_whole_expression ∷ at_lifetime ∷ at_unfinished ∷ at_mark greater_greater_equals ∷ at_mark less_less_equals ∷ at_mark bar_equals ∷ at_mark ampersand_equals ∷ at_mark caret_equals ∷ at_mark percent_equals ∷ at_mark slash_equals ∷ at_mark star_equals ∷ at_mark minus_equals ∷ at_mark plus_equals ∷ at_equals_operator ∷ at_mark or_or ∷ at_word w_else ∷ at_mark and_and ∷ at_mark greater_equals ∷ at_mark less_equals ∷ at_greater_operator ∷ at_less_operator ∷ at_mark not_equals ∷ at_mark equal_equal ∷ at_bar_operator ∷ at_turbofish ∷ at_caret_operator ∷ []; shuns = [] }
+shown_summary_of false bit_xors = record { stays = Punctuation caret ∷ []; moves = []; nullable = true; gone = []; ends = at_equals ∷ at_paren ∷ at_less ∷ (((at_colons or_else at_less_only or_else at_paren or_else at_word w_as) but_not at_colons) but_not at_word w_as) ∷ (at_colons but_not at_colons) ∷ ((at_bang or_else at_colons and_also ahead Before_macro) but_not at_colons) ∷ ((at_path_rest and_also ahead Bang_brace) but_not at_colons) ∷ ((at_path_rest and_also ahead Bang_name) but_not at_colons) ∷ at_name ∷ at_brace ∷ at_word w_trait ∷ (at_word w_unsafe or_else at_word w_impl) ∷ ended ∷ (at_paren but_not at_paren) ∷ ((((at_colons or_else at_less_only or_else at_paren or_else at_word w_as) but_not at_colons) but_not at_paren) but_not at_word w_as) ∷ ((((at_colons or_else at_less_only or_else at_paren or_else at_word w_as) but_not at_colons) but_not at_word w_as) but_not at_paren) ∷ []; halts = at_caret_operator ∷ at_ampersand_operator ∷ at_greater_greater_operator ∷ at_less_less_operator ∷ at_minus_operator ∷ at_plus_operator ∷ at_percent_operator ∷ at_slash_operator ∷ at_star_operator ∷ at_word w_as ∷ at_colons ∷ at_arguments ∷ at_arrow ∷ at_dot ∷ at_question ∷ at_bracket ∷ at_paren ∷ at_whole_expression ∷ at_lifetime ∷ at_unfinished ∷ at_mark greater_greater_equals ∷ at_mark less_less_equals ∷ at_mark bar_equals ∷ at_mark ampersand_equals ∷ at_mark caret_equals ∷ at_mark percent_equals ∷ at_mark slash_equals ∷ at_mark star_equals ∷ at_mark minus_equals ∷ at_mark plus_equals ∷ at_equals_operator ∷ at_mark or_or ∷ at_word w_else ∷ at_mark and_and ∷ at_mark greater_equals ∷ at_mark less_equals ∷ at_greater_operator ∷ at_less_operator ∷ at_mark not_equals ∷ at_mark equal_equal ∷ at_bar_operator ∷ at_turbofish ∷ []; shuns = [] }
+shown_summary_of false bit_xor = record { stays = Punctuation minus ∷ Punctuation star ∷ Punctuation ampersand ∷ Word w_true ∷ Word w_false ∷ Literal Str ∷ Literal ByteStr ∷ Literal CStr ∷ Literal Byte ∷ Literal Char ∷ Literal Int ∷ Literal Float ∷ Punctuation colons ∷ Name ∷ Word w_union ∷ Word w_auto ∷ Word w_default ∷ Word w_safe ∷ Word w_self ∷ Word w_Self_type ∷ Word w_super ∷ Word w_crate ∷ Delimited Paren false ∷ Delimited Bracket false ∷ Delimited None false ∷ Word w_if ∷ Punctuation lifetime_mark ∷ Delimited Brace false ∷ Word w_loop ∷ Word w_while ∷ Word w_for ∷ Word w_return ∷ Word w_break ∷ Word w_continue ∷ []; moves = move (Punctuation pound) (Punctuation pound) [] ∷ move (Punctuation arrow) (Punctuation minus) [] ∷ move (Punctuation minus_equals) (Punctuation minus) [] ∷ move (Punctuation exclamation) (Punctuation exclamation) [] ∷ move (Punctuation not_equals) (Punctuation exclamation) [] ∷ move (Punctuation star_equals) (Punctuation star) [] ∷ move (Punctuation and_and) (Punctuation ampersand) [] ∷ move (Punctuation ampersand_equals) (Punctuation ampersand) [] ∷ move (Word w_unsafe) (Word w_unsafe) [] ∷ move (Punctuation less) (Punctuation less) [] ∷ move (Punctuation less_less_equals) (Punctuation less) [] ∷ move (Punctuation less_equals) (Punctuation less) [] ∷ move (Punctuation less_less) (Punctuation less) [] ∷ []; nullable = false; gone = []; ends = at_equals ∷ at_paren ∷ at_less ∷ (((at_colons or_else at_less_only or_else at_paren or_else at_word w_as) but_not at_colons) but_not at_word w_as) ∷ (at_colons but_not at_colons) ∷ ((at_bang or_else at_colons and_also ahead Before_macro) but_not at_colons) ∷ ((at_path_rest and_also ahead Bang_brace) but_not at_colons) ∷ ((at_path_rest and_also ahead Bang_name) but_not at_colons) ∷ at_name ∷ at_brace ∷ at_word w_trait ∷ (at_word w_unsafe or_else at_word w_impl) ∷ ended ∷ (at_paren but_not at_paren) ∷ ((((at_colons or_else at_less_only or_else at_paren or_else at_word w_as) but_not at_colons) but_not at_paren) but_not at_word w_as) ∷ ((((at_colons or_else at_less_only or_else at_paren or_else at_word w_as) but_not at_colons) but_not at_word w_as) but_not at_paren) ∷ []; halts = at_caret_operator ∷ at_ampersand_operator ∷ at_greater_greater_operator ∷ at_less_less_operator ∷ at_minus_operator ∷ at_plus_operator ∷ at_percent_operator ∷ at_slash_operator ∷ at_star_operator ∷ at_word w_as ∷ at_colons ∷ at_arguments ∷ at_arrow ∷ at_dot ∷ at_question ∷ at_bracket ∷ at_paren ∷ at_whole_expression ∷ at_lifetime ∷ at_unfinished ∷ at_mark greater_greater_equals ∷ at_mark less_less_equals ∷ at_mark bar_equals ∷ at_mark ampersand_equals ∷ at_mark caret_equals ∷ at_mark percent_equals ∷ at_mark slash_equals ∷ at_mark star_equals ∷ at_mark minus_equals ∷ at_mark plus_equals ∷ at_equals_operator ∷ at_mark or_or ∷ at_word w_else ∷ at_mark and_and ∷ at_mark greater_equals ∷ at_mark less_equals ∷ at_greater_operator ∷ at_less_operator ∷ at_mark not_equals ∷ at_mark equal_equal ∷ at_bar_operator ∷ at_turbofish ∷ []; shuns = [] }
+shown_summary_of false bit_ors = record { stays = Punctuation bar ∷ []; moves = []; nullable = true; gone = []; ends = at_equals ∷ at_paren ∷ at_less ∷ (((at_colons or_else at_less_only or_else at_paren or_else at_word w_as) but_not at_colons) but_not at_word w_as) ∷ (at_colons but_not at_colons) ∷ ((at_bang or_else at_colons and_also ahead Before_macro) but_not at_colons) ∷ ((at_path_rest and_also ahead Bang_brace) but_not at_colons) ∷ ((at_path_rest and_also ahead Bang_name) but_not at_colons) ∷ at_name ∷ at_brace ∷ at_word w_trait ∷ (at_word w_unsafe or_else at_word w_impl) ∷ ended ∷ (at_paren but_not at_paren) ∷ ((((at_colons or_else at_less_only or_else at_paren or_else at_word w_as) but_not at_colons) but_not at_paren) but_not at_word w_as) ∷ ((((at_colons or_else at_less_only or_else at_paren or_else at_word w_as) but_not at_colons) but_not at_word w_as) but_not at_paren) ∷ []; halts = at_bar_operator ∷ at_caret_operator ∷ at_ampersand_operator ∷ at_greater_greater_operator ∷ at_less_less_operator ∷ at_minus_operator ∷ at_plus_operator ∷ at_percent_operator ∷ at_slash_operator ∷ at_star_operator ∷ at_word w_as ∷ at_colons ∷ at_arguments ∷ at_arrow ∷ at_dot ∷ at_question ∷ at_bracket ∷ at_paren ∷ at_whole_expression ∷ at_lifetime ∷ at_unfinished ∷ at_mark greater_greater_equals ∷ at_mark less_less_equals ∷ at_mark bar_equals ∷ at_mark ampersand_equals ∷ at_mark caret_equals ∷ at_mark percent_equals ∷ at_mark slash_equals ∷ at_mark star_equals ∷ at_mark minus_equals ∷ at_mark plus_equals ∷ at_equals_operator ∷ at_mark or_or ∷ at_word w_else ∷ at_mark and_and ∷ at_mark greater_equals ∷ at_mark less_equals ∷ at_greater_operator ∷ at_less_operator ∷ at_mark not_equals ∷ at_mark equal_equal ∷ at_turbofish ∷ []; shuns = [] }
+shown_summary_of false bit_or = record { stays = Punctuation minus ∷ Punctuation star ∷ Punctuation ampersand ∷ Word w_true ∷ Word w_false ∷ Literal Str ∷ Literal ByteStr ∷ Literal CStr ∷ Literal Byte ∷ Literal Char ∷ Literal Int ∷ Literal Float ∷ Punctuation colons ∷ Name ∷ Word w_union ∷ Word w_auto ∷ Word w_default ∷ Word w_safe ∷ Word w_self ∷ Word w_Self_type ∷ Word w_super ∷ Word w_crate ∷ Delimited Paren false ∷ Delimited Bracket false ∷ Delimited None false ∷ Word w_if ∷ Punctuation lifetime_mark ∷ Delimited Brace false ∷ Word w_loop ∷ Word w_while ∷ Word w_for ∷ Word w_return ∷ Word w_break ∷ Word w_continue ∷ []; moves = move (Punctuation pound) (Punctuation pound) [] ∷ move (Punctuation arrow) (Punctuation minus) [] ∷ move (Punctuation minus_equals) (Punctuation minus) [] ∷ move (Punctuation exclamation) (Punctuation exclamation) [] ∷ move (Punctuation not_equals) (Punctuation exclamation) [] ∷ move (Punctuation star_equals) (Punctuation star) [] ∷ move (Punctuation and_and) (Punctuation ampersand) [] ∷ move (Punctuation ampersand_equals) (Punctuation ampersand) [] ∷ move (Word w_unsafe) (Word w_unsafe) [] ∷ move (Punctuation less) (Punctuation less) [] ∷ move (Punctuation less_less_equals) (Punctuation less) [] ∷ move (Punctuation less_equals) (Punctuation less) [] ∷ move (Punctuation less_less) (Punctuation less) [] ∷ []; nullable = false; gone = []; ends = at_equals ∷ at_paren ∷ at_less ∷ (((at_colons or_else at_less_only or_else at_paren or_else at_word w_as) but_not at_colons) but_not at_word w_as) ∷ (at_colons but_not at_colons) ∷ ((at_bang or_else at_colons and_also ahead Before_macro) but_not at_colons) ∷ ((at_path_rest and_also ahead Bang_brace) but_not at_colons) ∷ ((at_path_rest and_also ahead Bang_name) but_not at_colons) ∷ at_name ∷ at_brace ∷ at_word w_trait ∷ (at_word w_unsafe or_else at_word w_impl) ∷ ended ∷ (at_paren but_not at_paren) ∷ ((((at_colons or_else at_less_only or_else at_paren or_else at_word w_as) but_not at_colons) but_not at_paren) but_not at_word w_as) ∷ ((((at_colons or_else at_less_only or_else at_paren or_else at_word w_as) but_not at_colons) but_not at_word w_as) but_not at_paren) ∷ []; halts = at_bar_operator ∷ at_caret_operator ∷ at_ampersand_operator ∷ at_greater_greater_operator ∷ at_less_less_operator ∷ at_minus_operator ∷ at_plus_operator ∷ at_percent_operator ∷ at_slash_operator ∷ at_star_operator ∷ at_word w_as ∷ at_colons ∷ at_arguments ∷ at_arrow ∷ at_dot ∷ at_question ∷ at_bracket ∷ at_paren ∷ at_whole_expression ∷ at_lifetime ∷ at_unfinished ∷ at_mark greater_greater_equals ∷ at_mark less_less_equals ∷ at_mark bar_equals ∷ at_mark ampersand_equals ∷ at_mark caret_equals ∷ at_mark percent_equals ∷ at_mark slash_equals ∷ at_mark star_equals ∷ at_mark minus_equals ∷ at_mark plus_equals ∷ at_equals_operator ∷ at_mark or_or ∷ at_word w_else ∷ at_mark and_and ∷ at_mark greater_equals ∷ at_mark less_equals ∷ at_greater_operator ∷ at_less_operator ∷ at_mark not_equals ∷ at_mark equal_equal ∷ at_turbofish ∷ []; shuns = [] }
+shown_summary_of false compared = record { stays = Punctuation equal_equal ∷ Punctuation greater ∷ Punctuation greater_equals ∷ []; moves = move (Punctuation not_equals) (Punctuation not_equals) [] ∷ move (Punctuation less) (Punctuation less) [] ∷ move (Punctuation less_equals) (Punctuation less_equals) [] ∷ []; nullable = true; gone = []; ends = at_equals ∷ at_paren ∷ at_less ∷ (((at_colons or_else at_less_only or_else at_paren or_else at_word w_as) but_not at_colons) but_not at_word w_as) ∷ (at_colons but_not at_colons) ∷ ((at_bang or_else at_colons and_also ahead Before_macro) but_not at_colons) ∷ ((at_path_rest and_also ahead Bang_brace) but_not at_colons) ∷ ((at_path_rest and_also ahead Bang_name) but_not at_colons) ∷ at_name ∷ at_brace ∷ at_word w_trait ∷ (at_word w_unsafe or_else at_word w_impl) ∷ ended ∷ (at_paren but_not at_paren) ∷ ((((at_colons or_else at_less_only or_else at_paren or_else at_word w_as) but_not at_colons) but_not at_paren) but_not at_word w_as) ∷ ((((at_colons or_else at_less_only or_else at_paren or_else at_word w_as) but_not at_colons) but_not at_word w_as) but_not at_paren) ∷ []; halts = at_bar_operator ∷ at_caret_operator ∷ at_ampersand_operator ∷ at_greater_greater_operator ∷ at_less_less_operator ∷ at_minus_operator ∷ at_plus_operator ∷ at_percent_operator ∷ at_slash_operator ∷ at_star_operator ∷ at_word w_as ∷ at_colons ∷ at_arguments ∷ at_arrow ∷ at_dot ∷ at_question ∷ at_bracket ∷ at_paren ∷ at_whole_expression ∷ at_lifetime ∷ at_unfinished ∷ at_mark greater_greater_equals ∷ at_mark less_less_equals ∷ at_mark bar_equals ∷ at_mark ampersand_equals ∷ at_mark caret_equals ∷ at_mark percent_equals ∷ at_mark slash_equals ∷ at_mark star_equals ∷ at_mark minus_equals ∷ at_mark plus_equals ∷ at_equals_operator ∷ at_mark or_or ∷ at_word w_else ∷ at_mark and_and ∷ at_mark greater_equals ∷ at_mark less_equals ∷ at_greater_operator ∷ at_less_operator ∷ at_mark not_equals ∷ at_mark equal_equal ∷ at_turbofish ∷ []; shuns = [] }
+shown_summary_of false comparison = record { stays = Punctuation minus ∷ Punctuation star ∷ Punctuation ampersand ∷ Word w_true ∷ Word w_false ∷ Literal Str ∷ Literal ByteStr ∷ Literal CStr ∷ Literal Byte ∷ Literal Char ∷ Literal Int ∷ Literal Float ∷ Punctuation colons ∷ Name ∷ Word w_union ∷ Word w_auto ∷ Word w_default ∷ Word w_safe ∷ Word w_self ∷ Word w_Self_type ∷ Word w_super ∷ Word w_crate ∷ Delimited Paren false ∷ Delimited Bracket false ∷ Delimited None false ∷ Word w_if ∷ Punctuation lifetime_mark ∷ Delimited Brace false ∷ Word w_loop ∷ Word w_while ∷ Word w_for ∷ Word w_return ∷ Word w_break ∷ Word w_continue ∷ []; moves = move (Punctuation pound) (Punctuation pound) [] ∷ move (Punctuation arrow) (Punctuation minus) [] ∷ move (Punctuation minus_equals) (Punctuation minus) [] ∷ move (Punctuation exclamation) (Punctuation exclamation) [] ∷ move (Punctuation not_equals) (Punctuation exclamation) [] ∷ move (Punctuation star_equals) (Punctuation star) [] ∷ move (Punctuation and_and) (Punctuation ampersand) [] ∷ move (Punctuation ampersand_equals) (Punctuation ampersand) [] ∷ move (Word w_unsafe) (Word w_unsafe) [] ∷ move (Punctuation less) (Punctuation less) [] ∷ move (Punctuation less_less_equals) (Punctuation less) [] ∷ move (Punctuation less_equals) (Punctuation less) [] ∷ move (Punctuation less_less) (Punctuation less) [] ∷ []; nullable = false; gone = []; ends = at_equals ∷ at_paren ∷ at_less ∷ (((at_colons or_else at_less_only or_else at_paren or_else at_word w_as) but_not at_colons) but_not at_word w_as) ∷ (at_colons but_not at_colons) ∷ ((at_bang or_else at_colons and_also ahead Before_macro) but_not at_colons) ∷ ((at_path_rest and_also ahead Bang_brace) but_not at_colons) ∷ ((at_path_rest and_also ahead Bang_name) but_not at_colons) ∷ at_name ∷ at_brace ∷ at_word w_trait ∷ (at_word w_unsafe or_else at_word w_impl) ∷ ended ∷ (at_paren but_not at_paren) ∷ ((((at_colons or_else at_less_only or_else at_paren or_else at_word w_as) but_not at_colons) but_not at_paren) but_not at_word w_as) ∷ ((((at_colons or_else at_less_only or_else at_paren or_else at_word w_as) but_not at_colons) but_not at_word w_as) but_not at_paren) ∷ []; halts = at_bar_operator ∷ at_caret_operator ∷ at_ampersand_operator ∷ at_greater_greater_operator ∷ at_less_less_operator ∷ at_minus_operator ∷ at_plus_operator ∷ at_percent_operator ∷ at_slash_operator ∷ at_star_operator ∷ at_word w_as ∷ at_colons ∷ at_arguments ∷ at_arrow ∷ at_dot ∷ at_question ∷ at_bracket ∷ at_paren ∷ at_whole_expression ∷ at_lifetime ∷ at_unfinished ∷ at_mark greater_greater_equals ∷ at_mark less_less_equals ∷ at_mark bar_equals ∷ at_mark ampersand_equals ∷ at_mark caret_equals ∷ at_mark percent_equals ∷ at_mark slash_equals ∷ at_mark star_equals ∷ at_mark minus_equals ∷ at_mark plus_equals ∷ at_equals_operator ∷ at_mark or_or ∷ at_word w_else ∷ at_mark and_and ∷ at_mark greater_equals ∷ at_mark less_equals ∷ at_greater_operator ∷ at_less_operator ∷ at_mark not_equals ∷ at_mark equal_equal ∷ at_turbofish ∷ []; shuns = [] }
+shown_summary_of false conjunctions = record { stays = Punctuation and_and ∷ []; moves = []; nullable = true; gone = []; ends = at_equals ∷ at_paren ∷ at_less ∷ (((at_colons or_else at_less_only or_else at_paren or_else at_word w_as) but_not at_colons) but_not at_word w_as) ∷ (at_colons but_not at_colons) ∷ ((at_bang or_else at_colons and_also ahead Before_macro) but_not at_colons) ∷ ((at_path_rest and_also ahead Bang_brace) but_not at_colons) ∷ ((at_path_rest and_also ahead Bang_name) but_not at_colons) ∷ at_name ∷ at_brace ∷ at_word w_trait ∷ (at_word w_unsafe or_else at_word w_impl) ∷ ended ∷ (at_paren but_not at_paren) ∷ ((((at_colons or_else at_less_only or_else at_paren or_else at_word w_as) but_not at_colons) but_not at_paren) but_not at_word w_as) ∷ ((((at_colons or_else at_less_only or_else at_paren or_else at_word w_as) but_not at_colons) but_not at_word w_as) but_not at_paren) ∷ []; halts = at_mark and_and ∷ at_bar_operator ∷ at_caret_operator ∷ at_ampersand_operator ∷ at_greater_greater_operator ∷ at_less_less_operator ∷ at_minus_operator ∷ at_plus_operator ∷ at_percent_operator ∷ at_slash_operator ∷ at_star_operator ∷ at_word w_as ∷ at_colons ∷ at_arguments ∷ at_arrow ∷ at_dot ∷ at_question ∷ at_bracket ∷ at_paren ∷ at_whole_expression ∷ at_lifetime ∷ at_unfinished ∷ at_mark greater_greater_equals ∷ at_mark less_less_equals ∷ at_mark bar_equals ∷ at_mark ampersand_equals ∷ at_mark caret_equals ∷ at_mark percent_equals ∷ at_mark slash_equals ∷ at_mark star_equals ∷ at_mark minus_equals ∷ at_mark plus_equals ∷ at_equals_operator ∷ at_mark or_or ∷ at_word w_else ∷ at_mark greater_equals ∷ at_mark less_equals ∷ at_greater_operator ∷ at_less_operator ∷ at_mark not_equals ∷ at_mark equal_equal ∷ at_turbofish ∷ []; shuns = [] }
+shown_summary_of false conjunction = record { stays = Punctuation minus ∷ Punctuation star ∷ Punctuation ampersand ∷ Word w_true ∷ Word w_false ∷ Literal Str ∷ Literal ByteStr ∷ Literal CStr ∷ Literal Byte ∷ Literal Char ∷ Literal Int ∷ Literal Float ∷ Punctuation colons ∷ Name ∷ Word w_union ∷ Word w_auto ∷ Word w_default ∷ Word w_safe ∷ Word w_self ∷ Word w_Self_type ∷ Word w_super ∷ Word w_crate ∷ Delimited Paren false ∷ Delimited Bracket false ∷ Delimited None false ∷ Word w_if ∷ Punctuation lifetime_mark ∷ Delimited Brace false ∷ Word w_loop ∷ Word w_while ∷ Word w_for ∷ Word w_return ∷ Word w_break ∷ Word w_continue ∷ []; moves = move (Punctuation pound) (Punctuation pound) [] ∷ move (Punctuation arrow) (Punctuation minus) [] ∷ move (Punctuation minus_equals) (Punctuation minus) [] ∷ move (Punctuation exclamation) (Punctuation exclamation) [] ∷ move (Punctuation not_equals) (Punctuation exclamation) [] ∷ move (Punctuation star_equals) (Punctuation star) [] ∷ move (Punctuation and_and) (Punctuation ampersand) [] ∷ move (Punctuation ampersand_equals) (Punctuation ampersand) [] ∷ move (Word w_unsafe) (Word w_unsafe) [] ∷ move (Punctuation less) (Punctuation less) [] ∷ move (Punctuation less_less_equals) (Punctuation less) [] ∷ move (Punctuation less_equals) (Punctuation less) [] ∷ move (Punctuation less_less) (Punctuation less) [] ∷ []; nullable = false; gone = []; ends = at_equals ∷ at_paren ∷ at_less ∷ (((at_colons or_else at_less_only or_else at_paren or_else at_word w_as) but_not at_colons) but_not at_word w_as) ∷ (at_colons but_not at_colons) ∷ ((at_bang or_else at_colons and_also ahead Before_macro) but_not at_colons) ∷ ((at_path_rest and_also ahead Bang_brace) but_not at_colons) ∷ ((at_path_rest and_also ahead Bang_name) but_not at_colons) ∷ at_name ∷ at_brace ∷ at_word w_trait ∷ (at_word w_unsafe or_else at_word w_impl) ∷ ended ∷ (at_paren but_not at_paren) ∷ ((((at_colons or_else at_less_only or_else at_paren or_else at_word w_as) but_not at_colons) but_not at_paren) but_not at_word w_as) ∷ ((((at_colons or_else at_less_only or_else at_paren or_else at_word w_as) but_not at_colons) but_not at_word w_as) but_not at_paren) ∷ []; halts = at_mark and_and ∷ at_bar_operator ∷ at_caret_operator ∷ at_ampersand_operator ∷ at_greater_greater_operator ∷ at_less_less_operator ∷ at_minus_operator ∷ at_plus_operator ∷ at_percent_operator ∷ at_slash_operator ∷ at_star_operator ∷ at_word w_as ∷ at_colons ∷ at_arguments ∷ at_arrow ∷ at_dot ∷ at_question ∷ at_bracket ∷ at_paren ∷ at_whole_expression ∷ at_lifetime ∷ at_unfinished ∷ at_mark greater_greater_equals ∷ at_mark less_less_equals ∷ at_mark bar_equals ∷ at_mark ampersand_equals ∷ at_mark caret_equals ∷ at_mark percent_equals ∷ at_mark slash_equals ∷ at_mark star_equals ∷ at_mark minus_equals ∷ at_mark plus_equals ∷ at_equals_operator ∷ at_mark or_or ∷ at_word w_else ∷ at_mark greater_equals ∷ at_mark less_equals ∷ at_greater_operator ∷ at_less_operator ∷ at_mark not_equals ∷ at_mark equal_equal ∷ at_turbofish ∷ []; shuns = [] }
+shown_summary_of false disjunctions = record { stays = Punctuation or_or ∷ []; moves = []; nullable = true; gone = []; ends = at_equals ∷ at_paren ∷ at_less ∷ (((at_colons or_else at_less_only or_else at_paren or_else at_word w_as) but_not at_colons) but_not at_word w_as) ∷ (at_colons but_not at_colons) ∷ ((at_bang or_else at_colons and_also ahead Before_macro) but_not at_colons) ∷ ((at_path_rest and_also ahead Bang_brace) but_not at_colons) ∷ ((at_path_rest and_also ahead Bang_name) but_not at_colons) ∷ at_name ∷ at_brace ∷ at_word w_trait ∷ (at_word w_unsafe or_else at_word w_impl) ∷ ended ∷ (at_paren but_not at_paren) ∷ ((((at_colons or_else at_less_only or_else at_paren or_else at_word w_as) but_not at_colons) but_not at_paren) but_not at_word w_as) ∷ ((((at_colons or_else at_less_only or_else at_paren or_else at_word w_as) but_not at_colons) but_not at_word w_as) but_not at_paren) ∷ []; halts = at_mark or_or ∷ at_mark and_and ∷ at_bar_operator ∷ at_caret_operator ∷ at_ampersand_operator ∷ at_greater_greater_operator ∷ at_less_less_operator ∷ at_minus_operator ∷ at_plus_operator ∷ at_percent_operator ∷ at_slash_operator ∷ at_star_operator ∷ at_word w_as ∷ at_colons ∷ at_arguments ∷ at_arrow ∷ at_dot ∷ at_question ∷ at_bracket ∷ at_paren ∷ at_whole_expression ∷ at_lifetime ∷ at_unfinished ∷ at_mark greater_greater_equals ∷ at_mark less_less_equals ∷ at_mark bar_equals ∷ at_mark ampersand_equals ∷ at_mark caret_equals ∷ at_mark percent_equals ∷ at_mark slash_equals ∷ at_mark star_equals ∷ at_mark minus_equals ∷ at_mark plus_equals ∷ at_equals_operator ∷ at_word w_else ∷ at_mark greater_equals ∷ at_mark less_equals ∷ at_greater_operator ∷ at_less_operator ∷ at_mark not_equals ∷ at_mark equal_equal ∷ at_turbofish ∷ []; shuns = [] }
+shown_summary_of false disjunction = record { stays = Punctuation minus ∷ Punctuation star ∷ Punctuation ampersand ∷ Word w_true ∷ Word w_false ∷ Literal Str ∷ Literal ByteStr ∷ Literal CStr ∷ Literal Byte ∷ Literal Char ∷ Literal Int ∷ Literal Float ∷ Punctuation colons ∷ Name ∷ Word w_union ∷ Word w_auto ∷ Word w_default ∷ Word w_safe ∷ Word w_self ∷ Word w_Self_type ∷ Word w_super ∷ Word w_crate ∷ Delimited Paren false ∷ Delimited Bracket false ∷ Delimited None false ∷ Word w_if ∷ Punctuation lifetime_mark ∷ Delimited Brace false ∷ Word w_loop ∷ Word w_while ∷ Word w_for ∷ Word w_return ∷ Word w_break ∷ Word w_continue ∷ []; moves = move (Punctuation pound) (Punctuation pound) [] ∷ move (Punctuation arrow) (Punctuation minus) [] ∷ move (Punctuation minus_equals) (Punctuation minus) [] ∷ move (Punctuation exclamation) (Punctuation exclamation) [] ∷ move (Punctuation not_equals) (Punctuation exclamation) [] ∷ move (Punctuation star_equals) (Punctuation star) [] ∷ move (Punctuation and_and) (Punctuation ampersand) [] ∷ move (Punctuation ampersand_equals) (Punctuation ampersand) [] ∷ move (Word w_unsafe) (Word w_unsafe) [] ∷ move (Punctuation less) (Punctuation less) [] ∷ move (Punctuation less_less_equals) (Punctuation less) [] ∷ move (Punctuation less_equals) (Punctuation less) [] ∷ move (Punctuation less_less) (Punctuation less) [] ∷ []; nullable = false; gone = []; ends = at_equals ∷ at_paren ∷ at_less ∷ (((at_colons or_else at_less_only or_else at_paren or_else at_word w_as) but_not at_colons) but_not at_word w_as) ∷ (at_colons but_not at_colons) ∷ ((at_bang or_else at_colons and_also ahead Before_macro) but_not at_colons) ∷ ((at_path_rest and_also ahead Bang_brace) but_not at_colons) ∷ ((at_path_rest and_also ahead Bang_name) but_not at_colons) ∷ at_name ∷ at_brace ∷ at_word w_trait ∷ (at_word w_unsafe or_else at_word w_impl) ∷ ended ∷ (at_paren but_not at_paren) ∷ ((((at_colons or_else at_less_only or_else at_paren or_else at_word w_as) but_not at_colons) but_not at_paren) but_not at_word w_as) ∷ ((((at_colons or_else at_less_only or_else at_paren or_else at_word w_as) but_not at_colons) but_not at_word w_as) but_not at_paren) ∷ []; halts = at_mark or_or ∷ at_mark and_and ∷ at_bar_operator ∷ at_caret_operator ∷ at_ampersand_operator ∷ at_greater_greater_operator ∷ at_less_less_operator ∷ at_minus_operator ∷ at_plus_operator ∷ at_percent_operator ∷ at_slash_operator ∷ at_star_operator ∷ at_word w_as ∷ at_colons ∷ at_arguments ∷ at_arrow ∷ at_dot ∷ at_question ∷ at_bracket ∷ at_paren ∷ at_whole_expression ∷ at_lifetime ∷ at_unfinished ∷ at_mark greater_greater_equals ∷ at_mark less_less_equals ∷ at_mark bar_equals ∷ at_mark ampersand_equals ∷ at_mark caret_equals ∷ at_mark percent_equals ∷ at_mark slash_equals ∷ at_mark star_equals ∷ at_mark minus_equals ∷ at_mark plus_equals ∷ at_equals_operator ∷ at_word w_else ∷ at_mark greater_equals ∷ at_mark less_equals ∷ at_greater_operator ∷ at_less_operator ∷ at_mark not_equals ∷ at_mark equal_equal ∷ at_turbofish ∷ []; shuns = [] }
+shown_summary_of false assigned = record { stays = Punctuation equals ∷ Punctuation plus_equals ∷ Punctuation minus_equals ∷ Punctuation star_equals ∷ Punctuation slash_equals ∷ Punctuation percent_equals ∷ Punctuation caret_equals ∷ Punctuation ampersand_equals ∷ Punctuation bar_equals ∷ Punctuation greater_greater_equals ∷ []; moves = move (Punctuation (61 ∷ 62 ∷ [])) (Punctuation equals) [] ∷ move (Punctuation less_less_equals) (Punctuation less_less_equals) [] ∷ []; nullable = true; gone = []; ends = at_equals ∷ at_paren ∷ at_less ∷ (((at_colons or_else at_less_only or_else at_paren or_else at_word w_as) but_not at_colons) but_not at_word w_as) ∷ (at_colons but_not at_colons) ∷ ((at_bang or_else at_colons and_also ahead Before_macro) but_not at_colons) ∷ ((at_path_rest and_also ahead Bang_brace) but_not at_colons) ∷ ((at_path_rest and_also ahead Bang_name) but_not at_colons) ∷ at_name ∷ at_brace ∷ at_word w_trait ∷ (at_word w_unsafe or_else at_word w_impl) ∷ ended ∷ (at_paren but_not at_paren) ∷ ((((at_colons or_else at_less_only or_else at_paren or_else at_word w_as) but_not at_colons) but_not at_paren) but_not at_word w_as) ∷ ((((at_colons or_else at_less_only or_else at_paren or_else at_word w_as) but_not at_colons) but_not at_word w_as) but_not at_paren) ∷ []; halts = at_unfinished ∷ at_mark greater_greater_equals ∷ at_mark less_less_equals ∷ at_mark bar_equals ∷ at_mark ampersand_equals ∷ at_mark caret_equals ∷ at_mark percent_equals ∷ at_mark slash_equals ∷ at_mark star_equals ∷ at_mark minus_equals ∷ at_mark plus_equals ∷ at_equals_operator ∷ at_mark or_or ∷ at_mark and_and ∷ at_mark greater_equals ∷ at_mark less_equals ∷ at_greater_operator ∷ at_less_operator ∷ at_mark not_equals ∷ at_mark equal_equal ∷ at_bar_operator ∷ at_caret_operator ∷ at_ampersand_operator ∷ at_greater_greater_operator ∷ at_less_less_operator ∷ at_minus_operator ∷ at_plus_operator ∷ at_percent_operator ∷ at_slash_operator ∷ at_star_operator ∷ at_word w_as ∷ at_dot ∷ at_question ∷ at_bracket ∷ at_paren ∷ at_whole_expression ∷ at_lifetime ∷ at_colons ∷ at_arguments ∷ at_arrow ∷ at_word w_else ∷ at_turbofish ∷ []; shuns = [] }
+shown_summary_of false whole_expression = record { stays = Punctuation minus ∷ Punctuation star ∷ Punctuation ampersand ∷ Word w_true ∷ Word w_false ∷ Literal Str ∷ Literal ByteStr ∷ Literal CStr ∷ Literal Byte ∷ Literal Char ∷ Literal Int ∷ Literal Float ∷ Punctuation colons ∷ Name ∷ Word w_union ∷ Word w_auto ∷ Word w_default ∷ Word w_safe ∷ Word w_self ∷ Word w_Self_type ∷ Word w_super ∷ Word w_crate ∷ Delimited Paren false ∷ Delimited Bracket false ∷ Delimited None false ∷ Word w_if ∷ Punctuation lifetime_mark ∷ Delimited Brace false ∷ Word w_loop ∷ Word w_while ∷ Word w_for ∷ Word w_return ∷ Word w_break ∷ Word w_continue ∷ []; moves = move (Punctuation pound) (Punctuation pound) [] ∷ move (Punctuation arrow) (Punctuation minus) [] ∷ move (Punctuation minus_equals) (Punctuation minus) [] ∷ move (Punctuation exclamation) (Punctuation exclamation) [] ∷ move (Punctuation not_equals) (Punctuation exclamation) [] ∷ move (Punctuation star_equals) (Punctuation star) [] ∷ move (Punctuation and_and) (Punctuation ampersand) [] ∷ move (Punctuation ampersand_equals) (Punctuation ampersand) [] ∷ move (Word w_unsafe) (Word w_unsafe) [] ∷ move (Punctuation less) (Punctuation less) [] ∷ move (Punctuation less_less_equals) (Punctuation less) [] ∷ move (Punctuation less_equals) (Punctuation less) [] ∷ move (Punctuation less_less) (Punctuation less) [] ∷ []; nullable = false; gone = []; ends = at_equals ∷ at_paren ∷ at_less ∷ (((at_colons or_else at_less_only or_else at_paren or_else at_word w_as) but_not at_colons) but_not at_word w_as) ∷ (at_colons but_not at_colons) ∷ ((at_bang or_else at_colons and_also ahead Before_macro) but_not at_colons) ∷ ((at_path_rest and_also ahead Bang_brace) but_not at_colons) ∷ ((at_path_rest and_also ahead Bang_name) but_not at_colons) ∷ at_name ∷ at_brace ∷ at_word w_trait ∷ (at_word w_unsafe or_else at_word w_impl) ∷ ended ∷ (at_paren but_not at_paren) ∷ ((((at_colons or_else at_less_only or_else at_paren or_else at_word w_as) but_not at_colons) but_not at_paren) but_not at_word w_as) ∷ ((((at_colons or_else at_less_only or_else at_paren or_else at_word w_as) but_not at_colons) but_not at_word w_as) but_not at_paren) ∷ []; halts = at_unfinished ∷ at_mark greater_greater_equals ∷ at_mark less_less_equals ∷ at_mark bar_equals ∷ at_mark ampersand_equals ∷ at_mark caret_equals ∷ at_mark percent_equals ∷ at_mark slash_equals ∷ at_mark star_equals ∷ at_mark minus_equals ∷ at_mark plus_equals ∷ at_equals_operator ∷ at_mark or_or ∷ at_mark and_and ∷ at_bar_operator ∷ at_caret_operator ∷ at_ampersand_operator ∷ at_greater_greater_operator ∷ at_less_less_operator ∷ at_minus_operator ∷ at_plus_operator ∷ at_percent_operator ∷ at_slash_operator ∷ at_star_operator ∷ at_word w_as ∷ at_colons ∷ at_arguments ∷ at_arrow ∷ at_dot ∷ at_question ∷ at_bracket ∷ at_paren ∷ at_whole_expression ∷ at_lifetime ∷ at_word w_else ∷ at_mark greater_equals ∷ at_mark less_equals ∷ at_greater_operator ∷ at_less_operator ∷ at_mark not_equals ∷ at_mark equal_equal ∷ at_turbofish ∷ []; shuns = [] }
+shown_summary_of false operand_rest = record { stays = Delimited Paren false ∷ Delimited Bracket false ∷ Punctuation question ∷ Punctuation dot ∷ Word w_as ∷ Punctuation star ∷ Punctuation slash ∷ Punctuation percent ∷ Punctuation plus ∷ Punctuation minus ∷ Punctuation greater_greater ∷ Punctuation ampersand ∷ Punctuation caret ∷ Punctuation bar ∷ Punctuation equal_equal ∷ Punctuation greater ∷ Punctuation greater_equals ∷ Punctuation and_and ∷ Punctuation or_or ∷ Punctuation equals ∷ Punctuation plus_equals ∷ Punctuation minus_equals ∷ Punctuation star_equals ∷ Punctuation slash_equals ∷ Punctuation percent_equals ∷ Punctuation caret_equals ∷ Punctuation ampersand_equals ∷ Punctuation bar_equals ∷ Punctuation greater_greater_equals ∷ []; moves = move (Punctuation arrow) (Punctuation minus) [] ∷ move (Punctuation less_less) (Punctuation less_less) [] ∷ move (Punctuation not_equals) (Punctuation not_equals) [] ∷ move (Punctuation less) (Punctuation less) [] ∷ move (Punctuation less_equals) (Punctuation less_equals) [] ∷ move (Punctuation (61 ∷ 62 ∷ [])) (Punctuation equals) [] ∷ move (Punctuation less_less_equals) (Punctuation less_less_equals) [] ∷ []; nullable = true; gone = []; ends = at_equals ∷ at_paren ∷ at_less ∷ (((at_colons or_else at_less_only or_else at_paren or_else at_word w_as) but_not at_colons) but_not at_word w_as) ∷ (at_colons but_not at_colons) ∷ ((at_bang or_else at_colons and_also ahead Before_macro) but_not at_colons) ∷ ((at_path_rest and_also ahead Bang_brace) but_not at_colons) ∷ ((at_path_rest and_also ahead Bang_name) but_not at_colons) ∷ at_name ∷ at_brace ∷ at_word w_trait ∷ (at_word w_unsafe or_else at_word w_impl) ∷ ended ∷ (at_paren but_not at_paren) ∷ ((((at_colons or_else at_less_only or_else at_paren or_else at_word w_as) but_not at_colons) but_not at_paren) but_not at_word w_as) ∷ ((((at_colons or_else at_less_only or_else at_paren or_else at_word w_as) but_not at_colons) but_not at_word w_as) but_not at_paren) ∷ []; halts = at_unfinished ∷ at_mark greater_greater_equals ∷ at_mark less_less_equals ∷ at_mark bar_equals ∷ at_mark ampersand_equals ∷ at_mark caret_equals ∷ at_mark percent_equals ∷ at_mark slash_equals ∷ at_mark star_equals ∷ at_mark minus_equals ∷ at_mark plus_equals ∷ at_equals_operator ∷ at_mark or_or ∷ at_mark and_and ∷ at_bar_operator ∷ at_caret_operator ∷ at_ampersand_operator ∷ at_greater_greater_operator ∷ at_less_less_operator ∷ at_minus_operator ∷ at_plus_operator ∷ at_percent_operator ∷ at_slash_operator ∷ at_star_operator ∷ at_word w_as ∷ at_colons ∷ at_arguments ∷ at_arrow ∷ at_dot ∷ at_question ∷ at_bracket ∷ at_paren ∷ at_whole_expression ∷ at_lifetime ∷ at_word w_else ∷ at_mark greater_equals ∷ at_mark less_equals ∷ at_greater_operator ∷ at_less_operator ∷ at_mark not_equals ∷ at_mark equal_equal ∷ at_turbofish ∷ []; shuns = [] }
+shown_summary_of false statements = record { stays = Punctuation semicolon ∷ Word w_crate ∷ Punctuation colons ∷ Name ∷ Word w_union ∷ Word w_auto ∷ Word w_default ∷ Word w_safe ∷ Word w_self ∷ Word w_Self_type ∷ Word w_super ∷ Word w_let ∷ Word w_if ∷ Punctuation lifetime_mark ∷ Delimited Brace false ∷ Word w_loop ∷ Word w_while ∷ Word w_for ∷ Punctuation pound ∷ Punctuation minus ∷ Punctuation star ∷ Punctuation ampersand ∷ Word w_true ∷ Word w_false ∷ Literal Str ∷ Literal ByteStr ∷ Literal CStr ∷ Literal Byte ∷ Literal Char ∷ Literal Int ∷ Literal Float ∷ Delimited Paren false ∷ Delimited Bracket false ∷ Delimited None false ∷ Word w_return ∷ Word w_break ∷ Word w_continue ∷ []; moves = move (Punctuation pound) (Punctuation pound) [] ∷ move (Word w_unsafe) (Word w_unsafe) [] ∷ move (Punctuation arrow) (Punctuation minus) [] ∷ move (Punctuation minus_equals) (Punctuation minus) [] ∷ move (Punctuation exclamation) (Punctuation exclamation) [] ∷ move (Punctuation not_equals) (Punctuation exclamation) [] ∷ move (Punctuation star_equals) (Punctuation star) [] ∷ move (Punctuation and_and) (Punctuation ampersand) [] ∷ move (Punctuation ampersand_equals) (Punctuation ampersand) [] ∷ move (Punctuation less) (Punctuation less) [] ∷ move (Punctuation less_less_equals) (Punctuation less) [] ∷ move (Punctuation less_equals) (Punctuation less) [] ∷ move (Punctuation less_less) (Punctuation less) [] ∷ []; nullable = true; gone = []; ends = ended ∷ at_postfix_mark ∷ at_equals ∷ at_paren ∷ at_less ∷ (((at_colons or_else at_less_only or_else at_paren or_else at_word w_as) but_not at_colons) but_not at_word w_as) ∷ (at_colons but_not at_colons) ∷ ((at_bang or_else at_colons and_also ahead Before_macro) but_not at_colons) ∷ ((at_path_rest and_also ahead Bang_brace) but_not at_colons) ∷ ((at_path_rest and_also ahead Bang_name) but_not at_colons) ∷ at_name ∷ at_brace ∷ at_word w_trait ∷ (at_word w_unsafe or_else at_word w_impl) ∷ (at_paren but_not at_paren) ∷ ((((at_colons or_else at_less_only or_else at_paren or_else at_word w_as) but_not at_colons) but_not at_paren) but_not at_word w_as) ∷ ((((at_colons or_else at_less_only or_else at_paren or_else at_word w_as) but_not at_colons) but_not at_word w_as) but_not at_paren) ∷ []; halts = at_semicolon ∷ at_postfix_mark ∷ at_unfinished ∷ at_mark greater_greater_equals ∷ at_mark less_less_equals ∷ at_mark bar_equals ∷ at_mark ampersand_equals ∷ at_mark caret_equals ∷ at_mark percent_equals ∷ at_mark slash_equals ∷ at_mark star_equals ∷ at_mark minus_equals ∷ at_mark plus_equals ∷ at_equals_operator ∷ at_mark or_or ∷ at_mark and_and ∷ at_mark greater_equals ∷ at_mark less_equals ∷ at_greater_operator ∷ at_less_operator ∷ at_mark not_equals ∷ at_mark equal_equal ∷ at_bar_operator ∷ at_caret_operator ∷ at_ampersand_operator ∷ at_greater_greater_operator ∷ at_less_less_operator ∷ at_minus_operator ∷ at_plus_operator ∷ at_percent_operator ∷ at_slash_operator ∷ at_star_operator ∷ at_word w_as ∷ at_dot ∷ at_question ∷ at_bracket ∷ at_paren ∷ at_colons ∷ at_word w_else ∷ at_whole_expression ∷ at_lifetime ∷ at_arguments ∷ at_arrow ∷ at_turbofish ∷ []; shuns = [] }
+shown_summary_of false statement_rest = record { stays = Word w_crate ∷ Punctuation colons ∷ Name ∷ Word w_union ∷ Word w_auto ∷ Word w_default ∷ Word w_safe ∷ Word w_self ∷ Word w_Self_type ∷ Word w_super ∷ Word w_let ∷ Word w_if ∷ Punctuation lifetime_mark ∷ Delimited Brace false ∷ Word w_loop ∷ Word w_while ∷ Word w_for ∷ Punctuation pound ∷ Punctuation minus ∷ Punctuation star ∷ Punctuation ampersand ∷ Word w_true ∷ Word w_false ∷ Literal Str ∷ Literal ByteStr ∷ Literal CStr ∷ Literal Byte ∷ Literal Char ∷ Literal Int ∷ Literal Float ∷ Delimited Paren false ∷ Delimited Bracket false ∷ Delimited None false ∷ Word w_return ∷ Word w_break ∷ Word w_continue ∷ []; moves = move (Word w_unsafe) (Word w_unsafe) [] ∷ move (Punctuation arrow) (Punctuation minus) [] ∷ move (Punctuation minus_equals) (Punctuation minus) [] ∷ move (Punctuation exclamation) (Punctuation exclamation) [] ∷ move (Punctuation not_equals) (Punctuation exclamation) [] ∷ move (Punctuation star_equals) (Punctuation star) [] ∷ move (Punctuation and_and) (Punctuation ampersand) [] ∷ move (Punctuation ampersand_equals) (Punctuation ampersand) [] ∷ move (Punctuation less) (Punctuation less) [] ∷ move (Punctuation less_less_equals) (Punctuation less) [] ∷ move (Punctuation less_equals) (Punctuation less) [] ∷ move (Punctuation less_less) (Punctuation less) [] ∷ []; nullable = false; gone = []; ends = ended ∷ at_postfix_mark ∷ at_equals ∷ at_paren ∷ at_less ∷ (((at_colons or_else at_less_only or_else at_paren or_else at_word w_as) but_not at_colons) but_not at_word w_as) ∷ (at_colons but_not at_colons) ∷ ((at_bang or_else at_colons and_also ahead Before_macro) but_not at_colons) ∷ ((at_path_rest and_also ahead Bang_brace) but_not at_colons) ∷ ((at_path_rest and_also ahead Bang_name) but_not at_colons) ∷ at_name ∷ at_brace ∷ at_word w_trait ∷ (at_word w_unsafe or_else at_word w_impl) ∷ (at_paren but_not at_paren) ∷ ((((at_colons or_else at_less_only or_else at_paren or_else at_word w_as) but_not at_colons) but_not at_paren) but_not at_word w_as) ∷ ((((at_colons or_else at_less_only or_else at_paren or_else at_word w_as) but_not at_colons) but_not at_word w_as) but_not at_paren) ∷ []; halts = at_semicolon ∷ at_postfix_mark ∷ at_unfinished ∷ at_mark greater_greater_equals ∷ at_mark less_less_equals ∷ at_mark bar_equals ∷ at_mark ampersand_equals ∷ at_mark caret_equals ∷ at_mark percent_equals ∷ at_mark slash_equals ∷ at_mark star_equals ∷ at_mark minus_equals ∷ at_mark plus_equals ∷ at_equals_operator ∷ at_mark or_or ∷ at_mark and_and ∷ at_mark greater_equals ∷ at_mark less_equals ∷ at_greater_operator ∷ at_less_operator ∷ at_mark not_equals ∷ at_mark equal_equal ∷ at_bar_operator ∷ at_caret_operator ∷ at_ampersand_operator ∷ at_greater_greater_operator ∷ at_less_less_operator ∷ at_minus_operator ∷ at_plus_operator ∷ at_percent_operator ∷ at_slash_operator ∷ at_star_operator ∷ at_word w_as ∷ at_dot ∷ at_question ∷ at_bracket ∷ at_paren ∷ at_colons ∷ at_word w_else ∷ at_whole_expression ∷ at_lifetime ∷ at_arguments ∷ at_arrow ∷ at_turbofish ∷ []; shuns = [] }
+shown_summary_of false after_block = record { stays = Punctuation semicolon ∷ Punctuation question ∷ Punctuation dot ∷ Word w_crate ∷ Punctuation colons ∷ Name ∷ Word w_union ∷ Word w_auto ∷ Word w_default ∷ Word w_safe ∷ Word w_self ∷ Word w_Self_type ∷ Word w_super ∷ Word w_let ∷ Word w_if ∷ Punctuation lifetime_mark ∷ Delimited Brace false ∷ Word w_loop ∷ Word w_while ∷ Word w_for ∷ Punctuation pound ∷ Punctuation minus ∷ Punctuation star ∷ Punctuation ampersand ∷ Word w_true ∷ Word w_false ∷ Literal Str ∷ Literal ByteStr ∷ Literal CStr ∷ Literal Byte ∷ Literal Char ∷ Literal Int ∷ Literal Float ∷ Delimited Paren false ∷ Delimited Bracket false ∷ Delimited None false ∷ Word w_return ∷ Word w_break ∷ Word w_continue ∷ []; moves = move (Punctuation pound) (Punctuation pound) [] ∷ move (Word w_unsafe) (Word w_unsafe) [] ∷ move (Punctuation arrow) (Punctuation minus) [] ∷ move (Punctuation minus_equals) (Punctuation minus) [] ∷ move (Punctuation exclamation) (Punctuation exclamation) [] ∷ move (Punctuation not_equals) (Punctuation exclamation) [] ∷ move (Punctuation star_equals) (Punctuation star) [] ∷ move (Punctuation and_and) (Punctuation ampersand) [] ∷ move (Punctuation ampersand_equals) (Punctuation ampersand) [] ∷ move (Punctuation less) (Punctuation less) [] ∷ move (Punctuation less_less_equals) (Punctuation less) [] ∷ move (Punctuation less_equals) (Punctuation less) [] ∷ move (Punctuation less_less) (Punctuation less) [] ∷ []; nullable = true; gone = []; ends = ended ∷ at_postfix_mark ∷ at_equals ∷ at_paren ∷ at_less ∷ (((at_colons or_else at_less_only or_else at_paren or_else at_word w_as) but_not at_colons) but_not at_word w_as) ∷ (at_colons but_not at_colons) ∷ ((at_bang or_else at_colons and_also ahead Before_macro) but_not at_colons) ∷ ((at_path_rest and_also ahead Bang_brace) but_not at_colons) ∷ ((at_path_rest and_also ahead Bang_name) but_not at_colons) ∷ at_name ∷ at_brace ∷ at_word w_trait ∷ (at_word w_unsafe or_else at_word w_impl) ∷ (at_paren but_not at_paren) ∷ ((((at_colons or_else at_less_only or_else at_paren or_else at_word w_as) but_not at_colons) but_not at_paren) but_not at_word w_as) ∷ ((((at_colons or_else at_less_only or_else at_paren or_else at_word w_as) but_not at_colons) but_not at_word w_as) but_not at_paren) ∷ []; halts = at_semicolon ∷ at_postfix_mark ∷ at_unfinished ∷ at_mark greater_greater_equals ∷ at_mark less_less_equals ∷ at_mark bar_equals ∷ at_mark ampersand_equals ∷ at_mark caret_equals ∷ at_mark percent_equals ∷ at_mark slash_equals ∷ at_mark star_equals ∷ at_mark minus_equals ∷ at_mark plus_equals ∷ at_equals_operator ∷ at_mark or_or ∷ at_mark and_and ∷ at_mark greater_equals ∷ at_mark less_equals ∷ at_greater_operator ∷ at_less_operator ∷ at_mark not_equals ∷ at_mark equal_equal ∷ at_bar_operator ∷ at_caret_operator ∷ at_ampersand_operator ∷ at_greater_greater_operator ∷ at_less_less_operator ∷ at_minus_operator ∷ at_plus_operator ∷ at_percent_operator ∷ at_slash_operator ∷ at_star_operator ∷ at_word w_as ∷ at_dot ∷ at_question ∷ at_bracket ∷ at_paren ∷ at_colons ∷ at_word w_else ∷ at_whole_expression ∷ at_lifetime ∷ at_arguments ∷ at_arrow ∷ at_turbofish ∷ []; shuns = [] }
+shown_summary_of false after_expression = record { stays = Punctuation semicolon ∷ []; moves = []; nullable = true; gone = []; ends = ended ∷ at_postfix_mark ∷ at_equals ∷ at_paren ∷ at_less ∷ (((at_colons or_else at_less_only or_else at_paren or_else at_word w_as) but_not at_colons) but_not at_word w_as) ∷ (at_colons but_not at_colons) ∷ ((at_bang or_else at_colons and_also ahead Before_macro) but_not at_colons) ∷ ((at_path_rest and_also ahead Bang_brace) but_not at_colons) ∷ ((at_path_rest and_also ahead Bang_name) but_not at_colons) ∷ at_name ∷ at_brace ∷ at_word w_trait ∷ (at_word w_unsafe or_else at_word w_impl) ∷ (at_paren but_not at_paren) ∷ ((((at_colons or_else at_less_only or_else at_paren or_else at_word w_as) but_not at_colons) but_not at_paren) but_not at_word w_as) ∷ ((((at_colons or_else at_less_only or_else at_paren or_else at_word w_as) but_not at_colons) but_not at_word w_as) but_not at_paren) ∷ []; halts = at_semicolon ∷ at_postfix_mark ∷ at_unfinished ∷ at_mark greater_greater_equals ∷ at_mark less_less_equals ∷ at_mark bar_equals ∷ at_mark ampersand_equals ∷ at_mark caret_equals ∷ at_mark percent_equals ∷ at_mark slash_equals ∷ at_mark star_equals ∷ at_mark minus_equals ∷ at_mark plus_equals ∷ at_equals_operator ∷ at_mark or_or ∷ at_mark and_and ∷ at_mark greater_equals ∷ at_mark less_equals ∷ at_greater_operator ∷ at_less_operator ∷ at_mark not_equals ∷ at_mark equal_equal ∷ at_bar_operator ∷ at_caret_operator ∷ at_ampersand_operator ∷ at_greater_greater_operator ∷ at_less_less_operator ∷ at_minus_operator ∷ at_plus_operator ∷ at_percent_operator ∷ at_slash_operator ∷ at_star_operator ∷ at_word w_as ∷ at_dot ∷ at_question ∷ at_bracket ∷ at_paren ∷ at_colons ∷ at_word w_else ∷ at_whole_expression ∷ at_lifetime ∷ at_arguments ∷ at_arrow ∷ at_turbofish ∷ []; shuns = [] }
+shown_summary_of false statement = record { stays = Word w_crate ∷ Punctuation colons ∷ Name ∷ Word w_union ∷ Word w_auto ∷ Word w_default ∷ Word w_safe ∷ Word w_self ∷ Word w_Self_type ∷ Word w_super ∷ Word w_let ∷ Word w_if ∷ Punctuation lifetime_mark ∷ Delimited Brace false ∷ Word w_loop ∷ Word w_while ∷ Word w_for ∷ Punctuation pound ∷ Punctuation minus ∷ Punctuation star ∷ Punctuation ampersand ∷ Word w_true ∷ Word w_false ∷ Literal Str ∷ Literal ByteStr ∷ Literal CStr ∷ Literal Byte ∷ Literal Char ∷ Literal Int ∷ Literal Float ∷ Delimited Paren false ∷ Delimited Bracket false ∷ Delimited None false ∷ Word w_return ∷ Word w_break ∷ Word w_continue ∷ []; moves = move (Punctuation pound) (Punctuation pound) [] ∷ move (Word w_unsafe) (Word w_unsafe) [] ∷ move (Punctuation arrow) (Punctuation minus) [] ∷ move (Punctuation minus_equals) (Punctuation minus) [] ∷ move (Punctuation exclamation) (Punctuation exclamation) [] ∷ move (Punctuation not_equals) (Punctuation exclamation) [] ∷ move (Punctuation star_equals) (Punctuation star) [] ∷ move (Punctuation and_and) (Punctuation ampersand) [] ∷ move (Punctuation ampersand_equals) (Punctuation ampersand) [] ∷ move (Punctuation less) (Punctuation less) [] ∷ move (Punctuation less_less_equals) (Punctuation less) [] ∷ move (Punctuation less_equals) (Punctuation less) [] ∷ move (Punctuation less_less) (Punctuation less) [] ∷ []; nullable = false; gone = []; ends = []; halts = at_postfix_mark ∷ at_semicolon ∷ at_word w_else ∷ []; shuns = [] }
+shown_summary_of false statement_end = record { stays = Punctuation semicolon ∷ Punctuation question ∷ Punctuation dot ∷ []; moves = []; nullable = true; gone = []; ends = []; halts = at_postfix_mark ∷ at_semicolon ∷ []; shuns = [] }
+shown_summary_of false local = record { stays = Word w_let ∷ []; moves = []; nullable = false; gone = []; ends = []; halts = []; shuns = [] }
+shown_summary_of true attributes = record { stays = Punctuation pound ∷ []; moves = []; nullable = true; gone = []; ends = []; halts = at_pound ∷ []; shuns = [] }
+shown_summary_of true inner_attributes = record { stays = []; moves = []; nullable = false; gone = []; ends = []; halts = []; shuns = [] }
+shown_summary_of true meta = record { stays = []; moves = []; nullable = false; gone = []; ends = []; halts = []; shuns = [] }
+shown_summary_of true unsafe_path = record { stays = []; moves = []; nullable = false; gone = []; ends = []; halts = []; shuns = [] }
+shown_summary_of true unsafe_word = record { stays = []; moves = []; nullable = false; gone = []; ends = []; halts = []; shuns = [] }
+shown_summary_of true meta_value = record { stays = []; moves = []; nullable = false; gone = []; ends = []; halts = []; shuns = [] }
+shown_summary_of true module_path = record { stays = Punctuation colons ∷ Name ∷ Word w_union ∷ Word w_auto ∷ Word w_default ∷ Word w_safe ∷ Word w_self ∷ Word w_Self_type ∷ Word w_super ∷ Word w_crate ∷ []; moves = []; nullable = false; gone = []; ends = at_equals ∷ at_paren ∷ at_less ∷ ((at_colons or_else at_less_only or_else at_paren or_else at_word w_as) but_not at_colons) ∷ (at_colons but_not at_colons) ∷ ((at_bang or_else at_colons and_also ahead Before_macro) but_not at_colons) ∷ ((at_path_rest and_also ahead Bang_brace) but_not at_colons) ∷ ((at_path_rest and_also ahead Bang_name) but_not at_colons) ∷ at_name ∷ at_brace ∷ at_word w_trait ∷ (at_word w_unsafe or_else at_word w_impl) ∷ ended ∷ []; halts = at_colons ∷ []; shuns = [] }
+shown_summary_of true module_words = record { stays = Name ∷ Word w_union ∷ Word w_auto ∷ Word w_default ∷ Word w_safe ∷ Word w_self ∷ Word w_Self_type ∷ Word w_super ∷ Word w_crate ∷ []; moves = []; nullable = false; gone = []; ends = at_equals ∷ at_paren ∷ at_less ∷ ((at_colons or_else at_less_only or_else at_paren or_else at_word w_as) but_not at_colons) ∷ (at_colons but_not at_colons) ∷ ((at_bang or_else at_colons and_also ahead Before_macro) but_not at_colons) ∷ ((at_path_rest and_also ahead Bang_brace) but_not at_colons) ∷ ((at_path_rest and_also ahead Bang_name) but_not at_colons) ∷ at_name ∷ at_brace ∷ at_word w_trait ∷ (at_word w_unsafe or_else at_word w_impl) ∷ ended ∷ []; halts = at_colons ∷ []; shuns = [] }
+shown_summary_of true visibility = record { stays = Word w_pub ∷ []; moves = []; nullable = true; gone = Delimited None true ∷ []; ends = []; halts = at_restriction ∷ at_empty_group ∷ at_word w_pub ∷ []; shuns = at_empty_group ∷ at_word w_pub ∷ [] }
+shown_summary_of true restriction = record { stays = Word w_in ∷ Punctuation colons ∷ Name ∷ Word w_union ∷ Word w_auto ∷ Word w_default ∷ Word w_safe ∷ Word w_self ∷ Word w_Self_type ∷ Word w_super ∷ Word w_crate ∷ []; moves = []; nullable = false; gone = []; ends = at_equals ∷ at_paren ∷ at_less ∷ ((at_colons or_else at_less_only or_else at_paren or_else at_word w_as) but_not at_colons) ∷ (at_colons but_not at_colons) ∷ ((at_bang or_else at_colons and_also ahead Before_macro) but_not at_colons) ∷ ((at_path_rest and_also ahead Bang_brace) but_not at_colons) ∷ ((at_path_rest and_also ahead Bang_name) but_not at_colons) ∷ at_name ∷ at_brace ∷ at_word w_trait ∷ (at_word w_unsafe or_else at_word w_impl) ∷ ended ∷ []; halts = at_colons ∷ []; shuns = [] }
+shown_summary_of true type_path = record { stays = Name ∷ Word w_union ∷ Word w_auto ∷ Word w_default ∷ Word w_safe ∷ Word w_Self_type ∷ Word w_self ∷ Word w_super ∷ Word w_crate ∷ []; moves = move (Punctuation colons) (Punctuation colons) [] ∷ []; nullable = false; gone = []; ends = at_equals ∷ at_paren ∷ at_less ∷ ((at_colons or_else at_less_only or_else at_paren or_else at_word w_as) but_not at_colons) ∷ (at_colons but_not at_colons) ∷ ((at_bang or_else at_colons and_also ahead Before_macro) but_not at_colons) ∷ ((at_path_rest and_also ahead Bang_brace) but_not at_colons) ∷ ((at_path_rest and_also ahead Bang_name) but_not at_colons) ∷ at_name ∷ at_brace ∷ at_word w_trait ∷ (at_word w_unsafe or_else at_word w_impl) ∷ ended ∷ []; halts = at_colons ∷ at_arguments ∷ at_arrow ∷ []; shuns = [] }
+shown_summary_of true type_words = record { stays = Name ∷ Word w_union ∷ Word w_auto ∷ Word w_default ∷ Word w_safe ∷ Word w_Self_type ∷ Word w_self ∷ Word w_super ∷ Word w_crate ∷ []; moves = []; nullable = false; gone = []; ends = at_equals ∷ at_paren ∷ at_less ∷ ((at_colons or_else at_less_only or_else at_paren or_else at_word w_as) but_not at_colons) ∷ (at_colons but_not at_colons) ∷ ((at_bang or_else at_colons and_also ahead Before_macro) but_not at_colons) ∷ ((at_path_rest and_also ahead Bang_brace) but_not at_colons) ∷ ((at_path_rest and_also ahead Bang_name) but_not at_colons) ∷ at_name ∷ at_brace ∷ at_word w_trait ∷ (at_word w_unsafe or_else at_word w_impl) ∷ ended ∷ []; halts = at_colons ∷ at_arguments ∷ at_arrow ∷ []; shuns = [] }
+shown_summary_of true type_arguments = record { stays = Delimited Paren false ∷ Punctuation colons ∷ []; moves = move (Punctuation less) (Punctuation less) [] ∷ move (Punctuation less_less_equals) (Punctuation less) [] ∷ move (Punctuation less_equals) (Punctuation less) [] ∷ move (Punctuation less_less) (Punctuation less) [] ∷ []; nullable = false; gone = []; ends = at_equals ∷ at_paren ∷ at_less ∷ ((at_colons or_else at_less_only or_else at_paren or_else at_word w_as) but_not at_colons) ∷ (at_colons but_not at_colons) ∷ ((at_bang or_else at_colons and_also ahead Before_macro) but_not at_colons) ∷ ((at_path_rest and_also ahead Bang_brace) but_not at_colons) ∷ ((at_path_rest and_also ahead Bang_name) but_not at_colons) ∷ at_name ∷ at_brace ∷ at_word w_trait ∷ (at_word w_unsafe or_else at_word w_impl) ∷ ended ∷ []; halts = at_colons ∷ at_arguments ∷ at_arrow ∷ []; shuns = [] }
+shown_summary_of true return_type = record { stays = []; moves = []; nullable = false; gone = []; ends = []; halts = []; shuns = [] }
+shown_summary_of true generic_arguments = record { stays = []; moves = move (Punctuation less) (Punctuation less) [] ∷ move (Punctuation less_less_equals) (Punctuation less) [] ∷ move (Punctuation less_equals) (Punctuation less) [] ∷ move (Punctuation less_less) (Punctuation less) [] ∷ []; nullable = false; gone = []; ends = []; halts = []; shuns = [] }
+shown_summary_of true generic_argument = record { stays = []; moves = []; nullable = false; gone = []; ends = []; halts = []; shuns = [] }
+shown_summary_of true qualified_path = record { stays = []; moves = move (Punctuation less) (Punctuation less) [] ∷ move (Punctuation less_less_equals) (Punctuation less) [] ∷ move (Punctuation less_equals) (Punctuation less) [] ∷ move (Punctuation less_less) (Punctuation less) [] ∷ []; nullable = false; gone = []; ends = at_equals ∷ at_paren ∷ at_less ∷ ((at_colons or_else at_less_only or_else at_paren or_else at_word w_as) but_not at_colons) ∷ (at_colons but_not at_colons) ∷ ((at_bang or_else at_colons and_also ahead Before_macro) but_not at_colons) ∷ ((at_path_rest and_also ahead Bang_brace) but_not at_colons) ∷ ((at_path_rest and_also ahead Bang_name) but_not at_colons) ∷ at_name ∷ at_brace ∷ at_word w_trait ∷ (at_word w_unsafe or_else at_word w_impl) ∷ ended ∷ []; halts = at_colons ∷ at_arguments ∷ at_arrow ∷ []; shuns = [] }
+shown_summary_of true path_as_type = record { stays = Name ∷ Word w_union ∷ Word w_auto ∷ Word w_default ∷ Word w_safe ∷ Word w_Self_type ∷ Word w_self ∷ Word w_super ∷ Word w_crate ∷ []; moves = move (Punctuation less) (Punctuation less) [] ∷ move (Punctuation less_less_equals) (Punctuation less) [] ∷ move (Punctuation less_equals) (Punctuation less) [] ∷ move (Punctuation less_less) (Punctuation less) [] ∷ move (Punctuation colons) (Punctuation colons) [] ∷ []; nullable = false; gone = []; ends = at_equals ∷ at_paren ∷ at_less ∷ ((at_colons or_else at_less_only or_else at_paren or_else at_word w_as) but_not at_colons) ∷ (at_colons but_not at_colons) ∷ ((at_bang or_else at_colons and_also ahead Before_macro) but_not at_colons) ∷ ((at_path_rest and_also ahead Bang_brace) but_not at_colons) ∷ ((at_path_rest and_also ahead Bang_name) but_not at_colons) ∷ at_name ∷ at_brace ∷ at_word w_trait ∷ (at_word w_unsafe or_else at_word w_impl) ∷ ended ∷ []; halts = at_colons ∷ at_arguments ∷ at_arrow ∷ []; shuns = [] }
+shown_summary_of true type = record { stays = Punctuation ampersand ∷ Punctuation star ∷ Delimited Paren false ∷ Delimited Bracket false ∷ Delimited None false ∷ Name ∷ Word w_union ∷ Word w_auto ∷ Word w_default ∷ Word w_safe ∷ Word w_Self_type ∷ Word w_self ∷ Word w_super ∷ Word w_crate ∷ []; moves = move (Punctuation and_and) (Punctuation ampersand) [] ∷ move (Punctuation ampersand_equals) (Punctuation ampersand) [] ∷ move (Punctuation star_equals) (Punctuation star) [] ∷ move (Punctuation exclamation) (Punctuation exclamation) [] ∷ move (Punctuation not_equals) (Punctuation exclamation) [] ∷ move (Punctuation less) (Punctuation less) [] ∷ move (Punctuation less_less_equals) (Punctuation less) [] ∷ move (Punctuation less_equals) (Punctuation less) [] ∷ move (Punctuation less_less) (Punctuation less) [] ∷ move (Punctuation colons) (Punctuation colons) [] ∷ []; nullable = false; gone = []; ends = at_equals ∷ at_paren ∷ at_less ∷ ((at_colons or_else at_less_only or_else at_paren or_else at_word w_as) but_not at_colons) ∷ (at_colons but_not at_colons) ∷ ((at_bang or_else at_colons and_also ahead Before_macro) but_not at_colons) ∷ ((at_path_rest and_also ahead Bang_brace) but_not at_colons) ∷ ((at_path_rest and_also ahead Bang_name) but_not at_colons) ∷ at_name ∷ at_brace ∷ at_word w_trait ∷ (at_word w_unsafe or_else at_word w_impl) ∷ ended ∷ []; halts = at_colons ∷ at_arguments ∷ at_arrow ∷ []; shuns = [] }
+shown_summary_of true types = record { stays = Punctuation ampersand ∷ Punctuation star ∷ Delimited Paren false ∷ Delimited Bracket false ∷ Delimited None false ∷ Name ∷ Word w_union ∷ Word w_auto ∷ Word w_default ∷ Word w_safe ∷ Word w_Self_type ∷ Word w_self ∷ Word w_super ∷ Word w_crate ∷ []; moves = move (Punctuation and_and) (Punctuation ampersand) [] ∷ move (Punctuation ampersand_equals) (Punctuation ampersand) [] ∷ move (Punctuation star_equals) (Punctuation star) [] ∷ move (Punctuation exclamation) (Punctuation exclamation) [] ∷ move (Punctuation not_equals) (Punctuation exclamation) [] ∷ move (Punctuation less) (Punctuation less) [] ∷ move (Punctuation less_less_equals) (Punctuation less) [] ∷ move (Punctuation less_equals) (Punctuation less) [] ∷ move (Punctuation less_less) (Punctuation less) [] ∷ move (Punctuation colons) (Punctuation colons) [] ∷ []; nullable = true; gone = []; ends = ended ∷ at_equals ∷ at_paren ∷ at_less ∷ ((at_colons or_else at_less_only or_else at_paren or_else at_word w_as) but_not at_colons) ∷ (at_colons but_not at_colons) ∷ ((at_bang or_else at_colons and_also ahead Before_macro) but_not at_colons) ∷ ((at_path_rest and_also ahead Bang_brace) but_not at_colons) ∷ ((at_path_rest and_also ahead Bang_name) but_not at_colons) ∷ at_name ∷ at_brace ∷ at_word w_trait ∷ (at_word w_unsafe or_else at_word w_impl) ∷ []; halts = at_comma ∷ at_colons ∷ at_arguments ∷ at_arrow ∷ []; shuns = [] }
+shown_summary_of true constant = record { stays = Delimited Brace false ∷ Word w_true ∷ Word w_false ∷ Literal Str ∷ Literal ByteStr ∷ Literal CStr ∷ Literal Byte ∷ Literal Char ∷ Literal Int ∷ Literal Float ∷ []; moves = []; nullable = false; gone = []; ends = []; halts = []; shuns = [] }
+shown_summary_of true generics = record { stays = []; moves = []; nullable = false; gone = []; ends = []; halts = []; shuns = [] }
+shown_summary_of true lifetime_parameter = record { stays = []; moves = []; nullable = false; gone = []; ends = []; halts = []; shuns = [] }
+shown_summary_of true lifetimes = record { stays = []; moves = []; nullable = false; gone = []; ends = []; halts = []; shuns = [] }
+shown_summary_of true parameter_bounds = record { stays = []; moves = []; nullable = false; gone = []; ends = []; halts = []; shuns = [] }
+shown_summary_of true bound = record { stays = []; moves = []; nullable = false; gone = []; ends = []; halts = []; shuns = [] }
+shown_summary_of true trait_bound = record { stays = Punctuation question ∷ Word w_for ∷ Name ∷ Word w_union ∷ Word w_auto ∷ Word w_default ∷ Word w_safe ∷ Word w_Self_type ∷ Word w_self ∷ Word w_super ∷ Word w_crate ∷ []; moves = move (Punctuation colons) (Punctuation colons) [] ∷ []; nullable = false; gone = []; ends = at_equals ∷ at_paren ∷ at_less ∷ ((at_colons or_else at_less_only or_else at_paren or_else at_word w_as) but_not at_colons) ∷ (at_colons but_not at_colons) ∷ ((at_bang or_else at_colons and_also ahead Before_macro) but_not at_colons) ∷ ((at_path_rest and_also ahead Bang_brace) but_not at_colons) ∷ ((at_path_rest and_also ahead Bang_name) but_not at_colons) ∷ at_name ∷ at_brace ∷ at_word w_trait ∷ (at_word w_unsafe or_else at_word w_impl) ∷ ended ∷ []; halts = at_colons ∷ at_arguments ∷ at_arrow ∷ []; shuns = [] }
+shown_summary_of true bound_lifetimes = record { stays = []; moves = []; nullable = false; gone = []; ends = []; halts = []; shuns = [] }
+shown_summary_of true lifetime_parameters = record { stays = []; moves = []; nullable = false; gone = []; ends = []; halts = []; shuns = [] }
+shown_summary_of true where_clause = record { stays = []; moves = []; nullable = false; gone = []; ends = []; halts = []; shuns = [] }
+shown_summary_of true predicates = record { stays = []; moves = []; nullable = false; gone = []; ends = []; halts = []; shuns = [] }
+shown_summary_of true predicate = record { stays = []; moves = []; nullable = false; gone = []; ends = []; halts = []; shuns = [] }
+shown_summary_of true predicate_bounds = record { stays = []; moves = []; nullable = false; gone = []; ends = []; halts = []; shuns = [] }
+shown_summary_of true fields_named = record { stays = Delimited Brace false ∷ []; moves = []; nullable = false; gone = []; ends = []; halts = []; shuns = [] }
+shown_summary_of true named_fields = record { stays = []; moves = []; nullable = false; gone = []; ends = []; halts = []; shuns = [] }
+shown_summary_of true named_field = record { stays = []; moves = []; nullable = false; gone = []; ends = []; halts = []; shuns = [] }
+shown_summary_of true nameless_fields = record { stays = Word w_struct ∷ Word w_union ∷ []; moves = []; nullable = false; gone = []; ends = []; halts = []; shuns = [] }
+shown_summary_of true unnamed_field = record { stays = Punctuation pound ∷ Word w_pub ∷ Punctuation ampersand ∷ Punctuation star ∷ Delimited Paren false ∷ Delimited Bracket false ∷ Delimited None false ∷ Name ∷ Word w_union ∷ Word w_auto ∷ Word w_default ∷ Word w_safe ∷ Word w_Self_type ∷ Word w_self ∷ Word w_super ∷ Word w_crate ∷ []; moves = move (Punctuation and_and) (Punctuation ampersand) [] ∷ move (Punctuation ampersand_equals) (Punctuation ampersand) [] ∷ move (Punctuation star_equals) (Punctuation star) [] ∷ move (Punctuation exclamation) (Punctuation exclamation) [] ∷ move (Punctuation not_equals) (Punctuation exclamation) [] ∷ move (Punctuation less) (Punctuation less) [] ∷ move (Punctuation less_less_equals) (Punctuation less) [] ∷ move (Punctuation less_equals) (Punctuation less) [] ∷ move (Punctuation less_less) (Punctuation less) [] ∷ move (Punctuation colons) (Punctuation colons) [] ∷ move (Delimited None true) (Punctuation ampersand) [] ∷ move (Delimited None true) (Punctuation star) [] ∷ move (Delimited None true) (Delimited Paren false) [] ∷ move (Delimited None true) (Delimited Bracket false) [] ∷ move (Delimited None true) (Delimited None false) [] ∷ move (Delimited None true) Name [] ∷ move (Delimited None true) (Word w_union) [] ∷ move (Delimited None true) (Word w_auto) [] ∷ move (Delimited None true) (Word w_default) [] ∷ move (Delimited None true) (Word w_safe) [] ∷ move (Delimited None true) (Word w_Self_type) [] ∷ move (Delimited None true) (Word w_self) [] ∷ move (Delimited None true) (Word w_super) [] ∷ move (Delimited None true) (Word w_crate) [] ∷ move (Delimited None true) (Punctuation exclamation) [] ∷ move (Delimited None true) (Punctuation less) [] ∷ move (Delimited None true) (Punctuation colons) [] ∷ []; nullable = false; gone = []; ends = (at_equals but_not at_equals) ∷ at_paren ∷ at_less ∷ ((at_colons or_else at_less_only or_else at_paren or_else at_word w_as) but_not at_colons) ∷ (at_colons but_not at_colons) ∷ ((at_bang or_else at_colons and_also ahead Before_macro) but_not at_colons) ∷ ((at_path_rest and_also ahead Bang_brace) but_not at_colons) ∷ ((at_path_rest and_also ahead Bang_name) but_not at_colons) ∷ at_name ∷ at_brace ∷ at_word w_trait ∷ (at_word w_unsafe or_else at_word w_impl) ∷ ended ∷ []; halts = at_equals ∷ at_colons ∷ at_arguments ∷ at_arrow ∷ []; shuns = [] }
+shown_summary_of true unnamed_fields = record { stays = Punctuation pound ∷ Word w_pub ∷ Punctuation ampersand ∷ Punctuation star ∷ Delimited Paren false ∷ Delimited Bracket false ∷ Delimited None false ∷ Name ∷ Word w_union ∷ Word w_auto ∷ Word w_default ∷ Word w_safe ∷ Word w_Self_type ∷ Word w_self ∷ Word w_super ∷ Word w_crate ∷ []; moves = move (Punctuation and_and) (Punctuation ampersand) [] ∷ move (Punctuation ampersand_equals) (Punctuation ampersand) [] ∷ move (Punctuation star_equals) (Punctuation star) [] ∷ move (Punctuation exclamation) (Punctuation exclamation) [] ∷ move (Punctuation not_equals) (Punctuation exclamation) [] ∷ move (Punctuation less) (Punctuation less) [] ∷ move (Punctuation less_less_equals) (Punctuation less) [] ∷ move (Punctuation less_equals) (Punctuation less) [] ∷ move (Punctuation less_less) (Punctuation less) [] ∷ move (Punctuation colons) (Punctuation colons) [] ∷ move (Delimited None true) (Punctuation ampersand) [] ∷ move (Delimited None true) (Punctuation star) [] ∷ move (Delimited None true) (Delimited Paren false) [] ∷ move (Delimited None true) (Delimited Bracket false) [] ∷ move (Delimited None true) (Delimited None false) [] ∷ move (Delimited None true) Name [] ∷ move (Delimited None true) (Word w_union) [] ∷ move (Delimited None true) (Word w_auto) [] ∷ move (Delimited None true) (Word w_default) [] ∷ move (Delimited None true) (Word w_safe) [] ∷ move (Delimited None true) (Word w_Self_type) [] ∷ move (Delimited None true) (Word w_self) [] ∷ move (Delimited None true) (Word w_super) [] ∷ move (Delimited None true) (Word w_crate) [] ∷ move (Delimited None true) (Punctuation exclamation) [] ∷ move (Delimited None true) (Punctuation less) [] ∷ move (Delimited None true) (Punctuation colons) [] ∷ []; nullable = true; gone = []; ends = ended ∷ (at_equals but_not at_equals) ∷ at_paren ∷ at_less ∷ ((at_colons or_else at_less_only or_else at_paren or_else at_word w_as) but_not at_colons) ∷ (at_colons but_not at_colons) ∷ ((at_bang or_else at_colons and_also ahead Before_macro) but_not at_colons) ∷ ((at_path_rest and_also ahead Bang_brace) but_not at_colons) ∷ ((at_path_rest and_also ahead Bang_name) but_not at_colons) ∷ at_name ∷ at_brace ∷ at_word w_trait ∷ (at_word w_unsafe or_else at_word w_impl) ∷ []; halts = at_comma ∷ at_equals ∷ at_colons ∷ at_arguments ∷ at_arrow ∷ []; shuns = [] }
+shown_summary_of true fields_unnamed = record { stays = []; moves = []; nullable = false; gone = []; ends = []; halts = []; shuns = [] }
+shown_summary_of true variant = record { stays = []; moves = []; nullable = false; gone = []; ends = []; halts = []; shuns = [] }
+shown_summary_of true variants = record { stays = []; moves = []; nullable = false; gone = []; ends = []; halts = []; shuns = [] }
+shown_summary_of true structure = record { stays = []; moves = []; nullable = false; gone = []; ends = []; halts = []; shuns = [] }
+shown_summary_of true structure_rest = record { stays = []; moves = []; nullable = false; gone = []; ends = []; halts = []; shuns = [] }
+shown_summary_of true structure_body = record { stays = []; moves = []; nullable = false; gone = []; ends = []; halts = []; shuns = [] }
+shown_summary_of true enumeration = record { stays = []; moves = []; nullable = false; gone = []; ends = []; halts = []; shuns = [] }
+shown_summary_of true enumeration_rest = record { stays = []; moves = []; nullable = false; gone = []; ends = []; halts = []; shuns = [] }
+shown_summary_of true union_item = record { stays = []; moves = []; nullable = false; gone = []; ends = []; halts = []; shuns = [] }
+shown_summary_of true union_item_rest = record { stays = []; moves = []; nullable = false; gone = []; ends = []; halts = []; shuns = [] }
+shown_summary_of true derive_input = record { stays = []; moves = []; nullable = false; gone = []; ends = []; halts = []; shuns = [] }
+shown_summary_of true expression_path = record { stays = Punctuation colons ∷ Name ∷ Word w_union ∷ Word w_auto ∷ Word w_default ∷ Word w_safe ∷ Word w_Self_type ∷ Word w_self ∷ Word w_super ∷ Word w_crate ∷ []; moves = []; nullable = false; gone = []; ends = at_equals ∷ at_paren ∷ at_less ∷ ((at_colons or_else at_less_only or_else at_paren or_else at_word w_as) but_not at_colons) ∷ (at_colons but_not at_colons) ∷ ((at_bang or_else at_colons and_also ahead Before_macro) but_not at_colons) ∷ ((at_path_rest and_also ahead Bang_brace) but_not at_colons) ∷ ((at_path_rest and_also ahead Bang_name) but_not at_colons) ∷ at_name ∷ at_brace ∷ at_word w_trait ∷ (at_word w_unsafe or_else at_word w_impl) ∷ ended ∷ []; halts = at_colons ∷ at_turbofish ∷ at_arrow ∷ at_arguments ∷ []; shuns = [] }
+shown_summary_of true expression_words = record { stays = Name ∷ Word w_union ∷ Word w_auto ∷ Word w_default ∷ Word w_safe ∷ Word w_Self_type ∷ Word w_self ∷ Word w_super ∷ Word w_crate ∷ []; moves = []; nullable = false; gone = []; ends = at_equals ∷ at_paren ∷ at_less ∷ ((at_colons or_else at_less_only or_else at_paren or_else at_word w_as) but_not at_colons) ∷ (at_colons but_not at_colons) ∷ ((at_bang or_else at_colons and_also ahead Before_macro) but_not at_colons) ∷ ((at_path_rest and_also ahead Bang_brace) but_not at_colons) ∷ ((at_path_rest and_also ahead Bang_name) but_not at_colons) ∷ at_name ∷ at_brace ∷ at_word w_trait ∷ (at_word w_unsafe or_else at_word w_impl) ∷ ended ∷ []; halts = at_colons ∷ at_turbofish ∷ at_arrow ∷ at_arguments ∷ []; shuns = [] }
+shown_summary_of true qualified_expression_path = record { stays = []; moves = move (Punctuation less) (Punctuation less) [] ∷ move (Punctuation less_less_equals) (Punctuation less) [] ∷ move (Punctuation less_equals) (Punctuation less) [] ∷ move (Punctuation less_less) (Punctuation less) [] ∷ []; nullable = false; gone = []; ends = at_equals ∷ at_paren ∷ at_less ∷ ((at_colons or_else at_less_only or_else at_paren or_else at_word w_as) but_not at_colons) ∷ (at_colons but_not at_colons) ∷ ((at_bang or_else at_colons and_also ahead Before_macro) but_not at_colons) ∷ ((at_path_rest and_also ahead Bang_brace) but_not at_colons) ∷ ((at_path_rest and_also ahead Bang_name) but_not at_colons) ∷ at_name ∷ at_brace ∷ at_word w_trait ∷ (at_word w_unsafe or_else at_word w_impl) ∷ ended ∷ []; halts = at_colons ∷ at_turbofish ∷ at_arrow ∷ at_arguments ∷ []; shuns = [] }
+shown_summary_of true path_as_expression = record { stays = Punctuation colons ∷ Name ∷ Word w_union ∷ Word w_auto ∷ Word w_default ∷ Word w_safe ∷ Word w_Self_type ∷ Word w_self ∷ Word w_super ∷ Word w_crate ∷ []; moves = move (Punctuation less) (Punctuation less) [] ∷ move (Punctuation less_less_equals) (Punctuation less) [] ∷ move (Punctuation less_equals) (Punctuation less) [] ∷ move (Punctuation less_less) (Punctuation less) [] ∷ []; nullable = false; gone = []; ends = at_equals ∷ at_paren ∷ at_less ∷ ((at_colons or_else at_less_only or_else at_paren or_else at_word w_as) but_not at_colons) ∷ (at_colons but_not at_colons) ∷ ((at_bang or_else at_colons and_also ahead Before_macro) but_not at_colons) ∷ ((at_path_rest and_also ahead Bang_brace) but_not at_colons) ∷ ((at_path_rest and_also ahead Bang_name) but_not at_colons) ∷ at_name ∷ at_brace ∷ at_word w_trait ∷ (at_word w_unsafe or_else at_word w_impl) ∷ ended ∷ []; halts = at_colons ∷ at_turbofish ∷ at_arrow ∷ at_arguments ∷ []; shuns = [] }
+shown_summary_of true macro_invocation = record { stays = Punctuation colons ∷ Name ∷ Word w_union ∷ Word w_auto ∷ Word w_default ∷ Word w_safe ∷ Word w_self ∷ Word w_Self_type ∷ Word w_super ∷ Word w_crate ∷ []; moves = []; nullable = false; gone = []; ends = []; halts = []; shuns = [] }
+shown_summary_of true pattern = record { stays = Word w_underscore ∷ Delimited Paren false ∷ Punctuation colons ∷ Name ∷ Word w_union ∷ Word w_auto ∷ Word w_default ∷ Word w_safe ∷ Word w_Self_type ∷ Word w_self ∷ Word w_super ∷ Word w_crate ∷ Word w_ref ∷ []; moves = move (Punctuation less) (Punctuation less) [] ∷ move (Punctuation less_less_equals) (Punctuation less) [] ∷ move (Punctuation less_equals) (Punctuation less) [] ∷ move (Punctuation less_less) (Punctuation less) [] ∷ move (Word w_mut) (Word w_mut) [] ∷ []; nullable = false; gone = []; ends = at_equals ∷ at_paren ∷ at_less ∷ ((at_colons or_else at_less_only or_else at_paren or_else at_word w_as) but_not at_colons) ∷ (at_colons but_not at_colons) ∷ ((at_bang or_else at_colons and_also ahead Before_macro) but_not at_colons) ∷ ((at_path_rest and_also ahead Bang_brace) but_not at_colons) ∷ ((at_path_rest and_also ahead Bang_name) but_not at_colons) ∷ at_name ∷ at_brace ∷ at_word w_trait ∷ (at_word w_unsafe or_else at_word w_impl) ∷ ended ∷ []; halts = at_paren ∷ at_colons ∷ at_turbofish ∷ at_arrow ∷ at_arguments ∷ []; shuns = [] }
+shown_summary_of true patterns = record { stays = Word w_underscore ∷ Delimited Paren false ∷ Punctuation colons ∷ Name ∷ Word w_union ∷ Word w_auto ∷ Word w_default ∷ Word w_safe ∷ Word w_Self_type ∷ Word w_self ∷ Word w_super ∷ Word w_crate ∷ Word w_ref ∷ []; moves = move (Punctuation less) (Punctuation less) [] ∷ move (Punctuation less_less_equals) (Punctuation less) [] ∷ move (Punctuation less_equals) (Punctuation less) [] ∷ move (Punctuation less_less) (Punctuation less) [] ∷ move (Word w_mut) (Word w_mut) [] ∷ []; nullable = true; gone = []; ends = ended ∷ at_equals ∷ at_paren ∷ at_less ∷ ((at_colons or_else at_less_only or_else at_paren or_else at_word w_as) but_not at_colons) ∷ (at_colons but_not at_colons) ∷ ((at_bang or_else at_colons and_also ahead Before_macro) but_not at_colons) ∷ ((at_path_rest and_also ahead Bang_brace) but_not at_colons) ∷ ((at_path_rest and_also ahead Bang_name) but_not at_colons) ∷ at_name ∷ at_brace ∷ at_word w_trait ∷ (at_word w_unsafe or_else at_word w_impl) ∷ []; halts = at_comma ∷ at_paren ∷ at_colons ∷ at_turbofish ∷ at_arrow ∷ at_arguments ∷ []; shuns = [] }
+shown_summary_of true expressions = record { stays = Punctuation pound ∷ Punctuation minus ∷ Punctuation star ∷ Punctuation ampersand ∷ Word w_true ∷ Word w_false ∷ Literal Str ∷ Literal ByteStr ∷ Literal CStr ∷ Literal Byte ∷ Literal Char ∷ Literal Int ∷ Literal Float ∷ Punctuation colons ∷ Name ∷ Word w_union ∷ Word w_auto ∷ Word w_default ∷ Word w_safe ∷ Word w_self ∷ Word w_Self_type ∷ Word w_super ∷ Word w_crate ∷ Delimited Paren false ∷ Delimited Bracket false ∷ Delimited None false ∷ Word w_if ∷ Punctuation lifetime_mark ∷ Delimited Brace false ∷ Word w_loop ∷ Word w_while ∷ Word w_for ∷ Word w_return ∷ Word w_break ∷ Word w_continue ∷ []; moves = move (Punctuation arrow) (Punctuation minus) [] ∷ move (Punctuation minus_equals) (Punctuation minus) [] ∷ move (Punctuation exclamation) (Punctuation exclamation) [] ∷ move (Punctuation not_equals) (Punctuation exclamation) [] ∷ move (Punctuation star_equals) (Punctuation star) [] ∷ move (Punctuation and_and) (Punctuation ampersand) [] ∷ move (Punctuation ampersand_equals) (Punctuation ampersand) [] ∷ move (Word w_unsafe) (Word w_unsafe) [] ∷ move (Punctuation less) (Punctuation less) [] ∷ move (Punctuation less_less_equals) (Punctuation less) [] ∷ move (Punctuation less_equals) (Punctuation less) [] ∷ move (Punctuation less_less) (Punctuation less) [] ∷ []; nullable = true; gone = []; ends = ended ∷ at_equals ∷ at_paren ∷ at_less ∷ (((at_colons or_else at_less_only or_else at_paren or_else at_word w_as) but_not at_colons) but_not at_word w_as) ∷ (at_colons but_not at_colons) ∷ ((at_bang or_else at_colons and_also ahead Before_macro) but_not at_colons) ∷ ((at_path_rest and_also ahead Bang_brace) but_not at_colons) ∷ ((at_path_rest and_also ahead Bang_name) but_not at_colons) ∷ at_name ∷ at_brace ∷ at_word w_trait ∷ (at_word w_unsafe or_else at_word w_impl) ∷ (at_paren but_not at_paren) ∷ ((((at_colons or_else at_less_only or_else at_paren or_else at_word w_as) but_not at_colons) but_not at_paren) but_not at_word w_as) ∷ ((((at_colons or_else at_less_only or_else at_paren or_else at_word w_as) but_not at_colons) but_not at_word w_as) but_not at_paren) ∷ []; halts = at_comma ∷ at_unfinished ∷ at_mark greater_greater_equals ∷ at_mark less_less_equals ∷ at_mark bar_equals ∷ at_mark ampersand_equals ∷ at_mark caret_equals ∷ at_mark percent_equals ∷ at_mark slash_equals ∷ at_mark star_equals ∷ at_mark minus_equals ∷ at_mark plus_equals ∷ at_equals_operator ∷ at_mark or_or ∷ at_mark and_and ∷ at_mark greater_equals ∷ at_mark less_equals ∷ at_greater_operator ∷ at_less_operator ∷ at_mark not_equals ∷ at_mark equal_equal ∷ at_bar_operator ∷ at_caret_operator ∷ at_ampersand_operator ∷ at_greater_greater_operator ∷ at_less_less_operator ∷ at_minus_operator ∷ at_plus_operator ∷ at_percent_operator ∷ at_slash_operator ∷ at_star_operator ∷ at_word w_as ∷ at_dot ∷ at_question ∷ at_bracket ∷ at_paren ∷ at_whole_expression ∷ at_lifetime ∷ at_colons ∷ at_arguments ∷ at_arrow ∷ at_word w_else ∷ at_turbofish ∷ []; shuns = [] }
+shown_summary_of true array_content = record { stays = []; moves = []; nullable = false; gone = []; ends = []; halts = []; shuns = [] }
+shown_summary_of true block = record { stays = Delimited Brace false ∷ []; moves = []; nullable = false; gone = []; ends = []; halts = []; shuns = [] }
+shown_summary_of true body = record { stays = Delimited Brace false ∷ []; moves = []; nullable = false; gone = []; ends = []; halts = []; shuns = [] }
+shown_summary_of true plain_body = record { stays = Delimited Brace false ∷ []; moves = []; nullable = false; gone = []; ends = []; halts = []; shuns = [] }
+shown_summary_of true no_inner_attributes = record { stays = []; moves = []; nullable = false; gone = []; ends = []; halts = []; shuns = [] }
+shown_summary_of true primary = record { stays = Word w_true ∷ Word w_false ∷ Literal Str ∷ Literal ByteStr ∷ Literal CStr ∷ Literal Byte ∷ Literal Char ∷ Literal Int ∷ Literal Float ∷ Punctuation colons ∷ Name ∷ Word w_union ∷ Word w_auto ∷ Word w_default ∷ Word w_safe ∷ Word w_self ∷ Word w_Self_type ∷ Word w_super ∷ Word w_crate ∷ Delimited Paren false ∷ Delimited Bracket false ∷ Delimited None false ∷ Word w_if ∷ Punctuation lifetime_mark ∷ Delimited Brace false ∷ Word w_loop ∷ Word w_while ∷ Word w_for ∷ Word w_return ∷ Word w_break ∷ Word w_continue ∷ []; moves = move (Word w_unsafe) (Word w_unsafe) [] ∷ move (Punctuation less) (Punctuation less) [] ∷ move (Punctuation less_less_equals) (Punctuation less) [] ∷ move (Punctuation less_equals) (Punctuation less) [] ∷ move (Punctuation less_less) (Punctuation less) [] ∷ []; nullable = false; gone = []; ends = at_equals ∷ at_paren ∷ at_less ∷ (((at_colons or_else at_less_only or_else at_paren or_else at_word w_as) but_not at_colons) but_not at_word w_as) ∷ (at_colons but_not at_colons) ∷ ((at_bang or_else at_colons and_also ahead Before_macro) but_not at_colons) ∷ ((at_path_rest and_also ahead Bang_brace) but_not at_colons) ∷ ((at_path_rest and_also ahead Bang_name) but_not at_colons) ∷ at_name ∷ at_brace ∷ at_word w_trait ∷ (at_word w_unsafe or_else at_word w_impl) ∷ ended ∷ (at_paren but_not at_paren) ∷ ((((at_colons or_else at_less_only or_else at_paren or_else at_word w_as) but_not at_colons) but_not at_paren) but_not at_word w_as) ∷ ((((at_colons or_else at_less_only or_else at_paren or_else at_word w_as) but_not at_colons) but_not at_word w_as) but_not at_paren) ∷ ((at_colons or_else at_less_only or_else at_paren or_else at_word w_as) but_not at_colons) ∷ []; halts = at_word w_else ∷ at_unfinished ∷ at_mark greater_greater_equals ∷ at_mark less_less_equals ∷ at_mark bar_equals ∷ at_mark ampersand_equals ∷ at_mark caret_equals ∷ at_mark percent_equals ∷ at_mark slash_equals ∷ at_mark star_equals ∷ at_mark minus_equals ∷ at_mark plus_equals ∷ at_equals_operator ∷ at_mark or_or ∷ at_mark and_and ∷ at_mark greater_equals ∷ at_mark less_equals ∷ at_greater_operator ∷ at_less_operator ∷ at_mark not_equals ∷ at_mark equal_equal ∷ at_bar_operator ∷ at_caret_operator ∷ at_ampersand_operator ∷ at_greater_greater_operator ∷ at_less_less_operator ∷ at_minus_operator ∷ at_plus_operator ∷ at_percent_operator ∷ at_slash_operator ∷ at_star_operator ∷ at_word w_as ∷ at_dot ∷ at_question ∷ at_bracket ∷ at_paren ∷ at_whole_expression ∷ at_lifetime ∷ at_colons ∷ at_arguments ∷ at_arrow ∷ at_turbofish ∷ []; shuns = [] }
+shown_summary_of true block_like = record { stays = Word w_if ∷ Punctuation lifetime_mark ∷ Delimited Brace false ∷ Word w_loop ∷ Word w_while ∷ Word w_for ∷ []; moves = move (Word w_unsafe) (Word w_unsafe) [] ∷ []; nullable = false; gone = []; ends = []; halts = at_word w_else ∷ []; shuns = [] }
+shown_summary_of true if_expression = record { stays = Word w_if ∷ []; moves = []; nullable = false; gone = []; ends = []; halts = at_word w_else ∷ []; shuns = [] }
+shown_summary_of true loop_expression = record { stays = Word w_loop ∷ Word w_while ∷ Word w_for ∷ []; moves = []; nullable = false; gone = []; ends = []; halts = []; shuns = [] }
+shown_summary_of true postfixes = record { stays = Delimited Paren false ∷ Delimited Bracket false ∷ Punctuation question ∷ Punctuation dot ∷ []; moves = []; nullable = true; gone = []; ends = []; halts = at_dot ∷ at_question ∷ at_bracket ∷ at_paren ∷ at_colons ∷ []; shuns = [] }
+shown_summary_of true member = record { stays = []; moves = []; nullable = false; gone = []; ends = []; halts = []; shuns = [] }
+shown_summary_of true unary = record { stays = Punctuation pound ∷ Punctuation minus ∷ Punctuation star ∷ Punctuation ampersand ∷ Word w_true ∷ Word w_false ∷ Literal Str ∷ Literal ByteStr ∷ Literal CStr ∷ Literal Byte ∷ Literal Char ∷ Literal Int ∷ Literal Float ∷ Punctuation colons ∷ Name ∷ Word w_union ∷ Word w_auto ∷ Word w_default ∷ Word w_safe ∷ Word w_self ∷ Word w_Self_type ∷ Word w_super ∷ Word w_crate ∷ Delimited Paren false ∷ Delimited Bracket false ∷ Delimited None false ∷ Word w_if ∷ Punctuation lifetime_mark ∷ Delimited Brace false ∷ Word w_loop ∷ Word w_while ∷ Word w_for ∷ Word w_return ∷ Word w_break ∷ Word w_continue ∷ []; moves = move (Punctuation arrow) (Punctuation minus) [] ∷ move (Punctuation minus_equals) (Punctuation minus) [] ∷ move (Punctuation exclamation) (Punctuation exclamation) [] ∷ move (Punctuation not_equals) (Punctuation exclamation) [] ∷ move (Punctuation star_equals) (Punctuation star) [] ∷ move (Punctuation and_and) (Punctuation ampersand) [] ∷ move (Punctuation ampersand_equals) (Punctuation ampersand) [] ∷ move (Word w_unsafe) (Word w_unsafe) [] ∷ move (Punctuation less) (Punctuation less) [] ∷ move (Punctuation less_less_equals) (Punctuation less) [] ∷ move (Punctuation less_equals) (Punctuation less) [] ∷ move (Punctuation less_less) (Punctuation less) [] ∷ []; nullable = false; gone = []; ends = at_equals ∷ (at_paren but_not at_paren) ∷ at_less ∷ (((at_colons or_else at_less_only or_else at_paren or_else at_word w_as) but_not at_colons) but_not at_paren) ∷ (at_colons but_not at_colons) ∷ ((at_bang or_else at_colons and_also ahead Before_macro) but_not at_colons) ∷ ((at_path_rest and_also ahead Bang_brace) but_not at_colons) ∷ ((at_path_rest and_also ahead Bang_name) but_not at_colons) ∷ at_name ∷ at_brace ∷ at_word w_trait ∷ (at_word w_unsafe or_else at_word w_impl) ∷ ended ∷ ((((at_colons or_else at_less_only or_else at_paren or_else at_word w_as) but_not at_colons) but_not at_word w_as) but_not at_paren) ∷ ((((at_colons or_else at_less_only or_else at_paren or_else at_word w_as) but_not at_colons) but_not at_paren) but_not at_word w_as) ∷ []; halts = at_dot ∷ at_question ∷ at_bracket ∷ at_paren ∷ at_whole_expression ∷ at_lifetime ∷ at_colons ∷ at_unfinished ∷ at_mark greater_greater_equals ∷ at_mark less_less_equals ∷ at_mark bar_equals ∷ at_mark ampersand_equals ∷ at_mark caret_equals ∷ at_mark percent_equals ∷ at_mark slash_equals ∷ at_mark star_equals ∷ at_mark minus_equals ∷ at_mark plus_equals ∷ at_equals_operator ∷ at_mark or_or ∷ at_word w_else ∷ at_mark and_and ∷ at_mark greater_equals ∷ at_mark less_equals ∷ at_greater_operator ∷ at_less_operator ∷ at_mark not_equals ∷ at_mark equal_equal ∷ at_bar_operator ∷ at_turbofish ∷ at_arrow ∷ at_caret_operator ∷ at_ampersand_operator ∷ at_greater_greater_operator ∷ at_less_less_operator ∷ at_arguments ∷ at_minus_operator ∷ at_plus_operator ∷ at_percent_operator ∷ at_slash_operator ∷ at_star_operator ∷ at_word w_as ∷ []; shuns = [] }
+shown_summary_of true casts = record { stays = Word w_as ∷ []; moves = []; nullable = true; gone = []; ends = at_equals ∷ at_paren ∷ at_less ∷ (((at_colons or_else at_less_only or_else at_paren or_else at_word w_as) but_not at_colons) but_not at_word w_as) ∷ (at_colons but_not at_colons) ∷ ((at_bang or_else at_colons and_also ahead Before_macro) but_not at_colons) ∷ ((at_path_rest and_also ahead Bang_brace) but_not at_colons) ∷ ((at_path_rest and_also ahead Bang_name) but_not at_colons) ∷ at_name ∷ at_brace ∷ at_word w_trait ∷ (at_word w_unsafe or_else at_word w_impl) ∷ ended ∷ []; halts = at_word w_as ∷ at_colons ∷ at_arguments ∷ at_arrow ∷ []; shuns = [] }
+shown_summary_of true cast = record { stays = Punctuation pound ∷ Punctuation minus ∷ Punctuation star ∷ Punctuation ampersand ∷ Word w_true ∷ Word w_false ∷ Literal Str ∷ Literal ByteStr ∷ Literal CStr ∷ Literal Byte ∷ Literal Char ∷ Literal Int ∷ Literal Float ∷ Punctuation colons ∷ Name ∷ Word w_union ∷ Word w_auto ∷ Word w_default ∷ Word w_safe ∷ Word w_self ∷ Word w_Self_type ∷ Word w_super ∷ Word w_crate ∷ Delimited Paren false ∷ Delimited Bracket false ∷ Delimited None false ∷ Word w_if ∷ Punctuation lifetime_mark ∷ Delimited Brace false ∷ Word w_loop ∷ Word w_while ∷ Word w_for ∷ Word w_return ∷ Word w_break ∷ Word w_continue ∷ []; moves = move (Punctuation arrow) (Punctuation minus) [] ∷ move (Punctuation minus_equals) (Punctuation minus) [] ∷ move (Punctuation exclamation) (Punctuation exclamation) [] ∷ move (Punctuation not_equals) (Punctuation exclamation) [] ∷ move (Punctuation star_equals) (Punctuation star) [] ∷ move (Punctuation and_and) (Punctuation ampersand) [] ∷ move (Punctuation ampersand_equals) (Punctuation ampersand) [] ∷ move (Word w_unsafe) (Word w_unsafe) [] ∷ move (Punctuation less) (Punctuation less) [] ∷ move (Punctuation less_less_equals) (Punctuation less) [] ∷ move (Punctuation less_equals) (Punctuation less) [] ∷ move (Punctuation less_less) (Punctuation less) [] ∷ []; nullable = false; gone = []; ends = at_equals ∷ at_paren ∷ at_less ∷ (((at_colons or_else at_less_only or_else at_paren or_else at_word w_as) but_not at_colons) but_not at_word w_as) ∷ (at_colons but_not at_colons) ∷ ((at_bang or_else at_colons and_also ahead Before_macro) but_not at_colons) ∷ ((at_path_rest and_also ahead Bang_brace) but_not at_colons) ∷ ((at_path_rest and_also ahead Bang_name) but_not at_colons) ∷ at_name ∷ at_brace ∷ at_word w_trait ∷ (at_word w_unsafe or_else at_word w_impl) ∷ ended ∷ (at_paren but_not at_paren) ∷ ((((at_colons or_else at_less_only or_else at_paren or_else at_word w_as) but_not at_colons) but_not at_paren) but_not at_word w_as) ∷ ((((at_colons or_else at_less_only or_else at_paren or_else at_word w_as) but_not at_colons) but_not at_word w_as) but_not at_paren) ∷ []; halts = at_word w_as ∷ at_colons ∷ at_arguments ∷ at_arrow ∷ at_dot ∷ at_question ∷ at_bracket ∷ at_paren ∷ at_whole_expression ∷ at_lifetime ∷ at_unfinished ∷ at_mark greater_greater_equals ∷ at_mark less_less_equals ∷ at_mark bar_equals ∷ at_mark ampersand_equals ∷ at_mark caret_equals ∷ at_mark percent_equals ∷ at_mark slash_equals ∷ at_mark star_equals ∷ at_mark minus_equals ∷ at_mark plus_equals ∷ at_equals_operator ∷ at_mark or_or ∷ at_word w_else ∷ at_mark and_and ∷ at_mark greater_equals ∷ at_mark less_equals ∷ at_greater_operator ∷ at_less_operator ∷ at_mark not_equals ∷ at_mark equal_equal ∷ at_bar_operator ∷ at_turbofish ∷ at_caret_operator ∷ at_ampersand_operator ∷ at_greater_greater_operator ∷ at_less_less_operator ∷ at_minus_operator ∷ at_plus_operator ∷ at_percent_operator ∷ at_slash_operator ∷ at_star_operator ∷ []; shuns = [] }
+shown_summary_of true products = record { stays = Punctuation star ∷ Punctuation slash ∷ Punctuation percent ∷ []; moves = []; nullable = true; gone = []; ends = at_equals ∷ at_paren ∷ at_less ∷ (((at_colons or_else at_less_only or_else at_paren or_else at_word w_as) but_not at_colons) but_not at_word w_as) ∷ (at_colons but_not at_colons) ∷ ((at_bang or_else at_colons and_also ahead Before_macro) but_not at_colons) ∷ ((at_path_rest and_also ahead Bang_brace) but_not at_colons) ∷ ((at_path_rest and_also ahead Bang_name) but_not at_colons) ∷ at_name ∷ at_brace ∷ at_word w_trait ∷ (at_word w_unsafe or_else at_word w_impl) ∷ ended ∷ (at_paren but_not at_paren) ∷ ((((at_colons or_else at_less_only or_else at_paren or_else at_word w_as) but_not at_colons) but_not at_paren) but_not at_word w_as) ∷ ((((at_colons or_else at_less_only or_else at_paren or_else at_word w_as) but_not at_colons) but_not at_word w_as) but_not at_paren) ∷ []; halts = at_percent_operator ∷ at_slash_operator ∷ at_star_operator ∷ at_word w_as ∷ at_colons ∷ at_arguments ∷ at_arrow ∷ at_dot ∷ at_question ∷ at_bracket ∷ at_paren ∷ at_whole_expression ∷ at_lifetime ∷ at_unfinished ∷ at_mark greater_greater_equals ∷ at_mark less_less_equals ∷ at_mark bar_equals ∷ at_mark ampersand_equals ∷ at_mark caret_equals ∷ at_mark percent_equals ∷ at_mark slash_equals ∷ at_mark star_equals ∷ at_mark minus_equals ∷ at_mark plus_equals ∷ at_equals_operator ∷ at_mark or_or ∷ at_word w_else ∷ at_mark and_and ∷ at_mark greater_equals ∷ at_mark less_equals ∷ at_greater_operator ∷ at_less_operator ∷ at_mark not_equals ∷ at_mark equal_equal ∷ at_bar_operator ∷ at_turbofish ∷ at_caret_operator ∷ at_ampersand_operator ∷ at_greater_greater_operator ∷ at_less_less_operator ∷ at_minus_operator ∷ at_plus_operator ∷ []; shuns = [] }
+shown_summary_of true product = record { stays = Punctuation pound ∷ Punctuation minus ∷ Punctuation star ∷ Punctuation ampersand ∷ Word w_true ∷ Word w_false ∷ Literal Str ∷ Literal ByteStr ∷ Literal CStr ∷ Literal Byte ∷ Literal Char ∷ Literal Int ∷ Literal Float ∷ Punctuation colons ∷ Name ∷ Word w_union ∷ Word w_auto ∷ Word w_default ∷ Word w_safe ∷ Word w_self ∷ Word w_Self_type ∷ Word w_super ∷ Word w_crate ∷ Delimited Paren false ∷ Delimited Bracket false ∷ Delimited None false ∷ Word w_if ∷ Punctuation lifetime_mark ∷ Delimited Brace false ∷ Word w_loop ∷ Word w_while ∷ Word w_for ∷ Word w_return ∷ Word w_break ∷ Word w_continue ∷ []; moves = move (Punctuation arrow) (Punctuation minus) [] ∷ move (Punctuation minus_equals) (Punctuation minus) [] ∷ move (Punctuation exclamation) (Punctuation exclamation) [] ∷ move (Punctuation not_equals) (Punctuation exclamation) [] ∷ move (Punctuation star_equals) (Punctuation star) [] ∷ move (Punctuation and_and) (Punctuation ampersand) [] ∷ move (Punctuation ampersand_equals) (Punctuation ampersand) [] ∷ move (Word w_unsafe) (Word w_unsafe) [] ∷ move (Punctuation less) (Punctuation less) [] ∷ move (Punctuation less_less_equals) (Punctuation less) [] ∷ move (Punctuation less_equals) (Punctuation less) [] ∷ move (Punctuation less_less) (Punctuation less) [] ∷ []; nullable = false; gone = []; ends = at_equals ∷ at_paren ∷ at_less ∷ (((at_colons or_else at_less_only or_else at_paren or_else at_word w_as) but_not at_colons) but_not at_word w_as) ∷ (at_colons but_not at_colons) ∷ ((at_bang or_else at_colons and_also ahead Before_macro) but_not at_colons) ∷ ((at_path_rest and_also ahead Bang_brace) but_not at_colons) ∷ ((at_path_rest and_also ahead Bang_name) but_not at_colons) ∷ at_name ∷ at_brace ∷ at_word w_trait ∷ (at_word w_unsafe or_else at_word w_impl) ∷ ended ∷ (at_paren but_not at_paren) ∷ ((((at_colons or_else at_less_only or_else at_paren or_else at_word w_as) but_not at_colons) but_not at_paren) but_not at_word w_as) ∷ ((((at_colons or_else at_less_only or_else at_paren or_else at_word w_as) but_not at_colons) but_not at_word w_as) but_not at_paren) ∷ []; halts = at_percent_operator ∷ at_slash_operator ∷ at_star_operator ∷ at_word w_as ∷ at_colons ∷ at_arguments ∷ at_arrow ∷ at_dot ∷ at_question ∷ at_bracket ∷ at_paren ∷ at_whole_expression ∷ at_lifetime ∷ at_unfinished ∷ at_mark greater_greater_equals ∷ at_mark less_less_equals ∷ at_mark bar_equals ∷ at_mark ampersand_equals ∷ at_mark caret_equals ∷ at_mark percent_equals ∷ at_mark slash_equals ∷ at_mark star_equals ∷ at_mark minus_equals ∷ at_mark plus_equals ∷ at_equals_operator ∷ at_mark or_or ∷ at_word w_else ∷ at_mark and_and ∷ at_mark greater_equals ∷ at_mark less_equals ∷ at_greater_operator ∷ at_less_operator ∷ at_mark not_equals ∷ at_mark equal_equal ∷ at_bar_operator ∷ at_turbofish ∷ at_caret_operator ∷ at_ampersand_operator ∷ at_greater_greater_operator ∷ at_less_less_operator ∷ at_minus_operator ∷ at_plus_operator ∷ []; shuns = [] }
+shown_summary_of true sums = record { stays = Punctuation plus ∷ Punctuation minus ∷ []; moves = move (Punctuation arrow) (Punctuation minus) [] ∷ []; nullable = true; gone = []; ends = at_equals ∷ at_paren ∷ at_less ∷ (((at_colons or_else at_less_only or_else at_paren or_else at_word w_as) but_not at_colons) but_not at_word w_as) ∷ (at_colons but_not at_colons) ∷ ((at_bang or_else at_colons and_also ahead Before_macro) but_not at_colons) ∷ ((at_path_rest and_also ahead Bang_brace) but_not at_colons) ∷ ((at_path_rest and_also ahead Bang_name) but_not at_colons) ∷ at_name ∷ at_brace ∷ at_word w_trait ∷ (at_word w_unsafe or_else at_word w_impl) ∷ ended ∷ (at_paren but_not at_paren) ∷ ((((at_colons or_else at_less_only or_else at_paren or_else at_word w_as) but_not at_colons) but_not at_paren) but_not at_word w_as) ∷ ((((at_colons or_else at_less_only or_else at_paren or_else at_word w_as) but_not at_colons) but_not at_word w_as) but_not at_paren) ∷ []; halts = at_minus_operator ∷ at_plus_operator ∷ at_percent_operator ∷ at_slash_operator ∷ at_star_operator ∷ at_word w_as ∷ at_colons ∷ at_arguments ∷ at_arrow ∷ at_dot ∷ at_question ∷ at_bracket ∷ at_paren ∷ at_whole_expression ∷ at_lifetime ∷ at_unfinished ∷ at_mark greater_greater_equals ∷ at_mark less_less_equals ∷ at_mark bar_equals ∷ at_mark ampersand_equals ∷ at_mark caret_equals ∷ at_mark percent_equals ∷ at_mark slash_equals ∷ at_mark star_equals ∷ at_mark minus_equals ∷ at_mark plus_equals ∷ at_equals_operator ∷ at_mark or_or ∷ at_word w_else ∷ at_mark and_and ∷ at_mark greater_equals ∷ at_mark less_equals ∷ at_greater_operator ∷ at_less_operator ∷ at_mark not_equals ∷ at_mark equal_equal ∷ at_bar_operator ∷ at_turbofish ∷ at_caret_operator ∷ at_ampersand_operator ∷ at_greater_greater_operator ∷ at_less_less_operator ∷ []; shuns = [] }
+shown_summary_of true sum = record { stays = Punctuation pound ∷ Punctuation minus ∷ Punctuation star ∷ Punctuation ampersand ∷ Word w_true ∷ Word w_false ∷ Literal Str ∷ Literal ByteStr ∷ Literal CStr ∷ Literal Byte ∷ Literal Char ∷ Literal Int ∷ Literal Float ∷ Punctuation colons ∷ Name ∷ Word w_union ∷ Word w_auto ∷ Word w_default ∷ Word w_safe ∷ Word w_self ∷ Word w_Self_type ∷ Word w_super ∷ Word w_crate ∷ Delimited Paren false ∷ Delimited Bracket false ∷ Delimited None false ∷ Word w_if ∷ Punctuation lifetime_mark ∷ Delimited Brace false ∷ Word w_loop ∷ Word w_while ∷ Word w_for ∷ Word w_return ∷ Word w_break ∷ Word w_continue ∷ []; moves = move (Punctuation arrow) (Punctuation minus) [] ∷ move (Punctuation minus_equals) (Punctuation minus) [] ∷ move (Punctuation exclamation) (Punctuation exclamation) [] ∷ move (Punctuation not_equals) (Punctuation exclamation) [] ∷ move (Punctuation star_equals) (Punctuation star) [] ∷ move (Punctuation and_and) (Punctuation ampersand) [] ∷ move (Punctuation ampersand_equals) (Punctuation ampersand) [] ∷ move (Word w_unsafe) (Word w_unsafe) [] ∷ move (Punctuation less) (Punctuation less) [] ∷ move (Punctuation less_less_equals) (Punctuation less) [] ∷ move (Punctuation less_equals) (Punctuation less) [] ∷ move (Punctuation less_less) (Punctuation less) [] ∷ []; nullable = false; gone = []; ends = at_equals ∷ at_paren ∷ at_less ∷ (((at_colons or_else at_less_only or_else at_paren or_else at_word w_as) but_not at_colons) but_not at_word w_as) ∷ (at_colons but_not at_colons) ∷ ((at_bang or_else at_colons and_also ahead Before_macro) but_not at_colons) ∷ ((at_path_rest and_also ahead Bang_brace) but_not at_colons) ∷ ((at_path_rest and_also ahead Bang_name) but_not at_colons) ∷ at_name ∷ at_brace ∷ at_word w_trait ∷ (at_word w_unsafe or_else at_word w_impl) ∷ ended ∷ (at_paren but_not at_paren) ∷ ((((at_colons or_else at_less_only or_else at_paren or_else at_word w_as) but_not at_colons) but_not at_paren) but_not at_word w_as) ∷ ((((at_colons or_else at_less_only or_else at_paren or_else at_word w_as) but_not at_colons) but_not at_word w_as) but_not at_paren) ∷ []; halts = at_minus_operator ∷ at_plus_operator ∷ at_percent_operator ∷ at_slash_operator ∷ at_star_operator ∷ at_word w_as ∷ at_colons ∷ at_arguments ∷ at_arrow ∷ at_dot ∷ at_question ∷ at_bracket ∷ at_paren ∷ at_whole_expression ∷ at_lifetime ∷ at_unfinished ∷ at_mark greater_greater_equals ∷ at_mark less_less_equals ∷ at_mark bar_equals ∷ at_mark ampersand_equals ∷ at_mark caret_equals ∷ at_mark percent_equals ∷ at_mark slash_equals ∷ at_mark star_equals ∷ at_mark minus_equals ∷ at_mark plus_equals ∷ at_equals_operator ∷ at_mark or_or ∷ at_word w_else ∷ at_mark and_and ∷ at_mark greater_equals ∷ at_mark less_equals ∷ at_greater_operator ∷ at_less_operator ∷ at_mark not_equals ∷ at_mark equal_equal ∷ at_bar_operator ∷ at_turbofish ∷ at_caret_operator ∷ at_ampersand_operator ∷ at_greater_greater_operator ∷ at_less_less_operator ∷ []; shuns = [] }
+shown_summary_of true shifts = record { stays = Punctuation greater_greater ∷ []; moves = move (Punctuation less_less) (Punctuation less_less) [] ∷ []; nullable = true; gone = []; ends = at_equals ∷ at_paren ∷ at_less ∷ (((at_colons or_else at_less_only or_else at_paren or_else at_word w_as) but_not at_colons) but_not at_word w_as) ∷ (at_colons but_not at_colons) ∷ ((at_bang or_else at_colons and_also ahead Before_macro) but_not at_colons) ∷ ((at_path_rest and_also ahead Bang_brace) but_not at_colons) ∷ ((at_path_rest and_also ahead Bang_name) but_not at_colons) ∷ at_name ∷ at_brace ∷ at_word w_trait ∷ (at_word w_unsafe or_else at_word w_impl) ∷ ended ∷ (at_paren but_not at_paren) ∷ ((((at_colons or_else at_less_only or_else at_paren or_else at_word w_as) but_not at_colons) but_not at_paren) but_not at_word w_as) ∷ ((((at_colons or_else at_less_only or_else at_paren or_else at_word w_as) but_not at_colons) but_not at_word w_as) but_not at_paren) ∷ []; halts = at_greater_greater_operator ∷ at_less_less_operator ∷ at_minus_operator ∷ at_plus_operator ∷ at_percent_operator ∷ at_slash_operator ∷ at_star_operator ∷ at_word w_as ∷ at_colons ∷ at_arguments ∷ at_arrow ∷ at_dot ∷ at_question ∷ at_bracket ∷ at_paren ∷ at_whole_expression ∷ at_lifetime ∷ at_unfinished ∷ at_mark greater_greater_equals ∷ at_mark less_less_equals ∷ at_mark bar_equals ∷ at_mark ampersand_equals ∷ at_mark caret_equals ∷ at_mark percent_equals ∷ at_mark slash_equals ∷ at_mark star_equals ∷ at_mark minus_equals ∷ at_mark plus_equals ∷ at_equals_operator ∷ at_mark or_or ∷ at_word w_else ∷ at_mark and_and ∷ at_mark greater_equals ∷ at_mark less_equals ∷ at_greater_operator ∷ at_less_operator ∷ at_mark not_equals ∷ at_mark equal_equal ∷ at_bar_operator ∷ at_turbofish ∷ at_caret_operator ∷ at_ampersand_operator ∷ []; shuns = [] }
+shown_summary_of true shift = record { stays = Punctuation pound ∷ Punctuation minus ∷ Punctuation star ∷ Punctuation ampersand ∷ Word w_true ∷ Word w_false ∷ Literal Str ∷ Literal ByteStr ∷ Literal CStr ∷ Literal Byte ∷ Literal Char ∷ Literal Int ∷ Literal Float ∷ Punctuation colons ∷ Name ∷ Word w_union ∷ Word w_auto ∷ Word w_default ∷ Word w_safe ∷ Word w_self ∷ Word w_Self_type ∷ Word w_super ∷ Word w_crate ∷ Delimited Paren false ∷ Delimited Bracket false ∷ Delimited None false ∷ Word w_if ∷ Punctuation lifetime_mark ∷ Delimited Brace false ∷ Word w_loop ∷ Word w_while ∷ Word w_for ∷ Word w_return ∷ Word w_break ∷ Word w_continue ∷ []; moves = move (Punctuation arrow) (Punctuation minus) [] ∷ move (Punctuation minus_equals) (Punctuation minus) [] ∷ move (Punctuation exclamation) (Punctuation exclamation) [] ∷ move (Punctuation not_equals) (Punctuation exclamation) [] ∷ move (Punctuation star_equals) (Punctuation star) [] ∷ move (Punctuation and_and) (Punctuation ampersand) [] ∷ move (Punctuation ampersand_equals) (Punctuation ampersand) [] ∷ move (Word w_unsafe) (Word w_unsafe) [] ∷ move (Punctuation less) (Punctuation less) [] ∷ move (Punctuation less_less_equals) (Punctuation less) [] ∷ move (Punctuation less_equals) (Punctuation less) [] ∷ move (Punctuation less_less) (Punctuation less) [] ∷ []; nullable = false; gone = []; ends = at_equals ∷ at_paren ∷ at_less ∷ (((at_colons or_else at_less_only or_else at_paren or_else at_word w_as) but_not at_colons) but_not at_word w_as) ∷ (at_colons but_not at_colons) ∷ ((at_bang or_else at_colons and_also ahead Before_macro) but_not at_colons) ∷ ((at_path_rest and_also ahead Bang_brace) but_not at_colons) ∷ ((at_path_rest and_also ahead Bang_name) but_not at_colons) ∷ at_name ∷ at_brace ∷ at_word w_trait ∷ (at_word w_unsafe or_else at_word w_impl) ∷ ended ∷ (at_paren but_not at_paren) ∷ ((((at_colons or_else at_less_only or_else at_paren or_else at_word w_as) but_not at_colons) but_not at_paren) but_not at_word w_as) ∷ ((((at_colons or_else at_less_only or_else at_paren or_else at_word w_as) but_not at_colons) but_not at_word w_as) but_not at_paren) ∷ []; halts = at_greater_greater_operator ∷ at_less_less_operator ∷ at_minus_operator ∷ at_plus_operator ∷ at_percent_operator ∷ at_slash_operator ∷ at_star_operator ∷ at_word w_as ∷ at_colons ∷ at_arguments ∷ at_arrow ∷ at_dot ∷ at_question ∷ at_bracket ∷ at_paren ∷ at_whole_expression ∷ at_lifetime ∷ at_unfinished ∷ at_mark greater_greater_equals ∷ at_mark less_less_equals ∷ at_mark bar_equals ∷ at_mark ampersand_equals ∷ at_mark caret_equals ∷ at_mark percent_equals ∷ at_mark slash_equals ∷ at_mark star_equals ∷ at_mark minus_equals ∷ at_mark plus_equals ∷ at_equals_operator ∷ at_mark or_or ∷ at_word w_else ∷ at_mark and_and ∷ at_mark greater_equals ∷ at_mark less_equals ∷ at_greater_operator ∷ at_less_operator ∷ at_mark not_equals ∷ at_mark equal_equal ∷ at_bar_operator ∷ at_turbofish ∷ at_caret_operator ∷ at_ampersand_operator ∷ []; shuns = [] }
+shown_summary_of true bit_ands = record { stays = Punctuation ampersand ∷ []; moves = []; nullable = true; gone = []; ends = at_equals ∷ at_paren ∷ at_less ∷ (((at_colons or_else at_less_only or_else at_paren or_else at_word w_as) but_not at_colons) but_not at_word w_as) ∷ (at_colons but_not at_colons) ∷ ((at_bang or_else at_colons and_also ahead Before_macro) but_not at_colons) ∷ ((at_path_rest and_also ahead Bang_brace) but_not at_colons) ∷ ((at_path_rest and_also ahead Bang_name) but_not at_colons) ∷ at_name ∷ at_brace ∷ at_word w_trait ∷ (at_word w_unsafe or_else at_word w_impl) ∷ ended ∷ (at_paren but_not at_paren) ∷ ((((at_colons or_else at_less_only or_else at_paren or_else at_word w_as) but_not at_colons) but_not at_paren) but_not at_word w_as) ∷ ((((at_colons or_else at_less_only or_else at_paren or_else at_word w_as) but_not at_colons) but_not at_word w_as) but_not at_paren) ∷ []; halts = at_ampersand_operator ∷ at_greater_greater_operator ∷ at_less_less_operator ∷ at_minus_operator ∷ at_plus_operator ∷ at_percent_operator ∷ at_slash_operator ∷ at_star_operator ∷ at_word w_as ∷ at_colons ∷ at_arguments ∷ at_arrow ∷ at_dot ∷ at_question ∷ at_bracket ∷ at_paren ∷ at_whole_expression ∷ at_lifetime ∷ at_unfinished ∷ at_mark greater_greater_equals ∷ at_mark less_less_equals ∷ at_mark bar_equals ∷ at_mark ampersand_equals ∷ at_mark caret_equals ∷ at_mark percent_equals ∷ at_mark slash_equals ∷ at_mark star_equals ∷ at_mark minus_equals ∷ at_mark plus_equals ∷ at_equals_operator ∷ at_mark or_or ∷ at_word w_else ∷ at_mark and_and ∷ at_mark greater_equals ∷ at_mark less_equals ∷ at_greater_operator ∷ at_less_operator ∷ at_mark not_equals ∷ at_mark equal_equal ∷ at_bar_operator ∷ at_turbofish ∷ at_caret_operator ∷ []; shuns = [] }
+shown_summary_of true bit_and = record { stays = Punctuation pound ∷ Punctuation minus ∷ Punctuation star ∷ Punctuation ampersand ∷ Word w_true ∷ Word w_false ∷ Literal Str ∷ Literal ByteStr ∷ Literal CStr ∷ Literal Byte ∷ Literal Char ∷ Literal Int ∷ Literal Float ∷ Punctuation colons ∷ Name ∷ Word w_union ∷ Word w_auto ∷ Word w_default ∷ Word w_safe ∷ Word w_self ∷ Word w_Self_type ∷ Word w_super ∷ Word w_crate ∷ Delimited Paren false ∷ Delimited Bracket false ∷ Delimited None false ∷ Word w_if ∷ Punctuation lifetime_mark ∷ Delimited Brace false ∷ Word w_loop ∷ Word w_while ∷ Word w_for ∷ Word w_return ∷ Word w_break ∷ Word w_continue ∷ []; moves = move (Punctuation arrow) (Punctuation minus) [] ∷ move (Punctuation minus_equals) (Punctuation minus) [] ∷ move (Punctuation exclamation) (Punctuation exclamation) [] ∷ move (Punctuation not_equals) (Punctuation exclamation) [] ∷ move (Punctuation star_equals) (Punctuation star) [] ∷ move (Punctuation and_and) (Punctuation ampersand) [] ∷ move (Punctuation ampersand_equals) (Punctuation ampersand) [] ∷ move (Word w_unsafe) (Word w_unsafe) [] ∷ move (Punctuation less) (Punctuation less) [] ∷ move (Punctuation less_less_equals) (Punctuation less) [] ∷ move (Punctuation less_equals) (Punctuation less) [] ∷ move (Punctuation less_less) (Punctuation less) [] ∷ []; nullable = false; gone = []; ends = at_equals ∷ at_paren ∷ at_less ∷ (((at_colons or_else at_less_only or_else at_paren or_else at_word w_as) but_not at_colons) but_not at_word w_as) ∷ (at_colons but_not at_colons) ∷ ((at_bang or_else at_colons and_also ahead Before_macro) but_not at_colons) ∷ ((at_path_rest and_also ahead Bang_brace) but_not at_colons) ∷ ((at_path_rest and_also ahead Bang_name) but_not at_colons) ∷ at_name ∷ at_brace ∷ at_word w_trait ∷ (at_word w_unsafe or_else at_word w_impl) ∷ ended ∷ (at_paren but_not at_paren) ∷ ((((at_colons or_else at_less_only or_else at_paren or_else at_word w_as) but_not at_colons) but_not at_paren) but_not at_word w_as) ∷ ((((at_colons or_else at_less_only or_else at_paren or_else at_word w_as) but_not at_colons) but_not at_word w_as) but_not at_paren) ∷ []; halts = at_ampersand_operator ∷ at_greater_greater_operator ∷ at_less_less_operator ∷ at_minus_operator ∷ at_plus_operator ∷ at_percent_operator ∷ at_slash_operator ∷ at_star_operator ∷ at_word w_as ∷ at_colons ∷ at_arguments ∷ at_arrow ∷ at_dot ∷ at_question ∷ at_bracket ∷ at_paren ∷ at_whole_expression ∷ at_lifetime ∷ at_unfinished ∷ at_mark greater_greater_equals ∷ at_mark less_less_equals ∷ at_mark bar_equals ∷ at_mark ampersand_equals ∷ at_mark caret_equals ∷ at_mark percent_equals ∷ at_mark slash_equals ∷ at_mark star_equals ∷ at_mark minus_equals ∷ at_mark plus_equals ∷ at_equals_operator ∷ at_mark or_or ∷ at_word w_else ∷ at_mark and_and ∷ at_mark greater_equals ∷ at_mark less_equals ∷ at_greater_operator ∷ at_less_operator ∷ at_mark not_equals ∷ at_mark equal_equal ∷ at_bar_operator ∷ at_turbofish ∷ at_caret_operator ∷ []; shuns = [] }
+shown_summary_of true bit_xors = record { stays = Punctuation caret ∷ []; moves = []; nullable = true; gone = []; ends = at_equals ∷ at_paren ∷ at_less ∷ (((at_colons or_else at_less_only or_else at_paren or_else at_word w_as) but_not at_colons) but_not at_word w_as) ∷ (at_colons but_not at_colons) ∷ ((at_bang or_else at_colons and_also ahead Before_macro) but_not at_colons) ∷ ((at_path_rest and_also ahead Bang_brace) but_not at_colons) ∷ ((at_path_rest and_also ahead Bang_name) but_not at_colons) ∷ at_name ∷ at_brace ∷ at_word w_trait ∷ (at_word w_unsafe or_else at_word w_impl) ∷ ended ∷ (at_paren but_not at_paren) ∷ ((((at_colons or_else at_less_only or_else at_paren or_else at_word w_as) but_not at_colons) but_not at_paren) but_not at_word w_as) ∷ ((((at_colons or_else at_less_only or_else at_paren or_else at_word w_as) but_not at_colons) but_not at_word w_as) but_not at_paren) ∷ []; halts = at_caret_operator ∷ at_ampersand_operator ∷ at_greater_greater_operator ∷ at_less_less_operator ∷ at_minus_operator ∷ at_plus_operator ∷ at_percent_operator ∷ at_slash_operator ∷ at_star_operator ∷ at_word w_as ∷ at_colons ∷ at_arguments ∷ at_arrow ∷ at_dot ∷ at_question ∷ at_bracket ∷ at_paren ∷ at_whole_expression ∷ at_lifetime ∷ at_unfinished ∷ at_mark greater_greater_equals ∷ at_mark less_less_equals ∷ at_mark bar_equals ∷ at_mark ampersand_equals ∷ at_mark caret_equals ∷ at_mark percent_equals ∷ at_mark slash_equals ∷ at_mark star_equals ∷ at_mark minus_equals ∷ at_mark plus_equals ∷ at_equals_operator ∷ at_mark or_or ∷ at_word w_else ∷ at_mark and_and ∷ at_mark greater_equals ∷ at_mark less_equals ∷ at_greater_operator ∷ at_less_operator ∷ at_mark not_equals ∷ at_mark equal_equal ∷ at_bar_operator ∷ at_turbofish ∷ []; shuns = [] }
+shown_summary_of true bit_xor = record { stays = Punctuation pound ∷ Punctuation minus ∷ Punctuation star ∷ Punctuation ampersand ∷ Word w_true ∷ Word w_false ∷ Literal Str ∷ Literal ByteStr ∷ Literal CStr ∷ Literal Byte ∷ Literal Char ∷ Literal Int ∷ Literal Float ∷ Punctuation colons ∷ Name ∷ Word w_union ∷ Word w_auto ∷ Word w_default ∷ Word w_safe ∷ Word w_self ∷ Word w_Self_type ∷ Word w_super ∷ Word w_crate ∷ Delimited Paren false ∷ Delimited Bracket false ∷ Delimited None false ∷ Word w_if ∷ Punctuation lifetime_mark ∷ Delimited Brace false ∷ Word w_loop ∷ Word w_while ∷ Word w_for ∷ Word w_return ∷ Word w_break ∷ Word w_continue ∷ []; moves = move (Punctuation arrow) (Punctuation minus) [] ∷ move (Punctuation minus_equals) (Punctuation minus) [] ∷ move (Punctuation exclamation) (Punctuation exclamation) [] ∷ move (Punctuation not_equals) (Punctuation exclamation) [] ∷ move (Punctuation star_equals) (Punctuation star) [] ∷ move (Punctuation and_and) (Punctuation ampersand) [] ∷ move (Punctuation ampersand_equals) (Punctuation ampersand) [] ∷ move (Word w_unsafe) (Word w_unsafe) [] ∷ move (Punctuation less) (Punctuation less) [] ∷ move (Punctuation less_less_equals) (Punctuation less) [] ∷ move (Punctuation less_equals) (Punctuation less) [] ∷ move (Punctuation less_less) (Punctuation less) [] ∷ []; nullable = false; gone = []; ends = at_equals ∷ at_paren ∷ at_less ∷ (((at_colons or_else at_less_only or_else at_paren or_else at_word w_as) but_not at_colons) but_not at_word w_as) ∷ (at_colons but_not at_colons) ∷ ((at_bang or_else at_colons and_also ahead Before_macro) but_not at_colons) ∷ ((at_path_rest and_also ahead Bang_brace) but_not at_colons) ∷ ((at_path_rest and_also ahead Bang_name) but_not at_colons) ∷ at_name ∷ at_brace ∷ at_word w_trait ∷ (at_word w_unsafe or_else at_word w_impl) ∷ ended ∷ (at_paren but_not at_paren) ∷ ((((at_colons or_else at_less_only or_else at_paren or_else at_word w_as) but_not at_colons) but_not at_paren) but_not at_word w_as) ∷ ((((at_colons or_else at_less_only or_else at_paren or_else at_word w_as) but_not at_colons) but_not at_word w_as) but_not at_paren) ∷ []; halts = at_caret_operator ∷ at_ampersand_operator ∷ at_greater_greater_operator ∷ at_less_less_operator ∷ at_minus_operator ∷ at_plus_operator ∷ at_percent_operator ∷ at_slash_operator ∷ at_star_operator ∷ at_word w_as ∷ at_colons ∷ at_arguments ∷ at_arrow ∷ at_dot ∷ at_question ∷ at_bracket ∷ at_paren ∷ at_whole_expression ∷ at_lifetime ∷ at_unfinished ∷ at_mark greater_greater_equals ∷ at_mark less_less_equals ∷ at_mark bar_equals ∷ at_mark ampersand_equals ∷ at_mark caret_equals ∷ at_mark percent_equals ∷ at_mark slash_equals ∷ at_mark star_equals ∷ at_mark minus_equals ∷ at_mark plus_equals ∷ at_equals_operator ∷ at_mark or_or ∷ at_word w_else ∷ at_mark and_and ∷ at_mark greater_equals ∷ at_mark less_equals ∷ at_greater_operator ∷ at_less_operator ∷ at_mark not_equals ∷ at_mark equal_equal ∷ at_bar_operator ∷ at_turbofish ∷ []; shuns = [] }
+shown_summary_of true bit_ors = record { stays = Punctuation bar ∷ []; moves = []; nullable = true; gone = []; ends = at_equals ∷ at_paren ∷ at_less ∷ (((at_colons or_else at_less_only or_else at_paren or_else at_word w_as) but_not at_colons) but_not at_word w_as) ∷ (at_colons but_not at_colons) ∷ ((at_bang or_else at_colons and_also ahead Before_macro) but_not at_colons) ∷ ((at_path_rest and_also ahead Bang_brace) but_not at_colons) ∷ ((at_path_rest and_also ahead Bang_name) but_not at_colons) ∷ at_name ∷ at_brace ∷ at_word w_trait ∷ (at_word w_unsafe or_else at_word w_impl) ∷ ended ∷ (at_paren but_not at_paren) ∷ ((((at_colons or_else at_less_only or_else at_paren or_else at_word w_as) but_not at_colons) but_not at_paren) but_not at_word w_as) ∷ ((((at_colons or_else at_less_only or_else at_paren or_else at_word w_as) but_not at_colons) but_not at_word w_as) but_not at_paren) ∷ []; halts = at_bar_operator ∷ at_caret_operator ∷ at_ampersand_operator ∷ at_greater_greater_operator ∷ at_less_less_operator ∷ at_minus_operator ∷ at_plus_operator ∷ at_percent_operator ∷ at_slash_operator ∷ at_star_operator ∷ at_word w_as ∷ at_colons ∷ at_arguments ∷ at_arrow ∷ at_dot ∷ at_question ∷ at_bracket ∷ at_paren ∷ at_whole_expression ∷ at_lifetime ∷ at_unfinished ∷ at_mark greater_greater_equals ∷ at_mark less_less_equals ∷ at_mark bar_equals ∷ at_mark ampersand_equals ∷ at_mark caret_equals ∷ at_mark percent_equals ∷ at_mark slash_equals ∷ at_mark star_equals ∷ at_mark minus_equals ∷ at_mark plus_equals ∷ at_equals_operator ∷ at_mark or_or ∷ at_word w_else ∷ at_mark and_and ∷ at_mark greater_equals ∷ at_mark less_equals ∷ at_greater_operator ∷ at_less_operator ∷ at_mark not_equals ∷ at_mark equal_equal ∷ at_turbofish ∷ []; shuns = [] }
+shown_summary_of true bit_or = record { stays = Punctuation pound ∷ Punctuation minus ∷ Punctuation star ∷ Punctuation ampersand ∷ Word w_true ∷ Word w_false ∷ Literal Str ∷ Literal ByteStr ∷ Literal CStr ∷ Literal Byte ∷ Literal Char ∷ Literal Int ∷ Literal Float ∷ Punctuation colons ∷ Name ∷ Word w_union ∷ Word w_auto ∷ Word w_default ∷ Word w_safe ∷ Word w_self ∷ Word w_Self_type ∷ Word w_super ∷ Word w_crate ∷ Delimited Paren false ∷ Delimited Bracket false ∷ Delimited None false ∷ Word w_if ∷ Punctuation lifetime_mark ∷ Delimited Brace false ∷ Word w_loop ∷ Word w_while ∷ Word w_for ∷ Word w_return ∷ Word w_break ∷ Word w_continue ∷ []; moves = move (Punctuation arrow) (Punctuation minus) [] ∷ move (Punctuation minus_equals) (Punctuation minus) [] ∷ move (Punctuation exclamation) (Punctuation exclamation) [] ∷ move (Punctuation not_equals) (Punctuation exclamation) [] ∷ move (Punctuation star_equals) (Punctuation star) [] ∷ move (Punctuation and_and) (Punctuation ampersand) [] ∷ move (Punctuation ampersand_equals) (Punctuation ampersand) [] ∷ move (Word w_unsafe) (Word w_unsafe) [] ∷ move (Punctuation less) (Punctuation less) [] ∷ move (Punctuation less_less_equals) (Punctuation less) [] ∷ move (Punctuation less_equals) (Punctuation less) [] ∷ move (Punctuation less_less) (Punctuation less) [] ∷ []; nullable = false; gone = []; ends = at_equals ∷ at_paren ∷ at_less ∷ (((at_colons or_else at_less_only or_else at_paren or_else at_word w_as) but_not at_colons) but_not at_word w_as) ∷ (at_colons but_not at_colons) ∷ ((at_bang or_else at_colons and_also ahead Before_macro) but_not at_colons) ∷ ((at_path_rest and_also ahead Bang_brace) but_not at_colons) ∷ ((at_path_rest and_also ahead Bang_name) but_not at_colons) ∷ at_name ∷ at_brace ∷ at_word w_trait ∷ (at_word w_unsafe or_else at_word w_impl) ∷ ended ∷ (at_paren but_not at_paren) ∷ ((((at_colons or_else at_less_only or_else at_paren or_else at_word w_as) but_not at_colons) but_not at_paren) but_not at_word w_as) ∷ ((((at_colons or_else at_less_only or_else at_paren or_else at_word w_as) but_not at_colons) but_not at_word w_as) but_not at_paren) ∷ []; halts = at_bar_operator ∷ at_caret_operator ∷ at_ampersand_operator ∷ at_greater_greater_operator ∷ at_less_less_operator ∷ at_minus_operator ∷ at_plus_operator ∷ at_percent_operator ∷ at_slash_operator ∷ at_star_operator ∷ at_word w_as ∷ at_colons ∷ at_arguments ∷ at_arrow ∷ at_dot ∷ at_question ∷ at_bracket ∷ at_paren ∷ at_whole_expression ∷ at_lifetime ∷ at_unfinished ∷ at_mark greater_greater_equals ∷ at_mark less_less_equals ∷ at_mark bar_equals ∷ at_mark ampersand_equals ∷ at_mark caret_equals ∷ at_mark percent_equals ∷ at_mark slash_equals ∷ at_mark star_equals ∷ at_mark minus_equals ∷ at_mark plus_equals ∷ at_equals_operator ∷ at_mark or_or ∷ at_word w_else ∷ at_mark and_and ∷ at_mark greater_equals ∷ at_mark less_equals ∷ at_greater_operator ∷ at_less_operator ∷ at_mark not_equals ∷ at_mark equal_equal ∷ at_turbofish ∷ []; shuns = [] }
+shown_summary_of true compared = record { stays = Punctuation equal_equal ∷ Punctuation greater ∷ Punctuation greater_equals ∷ []; moves = move (Punctuation not_equals) (Punctuation not_equals) [] ∷ move (Punctuation less) (Punctuation less) [] ∷ move (Punctuation less_equals) (Punctuation less_equals) [] ∷ []; nullable = true; gone = []; ends = at_equals ∷ at_paren ∷ at_less ∷ (((at_colons or_else at_less_only or_else at_paren or_else at_word w_as) but_not at_colons) but_not at_word w_as) ∷ (at_colons but_not at_colons) ∷ ((at_bang or_else at_colons and_also ahead Before_macro) but_not at_colons) ∷ ((at_path_rest and_also ahead Bang_brace) but_not at_colons) ∷ ((at_path_rest and_also ahead Bang_name) but_not at_colons) ∷ at_name ∷ at_brace ∷ at_word w_trait ∷ (at_word w_unsafe or_else at_word w_impl) ∷ ended ∷ (at_paren but_not at_paren) ∷ ((((at_colons or_else at_less_only or_else at_paren or_else at_word w_as) but_not at_colons) but_not at_paren) but_not at_word w_as) ∷ ((((at_colons or_else at_less_only or_else at_paren or_else at_word w_as) but_not at_colons) but_not at_word w_as) but_not at_paren) ∷ []; halts = at_bar_operator ∷ at_caret_operator ∷ at_ampersand_operator ∷ at_greater_greater_operator ∷ at_less_less_operator ∷ at_minus_operator ∷ at_plus_operator ∷ at_percent_operator ∷ at_slash_operator ∷ at_star_operator ∷ at_word w_as ∷ at_colons ∷ at_arguments ∷ at_arrow ∷ at_dot ∷ at_question ∷ at_bracket ∷ at_paren ∷ at_whole_expression ∷ at_lifetime ∷ at_unfinished ∷ at_mark greater_greater_equals ∷ at_mark less_less_equals ∷ at_mark bar_equals ∷ at_mark ampersand_equals ∷ at_mark caret_equals ∷ at_mark percent_equals ∷ at_mark slash_equals ∷ at_mark star_equals ∷ at_mark minus_equals ∷ at_mark plus_equals ∷ at_equals_operator ∷ at_mark or_or ∷ at_word w_else ∷ at_mark and_and ∷ at_mark greater_equals ∷ at_mark less_equals ∷ at_greater_operator ∷ at_less_operator ∷ at_mark not_equals ∷ at_mark equal_equal ∷ at_turbofish ∷ []; shuns = [] }
+shown_summary_of true comparison = record { stays = Punctuation pound ∷ Punctuation minus ∷ Punctuation star ∷ Punctuation ampersand ∷ Word w_true ∷ Word w_false ∷ Literal Str ∷ Literal ByteStr ∷ Literal CStr ∷ Literal Byte ∷ Literal Char ∷ Literal Int ∷ Literal Float ∷ Punctuation colons ∷ Name ∷ Word w_union ∷ Word w_auto ∷ Word w_default ∷ Word w_safe ∷ Word w_self ∷ Word w_Self_type ∷ Word w_super ∷ Word w_crate ∷ Delimited Paren false ∷ Delimited Bracket false ∷ Delimited None false ∷ Word w_if ∷ Punctuation lifetime_mark ∷ Delimited Brace false ∷ Word w_loop ∷ Word w_while ∷ Word w_for ∷ Word w_return ∷ Word w_break ∷ Word w_continue ∷ []; moves = move (Punctuation arrow) (Punctuation minus) [] ∷ move (Punctuation minus_equals) (Punctuation minus) [] ∷ move (Punctuation exclamation) (Punctuation exclamation) [] ∷ move (Punctuation not_equals) (Punctuation exclamation) [] ∷ move (Punctuation star_equals) (Punctuation star) [] ∷ move (Punctuation and_and) (Punctuation ampersand) [] ∷ move (Punctuation ampersand_equals) (Punctuation ampersand) [] ∷ move (Word w_unsafe) (Word w_unsafe) [] ∷ move (Punctuation less) (Punctuation less) [] ∷ move (Punctuation less_less_equals) (Punctuation less) [] ∷ move (Punctuation less_equals) (Punctuation less) [] ∷ move (Punctuation less_less) (Punctuation less) [] ∷ []; nullable = false; gone = []; ends = at_equals ∷ at_paren ∷ at_less ∷ (((at_colons or_else at_less_only or_else at_paren or_else at_word w_as) but_not at_colons) but_not at_word w_as) ∷ (at_colons but_not at_colons) ∷ ((at_bang or_else at_colons and_also ahead Before_macro) but_not at_colons) ∷ ((at_path_rest and_also ahead Bang_brace) but_not at_colons) ∷ ((at_path_rest and_also ahead Bang_name) but_not at_colons) ∷ at_name ∷ at_brace ∷ at_word w_trait ∷ (at_word w_unsafe or_else at_word w_impl) ∷ ended ∷ (at_paren but_not at_paren) ∷ ((((at_colons or_else at_less_only or_else at_paren or_else at_word w_as) but_not at_colons) but_not at_paren) but_not at_word w_as) ∷ ((((at_colons or_else at_less_only or_else at_paren or_else at_word w_as) but_not at_colons) but_not at_word w_as) but_not at_paren) ∷ []; halts = at_bar_operator ∷ at_caret_operator ∷ at_ampersand_operator ∷ at_greater_greater_operator ∷ at_less_less_operator ∷ at_minus_operator ∷ at_plus_operator ∷ at_percent_operator ∷ at_slash_operator ∷ at_star_operator ∷ at_word w_as ∷ at_colons ∷ at_arguments ∷ at_arrow ∷ at_dot ∷ at_question ∷ at_bracket ∷ at_paren ∷ at_whole_expression ∷ at_lifetime ∷ at_unfinished ∷ at_mark greater_greater_equals ∷ at_mark less_less_equals ∷ at_mark bar_equals ∷ at_mark ampersand_equals ∷ at_mark caret_equals ∷ at_mark percent_equals ∷ at_mark slash_equals ∷ at_mark star_equals ∷ at_mark minus_equals ∷ at_mark plus_equals ∷ at_equals_operator ∷ at_mark or_or ∷ at_word w_else ∷ at_mark and_and ∷ at_mark greater_equals ∷ at_mark less_equals ∷ at_greater_operator ∷ at_less_operator ∷ at_mark not_equals ∷ at_mark equal_equal ∷ at_turbofish ∷ []; shuns = [] }
+shown_summary_of true conjunctions = record { stays = Punctuation and_and ∷ []; moves = []; nullable = true; gone = []; ends = at_equals ∷ at_paren ∷ at_less ∷ (((at_colons or_else at_less_only or_else at_paren or_else at_word w_as) but_not at_colons) but_not at_word w_as) ∷ (at_colons but_not at_colons) ∷ ((at_bang or_else at_colons and_also ahead Before_macro) but_not at_colons) ∷ ((at_path_rest and_also ahead Bang_brace) but_not at_colons) ∷ ((at_path_rest and_also ahead Bang_name) but_not at_colons) ∷ at_name ∷ at_brace ∷ at_word w_trait ∷ (at_word w_unsafe or_else at_word w_impl) ∷ ended ∷ (at_paren but_not at_paren) ∷ ((((at_colons or_else at_less_only or_else at_paren or_else at_word w_as) but_not at_colons) but_not at_paren) but_not at_word w_as) ∷ ((((at_colons or_else at_less_only or_else at_paren or_else at_word w_as) but_not at_colons) but_not at_word w_as) but_not at_paren) ∷ []; halts = at_mark and_and ∷ at_bar_operator ∷ at_caret_operator ∷ at_ampersand_operator ∷ at_greater_greater_operator ∷ at_less_less_operator ∷ at_minus_operator ∷ at_plus_operator ∷ at_percent_operator ∷ at_slash_operator ∷ at_star_operator ∷ at_word w_as ∷ at_colons ∷ at_arguments ∷ at_arrow ∷ at_dot ∷ at_question ∷ at_bracket ∷ at_paren ∷ at_whole_expression ∷ at_lifetime ∷ at_unfinished ∷ at_mark greater_greater_equals ∷ at_mark less_less_equals ∷ at_mark bar_equals ∷ at_mark ampersand_equals ∷ at_mark caret_equals ∷ at_mark percent_equals ∷ at_mark slash_equals ∷ at_mark star_equals ∷ at_mark minus_equals ∷ at_mark plus_equals ∷ at_equals_operator ∷ at_mark or_or ∷ at_word w_else ∷ at_mark greater_equals ∷ at_mark less_equals ∷ at_greater_operator ∷ at_less_operator ∷ at_mark not_equals ∷ at_mark equal_equal ∷ at_turbofish ∷ []; shuns = [] }
+shown_summary_of true conjunction = record { stays = Punctuation pound ∷ Punctuation minus ∷ Punctuation star ∷ Punctuation ampersand ∷ Word w_true ∷ Word w_false ∷ Literal Str ∷ Literal ByteStr ∷ Literal CStr ∷ Literal Byte ∷ Literal Char ∷ Literal Int ∷ Literal Float ∷ Punctuation colons ∷ Name ∷ Word w_union ∷ Word w_auto ∷ Word w_default ∷ Word w_safe ∷ Word w_self ∷ Word w_Self_type ∷ Word w_super ∷ Word w_crate ∷ Delimited Paren false ∷ Delimited Bracket false ∷ Delimited None false ∷ Word w_if ∷ Punctuation lifetime_mark ∷ Delimited Brace false ∷ Word w_loop ∷ Word w_while ∷ Word w_for ∷ Word w_return ∷ Word w_break ∷ Word w_continue ∷ []; moves = move (Punctuation arrow) (Punctuation minus) [] ∷ move (Punctuation minus_equals) (Punctuation minus) [] ∷ move (Punctuation exclamation) (Punctuation exclamation) [] ∷ move (Punctuation not_equals) (Punctuation exclamation) [] ∷ move (Punctuation star_equals) (Punctuation star) [] ∷ move (Punctuation and_and) (Punctuation ampersand) [] ∷ move (Punctuation ampersand_equals) (Punctuation ampersand) [] ∷ move (Word w_unsafe) (Word w_unsafe) [] ∷ move (Punctuation less) (Punctuation less) [] ∷ move (Punctuation less_less_equals) (Punctuation less) [] ∷ move (Punctuation less_equals) (Punctuation less) [] ∷ move (Punctuation less_less) (Punctuation less) [] ∷ []; nullable = false; gone = []; ends = at_equals ∷ at_paren ∷ at_less ∷ (((at_colons or_else at_less_only or_else at_paren or_else at_word w_as) but_not at_colons) but_not at_word w_as) ∷ (at_colons but_not at_colons) ∷ ((at_bang or_else at_colons and_also ahead Before_macro) but_not at_colons) ∷ ((at_path_rest and_also ahead Bang_brace) but_not at_colons) ∷ ((at_path_rest and_also ahead Bang_name) but_not at_colons) ∷ at_name ∷ at_brace ∷ at_word w_trait ∷ (at_word w_unsafe or_else at_word w_impl) ∷ ended ∷ (at_paren but_not at_paren) ∷ ((((at_colons or_else at_less_only or_else at_paren or_else at_word w_as) but_not at_colons) but_not at_paren) but_not at_word w_as) ∷ ((((at_colons or_else at_less_only or_else at_paren or_else at_word w_as) but_not at_colons) but_not at_word w_as) but_not at_paren) ∷ []; halts = at_mark and_and ∷ at_bar_operator ∷ at_caret_operator ∷ at_ampersand_operator ∷ at_greater_greater_operator ∷ at_less_less_operator ∷ at_minus_operator ∷ at_plus_operator ∷ at_percent_operator ∷ at_slash_operator ∷ at_star_operator ∷ at_word w_as ∷ at_colons ∷ at_arguments ∷ at_arrow ∷ at_dot ∷ at_question ∷ at_bracket ∷ at_paren ∷ at_whole_expression ∷ at_lifetime ∷ at_unfinished ∷ at_mark greater_greater_equals ∷ at_mark less_less_equals ∷ at_mark bar_equals ∷ at_mark ampersand_equals ∷ at_mark caret_equals ∷ at_mark percent_equals ∷ at_mark slash_equals ∷ at_mark star_equals ∷ at_mark minus_equals ∷ at_mark plus_equals ∷ at_equals_operator ∷ at_mark or_or ∷ at_word w_else ∷ at_mark greater_equals ∷ at_mark less_equals ∷ at_greater_operator ∷ at_less_operator ∷ at_mark not_equals ∷ at_mark equal_equal ∷ at_turbofish ∷ []; shuns = [] }
+shown_summary_of true disjunctions = record { stays = Punctuation or_or ∷ []; moves = []; nullable = true; gone = []; ends = at_equals ∷ at_paren ∷ at_less ∷ (((at_colons or_else at_less_only or_else at_paren or_else at_word w_as) but_not at_colons) but_not at_word w_as) ∷ (at_colons but_not at_colons) ∷ ((at_bang or_else at_colons and_also ahead Before_macro) but_not at_colons) ∷ ((at_path_rest and_also ahead Bang_brace) but_not at_colons) ∷ ((at_path_rest and_also ahead Bang_name) but_not at_colons) ∷ at_name ∷ at_brace ∷ at_word w_trait ∷ (at_word w_unsafe or_else at_word w_impl) ∷ ended ∷ (at_paren but_not at_paren) ∷ ((((at_colons or_else at_less_only or_else at_paren or_else at_word w_as) but_not at_colons) but_not at_paren) but_not at_word w_as) ∷ ((((at_colons or_else at_less_only or_else at_paren or_else at_word w_as) but_not at_colons) but_not at_word w_as) but_not at_paren) ∷ []; halts = at_mark or_or ∷ at_mark and_and ∷ at_bar_operator ∷ at_caret_operator ∷ at_ampersand_operator ∷ at_greater_greater_operator ∷ at_less_less_operator ∷ at_minus_operator ∷ at_plus_operator ∷ at_percent_operator ∷ at_slash_operator ∷ at_star_operator ∷ at_word w_as ∷ at_colons ∷ at_arguments ∷ at_arrow ∷ at_dot ∷ at_question ∷ at_bracket ∷ at_paren ∷ at_whole_expression ∷ at_lifetime ∷ at_unfinished ∷ at_mark greater_greater_equals ∷ at_mark less_less_equals ∷ at_mark bar_equals ∷ at_mark ampersand_equals ∷ at_mark caret_equals ∷ at_mark percent_equals ∷ at_mark slash_equals ∷ at_mark star_equals ∷ at_mark minus_equals ∷ at_mark plus_equals ∷ at_equals_operator ∷ at_word w_else ∷ at_mark greater_equals ∷ at_mark less_equals ∷ at_greater_operator ∷ at_less_operator ∷ at_mark not_equals ∷ at_mark equal_equal ∷ at_turbofish ∷ []; shuns = [] }
+shown_summary_of true disjunction = record { stays = Punctuation pound ∷ Punctuation minus ∷ Punctuation star ∷ Punctuation ampersand ∷ Word w_true ∷ Word w_false ∷ Literal Str ∷ Literal ByteStr ∷ Literal CStr ∷ Literal Byte ∷ Literal Char ∷ Literal Int ∷ Literal Float ∷ Punctuation colons ∷ Name ∷ Word w_union ∷ Word w_auto ∷ Word w_default ∷ Word w_safe ∷ Word w_self ∷ Word w_Self_type ∷ Word w_super ∷ Word w_crate ∷ Delimited Paren false ∷ Delimited Bracket false ∷ Delimited None false ∷ Word w_if ∷ Punctuation lifetime_mark ∷ Delimited Brace false ∷ Word w_loop ∷ Word w_while ∷ Word w_for ∷ Word w_return ∷ Word w_break ∷ Word w_continue ∷ []; moves = move (Punctuation arrow) (Punctuation minus) [] ∷ move (Punctuation minus_equals) (Punctuation minus) [] ∷ move (Punctuation exclamation) (Punctuation exclamation) [] ∷ move (Punctuation not_equals) (Punctuation exclamation) [] ∷ move (Punctuation star_equals) (Punctuation star) [] ∷ move (Punctuation and_and) (Punctuation ampersand) [] ∷ move (Punctuation ampersand_equals) (Punctuation ampersand) [] ∷ move (Word w_unsafe) (Word w_unsafe) [] ∷ move (Punctuation less) (Punctuation less) [] ∷ move (Punctuation less_less_equals) (Punctuation less) [] ∷ move (Punctuation less_equals) (Punctuation less) [] ∷ move (Punctuation less_less) (Punctuation less) [] ∷ []; nullable = false; gone = []; ends = at_equals ∷ at_paren ∷ at_less ∷ (((at_colons or_else at_less_only or_else at_paren or_else at_word w_as) but_not at_colons) but_not at_word w_as) ∷ (at_colons but_not at_colons) ∷ ((at_bang or_else at_colons and_also ahead Before_macro) but_not at_colons) ∷ ((at_path_rest and_also ahead Bang_brace) but_not at_colons) ∷ ((at_path_rest and_also ahead Bang_name) but_not at_colons) ∷ at_name ∷ at_brace ∷ at_word w_trait ∷ (at_word w_unsafe or_else at_word w_impl) ∷ ended ∷ (at_paren but_not at_paren) ∷ ((((at_colons or_else at_less_only or_else at_paren or_else at_word w_as) but_not at_colons) but_not at_paren) but_not at_word w_as) ∷ ((((at_colons or_else at_less_only or_else at_paren or_else at_word w_as) but_not at_colons) but_not at_word w_as) but_not at_paren) ∷ []; halts = at_mark or_or ∷ at_mark and_and ∷ at_bar_operator ∷ at_caret_operator ∷ at_ampersand_operator ∷ at_greater_greater_operator ∷ at_less_less_operator ∷ at_minus_operator ∷ at_plus_operator ∷ at_percent_operator ∷ at_slash_operator ∷ at_star_operator ∷ at_word w_as ∷ at_colons ∷ at_arguments ∷ at_arrow ∷ at_dot ∷ at_question ∷ at_bracket ∷ at_paren ∷ at_whole_expression ∷ at_lifetime ∷ at_unfinished ∷ at_mark greater_greater_equals ∷ at_mark less_less_equals ∷ at_mark bar_equals ∷ at_mark ampersand_equals ∷ at_mark caret_equals ∷ at_mark percent_equals ∷ at_mark slash_equals ∷ at_mark star_equals ∷ at_mark minus_equals ∷ at_mark plus_equals ∷ at_equals_operator ∷ at_word w_else ∷ at_mark greater_equals ∷ at_mark less_equals ∷ at_greater_operator ∷ at_less_operator ∷ at_mark not_equals ∷ at_mark equal_equal ∷ at_turbofish ∷ []; shuns = [] }
+shown_summary_of true assigned = record { stays = Punctuation equals ∷ Punctuation plus_equals ∷ Punctuation minus_equals ∷ Punctuation star_equals ∷ Punctuation slash_equals ∷ Punctuation percent_equals ∷ Punctuation caret_equals ∷ Punctuation ampersand_equals ∷ Punctuation bar_equals ∷ Punctuation greater_greater_equals ∷ []; moves = move (Punctuation (61 ∷ 62 ∷ [])) (Punctuation equals) [] ∷ move (Punctuation less_less_equals) (Punctuation less_less_equals) [] ∷ []; nullable = true; gone = []; ends = at_equals ∷ at_paren ∷ at_less ∷ (((at_colons or_else at_less_only or_else at_paren or_else at_word w_as) but_not at_colons) but_not at_word w_as) ∷ (at_colons but_not at_colons) ∷ ((at_bang or_else at_colons and_also ahead Before_macro) but_not at_colons) ∷ ((at_path_rest and_also ahead Bang_brace) but_not at_colons) ∷ ((at_path_rest and_also ahead Bang_name) but_not at_colons) ∷ at_name ∷ at_brace ∷ at_word w_trait ∷ (at_word w_unsafe or_else at_word w_impl) ∷ ended ∷ (at_paren but_not at_paren) ∷ ((((at_colons or_else at_less_only or_else at_paren or_else at_word w_as) but_not at_colons) but_not at_paren) but_not at_word w_as) ∷ ((((at_colons or_else at_less_only or_else at_paren or_else at_word w_as) but_not at_colons) but_not at_word w_as) but_not at_paren) ∷ []; halts = at_unfinished ∷ at_mark greater_greater_equals ∷ at_mark less_less_equals ∷ at_mark bar_equals ∷ at_mark ampersand_equals ∷ at_mark caret_equals ∷ at_mark percent_equals ∷ at_mark slash_equals ∷ at_mark star_equals ∷ at_mark minus_equals ∷ at_mark plus_equals ∷ at_equals_operator ∷ at_mark or_or ∷ at_mark and_and ∷ at_mark greater_equals ∷ at_mark less_equals ∷ at_greater_operator ∷ at_less_operator ∷ at_mark not_equals ∷ at_mark equal_equal ∷ at_bar_operator ∷ at_caret_operator ∷ at_ampersand_operator ∷ at_greater_greater_operator ∷ at_less_less_operator ∷ at_minus_operator ∷ at_plus_operator ∷ at_percent_operator ∷ at_slash_operator ∷ at_star_operator ∷ at_word w_as ∷ at_dot ∷ at_question ∷ at_bracket ∷ at_paren ∷ at_whole_expression ∷ at_lifetime ∷ at_colons ∷ at_arguments ∷ at_arrow ∷ at_word w_else ∷ at_turbofish ∷ []; shuns = [] }
+shown_summary_of true whole_expression = record { stays = Punctuation pound ∷ Punctuation minus ∷ Punctuation star ∷ Punctuation ampersand ∷ Word w_true ∷ Word w_false ∷ Literal Str ∷ Literal ByteStr ∷ Literal CStr ∷ Literal Byte ∷ Literal Char ∷ Literal Int ∷ Literal Float ∷ Punctuation colons ∷ Name ∷ Word w_union ∷ Word w_auto ∷ Word w_default ∷ Word w_safe ∷ Word w_self ∷ Word w_Self_type ∷ Word w_super ∷ Word w_crate ∷ Delimited Paren false ∷ Delimited Bracket false ∷ Delimited None false ∷ Word w_if ∷ Punctuation lifetime_mark ∷ Delimited Brace false ∷ Word w_loop ∷ Word w_while ∷ Word w_for ∷ Word w_return ∷ Word w_break ∷ Word w_continue ∷ []; moves = move (Punctuation arrow) (Punctuation minus) [] ∷ move (Punctuation minus_equals) (Punctuation minus) [] ∷ move (Punctuation exclamation) (Punctuation exclamation) [] ∷ move (Punctuation not_equals) (Punctuation exclamation) [] ∷ move (Punctuation star_equals) (Punctuation star) [] ∷ move (Punctuation and_and) (Punctuation ampersand) [] ∷ move (Punctuation ampersand_equals) (Punctuation ampersand) [] ∷ move (Word w_unsafe) (Word w_unsafe) [] ∷ move (Punctuation less) (Punctuation less) [] ∷ move (Punctuation less_less_equals) (Punctuation less) [] ∷ move (Punctuation less_equals) (Punctuation less) [] ∷ move (Punctuation less_less) (Punctuation less) [] ∷ []; nullable = false; gone = []; ends = at_equals ∷ at_paren ∷ at_less ∷ (((at_colons or_else at_less_only or_else at_paren or_else at_word w_as) but_not at_colons) but_not at_word w_as) ∷ (at_colons but_not at_colons) ∷ ((at_bang or_else at_colons and_also ahead Before_macro) but_not at_colons) ∷ ((at_path_rest and_also ahead Bang_brace) but_not at_colons) ∷ ((at_path_rest and_also ahead Bang_name) but_not at_colons) ∷ at_name ∷ at_brace ∷ at_word w_trait ∷ (at_word w_unsafe or_else at_word w_impl) ∷ ended ∷ (at_paren but_not at_paren) ∷ ((((at_colons or_else at_less_only or_else at_paren or_else at_word w_as) but_not at_colons) but_not at_paren) but_not at_word w_as) ∷ ((((at_colons or_else at_less_only or_else at_paren or_else at_word w_as) but_not at_colons) but_not at_word w_as) but_not at_paren) ∷ []; halts = at_unfinished ∷ at_mark greater_greater_equals ∷ at_mark less_less_equals ∷ at_mark bar_equals ∷ at_mark ampersand_equals ∷ at_mark caret_equals ∷ at_mark percent_equals ∷ at_mark slash_equals ∷ at_mark star_equals ∷ at_mark minus_equals ∷ at_mark plus_equals ∷ at_equals_operator ∷ at_mark or_or ∷ at_mark and_and ∷ at_bar_operator ∷ at_caret_operator ∷ at_ampersand_operator ∷ at_greater_greater_operator ∷ at_less_less_operator ∷ at_minus_operator ∷ at_plus_operator ∷ at_percent_operator ∷ at_slash_operator ∷ at_star_operator ∷ at_word w_as ∷ at_colons ∷ at_arguments ∷ at_arrow ∷ at_dot ∷ at_question ∷ at_bracket ∷ at_paren ∷ at_whole_expression ∷ at_lifetime ∷ at_word w_else ∷ at_mark greater_equals ∷ at_mark less_equals ∷ at_greater_operator ∷ at_less_operator ∷ at_mark not_equals ∷ at_mark equal_equal ∷ at_turbofish ∷ []; shuns = [] }
+shown_summary_of true operand_rest = record { stays = []; moves = []; nullable = false; gone = []; ends = []; halts = []; shuns = [] }
+shown_summary_of true statements = record { stays = Punctuation semicolon ∷ Punctuation pound ∷ Word w_crate ∷ Punctuation colons ∷ Name ∷ Word w_union ∷ Word w_auto ∷ Word w_default ∷ Word w_safe ∷ Word w_self ∷ Word w_Self_type ∷ Word w_super ∷ Word w_let ∷ Word w_if ∷ Punctuation lifetime_mark ∷ Delimited Brace false ∷ Word w_loop ∷ Word w_while ∷ Word w_for ∷ Punctuation minus ∷ Punctuation star ∷ Punctuation ampersand ∷ Word w_true ∷ Word w_false ∷ Literal Str ∷ Literal ByteStr ∷ Literal CStr ∷ Literal Byte ∷ Literal Char ∷ Literal Int ∷ Literal Float ∷ Delimited Paren false ∷ Delimited Bracket false ∷ Delimited None false ∷ Word w_return ∷ Word w_break ∷ Word w_continue ∷ []; moves = move (Word w_unsafe) (Word w_unsafe) [] ∷ move (Punctuation arrow) (Punctuation minus) [] ∷ move (Punctuation minus_equals) (Punctuation minus) [] ∷ move (Punctuation exclamation) (Punctuation exclamation) [] ∷ move (Punctuation not_equals) (Punctuation exclamation) [] ∷ move (Punctuation star_equals) (Punctuation star) [] ∷ move (Punctuation and_and) (Punctuation ampersand) [] ∷ move (Punctuation ampersand_equals) (Punctuation ampersand) [] ∷ move (Punctuation less) (Punctuation less) [] ∷ move (Punctuation less_less_equals) (Punctuation less) [] ∷ move (Punctuation less_equals) (Punctuation less) [] ∷ move (Punctuation less_less) (Punctuation less) [] ∷ []; nullable = true; gone = []; ends = ended ∷ at_postfix_mark ∷ at_equals ∷ at_paren ∷ at_less ∷ (((at_colons or_else at_less_only or_else at_paren or_else at_word w_as) but_not at_colons) but_not at_word w_as) ∷ (at_colons but_not at_colons) ∷ ((at_bang or_else at_colons and_also ahead Before_macro) but_not at_colons) ∷ ((at_path_rest and_also ahead Bang_brace) but_not at_colons) ∷ ((at_path_rest and_also ahead Bang_name) but_not at_colons) ∷ at_name ∷ at_brace ∷ at_word w_trait ∷ (at_word w_unsafe or_else at_word w_impl) ∷ (at_paren but_not at_paren) ∷ ((((at_colons or_else at_less_only or_else at_paren or_else at_word w_as) but_not at_colons) but_not at_paren) but_not at_word w_as) ∷ ((((at_colons or_else at_less_only or_else at_paren or_else at_word w_as) but_not at_colons) but_not at_word w_as) but_not at_paren) ∷ []; halts = at_semicolon ∷ at_postfix_mark ∷ at_unfinished ∷ at_mark greater_greater_equals ∷ at_mark less_less_equals ∷ at_mark bar_equals ∷ at_mark ampersand_equals ∷ at_mark caret_equals ∷ at_mark percent_equals ∷ at_mark slash_equals ∷ at_mark star_equals ∷ at_mark minus_equals ∷ at_mark plus_equals ∷ at_equals_operator ∷ at_mark or_or ∷ at_mark and_and ∷ at_mark greater_equals ∷ at_mark less_equals ∷ at_greater_operator ∷ at_less_operator ∷ at_mark not_equals ∷ at_mark equal_equal ∷ at_bar_operator ∷ at_caret_operator ∷ at_ampersand_operator ∷ at_greater_greater_operator ∷ at_less_less_operator ∷ at_minus_operator ∷ at_plus_operator ∷ at_percent_operator ∷ at_slash_operator ∷ at_star_operator ∷ at_word w_as ∷ at_dot ∷ at_question ∷ at_bracket ∷ at_paren ∷ at_colons ∷ at_word w_else ∷ at_whole_expression ∷ at_lifetime ∷ at_arguments ∷ at_arrow ∷ at_turbofish ∷ []; shuns = [] }
+shown_summary_of true statement_rest = record { stays = Word w_crate ∷ Punctuation colons ∷ Name ∷ Word w_union ∷ Word w_auto ∷ Word w_default ∷ Word w_safe ∷ Word w_self ∷ Word w_Self_type ∷ Word w_super ∷ Word w_let ∷ Word w_if ∷ Punctuation lifetime_mark ∷ Delimited Brace false ∷ Word w_loop ∷ Word w_while ∷ Word w_for ∷ Punctuation pound ∷ Punctuation minus ∷ Punctuation star ∷ Punctuation ampersand ∷ Word w_true ∷ Word w_false ∷ Literal Str ∷ Literal ByteStr ∷ Literal CStr ∷ Literal Byte ∷ Literal Char ∷ Literal Int ∷ Literal Float ∷ Delimited Paren false ∷ Delimited Bracket false ∷ Delimited None false ∷ Word w_return ∷ Word w_break ∷ Word w_continue ∷ []; moves = move (Word w_unsafe) (Word w_unsafe) [] ∷ move (Punctuation arrow) (Punctuation minus) [] ∷ move (Punctuation minus_equals) (Punctuation minus) [] ∷ move (Punctuation exclamation) (Punctuation exclamation) [] ∷ move (Punctuation not_equals) (Punctuation exclamation) [] ∷ move (Punctuation star_equals) (Punctuation star) [] ∷ move (Punctuation and_and) (Punctuation ampersand) [] ∷ move (Punctuation ampersand_equals) (Punctuation ampersand) [] ∷ move (Punctuation less) (Punctuation less) [] ∷ move (Punctuation less_less_equals) (Punctuation less) [] ∷ move (Punctuation less_equals) (Punctuation less) [] ∷ move (Punctuation less_less) (Punctuation less) [] ∷ []; nullable = false; gone = []; ends = ended ∷ at_postfix_mark ∷ at_equals ∷ at_paren ∷ at_less ∷ (((at_colons or_else at_less_only or_else at_paren or_else at_word w_as) but_not at_colons) but_not at_word w_as) ∷ (at_colons but_not at_colons) ∷ ((at_bang or_else at_colons and_also ahead Before_macro) but_not at_colons) ∷ ((at_path_rest and_also ahead Bang_brace) but_not at_colons) ∷ ((at_path_rest and_also ahead Bang_name) but_not at_colons) ∷ at_name ∷ at_brace ∷ at_word w_trait ∷ (at_word w_unsafe or_else at_word w_impl) ∷ (at_paren but_not at_paren) ∷ ((((at_colons or_else at_less_only or_else at_paren or_else at_word w_as) but_not at_colons) but_not at_paren) but_not at_word w_as) ∷ ((((at_colons or_else at_less_only or_else at_paren or_else at_word w_as) but_not at_colons) but_not at_word w_as) but_not at_paren) ∷ []; halts = at_semicolon ∷ at_postfix_mark ∷ at_unfinished ∷ at_mark greater_greater_equals ∷ at_mark less_less_equals ∷ at_mark bar_equals ∷ at_mark ampersand_equals ∷ at_mark caret_equals ∷ at_mark percent_equals ∷ at_mark slash_equals ∷ at_mark star_equals ∷ at_mark minus_equals ∷ at_mark plus_equals ∷ at_equals_operator ∷ at_mark or_or ∷ at_mark and_and ∷ at_mark greater_equals ∷ at_mark less_equals ∷ at_greater_operator ∷ at_less_operator ∷ at_mark not_equals ∷ at_mark equal_equal ∷ at_bar_operator ∷ at_caret_operator ∷ at_ampersand_operator ∷ at_greater_greater_operator ∷ at_less_less_operator ∷ at_minus_operator ∷ at_plus_operator ∷ at_percent_operator ∷ at_slash_operator ∷ at_star_operator ∷ at_word w_as ∷ at_dot ∷ at_question ∷ at_bracket ∷ at_paren ∷ at_colons ∷ at_word w_else ∷ at_whole_expression ∷ at_lifetime ∷ at_arguments ∷ at_arrow ∷ at_turbofish ∷ []; shuns = [] }
+shown_summary_of true after_block = record { stays = []; moves = []; nullable = false; gone = []; ends = []; halts = []; shuns = [] }
+shown_summary_of true after_expression = record { stays = Punctuation semicolon ∷ []; moves = []; nullable = true; gone = []; ends = ended ∷ at_postfix_mark ∷ at_equals ∷ at_paren ∷ at_less ∷ (((at_colons or_else at_less_only or_else at_paren or_else at_word w_as) but_not at_colons) but_not at_word w_as) ∷ (at_colons but_not at_colons) ∷ ((at_bang or_else at_colons and_also ahead Before_macro) but_not at_colons) ∷ ((at_path_rest and_also ahead Bang_brace) but_not at_colons) ∷ ((at_path_rest and_also ahead Bang_name) but_not at_colons) ∷ at_name ∷ at_brace ∷ at_word w_trait ∷ (at_word w_unsafe or_else at_word w_impl) ∷ (at_paren but_not at_paren) ∷ ((((at_colons or_else at_less_only or_else at_paren or_else at_word w_as) but_not at_colons) but_not at_paren) but_not at_word w_as) ∷ ((((at_colons or_else at_less_only or_else at_paren or_else at_word w_as) but_not at_colons) but_not at_word w_as) but_not at_paren) ∷ []; halts = at_semicolon ∷ at_postfix_mark ∷ at_unfinished ∷ at_mark greater_greater_equals ∷ at_mark less_less_equals ∷ at_mark bar_equals ∷ at_mark ampersand_equals ∷ at_mark caret_equals ∷ at_mark percent_equals ∷ at_mark slash_equals ∷ at_mark star_equals ∷ at_mark minus_equals ∷ at_mark plus_equals ∷ at_equals_operator ∷ at_mark or_or ∷ at_mark and_and ∷ at_mark greater_equals ∷ at_mark less_equals ∷ at_greater_operator ∷ at_less_operator ∷ at_mark not_equals ∷ at_mark equal_equal ∷ at_bar_operator ∷ at_caret_operator ∷ at_ampersand_operator ∷ at_greater_greater_operator ∷ at_less_less_operator ∷ at_minus_operator ∷ at_plus_operator ∷ at_percent_operator ∷ at_slash_operator ∷ at_star_operator ∷ at_word w_as ∷ at_dot ∷ at_question ∷ at_bracket ∷ at_paren ∷ at_colons ∷ at_word w_else ∷ at_whole_expression ∷ at_lifetime ∷ at_arguments ∷ at_arrow ∷ at_turbofish ∷ []; shuns = [] }
+shown_summary_of true statement = record { stays = []; moves = []; nullable = false; gone = []; ends = []; halts = []; shuns = [] }
+shown_summary_of true statement_end = record { stays = []; moves = []; nullable = false; gone = []; ends = []; halts = []; shuns = [] }
+shown_summary_of true local = record { stays = Word w_let ∷ []; moves = []; nullable = false; gone = []; ends = []; halts = []; shuns = [] }
+
 -- so it is
 pub starts_hold : IsSaid start_of table
 starts_hold attributes = (refl, λ e. refl)
