@@ -32,14 +32,20 @@ pub mod Turns
 pub mod PrintedValues
 pub mod Shown
 pub mod ExamplesOfAttributes
+mod ExamplesOfAllItems
 mod ExamplesOfExpressions
 mod ExamplesOfFields
+mod ExamplesOfFunctions
 mod ExamplesOfGenerics
+mod ExamplesOfHeads
 mod ExamplesOfItems
+mod ExamplesOfLiterals
 mod ExamplesOfOperators
 mod ExamplesOfPaths
 mod ExamplesOfPatterns
+mod ExamplesOfSmallItems
 mod ExamplesOfStatements
+mod ExamplesOfTraits
 mod ExamplesOfTypes
 pub mod Shapes
 mod WorkedValues
