@@ -56,3 +56,4 @@ pub mod Fades
 pub mod Cut
 pub mod Full
 pub mod Shows
+pub mod ItemStatements

@@ -19,3 +19,4 @@ pub mod Turns
 pub mod Same
 pub mod StandsAlone
 pub mod Alone
+pub mod ItemStatements

@@ -2,6 +2,7 @@
 //! Their statements stand in specs/Computed.antt.
 
 ghost use Rattle.syn_grammar.specs.Computed.{ParseMeans, ParseForms, ParseRows, ParseOnward, ValuePrints, OneValue, CapturedIsSome};
+ghost use Rattle.syn_grammar.specs.ItemStatements.{ItemStatements};
 ghost use Rattle.syn_grammar.specs.Alone.{ReadAlone, ValuesForgetSpans, ShowIsRead, ShowStandsAlone, ShowStandsBefore, SameShow};
 
 /// The computed reading answers exactly what the grammar derives: a value and a rest where a tree is
@@ -79,4 +80,11 @@ pub fn show_stands_before()
 /// bytes) aside, exactly where the tokens that are shown of them are. Holds of every token stream.
 pub fn same_show()
     ensures exactly { SameShow }
+{}
+
+/// Where an item stands next behind its attributes, a statement is what the rule `item` reads of the
+/// same tokens, attributes and all; and a list of statements is this and the statements behind it.
+/// Holds of every token stream.
+pub fn item_statements()
+    ensures as_items { ItemStatements }
 {}
