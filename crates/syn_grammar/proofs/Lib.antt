@@ -56,4 +56,6 @@ pub mod Fades
 pub mod Cut
 pub mod Full
 pub mod Shows
+pub mod Grows
+pub mod StillProved
 pub mod ItemStatements

@@ -9,6 +9,8 @@ pub mod Forms
 pub mod Values
 pub mod Table
 pub mod Laws
+pub mod Before
+pub mod Grows
 pub mod Codes
 pub mod TreeCodes
 pub mod Take
