@@ -18,7 +18,7 @@ use Rattle.syn_grammar.proofs.Alone.{of_every_rule, implies, by_implied}
 abbrev at_brace_group : Look
 at_brace_group = at_group Brace
 
-brace_terminal : (f : Terminal) → is_group Brace f ≡ true → (v : Bool) × (f ≡ Delimited Brace v)
+pub brace_terminal : (f : Terminal) → is_group Brace f ≡ true → (v : Bool) × (f ≡ Delimited Brace v)
 brace_terminal (Delimited d v) e = (v, ap (λ z. Delimited z v) (sym (same_delimiter_eq Brace d e)))
 brace_terminal Ended e = absurd (true≢false (sym e))
 brace_terminal Name e = absurd (true≢false (sym e))

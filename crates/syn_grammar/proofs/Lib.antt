@@ -59,3 +59,4 @@ pub mod Shows
 pub mod Grows
 pub mod StillProved
 pub mod ItemStatements
+pub mod UseGroups

@@ -22,3 +22,4 @@ pub mod Same
 pub mod StandsAlone
 pub mod Alone
 pub mod ItemStatements
+pub mod UseGroups

@@ -3,6 +3,7 @@
 
 ghost use Rattle.syn_grammar.specs.Computed.{ParseMeans, ParseForms, ParseRows, ParseOnward, ValuePrints, OneValue, CapturedIsSome};
 ghost use Rattle.syn_grammar.specs.ItemStatements.{ItemStatements};
+ghost use Rattle.syn_grammar.specs.UseGroups.{UseGroups};
 ghost use Rattle.syn_grammar.specs.Alone.{ReadAlone, ValuesForgetSpans, ShowIsRead, ShowStandsAlone, ShowStandsBefore, SameShow};
 
 /// The computed reading answers exactly what the grammar derives: a value and a rest where a tree is
@@ -87,4 +88,11 @@ pub fn same_show()
 /// Holds of every token stream.
 pub fn item_statements()
     ensures as_items { ItemStatements }
+{}
+
+/// Trees of a use in braces, of which none has `::` before it, are read alike by the two rules of them:
+/// what `use_trees` reads, `rooted_trees` reads as such trees, and the other way round. Holds of every
+/// token stream.
+pub fn use_groups()
+    ensures alike { UseGroups }
 {}
