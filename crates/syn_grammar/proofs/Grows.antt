@@ -425,15 +425,15 @@ becomes k s ts r n f_trait f_impl f_odd f_same x =
     by (same_rule k const_trait)
     (λ e. a_trait e (f_trait (of_rule k const_trait s ts r e x)))
     (λ e. by (same_rule k const_impl)
-        (λ f. an_impl e f (f_impl (of_rule k const_impl s ts r f x)))
-        (λ f. a_kept e f (by (same_rule k odd_const_impl)
-            (λ q. subst (λ v. DerivesPrefix table (table kept_item_rest) (pick v (Case odd_impl (lift_in true s)) (Case k (lift_in true s))) ts r) (sym q)
-                (refl, f_odd (of_rule k odd_const_impl s ts r q x)))
-            (λ q. subst (λ v. DerivesPrefix table (table kept_item_rest) (pick v (Case odd_impl (lift_in true s)) (Case k (lift_in true s))) ts r) (sym q)
-                (let w = still (and_right (no (same_rule k kept_item)) _ (form_holds k n)) (ap₂ or e (ap₂ or f (ap₂ or q refl))) in
-                let u = and_right (among k kept_now) _ w in
-                let v = and_right (no (is_part k)) _ u in
-                (and_left (among k kept_now) _ w, f_same (no_true (is_part k) (and_left (no (is_part k)) _ u)) (no_true (is_list k) (and_left (no (is_list k)) _ v)) (no_true (needs k) (and_right (no (is_list k)) _ v)) x))))))
+    (λ f. an_impl e f (f_impl (of_rule k const_impl s ts r f x)))
+    (λ f. a_kept e f (by (same_rule k odd_const_impl)
+    (λ q. subst (λ v. DerivesPrefix table (table kept_item_rest) (pick v (Case odd_impl (lift_in true s)) (Case k (lift_in true s))) ts r) (sym q)
+    (refl, f_odd (of_rule k odd_const_impl s ts r q x)))
+    (λ q. subst (λ v. DerivesPrefix table (table kept_item_rest) (pick v (Case odd_impl (lift_in true s)) (Case k (lift_in true s))) ts r) (sym q)
+    (let w = still (and_right (no (same_rule k kept_item)) _ (form_holds k n)) (ap₂ or e (ap₂ or f (ap₂ or q refl))) in
+    let u = and_right (among k kept_now) _ w in
+    let v = and_right (no (is_part k)) _ u in
+    (and_left (among k kept_now) _ w, f_same (no_true (is_part k) (and_left (no (is_part k)) _ u)) (no_true (is_list k) (and_left (no (is_list k)) _ v)) (no_true (needs k) (and_right (no (is_list k)) _ v)) x))))))
   where
     still : or (is_moved k) (and (among k kept_now) (and (no (is_part k)) (and (no (is_list k)) (no (needs k))))) ≡ true → is_moved k ≡ false → and (among k kept_now) (and (no (is_part k)) (and (no (is_list k)) (no (needs k)))) ≡ true
     still w f = go (or_split (is_moved k) _ w)
@@ -451,9 +451,9 @@ list_grown b k s ts r i c F many lone x =
     subst (λ z. DerivesPrefix table (table k) (lift_in z s) ts r) (sym (calm_list b k i c))
     (by (same_rule k statements)
     (λ q. let j = same_rule_eq k statements q in
-        subst (λ z. DerivesPrefix table (table z) (lift_in true s) ts r) (sym j) (many (subst (λ z. Free (needs z) r) j F) (of_rule k statements s ts r q x)))
+    subst (λ z. DerivesPrefix table (table z) (lift_in true s) ts r) (sym j) (many (subst (λ z. Free (needs z) r) j F) (of_rule k statements s ts r q x)))
     (λ q. let u = other q in
-        subst (λ z. DerivesPrefix table (table z) (lift_in true s) ts r) (sym (same_rule_eq k statement u)) (lone (of_rule k statement s ts r u x))))
+    subst (λ z. DerivesPrefix table (table z) (lift_in true s) ts r) (sym (same_rule_eq k statement u)) (lone (of_rule k statement s ts r u x))))
   where
     other : same_rule k statements ≡ false → same_rule k statement ≡ true
     other q = go (or_split (same_rule k statements) _ i)
@@ -474,14 +474,14 @@ mutual
       let w = here_at b a k (l ∷ ks) ls n e in
       by (same_rule k kept_item)
       (λ q. let v = subst (λ z. pick z (and b (has_kinds ls)) (and (among k ls) (may_name b a k)) ≡ true) q w in
-          case_kept b k s ts r ls q (and_left b _ v) (kept_grown s ts r ls (and_right b _ v) (of_rule k kept_item s ts r q x)))
+      case_kept b k s ts r ls q (and_left b _ v) (kept_grown s ts r ls (and_right b _ v) (of_rule k kept_item s ts r q x)))
       (λ q. let v = subst (λ z. pick z (and b (has_kinds ls)) (and (among k ls) (may_name b a k)) ≡ true) q w in
-          let u = and_right (among k ls) _ v in
-          let p = no_true (is_part k) (and_left (no (is_part k)) _ u) in
-          let f = and_right (no (is_part k)) _ u in
-          let c = and_right (or a (no (needs k))) _ f in
-          let d = enough a k r (and_left (or a (no (needs k))) _ f) F in
-          case_at b k s ts r ls q (and_left (among k ls) _ v) (by (is_list k) (λ i. list_grown b k s ts r i c d (λ w y. statements_grown s ts r w y) (λ y. statement_grown s ts r y) x) (λ i. grown b (needs k) (before k) (table k) s ts r (all_grow b k p i c) d x)))
+      let u = and_right (among k ls) _ v in
+      let p = no_true (is_part k) (and_left (no (is_part k)) _ u) in
+      let f = and_right (no (is_part k)) _ u in
+      let c = and_right (or a (no (needs k))) _ f in
+      let d = enough a k r (and_left (or a (no (needs k))) _ f) F in
+      case_at b k s ts r ls q (and_left (among k ls) _ v) (by (is_list k) (λ i. list_grown b k s ts r i c d (λ w y. statements_grown s ts r w y) (λ y. statement_grown s ts r y) x) (λ i. grown b (needs k) (before k) (table k) s ts r (all_grow b k p i c) d x)))
   grown b a (one_of (l ∷ ks)) (one_of ls) _ ts r e F x = elim x [ ]
   grown b a empty empty Nothing ts r e F x = x
   grown b a empty empty _ ts r e F x = elim x [ ]

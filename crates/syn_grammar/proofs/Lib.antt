@@ -60,3 +60,7 @@ pub mod Grows
 pub mod StillProved
 pub mod ItemStatements
 pub mod UseGroups
+pub mod Known
+pub mod Threads
+pub mod PlanShows
+pub mod Starts

@@ -79,9 +79,10 @@ mutual
   up (Left (Mark xs)) ts r (v, x) = ((not_colons (Left (Mark xs)) ts r (v, x), (no_brace ts v, (v, x))), (refl, (refl, refl)))
   up (Left _) ts r (v, x) = elim x [ ]
   up (Right (Left (Group d o c (Node l)))) ts r (v, (w, (p, i, q, x))) =
-      let u = ups l i end x in
-      ((not_colons (Right (Left (Group d o c (Node l)))) ts r (v, (w, (p, i, q, x))), (w, (p, i, q, u.0))),
-      (ap (λ z. Right (Left (Group d o c (Node z)))) u.1.0, (u.1.1.0, ap (λ z. Right (Left (Group d o c (Node z)))) u.1.1.1)))
+      let u = ups l i end x in (
+        (not_colons (Right (Left (Group d o c (Node l)))) ts r (v, (w, (p, i, q, x))), (w, (p, i, q, u.0))),
+        (ap (λ z. Right (Left (Group d o c (Node z)))) u.1.0, (u.1.1.0, ap (λ z. Right (Left (Group d o c (Node z)))) u.1.1.1)),
+      )
   up (Right (Left (Group d o c _))) ts r (v, (w, (p, i, q, x))) = elim x [ ]
   up (Right (Left _)) ts r (v, (w, x)) = elim x [ ]
   up (Right (Right s)) ts r (v, (w, h)) = ((not_colons (Right (Right s)) ts r (v, (w, h)), (w, (v, (w, h)))), (refl, (bare_tree (Right (Right s)) ts r (v, (w, h)), refl)))
@@ -93,9 +94,10 @@ mutual
   ups (Left _) ts r (v, x) = elim x [ ]
   ups (Right (Both (Node t) (Left (Both (Mark xs) (Node l))))) ts r (v, (m, x, (w, (m', a, b)))) =
       let p = up t ts m x in
-      let q = ups l m' r b in
-      ((v, (m, p.0, (w, (m', a, q.0)))),
-      (ap₂ (λ y z. Right (Both (Node y) (Left (Both (Mark xs) (Node z))))) p.1.0 q.1.0, (ap₂ or p.1.1.0 q.1.1.0, ap₂ (λ y z. Right (Both (Node y) (Left (Both (Mark xs) (Node z))))) p.1.1.1 q.1.1.1)))
+      let q = ups l m' r b in (
+        (v, (m, p.0, (w, (m', a, q.0)))),
+        (ap₂ (λ y z. Right (Both (Node y) (Left (Both (Mark xs) (Node z))))) p.1.0 q.1.0, (ap₂ or p.1.1.0 q.1.1.0, ap₂ (λ y z. Right (Both (Node y) (Left (Both (Mark xs) (Node z))))) p.1.1.1 q.1.1.1)),
+      )
   ups (Right (Both (Node t) (Left (Both (Mark xs) _)))) ts r (v, (m, x, (w, (m', a, b)))) = elim b [ ]
   ups (Right (Both (Node t) (Left (Both _ l)))) ts r (v, (m, x, (w, (m', a, b)))) = elim a [ ]
   ups (Right (Both (Node t) (Left _))) ts r (v, (m, x, (w, a))) = elim a [ ]
@@ -152,9 +154,10 @@ mutual
   downs (Left _) ts r (v, x) e = elim x [ ]
   downs (Right (Both (Node t) (Left (Both (Mark xs) (Node l))))) ts r (v, (m, x, (w, (m', a, b)))) e =
       let p = down t ts m x (off_left (has_part root_mark (value_of t)) (has_part root_mark (value_of l)) e) in
-      let q = downs l m' r b (off_right (has_part root_mark (value_of t)) (has_part root_mark (value_of l)) e) in
-      ((v, (m, p.0, (w, (m', a, q.0)))),
-      (ap₂ (λ y z. Right (Both (Node y) (Left (Both (Mark xs) (Node z))))) p.1.0 q.1.0, ap₂ (λ y z. Right (Both (Node y) (Left (Both (Mark xs) (Node z))))) p.1.1 q.1.1))
+      let q = downs l m' r b (off_right (has_part root_mark (value_of t)) (has_part root_mark (value_of l)) e) in (
+        (v, (m, p.0, (w, (m', a, q.0)))),
+        (ap₂ (λ y z. Right (Both (Node y) (Left (Both (Mark xs) (Node z))))) p.1.0 q.1.0, ap₂ (λ y z. Right (Both (Node y) (Left (Both (Mark xs) (Node z))))) p.1.1 q.1.1),
+      )
   downs (Right (Both (Node t) (Left (Both (Mark xs) _)))) ts r (v, (m, x, (w, (m', a, b)))) e = elim b [ ]
   downs (Right (Both (Node t) (Left (Both _ l)))) ts r (v, (m, x, (w, (m', a, b)))) e = elim a [ ]
   downs (Right (Both (Node t) (Left _))) ts r (v, (m, x, (w, a))) e = elim a [ ]
@@ -176,9 +179,10 @@ use_groups ts s r = (first, second)
         go : (t : Syntax) → DerivesPrefix table (rule use_trees) t ts r → value_of t ≡ Node s → (parse_rule rooted_trees ts ≡ Some (Node (rooted s), r)) × ((has_part root_mark (rooted s) ≡ false) × (unrooted (rooted s) ≡ s))
         go (Node t) d h =
             let i : value_of t ≡ s = cc (h) in
-            let u = ups t ts r d in
-            (parse_rule_found rooted_trees ts (Node (rooted t)) r u.0 ∙ ap (λ z. Some (Node z, r)) (u.1.0 ∙ ap rooted i),
-            (ap (λ z. has_part root_mark (rooted z)) (sym i) ∙ u.1.1.0, ap (λ z. unrooted (rooted z)) (sym i) ∙ u.1.1.1 ∙ i))
+            let u = ups t ts r d in (
+              parse_rule_found rooted_trees ts (Node (rooted t)) r u.0 ∙ ap (λ z. Some (Node z, r)) (u.1.0 ∙ ap rooted i),
+              (ap (λ z. has_part root_mark (rooted z)) (sym i) ∙ u.1.1.0, ap (λ z. unrooted (rooted z)) (sym i) ∙ u.1.1.1 ∙ i),
+            )
         go _ d h = elim d [ ]
 
     second : parse_rule rooted_trees ts ≡ Some (Node s, r) → has_part root_mark s ≡ false → (parse_rule use_trees ts ≡ Some (Node (unrooted s), r)) × (rooted (unrooted s) ≡ s)
@@ -187,7 +191,8 @@ use_groups ts s r = (first, second)
         go : (t : Syntax) → DerivesPrefix table (rule rooted_trees) t ts r → value_of t ≡ Node s → (parse_rule use_trees ts ≡ Some (Node (unrooted s), r)) × (rooted (unrooted s) ≡ s)
         go (Node t) d h =
             let i : value_of t ≡ s = cc (h) in
-            let u = downs t ts r d (ap (has_part root_mark) i ∙ w) in
-            (parse_rule_found use_trees ts (Node (unrooted t)) r u.0 ∙ ap (λ z. Some (Node z, r)) (u.1.0 ∙ ap unrooted i),
-            ap (λ z. rooted (unrooted z)) (sym i) ∙ u.1.1 ∙ i)
+            let u = downs t ts r d (ap (has_part root_mark) i ∙ w) in (
+              parse_rule_found use_trees ts (Node (unrooted t)) r u.0 ∙ ap (λ z. Some (Node z, r)) (u.1.0 ∙ ap unrooted i),
+              ap (λ z. rooted (unrooted z)) (sym i) ∙ u.1.1 ∙ i,
+            )
         go _ d h = elim d [ ]

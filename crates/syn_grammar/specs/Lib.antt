@@ -23,3 +23,4 @@ pub mod StandsAlone
 pub mod Alone
 pub mod ItemStatements
 pub mod UseGroups
+pub mod Plan
