@@ -64,3 +64,6 @@ pub mod Known
 pub mod Threads
 pub mod PlanShows
 pub mod Starts
+pub mod LoneWord
+pub mod ItemPlan
+pub mod PlanSteps

@@ -24,3 +24,4 @@ pub mod Alone
 pub mod ItemStatements
 pub mod UseGroups
 pub mod Plan
+pub mod ItemPlan

@@ -4,6 +4,7 @@
 ghost use Rattle.syn_grammar.specs.Computed.{ParseMeans, ParseForms, ParseRows, ParseOnward, ValuePrints, OneValue, CapturedIsSome};
 ghost use Rattle.syn_grammar.specs.ItemStatements.{ItemStatements};
 ghost use Rattle.syn_grammar.specs.UseGroups.{UseGroups};
+ghost use Rattle.syn_grammar.specs.ItemPlan.{ItemPlan};
 ghost use Rattle.syn_grammar.specs.Alone.{ReadAlone, ValuesForgetSpans, ShowIsRead, ShowStandsAlone, ShowStandsBefore, SameShow};
 
 /// The computed reading answers exactly what the grammar derives: a value and a rest where a tree is
@@ -95,4 +96,10 @@ pub fn item_statements()
 /// token stream.
 pub fn use_groups()
     ensures alike { UseGroups }
+{}
+
+/// The plan of an item (specs/ItemPlan), which has no union and reads no piece twice, reads what the
+/// rule `item` reads, as the same value. Holds of every token stream.
+pub fn item_plan()
+    ensures as_the_rule { ItemPlan }
 {}
