@@ -66,4 +66,6 @@ pub mod PlanShows
 pub mod Starts
 pub mod LoneWord
 pub mod ItemPlan
+pub mod MemberPlans
+pub mod Marked
 pub mod PlanSteps

@@ -25,3 +25,4 @@ pub mod ItemStatements
 pub mod UseGroups
 pub mod Plan
 pub mod ItemPlan
+pub mod MemberPlans

@@ -5,6 +5,7 @@ ghost use Rattle.syn_grammar.specs.Computed.{ParseMeans, ParseForms, ParseRows, 
 ghost use Rattle.syn_grammar.specs.ItemStatements.{ItemStatements};
 ghost use Rattle.syn_grammar.specs.UseGroups.{UseGroups};
 ghost use Rattle.syn_grammar.specs.ItemPlan.{ItemPlan};
+ghost use Rattle.syn_grammar.specs.MemberPlans.{TraitItemPlan, ImplItemPlan, ForeignItemPlan, PlansMarked, PlansShow};
 ghost use Rattle.syn_grammar.specs.Alone.{ReadAlone, ValuesForgetSpans, ShowIsRead, ShowStandsAlone, ShowStandsBefore, SameShow};
 
 /// The computed reading answers exactly what the grammar derives: a value and a rest where a tree is
@@ -102,4 +103,34 @@ pub fn use_groups()
 /// rule `item` reads, as the same value. Holds of every token stream.
 pub fn item_plan()
     ensures as_the_rule { ItemPlan }
+{}
+
+/// The plan of a member of a trait reads what the rule `trait_item` reads, as the same value. Holds of
+/// every token stream.
+pub fn trait_item_plan()
+    ensures as_the_rule { TraitItemPlan }
+{}
+
+/// The plan of a member of an impl reads what the rule `impl_item` reads, as the same value. Holds of
+/// every token stream.
+pub fn impl_item_plan()
+    ensures as_the_rule { ImplItemPlan }
+{}
+
+/// The plan of a foreign member reads what the rule `foreign_item` reads, as the same value. Holds of
+/// every token stream.
+pub fn foreign_item_plan()
+    ensures as_the_rule { ForeignItemPlan }
+{}
+
+/// In these four plans, what is read behind a mark (`keeps`) is kept as tokens or refused, and all
+/// else is of a kind or refused.
+pub fn plans_marked()
+    ensures as_said { PlansMarked }
+{}
+
+/// What is written by these four plans (of each piece what is shown of it, and for what is kept as
+/// tokens what stood there) is what is shown of what their rules read. Holds of every token stream.
+pub fn plans_show()
+    ensures as_shown { PlansShow }
 {}
