@@ -68,4 +68,6 @@ pub mod LoneWord
 pub mod ItemPlan
 pub mod MemberPlans
 pub mod Marked
+pub mod StatementPlans
 pub mod PlanSteps
+pub mod SmallPlans

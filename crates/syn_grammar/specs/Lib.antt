@@ -26,3 +26,5 @@ pub mod UseGroups
 pub mod Plan
 pub mod ItemPlan
 pub mod MemberPlans
+pub mod StatementPlans
+pub mod SmallPlans

@@ -6,6 +6,8 @@ ghost use Rattle.syn_grammar.specs.ItemStatements.{ItemStatements};
 ghost use Rattle.syn_grammar.specs.UseGroups.{UseGroups};
 ghost use Rattle.syn_grammar.specs.ItemPlan.{ItemPlan};
 ghost use Rattle.syn_grammar.specs.MemberPlans.{TraitItemPlan, ImplItemPlan, ForeignItemPlan, PlansMarked, PlansShow};
+ghost use Rattle.syn_grammar.specs.SmallPlans.{DeriveInputPlan, LocalValuePlan};
+ghost use Rattle.syn_grammar.specs.StatementPlans.{StatementPlan, StatementsPlan, CrateMacroPlan};
 ghost use Rattle.syn_grammar.specs.Alone.{ReadAlone, ValuesForgetSpans, ShowIsRead, ShowStandsAlone, ShowStandsBefore, SameShow};
 
 /// The computed reading answers exactly what the grammar derives: a value and a rest where a tree is
@@ -129,8 +131,39 @@ pub fn plans_marked()
     ensures as_said { PlansMarked }
 {}
 
+/// A statement is its attributes, and behind them what the plan of an item reads, where an item stands
+/// next, or else another statement. Holds of every token stream.
+pub fn statement_plan()
+    ensures as_the_rule { StatementPlan }
+{}
+
+/// Statements that don't end, and before which no `;` stands, are the attributes of the first one, and
+/// behind them what the plan of an item reads and more statements, or else another statement and more.
+/// Holds of every token stream.
+pub fn statements_plan()
+    ensures as_the_rule { StatementsPlan }
+{}
+
+/// The plan of a macro of `crate` that stands as a statement alone reads what the rule `crate_macro`
+/// reads, as the same value. Holds of every token stream.
+pub fn crate_macro_plan()
+    ensures as_the_rule { CrateMacroPlan }
+{}
+
 /// What is written by these four plans (of each piece what is shown of it, and for what is kept as
 /// tokens what stood there) is what is shown of what their rules read. Holds of every token stream.
 pub fn plans_show()
     ensures as_shown { PlansShow }
+{}
+
+/// The plan of the input of a derive reads what the rule `derive_input` reads, as the same value.
+/// Holds of every token stream.
+pub fn derive_input_plan()
+    ensures as_the_form { DeriveInputPlan }
+{}
+
+/// The plan of the value of a local reads what its form reads, as the same value: the expression is
+/// read once, and then its end tells. Holds of every token stream.
+pub fn local_value_plan()
+    ensures as_the_form { LocalValuePlan }
 {}
