@@ -1,13 +1,13 @@
 -- Parts that aren't printed where their list is empty.
 use Rattle.std.proofs.Common.{◌≡◌, Bool, true, false, Some, None, refl, sym, ap, ap₂, ◌∙◌, subst, true≢false}
 use Rattle.syn_grammar.specs.Words.{colon, comma, less, greater, w_where}
-use Rattle.syn_grammar.specs.Tokens.{Stream, Look, Leaf, ident, literal, end, and, no, pick, same_text}
-use Rattle.syn_grammar.specs.Rules.{lifetimes, parameter_bounds, predicates, lifetime_parameter}
-use Rattle.syn_grammar.specs.Grammar.{Syntax, Nothing, Both, Left, Right, Node, Vanishing, Order, Done, Last, More, bare, bare_leaf, word, fits, show, renew, at_row_comma, Grammar, ◌&◌, rule, ordered, vanishing, at_row_end}
-use Rattle.syn_grammar.specs.Table.{table, at_less, parameter, at_parameter_end, at_predicate_end}
+use Rattle.syn_grammar.specs.Tokens.{Stream, Look, Leaf, ident, literal, end, and, no, pick, same_text, at_lifetime}
+use Rattle.syn_grammar.specs.Rules.{lifetimes, parameter_bounds, predicates, supertraits, type_bounds, lifetime_parameter}
+use Rattle.syn_grammar.specs.Grammar.{Syntax, Nothing, Token, Both, Left, Right, Node, Vanishing, Order, Done, Last, More, bare, bare_leaf, word, fits, show, renew, at_row_comma, Grammar, ◌&◌, rule, ordered, vanishing, at_row_end}
+use Rattle.syn_grammar.specs.Table.{table, at_less, parameter, at_parameter_end, at_predicate_end, at_supertraits_end, at_type_bounds_end}
 use Rattle.syn_grammar.specs.Take.{Out, sees, take_mark}
-use Rattle.syn_grammar.specs.Run.{and_then, branch, first_of, parse_form, parse_rule, vanish, wrap, rows, row_opened, row_closed, close_row, row_member, row_after, row_comma, marks_of, span_of}
-use Rattle.syn_grammar.proofs.Each.{lifetimes_is, parameter_bounds_is, predicates_is}
+use Rattle.syn_grammar.specs.Run.{and_then, branch, first_of, parse_form, parse_rule, vanish, wrap, rows, row_opened, row_closed, close_row, row_member, row_after, row_comma, marks_of, last, more, span_of}
+use Rattle.syn_grammar.proofs.Each.{lifetimes_is, parameter_bounds_is, predicates_is, supertraits_is, type_bounds_is}
 use Rattle.syn_grammar.proofs.Run.{inv_wrap, inv_then}
 use Rattle.syn_grammar.proofs.Takes.{TreeAndRest, mark_told, token_told}
 use Rattle.syn_tokens.specs.Leaves.{is_known_word}
@@ -88,6 +88,8 @@ head_bare : (k : fading.Fading) (ts : Stream) (x : TreeAndRest) → parse_form (
 unfolding is_known_word
 head_bare Fading-m.Lifetimes ts x e = let z = mark_told colon ts x e in ap bare z.1 ∙ ap (λ l. same_text l colon) z.2
 head_bare Fading-m.Bounds ts x e = let z = mark_told colon ts x e in ap bare z.1 ∙ ap (λ l. same_text l colon) z.2
+head_bare Fading-m.Supertraits ts x e = let z = mark_told colon ts x e in ap bare z.1 ∙ ap (λ l. same_text l colon) z.2
+head_bare Fading-m.TypeBounds ts x e = let z = mark_told colon ts x e in ap bare z.1 ∙ ap (λ l. same_text l colon) z.2
 head_bare Fading-m.Predicates ts x e = let (y, sp, i, f, j) = token_told (word w_where) ts x e in ap bare i ∙ go y f
   where
     go : (y : Leaf) → fits (word w_where) y ≡ true → bare_leaf y ≡ true
@@ -102,6 +104,8 @@ list_empty : (k : fading.Fading) (ts : Stream) → begins_list k ts ≡ false �
 list_empty Fading-m.Lifetimes ts e = (Node (Right Nothing), lifetimes_is ts ∙ ap (λ a. wrap Node (branch a (parse_form (first (table lifetimes)) ts) (Some (Nothing, ts)))) e, refl)
 list_empty Fading-m.Bounds ts e = (Node (Left Nothing), parameter_bounds_is ts ∙ ap (λ a. wrap Node (branch a (Some (Nothing, ts)) (parse_form (second (table parameter_bounds)) ts))) (yes (sees at_parameter_end ts) e), refl)
 list_empty Fading-m.Predicates ts e = (Node (Left Nothing), predicates_is ts ∙ ap (λ a. wrap Node (branch a (Some (Nothing, ts)) (parse_form (second (table predicates)) ts))) (yes (sees at_predicate_end ts) e), refl)
+list_empty Fading-m.Supertraits ts e = (Node (Left Nothing), supertraits_is ts ∙ ap (λ a. wrap Node (branch a (Some (Nothing, ts)) (parse_form (second (table supertraits)) ts))) (yes (sees at_supertraits_end ts) e), refl)
+list_empty Fading-m.TypeBounds ts e = (Node (Left Nothing), type_bounds_is ts ∙ ap (λ a. wrap Node (branch a (Some (Nothing, ts)) (parse_form (second (table type_bounds)) ts))) (yes (sees at_type_bounds_end ts) e), refl)
 
 -- it has one
 wrapped_never : (f : Syntax → Syntax) → ((s : Syntax) → bare (f s) ≡ bare s) → (o : Out) → NeverBare o → NeverBare (wrap f o)
@@ -120,6 +124,12 @@ list_begun Fading-m.Bounds ts e =
 list_begun Fading-m.Predicates ts e =
     subst NeverBare (sym (predicates_is ts ∙ ap (λ a. wrap Node (branch a (Some (Nothing, ts)) (parse_form (second (table predicates)) ts))) (not (sees at_predicate_end ts) e)))
     (wrapped_never Node (λ s. refl) _ (wrapped_never Right (λ s. refl) _ (member_never (second (table predicates)) refl ts)))
+list_begun Fading-m.Supertraits ts e =
+    subst NeverBare (sym (supertraits_is ts ∙ ap (λ a. wrap Node (branch a (Some (Nothing, ts)) (parse_form (second (table supertraits)) ts))) (not (sees at_supertraits_end ts) e)))
+    (wrapped_never Node (λ s. refl) _ (wrapped_never Right (λ s. refl) _ (member_never (second (table supertraits)) refl ts)))
+list_begun Fading-m.TypeBounds ts e =
+    subst NeverBare (sym (type_bounds_is ts ∙ ap (λ a. wrap Node (branch a (Some (Nothing, ts)) (parse_form (second (table type_bounds)) ts))) (not (sees at_type_bounds_end ts) e)))
+    (wrapped_never Node (λ s. refl) _ (wrapped_never Right (λ s. refl) _ (member_never (second (table type_bounds)) refl ts)))
 
 module _ (k : fading.Fading) (w : Written) (ts : Stream) where
   pub fading_absent : sees (fading_look k) ts ≡ false → copy_form (fading_form k) w ts ≡ Reached w ts

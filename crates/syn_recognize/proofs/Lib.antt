@@ -11,7 +11,8 @@ pub mod Lists
 pub mod Solid
 pub mod FadingParts
 pub mod WrittenAside
-pub mod Alike
+pub mod CourseProofs
+pub mod PlannedCourses
 pub mod Ends
 pub mod Trailing
 pub mod Todo
@@ -27,6 +28,7 @@ pub mod TypeLooks
 pub mod Restricted
 pub mod Nameless
 pub mod PathLooks
+pub mod ItemLooks
 pub mod ExpressionLooks
 pub mod Known
 pub mod May

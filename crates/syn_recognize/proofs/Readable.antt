@@ -9,99 +9,33 @@ use Rattle.syn_recognize.specs.declared.rules.Rule.TheVariants as Rule-m
 
 abbrev pub readable : List rules.Rule
 readable =
-    rules.attributes ∷
-    rules.inner_attributes ∷
-    rules.meta ∷
-    rules.unsafe_path ∷
-    rules.unsafe_word ∷
-    rules.meta_value ∷
     rules.module_path ∷
     rules.module_words ∷
-    rules.type_path ∷
-    rules.type_words ∷
-    rules.type_arguments ∷
-    rules.return_type ∷
-    rules.generic_arguments ∷
-    rules.generic_argument ∷
-    rules.qualified_path ∷
-    rules.path_as_type ∷
-    rules.type ∷
-    rules.types ∷
-    rules.constant ∷
-    rules.expression_path ∷
-    rules.expression_words ∷
-    rules.qualified_expression_path ∷
-    rules.path_as_expression ∷
-    rules.macro_invocation ∷
-    rules.pattern ∷
-    rules.patterns ∷
-    rules.expressions ∷
-    rules.array_content ∷
-    rules.block ∷
-    rules.body ∷
-    rules.plain_body ∷
-    rules.no_inner_attributes ∷
-    rules.primary ∷
-    rules.block_like ∷
-    rules.if_expression ∷
-    rules.loop_expression ∷
-    rules.postfixes ∷
-    rules.member ∷
-    rules.unary ∷
-    rules.casts ∷
-    rules.cast ∷
-    rules.products ∷
-    rules.product ∷
-    rules.sums ∷
-    rules.sum ∷
-    rules.shifts ∷
-    rules.shift ∷
-    rules.bit_ands ∷
-    rules.bit_and ∷
-    rules.bit_xors ∷
-    rules.bit_xor ∷
-    rules.bit_ors ∷
-    rules.bit_or ∷
-    rules.compared ∷
-    rules.comparison ∷
-    rules.conjunctions ∷
-    rules.conjunction ∷
-    rules.disjunctions ∷
-    rules.disjunction ∷
-    rules.assigned ∷
-    rules.whole_expression ∷
-    rules.operand_rest ∷
-    rules.statements ∷
-    rules.statement_rest ∷
-    rules.after_block ∷
-    rules.after_expression ∷
-    rules.statement ∷
-    rules.statement_end ∷
-    rules.local ∷
     []
 
 pub is_readable : (k : rule.Rule) → settled k ≡ true → among (rule_of k) readable ≡ true
-is_readable Rule-m.Attributes e = refl
-is_readable Rule-m.InnerAttributes e = refl
-is_readable Rule-m.Meta e = refl
-is_readable Rule-m.UnsafePath e = refl
-is_readable Rule-m.UnsafeWord e = refl
-is_readable Rule-m.MetaValue e = refl
+is_readable Rule-m.Attributes e = absurd (cc e)
+is_readable Rule-m.InnerAttributes e = absurd (cc e)
+is_readable Rule-m.Meta e = absurd (cc e)
+is_readable Rule-m.UnsafePath e = absurd (cc e)
+is_readable Rule-m.UnsafeWord e = absurd (cc e)
+is_readable Rule-m.MetaValue e = absurd (cc e)
 is_readable Rule-m.ModulePath e = refl
 is_readable Rule-m.ModuleWords e = refl
 is_readable Rule-m.Visibility e = absurd (cc e)
 is_readable Rule-m.Restriction e = absurd (cc e)
-is_readable Rule-m.TypePath e = refl
-is_readable Rule-m.TypeWords e = refl
-is_readable Rule-m.TypeArguments e = refl
-is_readable Rule-m.ReturnType e = refl
-is_readable Rule-m.GenericArguments e = refl
-is_readable Rule-m.GenericArgument e = refl
-is_readable Rule-m.QualifiedPath e = refl
-is_readable Rule-m.PathAsType e = refl
-is_readable Rule-m.Type e = refl
-is_readable Rule-m.Types e = refl
-is_readable Rule-m.Constant e = refl
+is_readable Rule-m.TypePath e = absurd (cc e)
+is_readable Rule-m.TypeWords e = absurd (cc e)
+is_readable Rule-m.MoreTypeWords e = absurd (cc e)
+is_readable Rule-m.TypeArguments e = absurd (cc e)
+is_readable Rule-m.ReturnType e = absurd (cc e)
+is_readable Rule-m.GenericArguments e = absurd (cc e)
+is_readable Rule-m.GenericArgument e = absurd (cc e)
+is_readable Rule-m.QualifiedPath e = absurd (cc e)
+is_readable Rule-m.PathAsType e = absurd (cc e)
+is_readable Rule-m.Type e = absurd (cc e)
+is_readable Rule-m.Types e = absurd (cc e)
+is_readable Rule-m.Constant e = absurd (cc e)
 is_readable Rule-m.Generics e = absurd (cc e)
 is_readable Rule-m.LifetimeParameter e = absurd (cc e)
 is_readable Rule-m.Lifetimes e = absurd (cc e)
@@ -131,53 +65,180 @@ is_readable Rule-m.EnumerationRest e = absurd (cc e)
 is_readable Rule-m.UnionItem e = absurd (cc e)
 is_readable Rule-m.UnionItemRest e = absurd (cc e)
 is_readable Rule-m.DeriveInput e = absurd (cc e)
-is_readable Rule-m.ExpressionPath e = refl
-is_readable Rule-m.ExpressionWords e = refl
-is_readable Rule-m.QualifiedExpressionPath e = refl
-is_readable Rule-m.PathAsExpression e = refl
-is_readable Rule-m.MacroInvocation e = refl
-is_readable Rule-m.Pattern e = refl
-is_readable Rule-m.Patterns e = refl
-is_readable Rule-m.Expressions e = refl
-is_readable Rule-m.ArrayContent e = refl
-is_readable Rule-m.Block e = refl
-is_readable Rule-m.Body e = refl
-is_readable Rule-m.PlainBody e = refl
-is_readable Rule-m.NoInnerAttributes e = refl
-is_readable Rule-m.Primary e = refl
-is_readable Rule-m.BlockLike e = refl
-is_readable Rule-m.IfExpression e = refl
-is_readable Rule-m.LoopExpression e = refl
-is_readable Rule-m.Postfixes e = refl
-is_readable Rule-m.Member e = refl
-is_readable Rule-m.Unary e = refl
-is_readable Rule-m.Casts e = refl
-is_readable Rule-m.Cast e = refl
-is_readable Rule-m.Products e = refl
-is_readable Rule-m.Product e = refl
-is_readable Rule-m.Sums e = refl
-is_readable Rule-m.Sum e = refl
-is_readable Rule-m.Shifts e = refl
-is_readable Rule-m.Shift e = refl
-is_readable Rule-m.BitAnds e = refl
-is_readable Rule-m.BitAnd e = refl
-is_readable Rule-m.BitXors e = refl
-is_readable Rule-m.BitXor e = refl
-is_readable Rule-m.BitOrs e = refl
-is_readable Rule-m.BitOr e = refl
-is_readable Rule-m.Compared e = refl
-is_readable Rule-m.Comparison e = refl
-is_readable Rule-m.Conjunctions e = refl
-is_readable Rule-m.Conjunction e = refl
-is_readable Rule-m.Disjunctions e = refl
-is_readable Rule-m.Disjunction e = refl
-is_readable Rule-m.Assigned e = refl
-is_readable Rule-m.WholeExpression e = refl
-is_readable Rule-m.OperandRest e = refl
-is_readable Rule-m.Statements e = refl
-is_readable Rule-m.StatementRest e = refl
-is_readable Rule-m.AfterBlock e = refl
-is_readable Rule-m.AfterExpression e = refl
-is_readable Rule-m.Statement e = refl
-is_readable Rule-m.StatementEnd e = refl
-is_readable Rule-m.Local e = refl
+is_readable Rule-m.ExpressionPath e = absurd (cc e)
+is_readable Rule-m.ExpressionWords e = absurd (cc e)
+is_readable Rule-m.QualifiedExpressionPath e = absurd (cc e)
+is_readable Rule-m.PathAsExpression e = absurd (cc e)
+is_readable Rule-m.MacroInvocation e = absurd (cc e)
+is_readable Rule-m.Pattern e = absurd (cc e)
+is_readable Rule-m.Patterns e = absurd (cc e)
+is_readable Rule-m.Expressions e = absurd (cc e)
+is_readable Rule-m.ArrayContent e = absurd (cc e)
+is_readable Rule-m.Block e = absurd (cc e)
+is_readable Rule-m.Body e = absurd (cc e)
+is_readable Rule-m.PlainBody e = absurd (cc e)
+is_readable Rule-m.NoInnerAttributes e = absurd (cc e)
+is_readable Rule-m.Primary e = absurd (cc e)
+is_readable Rule-m.LiteralFields e = absurd (cc e)
+is_readable Rule-m.LiteralField e = absurd (cc e)
+is_readable Rule-m.BlockLike e = absurd (cc e)
+is_readable Rule-m.IfExpression e = absurd (cc e)
+is_readable Rule-m.LoopExpression e = absurd (cc e)
+is_readable Rule-m.Postfixes e = absurd (cc e)
+is_readable Rule-m.Member e = absurd (cc e)
+is_readable Rule-m.Unary e = absurd (cc e)
+is_readable Rule-m.Casts e = absurd (cc e)
+is_readable Rule-m.Cast e = absurd (cc e)
+is_readable Rule-m.Products e = absurd (cc e)
+is_readable Rule-m.Product e = absurd (cc e)
+is_readable Rule-m.Sums e = absurd (cc e)
+is_readable Rule-m.Sum e = absurd (cc e)
+is_readable Rule-m.Shifts e = absurd (cc e)
+is_readable Rule-m.Shift e = absurd (cc e)
+is_readable Rule-m.BitAnds e = absurd (cc e)
+is_readable Rule-m.BitAnd e = absurd (cc e)
+is_readable Rule-m.BitXors e = absurd (cc e)
+is_readable Rule-m.BitXor e = absurd (cc e)
+is_readable Rule-m.BitOrs e = absurd (cc e)
+is_readable Rule-m.BitOr e = absurd (cc e)
+is_readable Rule-m.Compared e = absurd (cc e)
+is_readable Rule-m.Comparison e = absurd (cc e)
+is_readable Rule-m.Conjunctions e = absurd (cc e)
+is_readable Rule-m.Conjunction e = absurd (cc e)
+is_readable Rule-m.Disjunctions e = absurd (cc e)
+is_readable Rule-m.Disjunction e = absurd (cc e)
+is_readable Rule-m.Assigned e = absurd (cc e)
+is_readable Rule-m.WholeExpression e = absurd (cc e)
+is_readable Rule-m.PrimaryHead e = absurd (cc e)
+is_readable Rule-m.UnaryHead e = absurd (cc e)
+is_readable Rule-m.CastHead e = absurd (cc e)
+is_readable Rule-m.ProductsHead e = absurd (cc e)
+is_readable Rule-m.ProductHead e = absurd (cc e)
+is_readable Rule-m.SumsHead e = absurd (cc e)
+is_readable Rule-m.SumHead e = absurd (cc e)
+is_readable Rule-m.ShiftsHead e = absurd (cc e)
+is_readable Rule-m.ShiftHead e = absurd (cc e)
+is_readable Rule-m.BitAndsHead e = absurd (cc e)
+is_readable Rule-m.BitAndHead e = absurd (cc e)
+is_readable Rule-m.BitXorsHead e = absurd (cc e)
+is_readable Rule-m.BitXorHead e = absurd (cc e)
+is_readable Rule-m.BitOrsHead e = absurd (cc e)
+is_readable Rule-m.BitOrHead e = absurd (cc e)
+is_readable Rule-m.ComparedHead e = absurd (cc e)
+is_readable Rule-m.ComparisonHead e = absurd (cc e)
+is_readable Rule-m.ConjunctionsHead e = absurd (cc e)
+is_readable Rule-m.ConjunctionHead e = absurd (cc e)
+is_readable Rule-m.DisjunctionsHead e = absurd (cc e)
+is_readable Rule-m.DisjunctionHead e = absurd (cc e)
+is_readable Rule-m.AssignedHead e = absurd (cc e)
+is_readable Rule-m.WholeExpressionHead e = absurd (cc e)
+is_readable Rule-m.OperandRest e = absurd (cc e)
+is_readable Rule-m.Statements e = absurd (cc e)
+is_readable Rule-m.StatementRest e = absurd (cc e)
+is_readable Rule-m.AfterBlock e = absurd (cc e)
+is_readable Rule-m.AfterExpression e = absurd (cc e)
+is_readable Rule-m.Statement e = absurd (cc e)
+is_readable Rule-m.CrateMacro e = absurd (cc e)
+is_readable Rule-m.BraceMacro e = absurd (cc e)
+is_readable Rule-m.StatementEnd e = absurd (cc e)
+is_readable Rule-m.Local e = absurd (cc e)
+is_readable Rule-m.NoAttributes e = absurd (cc e)
+is_readable Rule-m.Receiver e = absurd (cc e)
+is_readable Rule-m.ReceiverRest e = absurd (cc e)
+is_readable Rule-m.Argument e = absurd (cc e)
+is_readable Rule-m.Inputs e = absurd (cc e)
+is_readable Rule-m.LaterInputs e = absurd (cc e)
+is_readable Rule-m.InputRest e = absurd (cc e)
+is_readable Rule-m.Variadic e = absurd (cc e)
+is_readable Rule-m.Abi e = absurd (cc e)
+is_readable Rule-m.UnsafeOnly e = absurd (cc e)
+is_readable Rule-m.SafeOrUnsafe e = absurd (cc e)
+is_readable Rule-m.Signature e = absurd (cc e)
+is_readable Rule-m.SignatureRest e = absurd (cc e)
+is_readable Rule-m.Function e = absurd (cc e)
+is_readable Rule-m.FunctionRest e = absurd (cc e)
+is_readable Rule-m.ConstItem e = absurd (cc e)
+is_readable Rule-m.ConstItemRest e = absurd (cc e)
+is_readable Rule-m.StaticItem e = absurd (cc e)
+is_readable Rule-m.StaticItemRest e = absurd (cc e)
+is_readable Rule-m.ExternCrate e = absurd (cc e)
+is_readable Rule-m.ExternCrateRest e = absurd (cc e)
+is_readable Rule-m.UseTree e = absurd (cc e)
+is_readable Rule-m.UseTrees e = absurd (cc e)
+is_readable Rule-m.RootMark e = absurd (cc e)
+is_readable Rule-m.RootedTree e = absurd (cc e)
+is_readable Rule-m.RootedTrees e = absurd (cc e)
+is_readable Rule-m.UseItem e = absurd (cc e)
+is_readable Rule-m.UseItemRest e = absurd (cc e)
+is_readable Rule-m.ModuleItem e = absurd (cc e)
+is_readable Rule-m.ModuleItemRest e = absurd (cc e)
+is_readable Rule-m.AliasBounds e = absurd (cc e)
+is_readable Rule-m.TypeBounds e = absurd (cc e)
+is_readable Rule-m.Alias e = absurd (cc e)
+is_readable Rule-m.TraitAlias e = absurd (cc e)
+is_readable Rule-m.TraitAliasRest e = absurd (cc e)
+is_readable Rule-m.TypeItem e = absurd (cc e)
+is_readable Rule-m.TypeItemRest e = absurd (cc e)
+is_readable Rule-m.MacroEnd e = absurd (cc e)
+is_readable Rule-m.MacroItem e = absurd (cc e)
+is_readable Rule-m.MacroItemRest e = absurd (cc e)
+is_readable Rule-m.MacroAsItem e = absurd (cc e)
+is_readable Rule-m.MacroAsItemRest e = absurd (cc e)
+is_readable Rule-m.BodilessFunction e = absurd (cc e)
+is_readable Rule-m.UntypedStatic e = absurd (cc e)
+is_readable Rule-m.ValuelessStatic e = absurd (cc e)
+is_readable Rule-m.OddConst e = absurd (cc e)
+is_readable Rule-m.MacroDefinition e = absurd (cc e)
+is_readable Rule-m.OddType e = absurd (cc e)
+is_readable Rule-m.Supertraits e = absurd (cc e)
+is_readable Rule-m.BareTrait e = absurd (cc e)
+is_readable Rule-m.TraitDefinition e = absurd (cc e)
+is_readable Rule-m.TraitDefinitionRest e = absurd (cc e)
+is_readable Rule-m.ConstAlias e = absurd (cc e)
+is_readable Rule-m.RestrictedTrait e = absurd (cc e)
+is_readable Rule-m.SelfType e = absurd (cc e)
+is_readable Rule-m.ForSelfType e = absurd (cc e)
+is_readable Rule-m.ImplBody e = absurd (cc e)
+is_readable Rule-m.ImplDefinition e = absurd (cc e)
+is_readable Rule-m.ImplDefinitionRest e = absurd (cc e)
+is_readable Rule-m.OddImpl e = absurd (cc e)
+is_readable Rule-m.VisibleConstImpl e = absurd (cc e)
+is_readable Rule-m.ForeignModule e = absurd (cc e)
+is_readable Rule-m.ForeignModuleRest e = absurd (cc e)
+is_readable Rule-m.MemberMacro e = absurd (cc e)
+is_readable Rule-m.BareTraitFunction e = absurd (cc e)
+is_readable Rule-m.BareTraitType e = absurd (cc e)
+is_readable Rule-m.TraitConst e = absurd (cc e)
+is_readable Rule-m.TraitFunction e = absurd (cc e)
+is_readable Rule-m.TraitType e = absurd (cc e)
+is_readable Rule-m.TraitMacro e = absurd (cc e)
+is_readable Rule-m.TraitMacroAsItem e = absurd (cc e)
+is_readable Rule-m.AnyConst e = absurd (cc e)
+is_readable Rule-m.OddTraitConst e = absurd (cc e)
+is_readable Rule-m.TraitItem e = absurd (cc e)
+is_readable Rule-m.TraitItems e = absurd (cc e)
+is_readable Rule-m.ImplConst e = absurd (cc e)
+is_readable Rule-m.ImplFunction e = absurd (cc e)
+is_readable Rule-m.ImplType e = absurd (cc e)
+is_readable Rule-m.ImplMacro e = absurd (cc e)
+is_readable Rule-m.ImplMacroAsItem e = absurd (cc e)
+is_readable Rule-m.BodilessImplFunction e = absurd (cc e)
+is_readable Rule-m.OddImplConst e = absurd (cc e)
+is_readable Rule-m.OddImplType e = absurd (cc e)
+is_readable Rule-m.ImplItem e = absurd (cc e)
+is_readable Rule-m.ImplItems e = absurd (cc e)
+is_readable Rule-m.ForeignSignature e = absurd (cc e)
+is_readable Rule-m.BareForeignStatic e = absurd (cc e)
+is_readable Rule-m.ForeignFunction e = absurd (cc e)
+is_readable Rule-m.ForeignStatic e = absurd (cc e)
+is_readable Rule-m.ForeignType e = absurd (cc e)
+is_readable Rule-m.ForeignMacro e = absurd (cc e)
+is_readable Rule-m.ForeignMacroAsItem e = absurd (cc e)
+is_readable Rule-m.ForeignBody e = absurd (cc e)
+is_readable Rule-m.ForeignValue e = absurd (cc e)
+is_readable Rule-m.OddForeignType e = absurd (cc e)
+is_readable Rule-m.ForeignItem e = absurd (cc e)
+is_readable Rule-m.ForeignItems e = absurd (cc e)
+is_readable Rule-m.Item e = absurd (cc e)
+is_readable Rule-m.Items e = absurd (cc e)
+is_readable Rule-m.File e = absurd (cc e)

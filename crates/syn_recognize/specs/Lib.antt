@@ -14,10 +14,12 @@ pub mod Restricted
 pub mod LoneLiterals
 pub mod Quiet
 pub mod Copies
-pub mod Unions
 pub mod May
 pub mod Ladder
 pub mod Opens
+pub mod Course
+pub mod Stages
+pub mod Courses
 pub mod Steps
 pub mod Printed
 pub mod Parts

@@ -104,7 +104,7 @@ pub fn at_restriction(input: &ParseBuffer<'_>) -> bool
 }
 
 /// Whether `crate`, `self` or `super` is all that is left.
-fn is_lone_word(content: &ParseBuffer<'_>) -> bool
+pub(crate) fn is_lone_word(content: &ParseBuffer<'_>) -> bool
     ensures { result ≡ lone_word content.now }
 {
     (content.peek::<Crate>() || content.peek::<SelfValue>() || content.peek::<Super>())
@@ -215,7 +215,7 @@ pub fn at_crate_macro(input: &ParseBuffer<'_>) -> bool
 }
 
 /// Where a macro stands next, what is left behind its path: its `!` and more.
-fn behind_path<'a>(input: &ParseBuffer<'a>) -> Parsed<Option<ParseBuffer<'a>>>
+pub(crate) fn behind_path<'a>(input: &ParseBuffer<'a>) -> Parsed<Option<ParseBuffer<'a>>>
     ensures { OrMemory IsSyntax result (λ found. MatchOption found
         ((sees table.at_macro input.now ≡ false) × (sees table.at_brace_macro input.now ≡ false))
         (λ bang. (sees table.at_macro input.now ≡ true) × (sees table.at_brace_macro input.now ≡ sees table.at_brace (past bang)))) }

@@ -1,6 +1,6 @@
 //! What a rule reads where it is known what stands next: forms of operands without the conditions that this rules out.
 ghost use Rattle.std.specs.Prelude.{◌≡◌};
-ghost use Rattle.syn_grammar.specs.Rules.{attributes, expression_words, generic_argument, member, meta, module_path, postfixes, statement_rest, statements, type, type_arguments, type_path, type_words, unary, visibility};
+ghost use Rattle.syn_grammar.specs.Rules.{attributes, expression_words, generic_argument, member, meta, module_path, postfixes, statement_rest, more_type_words, type, type_arguments, type_path, type_words, unary, visibility};
 ghost use Rattle.syn_grammar.specs.Table.{table};
 ghost use Rattle.syn_parse.specs.declared.buffer.first.First.TheVariants as first;
 ghost use Rattle.syn_recognize.specs.Forms.{grammar_of};
@@ -22,7 +22,17 @@ static NAME: Form = Form::Then(
     &Form::When(
         Look::Macro,
         &Form::Rule(Rule::MacroInvocation),
-        &Form::Rule(Rule::ExpressionWords),
+        &Form::Then(
+            &Form::Rule(Rule::ExpressionWords),
+            &Form::When(
+                Look::Group(Delimiter::Brace),
+                &Form::Shaped(
+                    Shape::Fields,
+                    &Form::Inside(Delimiter::Brace, &Form::Rule(Rule::LiteralFields)),
+                ),
+                &Form::Empty,
+            ),
+        ),
     ),
     &Form::Rule(Rule::Postfixes),
 );
@@ -35,7 +45,17 @@ static LITERAL: Form = Form::Then(
     &Form::When(
         Look::AnyLiteral,
         &Form::Token(Token::Literal),
-        &Form::Rule(Rule::ExpressionWords),
+        &Form::Then(
+            &Form::Rule(Rule::ExpressionWords),
+            &Form::When(
+                Look::Group(Delimiter::Brace),
+                &Form::Shaped(
+                    Shape::Fields,
+                    &Form::Inside(Delimiter::Brace, &Form::Rule(Rule::LiteralFields)),
+                ),
+                &Form::Empty,
+            ),
+        ),
     ),
     &Form::Rule(Rule::Postfixes),
 );
@@ -65,11 +85,7 @@ static WORDS: Form = Form::Then(
             ),
         ),
     ),
-    &Form::When(
-        Look::Mark(Mark::PathSep),
-        &Form::Then(&Form::Mark(Mark::PathSep), &Form::Rule(Rule::TypeWords)),
-        &Form::Empty,
-    ),
+    &Form::Part(Part::TypeWords2),
 );
 
 /// A type in parentheses.
@@ -101,17 +117,10 @@ static EXPRESSION_WORDS: Form = Form::Then(
             ),
         ),
     ),
-    &Form::When(
-        Look::Mark(Mark::PathSep),
-        &Form::Then(
-            &Form::Mark(Mark::PathSep),
-            &Form::Rule(Rule::ExpressionWords),
-        ),
-        &Form::Empty,
-    ),
+    &Form::Part(Part::ExpressionWords2),
 );
 
-/// A statement that begins with one, and those that follow: a macro in braces, or an expression.
+/// A statement that begins with one, behind its attributes, and those that follow: a macro in braces, or an expression.
 static STATEMENT: Form = Form::When(
     Look::BraceMacro,
     &Form::Then(
@@ -138,6 +147,7 @@ pub(crate) fn opened(rule: Rule, next: First) -> &'static Form
         Rule::Type => type_by(next),
         Rule::TypePath => path_by(next),
         Rule::TypeWords => words_by(next),
+        Rule::MoreTypeWords => more_words_by(next),
         Rule::TypeArguments => arguments_by(next),
         Rule::GenericArgument => argument_by(next),
         Rule::Attributes => attributes_by(next),
@@ -146,7 +156,6 @@ pub(crate) fn opened(rule: Rule, next: First) -> &'static Form
         Rule::Visibility => visibility_by(next),
         Rule::ExpressionWords => expression_words_by(next),
         Rule::Member => member_by(next),
-        Rule::Statements => statements_by(next),
         Rule::StatementRest => statement_by(next),
         _ => form_of(rule),
     }
@@ -264,6 +273,17 @@ fn words_by(next: First) -> &'static Form
     match next {
         First::Name => &WORDS,
         _ => form_of(Rule::TypeWords),
+    }
+}
+
+/// A form that is read as the words of a type's path behind the first are.
+#[tactic(auto, using(crate::proofs::Opened::opens_rule))]
+fn more_words_by(next: First) -> &'static Form
+    ensures { Opens next (grammar_of result.now) more_type_words }
+{
+    match next {
+        First::Name => &WORDS,
+        _ => form_of(Rule::MoreTypeWords),
     }
 }
 
@@ -390,18 +410,6 @@ fn member_by(next: First) -> &'static Form
     match next {
         First::Name => form_of_part(Part::Member2),
         _ => form_of(Rule::Member),
-    }
-}
-
-/// A form that is read as statements are.
-#[tactic(auto, using(crate::proofs::Opened::opens_rule, crate::proofs::Beginnings::statements_by_keyword))]
-fn statements_by(next: First) -> &'static Form
-    ensures { Opens next (grammar_of result.now) statements }
-{
-    match next {
-        First::Name => &STATEMENT,
-        First::Keyword => form_of(Rule::StatementRest),
-        _ => form_of(Rule::Statements),
     }
 }
 

@@ -12,8 +12,7 @@ use crate::quiet::is_quiet;
 use crate::rules::{Rule, form_of, is_settled};
 use crate::step::Step;
 use crate::steps::take;
-use crate::writer::Writer;
-use std::collections::VecDeque;
+use crate::writer::{Noted, Writer};
 use syn_parse::buffer::ParseBuffer;
 use syn_parse::read::refusal::{Parsed, Refusal};
 use syn_tokens::stream::TokenStream;
@@ -83,13 +82,13 @@ pub fn recognized_and_printed(rule: Rule, input: &mut ParseBuffer<'_>) -> Parsed
     let mut ahead = input.fork();
     let mut out = Writer::showing(input.alloc());
     write_rule(rule, &mut out, &mut ahead)?;
-    let (shown, late) = out.finish()?;
+    let (shown, noted) = out.finish()?;
     if is_settled(rule) && is_quiet(&shown) {
         let printed = copy_of(&shown)?;
         input.advance_to(&ahead);
         return Ok(ShownAndPrinted { shown, printed });
     }
-    let mut out = Writer::printing(input.alloc(), late);
+    let mut out = Writer::printing(input.alloc(), noted);
     write_rule(rule, &mut out, input)?;
     let (printed, _left) = out.finish()?;
     Ok(ShownAndPrinted { shown, printed })
@@ -103,7 +102,7 @@ fn printed_at_once(rule: Rule, input: &mut ParseBuffer<'_>) -> Parsed<TokenStrea
     ensures kept { Kept input.old result input.new }
     ensures moved { Takes (least (rule_of rule)) input.old result input.new }
 {
-    let mut out = Writer::printing(input.alloc(), VecDeque::new(input.alloc()));
+    let mut out = Writer::printing(input.alloc(), Noted::none(input.alloc()));
     write_rule(rule, &mut out, input)?;
     let (printed, _left) = out.finish()?;
     Ok(printed)

@@ -14,7 +14,6 @@ ghost use Rattle.syn_recognize.specs.Parts.{part_form};
 ghost use Rattle.syn_recognize.specs.Names.{look_of, mark_text, rule_of};
 ghost use Rattle.syn_recognize.specs.Copies as copies;
 ghost use Rattle.syn_recognize.specs.Copies.{Copies, Reached, copy_form, by_braces};
-ghost use Rattle.syn_recognize.specs.Unions.{union_form};
 ghost use Rattle.syn_recognize.specs.Written.{adds};
 ghost use Rattle.syn_parse.specs.Firsts.{Begins};
 ghost use Rattle.syn_recognize.specs.Ladder.{climb};
@@ -29,6 +28,7 @@ use crate::form::Form;
 use crate::levels::{behind, first_level, height_of};
 use crate::look::{Look, holds_next};
 use crate::operands::{opened, operand};
+use crate::planned::{keep, read_plan, read_planned, read_supplied};
 use crate::refused::{left_over, told};
 use crate::rows::{
     note, read_ordered, read_others, read_others_rest, read_row, read_row_rest, skip_late,
@@ -36,7 +36,6 @@ use crate::rows::{
 use crate::rules::{Part, Rule, form_of, form_of_part};
 use crate::step::Step;
 use crate::token::{copy, copy_token};
-use crate::unions::{Union, form_of_union};
 use crate::words::{Mark, copy_mark};
 use crate::writer::Writer;
 use syn_parse::buffer::ParseBuffer;
@@ -92,6 +91,10 @@ fn take_other<'a>(
         Step::ByBraces(one, other, begin) => {
             read_by_braces(one, other, &begin, steps, out, input)
         }
+        Step::Plan(plan, before, begin, leads) => {
+            read_plan(plan, before, begin, leads, steps, out, input)
+        }
+        Step::Keep(before, begin) => keep(before, &begin, out, input),
     }
 }
 
@@ -257,7 +260,7 @@ fn below<'a>(
         Form::When(look, one, other) => Ok(Some(choose(look, one, other, next, out, input)?)),
         Form::Rule(rule) => Ok(Some(begin_rule(*rule, next, steps, out, input)?)),
         Form::Part(part) => Ok(Some(begin_part(*part, out, input))),
-        Form::Union(union) => Ok(Some(begin_union(*union, out, input))),
+        Form::Only(rule) => Ok(Some(begin_only(*rule, out, input))),
         Form::Shaped(_, part) => Ok(Some(part)),
         _ => Ok(None),
     }
@@ -286,12 +289,12 @@ fn begin_part(part: Part, out: &Writer, input: &ParseBuffer<'_>) -> &'static For
     form_of_part(part)
 }
 
-/// A form of which the same is written as of a union of rules that begin alike.
-#[tactic(auto, using(crate::proofs::Alike::alike_is))]
-fn begin_union(union: Union, out: &Writer, input: &ParseBuffer<'_>) -> &'static Form
-    ensures { copy_form (union_form union) out.now input.now ≡ copy_form (grammar_of result.now) out.now input.now }
+/// The form of a union of one rule.
+#[tactic(auto, using(crate::proofs::Copied::only_is))]
+fn begin_only(rule: Rule, out: &Writer, input: &ParseBuffer<'_>) -> &'static Form
+    ensures { copy_form (grammar.one_of (rule_of rule ∷ [])) out.now input.now ≡ copy_form (grammar_of result.now) out.now input.now }
 {
-    form_of_union(union)
+    form_of(rule)
 }
 
 /// Chooses a form by what stands next, which is this.
@@ -364,12 +367,14 @@ fn read_leaf<'a>(
         Form::Hidden(look, form) => read_hidden(look, form, steps, out, input),
         Form::Captured(form) => read_captured(form, steps, out, input),
         Form::ByBraces(one, other) => read_value(one, other, steps, out, input),
+        Form::Planned(planned) => read_planned(*planned, steps, out, input),
+        Form::Supplied(form) => read_supplied(form, steps, out, input),
         Form::Then(_, _) => Err(Refusal::Memory),
         Form::When(_, _, _) => Err(Refusal::Memory),
         Form::Rule(_) => Err(Refusal::Memory),
         Form::Part(_) => Err(Refusal::Memory),
         Form::Shaped(_, _) => Err(Refusal::Memory),
-        Form::Union(_) => Err(Refusal::Memory),
+        Form::Only(_) => Err(Refusal::Memory),
     }
 }
 

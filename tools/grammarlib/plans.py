@@ -1,0 +1,335 @@
+"""The plans of unions, as the specifications have them, without their values: trees of what is read, what turns and how it ends.
+
+A plan is a tuple: ('reads', form, plan), ('turns', look, plan, plan), ('tests', test, plan, plan), ('ends',), ('done',), ('fails',),
+('then', plan, form) (a plan and a form behind it), ('lists', plan) (generics of an impl, and what follows), and ('self', plan) (the self
+type of an impl, and what follows)."""
+import re
+
+from . import antt
+
+FILES = ['ItemPlan', 'MemberPlans', 'StatementPlans', 'SmallPlans']
+WORDS = ('reads', 'turns', 'tests', 'keeps', 'ends', 'done', 'fails')
+
+
+class Plans:
+    def __init__(self, source, more=''):
+        self.source = source
+        self.clauses = {}
+        self.forms = {}
+        for file in FILES:
+            self.read((source.crate / 'specs' / f'{file}.antt').read_text())
+        known, self.clauses = self.clauses, {}
+        self.read(more)
+        self.clauses = {**known, **self.clauses}
+        self.places = ('public', 'unwritten', 'plain')
+        self.reader, self.called = Reader, set()
+
+    def read(self, text):
+        for _, _, body in antt.declarations(text):
+            if re.match(r'(use|pub data|infix|pub record)\b', body):
+                continue
+            signature = re.match(r'(?:abbrev pub|unfoldable pub) (\S+) : (.*)', body, re.S)
+            if signature:
+                if signature[2].strip() in ('Look', 'Grammar'):
+                    self.forms[signature[1]] = None
+                continue
+            if ' =' not in body:
+                continue
+            left, right = re.split(r'\s=(?:\s|$)', body, maxsplit=1)
+            head, *patterns = antt.lexemes(left)
+            if head in self.forms:
+                self.forms[head] = antt.Expressions(antt.lexemes(right), head).whole()
+            elif head.endswith('_plan') or any(w in antt.lexemes(right) for w in WORDS) or head.startswith(('kept_', 'impl_', 'behind_', 'item_')):
+                self.clauses.setdefault(head, []).append((patterns, antt.lexemes(right)))
+
+    def plan(self, name):
+        return self.call(name, [], {})
+
+    # EVALUATION
+
+    def call(self, name, arguments, names):
+        """A plan by its name and the texts of its arguments, each with what its names mean."""
+        self.called.add(name)
+        for patterns, words in self.clauses[name]:
+            inner, fits = {}, len(patterns) == len(arguments)
+            for pattern, argument in zip(patterns, arguments):
+                if pattern in self.places:
+                    fits = fits and argument == (pattern,)
+                inner[pattern] = argument
+            if fits:
+                return self.reader(self, list(words), inner).whole()
+        raise antt.Fault(f'no clause of {name} fits {arguments}')
+
+    def value(self, words):
+        names = {k: (k,) for k in self.source.rules}
+        for name, body in self.forms.items():
+            if body is not None and name in words:
+                names[name] = self.value_of(body)
+        return antt.simple(self.source.evaluator.evaluate(antt.Expressions(words, 'a plan').whole(), names, 'a plan'))
+
+    def value_of(self, body):
+        names = {k: (k,) for k in self.source.rules}
+        for name, other in self.forms.items():
+            if other is not None and other is not body and name in str(body):
+                names[name] = self.value_of(other)
+        return self.source.evaluator.evaluate(body, names, 'a plan')
+
+
+class Reader:
+    def __init__(self, plans, words, names):
+        self.plans, self.words, self.at, self.names = plans, words, 0, names
+
+    def whole(self):
+        found = self.plan()
+        assert self.at == len(self.words), (self.words, self.at)
+        return found
+
+    def next(self):
+        self.at += 1
+        return self.words[self.at - 1]
+
+    def skip(self):
+        """The words of one atom."""
+        begin, depth = self.at, 0
+        while True:
+            word = self.next()
+            depth += {'(': 1, ')': -1}.get(word, 0)
+            if depth == 0:
+                return self.words[begin:self.at]
+
+    def atom_plan(self):
+        if self.words[self.at] == '(':
+            self.at += 1
+            found = self.plan()
+            assert self.next() == ')', self.words[self.at - 5:self.at + 5]
+            return found
+        word = self.next()
+        return self.named(word, [])
+
+    def form(self):
+        return self.plans.value(self.skip())
+
+    def named(self, word, arguments):
+        if word in ('done', 'fails'):
+            return (word,)
+        if word in self.names:
+            meaning = self.names[word]
+            if meaning[0] == 'partial':
+                return self.plans.call(meaning[1], [*meaning[2], *arguments], {})
+            assert not arguments, word
+            return meaning[1]
+        return self.plans.call(word, arguments, {})
+
+    def argument(self):
+        """A place, a plan, a function to plans, or a value, of which nothing is kept."""
+        begin = self.at
+        words = self.skip()
+        inner = words[1:-1] if words[0] == '(' else words
+        head = inner[0]
+        if len(words) == 1 and head in self.names:
+            return self.names[head]
+        if head in self.plans.places:
+            return (head,)
+        if head in self.plans.clauses:
+            wanted = len(self.plans.clauses[head][0][0])
+            given = type(self)(self.plans, inner[1:], self.names).arguments()
+            return ('partial', head, given) if len(given) < wanted else ('plan', self.plans.call(head, given, {}))
+        if head == 'fails':
+            return ('plan', ('fails',))
+        del begin
+        return ('value',)
+
+    def arguments(self):
+        found = []
+        while self.at < len(self.words) and self.words[self.at] != ')':
+            found.append(self.argument())
+        return found
+
+    def plan(self):
+        word = self.next()
+        if word == '(':
+            self.at -= 1
+            return self.atom_plan()
+        if word == 'reads':
+            form = self.form()
+            assert self.next() == 'λ'
+            self.next()
+            return ('reads', form, self.plan())
+        if word == 'turns':
+            look = self.form()
+            return ('turns', look, self.atom_plan(), self.atom_plan())
+        if word == 'tests':
+            test = self.form()
+            self.skip()
+            return ('tests', test, self.atom_plan(), self.atom_plan())
+        if word == 'keeps':
+            return self.atom_plan()
+        if word == 'ends':
+            self.skip()
+            return ('ends',)
+        if word in ('lists', 'self'):
+            return (word, self.atom_plan())
+        if word == 'then':
+            return ('then', self.atom_plan(), self.form())
+        return self.named(word, self.arguments())
+
+
+def endings(plan):
+    """How a plan may end, and what it needs its beginning or its number for."""
+    kind = plan[0]
+    if kind == 'reads':
+        return endings(plan[2])
+    if kind == 'turns':
+        return endings(plan[2]) | endings(plan[3])
+    if kind == 'tests':
+        return {'tests'} | endings(plan[2]) | endings(plan[3])
+    if kind == 'then':
+        return {'then'} | endings(plan[1])
+    if kind in ('lists', 'self'):
+        return {kind} | endings(plan[1])
+    return {kind} - {'fails'}
+
+
+def flat(plan):
+    """The form that reads as a plan whose end says nothing more."""
+    kind = plan[0]
+    if kind == 'reads':
+        return ('&', plan[1], flat(plan[2]))
+    if kind == 'turns':
+        return ('when', plan[1], flat(plan[2]), flat(plan[3]))
+    return ('one_of', ()) if kind == 'fails' else ('empty',)
+
+
+def course(plan):
+    """The plan with its ends as forms: ('rest', form) where it is known that it is of a kind, ('kept', form) where it is kept."""
+    ends = endings(plan)
+    if ends <= {'ends'}:
+        return ('rest', flat(plan))
+    if ends <= {'done'}:
+        return ('kept', flat(plan))
+    kind = plan[0]
+    if kind == 'reads':
+        return ('reads', plan[1], course(plan[2]))
+    if kind in ('turns', 'tests'):
+        return (kind, plan[1], course(plan[2]), course(plan[3]))
+    if kind == 'then':
+        return ('then', course(plan[1]), plan[2])
+    return (kind, course(plan[1]))
+
+
+# PROOFS that a course goes as its plan
+
+NOTHING = ('none',)
+
+
+def both(parts):
+    if not parts:
+        return NOTHING
+    return parts[0] if len(parts) == 1 else ('both', parts[0], both(parts[1:]))
+
+
+class Values:
+    """What the values at a plan's ends are made of: pieces that were read, one behind the other."""
+
+    def __init__(self, names):
+        self.names = names
+
+    def of(self, e):
+        kind = e[0]
+        if kind == 'parentheses':
+            return self.of(e[1])
+        if kind == 'name':
+            if e[1] in ('absent', 'hidden', 'inherited', 'no_clause', 'Nothing'):
+                return NOTHING
+            return self.names[e[1]]
+        if kind == 'apply':
+            head, arguments = e[1][1], e[2]
+            if head in ('Left', 'Right', 'Node', 'Such', 'untag', 'parts'):
+                return both(self.list_of(arguments[0])) if head == 'parts' else self.of(arguments[0])
+            if head in ('item_of', 'Both'):
+                return both([self.of(x) for x in arguments[-2:]])
+            if head == 'member_of':
+                return both(self.list_of(arguments[1]))
+            if head == 'impl_of':
+                a, d, c, u, k, g, s = (self.of(x) for x in arguments)
+                return both([a, d, c, u, k, ('both', g, s)])
+            if head == 'crate_item':
+                return ('both', self.of(arguments[0]), NOTHING)
+            if head == 'crate_statement':
+                return ('both', self.of(arguments[0]), self.of(arguments[1]))
+        raise antt.Fault(f'no parts of {e}')
+
+    def list_of(self, e):
+        if e[0] == 'parentheses':
+            return self.list_of(e[1])
+        if e[0] == 'list':
+            return []
+        assert e[0] == 'infix' and e[1] == '∷', e
+        return [self.of(e[2]), *self.list_of(e[3])]
+
+
+class Prover(Reader):
+    """Reads a plan with its values: ('reads', form, plan, name), ('ends', parts)."""
+    count = 0
+
+    def plan(self):
+        word = self.words[self.at]
+        if word == 'reads':
+            self.at += 1
+            form = self.form()
+            assert self.next() == 'λ'
+            Prover.count += 1
+            name, fresh = self.next().rstrip('.'), f'x{Prover.count}'
+            inner = Prover(self.plans, self.words, {**self.names, name: ('piece', fresh)})
+            inner.at = self.at
+            plan = inner.plan()
+            self.at = inner.at
+            return ('reads', form, plan, fresh)
+        if word == 'ends':
+            self.at += 1
+            return ('ends', Values(self.names).of(antt.Expressions(self.skip(), 'a value').whole()))
+        return super().plan()
+
+    def atom_plan(self):
+        return super().atom_plan()
+
+    def argument(self):
+        begin = self.at
+        found = super().argument()
+        if found == ('value',):
+            return Values(self.names).of(antt.Expressions(self.words[begin:self.at], 'a value').whole())
+        return found
+
+
+def parts_text(it):
+    if it == NOTHING:
+        return 'none'
+    return f'(piece {it[1]})' if it[0] == 'piece' else f'(both {parts_text(it[1])} {parts_text(it[2])})'
+
+
+def proof(plan, way):
+    ends = endings(plan)
+    if ends <= {'ends'}:
+        return flat_proof(plan, way)
+    if ends <= {'done'}:
+        return kept_proof(plan)
+    if plan[0] == 'reads':
+        return f'(refl, λ {plan[3]}. {proof(plan[2], way)})'
+    assert plan[0] == 'turns', plan[0]
+    return f'(refl, ({proof(plan[2], way)}, {proof(plan[3], way)}))'
+
+
+def flat_proof(plan, way):
+    if plan[0] == 'reads':
+        return f'(refl, (refl, λ {plan[3]}. {flat_proof(plan[2], way)}))'
+    if plan[0] == 'turns':
+        return f'(refl, ({flat_proof(plan[2], way)}, {flat_proof(plan[3], way)}))'
+    return 'refl' if plan[0] == 'fails' else f'(refl, text_behind {way} end {parts_text(plan[1])})'
+
+
+def kept_proof(plan):
+    if plan[0] == 'reads':
+        return f'(refl, (refl, λ {plan[3]}. {kept_proof(plan[2])}))'
+    if plan[0] == 'turns':
+        return f'(refl, ({kept_proof(plan[2])}, {kept_proof(plan[3])}))'
+    return 'refl'
