@@ -55,6 +55,44 @@ KINDS = [
     ("stmts", "Stmts", "statements"),
 ]
 
+# all words of the program, each with the rule that reads it; it asks for no tree
+WORDS = [
+    ("file", "file"),
+    ("item", "item"),
+    ("derive", "derive_input"),
+    ("visibility", "visibility"),
+    ("variant", "variant"),
+    ("named-field", "named_field"),
+    ("unnamed-field", "unnamed_field"),
+    ("fields-named", "fields_named"),
+    ("fields-unnamed", "fields_unnamed"),
+    ("signature", "signature"),
+    ("fn-arg", "argument"),
+    ("receiver", "receiver"),
+    ("use-tree", "use_tree"),
+    ("trait-item", "trait_item"),
+    ("impl-item", "impl_item"),
+    ("foreign-item", "foreign_item"),
+    ("item-const", "const_item"),
+    ("item-enum", "enumeration"),
+    ("item-extern-crate", "extern_crate"),
+    ("item-fn", "function"),
+    ("item-foreign-mod", "foreign_module"),
+    ("item-impl", "impl_definition"),
+    ("item-macro", "macro_item"),
+    ("item-mod", "module_item"),
+    ("item-static", "static_item"),
+    ("item-struct", "structure"),
+    ("item-trait", "trait_definition"),
+    ("item-trait-alias", "trait_alias"),
+    ("item-type", "type_item"),
+    ("item-union", "union_item"),
+    ("item-use", "use_item"),
+    ("block", "block"),
+    ("stmt", "statement"),
+    ("stmts", "statements"),
+]
+
 # lists with one value at least, which end with one
 JOINED = {("Path", "segments")}
 
@@ -109,9 +147,9 @@ def outputs():
     files[page] = rows(source, table, page, patterns, operators, expressions)
     trees = Together(patterns, operators, expressions, source)
     files[CRATES / "syn/src/kinds.rt"] = canonical(trees, KINDS)
-    files[CRATES / "syn_canon/src/kind.rt"] = kind_enum(KINDS)
-    files[CRATES / "syn_canon/src/by_kind.rt"] = dispatch(KINDS)
-    files[CRATES / "syn_canon/specs/Kinds.antt"] = kind_specs(KINDS)
+    files[CRATES / "syn_canon/src/kind.rt"] = kind_enum(WORDS)
+    files[CRATES / "syn_canon/src/by_kind.rt"] = dispatch(WORDS)
+    files[CRATES / "syn_canon/specs/Kinds.antt"] = kind_specs(WORDS)
     files[CRATES / "tree_answers/src/by_kind.rt"] = comparisons_of_answers(trees, KINDS)
     return files
 

@@ -358,7 +358,7 @@ fn read_self_type<'a>(
 /// What is known of the generics of an impl where this was found.
 fn found(leads: Leads, it: bool, out: &mut Writer) -> Leads
     ensures known { result ≡ found leads it }
-    ensures { out.new ≡ out.old }
+    ensures unchanged { out.new ≡ out.old }
 {
     match leads {
         Leads::Any => Leads::Any,
