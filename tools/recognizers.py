@@ -95,21 +95,26 @@ impl_types a d c u k g =
     (reads (rule type) λ t.
     turns at_for kept_impl
     (reads (rule impl_body) λ b. ends x)))
-plain_types =
+plain_types d c u k g =
     turns at_exclamation (reads (punctuation exclamation) λ x.
     turns at_brace (reads (rule impl_body) λ b. ends x)
     (reads (rule type_path) λ t. self (reads (rule impl_body) λ b. ends x)))
     (turns at_module_path (reads (rule type_path) λ t. turns at_for (self (reads (rule impl_body) λ b. ends x)) (reads (rule impl_body) λ b. ends x))
     (reads (rule type) λ t. reads (rule impl_body) λ b. ends x))
 impl_alone =
-    reads (optional_item_word w_default) λ d. reads (optional_item_word w_const) λ c. reads (optional_item_word w_unsafe) λ u. reads (plainly (word w_impl)) λ k. lists plain_types
-use_alone =
-    reads (rule visibility) λ v. reads (plainly (word w_use)) λ k.
-    turns at_brace (reads (inside Brace (rule rooted_trees)) λ t. tests (has root_mark) t fails (reads (punctuation semicolon) λ z. ends z))
-    (reads (when at_colons then punctuation colons else empty) λ c. reads (rule use_tree) λ t. reads (punctuation semicolon) λ z. ends z)
+    reads (optional_item_word w_default) λ d. reads (optional_item_word w_const) λ c. reads (optional_item_word w_unsafe) λ u. reads (plainly (word w_impl)) λ k. lists (plain_types d c u k absent)
+type_plan a v =
+    reads (plainly (word w_type)) λ k. reads (plainly name) λ n. reads (rule generics) λ g.
+    turns at_colon (keeps (reads (punctuation colon) λ c. reads (rule type_bounds) λ b. reads type_and_clause λ e. kept_end))
+    (turns at_where (reads (rule where_clause) λ w. turns at_equals (equal_and_one a) (keeps kept_end))
+    (turns at_equals (reads (punctuation equals) λ q. reads (rule type) λ t. reads (rule where_clause) λ x. reads (punctuation semicolon) λ z. ends z)
+    (keeps kept_end)))
 type_alone =
-    reads (rule visibility) λ v. reads (plainly (word w_type)) λ k. reads (plainly name) λ n. reads (rule generics) λ g. reads (rule where_clause) λ w. reads (punctuation equals) λ q.
-    reads (rule type) λ t. reads (rule where_clause) λ x. tests one_where t (reads (punctuation semicolon) λ z. ends z) fails
+    reads (rule visibility) λ v. reads (plainly (word w_type)) λ k. reads (plainly name) λ n. reads (rule generics) λ g.
+    turns at_where (reads (rule where_clause) λ w. equal_and_one v)
+    (reads (punctuation equals) λ q. reads (rule type) λ t. reads (rule where_clause) λ x. reads (punctuation semicolon) λ z. ends z)
+equal_and_one v =
+    reads (punctuation equals) λ q. reads (rule type) λ t. turns at_where (reads (rule where_clause) λ x. fails) (reads (punctuation semicolon) λ z. ends z)
 statements_list =
     reads (rule attributes) λ a. turns at_item (then (item_behind a) (rule statements)) (reads (rule statement_rest) λ s. ends s)
 statement_alone =
@@ -322,7 +327,7 @@ class Writer:
         for (name, _, sentence), start, end in zip(TOPICS, starts, starts[1:]):
             yield name, sentence, [k for k in self.source.rules[start:end] if k in rules]
 
-    MODULES = {'Fault': 'crate::fault', 'Fading': 'crate::fading', 'List': 'crate::list', 'Place': 'crate::left_out', 'Planned': 'crate::plan', 'Doubt': 'crate::plan', 'Stage': 'crate::plan', 'Delimiter': 'syn_tokens::delimiter',
+    MODULES = {'Fault': 'crate::fault', 'Fading': 'crate::fading', 'List': 'crate::list', 'Place': 'crate::left_out', 'Planned': 'crate::plan', 'Stage': 'crate::plan', 'Delimiter': 'syn_tokens::delimiter',
                'Form': 'crate::form', 'Look': 'crate::look', 'Rule': 'crate::rules', 'Part': 'crate::rules', 'Shape': 'crate::shape',
                'Variant': 'crate::shape', 'Token': 'crate::token', 'Word': 'crate::words', 'Mark': 'crate::words'}
 
@@ -401,9 +406,9 @@ class Writer:
             look = self.look(rest[0])
             one = self.inner(rest[1], size(look))
             return f'Plan::Turns({look}, &{one}, &{self.inner(rest[2], size(look) + size(one))})'
-        if kind == 'tests':
-            doubt = {('one_where',): 'OneWhere', ('has', ('root_mark',)): 'HasRootMark'}[rest[0]]
-            return f'Plan::Tests(Doubt::{doubt}, &{self.inner(rest[1])}, &{self.inner(rest[2])})'
+        if kind == 'rooted':
+            one = self.inner(rest[0])
+            return f'Plan::Rooted(&{one}, &{self.inner(rest[1], size(one))})'
         if kind == 'then':
             piece = self.piece(rest[1])
             return f'Plan::Then(&{self.inner(rest[0], size(piece))}, &{piece})'
@@ -430,7 +435,7 @@ class Writer:
         self.uses_of[it] = self.uses_of.get(it, 0) + 1
         if self.uses_of[it] == 1:
             for part in it[1:]:
-                if isinstance(part, tuple) and part and part[0] in ('rest', 'kept', 'reads', 'turns', 'tests', 'then', 'lists', 'led', 'self'):
+                if isinstance(part, tuple) and part and part[0] in ('rest', 'kept', 'reads', 'turns', 'rooted', 'then', 'lists', 'led', 'self'):
                     self.count(('led', part) if it[0] == 'lists' else part)
 
     def plan_file(self):
@@ -445,11 +450,10 @@ class Writer:
         return [f'//! {WRITTEN}', '//!', '//! The plans of unions as data.', 'ghost use Rattle.std.specs.Prelude.{◌≡◌};', 'ghost use Rattle.syn_recognize.specs.Stages.{stage_course, planned_course};', 'ghost use Rattle.syn_recognize.specs.Courses.{course_of};', '', *self.imports(), '',
                 '/// A plan: one reading of a union, without a trial.', '#[derive(Clone, Copy)]', 'pub enum Plan {',
                 '    /// The plan of this stage.', '    Go(Stage),', '    /// Reads a form, and goes on.', "    Reads(&'static Form, &'static Plan),",
-                '    /// Goes on by what stands next.', "    Turns(Look, &'static Plan, &'static Plan),", '    /// Goes on by what was read.', "    Tests(Doubt, &'static Plan, &'static Plan),",
+                '    /// Goes on by what stands next.', "    Turns(Look, &'static Plan, &'static Plan),", '    /// Reads trees of a use in braces, and goes on by whether one has `::` before it.', "    Rooted(&'static Plan, &'static Plan),",
                 '    /// A plan, and behind it a form.', "    Then(&'static Plan, &'static Form),", '    /// It is of a kind: what is left of it.', "    Rest(&'static Form),",
                 '    /// It is kept as tokens: what is left of it.', "    Kept(&'static Form),", '    /// Reads the generics of an impl, and goes on.', "    Lists(&'static Plan),",
                 '    /// Notes whether what stands next would be read as generics.', "    Led(&'static Plan),", '    /// Reads `for` and the self type of an impl.', "    SelfType(&'static Plan),", '}', '',
-                '/// What is asked of what was read.', '#[derive(Clone, Copy)]', 'pub enum Doubt {', '    OneWhere,', '    HasRootMark,', '}', '',
                 '/// A form that is read by a plan.', '#[derive(Clone, Copy)]', 'pub enum Planned {', *[f'    {camel(k)},' for k in PLANS], '}', '',
                 '/// A stage of a plan.', '#[derive(Clone, Copy)]', 'pub enum Stage {', *[f'    {name},' for name, _, _ in self.stages], '}', '',
                 *[f'pub(crate) static {self.constant(name)}: Form = {text};' for name, _, _, text in self.plan_parts],
@@ -470,9 +474,8 @@ class Writer:
             return f'reads {self.antt(rest[0])} {inner(rest[1])}'
         if kind == 'turns':
             return f'turns {self.antt_look(rest[0])} {inner(rest[1])} {inner(rest[2])}'
-        if kind == 'tests':
-            doubt = {('one_where',): 'OneWhere', ('has', ('root_mark',)): 'HasRootMark'}[rest[0]]
-            return f'tests Doubt-m.{doubt} {inner(rest[1])} {inner(rest[2])}'
+        if kind == 'rooted':
+            return f'rooted {inner(rest[0])} {inner(rest[1])}'
         if kind == 'then':
             return f'followed {inner(rest[0])} {self.antt(rest[1])}'
         if kind == 'lists':
@@ -524,8 +527,8 @@ class Writer:
                 'use Rattle.syn_grammar.specs.Table.{table, ' + ', '.join(table) + '}', 'use Rattle.syn_grammar.specs.Rules as rules', 'use Rattle.syn_grammar.specs.Shape as shapes',
                 'use Rattle.syn_grammar.specs.Grammar.{' + ', '.join(used(['name', 'word', 'name_or', 'literal_of', 'any_literal', 'index'])) + ', Grammar, empty, token, mark, ◌&◌, when◌then◌else◌, inside, raw, rule, one_of, shaped, vanishing, ordered}',
                 'use Rattle.syn_recognize.specs.Within.{first, second}', 'use Rattle.syn_recognize.specs.Ordered.{first_form, other_form}',
-                'use Rattle.syn_recognize.specs.Course.{Course, reads, turns, tests, followed, rest, kept, lists, led, self_type}',
-                f'use {at}.list.List.TheVariants as List-m', f'use {at}.plan.Doubt.TheVariants as Doubt-m', f'use {at}.plan.Stage.{{Stage}}', f'use {at}.plan.Stage.TheVariants as Stage-m',
+                'use Rattle.syn_recognize.specs.Course.{Course, reads, turns, rooted, followed, rest, kept, lists, led, self_type}',
+                f'use {at}.list.List.TheVariants as List-m', f'use {at}.plan.Stage.{{Stage}}', f'use {at}.plan.Stage.TheVariants as Stage-m',
                 f'use {at}.plan.Planned.{{Planned}}', f'use {at}.plan.Planned.TheVariants as Planned-m', '',
                 *[line for name, it, _ in self.stages for line in (f'abbrev pub {snake(name)} : Course', f'{snake(name)} = {self.course(it)}', '')],
                 'abbrev pub stage_course : Stage → Course', *[f'stage_course Stage-m.{name} = {snake(name)}' for name, _, _ in self.stages], '',

@@ -209,8 +209,10 @@ def course(plan):
         return ('kept', flat(plan))
     kind = plan[0]
     if kind == 'reads':
+        if plan[2][:2] == ('tests', ('has', ('root_mark',))):
+            return ('rooted', course(plan[2][2]), course(plan[2][3]))
         return ('reads', plan[1], course(plan[2]))
-    if kind in ('turns', 'tests'):
+    if kind == 'turns':
         return (kind, plan[1], course(plan[2]), course(plan[3]))
     if kind == 'then':
         return ('then', course(plan[1]), plan[2])

@@ -41,8 +41,8 @@ nowhere (Step-m.Note b ts n) = refl
 nowhere (Step-m.Skip k b l) = refl
 nowhere (Step-m.Forget b) = refl
 nowhere (Step-m.Capture b ts) = refl
-nowhere (Step-m.Plan p u b n) = refl
-nowhere (Step-m.Keep u b) = refl
+nowhere (Step-m.Plan p g) = refl
+nowhere (Step-m.Rooted p q g b) = refl
 nowhere (Step-m.ByBraces f g ts) = refl
 nowhere (Step-m.Levels a b) = refl
 
@@ -57,8 +57,8 @@ stuck (Step-m.Note b ts n) = refl
 stuck (Step-m.Skip k b l) = refl
 stuck (Step-m.Forget b) = refl
 stuck (Step-m.Capture b ts) = refl
-stuck (Step-m.Plan p u b n) = refl
-stuck (Step-m.Keep u b) = refl
+stuck (Step-m.Plan p g) = refl
+stuck (Step-m.Rooted p q g b) = refl
 stuck (Step-m.ByBraces f g ts) = refl
 stuck (Step-m.Levels a b) = refl
 

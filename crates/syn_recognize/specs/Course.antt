@@ -2,12 +2,11 @@
 -- read is kept as tokens.
 use Rattle.syn_grammar.specs.Tokens.{Look}
 use Rattle.syn_grammar.specs.Grammar.{Grammar}
-use Rattle.syn_recognize.specs.declared.plan.Doubt.{Doubt}
 
 pub data Course : Type 0 where
   reads : Grammar → Course → Course  -- reads this form
   turns : Look → Course → Course → Course  -- goes on by what stands next
-  tests : Doubt → Course → Course → Course  -- goes on by what was read
+  rooted : Course → Course → Course  -- reads trees of a use in braces: goes on by whether one has `::` before it
   followed : Course → Grammar → Course  -- and behind it this form
   rest : Grammar → Course  -- it is of a kind: what is left of it
   kept : Grammar → Course  -- it is kept as tokens: what is left of it

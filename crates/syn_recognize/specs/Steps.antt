@@ -7,7 +7,7 @@ use Rattle.syn_recognize.specs.Forms.{grammar_of}
 use Rattle.syn_recognize.specs.Written.{Written}
 use Rattle.syn_recognize.specs.Copies.{Copy, Reached, Refused, Leads, next, closing, forgetting, returning, capturing, copy_form, copy_row, after_member, copy_others, after_other, after_late, by_braces}
 use Rattle.syn_recognize.specs.Ladder.{climb}
-use Rattle.syn_recognize.specs.Courses.{course_of, copy_course}
+use Rattle.syn_recognize.specs.Courses.{course_of, copy_guess, by_roots}
 use Rattle.syn_recognize.specs.declared.step.Step.{Step}
 use Rattle.syn_recognize.specs.declared.step.Step.TheVariants as Step-m
 
@@ -23,8 +23,8 @@ after (Step-m.Note b ts n) o = next o (returning b.value ts)
 after (Step-m.Skip k b l) o = next o (after_late k l b.value)
 after (Step-m.Forget b) o = next o (forgetting b.value)
 after (Step-m.Capture b ts) o = next o (capturing b.value ts)
-after (Step-m.Plan p u b n) o = next o (copy_course (course_of p.now) u.value b)
-after (Step-m.Keep u b) o = next o (capturing u.value b)
+after (Step-m.Plan p g) o = next o (copy_guess g (course_of p.now))
+after (Step-m.Rooted p q g b) o = next o (by_roots b (copy_guess g (course_of p.now)) (copy_guess g (course_of q.now)))
 after (Step-m.ByBraces f g ts) o = next o (by_braces (grammar_of f.now) (grammar_of g.now) ts)
 after (Step-m.Levels a b) o = next o (climb (b - a) a)
 

@@ -1,60 +1,79 @@
-//! How plans are followed: what alternatives have in common is read once and written aside, until it is known whether what is read
-//! is kept as tokens.
-ghost use Rattle.std.specs.Prelude.{◌≡◌, true};
+//! How plans are followed: what alternatives have in common is read once. Whether what is read is kept as tokens is guessed before, and
+//! so is how the generics of an impl are printed where they have no parameters; a guess that turns out wrong is refused as memory is.
+ghost use Rattle.std.specs.Prelude.{◌≡◌, Some, None, true, false, Bool, Option, IfOk, IfErr, OnOk};
 ghost use Rattle.syn_grammar.specs.Promises.{OrMemory};
-ghost use Rattle.syn_grammar.specs.Take.{before};
-ghost use Rattle.syn_grammar.specs.Tokens.{Before_less};
-ghost use Rattle.syn_grammar.specs.Grammar.{supplied, rule};
-ghost use Rattle.syn_grammar.specs.Rules.{pattern};
+ghost use Rattle.syn_grammar.specs.Take.{sees};
+ghost use Rattle.syn_grammar.specs.Tokens.{at_generics};
 ghost use Rattle.syn_parse.specs.Refusals.{IsSyntax};
+ghost use Rattle.syn_parse.specs.declared.read.refusal.Refusal.TheVariants.{Memory};
 ghost use Rattle.syn_recognize.specs.Forms.{grammar_of};
 ghost use Rattle.syn_recognize.specs.Stages.{planned_form};
-ghost use Rattle.syn_recognize.specs.Courses.{course_of, copy_course, doubt_of};
-ghost use Rattle.syn_recognize.specs.Copies.{copy_form, capturing};
+ghost use Rattle.syn_recognize.specs.Courses.{course_of, copy_guess, copy_course, led_by, leads_on, by_roots, guessed_generics, guessed_lists, no_parameters};
+ghost use Rattle.syn_recognize.specs.Copies.{Copy, copy_form};
 ghost use Rattle.syn_recognize.specs.Names.{look_of};
-ghost use Rattle.syn_recognize.specs.Course.{reads, turns, tests, followed, rest, kept, lists, led, self_type};
-ghost use Rattle.syn_recognize.specs.Steps.{Steps, Guessing, Runs};
+ghost use Rattle.syn_recognize.specs.Course.{reads, turns, rooted, followed, rest, kept, lists, led, self_type};
+ghost use Rattle.syn_recognize.specs.Steps.{Steps, Guessing};
+ghost use Rattle.syn_recognize.specs.Written.{adds};
 
 use crate::form::Form;
+use crate::guess::Guess;
 use crate::item_looks::at_generics;
-use crate::leads::Leads;
 use crate::list::List;
 use crate::look::{Look, holds};
-use crate::plan::{Doubt, Plan, Planned, begin_of, plan_of};
+use crate::plan::{Plan, Planned, begin_of, plan_of};
+use crate::roots::has_root_mark;
 use crate::rules::Rule;
 use crate::step::Step;
-use crate::words::Mark;
 use crate::writer::Writer;
 use std::alloc::AllocError;
 use syn_parse::buffer::ParseBuffer;
 use syn_parse::read::refusal::{Parsed, Refusal};
-use syn_tokens::ident::Ident;
+use syn_tokens::delimiter::Delimiter;
 use syn_tokens::span::Span;
-use syn_tokens::stream::TokenStream;
-use syn_tokens::stream::cursor::{Cursor, TokenTreeRef};
-use syn_tokens::stream::entry::Token;
-use syn_tokens::token::{Colon, For, Gt, Lt, Underscore};
+use syn_tokens::token::{For, Gt, Lt};
 
 static PARAMETERS: Form = Form::Ordered(List::Parameters);
 
 static SELF_TYPE: Form = Form::Rule(Rule::ForSelfType);
 
-static PATTERN: Form = Form::Rule(Rule::Pattern);
+static TREES: Form = Form::Rule(Rule::RootedTrees);
 
-static COLON: Form = Form::Mark(Mark::Colon);
+static TREES_IN_BRACES: Form = Form::Inside(Delimiter::Brace, &TREES);
+
+static STATEMENTS: Form = Form::Rule(Rule::Statements);
 
 /// Begins a plan.
-#[tactic(auto, using(crate::proofs::Todo::push, crate::proofs::PlannedCourses::trait_item_written, crate::proofs::PlannedCourses::impl_item_written, crate::proofs::PlannedCourses::foreign_item_written, crate::proofs::PlannedCourses::derive_input_written, crate::proofs::PlannedCourses::crate_macro_written))]
 pub(crate) fn read_planned<'a>(
     planned: Planned,
     steps: &mut Vec<Step<'a>>,
     out: &mut Writer,
     input: &ParseBuffer<'a>,
 ) -> Parsed<()>
-    ensures { Steps IsSyntax steps.old.items (copy_form (planned_form planned) out.old input.now) result steps.new.items out.new input.now }
+    ensures { Guessing IsSyntax steps.old.items (copy_form (planned_form planned) out.old input.now) result steps.new.items out.new input.now }
 {
-    let before = out.begin()?;
-    steps.push(Step::Plan(begin_of(planned), before, input.fork(), Leads::Any))?;
+    let guess = out.guess()?;
+    if guess.kept {
+        return read_aside(planned, steps, out, input);
+    }
+    steps.push(Step::Plan(begin_of(planned), guess))?;
+    Ok(())
+}
+
+/// The same, of what is kept as tokens: it is read and dropped, and then written as it is.
+fn read_aside<'a>(
+    planned: Planned,
+    steps: &mut Vec<Step<'a>>,
+    out: &mut Writer,
+    input: &ParseBuffer<'a>,
+) -> Parsed<()>
+    ensures { Guessing IsSyntax steps.old.items (copy_form (planned_form planned) out.old input.now) result steps.new.items out.new input.now }
+{
+    if let Planned::Statements = planned {
+        steps.push(Step::Form(&STATEMENTS))?;
+    }
+    let before = out.drop_aside()?;
+    steps.push(Step::Capture(before, input.fork()))?;
+    steps.push(Step::Plan(begin_of(planned), Guess::kept()))?;
     Ok(())
 }
 
@@ -62,30 +81,24 @@ pub(crate) fn read_planned<'a>(
 #[tactic(auto, using(crate::proofs::Todo::guessing))]
 pub(crate) fn read_plan<'a>(
     plan: &'static Plan,
-    before: Box<Writer>,
-    begin: ParseBuffer<'a>,
-    leads: Leads,
+    guess: Guess,
     steps: &mut Vec<Step<'a>>,
     out: &mut Writer,
     input: &mut ParseBuffer<'a>,
 ) -> Parsed<()>
-    ensures { Guessing IsSyntax steps.old.items (copy_course (course_of plan.now) before.value begin.entry leads out.old input.old) result steps.new.items out.new input.new }
+    ensures { Guessing IsSyntax steps.old.items (copy_guess guess (course_of plan.now) out.old input.old) result steps.new.items out.new input.new }
 {
     match plan {
-        Plan::Go(stage) => go_on(plan_of(*stage), before, begin, leads, steps, out, input),
-        Plan::Reads(form, plan) => read_piece(form, plan, before, begin, leads, steps, out, input),
-        Plan::Turns(look, one, other) => {
-            turn(look, one, other, before, begin, leads, steps, out, input)
-        }
-        Plan::Tests(doubt, one, other) => {
-            test(*doubt, one, other, before, begin, leads, steps, out, input)
-        }
-        Plan::Then(plan, form) => follow(plan, form, before, begin, leads, steps, out, input),
-        Plan::Rest(form) => read_rest(form, before, begin, leads, steps, out, input),
-        Plan::Kept(form) => read_kept(form, before, begin, leads, steps, out, input),
-        Plan::Lists(plan) => read_lists(plan, before, begin, leads, steps, out, input),
-        Plan::Led(plan) => read_led(plan, before, begin, leads, steps, out, input),
-        Plan::SelfType(plan) => read_self_type(plan, before, begin, leads, steps, out, input),
+        Plan::Go(stage) => go_on(plan_of(*stage), guess, steps, out, input),
+        Plan::Reads(form, plan) => read_piece(form, plan, guess, steps, out, input),
+        Plan::Turns(look, one, other) => turn(look, one, other, guess, steps, out, input),
+        Plan::Rooted(one, other) => read_trees(one, other, guess, steps, out, input),
+        Plan::Then(plan, form) => follow(plan, form, guess, steps, out, input),
+        Plan::Rest(form) => read_rest(form, guess, steps, out, input),
+        Plan::Kept(form) => read_kept(form, guess, steps, out, input),
+        Plan::Lists(plan) => read_lists(plan, guess, steps, out, input),
+        Plan::Led(plan) => read_led(plan, guess, steps, out, input),
+        Plan::SelfType(plan) => read_self_type(plan, guess, steps, out, input),
     }
 }
 
@@ -93,412 +106,282 @@ pub(crate) fn read_plan<'a>(
 #[tactic(auto, using(crate::proofs::Todo::push))]
 fn go_on<'a>(
     plan: &'static Plan,
-    before: Box<Writer>,
-    begin: ParseBuffer<'a>,
-    leads: Leads,
+    guess: Guess,
     steps: &mut Vec<Step<'a>>,
     out: &Writer,
     input: &ParseBuffer<'a>,
 ) -> Parsed<()>
-    ensures { Steps IsSyntax steps.old.items (copy_course (course_of plan.now) before.value begin.entry leads out.now input.now) result steps.new.items out.now input.now }
+    ensures { Steps IsSyntax steps.old.items (copy_guess guess (course_of plan.now) out.now input.now) result steps.new.items out.now input.now }
 {
-    steps.push(Step::Plan(plan, before, begin, leads))?;
+    steps.push(Step::Plan(plan, guess))?;
     Ok(())
 }
 
 /// Reads a piece, and goes on with this plan.
-#[tactic(auto, using(crate::proofs::Todo::push))]
+#[tactic(auto, using(crate::proofs::Todo::push, crate::proofs::Guessed::reads_is))]
 fn read_piece<'a>(
     form: &'static Form,
     plan: &'static Plan,
-    before: Box<Writer>,
-    begin: ParseBuffer<'a>,
-    leads: Leads,
+    guess: Guess,
     steps: &mut Vec<Step<'a>>,
     out: &Writer,
     input: &ParseBuffer<'a>,
 ) -> Parsed<()>
-    ensures { Steps IsSyntax steps.old.items (copy_course (reads (grammar_of form.now) (course_of plan.now)) before.value begin.entry leads out.now input.now) result steps.new.items out.now input.now }
+    ensures { Steps IsSyntax steps.old.items (copy_guess guess (reads (grammar_of form.now) (course_of plan.now)) out.now input.now) result steps.new.items out.now input.now }
 {
-    steps.push(Step::Plan(plan, before, begin, leads))?;
+    steps.push(Step::Plan(plan, guess))?;
     steps.push(Step::Form(form))?;
     Ok(())
 }
 
 /// Goes on by what stands next.
-#[tactic(auto, using(crate::proofs::Todo::push))]
+#[tactic(auto, using(crate::proofs::Todo::push, crate::proofs::Guessed::turns_is))]
 fn turn<'a>(
     look: &Look,
     one: &'static Plan,
     other: &'static Plan,
-    before: Box<Writer>,
-    begin: ParseBuffer<'a>,
-    leads: Leads,
+    guess: Guess,
     steps: &mut Vec<Step<'a>>,
     out: &Writer,
     input: &ParseBuffer<'a>,
 ) -> Parsed<()>
-    ensures { Steps IsSyntax steps.old.items (copy_course (turns (look_of look.now) (course_of one.now) (course_of other.now)) before.value begin.entry leads out.now input.now) result steps.new.items out.now input.now }
+    ensures { Steps IsSyntax steps.old.items (copy_guess guess (turns (look_of look.now) (course_of one.now) (course_of other.now)) out.now input.now) result steps.new.items out.now input.now }
 {
     if holds(look, input)? {
-        steps.push(Step::Plan(one, before, begin, leads))?;
+        steps.push(Step::Plan(one, guess))?;
     } else {
-        steps.push(Step::Plan(other, before, begin, leads))?;
+        steps.push(Step::Plan(other, guess))?;
     }
     Ok(())
 }
 
-/// Goes on by what was read.
-#[tactic(auto, using(crate::proofs::Todo::push))]
-fn test<'a>(
-    doubt: Doubt,
+/// Reads trees of a use in braces, and then goes on by whether one has `::` before it.
+#[tactic(auto, using(crate::proofs::Todo::push, crate::proofs::Guessed::rooted_is))]
+fn read_trees<'a>(
     one: &'static Plan,
     other: &'static Plan,
-    before: Box<Writer>,
-    begin: ParseBuffer<'a>,
-    leads: Leads,
+    guess: Guess,
     steps: &mut Vec<Step<'a>>,
     out: &Writer,
     input: &ParseBuffer<'a>,
 ) -> Parsed<()>
-    ensures { Steps IsSyntax steps.old.items (copy_course (tests doubt (course_of one.now) (course_of other.now)) before.value begin.entry leads out.now input.now) result steps.new.items out.now input.now }
+    ensures { Steps IsSyntax steps.old.items (copy_guess guess (rooted (course_of one.now) (course_of other.now)) out.now input.now) result steps.new.items out.now input.now }
 {
-    if is_so(doubt, &begin, input)? {
-        steps.push(Step::Plan(one, before, begin, leads))?;
+    steps.push(Step::Rooted(one, other, guess, input.fork()))?;
+    steps.push(Step::Form(&TREES_IN_BRACES))?;
+    Ok(())
+}
+
+/// Goes on by whether one of the trees of a use that were read from there on has `::` before it.
+#[tactic(auto, using(crate::proofs::Todo::push))]
+pub(crate) fn choose_by_roots<'a>(
+    one: &'static Plan,
+    other: &'static Plan,
+    guess: Guess,
+    begin: &ParseBuffer<'a>,
+    steps: &mut Vec<Step<'a>>,
+    out: &Writer,
+    input: &ParseBuffer<'a>,
+) -> Parsed<()>
+    ensures { Steps IsSyntax steps.old.items (by_roots begin.now (copy_guess guess (course_of one.now)) (copy_guess guess (course_of other.now)) out.now input.now) result steps.new.items out.now input.now }
+{
+    if has_root_mark(begin, input)? {
+        steps.push(Step::Plan(one, guess))?;
     } else {
-        steps.push(Step::Plan(other, before, begin, leads))?;
+        steps.push(Step::Plan(other, guess))?;
     }
     Ok(())
 }
 
-/// Goes on with this plan, and behind it reads this form.
+/// Goes on with this plan, and behind it reads this form; where all is kept as tokens, that was put off when the plan began.
 #[tactic(auto, using(crate::proofs::Todo::push))]
 fn follow<'a>(
     plan: &'static Plan,
     form: &'static Form,
-    before: Box<Writer>,
-    begin: ParseBuffer<'a>,
-    leads: Leads,
+    guess: Guess,
     steps: &mut Vec<Step<'a>>,
     out: &Writer,
     input: &ParseBuffer<'a>,
 ) -> Parsed<()>
-    ensures { Steps IsSyntax steps.old.items (copy_course (followed (course_of plan.now) (grammar_of form.now)) before.value begin.entry leads out.now input.now) result steps.new.items out.now input.now }
+    ensures { Steps IsSyntax steps.old.items (copy_guess guess (followed (course_of plan.now) (grammar_of form.now)) out.now input.now) result steps.new.items out.now input.now }
 {
-    steps.push(Step::Form(form))?;
-    steps.push(Step::Plan(plan, before, begin, leads))?;
+    if !guess.kept {
+        steps.push(Step::Form(form))?;
+    }
+    steps.push(Step::Plan(plan, guess))?;
     Ok(())
 }
 
-/// It is of a kind: writes what was written aside, and reads what is left.
+/// It is of a kind: reads what is left.
 #[tactic(auto, using(crate::proofs::Todo::push))]
 fn read_rest<'a>(
     form: &'static Form,
-    before: Box<Writer>,
-    _begin: ParseBuffer<'a>,
-    leads: Leads,
+    guess: Guess,
     steps: &mut Vec<Step<'a>>,
-    out: &mut Writer,
+    out: &Writer,
     input: &ParseBuffer<'a>,
 ) -> Parsed<()>
-    ensures { Steps IsSyntax steps.old.items (copy_course (rest (grammar_of form.now)) before.value _begin.entry leads out.old input.now) result steps.new.items out.new input.now }
+    ensures { Guessing IsSyntax steps.old.items (copy_guess guess (rest (grammar_of form.now)) out.now input.now) result steps.new.items out.now input.now }
 {
-    if is_wrong(leads) {
+    if guess.kept {
         return Err(Refusal::Memory);
     }
-    out.end(before)?;
+    if let Some(true) = guess.leads {
+        return Err(Refusal::Memory);
+    }
     steps.push(Step::Form(form))?;
     Ok(())
 }
 
-/// Whether generics of an impl were printed in the wrong way. Those that are printed behind what was shown never are.
-fn is_wrong(leads: Leads) -> bool
-    ensures { result ≡ is_wrong leads }
-{
-    match leads {
-        Leads::Any => false,
-        Leads::Noted(_) => false,
-        Leads::Guessed(guessed, found) => guessed != found,
-    }
-}
-
-/// It is kept as tokens: reads what is left, and then writes all as it is.
+/// It is kept as tokens: reads what is left.
 #[tactic(auto, using(crate::proofs::Todo::push))]
 fn read_kept<'a>(
     form: &'static Form,
-    mut before: Box<Writer>,
-    begin: ParseBuffer<'a>,
-    _leads: Leads,
+    guess: Guess,
     steps: &mut Vec<Step<'a>>,
     out: &mut Writer,
     input: &ParseBuffer<'a>,
 ) -> Parsed<()>
-    ensures { Steps IsSyntax steps.old.items (copy_course (kept (grammar_of form.now)) before.value begin.entry _leads out.old input.now) result steps.new.items out.new input.now }
+    ensures { Guessing IsSyntax steps.old.items (copy_guess guess (kept (grammar_of form.now)) out.old input.now) result steps.new.items out.new input.now }
 {
-    out.drop_behind(&mut before);
-    steps.push(Step::Keep(before, begin))?;
+    if !guess.kept {
+        if !out.is_dropping() {
+            return Err(Refusal::Memory);
+        }
+        out.note_kept(guess.number);
+    }
     steps.push(Step::Form(form))?;
     Ok(())
-}
-
-/// Goes on with what was written before, and writes what was read from there on, as it is.
-#[tactic(auto, using(crate::proofs::Writes::adds_nothing))]
-pub(crate) fn keep<'a>(
-    before: Box<Writer>,
-    begin: &ParseBuffer<'a>,
-    out: &mut Writer,
-    input: &ParseBuffer<'a>,
-) -> Parsed<()>
-    ensures { Runs IsSyntax (capturing before.value begin.now out.old input.now) result out.new input.now }
-{
-    let _dropped = out.put_back(before)?;
-    if out.is_dropping() {
-        return Ok(());
-    }
-    match begin.between(input) {
-        Ok(tokens) => Ok(out.append(&tokens)?),
-        Err(_memory) => Err(Refusal::Memory),
-    }
 }
 
 // IMPLS
 
 /// Reads the generics of an impl, and goes on.
-#[tactic(auto, using(crate::proofs::Todo::push, crate::proofs::Copied::when_is))]
+#[tactic(auto, using(crate::proofs::Todo::push, crate::proofs::Guessed::lists_is))]
 fn read_lists<'a>(
     plan: &'static Plan,
-    before: Box<Writer>,
-    begin: ParseBuffer<'a>,
-    _leads: Leads,
+    guess: Guess,
     steps: &mut Vec<Step<'a>>,
     out: &mut Writer,
     input: &mut ParseBuffer<'a>,
 ) -> Parsed<()>
-    ensures { Guessing IsSyntax steps.old.items (copy_course (lists (course_of plan.now)) before.value begin.entry _leads out.old input.old) result steps.new.items out.new input.new }
+    ensures { Steps IsSyntax steps.old.items (copy_guess guess (lists (course_of plan.now)) out.old input.old) result steps.new.items out.new input.new }
 {
-    if out.is_printing() {
-        return print_lists(plan, before, begin, steps, out, input);
+    if !guess.kept {
+        if let Some(leads) = guess.leads {
+            if out.is_printing() {
+                return print_lists(plan, guess, leads, steps, out, input);
+            }
+            return Err(Refusal::Memory);
+        }
     }
-    let leads = Leads::Noted(out.begin_impl()?);
-    steps.push(Step::Plan(plan, before, begin, leads))?;
+    steps.push(Step::Plan(plan, guess))?;
     if at_generics(input) {
         steps.push(Step::Form(&PARAMETERS))?;
     }
     Ok(())
 }
 
-/// The same, where generics without parameters are printed only if what follows would be read as generics.
+/// The same, where generics without parameters are printed by a guess.
 fn print_lists<'a>(
     plan: &'static Plan,
-    before: Box<Writer>,
-    begin: ParseBuffer<'a>,
+    guess: Guess,
+    leads: bool,
     steps: &mut Vec<Step<'a>>,
     out: &mut Writer,
     input: &mut ParseBuffer<'a>,
 ) -> Parsed<()>
     requires printing { out.old.printing ≡ true }
-    ensures { Guessing IsSyntax steps.old.items (copy_course (lists (course_of plan.now)) before.value begin.entry Any out.old input.old) result steps.new.items out.new input.new }
+    requires direct { guess.kept ≡ false }
+    requires guessed { guess.leads ≡ Some leads }
+    ensures { Steps IsSyntax steps.old.items (guessed_lists (no_parameters input.old) leads (copy_course (course_of plan.now)) out.old input.old) result steps.new.items out.new input.new }
 {
-    let guess = out.lead();
     if at_generics(input) {
         let mut ahead = input.fork();
         let _less: Lt = ahead.read()?;
         if !ahead.peek::<Gt>() {
-            steps.push(Step::Plan(plan, before, begin, Leads::Any))?;
+            steps.push(Step::Plan(plan, guess.settled()))?;
             steps.push(Step::Form(&PARAMETERS))?;
             return Ok(());
         }
         let _greater: Gt = ahead.read()?;
         input.advance_to(&ahead);
     }
-    if guess {
-        write_none(out)?;
-    }
-    steps.push(Step::Plan(plan, before, begin, Leads::Guessed(guess, false)))?;
+    write_none(leads, out)?;
+    steps.push(Step::Plan(plan, guess))?;
     Ok(())
 }
 
-/// Notes whether what stands behind the generics of an impl would be read as generics, and goes on.
+/// Writes generics without parameters as `< >` where this is so, else nothing.
+fn write_none(leads: bool, out: &mut Writer) -> Result<(), AllocError>
+    ensures { OnOk result (out.new ≡ adds out.old (guessed_generics leads)) }
+{
+    if leads {
+        out.write(&Lt::new([Span::call_site()]))?;
+        out.write(&Gt::new([Span::call_site()]))?;
+    }
+    Ok(())
+}
+
+/// Goes on behind the generics of an impl, with what is known where they would be read there.
 #[tactic(auto, using(crate::proofs::Todo::push))]
 fn read_led<'a>(
     plan: &'static Plan,
-    before: Box<Writer>,
-    begin: ParseBuffer<'a>,
-    leads: Leads,
+    guess: Guess,
     steps: &mut Vec<Step<'a>>,
     out: &mut Writer,
     input: &ParseBuffer<'a>,
 ) -> Parsed<()>
-    ensures { Steps IsSyntax steps.old.items (copy_course (led (course_of plan.now)) before.value begin.entry leads out.old input.now) result steps.new.items out.new input.now }
+    ensures { Guessing IsSyntax steps.old.items (copy_guess guess (led (course_of plan.now)) out.old input.now) result steps.new.items out.new input.now }
 {
-    let leads = found(leads, at_generics(input), out);
-    steps.push(Step::Plan(plan, before, begin, leads))?;
+    let guess = compared(guess, at_generics(input), out)?;
+    steps.push(Step::Plan(plan, guess))?;
     Ok(())
 }
 
-/// Reads `for` and the self type of an impl, notes whether it would be read as generics, and goes on.
+/// Reads `for` and the self type of an impl, and goes on, with what is known where generics would be read behind `for`.
 #[tactic(auto, using(crate::proofs::Todo::push))]
 fn read_self_type<'a>(
     plan: &'static Plan,
-    before: Box<Writer>,
-    begin: ParseBuffer<'a>,
-    leads: Leads,
+    guess: Guess,
     steps: &mut Vec<Step<'a>>,
     out: &mut Writer,
     input: &ParseBuffer<'a>,
 ) -> Parsed<()>
-    ensures { Steps IsSyntax steps.old.items (copy_course (self_type (course_of plan.now)) before.value begin.entry leads out.old input.now) result steps.new.items out.new input.now }
+    ensures { Guessing IsSyntax steps.old.items (copy_guess guess (self_type (course_of plan.now)) out.old input.now) result steps.new.items out.new input.now }
 {
-    let leads = found(leads, leads_on(input)?, out);
-    steps.push(Step::Plan(plan, before, begin, leads))?;
+    let guess = compared(guess, leads_on(input)?, out)?;
+    steps.push(Step::Plan(plan, guess))?;
     steps.push(Step::Form(&SELF_TYPE))?;
     Ok(())
 }
 
-/// What is known of the generics of an impl where this was found.
-fn found(leads: Leads, it: bool, out: &mut Writer) -> Leads
-    ensures known { result ≡ found leads it }
+/// What is still guessed where generics would be read, or not. Refused as memory is where the guess was wrong.
+fn compared(guess: Guess, it: bool, out: &mut Writer) -> Parsed<Guess>
+    ensures kept { IfOk result (λ g. g.kept ≡ guess.kept) }
+    ensures leads { IfOk result (λ g. (q : Option Bool → Copy) → led_by guess.leads it q ≡ q g.leads) }
+    ensures memory { IfErr result (λ e. e ≡ Memory) }
     ensures unchanged { out.new ≡ out.old }
 {
-    match leads {
-        Leads::Any => Leads::Any,
-        Leads::Noted(number) => {
-            if it {
-                out.note_lead(number);
-            }
-            Leads::Noted(number)
-        }
-        Leads::Guessed(guessed, before) => Leads::Guessed(guessed, before || it),
+    if !it {
+        return Ok(guess);
+    }
+    out.note_lead(guess.number);
+    match guess.leads {
+        None => Ok(guess),
+        Some(true) => Ok(guess.settled()),
+        Some(false) => Err(Refusal::Memory),
     }
 }
 
-/// Writes generics without parameters.
-fn write_none(out: &mut Writer) -> Result<(), AllocError> {
-    out.write(&Lt::new([Span::call_site()]))?;
-    out.write(&Gt::new([Span::call_site()]))?;
-    Ok(())
-}
-
-/// Whether generics stand behind the `for` that stands next.
-fn leads_on(input: &ParseBuffer<'_>) -> Parsed<bool> {
+/// Whether generics would be read behind the `for` that stands next. Refused only where memory is.
+fn leads_on(input: &ParseBuffer<'_>) -> Parsed<bool>
+    ensures { OrMemory IsSyntax result (λ answer. answer ≡ leads_on input.now) }
+{
     if !input.peek::<For>() {
         return Ok(false);
     }
     let mut ahead = input.fork();
     let _for: For = ahead.read()?;
     Ok(at_generics(&ahead))
-}
-
-// DOUBTS
-
-/// Whether it is so of what was read.
-fn is_so<'a>(doubt: Doubt, begin: &ParseBuffer<'a>, input: &ParseBuffer<'a>) -> Parsed<bool>
-    ensures { OrMemory IsSyntax result (λ answer. answer ≡ doubt_of doubt (before begin.now input.now)) }
-{
-    match doubt {
-        Doubt::OneWhere => Ok(has_one_where(begin, input)),
-        Doubt::HasRootMark => match begin.between(input) {
-            Ok(tokens) => Ok(has_root_mark(&tokens)),
-            Err(_memory) => Err(Refusal::Memory),
-        },
-    }
-}
-
-/// Whether `where` stands among the tokens that were read from the first buffer up to the second once at most, groups aside.
-#[tactic(auto, unfolding(syn_grammar::specs::Take::before))]
-fn has_one_where<'a>(begin: &ParseBuffer<'a>, input: &ParseBuffer<'a>) -> bool
-    ensures { result ≡ wheres false (before begin.now input.now) }
-{
-    let trees = begin.cursor();
-    let count = trees.len().saturating_sub(input.cursor().len());
-    is_where_once(&trees, count)
-}
-
-/// Whether `where` stands among so many token trees once at most.
-fn is_where_once(trees: &Cursor<'_>, count: usize) -> bool
-    ensures { result ≡ wheres false (first count trees.now) }
-{
-    let mut rest = trees.fork();
-    let mut found = false;
-    'trees: for _tree in 0..count {
-        let Some((tree, behind)) = rest.split() else {
-            return true;
-        };
-        if is_where(&tree) {
-            if found {
-                return false;
-            }
-            found = true;
-        }
-        rest = behind;
-    }
-    true
-}
-
-/// Whether a token tree is `where`.
-fn is_where(tree: &TokenTreeRef<'_>) -> bool {
-    match tree {
-        TokenTreeRef::Ident(ident) => ident.text() == "where",
-        TokenTreeRef::Literal(_) => false,
-        TokenTreeRef::Punct(_) => false,
-        TokenTreeRef::Group(_) => false,
-    }
-}
-
-/// Whether `::` stands before a tree of the use that these tokens end with.
-fn has_root_mark(tokens: &TokenStream) -> bool {
-    let mut depth: usize = 0;
-    let mut found = false;
-    let mut begins = false;
-    for entry in tokens.entries() {
-        match entry.token() {
-            Token::Ident(ident) => {
-                if depth == 0 && ident.text() == "use" {
-                    found = true;
-                }
-                begins = false;
-            }
-            Token::Open(_) => {
-                depth = depth.saturating_add(1);
-                begins = true;
-            }
-            Token::Close(_) => {
-                depth = depth.saturating_sub(1);
-                begins = false;
-            }
-            Token::Literal(_) => {
-                begins = false;
-            }
-            Token::Punct(punct) => {
-                if found && begins && punct.character() == ':' {
-                    return true;
-                }
-                begins = punct.character() == ',';
-            }
-        }
-    }
-    false
-}
-
-// A PART OF A PARAMETER THAT IS SUPPLIED
-
-/// Reads a pattern, a colon and this form. Where a name stands before `<` the form stands alone, and `_ :` is written before it.
-pub(crate) fn read_supplied<'a>(
-    form: &'static Form,
-    steps: &mut Vec<Step<'a>>,
-    out: &mut Writer,
-    input: &ParseBuffer<'a>,
-) -> Parsed<()>
-    ensures { Steps IsSyntax steps.old.items (copy_form (supplied Before_less (rule pattern) (grammar_of form.now)) out.old input.now) result steps.new.items out.new input.now }
-{
-    steps.push(Step::Form(form))?;
-    if input.peek::<Ident>() && input.peek2::<Lt>() {
-        let span = input.span();
-        out.write(&Underscore::new(span))?;
-        out.write(&Colon::new([span]))?;
-        return Ok(());
-    }
-    steps.push(Step::Form(&COLON))?;
-    steps.push(Step::Form(&PATTERN))?;
-    Ok(())
 }

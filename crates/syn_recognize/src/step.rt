@@ -1,7 +1,7 @@
 //! What is still to be done.
 use crate::form::Form;
+use crate::guess::Guess;
 use crate::late::Guesses;
-use crate::leads::Leads;
 use crate::list::List;
 use crate::plan::Plan;
 use crate::writer::Writer;
@@ -36,8 +36,8 @@ pub enum Step<'a> {
     Levels(usize, usize),
     /// Reads the first form where a group in braces was read last, from there on, else the second.
     ByBraces(&'static Form, &'static Form, ParseBuffer<'a>),
-    /// Goes on with a plan: what was written before it began, where it began, and what is known of the impl that it reads.
-    Plan(&'static Plan, Box<Writer>, ParseBuffer<'a>, Leads),
-    /// What a plan reads is kept as tokens: goes on with what was written before, and writes what was read from there on, as it is.
-    Keep(Box<Writer>, ParseBuffer<'a>),
+    /// Goes on with a plan.
+    Plan(&'static Plan, Guess),
+    /// Goes on with the first plan where one of the trees of a use that were read from there on has `::` before it, else with the second.
+    Rooted(&'static Plan, &'static Plan, Guess, ParseBuffer<'a>),
 }

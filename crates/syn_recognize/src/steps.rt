@@ -28,13 +28,14 @@ use crate::form::Form;
 use crate::levels::{behind, first_level, height_of};
 use crate::look::{Look, holds_next};
 use crate::operands::{opened, operand};
-use crate::planned::{keep, read_plan, read_planned, read_supplied};
+use crate::planned::{choose_by_roots, read_plan, read_planned};
 use crate::refused::{left_over, told};
 use crate::rows::{
     note, read_ordered, read_others, read_others_rest, read_row, read_row_rest, skip_late,
 };
 use crate::rules::{Part, Rule, form_of, form_of_part};
 use crate::step::Step;
+use crate::supplied::read_supplied;
 use crate::token::{copy, copy_token};
 use crate::words::{Mark, copy_mark};
 use crate::writer::Writer;
@@ -91,10 +92,10 @@ fn take_other<'a>(
         Step::ByBraces(one, other, begin) => {
             read_by_braces(one, other, &begin, steps, out, input)
         }
-        Step::Plan(plan, before, begin, leads) => {
-            read_plan(plan, before, begin, leads, steps, out, input)
+        Step::Plan(plan, guess) => read_plan(plan, guess, steps, out, input),
+        Step::Rooted(one, other, guess, begin) => {
+            choose_by_roots(one, other, guess, &begin, steps, out, input)
         }
-        Step::Keep(before, begin) => keep(before, &begin, out, input),
     }
 }
 

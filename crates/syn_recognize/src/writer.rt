@@ -7,13 +7,15 @@ ghost use Rattle.syn_tokens.specs.Spans.{at};
 ghost use Rattle.syn_tokens.specs.Delimiters.{delimiter_of};
 ghost use Rattle.syn_recognize.specs.PrintedRows.{way};
 ghost use Rattle.syn_recognize.specs.Trailing.{IsLeaf};
-ghost use Rattle.syn_recognize.specs.Written.{adds, enters, leaves, blank, unwritten, beside, drops, stream_of};
+ghost use Rattle.syn_recognize.specs.Written.{adds, enters, leaves, blank, unwritten, drops, stream_of};
+ghost use Rattle.syn_recognize.specs.Courses.{Fair};
 ghost use Rattle.syn_grammar.specs.Promises.{OrMemory};
 ghost use Rattle.syn_parse.specs.Refusals.{IsSyntax};
 
+use crate::guess::Guess;
 use crate::late::Late;
+use crate::notes::Notes;
 use std::alloc::{AllocError, Global};
-use std::collections::VecDeque;
 use std::marker::Model;
 use std::mem;
 use syn_parse::read::refusal::{Parsed, Refusal};
@@ -24,28 +26,6 @@ use syn_tokens::span::Span;
 use syn_tokens::stream::TokenStream;
 use syn_tokens::stream::builder::StreamBuilder;
 
-/// What was noted while trees were shown.
-#[derive(Drop)]
-pub struct Noted {
-    /// Of each list in `< >` that has some other member: the members behind its first other member that are printed first. The
-    /// lists stand in the order of these members. Where nothing is printed they are noted here; printing takes them away from the
-    /// front.
-    late: VecDeque<Vec<Late>>,
-    /// Of each impl: whether what stands behind its generics, or its self type, would be read as generics. Noted and taken away in the
-    /// same way.
-    leads: VecDeque<bool>,
-}
-
-impl Noted {
-    /// Nothing was noted.
-    pub(crate) fn none(alloc: Global) -> Noted {
-        Noted {
-            late: VecDeque::new(alloc),
-            leads: VecDeque::new(alloc),
-        }
-    }
-}
-
 /// The tokens that were written, where what is written isn't dropped.
 #[derive(Drop)]
 pub struct Writer {
@@ -53,7 +33,10 @@ pub struct Writer {
     out: Option<StreamBuilder>,
     /// Whether lists are written with their lifetimes first.
     printing: bool,
-    noted: Noted,
+    /// Whether it is noted how lists and plans are; then what is written is dropped.
+    noting: bool,
+    /// What is noted, or what was.
+    notes: Notes,
     alloc: Global,
 }
 
@@ -68,38 +51,28 @@ impl Model for Writer {
 }
 
 impl Writer {
-    /// Nothing was written yet; trees are written as they are shown. What grows takes its memory from `alloc`.
-    pub(crate) fn showing(alloc: Global) -> Writer
+    /// Nothing was written yet; trees are written as they are shown, with what was noted of them. What grows takes its memory from `alloc`.
+    pub(crate) fn showing(alloc: Global, notes: Notes) -> Writer
         ensures { result ≡ blank false }
     {
         Writer {
             out: Some(StreamBuilder::new(alloc)),
             printing: false,
-            noted: Noted::none(alloc),
+            noting: false,
+            notes,
             alloc,
         }
     }
 
-    /// The same, with what was noted before.
-    fn showing_with(alloc: Global, noted: Noted) -> Writer
-        ensures { result ≡ blank false }
-    {
-        Writer {
-            out: Some(StreamBuilder::new(alloc)),
-            printing: false,
-            noted,
-            alloc,
-        }
-    }
-
-    /// Nothing was written yet; trees are written as they are printed, with what was noted when they were shown.
-    pub(crate) fn printing(alloc: Global, noted: Noted) -> Writer
+    /// Nothing was written yet; trees are written as they are printed, with what was noted of them.
+    pub(crate) fn printing(alloc: Global, notes: Notes) -> Writer
         ensures { result ≡ blank true }
     {
         Writer {
             out: Some(StreamBuilder::new(alloc)),
             printing: true,
-            noted,
+            noting: false,
+            notes,
             alloc,
         }
     }
@@ -111,7 +84,21 @@ impl Writer {
         Writer {
             out: None,
             printing: false,
-            noted: Noted::none(alloc),
+            noting: false,
+            notes: Notes::none(alloc),
+            alloc,
+        }
+    }
+
+    /// What is written is dropped, and it is noted how lists and plans are.
+    pub(crate) fn noting(alloc: Global) -> Writer
+        ensures { result ≡ unwritten }
+    {
+        Writer {
+            out: None,
+            printing: false,
+            noting: true,
+            notes: Notes::none(alloc),
             alloc,
         }
     }
@@ -130,32 +117,66 @@ impl Writer {
         self.out.is_none()
     }
 
+    /// Whether it is noted how lists and plans are.
+    pub(crate) fn is_noting(&self) -> bool {
+        self.noting
+    }
+
     /// One more list has another member than lifetimes: its number.
     pub(crate) fn begin_list(&mut self) -> Result<usize, AllocError>
         ensures { self.new ≡ self.old }
     {
-        let number = self.noted.late.len();
-        self.noted.late.push_back(Vec::new(self.alloc))?;
-        Ok(number)
+        self.notes.begin_list()
     }
 
     /// Notes a late member of the list of this number.
     pub(crate) fn note(&mut self, list: usize, late: Late) -> Result<(), AllocError>
         ensures { self.new ≡ self.old }
     {
-        match self.noted.late.get_mut(list) {
-            Some(noted) => Ok(noted.push(late)?),
-            None => Ok(()),
-        }
+        self.notes.note(list, late)
     }
 
     /// What was noted of the next list.
     pub(crate) fn noted(&mut self) -> Vec<Late>
         ensures { self.new ≡ self.old }
     {
-        match self.noted.late.pop_front() {
-            Some(noted) => noted,
-            None => Vec::new(self.alloc),
+        self.notes.next_list()
+    }
+
+    /// What is guessed of the next plan: what was noted of it; where nothing was, that it isn't kept, and that nothing would be read as
+    /// generics. Where it is to be noted, its number. Refused only where memory is.
+    pub(crate) fn guess(&mut self) -> Parsed<Guess>
+        ensures fair { OrMemory IsSyntax result (λ guess. Fair self.old.printing guess.leads) }
+        ensures unchanged { self.new ≡ self.old }
+    {
+        if self.noting {
+            let number = self.notes.begin_plan()?;
+            return Ok(Guess::noted_as(number));
+        }
+        let noted = self.notes.next_plan();
+        Ok(Guess {
+            kept: noted.kept,
+            leads: if self.printing { Some(noted.leads) } else { None },
+            number: None,
+        })
+    }
+
+    /// Notes that what the plan of this number reads is kept as tokens.
+    pub(crate) fn note_kept(&mut self, plan: Option<usize>)
+        ensures { self.new ≡ self.old }
+    {
+        if let Some(plan) = plan {
+            self.notes.note_kept(plan);
+        }
+    }
+
+    /// Notes that what stands behind the generics of the impl that the plan of this number reads, or its self type, would be read as
+    /// generics.
+    pub(crate) fn note_lead(&mut self, plan: Option<usize>)
+        ensures { self.new ≡ self.old }
+    {
+        if let Some(plan) = plan {
+            self.notes.note_lead(plan);
         }
     }
 
@@ -241,7 +262,7 @@ impl Writer {
         ensures before { OrMemory IsSyntax result (λ before. before.value ≡ self.old) }
         ensures blank { OrMemory IsSyntax result (λ before. self.new ≡ blank true) }
     {
-        let aside = Writer::printing(self.alloc, Noted::none(self.alloc));
+        let aside = Writer::printing(self.alloc, Notes::none(self.alloc));
         let before = mem::replace(self, aside);
         Ok(Box::new(self.alloc, before)?)
     }
@@ -256,97 +277,31 @@ impl Writer {
         Ok(Box::new(self.alloc, before)?)
     }
 
-    /// Writes nothing, so that what follows is written aside in the same way, with what was noted; where what is written is dropped, that
-    /// is dropped too. Answers what was written so far.
-    pub(crate) fn begin(&mut self) -> Parsed<Box<Writer>>
-        ensures before { OrMemory IsSyntax result (λ before. before.value ≡ self.old) }
-        ensures aside { OrMemory IsSyntax result (λ before. self.new ≡ beside self.old) }
-    {
-        let noted = mem::replace(&mut self.noted, Noted::none(self.alloc));
-        let aside = if self.is_dropping() {
-            Writer::dropping(self.alloc)
-        } else if self.printing {
-            Writer::printing(self.alloc, noted)
-        } else {
-            Writer::showing_with(self.alloc, noted)
-        };
-        let before = mem::replace(self, aside);
-        Ok(Box::new(self.alloc, before)?)
-    }
-
-    /// Goes on with what was written before, with what was noted, and writes behind it what was written aside.
-    pub(crate) fn end(&mut self, before: Box<Writer>) -> Parsed<()>
-        ensures { OrMemory IsSyntax result (λ x. self.new ≡ adds before.value (stream_of self.old)) }
-    {
-        let aside = mem::replace(self, Box::into_inner(before));
-        if aside.is_dropping() {
-            return Ok(());
-        }
-        let (tokens, noted) = aside.finish()?;
-        self.noted = noted;
-        Ok(self.append(&tokens)?)
-    }
-
-    /// Drops what was written aside, and what is written from here on. What was noted goes to what was written before.
-    pub(crate) fn drop_behind(&mut self, before: &mut Writer)
-        ensures before { before.new ≡ before.old }
-        ensures dropping { self.new ≡ unwritten }
-    {
-        let aside = mem::replace(self, Writer::dropping(before.alloc));
-        let Writer { noted, .. } = aside;
-        before.noted = noted;
-    }
-
-    /// One more impl: its number.
-    pub(crate) fn begin_impl(&mut self) -> Result<usize, AllocError>
-        ensures { self.new ≡ self.old }
-    {
-        let number = self.noted.leads.len();
-        self.noted.leads.push_back(false)?;
-        Ok(number)
-    }
-
-    /// What stands behind the generics of the impl of this number, or its self type, would be read as generics.
-    pub(crate) fn note_lead(&mut self, number: usize)
-        ensures { self.new ≡ self.old }
-    {
-        if let Some(leads) = self.noted.leads.get_mut(number) {
-            *leads = true;
-        }
-    }
-
-    /// What was noted of the next impl.
-    pub(crate) fn lead(&mut self) -> bool
-        ensures { self.new ≡ self.old }
-    {
-        self.noted.leads.pop_front().unwrap_or(false)
-    }
-
     /// Goes on with what was written before, and answers what was written aside.
     pub(crate) fn put_back(&mut self, before: Box<Writer>) -> Parsed<TokenStream>
         ensures aside { OrMemory IsSyntax result (λ aside. aside ≡ stream_of self.old) }
         ensures before { OrMemory IsSyntax result (λ aside. self.new ≡ before.value) }
     {
         let aside = mem::replace(self, Box::into_inner(before));
-        let (tokens, _noted) = aside.finish()?;
+        let (tokens, _notes) = aside.finish()?;
         Ok(tokens)
     }
 
     /// What was written, and what was noted. Refused where a group is still open, which none ever is, as memory is.
-    pub(crate) fn finish(self) -> Parsed<(TokenStream, Noted)>
+    pub(crate) fn finish(self) -> Parsed<(TokenStream, Notes)>
         ensures { OrMemory IsSyntax result (λ done. done.0 ≡ stream_of self) }
     {
         let Writer {
             out,
-            noted,
+            notes,
             alloc,
             ..
         } = self;
         let Some(out) = out else {
-            return Ok((TokenStream::new(alloc), noted));
+            return Ok((TokenStream::new(alloc), notes));
         };
         match out.finish() {
-            Ok(stream) => Ok((stream, noted)),
+            Ok(stream) => Ok((stream, notes)),
             Err(_) => Err(Refusal::Memory),
         }
     }
