@@ -103,6 +103,10 @@ plain_types d c u k g =
     (reads (rule type) λ t. reads (rule impl_body) λ b. ends x))
 impl_alone =
     reads (optional_item_word w_default) λ d. reads (optional_item_word w_const) λ c. reads (optional_item_word w_unsafe) λ u. reads (plainly (word w_impl)) λ k. lists (plain_types d c u k absent)
+use_alone =
+    reads (rule visibility) λ v. reads (plainly (word w_use)) λ k.
+    turns at_brace (reads (inside Brace (rule rooted_trees)) λ t. tests (has root_mark) t fails (reads (punctuation semicolon) λ z. ends z))
+    (reads (when at_colons then punctuation colons else empty) λ c. reads (rule use_tree) λ t. reads (punctuation semicolon) λ z. ends z)
 type_plan a v =
     reads (plainly (word w_type)) λ k. reads (plainly name) λ n. reads (rule generics) λ g.
     turns at_colon (keeps (reads (punctuation colon) λ c. reads (rule type_bounds) λ b. reads type_and_clause λ e. kept_end))

@@ -12,6 +12,7 @@ pub mod Solid
 pub mod FadingParts
 pub mod WrittenAside
 pub mod CourseProofs
+pub mod Guessed
 pub mod PlannedCourses
 pub mod Ends
 pub mod Trailing

@@ -36,13 +36,12 @@ static PARAMETERS: Form = Form::Ordered(List::Parameters);
 
 static SELF_TYPE: Form = Form::Rule(Rule::ForSelfType);
 
-static TREES: Form = Form::Rule(Rule::RootedTrees);
-
-static TREES_IN_BRACES: Form = Form::Inside(Delimiter::Brace, &TREES);
+static TREES_IN_BRACES: Form = Form::Inside(Delimiter::Brace, &Form::Rule(Rule::RootedTrees));
 
 static STATEMENTS: Form = Form::Rule(Rule::Statements);
 
 /// Begins a plan.
+#[tactic(auto, using(crate::proofs::Todo::push, crate::proofs::CourseProofs::goes_written))]
 pub(crate) fn read_planned<'a>(
     planned: Planned,
     steps: &mut Vec<Step<'a>>,
