@@ -71,3 +71,4 @@ pub mod Marked
 pub mod StatementPlans
 pub mod PlanSteps
 pub mod SmallPlans
+pub mod AlonePlans

@@ -7,6 +7,7 @@ ghost use Rattle.syn_grammar.specs.UseGroups.{UseGroups};
 ghost use Rattle.syn_grammar.specs.ItemPlan.{ItemPlan};
 ghost use Rattle.syn_grammar.specs.MemberPlans.{TraitItemPlan, ImplItemPlan, ForeignItemPlan, PlansMarked, PlansShow};
 ghost use Rattle.syn_grammar.specs.SmallPlans.{DeriveInputPlan, LocalValuePlan};
+ghost use Rattle.syn_grammar.specs.AlonePlans.{UseAlone, TypeAlone, ImplAlone};
 ghost use Rattle.syn_grammar.specs.StatementPlans.{StatementPlan, StatementsPlan, CrateMacroPlan};
 ghost use Rattle.syn_grammar.specs.Alone.{ReadAlone, ValuesForgetSpans, ShowIsRead, ShowStandsAlone, ShowStandsBefore, SameShow};
 
@@ -166,4 +167,22 @@ pub fn derive_input_plan()
 /// read once, and then its end tells. Holds of every token stream.
 pub fn local_value_plan()
     ensures as_the_form { LocalValuePlan }
+{}
+
+/// The plan of a use behind its attributes reads what the rule `use_item_rest` reads, as the same value.
+/// Holds of every token stream.
+pub fn use_item_rest_plan()
+    ensures as_the_rule { UseAlone }
+{}
+
+/// The plan of a type alias behind its attributes reads what the rule `type_item_rest` reads, as the
+/// same value. Holds of every token stream.
+pub fn type_item_rest_plan()
+    ensures as_the_rule { TypeAlone }
+{}
+
+/// The plan of an impl behind its attributes reads what the rule `impl_definition_rest` reads, as the
+/// same value. Holds of every token stream.
+pub fn impl_definition_rest_plan()
+    ensures as_the_rule { ImplAlone }
 {}
