@@ -8,6 +8,7 @@ ghost use Rattle.syn_grammar.specs.ItemPlan.{ItemPlan};
 ghost use Rattle.syn_grammar.specs.MemberPlans.{TraitItemPlan, ImplItemPlan, ForeignItemPlan, PlansMarked, PlansShow};
 ghost use Rattle.syn_grammar.specs.SmallPlans.{DeriveInputPlan, LocalValuePlan};
 ghost use Rattle.syn_grammar.specs.AlonePlans.{UseAlone, TypeAlone, ImplAlone};
+ghost use Rattle.syn_grammar.specs.ToldByTokens.{OneWhereTold, RootMarkTold};
 ghost use Rattle.syn_grammar.specs.StatementPlans.{StatementPlan, StatementsPlan, CrateMacroPlan};
 ghost use Rattle.syn_grammar.specs.Alone.{ReadAlone, ValuesForgetSpans, ShowIsRead, ShowStandsAlone, ShowStandsBefore, SameShow};
 
@@ -185,4 +186,16 @@ pub fn type_item_rest_plan()
 /// same value. Holds of every token stream.
 pub fn impl_definition_rest_plan()
     ensures as_the_rule { ImplAlone }
+{}
+
+/// Of what is read of a type alias, behind forms that read no `where` outside of groups, the test that
+/// `where` stands once at most is told by the tokens, groups and lifetimes aside. Holds of every stream.
+pub fn one_where_told()
+    ensures by_tokens { OneWhereTold }
+{}
+
+/// Of the trees in the braces behind `use`, behind attributes and a visibility, the test whether `::`
+/// stands before one of them is told by the tokens. Holds of every stream.
+pub fn root_mark_told()
+    ensures by_tokens { RootMarkTold }
 {}
