@@ -74,3 +74,4 @@ pub mod SmallPlans
 pub mod AlonePlans
 pub mod Spared
 pub mod ToldByTokens
+pub mod Leads

@@ -163,7 +163,7 @@ often false = never
 abbrev Clause : Syntax → Stream → Stream → Type 0
 Clause w ts r = (b : Bool) × Counts true w_where (often b) ts r × (no_where w ≡ no b) × (at_most_one_where w ≡ true)
 
-word_leaf : (x : Text) (y : Leaf) → fits (word x) y ≡ true → y ≡ ident x
+pub word_leaf : (x : Text) (y : Leaf) → fits (word x) y ≡ true → y ≡ ident x
 word_leaf x (literal k z) e = absurd (true≢false (sym e))
 word_leaf x (ident z) e = go (one_of_texts z (keywords ++ contextual)) e
   where

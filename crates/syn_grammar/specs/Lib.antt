@@ -30,3 +30,4 @@ pub mod StatementPlans
 pub mod SmallPlans
 pub mod AlonePlans
 pub mod ToldByTokens
+pub mod Leads

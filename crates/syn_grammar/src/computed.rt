@@ -9,6 +9,7 @@ ghost use Rattle.syn_grammar.specs.MemberPlans.{TraitItemPlan, ImplItemPlan, For
 ghost use Rattle.syn_grammar.specs.SmallPlans.{DeriveInputPlan, LocalValuePlan};
 ghost use Rattle.syn_grammar.specs.AlonePlans.{UseAlone, TypeAlone, ImplAlone};
 ghost use Rattle.syn_grammar.specs.ToldByTokens.{OneWhereTold, RootMarkTold};
+ghost use Rattle.syn_grammar.specs.Leads.{TypeLeads, ImplLed};
 ghost use Rattle.syn_grammar.specs.StatementPlans.{StatementPlan, StatementsPlan, CrateMacroPlan};
 ghost use Rattle.syn_grammar.specs.Alone.{ReadAlone, ValuesForgetSpans, ShowIsRead, ShowStandsAlone, ShowStandsBefore, SameShow};
 
@@ -198,4 +199,16 @@ pub fn one_where_told()
 /// stands before one of them is told by the tokens. Holds of every stream.
 pub fn root_mark_told()
     ensures by_tokens { RootMarkTold }
+{}
+
+/// A type, printed before anything, would be read as generics exactly where its tokens would be. Holds
+/// of every stream.
+pub fn type_leads()
+    ensures by_tokens { TypeLeads }
+{}
+
+/// Whether empty generics of an impl are printed (`led`) is told by the tokens behind its generics, and
+/// by those of its self type behind `for`. Holds of every stream.
+pub fn impl_led()
+    ensures by_tokens { ImplLed }
 {}
