@@ -71,3 +71,7 @@ pub mod Marked
 pub mod StatementPlans
 pub mod PlanSteps
 pub mod SmallPlans
+pub mod AlonePlans
+pub mod Spared
+pub mod ToldByTokens
+pub mod Leads

@@ -161,7 +161,7 @@ all_deaf y [] = true
 all_deaf y (p ∷ l) = and (deaf y p.0) (all_deaf y l)
 
 -- of what is asked nothing holds of a mark, or the character before it stays alone
-heard_or_none : (y : ℕ) (a : Asked) (x : Text) (l : List Fact) → all_deaf y a ≡ true → (facts_for a (lookahead_with (Punctuation x) l) ≡ []) ⊎ (longest long_marks (y ∷ x) (y ∷ []) ≡ y ∷ [])
+pub heard_or_none : (y : ℕ) (a : Asked) (x : Text) (l : List Fact) → all_deaf y a ≡ true → (facts_for a (lookahead_with (Punctuation x) l) ≡ []) ⊎ (longest long_marks (y ∷ x) (y ∷ []) ≡ y ∷ [])
 heard_or_none y [] x l e = inl refl
 heard_or_none y (p ∷ a) x l e = go (answers p.0 (lookahead_with (Punctuation x) l)) refl (heard_or_none y a x l (and_right (deaf y p.0) _ e))
   where

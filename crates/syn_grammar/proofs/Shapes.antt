@@ -682,3 +682,14 @@ is_shaped j s = (j, s, refl)
 -- no row's sorting looks into it
 pub shape_apart : (j : Shape) (s : Syntax) → (sort (shape j s) ≡ shape j s) × ((t : Syntax) (sp : Span) → behind t sp (shape j s) ≡ More false t sp (shape j s))
 shape_apart j s = let (i, u, e) = is_shaped j s in (ap sort e ∙ sym e, λ t sp. ap (behind t sp) e ∙ ap (More false t sp) (sym e))
+
+-- one of two is shown and printed as it is, without saying which
+pub untag_shown : (s : Syntax) → show (untag s) ≡ show s
+untag_shown (Left s) = refl
+untag_shown (Right s) = refl
+untag_shown _ = refl
+
+pub untag_printed : (s : Syntax) → show (renew (untag s)) ≡ show (renew s)
+untag_printed (Left s) = refl
+untag_printed (Right s) = refl
+untag_printed _ = refl

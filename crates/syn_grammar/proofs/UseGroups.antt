@@ -67,6 +67,9 @@ bare (rule k) (Node s) ts r e x = bare (table k) s ts r (rules_of_trees k e) x
 bare (rule k) _ ts r e x = elim x [ ]
 bare _ s ts r e x = absurd (true≢false (sym e))
 
+pub bare_parts : (s : Syntax) (ts r : Stream) → DerivesPrefix table (table use_tree) s ts r → has_part root_mark s ≡ false
+bare_parts s ts r x = bare (table use_tree) s ts r refl x
+
 bare_tree : (s : Syntax) (ts r : Stream) → DerivesPrefix table (table use_tree) s ts r → has_part root_mark (value_of s) ≡ false
 bare_tree s ts r x = holds_value (has root_mark) s ∙ bare (table use_tree) s ts r refl x
 

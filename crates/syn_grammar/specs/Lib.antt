@@ -28,3 +28,6 @@ pub mod ItemPlan
 pub mod MemberPlans
 pub mod StatementPlans
 pub mod SmallPlans
+pub mod AlonePlans
+pub mod ToldByTokens
+pub mod Leads

@@ -7,6 +7,9 @@ ghost use Rattle.syn_grammar.specs.UseGroups.{UseGroups};
 ghost use Rattle.syn_grammar.specs.ItemPlan.{ItemPlan};
 ghost use Rattle.syn_grammar.specs.MemberPlans.{TraitItemPlan, ImplItemPlan, ForeignItemPlan, PlansMarked, PlansShow};
 ghost use Rattle.syn_grammar.specs.SmallPlans.{DeriveInputPlan, LocalValuePlan};
+ghost use Rattle.syn_grammar.specs.AlonePlans.{UseAlone, TypeAlone, ImplAlone};
+ghost use Rattle.syn_grammar.specs.ToldByTokens.{OneWhereTold, RootMarkTold};
+ghost use Rattle.syn_grammar.specs.Leads.{TypeLeads, ImplLed};
 ghost use Rattle.syn_grammar.specs.StatementPlans.{StatementPlan, StatementsPlan, CrateMacroPlan};
 ghost use Rattle.syn_grammar.specs.Alone.{ReadAlone, ValuesForgetSpans, ShowIsRead, ShowStandsAlone, ShowStandsBefore, SameShow};
 
@@ -166,4 +169,46 @@ pub fn derive_input_plan()
 /// read once, and then its end tells. Holds of every token stream.
 pub fn local_value_plan()
     ensures as_the_form { LocalValuePlan }
+{}
+
+/// The plan of a use behind its attributes reads what the rule `use_item_rest` reads, as the same value.
+/// Holds of every token stream.
+pub fn use_item_rest_plan()
+    ensures as_the_rule { UseAlone }
+{}
+
+/// The plan of a type alias behind its attributes reads what the rule `type_item_rest` reads, as the
+/// same value. Holds of every token stream.
+pub fn type_item_rest_plan()
+    ensures as_the_rule { TypeAlone }
+{}
+
+/// The plan of an impl behind its attributes reads what the rule `impl_definition_rest` reads, as the
+/// same value. Holds of every token stream.
+pub fn impl_definition_rest_plan()
+    ensures as_the_rule { ImplAlone }
+{}
+
+/// Of what is read of a type alias, behind forms that read no `where` outside of groups, the test that
+/// `where` stands once at most is told by the tokens, groups and lifetimes aside. Holds of every stream.
+pub fn one_where_told()
+    ensures by_tokens { OneWhereTold }
+{}
+
+/// Of the trees in the braces behind `use`, behind attributes and a visibility, the test whether `::`
+/// stands before one of them is told by the tokens. Holds of every stream.
+pub fn root_mark_told()
+    ensures by_tokens { RootMarkTold }
+{}
+
+/// A type, printed before anything, would be read as generics exactly where its tokens would be. Holds
+/// of every stream.
+pub fn type_leads()
+    ensures by_tokens { TypeLeads }
+{}
+
+/// Whether empty generics of an impl are printed (`led`) is told by the tokens behind its generics, and
+/// by those of its self type behind `for`. Holds of every stream.
+pub fn impl_led()
+    ensures by_tokens { ImplLed }
 {}
