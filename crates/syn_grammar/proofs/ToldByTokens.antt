@@ -2,20 +2,20 @@
 use Rattle.std.proofs.Common.{◌≡◌, ℕ, ◌+◌, Bool, true, false, List, [], ◌∷◌, ◌++◌, Some, refl, sym, ap, ap₂, ◌∙◌, subst, true≢false, ◌⊎◌, inl, inr}
 use Rattle.std.specs.Prelude.{nat_eq}
 use Rattle.syn_grammar.specs.Words.{Text, keywords, contextual, w_where, w_use, w_type, w_as, equals, comma, star, colons}
-use Rattle.syn_grammar.specs.Tokens.{Span, Leaf, ident, literal, Stream, end, leaf, punct, group, ◌⧺◌, and, or, no, pick, same_text, Brace, Word, Name, mem, one_of_texts, same_terminal, at_word}
+use Rattle.syn_grammar.specs.Tokens.{Span, Leaf, ident, literal, Stream, end, leaf, punct, group, ◌⧺◌, and, or, no, pick, same_text, Brace, Word, Name, mem, one_of_texts, same_terminal, at_word, stands}
 use Rattle.syn_grammar.specs.Rules.{Rule, attributes, visibility, generics, type, where_clause, predicates, use_tree, use_trees, rooted_tree, rooted_trees, root_mark}
 use Rattle.syn_grammar.specs.RuleNumbers.{same_rule}
 use Rattle.syn_grammar.specs.Grammar.{Kind, name, among, terminals, underscore, suits, fits, word, has, one_where, holds, bare_leaf, no_where, at_most_one_where, has_part, Grammar, empty, token, mark, lifetime, ◌&◌, when◌then◌else◌, vanishing, inside, raw, either, one_of, rule, such, captured, unshown, supplied, row, ordered, shaped, generics_before, chars, Spelled, DerivesPrefix, Syntax, Nothing, Token, Mark, Lifetime, Both, Left, Right, Node, Vanishing, Group, Raw, Case, Such, Shaped, Captured, Unshown, Impl, Done, Last, More, Order}
 use Rattle.syn_grammar.specs.Forms.{plainly, punctuation}
 use Rattle.syn_grammar.specs.Table.{table, at_colons, at_comma, name_or_underscore}
-use Rattle.syn_grammar.specs.Take.{before}
+use Rattle.syn_grammar.specs.Take.{before, sees}
 use Rattle.syn_grammar.specs.Run.{value_of, parse_form}
 use Rattle.syn_grammar.specs.ItemPlan.{parts}
 use Rattle.syn_grammar.specs.ToldByTokens.{is_text, opens_lifetime, once_at_most, has_one_where, roots, use_roots, wordless, opening, spares, Piece, WasRead, all_spare, OneWhereTold, RootMarkTold}
 use Rattle.syn_grammar.proofs.Sets.{and_left, and_right, or_split, no_true, same_text_eq}
 use Rattle.syn_grammar.proofs.RuleLemmas.{same_rule_eq}
 use Rattle.syn_grammar.proofs.Streams.{append_append, append_end}
-use Rattle.syn_grammar.proofs.Takes.{before_is}
+use Rattle.syn_grammar.proofs.Takes.{before_is, sees_stands}
 use Rattle.syn_grammar.proofs.Means.{holds_value, no_where_value, told}
 use Rattle.syn_grammar.proofs.Alone.{of_every_rule, implies, by_implied, one_said}
 use Rattle.syn_grammar.proofs.UseGroups.{bare_parts}
@@ -161,7 +161,7 @@ often true = once
 often false = never
 
 abbrev Clause : Syntax → Stream → Stream → Type 0
-Clause w ts r = (b : Bool) × Counts true w_where (often b) ts r × (no_where w ≡ no b) × (at_most_one_where w ≡ true)
+Clause w ts r = (b : Bool) × Counts true w_where (often b) ts r × (no_where w ≡ no b) × (at_most_one_where w ≡ true) × (stands (at_word w_where) ts ≡ b)
 
 pub word_leaf : (x : Text) (y : Leaf) → fits (word x) y ≡ true → y ≡ ident x
 word_leaf x (literal k z) e = absurd (true≢false (sym e))
@@ -188,12 +188,13 @@ clause_tree (Node (Vanishing b (Left (Both (Token y sp) (Node p))))) ts r (v, (w
       joined true w_where once never ts m r (leaf (ident w_where) sp end, k ∙ ap (λ z. leaf z sp m) i, λ n. refl) (no_word (rule predicates) (Node p) m r refl h),
       refl,
       none,
+      w,
     )
 clause_tree (Node (Vanishing b (Right Nothing))) ts r (v, (w, a)) = go b v
   where
     go : (b : Bool) → false ≡ b → Clause (value_of (Node (Vanishing b (Right Nothing)))) ts r
     go true q = absurd (true≢false (sym q))
-    go false q = (false, counts_none true w_where ts r a, refl, refl)
+    go false q = (false, counts_none true w_where ts r a, refl, refl, w)
 clause_tree _ ts r a = search false_true
 
 clause_told : (w : Syntax) (ts r : Stream) → parse_form (rule where_clause) ts ≡ Some (w, r) → Clause w ts r
@@ -212,26 +213,26 @@ tests_alike true false = refl
 tests_alike false true = refl
 tests_alike false false = refl
 
+of_parts : (w q t x : Syntax) (u v : Bool) → no_where w ≡ no u → at_most_one_where w ≡ true → no_where q ≡ true → no_where t ≡ true → no_where x ≡ no v → at_most_one_where x ≡ true → holds one_where (parts (w ∷ q ∷ t ∷ x ∷ [])) ≡ or (no u) (no v)
+of_parts w q t x u v nu ou nq nt nv ov =
+    let oq = none_then_one q nq in
+    let ot = none_then_one t nt in
+    let last : at_most_one_where (Both t x) ≡ true = or_both (and (no_where t) (at_most_one_where x)) _ (ap₂ and nt ov) in
+    let behind : at_most_one_where (Both q (Both t x)) ≡ true = or_both (and (no_where q) (at_most_one_where (Both t x))) _ (ap₂ and nq last) in
+    let none : no_where (Both q (Both t x)) ≡ no v = ap₂ and nq (ap₂ and nt nv) in
+    ap₂ or (ap₂ and nu behind ∙ and_true (no u)) (ap₂ and ou none)
+
 pub one_where_told : OneWhereTold
 one_where_told l b m w q t x e (m3, (m2, (m1, (m0, h, iw), iq), it), ix) =
     let lead = pieces_spared true w_where wordless no_word l b m0 e h in
-    let (u, cu, nu, ou) = clause_told w m0 m1 iw in
-    let (v, cv, nv, ov) = clause_told x m3 m ix in
+    let (u, cu, nu, ou, su) = clause_told w m0 m1 iw in
+    let (v, cv, nv, ov, sv) = clause_told x m3 m ix in
     let (cq, nq) = other_told (punctuation equals) q m1 m2 refl iq in
     let (ct, nt) = other_told (rule type) t m2 m3 refl it in
     let behind_type = joined true w_where never (often v) m2 m3 m ct cv in
     let behind_clause = joined true w_where never (add never (often v)) m1 m2 m cq behind_type in
     let (c, f, k) = joined true w_where never _ b m0 m lead (joined true w_where (often u) _ m0 m1 m cu behind_clause) in
     ap has_one_where (before_is b c m f) ∙ few_is w_where false c ∙ ap is_few (ap (count true w_where false) (sym (append_end c)) ∙ k end) ∙ sym (tests_alike u v) ∙ sym (of_parts w q t x u v nu ou nq nt nv ov)
-  where
-    of_parts : (w q t x : Syntax) (u v : Bool) → no_where w ≡ no u → at_most_one_where w ≡ true → no_where q ≡ true → no_where t ≡ true → no_where x ≡ no v → at_most_one_where x ≡ true → holds one_where (parts (w ∷ q ∷ t ∷ x ∷ [])) ≡ or (no u) (no v)
-    of_parts w q t x u v nu ou nq nt nv ov =
-        let oq = none_then_one q nq in
-        let ot = none_then_one t nt in
-        let last : at_most_one_where (Both t x) ≡ true = or_both (and (no_where t) (at_most_one_where x)) _ (ap₂ and nt ov) in
-        let behind : at_most_one_where (Both q (Both t x)) ≡ true = or_both (and (no_where q) (at_most_one_where (Both t x))) _ (ap₂ and nq last) in
-        let none : no_where (Both q (Both t x)) ≡ no v = ap₂ and nq (ap₂ and nt nv) in
-        ap₂ or (ap₂ and nu behind ∙ and_true (no u)) (ap₂ and ou none)
 
 -- ---- `::` before trees of a use, among tokens
 at_no_colon : (c : ℕ) (b : Bool) → nat_eq c 58 ≡ false → and b (nat_eq c 58) ≡ false
@@ -401,6 +402,23 @@ root_mark_told l b m k t e (n, (m0, h, ik), it) =
     let none : count false w_use false c ≡ never = ap (count false w_use false) (sym (append_end c)) ∙ q end in
     let all : b ≡ (c ⧺ leaf (ident w_use) sp i) ⧺ m = f ∙ ap (λ x. c ⧺ x) (w ∙ ap (leaf (ident w_use) sp) g) ∙ sym (append_append c (leaf (ident w_use) sp i) m) in
     ap use_roots (before_is b (c ⧺ leaf (ident w_use) sp i) m all) ∙ skipped c (leaf (ident w_use) sp i) none ∙ z ∙ sym (holds_value (has root_mark) tt) ∙ ap (has_part root_mark) tv
+
+-- ---- by what is seen: where each of the two clauses would stand, `where` or not
+pub one_where_seen : (m0 m1 m2 m3 m : Stream) (w q t x : Syntax) → parse_form (rule where_clause) m0 ≡ Some (w, m1) → parse_form (punctuation equals) m1 ≡ Some (q, m2) → parse_form (rule type) m2 ≡ Some (t, m3) →
+    parse_form (rule where_clause) m3 ≡ Some (x, m) → holds one_where (parts (w ∷ q ∷ t ∷ x ∷ [])) ≡ or (no (sees (at_word w_where) m0)) (no (sees (at_word w_where) m3))
+one_where_seen m0 m1 m2 m3 m w q t x iw iq it ix =
+    let (u, cu, nu, ou, su) = clause_told w m0 m1 iw in
+    let (v, cv, nv, ov, sv) = clause_told x m3 m ix in
+    let (cq, nq) = other_told (punctuation equals) q m1 m2 refl iq in
+    let (ct, nt) = other_told (rule type) t m2 m3 refl it in
+    of_parts w q t x u v nu ou nq nt nv ov ∙ sym (ap₂ (λ a b. or (no a) (no b)) (sees_stands (at_word w_where) m0 ∙ su) (sees_stands (at_word w_where) m3 ∙ sv))
+
+-- ---- the tokens of trees in braces
+pub trees_told : (n m : Stream) (t : Syntax) → parse_form (inside Brace (rule rooted_trees)) n ≡ Some (t, m) → roots false (before n m) ≡ holds (has root_mark) t
+trees_told n m t it =
+    let (tt, td, tv) = told (inside Brace (rule rooted_trees)) n (t, m) it in
+    let (i, g, z) = group_roots tt n m td in
+    ap (roots false) (before_is n i m g) ∙ z ∙ sym (holds_value (has root_mark) tt) ∙ ap (has_part root_mark) tv
 
 -- ---- what stands before these in an alias and in a use
 pub alias_spared : (a v k n g : Syntax) → all_spare true wordless w_where ((rule generics, g) ∷ (plainly name, n) ∷ (plainly (word w_type), k) ∷ (rule visibility, v) ∷ (rule attributes, a) ∷ []) ≡ true
