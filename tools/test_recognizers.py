@@ -8,7 +8,7 @@ import tempfile
 import unittest
 from pathlib import Path
 
-from recognizers import BY_PLANS, CRATE, CUT, LARGEST, PLANS, SETTLED, Writer, camel, rules_in
+from recognizers import BY_PLANS, CRATE, CUT, LARGEST, PLACES, PLANS, Writer, camel, rules_in, size
 
 HERE = Path(__file__).resolve().parent
 TOP = HERE.parent
@@ -44,7 +44,6 @@ class Recognizers(unittest.TestCase):
         for rule in rules:
             if rule not in PLANS:
                 self.assertLessEqual({*rules_in(self.writer.source.table[rule])}, {*rules}, rule)
-        self.assertNotIn('derive_input', SETTLED)
 
     def test_plans_read_what_is_data(self):
         forms = [form for name in PLANS.values() for form in forms_of(self.writer.plans.plan(name))]

@@ -17,8 +17,6 @@ pub mod Ends
 pub mod Trailing
 pub mod Todo
 pub mod Shown
-pub mod Readable
-pub mod Settled
 pub mod Names
 pub mod Numbers
 pub mod Integers

@@ -1,20 +1,22 @@
 -- WHAT IS WRITTEN ON A COURSE.
-use Rattle.std.specs.Prelude.{Bool, true, false}
-use Rattle.syn_grammar.specs.Words.{Text, w_where, w_use}
-use Rattle.syn_grammar.specs.Tokens.{Stream, end, leaf, punct, group, Leaf, ident, literal, or, and, no, pick, same_text}
+use Rattle.std.specs.Prelude.{Bool, true, false, Option, Some, None}
+use Rattle.syn_grammar.specs.Words.{Text, less, greater, w_where, w_use, w_for}
+use Rattle.syn_grammar.specs.Tokens.{Stream, end, leaf, punct, group, Leaf, ident, literal, or, and, no, pick, same_text, call_site}
 use Rattle.syn_grammar.specs.Rules.{for_self_type}
-use Rattle.syn_grammar.specs.Grammar.{Grammar, rule, empty, ordered, when◌then◌else◌}
+use Rattle.syn_grammar.specs.Grammar.{Grammar, word, rule, empty, ordered, when◌then◌else◌}
 use Rattle.syn_grammar.specs.Tokens.{at_generics}
 use Rattle.syn_recognize.specs.Ordered.{first_form, other_form}
 use Rattle.syn_recognize.specs.declared.list.List.TheVariants as List-m
-use Rattle.syn_grammar.specs.Take.{before, sees}
+use Rattle.syn_grammar.specs.Take.{Out, before, sees, take_mark, take_token}
 use Rattle.std.specs.Prelude.{nat_eq}
 use Rattle.syn_recognize.specs.Forms.{grammar_of}
 use Rattle.syn_recognize.specs.Names.{look_of}
-use Rattle.syn_recognize.specs.Written.{Written, adds}
-use Rattle.syn_recognize.specs.Copies.{Copy, next, copy_form, capturing}
+use Rattle.syn_recognize.specs.Written.{Written, adds, stream_of, unwritten}
+use Rattle.syn_recognize.specs.Copies.{Copy, Reached, Refused, Stuck, next, copy_form, capturing}
 use Rattle.syn_recognize.specs.Course.{Course, reads, turns, tests, followed, rest, kept, lists, led, self_type}
 use Rattle.syn_recognize.specs.Stages.{stage_course}
+use Rattle.syn_recognize.specs.declared.leads.Leads.{Leads}
+use Rattle.syn_recognize.specs.declared.leads.Leads.TheVariants as Leads-m
 use Rattle.syn_recognize.specs.declared.plan.Doubt.{Doubt}
 use Rattle.syn_recognize.specs.declared.plan.Doubt.TheVariants as Doubt-m
 use Rattle.syn_recognize.specs.declared.plan.Plan.{Plan}
@@ -67,15 +69,67 @@ doubt_of Doubt-m.HasRootMark i = use_roots i
 abbrev shown_generics : Grammar
 shown_generics = when at_generics then ordered (first_form List-m.Parameters) (other_form List-m.Parameters) else empty
 
--- WHAT IS WRITTEN behind what was written aside (w) since the plan began, at this stream, with this written before. (Of an impl's generics as
--- they are shown. As they are printed they may also be `<>` that nobody wrote, or nothing where `<>` stands; that isn't said yet.)
-abbrev pub copy_course : Course → Written → Stream → Written → Stream → Copy
-copy_course (reads g d) u b w ts = next (copy_form g w ts) (copy_course d u b)
-copy_course (turns c d e) u b w ts = pick (sees c ts) (copy_course d u b w ts) (copy_course e u b w ts)
-copy_course (tests t d e) u b w ts = pick (doubt_of t (before b ts)) (copy_course d u b w ts) (copy_course e u b w ts)
-copy_course (followed d g) u b w ts = next (copy_course d u b w ts) (copy_form g)
-copy_course (rest g) u b w ts = copy_form g (adds u w.out.stream) ts
-copy_course (kept g) u b w ts = next (copy_form g w ts) (capturing u b)
-copy_course (lists d) u b w ts = next (copy_form shown_generics w ts) (copy_course d u b)
-copy_course (led d) u b w ts = copy_course d u b w ts
-copy_course (self_type d) u b w ts = next (copy_form (rule for_self_type) w ts) (copy_course d u b)
+-- IMPLS
+
+-- generics were printed in the wrong way
+abbrev pub is_wrong : Leads → Bool
+is_wrong Leads-m.Any = false
+is_wrong (Leads-m.Noted n) = false
+is_wrong (Leads-m.Guessed a b) = pick a (no b) b
+
+-- what is known of them, where it was found whether what stands there would be read as generics
+abbrev pub found : Leads → Bool → Leads
+found Leads-m.Any v = Leads-m.Any
+found (Leads-m.Noted n) v = Leads-m.Noted n
+found (Leads-m.Guessed a b) v = Leads-m.Guessed a (or b v)
+
+-- generics stand behind the `for` that stands next
+abbrev pub leads_behind : Out → Bool
+leads_behind (Some p) = sees at_generics p.1
+leads_behind None = false
+
+abbrev pub leads_on : Stream → Bool
+leads_on ts = leads_behind (take_token (word w_for) ts)
+
+-- `<` and `>` that nobody wrote
+abbrev pub nobody : Stream
+nobody = punct 60 false call_site (punct 62 false call_site end)
+
+-- the first, unless a guess was wrong
+abbrev pub unless_stuck : Copy → Copy → Copy
+unless_stuck Stuck p = p
+unless_stuck (Reached w ts) p = Reached w ts
+unless_stuck Refused p = Refused
+
+-- the generics have no parameters: what is left behind them
+abbrev pub past_none : Stream → Option Stream
+past_none ts = pick (sees at_generics ts) (behind_pair (take_mark less ts)) (Some ts)
+  where
+    behind_greater : Out → Option Stream
+    behind_greater (Some p) = Some p.1
+    behind_greater None = None
+
+    behind_pair : Out → Option Stream
+    behind_pair (Some p) = behind_greater (take_mark greater p.1)
+    behind_pair None = None
+
+-- the generics of an impl are printed, by what they hold, and the rest is written behind them
+abbrev pub printed_lists : Option Stream → (Leads → Written → Stream → Copy) → Written → Stream → Copy
+printed_lists (Some m) q w ts = unless_stuck (q (Leads-m.Guessed true false) (adds w nobody) m) (q (Leads-m.Guessed false false) w m)
+printed_lists None q w ts = next (copy_form shown_generics w ts) (q Leads-m.Any)
+
+abbrev pub copied_lists : Bool → (Leads → Written → Stream → Copy) → Written → Stream → Copy
+copied_lists true q w ts = printed_lists (past_none ts) q w ts
+copied_lists false q w ts = next (copy_form shown_generics w ts) (q Leads-m.Any)
+
+-- WHAT IS WRITTEN behind what was written aside (w) since the plan began, at this stream, with this written before.
+abbrev pub copy_course : Course → Written → Stream → Leads → Written → Stream → Copy
+copy_course (reads g d) u b n w ts = next (copy_form g w ts) (copy_course d u b n)
+copy_course (turns c d e) u b n w ts = pick (sees c ts) (copy_course d u b n w ts) (copy_course e u b n w ts)
+copy_course (tests t d e) u b n w ts = pick (doubt_of t (before b ts)) (copy_course d u b n w ts) (copy_course e u b n w ts)
+copy_course (followed d g) u b n w ts = next (copy_course d u b n w ts) (copy_form g)
+copy_course (rest g) u b n w ts = pick (is_wrong n) Stuck (copy_form g (adds u (stream_of w)) ts)
+copy_course (kept g) u b n w ts = next (copy_form g unwritten ts) (capturing u b)
+copy_course (lists d) u b n w ts = pick (is_wrong n) Stuck (copied_lists w.printing (copy_course d u b) w ts)
+copy_course (led d) u b n w ts = copy_course d u b (found n (sees at_generics ts)) w ts
+copy_course (self_type d) u b n w ts = next (copy_form (rule for_self_type) w ts) (copy_course d u b (found n (leads_on ts)))

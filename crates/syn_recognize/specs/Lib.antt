@@ -12,7 +12,6 @@ pub mod Ordered
 pub mod Fading
 pub mod Restricted
 pub mod LoneLiterals
-pub mod Quiet
 pub mod Copies
 pub mod May
 pub mod Ladder

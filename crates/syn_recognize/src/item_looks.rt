@@ -18,9 +18,9 @@ use syn_tokens::ident::Ident;
 use syn_tokens::lifetime::Lifetime;
 use syn_tokens::literal::{LitKind, Literal};
 use syn_tokens::token::{
-    And, As, Async, Auto, Brace, Colon, Const, Default, Enum, Extern, Fn, Gt, Impl, In, Le, Lt, Macro,
-    Mod, Move, Mut, Or, Paren, PathSep, Pound, Pub, SelfType, SelfValue, Static, Struct, Trait,
-    Try, Type, Union, Unsafe, Use, kind,
+    And, As, Async, Auto, Brace, Colon, Const, Default, Enum, Extern, Fn, Gt, Impl, In, Le, Lt,
+    Macro, Mod, Move, Mut, Or, Paren, PathSep, Pound, Pub, SelfType, SelfValue, Static, Struct,
+    Trait, Try, Type, Union, Unsafe, Use, kind,
 };
 
 /// Whether an item stands next in a block, behind its attributes. Refused only where memory is.

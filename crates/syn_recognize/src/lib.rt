@@ -21,7 +21,6 @@ pub mod looks;
 mod operands;
 mod plan;
 mod planned;
-mod quiet;
 mod reading;
 mod refused;
 mod rows;

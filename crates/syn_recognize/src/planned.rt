@@ -1,17 +1,20 @@
 //! How plans are followed: what alternatives have in common is read once and written aside, until it is known whether what is read
 //! is kept as tokens.
-ghost use Rattle.std.specs.Prelude.{◌≡◌, true};
+ghost use Rattle.std.specs.Prelude.{◌≡◌, true, false, OnOk};
 ghost use Rattle.syn_grammar.specs.Promises.{OrMemory};
-ghost use Rattle.syn_grammar.specs.Take.{before};
+ghost use Rattle.syn_grammar.specs.Take.{before, first, sees};
 ghost use Rattle.syn_grammar.specs.Tokens.{Before_less};
 ghost use Rattle.syn_grammar.specs.Grammar.{supplied, rule};
 ghost use Rattle.syn_grammar.specs.Rules.{pattern};
 ghost use Rattle.syn_parse.specs.Refusals.{IsSyntax};
 ghost use Rattle.syn_recognize.specs.Forms.{grammar_of};
 ghost use Rattle.syn_recognize.specs.Stages.{planned_form};
-ghost use Rattle.syn_recognize.specs.Courses.{course_of, copy_course, doubt_of};
+ghost use Rattle.syn_recognize.specs.Courses as courses;
+ghost use Rattle.syn_recognize.specs.Courses.{course_of, copy_course, doubt_of, wheres, use_roots};
+ghost use Rattle.syn_recognize.specs.declared.leads.Leads.TheVariants.{Any};
 ghost use Rattle.syn_recognize.specs.Copies.{copy_form, capturing};
 ghost use Rattle.syn_recognize.specs.Names.{look_of};
+ghost use Rattle.syn_recognize.specs.Written.{adds};
 ghost use Rattle.syn_recognize.specs.Course.{reads, turns, tests, followed, rest, kept, lists, led, self_type};
 ghost use Rattle.syn_recognize.specs.Steps.{Steps, Guessing, Runs};
 
@@ -213,7 +216,7 @@ fn read_rest<'a>(
 
 /// Whether generics of an impl were printed in the wrong way. Those that are printed behind what was shown never are.
 fn is_wrong(leads: Leads) -> bool
-    ensures { result ≡ is_wrong leads }
+    ensures { result ≡ courses.is_wrong leads }
 {
     match leads {
         Leads::Any => false,
@@ -269,13 +272,16 @@ fn read_lists<'a>(
     plan: &'static Plan,
     before: Box<Writer>,
     begin: ParseBuffer<'a>,
-    _leads: Leads,
+    leads: Leads,
     steps: &mut Vec<Step<'a>>,
     out: &mut Writer,
     input: &mut ParseBuffer<'a>,
 ) -> Parsed<()>
-    ensures { Guessing IsSyntax steps.old.items (copy_course (lists (course_of plan.now)) before.value begin.entry _leads out.old input.old) result steps.new.items out.new input.new }
+    ensures { Guessing IsSyntax steps.old.items (copy_course (lists (course_of plan.now)) before.value begin.entry leads out.old input.old) result steps.new.items out.new input.new }
 {
+    if is_wrong(leads) {
+        return Err(Refusal::Memory);
+    }
     if out.is_printing() {
         return print_lists(plan, before, begin, steps, out, input);
     }
@@ -357,7 +363,7 @@ fn read_self_type<'a>(
 
 /// What is known of the generics of an impl where this was found.
 fn found(leads: Leads, it: bool, out: &mut Writer) -> Leads
-    ensures known { result ≡ found leads it }
+    ensures known { result ≡ courses.found leads it }
     ensures unchanged { out.new ≡ out.old }
 {
     match leads {
@@ -373,14 +379,18 @@ fn found(leads: Leads, it: bool, out: &mut Writer) -> Leads
 }
 
 /// Writes generics without parameters.
-fn write_none(out: &mut Writer) -> Result<(), AllocError> {
+fn write_none(out: &mut Writer) -> Result<(), AllocError>
+    ensures { OnOk result (out.new ≡ adds out.old courses.nobody) }
+{
     out.write(&Lt::new([Span::call_site()]))?;
     out.write(&Gt::new([Span::call_site()]))?;
     Ok(())
 }
 
 /// Whether generics stand behind the `for` that stands next.
-fn leads_on(input: &ParseBuffer<'_>) -> Parsed<bool> {
+fn leads_on(input: &ParseBuffer<'_>) -> Parsed<bool>
+    ensures { OrMemory IsSyntax result (λ answer. answer ≡ courses.leads_on input.now) }
+{
     if !input.peek::<For>() {
         return Ok(false);
     }
@@ -446,7 +456,9 @@ fn is_where(tree: &TokenTreeRef<'_>) -> bool {
 }
 
 /// Whether `::` stands before a tree of the use that these tokens end with.
-fn has_root_mark(tokens: &TokenStream) -> bool {
+fn has_root_mark(tokens: &TokenStream) -> bool
+    ensures { result ≡ use_roots tokens.now }
+{
     let mut depth: usize = 0;
     let mut found = false;
     let mut begins = false;

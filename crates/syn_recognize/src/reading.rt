@@ -8,8 +8,7 @@ ghost use Rattle.syn_recognize.specs.Names.{rule_of};
 ghost use Rattle.syn_recognize.specs.Steps.{Runs, todo};
 ghost use Rattle.syn_recognize.specs.Printed.{Prints, ReadsBy, ShowsAndPrints};
 
-use crate::quiet::is_quiet;
-use crate::rules::{Rule, form_of, is_settled};
+use crate::rules::{Rule, form_of};
 use crate::step::Step;
 use crate::steps::take;
 use crate::writer::{Noted, Writer};
@@ -71,8 +70,8 @@ pub struct ShownAndPrinted {
     pub printed: TokenStream,
 }
 
-/// Reads what the rule reads: its tokens as they are shown, and as they are printed. Where a lifetime stands among them, or a part
-/// may vanish, all is read twice, since lists are printed with their lifetimes first. Refused, it says nothing of what is left.
+/// Reads what the rule reads: its tokens as they are shown, and as they are printed. All is read twice, since lists are printed with
+/// their lifetimes first, and parts may vanish. Refused, it says nothing of what is left.
 #[tactic(auto, using(crate::proofs::Shown::not_read, crate::proofs::Shown::kept, crate::proofs::Shown::moved))]
 pub fn recognized_and_printed(rule: Rule, input: &mut ParseBuffer<'_>) -> Parsed<ShownAndPrinted>
     ensures reads { ShowsAndPrints IsSyntax (rule_of rule) input.old result input.new }
@@ -83,11 +82,6 @@ pub fn recognized_and_printed(rule: Rule, input: &mut ParseBuffer<'_>) -> Parsed
     let mut out = Writer::showing(input.alloc());
     write_rule(rule, &mut out, &mut ahead)?;
     let (shown, noted) = out.finish()?;
-    if is_settled(rule) && is_quiet(&shown) {
-        let printed = copy_of(&shown)?;
-        input.advance_to(&ahead);
-        return Ok(ShownAndPrinted { shown, printed });
-    }
     let mut out = Writer::printing(input.alloc(), noted);
     write_rule(rule, &mut out, input)?;
     let (printed, _left) = out.finish()?;

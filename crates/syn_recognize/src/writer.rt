@@ -80,18 +80,6 @@ impl Writer {
         }
     }
 
-    /// The same, with what was noted before.
-    fn showing_with(alloc: Global, noted: Noted) -> Writer
-        ensures { result ≡ blank false }
-    {
-        Writer {
-            out: Some(StreamBuilder::new(alloc)),
-            printing: false,
-            noted,
-            alloc,
-        }
-    }
-
     /// Nothing was written yet; trees are written as they are printed, with what was noted when they were shown.
     pub(crate) fn printing(alloc: Global, noted: Noted) -> Writer
         ensures { result ≡ blank true }
@@ -262,13 +250,18 @@ impl Writer {
         ensures before { OrMemory IsSyntax result (λ before. before.value ≡ self.old) }
         ensures aside { OrMemory IsSyntax result (λ before. self.new ≡ beside self.old) }
     {
-        let noted = mem::replace(&mut self.noted, Noted::none(self.alloc));
-        let aside = if self.is_dropping() {
-            Writer::dropping(self.alloc)
-        } else if self.printing {
-            Writer::printing(self.alloc, noted)
+        let alloc = self.alloc;
+        let noted = mem::replace(&mut self.noted, Noted::none(alloc));
+        let out = if self.is_dropping() {
+            None
         } else {
-            Writer::showing_with(self.alloc, noted)
+            Some(StreamBuilder::new(alloc))
+        };
+        let aside = Writer {
+            out,
+            printing: self.printing,
+            noted,
+            alloc,
         };
         let before = mem::replace(self, aside);
         Ok(Box::new(self.alloc, before)?)
@@ -279,9 +272,6 @@ impl Writer {
         ensures { OrMemory IsSyntax result (λ x. self.new ≡ adds before.value (stream_of self.old)) }
     {
         let aside = mem::replace(self, Box::into_inner(before));
-        if aside.is_dropping() {
-            return Ok(());
-        }
         let (tokens, noted) = aside.finish()?;
         self.noted = noted;
         Ok(self.append(&tokens)?)
