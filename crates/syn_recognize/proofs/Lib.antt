@@ -27,6 +27,9 @@ pub mod Restricted
 pub mod Nameless
 pub mod PathLooks
 pub mod ItemLooks
+pub mod ParameterLooks
+pub mod MacroLooks
+pub mod Strings
 pub mod ExpressionLooks
 pub mod Known
 pub mod May
