@@ -1,6 +1,6 @@
 #!/usr/bin/env python3
 """Writes the table of the grammar as data of crates/syn_recognize: src/rules.rt, src/rules/*.rt, src/shape.rt, src/words.rt,
-specs/Names.antt, specs/Parts.antt, proofs/Known.antt and proofs/Readable.antt.
+src/plan.rt, specs/Names.antt, specs/Parts.antt, specs/Stages.antt, proofs/Known.antt and proofs/PlannedCourses.antt.
 
 Run it at the top of the repository; what it writes is committed. With --check it writes nothing, and fails where a file
 isn't as it would write it. It formats what it writes by `rt fmt`."""
@@ -24,9 +24,6 @@ WRITTEN = 'Written by tools/recognizers.py; edits are lost.'
 # The rules that are read only by the plan of a union that they are of, or never.
 BY_PLANS = ['kept_item', 'kept_item_rest', 'kept_in_block', 'item_rest', 'kept_trait_item', 'kept_impl_item', 'kept_foreign_item', 'marked_member',
             'rooted_use', 'crate_macro_item', 'const_trait', 'const_impl', 'odd_const_impl']
-
-# The rules of which trees can be deferred, and those that these lead to: nothing vanishes in them.
-SETTLED = ['module_path', 'module_words']
 
 # The files of rules: the first rule of each, and what it holds.
 TOPICS = [
@@ -374,23 +371,19 @@ class Writer:
         out['specs/Names.antt'] = self.names_file(topics)
         out['specs/Parts.antt'] = self.parts_file()
         out['proofs/Known.antt'] = self.known_file()
-        out['proofs/Readable.antt'] = self.readable_file([k for _, _, rules in topics for k in rules], SETTLED)
         return {name: '\n'.join(lines) for name, lines in out.items()}
 
     def rules_file(self, topics):
         return [
             f'//! {WRITTEN}', '//!', '//! The rules of the grammar as data.', 'ghost use Rattle.std.specs.Prelude.{◌≡◌};',
             'ghost use Rattle.syn_grammar.specs.Run.{parse_form};', 'ghost use Rattle.syn_grammar.specs.Table.{table};',
-            'ghost use Rattle.syn_recognize.specs.Forms.{grammar_of};', 'ghost use Rattle.syn_recognize.specs.Names.{rule_of, settled};',
+            'ghost use Rattle.syn_recognize.specs.Forms.{grammar_of};', 'ghost use Rattle.syn_recognize.specs.Names.{rule_of};',
             'ghost use Rattle.syn_recognize.specs.Parts.{part_form};', '',
             'use crate::form::Form;', '', *[f'mod {name};' for name in sorted(name for name, _, _ in topics)], '',
             '/// A rule of the grammar.', '#[derive(Clone, Copy)]', 'pub enum Rule {', *[f'    {camel(k)},' for _, _, rules in topics for k in rules], '}', '',
             '/// The form of the rule.', "pub(crate) fn form_of(rule: Rule) -> &'static Form",
             '    ensures { parse_form (grammar_of result.now) ≡ parse_form (table (rule_of rule)) }', '{', '    match rule {',
             *[f'        Rule::{camel(k)} => &{name}::{k.upper()},' for name, _, rules in topics for k in rules], '    }', '}', '',
-            '/// Whether nothing vanishes in what the rule reads, and only lifetimes stand first in lists: where none stand there, it is printed as it is shown.',
-            'pub(crate) fn is_settled(rule: Rule) -> bool', '    ensures { result ≡ settled rule }', '{', '    match rule {',
-            *[f'        Rule::{camel(k)} => {"true" if k in SETTLED else "false"},' for _, _, rules in topics for k in rules], '    }', '}', '',
             "/// A part of a rule's form that has a static of its own: Rattle's own compiler takes no larger ones.", '#[derive(Clone, Copy)]',
             'pub enum Part {', *[f'    {name},' for name, *_ in self.parts], '}', '',
             '/// The form of the part.', "pub(crate) fn form_of_part(part: Part) -> &'static Form",
@@ -683,8 +676,7 @@ class Writer:
         told = sorted(TOLD, key=lambda name: name in ('at_lifetime', 'at_path_word'))
         variants = sorted(self.variants)
         return [
-            f'-- {WRITTEN}', '-- WHAT WORDS, MARKS, LOOKS, SHAPES AND RULES AS DATA STAND FOR.', 'use Rattle.std.specs.Prelude.{Bool, true, false}',
-            'use Rattle.syn_grammar.specs.Words.{Text, ' + ', '.join(name for _, name in texts + marks) + '}',
+            f'-- {WRITTEN}', '-- WHAT WORDS, MARKS, LOOKS, SHAPES AND RULES AS DATA STAND FOR.', 'use Rattle.syn_grammar.specs.Words.{Text, ' + ', '.join(name for _, name in texts + marks) + '}',
             'use Rattle.syn_grammar.specs.Words.{w_union, w_auto}', 'use Rattle.syn_grammar.specs.ItemPlan.{at_in_restriction, at_lone_word}',
             'use Rattle.syn_grammar.specs.Tokens.{Int, Str, Before_colons, Before_macro, Begins_item, Look, ended, at_name, at_word, at_mark, at_group, at_literal, at_empty_group, ahead, ◌or_else◌, ◌and_also◌, ◌but_not◌, at_lifetime, at_path_word, at_generics}',
             'use Rattle.syn_grammar.specs.Table.{' + ', '.join(told[:-2]) + '}',
@@ -705,18 +697,7 @@ class Writer:
             'abbrev pub variant_of : variant.Variant → Variant', *[f'variant_of Variant-m.{name} = shapes.{name}' for name in variants], '',
             'abbrev pub shape_of : shape.Shape → Shape',
             *[f'shape_of (Shape-m.{camel(name)} v) = shapes.{name} (variant_of v)' if of else f'shape_of Shape-m.{camel(name)} = shapes.{name}' for name, of in self.shape_variants()], '',
-            'abbrev pub rule_of : rule.Rule → Rule', *[f'rule_of Rule-m.{camel(k)} = rules.{k}' for _, _, rules in topics for k in rules], '',
-            '-- nothing vanishes in what the rule reads', 'abbrev pub settled : rule.Rule → Bool', *[f'settled Rule-m.{camel(k)} = {"true" if k in SETTLED else "false"}' for _, _, rules in topics for k in rules], '']
-
-    def readable_file(self, rules, settled):
-        at = 'Rattle.syn_recognize.specs.declared.rules.Rule'
-        return [
-            f'-- {WRITTEN}', '-- The rules in which nothing vanishes.', 'use Rattle.std.proofs.Common.{◌≡◌, true, List, [], ◌∷◌, refl}',
-            'use Rattle.syn_grammar.specs.Rules as rules', 'use Rattle.syn_grammar.specs.Grammar.{among}', 'use Rattle.syn_recognize.specs.Names.{rule_of, settled}',
-            f'use {at} as rule', f'use {at}.TheVariants as Rule-m', '',
-            'abbrev pub readable : List rules.Rule', 'readable =', *[f'    rules.{k} ∷' for k in rules if k in settled], '    []', '',
-            'pub is_readable : (k : rule.Rule) → settled k ≡ true → among (rule_of k) readable ≡ true',
-            *[f'is_readable Rule-m.{camel(k)} e = ' + ('refl' if k in settled else 'absurd (cc e)') for k in rules], '']
+            'abbrev pub rule_of : rule.Rule → Rule', *[f'rule_of Rule-m.{camel(k)} = rules.{k}' for _, _, rules in topics for k in rules], '']
 
 
 def write(files, folder):

@@ -8,7 +8,7 @@ import tempfile
 import unittest
 from pathlib import Path
 
-from recognizers import BY_PLANS, CRATE, CUT, LARGEST, PLANS, SETTLED, Writer, camel, rules_in
+from recognizers import BY_PLANS, CRATE, CUT, LARGEST, PLACES, PLANS, Writer, camel, rules_in, size
 
 HERE = Path(__file__).resolve().parent
 TOP = HERE.parent
@@ -44,7 +44,6 @@ class Recognizers(unittest.TestCase):
         for rule in rules:
             if rule not in PLANS:
                 self.assertLessEqual({*rules_in(self.writer.source.table[rule])}, {*rules}, rule)
-        self.assertNotIn('derive_input', SETTLED)
 
     def test_plans_read_what_is_data(self):
         forms = [form for name in PLANS.values() for form in forms_of(self.writer.plans.plan(name))]
@@ -78,9 +77,10 @@ class Recognizers(unittest.TestCase):
         return dict(found for text in texts for found in re.findall(r'static (\w+): Form = (.*?);\n', text, re.DOTALL))
 
     def test_no_static_is_large(self):
-        sizes = [form.count('&') for form in self.statics().values()]
-        self.assertGreater(len(sizes), len(self.writer.rules()))
-        self.assertLessEqual(max(sizes), LARGEST)
+        self.assertGreater(len(self.statics()), len(self.writer.rules()))
+        texts = [file.read_text() for file in (TOP / CRATE / 'src').rglob('*.rt')]
+        sizes = {name: size(form) for text in texts for name, form in re.findall(r'static (\w+): (?:Form|Plan) = (.*?);\n', text, re.DOTALL)}
+        self.assertEqual({name: it for name, it in sizes.items() if it > LARGEST}, {})
 
     def test_each_part_stands_in_one_form(self):
         forms = ' '.join(self.statics().values())
@@ -104,19 +104,11 @@ class Recognizers(unittest.TestCase):
             forms = ' '.join(form for name, form in statics.items() if re.fullmatch(rf'{rule.upper()}(_\d+)?', name))
             self.assertRegex(forms, rf'At\(\w+::{re.escape(it)}, Place::{place}\)', rule)
 
-    def test_rules_that_settle_have_no_form_that_vanishes(self):
-        statics = self.statics()
-        for rule in SETTLED:
-            for name, form in statics.items():
-                if re.fullmatch(rf'{rule.upper()}(_\d+)?', name):
-                    for kind in ('Generics', 'Fading', 'Hidden', 'Captured', 'List::Parameters'):
-                        self.assertNotIn(f'Form::{kind}', form, name)
-
     def test_a_look_that_is_too_large_is_refused(self):
         writer = Writer()
         writer.rule = 'type'
         with self.assertRaisesRegex(ValueError, 'a look of type refers to too many others'):
-            writer.made('When(' + '&' * LARGEST, [(('empty',), ()), (('empty',), ())])
+            writer.made('When(' + '&Look::' * LARGEST, [(('empty',), ()), (('empty',), ())])
 
     def told_of_change(self, name, old, new):
         """What the script says of a copy in which this text of a file is changed."""

@@ -18,8 +18,6 @@ pub mod Ends
 pub mod Trailing
 pub mod Todo
 pub mod Shown
-pub mod Readable
-pub mod Settled
 pub mod Names
 pub mod Numbers
 pub mod Integers
@@ -30,6 +28,9 @@ pub mod Restricted
 pub mod Nameless
 pub mod PathLooks
 pub mod ItemLooks
+pub mod ParameterLooks
+pub mod MacroLooks
+pub mod Strings
 pub mod ExpressionLooks
 pub mod Known
 pub mod May

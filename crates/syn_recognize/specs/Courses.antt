@@ -1,12 +1,13 @@
 -- WHAT IS WRITTEN ON A COURSE. Whether all is kept as tokens is guessed beforehand, and so is how an impl's generics without parameters are
 -- printed; behind a wrong guess nothing is known.
-use Rattle.std.specs.Prelude.{Bool, true, false, Option, Some, None, [], nat_eq}
-use Rattle.syn_grammar.specs.Words.{less, w_for}
-use Rattle.syn_grammar.specs.Tokens.{Stream, end, leaf, punct, group, Brace, call_site, or, and, pick, at_generics}
+use Rattle.std.specs.Prelude.{Bool, true, false, Option, Some, None}
+use Rattle.syn_grammar.specs.Words.{less}
+use Rattle.syn_grammar.specs.Tokens.{Stream, end, punct, Brace, call_site, pick, at_generics}
 use Rattle.syn_grammar.specs.Rules.{for_self_type, rooted_trees}
-use Rattle.syn_grammar.specs.Grammar.{Grammar, rule, empty, token, word, inside, ordered, vanishing, at_row_end, when◌then◌else◌}
+use Rattle.syn_grammar.specs.Grammar.{Grammar, rule, empty, inside, ordered, vanishing, at_row_end, when◌then◌else◌}
 use Rattle.syn_grammar.specs.Take.{Out, before, sees, take_mark}
-use Rattle.syn_grammar.specs.Run.{parse_form}
+use Rattle.syn_grammar.specs.ToldByTokens.{roots}
+use Rattle.syn_grammar.specs.Leads.{leads_on}
 use Rattle.syn_recognize.specs.Forms.{grammar_of}
 use Rattle.syn_recognize.specs.Names.{look_of}
 use Rattle.syn_recognize.specs.Ordered.{first_form, other_form}
@@ -32,13 +33,6 @@ course_of (Plan-m.Led' p d) = led (course_of d)
 course_of (Plan-m.SelfType' p d) = self_type (course_of d)
 
 -- TREES OF A USE IN BRACES
-
--- `:` stands before a tree: at the beginning of a group or behind a comma in one (the first says whether this is such a place)
-abbrev pub roots : Bool → Stream → Bool
-roots b end = false
-roots b (leaf x sp m) = roots false m
-roots b (punct c j sp m) = or (and b (nat_eq c 58)) (roots (nat_eq c 44) m)
-roots b (group d o c i m) = or (roots true i) (roots false m)
 
 abbrev pub trees_in_braces : Grammar
 trees_in_braces = inside Brace (rule rooted_trees)
@@ -75,14 +69,6 @@ written_generics = punct 60 false call_site (punct 62 false call_site end)
 -- what is written where there are no parameters, by a guess of `< >`
 abbrev pub guessed_generics : Bool → Stream
 guessed_generics x = pick x written_generics end
-
--- behind `for`, which stands next, generics would be read
-abbrev pub leads_behind : Out → Bool
-leads_behind (Some p) = sees at_generics p.1
-leads_behind None = false
-
-abbrev pub leads_on : Stream → Bool
-leads_on ts = leads_behind (parse_form (token [] (word w_for)) ts)
 
 -- WHERE IT IS GUESSED THAT ALL IS KEPT as tokens
 abbrev pub copy_kept : Course → Written → Stream → Copy

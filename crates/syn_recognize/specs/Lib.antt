@@ -11,6 +11,8 @@ pub mod Late
 pub mod Ordered
 pub mod Fading
 pub mod Restricted
+pub mod ItemLooks
+pub mod Strings
 pub mod LoneLiterals
 pub mod Copies
 pub mod May

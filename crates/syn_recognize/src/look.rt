@@ -174,7 +174,7 @@ pub(crate) fn at_type_bounds_end(input: &ParseBuffer<'_>) -> bool
 
 /// Whether `:` stands next, and not `::`.
 #[tactic(auto, using(syn_grammar::proofs::Looks::sees_but))]
-fn at_lone_colon(input: &ParseBuffer<'_>) -> bool
+pub(crate) fn at_lone_colon(input: &ParseBuffer<'_>) -> bool
     ensures { result ≡ sees table.at_lone_colon input.now }
 {
     input.peek::<token::Colon>() && !input.peek::<token::PathSep>()

@@ -1,6 +1,6 @@
 //! What a rule reads where it is known what stands next: forms of operands without the conditions that this rules out.
 ghost use Rattle.std.specs.Prelude.{◌≡◌};
-ghost use Rattle.syn_grammar.specs.Rules.{attributes, expression_words, generic_argument, member, meta, module_path, postfixes, statement_rest, more_type_words, type, type_arguments, type_path, type_words, unary, visibility};
+ghost use Rattle.syn_grammar.specs.Rules.{attributes, expression_words, generic_argument, member, meta, module_path, postfixes, statement_rest, more_type_words, type, type_arguments, type_path, type_words, unary, unary_head, visibility};
 ghost use Rattle.syn_grammar.specs.Table.{table};
 ghost use Rattle.syn_parse.specs.declared.buffer.first.First.TheVariants as first;
 ghost use Rattle.syn_recognize.specs.Forms.{grammar_of};
@@ -33,6 +33,32 @@ static NAME: Form = Form::Then(
                 &Form::Empty,
             ),
         ),
+    ),
+    &Form::Rule(Rule::Postfixes),
+);
+
+/// An operand in a head that begins so.
+static HEAD_NAME: Form = Form::Then(
+    &Form::When(
+        Look::Macro,
+        &Form::Rule(Rule::MacroInvocation),
+        &Form::Rule(Rule::ExpressionWords),
+    ),
+    &Form::Rule(Rule::Postfixes),
+);
+
+/// One in a head that begins with a keyword.
+static HEAD_KEYWORD: Form = Form::Then(
+    &Form::Rule(Rule::PrimaryHead),
+    &Form::Rule(Rule::Postfixes),
+);
+
+/// One in a head that is a literal.
+static HEAD_LITERAL: Form = Form::Then(
+    &Form::When(
+        Look::AnyLiteral,
+        &Form::Token(Token::Literal),
+        &Form::Rule(Rule::ExpressionWords),
     ),
     &Form::Rule(Rule::Postfixes),
 );
@@ -143,6 +169,7 @@ pub(crate) fn opened(rule: Rule, next: First) -> &'static Form
 {
     match rule {
         Rule::Unary => operand(next),
+        Rule::UnaryHead => head_operand(next),
         Rule::Postfixes => postfix(next),
         Rule::Type => type_by(next),
         Rule::TypePath => path_by(next),
@@ -186,6 +213,34 @@ fn group_operand(delimiter: Delimiter) -> &'static Form
         Delimiter::Bracket => &BRACKETS,
         Delimiter::Brace => form_of(Rule::Unary),
         Delimiter::None => form_of(Rule::Unary),
+    }
+}
+
+/// A form that is read as a unary level in a head is.
+#[tactic(auto, using(crate::proofs::Opened::opens_rule))]
+#[inline(never)]
+pub(crate) fn head_operand(next: First) -> &'static Form
+    ensures { Opens next (grammar_of result.now) unary_head }
+{
+    match next {
+        First::Name => &HEAD_NAME,
+        First::Keyword => &HEAD_KEYWORD,
+        First::Literal => &HEAD_LITERAL,
+        First::Group(delimiter) => group_head_operand(delimiter),
+        _ => form_of(Rule::UnaryHead),
+    }
+}
+
+/// A form that is read as a unary level in a head is where such a group stands next.
+#[tactic(auto, using(crate::proofs::Opened::opens_rule))]
+fn group_head_operand(delimiter: Delimiter) -> &'static Form
+    ensures { Opens (first.Group delimiter) (grammar_of result.now) unary_head }
+{
+    match delimiter {
+        Delimiter::Paren => &PARENTHESES,
+        Delimiter::Bracket => &BRACKETS,
+        Delimiter::Brace => form_of(Rule::UnaryHead),
+        Delimiter::None => form_of(Rule::UnaryHead),
     }
 }
 

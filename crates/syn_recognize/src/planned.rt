@@ -4,11 +4,12 @@ ghost use Rattle.std.specs.Prelude.{◌≡◌, Some, None, true, false, Bool, Op
 ghost use Rattle.syn_grammar.specs.Promises.{OrMemory};
 ghost use Rattle.syn_grammar.specs.Take.{sees};
 ghost use Rattle.syn_grammar.specs.Tokens.{at_generics};
+ghost use Rattle.syn_grammar.specs.Leads.{leads_on};
 ghost use Rattle.syn_parse.specs.Refusals.{IsSyntax};
 ghost use Rattle.syn_parse.specs.declared.read.refusal.Refusal.TheVariants.{Memory};
 ghost use Rattle.syn_recognize.specs.Forms.{grammar_of};
 ghost use Rattle.syn_recognize.specs.Stages.{planned_form};
-ghost use Rattle.syn_recognize.specs.Courses.{course_of, copy_guess, copy_course, led_by, leads_on, by_roots, guessed_generics, guessed_lists, no_parameters};
+ghost use Rattle.syn_recognize.specs.Courses.{course_of, copy_guess, copy_course, led_by, by_roots, guessed_generics, guessed_lists, no_parameters};
 ghost use Rattle.syn_recognize.specs.Copies.{Copy, copy_form};
 ghost use Rattle.syn_recognize.specs.Names.{look_of};
 ghost use Rattle.syn_recognize.specs.Course.{reads, turns, rooted, followed, rest, kept, lists, led, self_type};

@@ -3,7 +3,7 @@ ghost use Rattle.std.specs.Prelude.{◌≡◌, false};
 ghost use Rattle.syn_grammar.specs.Promises.{OrMemory};
 ghost use Rattle.syn_grammar.specs.Take.{before};
 ghost use Rattle.syn_parse.specs.Refusals.{IsSyntax};
-ghost use Rattle.syn_recognize.specs.Courses.{roots};
+ghost use Rattle.syn_grammar.specs.ToldByTokens.{roots};
 
 use syn_parse::buffer::ParseBuffer;
 use syn_parse::read::refusal::{Parsed, Refusal};

@@ -25,9 +25,9 @@ use crate::braces::has_trailing_brace;
 use crate::fading::{read_fading, read_generics};
 use crate::fault::Fault;
 use crate::form::Form;
-use crate::levels::{behind, first_level, height_of};
+use crate::levels::{behind, first_level, head_height_of, height_of};
 use crate::look::{Look, holds_next};
-use crate::operands::{opened, operand};
+use crate::operands::{head_operand, opened, operand};
 use crate::planned::{choose_by_roots, read_plan, read_planned};
 use crate::refused::{left_over, told};
 use crate::rows::{
@@ -319,7 +319,6 @@ fn choose(
 }
 
 /// Goes on with the form of a rule; of an operand with levels behind it with that of a unary one, and puts off the levels.
-#[tactic(auto, using(crate::proofs::Opened::goes_opened))]
 fn begin_rule<'a>(
     rule: Rule,
     next: First,
@@ -334,6 +333,27 @@ fn begin_rule<'a>(
         Some(height) => {
             steps.push(Step::Levels(0, height))?;
             Ok(operand(next))
+        }
+        None => begin_other(rule, next, steps, out, input),
+    }
+}
+
+/// The same of rules of heads, and of others.
+#[tactic(auto, using(crate::proofs::Opened::goes_opened))]
+fn begin_other<'a>(
+    rule: Rule,
+    next: First,
+    steps: &mut Vec<Step<'a>>,
+    out: &Writer,
+    input: &ParseBuffer<'a>,
+) -> Parsed<&'static Form>
+    requires { Begins next input.now }
+    ensures { OrMemory IsSyntax result (λ first. GoesOn steps.old.items (copy_form (grammar.rule (rule_of rule)) out.now input.now) steps.new.items (grammar_of first.now) out.now input.now) }
+{
+    match head_height_of(rule) {
+        Some(height) => {
+            steps.push(Step::Levels(12, 12 + height))?;
+            Ok(head_operand(next))
         }
         None => Ok(opened(rule, next)),
     }

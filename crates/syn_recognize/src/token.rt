@@ -14,6 +14,7 @@ ghost use Rattle.syn_recognize.specs.Forms.{kind_of};
 ghost use Rattle.syn_recognize.specs.Leaves.{token_is_leaf, lifetime_is_leaf};
 
 use crate::field_numbers::field_number;
+use crate::item_looks::is_string;
 use crate::words::{Word, copy_word};
 use crate::writer::Writer;
 use syn_parse::buffer::ParseBuffer;
@@ -320,14 +321,16 @@ fn is_try(ident: &Ident) -> bool
 }
 
 /// A string.
+#[tactic(auto, using(crate::specs::Leaves::token_is_leaf, crate::proofs::Strings::string_taken, crate::proofs::Strings::no_string_taken, crate::proofs::Strings::no_literal_taken))]
 fn copy_str(out: &mut Writer, input: &mut ParseBuffer<'_>) -> Parsed<()>
     ensures { Copies IsSyntax out.old (take_token (literal_of (Str ∷ [])) input.old) result out.new input.new }
 {
-    let refusal = input.refusal("expected string literal");
-    let literal: Literal = input.read()?;
-    if literal.kind() != LitKind::Str {
-        return Err(refusal);
+    let mut ahead = input.fork();
+    let literal: Literal = ahead.read()?;
+    if !is_string(&literal) {
+        return Err(input.refusal("expected string literal"));
     }
+    input.advance_to(&ahead);
     out.write(&literal)?;
     Ok(())
 }

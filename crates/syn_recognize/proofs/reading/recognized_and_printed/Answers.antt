@@ -2,10 +2,8 @@ use Rattle.std.proofs.Common.{rules, ◌≡◌, true, false}
 use Rattle.syn_grammar.specs.Run.{parse_rule}
 use Rattle.syn_recognize.specs.Written.{blank}
 use Rattle.syn_recognize.specs.Copies.{Reached, copied}
-use Rattle.syn_recognize.specs.Names.{rule_of, settled}
-use Rattle.syn_recognize.specs.Quiet.{quiet}
-use Rattle.syn_recognize.proofs.Readable.{is_readable}
-use Rattle.syn_recognize.proofs.Shown.{both_quiet, both_written, kept, moved}
+use Rattle.syn_recognize.specs.Names.{rule_of}
+use Rattle.syn_recognize.proofs.Shown.{both_written, kept, moved}
 use Rattle.syn_recognize.proofs.reading.recognized_and_printed.Goals as goal
 
 pub returns-clause-reads : goal.returns-clause-reads
@@ -17,18 +15,6 @@ returns-clause-reads c =
     let shown : copied (blank false) (parse_rule k ts) ≡ Reached one.out one.input = search rules in
     let printed : copied (blank true) (parse_rule k ts) ≡ Reached two.out two.input = search rules in
     both_written k one.out two.out ts two.input one.input c.in_ok-shown.shown c.in_ok-printed-2.printed shown c.in_ok-shown.ensures printed c.in_ok-printed-2.ensures
-
-pub returns-then-is_quiet-clause-reads : goal.returns-then-is_quiet-clause-reads
-returns-then-is_quiet-clause-reads c =
-    let k = rule_of c.args.rule in
-    let ts = c.args.input.now in
-    let one = c.write_rule.new in
-    let left = c.advance_to.new.self in
-    let i = c.in_ok-shown.shown in
-    let shown : copied (blank false) (parse_rule k ts) ≡ Reached one.out left = search rules in
-    let silent : quiet i ≡ true = search rules in
-    let known : settled c.args.rule ≡ true = search rules in
-    both_quiet k one.out ts left i c.in_ok-printed.printed (is_readable c.args.rule known) shown c.in_ok-shown.ensures silent c.in_ok-printed.ensures
 
 pub returns-clause-kept : goal.returns-clause-kept
 returns-clause-kept c =
