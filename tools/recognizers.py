@@ -100,22 +100,20 @@ plain_types d c u k g =
     (reads (rule type) λ t. reads (rule impl_body) λ b. ends x))
 impl_alone =
     reads (optional_item_word w_default) λ d. reads (optional_item_word w_const) λ c. reads (optional_item_word w_unsafe) λ u. reads (plainly (word w_impl)) λ k. lists (plain_types d c u k absent)
-use_alone =
-    reads (rule visibility) λ v. reads (plainly (word w_use)) λ k.
-    turns at_brace (reads (inside Brace (rule rooted_trees)) λ t. tests (has root_mark) t fails (reads (punctuation semicolon) λ z. ends z))
-    (reads (when at_colons then punctuation colons else empty) λ c. reads (rule use_tree) λ t. reads (punctuation semicolon) λ z. ends z)
 type_plan a v =
     reads (plainly (word w_type)) λ k. reads (plainly name) λ n. reads (rule generics) λ g.
     turns at_colon (keeps (reads (punctuation colon) λ c. reads (rule type_bounds) λ b. reads type_and_clause λ e. kept_end))
-    (turns at_where (reads (rule where_clause) λ w. turns at_equals (equal_and_one a) (keeps kept_end))
-    (turns at_equals (reads (punctuation equals) λ q. reads (rule type) λ t. reads (rule where_clause) λ x. reads (punctuation semicolon) λ z. ends z)
+    (turns at_where (apart (rule where_clause) λ w. turns at_equals (equal_and_one a) (keeps kept_end))
+    (turns at_equals (equal_and_more a)
     (keeps kept_end)))
 type_alone =
     reads (rule visibility) λ v. reads (plainly (word w_type)) λ k. reads (plainly name) λ n. reads (rule generics) λ g.
-    turns at_where (reads (rule where_clause) λ w. equal_and_one v)
-    (reads (punctuation equals) λ q. reads (rule type) λ t. reads (rule where_clause) λ x. reads (punctuation semicolon) λ z. ends z)
+    turns at_where (apart (rule where_clause) λ w. equal_and_one v)
+    (equal_and_more v)
 equal_and_one v =
-    reads (punctuation equals) λ q. reads (rule type) λ t. turns at_where (reads (rule where_clause) λ x. fails) (reads (punctuation semicolon) λ z. ends z)
+    apart (punctuation equals) λ q. apart (rule type) λ t. turns at_where (apart (rule where_clause) λ x. fails) (reads (punctuation semicolon) λ z. ends z)
+equal_and_more v =
+    apart (punctuation equals) λ q. apart (rule type) λ t. apart (rule where_clause) λ x. reads (punctuation semicolon) λ z. ends z
 statements_list =
     reads (rule attributes) λ a. turns at_item (then (item_behind a) (rule statements)) (reads (rule statement_rest) λ s. ends s)
 statement_alone =
@@ -480,32 +478,30 @@ class Writer:
         return f'{ {"led": "led", "self": "self_type"}[kind]} {inner(rest[0])}'
 
     def planned_file(self):
-        """That what is written on the courses of these rules is what is written of the rules."""
-        files = {'trait_item': 'MemberPlans', 'impl_item': 'MemberPlans', 'foreign_item': 'MemberPlans', 'derive_input': 'SmallPlans', 'crate_macro': 'StatementPlans'}
-        kept = {'trait_item': 'kept_trait_item', 'impl_item': 'kept_impl_item', 'foreign_item': 'kept_foreign_item', 'derive_input': 'kept_item', 'crate_macro': 'kept_item'}
+        """That the courses of these unions go as their plans."""
         lines, called = [], set()
-        for k in files:
-            own = plans.Plans(self.source, MORE_PLANS)
-            own.reader, plans.Prover.count = plans.Prover, 0
-            it = own.call(PLANS[k], [], {})
-            called |= own.called
+        for k in ('item', 'trait_item', 'impl_item', 'foreign_item', 'derive_input', 'crate_macro', 'use_item_rest', 'type_item_rest', 'impl_definition_rest'):
+            goes = {}
+            for way in ('true', 'false'):
+                own = plans.Plans(self.source)
+                own.reader, plans.Prover.count = plans.Prover, 0
+                goes[way] = plans.Proofs(way).of(own.call(PLANS[k], [], {}), 'm')
+                called |= own.called
+            opened = ' '.join(sorted(own.called))
             course = f'(planned_course Planned-m.{camel(k)})'
-            lines += ['', f'{k}_goes : (a : Bool) → Goes a {course} {PLANS[k]} end', 'unfolding ' + ' '.join(sorted(own.called)),
-                      *[f'{k}_goes {way} = {plans.proof(it, way)}' for way in ('true', 'false')], '',
-                      f'pub {k}_written : (w : Written) (ts : Stream) → copy_form (table rules.{k}) w ts ≡ copy_course {course} w ts (blank w.printing) ts',
-                      'unfolding copy_form',
-                      f'{k}_written w ts =',
-                      f'    sym (ap (copied w) (parse_rule_is rules.{k} ts) ∙ wrapped Node way_node w (parse_form (table rules.{k}) ts)) ∙ ap (copied w) ({PLANS[k]}_is ts)',
-                      f'    ∙ sym (goes_is rules.{kept[k]} ts w {course} {PLANS[k]} end ts ({k}_goes w.printing)) ∙ ap (λ v. copy_course {course} w ts v ts) (adds_none (blank w.printing))']
+            lines += ['', f'pub {k}_goes : (a : Bool) (m : Stream) → Goes a {course} {PLANS[k]} end m', 'unfolding ' + opened,
+                      *[f'{k}_goes {way} m = {goes[way]}' for way in ('true', 'false')]]
         where = lambda file: [n for n in sorted(called) if re.search(rf'^unfoldable pub {n} :', (GRAMMAR / 'specs' / f'{file}.antt').read_text(), re.M)]
-        return [f'-- {WRITTEN}', '-- What is written on the courses of unions is what is written of the unions.', 'use Rattle.std.proofs.Common.{◌≡◌, Bool, true, false, refl, sym, ap, ◌∙◌}',
-                'use Rattle.syn_grammar.specs.Tokens.{Stream, end}', 'use Rattle.syn_grammar.specs.Rules as rules', 'use Rattle.syn_grammar.specs.Grammar.{Node}', 'use Rattle.syn_grammar.specs.Table.{table}',
-                'use Rattle.syn_grammar.specs.Run.{parse_form}', *[f'use Rattle.syn_grammar.specs.{file}.{{{", ".join(where(file))}}}' for file in ('ItemPlan', 'MemberPlans', 'StatementPlans', 'SmallPlans')],
-                'use Rattle.syn_grammar.proofs.Run.{parse_rule_is}', 'use Rattle.syn_grammar.proofs.MemberPlans.{trait_item_plan_is, impl_item_plan_is, foreign_item_plan_is}',
-                'use Rattle.syn_grammar.proofs.SmallPlans.{derive_input_plan_is}', 'use Rattle.syn_grammar.proofs.StatementPlans.{crate_macro_plan_is}', 'use Rattle.syn_recognize.specs.Written.{Written, blank}', 'use Rattle.syn_recognize.specs.Copies.{copied, copy_form}',
-                'use Rattle.syn_recognize.specs.Courses.{copy_course}', 'use Rattle.syn_recognize.specs.Stages.{planned_course}', 'use Rattle.syn_recognize.specs.declared.plan.Planned.TheVariants as Planned-m',
-                'use Rattle.syn_recognize.proofs.Ways.{way_node}', 'use Rattle.syn_recognize.proofs.Writes.{adds_none}', 'use Rattle.syn_recognize.proofs.Copied.{wrapped}',
-                'use Rattle.syn_recognize.proofs.CourseProofs.{Goes, goes_is, none, piece, both, text_behind}', *lines, '']
+        text = '\n'.join(lines)
+        used = lambda names: ', '.join(x for x in names if re.search(rf'(?<![\w.]){x}(?!\w)', text))
+        return [f'-- {WRITTEN}', '-- The courses of unions go as their plans.', 'use Rattle.std.proofs.Common.{Bool, true, false, [], ◌∷◌, refl}',
+                'use Rattle.syn_grammar.specs.Tokens.{Stream, end}', 'use Rattle.syn_grammar.specs.Rules.{' + used(['impl_definition', 'type_item', 'use_item']) + '}',
+                'use Rattle.syn_grammar.specs.Grammar.{' + used(['Left', 'Right', 'Node', 'Both', 'Such']) + '}', 'use Rattle.syn_grammar.specs.Values.{untag}',
+                'use Rattle.syn_grammar.specs.ItemPlan.{' + ', '.join([*where('ItemPlan'), used(['parts', 'absent', 'hidden', 'inherited', 'item_of', 'public', 'plain', 'unwritten'])]) + '}',
+                *[f'use Rattle.syn_grammar.specs.{file}.{{{", ".join(where(file))}}}' for file in ('MemberPlans', 'StatementPlans', 'SmallPlans', 'AlonePlans')],
+                'use Rattle.syn_recognize.specs.Stages.{planned_course}', 'use Rattle.syn_recognize.specs.declared.plan.Planned.TheVariants as Planned-m',
+                'use Rattle.syn_recognize.proofs.CourseProofs.{Goes, none, piece, untagged, both, text_behind}', 'use Rattle.syn_recognize.proofs.ImplCourses.{item_impl_meets, alone_impl_meets, lone_text}',
+                'use Rattle.syn_recognize.proofs.SmallCourses.{rooted_meets, clause_meets, alone_clause_meets}', *lines, '']
 
     def stages_file(self):
         at = 'Rattle.syn_recognize.specs.declared'

@@ -1,14 +1,14 @@
 """The plans of unions, as the specifications have them, without their values: trees of what is read, what turns and how it ends.
 
-A plan is a tuple: ('reads', form, plan), ('turns', look, plan, plan), ('tests', test, plan, plan), ('ends',), ('done',), ('fails',),
+A plan is a tuple: ('reads', form, plan), ('apart', form, plan) (the same, of which no form is made with what follows), ('turns', look, plan, plan), ('tests', test, plan, plan), ('ends',), ('done',), ('fails',),
 ('then', plan, form) (a plan and a form behind it), ('lists', plan) (generics of an impl, and what follows), and ('self', plan) (the self
 type of an impl, and what follows)."""
 import re
 
 from . import antt
 
-FILES = ['ItemPlan', 'MemberPlans', 'StatementPlans', 'SmallPlans']
-WORDS = ('reads', 'turns', 'tests', 'keeps', 'ends', 'done', 'fails')
+FILES = ['ItemPlan', 'MemberPlans', 'StatementPlans', 'SmallPlans', 'AlonePlans']
+WORDS = ('reads', 'apart', 'turns', 'tests', 'keeps', 'ends', 'done', 'fails')
 
 
 class Plans:
@@ -150,11 +150,11 @@ class Reader:
         if word == '(':
             self.at -= 1
             return self.atom_plan()
-        if word == 'reads':
+        if word in ('reads', 'apart'):
             form = self.form()
             assert self.next() == 'λ'
             self.next()
-            return ('reads', form, self.plan())
+            return ('reads', form, self.plan()) if word == 'reads' else ('apart', form, self.plan())
         if word == 'turns':
             look = self.form()
             return ('turns', look, self.atom_plan(), self.atom_plan())
@@ -179,6 +179,8 @@ def endings(plan):
     kind = plan[0]
     if kind == 'reads':
         return endings(plan[2])
+    if kind == 'apart':
+        return {'apart'} | endings(plan[2])
     if kind == 'turns':
         return endings(plan[2]) | endings(plan[3])
     if kind == 'tests':
@@ -187,6 +189,8 @@ def endings(plan):
         return {'then'} | endings(plan[1])
     if kind in ('lists', 'self'):
         return {kind} | endings(plan[1])
+    if kind in ('impl', 'alone'):
+        return {'lists'}
     return {kind} - {'fails'}
 
 
@@ -212,6 +216,8 @@ def course(plan):
         if plan[2][:2] == ('tests', ('has', ('root_mark',))):
             return ('rooted', course(plan[2][2]), course(plan[2][3]))
         return ('reads', plan[1], course(plan[2]))
+    if kind == 'apart':
+        return ('reads', plan[1], course(plan[2]))
     if kind == 'turns':
         return (kind, plan[1], course(plan[2]), course(plan[3]))
     if kind == 'then':
@@ -231,7 +237,7 @@ def both(parts):
 
 
 class Values:
-    """What the values at a plan's ends are made of: pieces that were read, one behind the other."""
+    """What the values at a plan's ends are made of: pieces that were read, one behind the other. A name means its parts and its text."""
 
     def __init__(self, names):
         self.names = names
@@ -243,18 +249,21 @@ class Values:
         if kind == 'name':
             if e[1] in ('absent', 'hidden', 'inherited', 'no_clause', 'Nothing'):
                 return NOTHING
-            return self.names[e[1]]
+            return self.names[e[1]][1]
         if kind == 'apply':
             head, arguments = e[1][1], e[2]
-            if head in ('Left', 'Right', 'Node', 'Such', 'untag', 'parts'):
+            if head == 'untag':
+                piece = self.of(arguments[0])
+                assert piece[0] == 'piece', e
+                return ('untagged', piece[1])
+            if head in ('Left', 'Right', 'Node', 'Such', 'parts'):
                 return both(self.list_of(arguments[0])) if head == 'parts' else self.of(arguments[0])
             if head in ('item_of', 'Both'):
                 return both([self.of(x) for x in arguments[-2:]])
             if head == 'member_of':
                 return both(self.list_of(arguments[1]))
             if head == 'impl_of':
-                a, d, c, u, k, g, s = (self.of(x) for x in arguments)
-                return both([a, d, c, u, k, ('both', g, s)])
+                return both([self.of(x) for x in arguments[:5]])
             if head == 'crate_item':
                 return ('both', self.of(arguments[0]), NOTHING)
             if head == 'crate_statement':
@@ -269,9 +278,12 @@ class Values:
         assert e[0] == 'infix' and e[1] == '∷', e
         return [self.of(e[2]), *self.list_of(e[3])]
 
+    def text(self, words):
+        return ' '.join(self.names[x][2] if x in self.names and self.names[x][0] == 'value' else x for x in words)
+
 
 class Prover(Reader):
-    """Reads a plan with its values: ('reads', form, plan, name), ('ends', parts)."""
+    """Reads a plan with its values: ('reads', form, plan, number), ('ends', parts, text), ('impl', parts, texts) (an impl behind its word)."""
     count = 0
 
     def plan(self):
@@ -281,57 +293,131 @@ class Prover(Reader):
             form = self.form()
             assert self.next() == 'λ'
             Prover.count += 1
-            name, fresh = self.next().rstrip('.'), f'x{Prover.count}'
-            inner = Prover(self.plans, self.words, {**self.names, name: ('piece', fresh)})
+            name, number = self.next().rstrip('.'), Prover.count
+            inner = Prover(self.plans, self.words, {**self.names, name: ('value', ('piece', f'x{number}'), f'x{number}')})
             inner.at = self.at
             plan = inner.plan()
             self.at = inner.at
-            return ('reads', form, plan, fresh)
+            return ('reads', form, plan, number)
         if word == 'ends':
             self.at += 1
-            return ('ends', Values(self.names).of(antt.Expressions(self.skip(), 'a value').whole()))
+            words = self.skip()
+            values = Values(self.names)
+            return ('ends', values.of(antt.Expressions(words, 'a value').whole()), values.text(words))
+        if word == 'tests':
+            self.at += 1
+            test = self.form()
+            self.skip()
+            return ('tests', test, self.atom_plan(), self.atom_plan())
+        if word == 'turns' and self.words[self.at + 1] == 'at_generics' and 'plain_types' in self.words[self.at:]:
+            self.at += 2
+            self.skip()
+            given = [self.names[x] for x in self.skip()[2:6]]
+            return ('alone', both([x[1] for x in given]), [x[2] for x in given])
+        if word == 'impl_generics':
+            self.at += 1
+            given = self.arguments()
+            return ('impl', both([x[1] for x in given]), [x[2] for x in given])
         return super().plan()
-
-    def atom_plan(self):
-        return super().atom_plan()
 
     def argument(self):
         begin = self.at
         found = super().argument()
         if found == ('value',):
-            return Values(self.names).of(antt.Expressions(self.words[begin:self.at], 'a value').whole())
+            words, values = self.words[begin:self.at], Values(self.names)
+            text = values.text(words)
+            return ('value', values.of(antt.Expressions(words, 'a value').whole()), text if len(words) == 1 else f'({text})' if words[0] != '(' else text)
         return found
 
 
 def parts_text(it):
     if it == NOTHING:
         return 'none'
-    return f'(piece {it[1]})' if it[0] == 'piece' else f'(both {parts_text(it[1])} {parts_text(it[2])})'
+    return f'({it[0]} {it[1]})' if it[0] in ('piece', 'untagged') else f'(both {parts_text(it[1])} {parts_text(it[2])})'
 
 
-def proof(plan, way):
-    ends = endings(plan)
-    if ends <= {'ends'}:
-        return flat_proof(plan, way)
-    if ends <= {'done'}:
-        return kept_proof(plan)
-    if plan[0] == 'reads':
-        return f'(refl, λ {plan[3]}. {proof(plan[2], way)})'
-    assert plan[0] == 'turns', plan[0]
-    return f'(refl, ({proof(plan[2], way)}, {proof(plan[3], way)}))'
+def behind(parts, piece):
+    """These parts, and a piece behind them."""
+    return both([*(parts_in(parts)), piece])
 
 
-def flat_proof(plan, way):
-    if plan[0] == 'reads':
-        return f'(refl, (refl, λ {plan[3]}. {flat_proof(plan[2], way)}))'
-    if plan[0] == 'turns':
-        return f'(refl, ({flat_proof(plan[2], way)}, {flat_proof(plan[3], way)}))'
-    return 'refl' if plan[0] == 'fails' else f'(refl, text_behind {way} end {parts_text(plan[1])})'
+def parts_in(parts):
+    return [parts[1], *parts_in(parts[2])] if parts[0] == 'both' else [parts]
 
 
-def kept_proof(plan):
-    if plan[0] == 'reads':
-        return f'(refl, (refl, λ {plan[3]}. {kept_proof(plan[2])}))'
-    if plan[0] == 'turns':
-        return f'(refl, ({kept_proof(plan[2])}, {kept_proof(plan[3])}))'
-    return 'refl'
+class Proofs:
+    """The proof that a course goes as a plan, in one of the two ways of writing."""
+
+    def __init__(self, way):
+        self.way, self.turns, self.lone = way, 0, []
+
+    def turn(self):
+        self.turns += 1
+        return f's{self.turns}'
+
+    def of(self, plan, at):
+        ends = endings(plan)
+        if ends <= {'ends'}:
+            return self.flat(plan, at)
+        if ends <= {'done'}:
+            return self.kept(plan)
+        kind = plan[0]
+        if kind == 'impl':
+            value = ' ∷ '.join([*plan[2][1:], 'z', '[]'])
+            return f'item_impl_meets {self.way} (λ z. item_of impl_definition {plan[2][0]} (parts ({value}))) _ {at} (λ z. text_behind {self.way} end {parts_text(behind(plan[1], ("piece", "z")))})'
+        if kind == 'alone':
+            value = ' ∷ '.join([*plan[2], 'z', '[]'])
+            return f'alone_impl_meets {self.way} (λ z. Node (parts ({value}))) _ {at} (λ z. text_behind {self.way} end {parts_text(behind(plan[1], ("piece", "z")))})'
+        if kind == 'reads':
+            n = plan[3]
+            if plan[2][0] == 'tests':
+                one, other = self.of(plan[2][2], f'r{n}'), self.of(plan[2][3], f'r{n}')
+                return f'rooted_meets {self.way} _ _ _ _ _ {at} (λ x{n} r{n} e{n}. {one}) (λ x{n} r{n} e{n}. {other})'
+            if 'tests' in ends and plan[1] == ('rule', ('where_clause',)):
+                return self.clause(plan, at)
+            return f'(refl, λ x{n} r{n} e{n}. {self.of(plan[2], f"r{n}")})'
+        assert kind == 'turns', plan
+        return f'(refl, {self.both_turns(plan, at, self.of)})'
+
+    def both_turns(self, plan, at, of):
+        one, other = self.turn(), self.turn()
+        is_lone = 'Lone_word' in str(plan[1])
+        self.lone += [one] * is_lone
+        first = of(plan[2], at)
+        self.lone = self.lone[:-1] if is_lone else self.lone
+        return f'(λ {one}. {first}, λ {other}. {of(plan[3], at)})'
+
+    def clause(self, plan, at):
+        """A type alias from its first where clause on: it may be kept behind it, or stands alone."""
+        name, equals = ('clause_meets', plan[2][2]) if plan[2][0] == 'turns' else ('alone_clause_meets', plan[2])
+        kind, clause = equals[2], equals[2][2]
+        end = clause[2][2]
+        names = ' '.join(f'x{n}' for n in (plan[3], equals[3], kind[3], clause[3], end[3]))
+        return f'{name} {self.way} (λ {names}. {end[2][2]}) _ {at} (λ {names}. text_behind {self.way} end {parts_text(end[2][1])})'
+
+    def flat(self, plan, at):
+        if plan[0] == 'reads':
+            n = plan[3]
+            return f'(refl, (refl, λ x{n} r{n} e{n}. {self.flat(plan[2], f"r{n}")}))'
+        if plan[0] == 'turns':
+            return f'(refl, {self.both_turns(plan, at, self.flat)})'
+        if plan[0] == 'fails':
+            return 'refl'
+        if plan[2].lstrip('(').startswith('impl_of '):
+            return f'(refl, {self.lone_end(plan)})'
+        return f'(refl, text_behind {self.way} end {parts_text(plan[1])})'
+
+    def lone_end(self, plan):
+        """The end of an impl of a type of one word in parentheses, which has no generics."""
+        words = re.findall(r'x\d+', plan[2])
+        attributes, word, kind, body = (int(x[1:]) for x in words)
+        value = f'item_of impl_definition x{attributes} (parts (absent ∷ absent ∷ absent ∷ x{word} ∷ z ∷ []))'
+        before = both([('piece', f'x{attributes}'), NOTHING, NOTHING, NOTHING, ('piece', f'x{word}'), ('piece', 'z')])
+        return f'lone_text {self.way} (λ z. {value}) _ _ _ _ x{kind} x{body} (λ z. text_behind {self.way} end {parts_text(before)}) {self.lone[-1]} e{kind} e{body}'
+
+    def kept(self, plan):
+        if plan[0] == 'reads':
+            return f'(refl, (refl, λ x{plan[3]}. {self.kept(plan[2])}))'
+        if plan[0] == 'turns':
+            return f'(refl, ({self.kept(plan[2])}, {self.kept(plan[3])}))'
+        return 'refl'

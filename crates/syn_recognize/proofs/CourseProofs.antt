@@ -10,11 +10,15 @@ use Rattle.syn_grammar.specs.Plan.{Plan, follow, by_test, run_plan, kept_as}
 use Rattle.syn_grammar.proofs.Streams.{append_end, append_append}
 use Rattle.syn_recognize.specs.Within.{first, second}
 use Rattle.syn_recognize.specs.PrintedRows.{way}
-use Rattle.syn_recognize.specs.Written.{Written, adds, drops}
+use Rattle.syn_recognize.specs.Written.{Written, adds, changed, drops, drops_in}
 use Rattle.syn_recognize.specs.Copies.{Copy, Reached, Refused, Stuck, Leads, copied, next, copy_form, capturing}
 use Rattle.syn_recognize.specs.Course.{Course, reads, turns, rooted, followed, rest, kept, lists, led, self_type}
 use Rattle.syn_recognize.specs.Courses.{Fair, copy_kept, copy_course, settled}
+use Rattle.syn_tokens.specs.Building.{Building, added}
+use Rattle.syn_grammar.specs.Shape.{untagged as no-tag}
+use Rattle.syn_grammar.specs.Values.{untag}
 use Rattle.syn_recognize.proofs.Copied.{empty_is, then_is, when_is}
+use Rattle.syn_recognize.proofs.Ways.{way_shape}
 use Rattle.syn_recognize.proofs.Writes.{adds_more, adds_nothing}
 use Rattle.syn_recognize.proofs.Todo.{leads_same}
 
@@ -118,7 +122,7 @@ module _ (k : Rule) (b : Stream) (w : Written) where
   -- a piece, and what follows it
   pub reads_written : (g h : Grammar) (d : Course) (f : Syntax → Plan) (l : Option Bool) (i m : Stream) → parse_form g ≡ parse_form h →
       ((s : Syntax) (r : Stream) → parse_form h m ≡ Some (s, r) → Written-as d (f s) l (i ⧺ way w.printing s) r) → Written-as (reads g d) (plan.reads h f) l i m
-  unfolding copy_form
+  unfolding copy_form adds
   reads_written g h d f l i m e ih =
       subst (λ (z : Parser). Leads (copied w (run_plan (plan.reads h f) k b m)) (next (copied (adds w i) (z m)) (copy_course d l))) (sym e) (go (parse_form h m) ih)
     where
@@ -127,7 +131,6 @@ module _ (k : Rule) (b : Stream) (w : Written) where
       go (Some x) ih = subst (λ v. Leads (copied w (run_plan (f x.0) k b x.1)) (copy_course d l v x.1)) (sym (more x.0)) (ih x.0 x.1 refl)
         where
           more : (s : Syntax) → adds (adds w i) (way (adds w i).printing s) ≡ adds w (i ⧺ way w.printing s)
-          unfolding adds
           more s = adds_more w i (way w.printing s)
 
   pub turns_written : (c : Look) (d e : Course) (p q : Plan) (l : Option Bool) (i m : Stream) → (sees c m ≡ true → Written-as d p l i m) → (sees c m ≡ false → Written-as e q l i m) → Written-as (turns c d e) (plan.turns c p q) l i m
@@ -144,12 +147,15 @@ module _ (k : Rule) (b : Stream) (w : Written) where
   rest_written g p (Some false) i m e = leads_same (copied w (run_plan p k b m)) (copy_form g (adds w i) m) (sym (flat_is k b w g p i m e))
 
   pub kept_written : (g : Grammar) (p : Plan) (l : Option Bool) (i m : Stream) → Kept g p → Written-as (kept g) p l i m
+  unfolding adds
   kept_written g p l i m e = subst (λ v. Leads (copied w (run_plan p k b m)) (pick v (copy_form g (adds w i) m) Stuck)) (drops_still w i) (go (drops w) refl)
     where
+      still : (o : Option Building) (i : Stream) → drops_in o ≡ drops_in (changed (λ b. added b i) o)
+      still None i = refl
+      still (Some o) i = refl
+
       drops_still : (w : Written) (i : Stream) → drops w ≡ drops (adds w i)
-      unfolding adds
-      drops_still (record { printing = a; out = None }) i = refl
-      drops_still (record { printing = a; out = Some o }) i = refl
+      drops_still w i = still w.out i
 
       go : (v : Bool) → drops w ≡ v → Leads (copied w (run_plan p k b m)) (pick v (copy_form g (adds w i) m) Stuck)
       go true x =
@@ -176,8 +182,9 @@ module _ (k : Rule) (b : Stream) (w : Written) where
       go false x y = y refl
 
 -- A COURSE goes as a plan, behind what was written (i) and at a stream (m). Where they differ in form, it is said that they do the same.
-abbrev pub Meets : Bool → Course → Plan → Stream → Stream → Type 0
-Meets a d p i m = (k : Rule) (b : Stream) (w : Written) → w.printing ≡ a → ((l : Option Bool) → Fair a l → Written-as k b w d p l i m) × ((v : Written) → Kept-as k b w d p v m)
+pub record Meets (a : Bool) (d : Course) (p : Plan) (i m : Stream) : Type 0 where
+  pub written : (k : Rule) (b : Stream) (w : Written) → w.printing ≡ a → (l : Option Bool) → Fair a l → Written-as k b w d p l i m
+  pub all_kept : (k : Rule) (b : Stream) (w : Written) → w.printing ≡ a → (v : Written) → Kept-as k b w d p v m
 
 abbrev pub Goes : Bool → Course → Plan → Stream → Stream → Type 0
 Goes a (rest g) p i m = Flat a g p i m
@@ -196,9 +203,9 @@ module _ (k : Rule) (b : Stream) (w : Written) where
   goes_written (reads g d) (plan.reads h f) l i m fair e = reads_written k b w g h d f l i m e.0 (λ s r q. goes_written d (f s) l (i ⧺ way w.printing s) r fair (e.1 s r q))
   goes_written (turns c d e') (plan.turns h p q) l i m fair e =
       subst (λ z. Written-as k b w (turns z d e') (plan.turns h p q) l i m) (sym e.0) (turns_written k b w h d e' p q l i m (λ s. goes_written d p l i m fair (e.1.0 s)) (λ s. goes_written e' q l i m fair (e.1.1 s)))
-  goes_written (turns c d e') (plan.reads h f) l i m fair e = (e k b w refl).0 l fair
-  goes_written (rooted d e') p l i m fair e = (e k b w refl).0 l fair
-  goes_written (lists d) p l i m fair e = (e k b w refl).0 l fair
+  goes_written (turns c d e') (plan.reads h f) l i m fair e = e.written k b w refl l fair
+  goes_written (rooted d e') p l i m fair e = e.written k b w refl l fair
+  goes_written (lists d) p l i m fair e = e.written k b w refl l fair
   goes_written _ _ l i m fair e = absurd e
 
   pub goes_kept : (d : Course) (p : Plan) (i : Stream) (v : Written) (m : Stream) → Goes w.printing d p i m → Kept-as k b w d p v m
@@ -207,9 +214,9 @@ module _ (k : Rule) (b : Stream) (w : Written) where
   goes_kept (reads g d) (plan.reads h f) i v m e = reads_kept k b w g h d f v m e.0 (λ s r z q. goes_kept d (f s) (i ⧺ way w.printing s) z r (e.1 s r q))
   goes_kept (turns c d e') (plan.turns h p q) i v m e =
       subst (λ z. Kept-as k b w (turns z d e') (plan.turns h p q) v m) (sym e.0) (turns_kept k b w h d e' p q v m (λ s. goes_kept d p i v m (e.1.0 s)) (λ s. goes_kept e' q i v m (e.1.1 s)))
-  goes_kept (turns c d e') (plan.reads h f) i v m e = (e k b w refl).1 v
-  goes_kept (rooted d e') p i v m e = (e k b w refl).1 v
-  goes_kept (lists d) p i v m e = (e k b w refl).1 v
+  goes_kept (turns c d e') (plan.reads h f) i v m e = e.all_kept k b w refl v
+  goes_kept (rooted d e') p i v m e = e.all_kept k b w refl v
+  goes_kept (lists d) p i v m e = e.all_kept k b w refl v
   goes_kept _ _ i v m e = absurd e
 
 -- WHAT A VALUE'S PARTS LEAVE, one behind the other
@@ -217,19 +224,23 @@ module _ (k : Rule) (b : Stream) (w : Written) where
 pub data Parts : Type 0 where
   none : Parts
   piece : Syntax → Parts
+  untagged : Syntax → Parts  -- the value of a piece without what says that it has no tag
   both : Parts → Parts → Parts
 
 abbrev pub behind : Bool → Stream → Parts → Stream
 behind a i none = i
 behind a i (piece s) = i ⧺ way a s
+behind a i (untagged s) = i ⧺ way a s
 behind a i (both x y) = behind a (behind a i x) y
 
 abbrev pub text : Bool → Parts → Stream
 text a none = end
 text a (piece s) = way a s
+text a (untagged s) = way a (untag s)
 text a (both x y) = text a x ⧺ text a y
 
 pub text_behind : (a : Bool) (i : Stream) (x : Parts) → i ⧺ text a x ≡ behind a i x
 text_behind a i none = append_end i
 text_behind a i (piece s) = refl
+text_behind a i (untagged s) = ap (λ z. i ⧺ z) (way_shape no-tag a s)
 text_behind a i (both x y) = sym (append_append i (text a x) (text a y)) ∙ ap (λ z. z ⧺ text a y) (text_behind a i x) ∙ text_behind a (behind a i x) y

@@ -13,7 +13,12 @@ pub mod FadingParts
 pub mod WrittenAside
 pub mod CourseProofs
 pub mod Guessed
+pub mod ImplGenerics
+pub mod ImplCourses
+pub mod SmallCourses
 pub mod PlannedCourses
+pub mod StatementCourses
+pub mod PlanBegins
 pub mod Ends
 pub mod Trailing
 pub mod Todo

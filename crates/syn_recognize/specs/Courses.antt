@@ -3,7 +3,7 @@
 use Rattle.std.specs.Prelude.{Bool, true, false, Option, Some, None}
 use Rattle.syn_grammar.specs.Words.{less}
 use Rattle.syn_grammar.specs.Tokens.{Stream, end, punct, Brace, call_site, pick, at_generics}
-use Rattle.syn_grammar.specs.Rules.{for_self_type, rooted_trees}
+use Rattle.syn_grammar.specs.Rules.{for_self_type, rooted_trees, statements}
 use Rattle.syn_grammar.specs.Grammar.{Grammar, rule, empty, inside, ordered, vanishing, at_row_end, when◌then◌else◌}
 use Rattle.syn_grammar.specs.Take.{Out, before, sees, take_mark}
 use Rattle.syn_grammar.specs.ToldByTokens.{roots}
@@ -18,6 +18,8 @@ use Rattle.syn_recognize.specs.Course.{Course, reads, turns, rooted, followed, r
 use Rattle.syn_recognize.specs.Stages.{stage_course}
 use Rattle.syn_recognize.specs.declared.guess.Guess.{Guess}
 use Rattle.syn_recognize.specs.declared.plan.Plan.{Plan}
+use Rattle.syn_recognize.specs.declared.plan.Planned.{Planned}
+use Rattle.syn_recognize.specs.declared.plan.Planned.TheVariants as Planned-m
 use Rattle.syn_recognize.specs.declared.plan.Plan.TheVariants as Plan-m
 
 abbrev pub course_of : Plan → Course
@@ -114,9 +116,10 @@ copy_course (lists d) (Some x) w ts = guessed_lists (no_parameters ts) x (copy_c
 copy_course (led d) l w ts = led_by l (sees at_generics ts) (λ m. copy_course d m w ts)
 copy_course (self_type d) l w ts = led_by l (leads_on ts) (λ m. next (copy_form (rule for_self_type) w ts) (copy_course d m))
 
--- whether they are printed as `< >` is guessed only where trees are written as they are printed
+-- whether they are printed as `< >` is guessed where trees are written as they are printed, and only there
 abbrev pub Fair : Bool → Option Bool → Type 0
-Fair true l = Unit {0}
+Fair true None = ⊥
+Fair true (Some x) = Unit {0}
 Fair false None = Unit {0}
 Fair false (Some x) = ⊥
 
@@ -127,3 +130,8 @@ copy_way false d l w ts = copy_course d l w ts
 
 abbrev pub copy_guess : Guess → Course → Written → Stream → Copy
 copy_guess g d w ts = copy_way g.kept d g.leads w ts
+
+-- what follows an item that a plan reads
+abbrev pub behind_form : Planned → Grammar
+behind_form Planned-m.Statements = rule statements
+behind_form _ = empty

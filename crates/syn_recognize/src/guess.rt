@@ -1,5 +1,5 @@
 //! What is guessed of what a plan reads, before it is read.
-ghost use Rattle.std.specs.Prelude.{◌≡◌, true, false, None};
+ghost use Rattle.std.specs.Prelude.{◌≡◌, true, None};
 
 /// What is guessed of it, and where it is noted how it is.
 #[derive(Clone, Copy)]
@@ -21,18 +21,6 @@ impl Guess {
             kept: true,
             leads: None,
             number: None,
-        }
-    }
-
-    /// Nothing is guessed of it, and it is noted by this number.
-    pub(crate) fn noted_as(number: usize) -> Guess
-        ensures kept { result.kept ≡ false }
-        ensures leads { result.leads ≡ None }
-    {
-        Guess {
-            kept: false,
-            leads: None,
-            number: Some(number),
         }
     }
 

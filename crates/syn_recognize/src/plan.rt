@@ -194,6 +194,10 @@ pub enum Stage {
     Stage132,
     Stage133,
     Stage134,
+    Stage135,
+    Stage136,
+    Stage137,
+    Stage138,
 }
 
 pub(crate) static PLANNED_1: Form = Form::Then(
@@ -259,18 +263,6 @@ pub(crate) static PLANNED_5: Form = Form::Then(
 );
 
 pub(crate) static PLANNED_6: Form = Form::Then(
-    &Form::Rule(Rule::Type),
-    &Form::When(
-        Look::Word(Word::Where),
-        &Form::Then(
-            &Form::Rule(Rule::WhereClause),
-            &Form::Never(Fault::Unexpected),
-        ),
-        &Form::Then(&Form::Mark(Mark::Semi), &Form::Empty),
-    ),
-);
-
-pub(crate) static PLANNED_7: Form = Form::Then(
     &Form::Inside(
         Delimiter::Brace,
         &Form::Then(&Form::Rule(Rule::InnerAttributes), &Form::Rule(Rule::Items)),
@@ -278,7 +270,7 @@ pub(crate) static PLANNED_7: Form = Form::Then(
     &Form::Empty,
 );
 
-pub(crate) static PLANNED_8: Form = Form::Then(
+pub(crate) static PLANNED_7: Form = Form::Then(
     &Form::Rule(Rule::WhereClause),
     &Form::Then(
         &Form::Inside(
@@ -292,7 +284,7 @@ pub(crate) static PLANNED_8: Form = Form::Then(
     ),
 );
 
-pub(crate) static PLANNED_9: Form = Form::Then(
+pub(crate) static PLANNED_8: Form = Form::Then(
     &Form::Mark(Mark::Eq),
     &Form::Then(
         &Form::Rule(Rule::AliasBounds),
@@ -303,22 +295,22 @@ pub(crate) static PLANNED_9: Form = Form::Then(
     ),
 );
 
-pub(crate) static PLANNED_10: Form = Form::Then(
+pub(crate) static PLANNED_9: Form = Form::Then(
     &Form::Token(Token::Name),
     &Form::Then(
         &Form::Rule(Rule::Generics),
         &Form::When(
             Look::Mark(Mark::Eq),
-            &Form::Part(Part::Planned9),
+            &Form::Part(Part::Planned8),
             &Form::Then(
                 &Form::Fading(Fading::Supertraits),
-                &Form::Part(Part::Planned8),
+                &Form::Part(Part::Planned7),
             ),
         ),
     ),
 );
 
-pub(crate) static PLANNED_11: Form = Form::Then(
+pub(crate) static PLANNED_10: Form = Form::Then(
     &Form::Rule(Rule::WhereClause),
     &Form::Then(
         &Form::Inside(
@@ -332,7 +324,7 @@ pub(crate) static PLANNED_11: Form = Form::Then(
     ),
 );
 
-pub(crate) static PLANNED_12: Form = Form::Then(
+pub(crate) static PLANNED_11: Form = Form::Then(
     &Form::Token(Token::Word(Word::Trait)),
     &Form::Then(
         &Form::Token(Token::Name),
@@ -340,13 +332,13 @@ pub(crate) static PLANNED_12: Form = Form::Then(
             &Form::Rule(Rule::Generics),
             &Form::Then(
                 &Form::Fading(Fading::Supertraits),
-                &Form::Part(Part::Planned11),
+                &Form::Part(Part::Planned10),
             ),
         ),
     ),
 );
 
-pub(crate) static PLANNED_13: Form = Form::Then(
+pub(crate) static PLANNED_12: Form = Form::Then(
     &Form::Token(Token::Name),
     &Form::Then(
         &Form::When(
@@ -358,7 +350,7 @@ pub(crate) static PLANNED_13: Form = Form::Then(
     ),
 );
 
-pub(crate) static PLANNED_14: Form = Form::Then(
+pub(crate) static PLANNED_13: Form = Form::Then(
     &Form::When(
         Look::Word(Word::As),
         &Form::Then(
@@ -370,7 +362,7 @@ pub(crate) static PLANNED_14: Form = Form::Then(
     &Form::Then(&Form::Mark(Mark::Semi), &Form::Empty),
 );
 
-pub(crate) static PLANNED_15: Form = Form::Then(
+pub(crate) static PLANNED_14: Form = Form::Then(
     &Form::Rule(Rule::Type),
     &Form::Then(
         &Form::Rule(Rule::ForSelfType),
@@ -378,7 +370,7 @@ pub(crate) static PLANNED_15: Form = Form::Then(
     ),
 );
 
-pub(crate) static PLANNED_16: Form = Form::Then(
+pub(crate) static PLANNED_15: Form = Form::Then(
     &Form::Rule(Rule::Type),
     &Form::Then(
         &Form::When(
@@ -390,20 +382,20 @@ pub(crate) static PLANNED_16: Form = Form::Then(
     ),
 );
 
-pub(crate) static PLANNED_17: Form = Form::When(
+pub(crate) static PLANNED_16: Form = Form::When(
     Look::Mark(Mark::Not),
     &Form::Then(
         &Form::Mark(Mark::Not),
         &Form::When(
             Look::Group(Delimiter::Brace),
             &Form::Then(&Form::Rule(Rule::ImplBody), &Form::Empty),
-            &Form::Part(Part::Planned15),
+            &Form::Part(Part::Planned14),
         ),
     ),
-    &Form::Part(Part::Planned16),
+    &Form::Part(Part::Planned15),
 );
 
-pub(crate) static PLANNED_18: Form = Form::Then(
+pub(crate) static PLANNED_17: Form = Form::Then(
     &Form::Rule(Rule::WhereClause),
     &Form::Then(
         &Form::Inside(
@@ -417,7 +409,7 @@ pub(crate) static PLANNED_18: Form = Form::Then(
     ),
 );
 
-pub(crate) static PLANNED_19: Form = Form::Then(
+pub(crate) static PLANNED_18: Form = Form::Then(
     &Form::When(
         Look::Word(Word::Where),
         &Form::Then(
@@ -429,7 +421,7 @@ pub(crate) static PLANNED_19: Form = Form::Then(
     &Form::Then(&Form::Mark(Mark::Semi), &Form::Empty),
 );
 
-pub(crate) static PLANNED_20: Form = Form::Then(
+pub(crate) static PLANNED_19: Form = Form::Then(
     &Form::Rule(Rule::Type),
     &Form::Then(
         &Form::When(
@@ -437,11 +429,11 @@ pub(crate) static PLANNED_20: Form = Form::Then(
             &Form::Then(&Form::Mark(Mark::Eq), &Form::Rule(Rule::WholeExpression)),
             &Form::Empty,
         ),
-        &Form::Part(Part::Planned19),
+        &Form::Part(Part::Planned18),
     ),
 );
 
-pub(crate) static PLANNED_21: Form = Form::Then(
+pub(crate) static PLANNED_20: Form = Form::Then(
     &Form::When(
         Look::Word(Word::Const),
         &Form::Token(Token::Word(Word::Const)),
@@ -450,7 +442,7 @@ pub(crate) static PLANNED_21: Form = Form::Then(
     &Form::Then(&Form::Rule(Rule::BareTrait), &Form::Empty),
 );
 
-pub(crate) static PLANNED_22: Form = Form::Then(
+pub(crate) static PLANNED_21: Form = Form::Then(
     &Form::Rule(Rule::Type),
     &Form::Then(
         &Form::When(
@@ -462,20 +454,20 @@ pub(crate) static PLANNED_22: Form = Form::Then(
     ),
 );
 
-pub(crate) static PLANNED_23: Form = Form::When(
+pub(crate) static PLANNED_22: Form = Form::When(
     Look::InRestriction,
     &Form::Then(
         &Form::Inside(Delimiter::Paren, &Form::Rule(Rule::Restriction)),
-        &Form::Part(Part::Planned21),
+        &Form::Part(Part::Planned20),
     ),
     &Form::When(
         Look::LoneWord,
-        &Form::Part(Part::Planned22),
+        &Form::Part(Part::Planned21),
         &Form::Never(Fault::Unexpected),
     ),
 );
 
-pub(crate) static PLANNED_24: Form = Form::Then(
+pub(crate) static PLANNED_23: Form = Form::Then(
     &Form::When(
         Look::Word(Word::Const),
         &Form::Token(Token::Word(Word::Const)),
@@ -484,7 +476,7 @@ pub(crate) static PLANNED_24: Form = Form::Then(
     &Form::Then(&Form::Rule(Rule::BareTrait), &Form::Empty),
 );
 
-pub(crate) static PLANNED_25: Form = Form::Then(
+pub(crate) static PLANNED_24: Form = Form::Then(
     &Form::When(
         Look::Or(&Look::Name, &Look::Word(Word::Try)),
         &Form::Token(Token::NameOrTry),
@@ -493,33 +485,33 @@ pub(crate) static PLANNED_25: Form = Form::Then(
     &Form::Then(&Form::Rule(Rule::MacroEnd), &Form::Empty),
 );
 
-pub(crate) static PLANNED_26: Form = Form::When(
+pub(crate) static PLANNED_25: Form = Form::When(
     Look::Mark(Mark::Eq),
     &Form::Then(&Form::Mark(Mark::Eq), &Form::Rule(Rule::Type)),
     &Form::Empty,
 );
 
-pub(crate) static PLANNED_27: Form = Form::Then(
+pub(crate) static PLANNED_26: Form = Form::Then(
     &Form::Fading(Fading::TypeBounds),
     &Form::Then(
-        &Form::Part(Part::Planned26),
+        &Form::Part(Part::Planned25),
         &Form::Then(
             &Form::Rule(Rule::WhereClause),
             &Form::Then(&Form::Mark(Mark::Semi), &Form::Empty),
         ),
+    ),
+);
+
+pub(crate) static PLANNED_27: Form = Form::Then(
+    &Form::Rule(Rule::SignatureRest),
+    &Form::When(
+        Look::Mark(Mark::Semi),
+        &Form::Then(&Form::Mark(Mark::Semi), &Form::Empty),
+        &Form::Then(&Form::Rule(Rule::Body), &Form::Empty),
     ),
 );
 
 pub(crate) static PLANNED_28: Form = Form::Then(
-    &Form::Rule(Rule::SignatureRest),
-    &Form::When(
-        Look::Mark(Mark::Semi),
-        &Form::Then(&Form::Mark(Mark::Semi), &Form::Empty),
-        &Form::Then(&Form::Rule(Rule::Body), &Form::Empty),
-    ),
-);
-
-pub(crate) static PLANNED_29: Form = Form::Then(
     &Form::Rule(Rule::UnsafeOnly),
     &Form::Then(
         &Form::When(
@@ -527,11 +519,11 @@ pub(crate) static PLANNED_29: Form = Form::Then(
             &Form::Rule(Rule::Abi),
             &Form::Empty,
         ),
-        &Form::Part(Part::Planned28),
+        &Form::Part(Part::Planned27),
     ),
 );
 
-pub(crate) static PLANNED_30: Form = Form::Then(
+pub(crate) static PLANNED_29: Form = Form::Then(
     &Form::When(
         Look::Word(Word::Where),
         &Form::Then(
@@ -543,7 +535,7 @@ pub(crate) static PLANNED_30: Form = Form::Then(
     &Form::Then(&Form::Mark(Mark::Semi), &Form::Empty),
 );
 
-pub(crate) static PLANNED_31: Form = Form::Then(
+pub(crate) static PLANNED_30: Form = Form::Then(
     &Form::Rule(Rule::Type),
     &Form::Then(
         &Form::When(
@@ -551,11 +543,11 @@ pub(crate) static PLANNED_31: Form = Form::Then(
             &Form::Then(&Form::Mark(Mark::Eq), &Form::Rule(Rule::WholeExpression)),
             &Form::Empty,
         ),
-        &Form::Part(Part::Planned30),
+        &Form::Part(Part::Planned29),
     ),
 );
 
-pub(crate) static PLANNED_32: Form = Form::Then(
+pub(crate) static PLANNED_31: Form = Form::Then(
     &Form::Token(Token::NameOrUnderscore),
     &Form::Then(
         &Form::When(
@@ -563,11 +555,11 @@ pub(crate) static PLANNED_32: Form = Form::Then(
             &Form::Ordered(List::Parameters),
             &Form::Empty,
         ),
-        &Form::Then(&Form::Mark(Mark::Colon), &Form::Part(Part::Planned31)),
+        &Form::Then(&Form::Mark(Mark::Colon), &Form::Part(Part::Planned30)),
     ),
 );
 
-pub(crate) static PLANNED_33: Form = Form::When(
+pub(crate) static PLANNED_32: Form = Form::When(
     Look::Or(
         &Look::Word(Word::Async),
         &Look::Or(
@@ -581,12 +573,12 @@ pub(crate) static PLANNED_33: Form = Form::When(
             &Form::Token(Token::Word(Word::Async)),
             &Form::Empty,
         ),
-        &Form::Part(Part::Planned29),
+        &Form::Part(Part::Planned28),
     ),
-    &Form::Part(Part::Planned32),
+    &Form::Part(Part::Planned31),
 );
 
-pub(crate) static PLANNED_34: Form = Form::Then(
+pub(crate) static PLANNED_33: Form = Form::Then(
     &Form::Rule(Rule::Signature),
     &Form::When(
         Look::Mark(Mark::Semi),
@@ -595,37 +587,37 @@ pub(crate) static PLANNED_34: Form = Form::Then(
     ),
 );
 
-pub(crate) static PLANNED_35: Form = Form::Then(
+pub(crate) static PLANNED_34: Form = Form::Then(
     &Form::Token(Token::Word(Word::Type)),
     &Form::Then(
         &Form::Token(Token::Name),
-        &Form::Then(&Form::Rule(Rule::Generics), &Form::Part(Part::Planned27)),
+        &Form::Then(&Form::Rule(Rule::Generics), &Form::Part(Part::Planned26)),
     ),
 );
 
-pub(crate) static PLANNED_36: Form = Form::When(
+pub(crate) static PLANNED_35: Form = Form::When(
     Look::Word(Word::Type),
-    &Form::Part(Part::Planned35),
+    &Form::Part(Part::Planned34),
     &Form::When(
         Look::Word(Word::Const),
         &Form::Then(
             &Form::Token(Token::Word(Word::Const)),
-            &Form::Part(Part::Planned33),
+            &Form::Part(Part::Planned32),
         ),
-        &Form::Part(Part::Planned34),
+        &Form::Part(Part::Planned33),
     ),
 );
 
-pub(crate) static PLANNED_37: Form = Form::When(
+pub(crate) static PLANNED_36: Form = Form::When(
     Look::Mark(Mark::Eq),
     &Form::Then(&Form::Mark(Mark::Eq), &Form::Rule(Rule::Type)),
     &Form::Empty,
 );
 
-pub(crate) static PLANNED_38: Form = Form::Then(
+pub(crate) static PLANNED_37: Form = Form::Then(
     &Form::Fading(Fading::TypeBounds),
     &Form::Then(
-        &Form::Part(Part::Planned37),
+        &Form::Part(Part::Planned36),
         &Form::Then(
             &Form::Rule(Rule::WhereClause),
             &Form::Then(&Form::Mark(Mark::Semi), &Form::Empty),
@@ -633,7 +625,7 @@ pub(crate) static PLANNED_38: Form = Form::Then(
     ),
 );
 
-pub(crate) static PLANNED_39: Form = Form::Then(
+pub(crate) static PLANNED_38: Form = Form::Then(
     &Form::Rule(Rule::SignatureRest),
     &Form::When(
         Look::Mark(Mark::Semi),
@@ -642,7 +634,7 @@ pub(crate) static PLANNED_39: Form = Form::Then(
     ),
 );
 
-pub(crate) static PLANNED_40: Form = Form::Then(
+pub(crate) static PLANNED_39: Form = Form::Then(
     &Form::Rule(Rule::UnsafeOnly),
     &Form::Then(
         &Form::When(
@@ -650,11 +642,11 @@ pub(crate) static PLANNED_40: Form = Form::Then(
             &Form::Rule(Rule::Abi),
             &Form::Empty,
         ),
-        &Form::Part(Part::Planned39),
+        &Form::Part(Part::Planned38),
     ),
 );
 
-pub(crate) static PLANNED_41: Form = Form::Then(
+pub(crate) static PLANNED_40: Form = Form::Then(
     &Form::When(
         Look::Word(Word::Where),
         &Form::Then(
@@ -666,7 +658,7 @@ pub(crate) static PLANNED_41: Form = Form::Then(
     &Form::Then(&Form::Mark(Mark::Semi), &Form::Empty),
 );
 
-pub(crate) static PLANNED_42: Form = Form::Then(
+pub(crate) static PLANNED_41: Form = Form::Then(
     &Form::Rule(Rule::Type),
     &Form::Then(
         &Form::When(
@@ -674,11 +666,11 @@ pub(crate) static PLANNED_42: Form = Form::Then(
             &Form::Then(&Form::Mark(Mark::Eq), &Form::Rule(Rule::WholeExpression)),
             &Form::Empty,
         ),
-        &Form::Part(Part::Planned41),
+        &Form::Part(Part::Planned40),
     ),
 );
 
-pub(crate) static PLANNED_43: Form = Form::Then(
+pub(crate) static PLANNED_42: Form = Form::Then(
     &Form::Token(Token::NameOrUnderscore),
     &Form::Then(
         &Form::When(
@@ -686,11 +678,11 @@ pub(crate) static PLANNED_43: Form = Form::Then(
             &Form::Ordered(List::Parameters),
             &Form::Empty,
         ),
-        &Form::Then(&Form::Mark(Mark::Colon), &Form::Part(Part::Planned42)),
+        &Form::Then(&Form::Mark(Mark::Colon), &Form::Part(Part::Planned41)),
     ),
 );
 
-pub(crate) static PLANNED_44: Form = Form::When(
+pub(crate) static PLANNED_43: Form = Form::When(
     Look::Or(
         &Look::Word(Word::Async),
         &Look::Or(
@@ -704,12 +696,12 @@ pub(crate) static PLANNED_44: Form = Form::When(
             &Form::Token(Token::Word(Word::Async)),
             &Form::Empty,
         ),
-        &Form::Part(Part::Planned40),
+        &Form::Part(Part::Planned39),
     ),
-    &Form::Part(Part::Planned43),
+    &Form::Part(Part::Planned42),
 );
 
-pub(crate) static PLANNED_45: Form = Form::Then(
+pub(crate) static PLANNED_44: Form = Form::Then(
     &Form::Rule(Rule::Signature),
     &Form::When(
         Look::Mark(Mark::Semi),
@@ -718,15 +710,15 @@ pub(crate) static PLANNED_45: Form = Form::Then(
     ),
 );
 
-pub(crate) static PLANNED_46: Form = Form::Then(
+pub(crate) static PLANNED_45: Form = Form::Then(
     &Form::Token(Token::Word(Word::Type)),
     &Form::Then(
         &Form::Token(Token::Name),
-        &Form::Then(&Form::Rule(Rule::Generics), &Form::Part(Part::Planned38)),
+        &Form::Then(&Form::Rule(Rule::Generics), &Form::Part(Part::Planned37)),
     ),
 );
 
-pub(crate) static PLANNED_47: Form = Form::Then(
+pub(crate) static PLANNED_46: Form = Form::Then(
     &Form::When(
         Look::Word(Word::Where),
         &Form::Then(
@@ -738,7 +730,7 @@ pub(crate) static PLANNED_47: Form = Form::Then(
     &Form::Then(&Form::Mark(Mark::Semi), &Form::Empty),
 );
 
-pub(crate) static PLANNED_48: Form = Form::Then(
+pub(crate) static PLANNED_47: Form = Form::Then(
     &Form::Rule(Rule::Type),
     &Form::Then(
         &Form::When(
@@ -746,11 +738,11 @@ pub(crate) static PLANNED_48: Form = Form::Then(
             &Form::Then(&Form::Mark(Mark::Eq), &Form::Rule(Rule::WholeExpression)),
             &Form::Empty,
         ),
-        &Form::Part(Part::Planned47),
+        &Form::Part(Part::Planned46),
     ),
 );
 
-pub(crate) static PLANNED_49: Form = Form::Then(
+pub(crate) static PLANNED_48: Form = Form::Then(
     &Form::Then(
         &Form::Token(Token::Word(Word::Where)),
         &Form::Rule(Rule::Predicates),
@@ -758,7 +750,7 @@ pub(crate) static PLANNED_49: Form = Form::Then(
     &Form::Then(&Form::Mark(Mark::Semi), &Form::Empty),
 );
 
-pub(crate) static PLANNED_50: Form = Form::Then(
+pub(crate) static PLANNED_49: Form = Form::Then(
     &Form::Rule(Rule::Type),
     &Form::Then(
         &Form::When(
@@ -766,45 +758,45 @@ pub(crate) static PLANNED_50: Form = Form::Then(
             &Form::Then(&Form::Mark(Mark::Eq), &Form::Rule(Rule::WholeExpression)),
             &Form::Empty,
         ),
-        &Form::Part(Part::Planned49),
+        &Form::Part(Part::Planned48),
     ),
 );
 
-pub(crate) static PLANNED_51: Form = Form::When(
+pub(crate) static PLANNED_50: Form = Form::When(
     Look::Mark(Mark::Lt),
     &Form::Then(
         &Form::Ordered(List::Parameters),
-        &Form::Then(&Form::Mark(Mark::Colon), &Form::Part(Part::Planned48)),
+        &Form::Then(&Form::Mark(Mark::Colon), &Form::Part(Part::Planned47)),
     ),
-    &Form::Then(&Form::Mark(Mark::Colon), &Form::Part(Part::Planned50)),
+    &Form::Then(&Form::Mark(Mark::Colon), &Form::Part(Part::Planned49)),
 );
 
-pub(crate) static PLANNED_52: Form = Form::Then(
+pub(crate) static PLANNED_51: Form = Form::Then(
     &Form::Token(Token::Word(Word::Default)),
     &Form::When(
         Look::Word(Word::Type),
-        &Form::Part(Part::Planned46),
+        &Form::Part(Part::Planned45),
         &Form::When(
             Look::Word(Word::Const),
             &Form::Then(
                 &Form::Token(Token::Word(Word::Const)),
-                &Form::Part(Part::Planned44),
+                &Form::Part(Part::Planned43),
             ),
-            &Form::Part(Part::Planned45),
+            &Form::Part(Part::Planned44),
         ),
     ),
 );
 
-pub(crate) static PLANNED_53: Form = Form::When(
+pub(crate) static PLANNED_52: Form = Form::When(
     Look::Mark(Mark::Eq),
     &Form::Then(&Form::Mark(Mark::Eq), &Form::Rule(Rule::Type)),
     &Form::Empty,
 );
 
-pub(crate) static PLANNED_54: Form = Form::Then(
+pub(crate) static PLANNED_53: Form = Form::Then(
     &Form::Fading(Fading::TypeBounds),
     &Form::Then(
-        &Form::Part(Part::Planned53),
+        &Form::Part(Part::Planned52),
         &Form::Then(
             &Form::Rule(Rule::WhereClause),
             &Form::Then(&Form::Mark(Mark::Semi), &Form::Empty),
@@ -812,7 +804,7 @@ pub(crate) static PLANNED_54: Form = Form::Then(
     ),
 );
 
-pub(crate) static PLANNED_55: Form = Form::Then(
+pub(crate) static PLANNED_54: Form = Form::Then(
     &Form::Rule(Rule::SignatureRest),
     &Form::When(
         Look::Mark(Mark::Semi),
@@ -821,7 +813,7 @@ pub(crate) static PLANNED_55: Form = Form::Then(
     ),
 );
 
-pub(crate) static PLANNED_56: Form = Form::Then(
+pub(crate) static PLANNED_55: Form = Form::Then(
     &Form::Rule(Rule::UnsafeOnly),
     &Form::Then(
         &Form::When(
@@ -829,11 +821,11 @@ pub(crate) static PLANNED_56: Form = Form::Then(
             &Form::Rule(Rule::Abi),
             &Form::Empty,
         ),
-        &Form::Part(Part::Planned55),
+        &Form::Part(Part::Planned54),
     ),
 );
 
-pub(crate) static PLANNED_57: Form = Form::Then(
+pub(crate) static PLANNED_56: Form = Form::Then(
     &Form::When(
         Look::Word(Word::Where),
         &Form::Then(
@@ -845,7 +837,7 @@ pub(crate) static PLANNED_57: Form = Form::Then(
     &Form::Then(&Form::Mark(Mark::Semi), &Form::Empty),
 );
 
-pub(crate) static PLANNED_58: Form = Form::Then(
+pub(crate) static PLANNED_57: Form = Form::Then(
     &Form::Rule(Rule::Type),
     &Form::Then(
         &Form::When(
@@ -853,11 +845,11 @@ pub(crate) static PLANNED_58: Form = Form::Then(
             &Form::Then(&Form::Mark(Mark::Eq), &Form::Rule(Rule::WholeExpression)),
             &Form::Empty,
         ),
-        &Form::Part(Part::Planned57),
+        &Form::Part(Part::Planned56),
     ),
 );
 
-pub(crate) static PLANNED_59: Form = Form::Then(
+pub(crate) static PLANNED_58: Form = Form::Then(
     &Form::Token(Token::NameOrUnderscore),
     &Form::Then(
         &Form::When(
@@ -865,11 +857,11 @@ pub(crate) static PLANNED_59: Form = Form::Then(
             &Form::Ordered(List::Parameters),
             &Form::Empty,
         ),
-        &Form::Then(&Form::Mark(Mark::Colon), &Form::Part(Part::Planned58)),
+        &Form::Then(&Form::Mark(Mark::Colon), &Form::Part(Part::Planned57)),
     ),
 );
 
-pub(crate) static PLANNED_60: Form = Form::When(
+pub(crate) static PLANNED_59: Form = Form::When(
     Look::Or(
         &Look::Word(Word::Async),
         &Look::Or(
@@ -883,12 +875,12 @@ pub(crate) static PLANNED_60: Form = Form::When(
             &Form::Token(Token::Word(Word::Async)),
             &Form::Empty,
         ),
-        &Form::Part(Part::Planned56),
+        &Form::Part(Part::Planned55),
     ),
-    &Form::Part(Part::Planned59),
+    &Form::Part(Part::Planned58),
 );
 
-pub(crate) static PLANNED_61: Form = Form::Then(
+pub(crate) static PLANNED_60: Form = Form::Then(
     &Form::Rule(Rule::Signature),
     &Form::When(
         Look::Mark(Mark::Semi),
@@ -897,24 +889,24 @@ pub(crate) static PLANNED_61: Form = Form::Then(
     ),
 );
 
-pub(crate) static PLANNED_62: Form = Form::Then(
+pub(crate) static PLANNED_61: Form = Form::Then(
     &Form::Token(Token::Word(Word::Type)),
     &Form::Then(
         &Form::Token(Token::Name),
-        &Form::Then(&Form::Rule(Rule::Generics), &Form::Part(Part::Planned54)),
+        &Form::Then(&Form::Rule(Rule::Generics), &Form::Part(Part::Planned53)),
     ),
 );
 
-pub(crate) static PLANNED_63: Form = Form::When(
+pub(crate) static PLANNED_62: Form = Form::When(
     Look::Mark(Mark::Eq),
     &Form::Then(&Form::Mark(Mark::Eq), &Form::Rule(Rule::Type)),
     &Form::Empty,
 );
 
-pub(crate) static PLANNED_64: Form = Form::Then(
+pub(crate) static PLANNED_63: Form = Form::Then(
     &Form::Fading(Fading::TypeBounds),
     &Form::Then(
-        &Form::Part(Part::Planned63),
+        &Form::Part(Part::Planned62),
         &Form::Then(
             &Form::Rule(Rule::WhereClause),
             &Form::Then(&Form::Mark(Mark::Semi), &Form::Empty),
@@ -922,7 +914,7 @@ pub(crate) static PLANNED_64: Form = Form::Then(
     ),
 );
 
-pub(crate) static PLANNED_65: Form = Form::Then(
+pub(crate) static PLANNED_64: Form = Form::Then(
     &Form::Rule(Rule::SignatureRest),
     &Form::When(
         Look::Mark(Mark::Semi),
@@ -931,7 +923,7 @@ pub(crate) static PLANNED_65: Form = Form::Then(
     ),
 );
 
-pub(crate) static PLANNED_66: Form = Form::Then(
+pub(crate) static PLANNED_65: Form = Form::Then(
     &Form::Rule(Rule::UnsafeOnly),
     &Form::Then(
         &Form::When(
@@ -939,11 +931,11 @@ pub(crate) static PLANNED_66: Form = Form::Then(
             &Form::Rule(Rule::Abi),
             &Form::Empty,
         ),
-        &Form::Part(Part::Planned65),
+        &Form::Part(Part::Planned64),
     ),
 );
 
-pub(crate) static PLANNED_67: Form = Form::Then(
+pub(crate) static PLANNED_66: Form = Form::Then(
     &Form::Rule(Rule::ModulePath),
     &Form::Then(
         &Form::When(
@@ -955,7 +947,7 @@ pub(crate) static PLANNED_67: Form = Form::Then(
     ),
 );
 
-pub(crate) static PLANNED_68: Form = Form::Then(
+pub(crate) static PLANNED_67: Form = Form::Then(
     &Form::Rule(Rule::Signature),
     &Form::When(
         Look::Mark(Mark::Semi),
@@ -964,7 +956,7 @@ pub(crate) static PLANNED_68: Form = Form::Then(
     ),
 );
 
-pub(crate) static PLANNED_69: Form = Form::Then(
+pub(crate) static PLANNED_68: Form = Form::Then(
     &Form::When(
         Look::Word(Word::Where),
         &Form::Then(
@@ -976,7 +968,7 @@ pub(crate) static PLANNED_69: Form = Form::Then(
     &Form::Then(&Form::Mark(Mark::Semi), &Form::Empty),
 );
 
-pub(crate) static PLANNED_70: Form = Form::Then(
+pub(crate) static PLANNED_69: Form = Form::Then(
     &Form::Rule(Rule::TypeBounds),
     &Form::Then(
         &Form::When(
@@ -984,35 +976,35 @@ pub(crate) static PLANNED_70: Form = Form::Then(
             &Form::Then(&Form::Mark(Mark::Eq), &Form::Rule(Rule::Type)),
             &Form::Empty,
         ),
-        &Form::Part(Part::Planned69),
+        &Form::Part(Part::Planned68),
     ),
+);
+
+pub(crate) static PLANNED_70: Form = Form::Then(
+    &Form::When(
+        Look::Word(Word::Where),
+        &Form::Then(
+            &Form::Token(Token::Word(Word::Where)),
+            &Form::Rule(Rule::Predicates),
+        ),
+        &Form::Empty,
+    ),
+    &Form::Then(&Form::Mark(Mark::Semi), &Form::Empty),
 );
 
 pub(crate) static PLANNED_71: Form = Form::Then(
-    &Form::When(
-        Look::Word(Word::Where),
-        &Form::Then(
-            &Form::Token(Token::Word(Word::Where)),
-            &Form::Rule(Rule::Predicates),
+    &Form::Rule(Rule::ModulePath),
+    &Form::Then(
+        &Form::When(
+            Look::Bang,
+            &Form::Mark(Mark::Not),
+            &Form::Never(Fault::Unexpected),
         ),
-        &Form::Empty,
+        &Form::Then(&Form::Rule(Rule::MacroEnd), &Form::Empty),
     ),
-    &Form::Then(&Form::Mark(Mark::Semi), &Form::Empty),
 );
 
 pub(crate) static PLANNED_72: Form = Form::Then(
-    &Form::Rule(Rule::ModulePath),
-    &Form::Then(
-        &Form::When(
-            Look::Bang,
-            &Form::Mark(Mark::Not),
-            &Form::Never(Fault::Unexpected),
-        ),
-        &Form::Then(&Form::Rule(Rule::MacroEnd), &Form::Empty),
-    ),
-);
-
-pub(crate) static PLANNED_73: Form = Form::Then(
     &Form::When(
         Look::Word(Word::Where),
         &Form::Then(
@@ -1024,7 +1016,7 @@ pub(crate) static PLANNED_73: Form = Form::Then(
     &Form::Then(&Form::Mark(Mark::Semi), &Form::Empty),
 );
 
-pub(crate) static PLANNED_74: Form = Form::Then(
+pub(crate) static PLANNED_73: Form = Form::Then(
     &Form::Rule(Rule::ModulePath),
     &Form::Then(
         &Form::When(
@@ -1036,7 +1028,7 @@ pub(crate) static PLANNED_74: Form = Form::Then(
     ),
 );
 
-pub(crate) static PLANNED_75: Form = Form::When(
+pub(crate) static PLANNED_74: Form = Form::When(
     Look::Group(Delimiter::Brace),
     &Form::Then(
         &Form::Raw(Delimiter::Brace),
@@ -1049,7 +1041,7 @@ pub(crate) static PLANNED_75: Form = Form::When(
     &Form::Never(Fault::Unexpected),
 );
 
-pub(crate) static PLANNED_76: Form = Form::Then(
+pub(crate) static PLANNED_75: Form = Form::Then(
     &Form::When(
         Look::Or(&Look::Name, &Look::Word(Word::Try)),
         &Form::Token(Token::NameOrTry),
@@ -1065,7 +1057,7 @@ pub(crate) static PLANNED_76: Form = Form::Then(
     ),
 );
 
-pub(crate) static PLANNED_77: Form = Form::When(
+pub(crate) static PLANNED_76: Form = Form::When(
     Look::Group(Delimiter::Brace),
     &Form::Then(
         &Form::Raw(Delimiter::Brace),
@@ -1075,10 +1067,10 @@ pub(crate) static PLANNED_77: Form = Form::When(
             &Form::Then(&Form::Rule(Rule::StatementEnd), &Form::Empty),
         ),
     ),
-    &Form::Part(Part::Planned76),
+    &Form::Part(Part::Planned75),
 );
 
-pub(crate) static PLANNED_78: Form = Form::Then(
+pub(crate) static PLANNED_77: Form = Form::Then(
     &Form::Rule(Rule::ModulePath),
     &Form::Then(
         &Form::When(
@@ -1086,11 +1078,11 @@ pub(crate) static PLANNED_78: Form = Form::Then(
             &Form::Mark(Mark::Not),
             &Form::Never(Fault::Unexpected),
         ),
-        &Form::Part(Part::Planned75),
+        &Form::Part(Part::Planned74),
     ),
 );
 
-pub(crate) static PLANNED_79: Form = Form::Then(
+pub(crate) static PLANNED_78: Form = Form::Then(
     &Form::Rule(Rule::Generics),
     &Form::Then(
         &Form::Rule(Rule::WhereClause),
@@ -1101,7 +1093,7 @@ pub(crate) static PLANNED_79: Form = Form::Then(
     ),
 );
 
-pub(crate) static PLANNED_80: Form = Form::Then(
+pub(crate) static PLANNED_79: Form = Form::Then(
     &Form::Token(Token::Name),
     &Form::Then(
         &Form::Rule(Rule::Generics),
@@ -1112,7 +1104,7 @@ pub(crate) static PLANNED_80: Form = Form::Then(
     ),
 );
 
-pub(crate) static PLANNED_81: Form = Form::Then(
+pub(crate) static PLANNED_80: Form = Form::Then(
     &Form::Token(Token::Word(Word::Struct)),
     &Form::Then(
         &Form::Token(Token::Name),
@@ -1123,19 +1115,19 @@ pub(crate) static PLANNED_81: Form = Form::Then(
     ),
 );
 
-pub(crate) static PLANNED_82: Form = Form::When(
+pub(crate) static PLANNED_81: Form = Form::When(
     Look::Word(Word::Enum),
     &Form::Then(
         &Form::Token(Token::Word(Word::Enum)),
-        &Form::Then(&Form::Token(Token::Name), &Form::Part(Part::Planned79)),
+        &Form::Then(&Form::Token(Token::Name), &Form::Part(Part::Planned78)),
     ),
     &Form::Then(
         &Form::Token(Token::Word(Word::Union)),
-        &Form::Part(Part::Planned80),
+        &Form::Part(Part::Planned79),
     ),
 );
 
-pub(crate) static PLANNED_83: Form = Form::When(
+pub(crate) static PLANNED_82: Form = Form::When(
     Look::BlockLike,
     &Form::Shaped(
         Shape::Said,
@@ -1153,7 +1145,7 @@ pub(crate) static PLANNED_83: Form = Form::When(
     ),
 );
 
-pub(crate) static PLANNED_84: Form = Form::Shaped(
+pub(crate) static PLANNED_83: Form = Form::Shaped(
     Shape::SaidMacro,
     &Form::Then(
         &Form::Shaped(
@@ -1164,73 +1156,38 @@ pub(crate) static PLANNED_84: Form = Form::Shaped(
     ),
 );
 
-pub(crate) static PLANNED_85: Form = Form::When(
+pub(crate) static PLANNED_84: Form = Form::When(
     Look::CrateMacro,
     &Form::Rule(Rule::CrateMacro),
     &Form::When(
         Look::BraceMacro,
-        &Form::Part(Part::Planned84),
+        &Form::Part(Part::Planned83),
         &Form::When(
             Look::Word(Word::Let),
             &Form::Shaped(Shape::ALocal, &Form::Rule(Rule::Local)),
-            &Form::Part(Part::Planned83),
+            &Form::Part(Part::Planned82),
         ),
     ),
 );
 
-pub(crate) static PLANNED_86: Form = Form::Then(
-    &Form::Rule(Rule::Type),
-    &Form::When(
-        Look::Word(Word::Where),
-        &Form::Then(
-            &Form::Rule(Rule::WhereClause),
-            &Form::Never(Fault::Unexpected),
-        ),
-        &Form::Then(&Form::Mark(Mark::Semi), &Form::Empty),
-    ),
-);
+static ITEM: Plan = Plan::Reads(&Form::Rule(Rule::Attributes), &Plan::Go(Stage::Stage93));
 
-pub(crate) static PLANNED_87: Form = Form::Then(
-    &Form::Mark(Mark::Eq),
-    &Form::Then(
-        &Form::Rule(Rule::Type),
-        &Form::Then(
-            &Form::Rule(Rule::WhereClause),
-            &Form::Then(&Form::Mark(Mark::Semi), &Form::Empty),
-        ),
-    ),
-);
-
-pub(crate) static PLANNED_88: Form = Form::Then(
-    &Form::Rule(Rule::Generics),
-    &Form::When(
-        Look::Word(Word::Where),
-        &Form::Then(
-            &Form::Rule(Rule::WhereClause),
-            &Form::Then(&Form::Mark(Mark::Eq), &Form::Part(Part::Planned86)),
-        ),
-        &Form::Part(Part::Planned87),
-    ),
-);
-
-static ITEM: Plan = Plan::Reads(&Form::Rule(Rule::Attributes), &Plan::Go(Stage::Stage91));
-
-static TRAIT_ITEM: Plan = Plan::Reads(&Form::Rule(Rule::Attributes), &Plan::Go(Stage::Stage101));
+static TRAIT_ITEM: Plan = Plan::Reads(&Form::Rule(Rule::Attributes), &Plan::Go(Stage::Stage103));
 
 static IMPL_ITEM: Plan = Plan::Reads(
     &Form::Rule(Rule::Attributes),
     &Plan::Turns(
         Look::Or(&Look::Word(Word::Pub), &Look::EmptyGroup),
-        &Plan::Go(Stage::Stage107),
         &Plan::Go(Stage::Stage110),
+        &Plan::Go(Stage::Stage113),
     ),
 );
 
-static FOREIGN_ITEM: Plan = Plan::Reads(&Form::Rule(Rule::Attributes), &Plan::Go(Stage::Stage129));
+static FOREIGN_ITEM: Plan = Plan::Reads(&Form::Rule(Rule::Attributes), &Plan::Go(Stage::Stage132));
 
 static CRATE_MACRO: Plan = Plan::Rest(&Form::When(
     Look::NoMacroItem,
-    &Form::Part(Part::Planned78),
+    &Form::Part(Part::Planned77),
     &Form::Then(
         &Form::Rule(Rule::ModulePath),
         &Form::Then(
@@ -1239,7 +1196,7 @@ static CRATE_MACRO: Plan = Plan::Rest(&Form::When(
                 &Form::Mark(Mark::Not),
                 &Form::Never(Fault::Unexpected),
             ),
-            &Form::Part(Part::Planned77),
+            &Form::Part(Part::Planned76),
         ),
     ),
 ));
@@ -1250,32 +1207,32 @@ static DERIVE_INPUT: Plan = Plan::Rest(&Form::Then(
         &Form::Rule(Rule::Visibility),
         &Form::When(
             Look::Word(Word::Struct),
+            &Form::Part(Part::Planned80),
             &Form::Part(Part::Planned81),
-            &Form::Part(Part::Planned82),
         ),
     ),
 ));
 
-static STATEMENTS: Plan = Plan::Reads(&Form::Rule(Rule::Attributes), &Plan::Go(Stage::Stage130));
+static STATEMENTS: Plan = Plan::Reads(&Form::Rule(Rule::Attributes), &Plan::Go(Stage::Stage133));
 
 static STATEMENT: Plan = Plan::Reads(
     &Form::Rule(Rule::Attributes),
     &Plan::Turns(
         Look::Item,
-        &Plan::Go(Stage::Stage91),
-        &Plan::Rest(&Form::Then(&Form::Part(Part::Planned85), &Form::Empty)),
+        &Plan::Go(Stage::Stage93),
+        &Plan::Rest(&Form::Then(&Form::Part(Part::Planned84), &Form::Empty)),
     ),
 );
 
-static USE_ITEM_REST: Plan = Plan::Reads(&Form::Rule(Rule::Visibility), &Plan::Go(Stage::Stage131));
+static USE_ITEM_REST: Plan = Plan::Reads(&Form::Rule(Rule::Visibility), &Plan::Go(Stage::Stage134));
 
-static TYPE_ITEM_REST: Plan = Plan::Rest(&Form::Then(
+static TYPE_ITEM_REST: Plan = Plan::Reads(
     &Form::Rule(Rule::Visibility),
-    &Form::Then(
+    &Plan::Reads(
         &Form::Token(Token::Word(Word::Type)),
-        &Form::Then(&Form::Token(Token::Name), &Form::Part(Part::Planned88)),
+        &Plan::Reads(&Form::Token(Token::Name), &Plan::Go(Stage::Stage135)),
     ),
-));
+);
 
 static IMPL_DEFINITION_REST: Plan = Plan::Reads(
     &Form::When(
@@ -1289,7 +1246,7 @@ static IMPL_DEFINITION_REST: Plan = Plan::Reads(
             &Form::Token(Token::Word(Word::Const)),
             &Form::Empty,
         ),
-        &Plan::Go(Stage::Stage134),
+        &Plan::Go(Stage::Stage138),
     ),
 );
 
@@ -1319,51 +1276,66 @@ static STAGE4: Plan = Plan::Kept(&Form::Then(
     &Form::Then(&Form::Rule(Rule::TypeBounds), &Form::Part(Part::Planned5)),
 ));
 
-static STAGE5: Plan = Plan::Kept(&Form::Then(&Form::Mark(Mark::Semi), &Form::Empty));
+static STAGE5: Plan = Plan::Rest(&Form::Never(Fault::Unexpected));
 
-static STAGE6: Plan = Plan::Reads(
-    &Form::Rule(Rule::WhereClause),
-    &Plan::Turns(
-        Look::Mark(Mark::Eq),
-        &Plan::Rest(&Form::Then(&Form::Mark(Mark::Eq), &Form::Part(Part::Planned6))),
-        &Plan::Go(Stage::Stage5),
-    ),
-);
+static STAGE6: Plan = Plan::Rest(&Form::Then(&Form::Mark(Mark::Semi), &Form::Empty));
 
-static STAGE7: Plan = Plan::Rest(&Form::Then(
-    &Form::Mark(Mark::Eq),
-    &Form::Then(
-        &Form::Rule(Rule::Type),
-        &Form::Then(
-            &Form::Rule(Rule::WhereClause),
-            &Form::Then(&Form::Mark(Mark::Semi), &Form::Empty),
-        ),
-    ),
-));
-
-static STAGE8: Plan = Plan::Turns(
-    Look::Mark(Mark::Colon),
-    &Plan::Go(Stage::Stage4),
+static STAGE7: Plan = Plan::Reads(
+    &Form::Rule(Rule::Type),
     &Plan::Turns(
         Look::Word(Word::Where),
+        &Plan::Reads(&Form::Rule(Rule::WhereClause), &Plan::Go(Stage::Stage5)),
         &Plan::Go(Stage::Stage6),
+    ),
+);
+
+static STAGE8: Plan = Plan::Reads(&Form::Mark(Mark::Eq), &Plan::Go(Stage::Stage7));
+
+static STAGE9: Plan = Plan::Kept(&Form::Then(&Form::Mark(Mark::Semi), &Form::Empty));
+
+static STAGE10: Plan = Plan::Reads(
+    &Form::Mark(Mark::Eq),
+    &Plan::Reads(
+        &Form::Rule(Rule::Type),
+        &Plan::Reads(&Form::Rule(Rule::WhereClause), &Plan::Go(Stage::Stage6)),
+    ),
+);
+
+static STAGE11: Plan = Plan::Turns(
+    Look::Word(Word::Where),
+    &Plan::Reads(
+        &Form::Rule(Rule::WhereClause),
         &Plan::Turns(
             Look::Mark(Mark::Eq),
-            &Plan::Go(Stage::Stage7),
-            &Plan::Go(Stage::Stage5),
+            &Plan::Go(Stage::Stage8),
+            &Plan::Go(Stage::Stage9),
+        ),
+    ),
+    &Plan::Turns(
+        Look::Mark(Mark::Eq),
+        &Plan::Go(Stage::Stage10),
+        &Plan::Go(Stage::Stage9),
+    ),
+);
+
+static STAGE12: Plan = Plan::Reads(
+    &Form::Token(Token::Name),
+    &Plan::Reads(
+        &Form::Rule(Rule::Generics),
+        &Plan::Turns(
+            Look::Mark(Mark::Colon),
+            &Plan::Go(Stage::Stage4),
+            &Plan::Go(Stage::Stage11),
         ),
     ),
 );
 
-static STAGE9: Plan = Plan::Reads(
+static STAGE13: Plan = Plan::Reads(
     &Form::Token(Token::Word(Word::Type)),
-    &Plan::Reads(
-        &Form::Token(Token::Name),
-        &Plan::Reads(&Form::Rule(Rule::Generics), &Plan::Go(Stage::Stage8)),
-    ),
+    &Plan::Go(Stage::Stage12),
 );
 
-static STAGE10: Plan = Plan::Rest(&Form::Then(
+static STAGE14: Plan = Plan::Rest(&Form::Then(
     &Form::Mark(Mark::Eq),
     &Form::Then(
         &Form::Rule(Rule::WholeExpression),
@@ -1371,19 +1343,19 @@ static STAGE10: Plan = Plan::Rest(&Form::Then(
     ),
 ));
 
-static STAGE11: Plan = Plan::Reads(
+static STAGE15: Plan = Plan::Reads(
     &Form::Mark(Mark::Colon),
     &Plan::Reads(
         &Form::Rule(Rule::Type),
         &Plan::Turns(
             Look::Mark(Mark::Eq),
-            &Plan::Go(Stage::Stage10),
-            &Plan::Go(Stage::Stage5),
+            &Plan::Go(Stage::Stage14),
+            &Plan::Go(Stage::Stage9),
         ),
     ),
 );
 
-static STAGE12: Plan = Plan::Kept(&Form::Then(
+static STAGE16: Plan = Plan::Kept(&Form::Then(
     &Form::Mark(Mark::Eq),
     &Form::Then(
         &Form::Rule(Rule::WholeExpression),
@@ -1391,7 +1363,7 @@ static STAGE12: Plan = Plan::Kept(&Form::Then(
     ),
 ));
 
-static STAGE13: Plan = Plan::Reads(
+static STAGE17: Plan = Plan::Reads(
     &Form::When(
         Look::Word(Word::Mut),
         &Form::Token(Token::Word(Word::Mut)),
@@ -1401,20 +1373,18 @@ static STAGE13: Plan = Plan::Reads(
         &Form::Token(Token::Name),
         &Plan::Turns(
             Look::Mark(Mark::Colon),
-            &Plan::Go(Stage::Stage11),
-            &Plan::Go(Stage::Stage12),
+            &Plan::Go(Stage::Stage15),
+            &Plan::Go(Stage::Stage16),
         ),
     ),
 );
 
-static STAGE14: Plan = Plan::Reads(
+static STAGE18: Plan = Plan::Reads(
     &Form::Token(Token::Word(Word::Static)),
-    &Plan::Go(Stage::Stage13),
+    &Plan::Go(Stage::Stage17),
 );
 
-static STAGE15: Plan = Plan::Rest(&Form::Then(&Form::Mark(Mark::Semi), &Form::Empty));
-
-static STAGE16: Plan = Plan::Rest(&Form::Then(
+static STAGE19: Plan = Plan::Rest(&Form::Then(
     &Form::When(
         Look::Mark(Mark::PathSep),
         &Form::Mark(Mark::PathSep),
@@ -1426,101 +1396,101 @@ static STAGE16: Plan = Plan::Rest(&Form::Then(
     ),
 ));
 
-static STAGE17: Plan = Plan::Reads(
+static STAGE20: Plan = Plan::Reads(
     &Form::Token(Token::Word(Word::Use)),
     &Plan::Turns(
         Look::Group(Delimiter::Brace),
-        &Plan::Rooted(&Plan::Go(Stage::Stage5), &Plan::Go(Stage::Stage15)),
-        &Plan::Go(Stage::Stage16),
+        &Plan::Rooted(&Plan::Go(Stage::Stage9), &Plan::Go(Stage::Stage6)),
+        &Plan::Go(Stage::Stage19),
     ),
 );
 
-static STAGE18: Plan = Plan::Rest(&Form::Then(
+static STAGE21: Plan = Plan::Rest(&Form::Then(
     &Form::Token(Token::Word(Word::Mod)),
     &Form::Then(
         &Form::Token(Token::NameOrTry),
         &Form::When(
             Look::Mark(Mark::Semi),
             &Form::Then(&Form::Mark(Mark::Semi), &Form::Empty),
-            &Form::Part(Part::Planned7),
+            &Form::Part(Part::Planned6),
         ),
     ),
 ));
 
-static STAGE19: Plan = Plan::Rest(&Form::Then(
+static STAGE22: Plan = Plan::Rest(&Form::Then(
     &Form::Token(Token::Word(Word::Trait)),
-    &Form::Part(Part::Planned10),
+    &Form::Part(Part::Planned9),
 ));
 
-static STAGE20: Plan = Plan::Rest(&Form::Then(
+static STAGE23: Plan = Plan::Rest(&Form::Then(
     &Form::When(
         Look::Word(Word::Auto),
         &Form::Token(Token::Word(Word::Auto)),
         &Form::Empty,
     ),
+    &Form::Part(Part::Planned11),
+));
+
+static STAGE24: Plan = Plan::Kept(&Form::Then(
+    &Form::Token(Token::Word(Word::Macro)),
     &Form::Part(Part::Planned12),
 ));
 
-static STAGE21: Plan = Plan::Kept(&Form::Then(
-    &Form::Token(Token::Word(Word::Macro)),
-    &Form::Part(Part::Planned13),
-));
-
-static STAGE22: Plan = Plan::Turns(
+static STAGE25: Plan = Plan::Turns(
     Look::Mark(Mark::Semi),
-    &Plan::Go(Stage::Stage5),
+    &Plan::Go(Stage::Stage9),
     &Plan::Rest(&Form::Then(&Form::Rule(Rule::Body), &Form::Empty)),
 );
 
-static STAGE23: Plan = Plan::Reads(&Form::Rule(Rule::Signature), &Plan::Go(Stage::Stage22));
+static STAGE26: Plan = Plan::Reads(&Form::Rule(Rule::Signature), &Plan::Go(Stage::Stage25));
 
-static STAGE24: Plan = Plan::Rest(&Form::Then(
+static STAGE27: Plan = Plan::Rest(&Form::Then(
     &Form::Token(Token::Word(Word::Crate)),
     &Form::Then(
         &Form::Token(Token::NameOrSelf),
-        &Form::Part(Part::Planned14),
+        &Form::Part(Part::Planned13),
     ),
 ));
 
-static STAGE25: Plan = Plan::Reads(&Form::Rule(Rule::SignatureRest), &Plan::Go(Stage::Stage22));
+static STAGE28: Plan = Plan::Reads(&Form::Rule(Rule::SignatureRest), &Plan::Go(Stage::Stage25));
 
-static STAGE26: Plan = Plan::Reads(
+static STAGE29: Plan = Plan::Reads(
     &Form::When(Look::StrLiteral, &Form::Token(Token::Str), &Form::Empty),
-    &Plan::Go(Stage::Stage25),
+    &Plan::Go(Stage::Stage28),
 );
 
-static STAGE27: Plan = Plan::Reads(
+static STAGE30: Plan = Plan::Reads(
     &Form::Token(Token::Word(Word::Extern)),
     &Plan::Turns(
         Look::Word(Word::Crate),
-        &Plan::Go(Stage::Stage24),
-        &Plan::Go(Stage::Stage26),
+        &Plan::Go(Stage::Stage27),
+        &Plan::Go(Stage::Stage29),
     ),
 );
 
-static STAGE28: Plan = Plan::Turns(
+static STAGE31: Plan = Plan::Turns(
     Look::Or(&Look::Word(Word::Trait), &Look::Word(Word::Auto)),
-    &Plan::Go(Stage::Stage20),
+    &Plan::Go(Stage::Stage23),
     &Plan::Turns(
         Look::Word(Word::Extern),
         &Plan::Reads(
             &Form::Token(Token::Word(Word::Extern)),
-            &Plan::Go(Stage::Stage26),
+            &Plan::Go(Stage::Stage29),
         ),
-        &Plan::Go(Stage::Stage25),
-    ),
-);
-
-static STAGE29: Plan = Plan::Reads(
-    &Form::Token(Token::Word(Word::Unsafe)),
-    &Plan::Turns(
-        Look::Word(Word::Mod),
-        &Plan::Go(Stage::Stage18),
         &Plan::Go(Stage::Stage28),
     ),
 );
 
-static STAGE30: Plan = Plan::Kept(&Form::Then(
+static STAGE32: Plan = Plan::Reads(
+    &Form::Token(Token::Word(Word::Unsafe)),
+    &Plan::Turns(
+        Look::Word(Word::Mod),
+        &Plan::Go(Stage::Stage21),
+        &Plan::Go(Stage::Stage31),
+    ),
+);
+
+static STAGE33: Plan = Plan::Kept(&Form::Then(
     &Form::Token(Token::Word(Word::Impl)),
     &Form::Then(
         &Form::When(
@@ -1528,30 +1498,30 @@ static STAGE30: Plan = Plan::Kept(&Form::Then(
             &Form::Ordered(List::Parameters),
             &Form::Empty,
         ),
-        &Form::Part(Part::Planned17),
+        &Form::Part(Part::Planned16),
     ),
 ));
 
-static STAGE31: Plan = Plan::Reads(
+static STAGE34: Plan = Plan::Reads(
     &Form::When(
         Look::Word(Word::Extern),
         &Form::Rule(Rule::Abi),
         &Form::Empty,
     ),
-    &Plan::Go(Stage::Stage25),
+    &Plan::Go(Stage::Stage28),
 );
 
-static STAGE32: Plan = Plan::Turns(
+static STAGE35: Plan = Plan::Turns(
     Look::Or(&Look::Word(Word::Trait), &Look::Word(Word::Auto)),
-    &Plan::Go(Stage::Stage20),
+    &Plan::Go(Stage::Stage23),
     &Plan::Turns(
         Look::Word(Word::Impl),
-        &Plan::Go(Stage::Stage30),
-        &Plan::Go(Stage::Stage31),
+        &Plan::Go(Stage::Stage33),
+        &Plan::Go(Stage::Stage34),
     ),
 );
 
-static STAGE33: Plan = Plan::Kept(&Form::Then(
+static STAGE36: Plan = Plan::Kept(&Form::Then(
     &Form::Mark(Mark::Eq),
     &Form::Then(
         &Form::Rule(Rule::AliasBounds),
@@ -1562,38 +1532,38 @@ static STAGE33: Plan = Plan::Kept(&Form::Then(
     ),
 ));
 
-static STAGE34: Plan = Plan::Reads(
+static STAGE37: Plan = Plan::Reads(
     &Form::Rule(Rule::Generics),
     &Plan::Turns(
         Look::Mark(Mark::Eq),
-        &Plan::Go(Stage::Stage33),
+        &Plan::Go(Stage::Stage36),
         &Plan::Rest(&Form::Then(
             &Form::Fading(Fading::Supertraits),
-            &Form::Part(Part::Planned18),
+            &Form::Part(Part::Planned17),
         )),
     ),
 );
 
-static STAGE35: Plan = Plan::Reads(
+static STAGE38: Plan = Plan::Reads(
     &Form::Token(Token::Word(Word::Trait)),
-    &Plan::Reads(&Form::Token(Token::Name), &Plan::Go(Stage::Stage34)),
+    &Plan::Reads(&Form::Token(Token::Name), &Plan::Go(Stage::Stage37)),
 );
 
-static STAGE36: Plan = Plan::Reads(
+static STAGE39: Plan = Plan::Reads(
     &Form::When(
         Look::Word(Word::Async),
         &Form::Token(Token::Word(Word::Async)),
         &Form::Empty,
     ),
-    &Plan::Reads(&Form::Rule(Rule::UnsafeOnly), &Plan::Go(Stage::Stage31)),
+    &Plan::Reads(&Form::Rule(Rule::UnsafeOnly), &Plan::Go(Stage::Stage34)),
 );
 
-static STAGE37: Plan = Plan::Kept(&Form::Then(
+static STAGE40: Plan = Plan::Kept(&Form::Then(
     &Form::Ordered(List::Parameters),
-    &Form::Then(&Form::Mark(Mark::Colon), &Form::Part(Part::Planned20)),
+    &Form::Then(&Form::Mark(Mark::Colon), &Form::Part(Part::Planned19)),
 ));
 
-static STAGE38: Plan = Plan::Kept(&Form::Then(
+static STAGE41: Plan = Plan::Kept(&Form::Then(
     &Form::Then(
         &Form::Token(Token::Word(Word::Where)),
         &Form::Rule(Rule::Predicates),
@@ -1601,13 +1571,13 @@ static STAGE38: Plan = Plan::Kept(&Form::Then(
     &Form::Then(&Form::Mark(Mark::Semi), &Form::Empty),
 ));
 
-static STAGE39: Plan = Plan::Turns(
+static STAGE42: Plan = Plan::Turns(
     Look::Mark(Mark::Semi),
-    &Plan::Go(Stage::Stage15),
-    &Plan::Go(Stage::Stage38),
+    &Plan::Go(Stage::Stage6),
+    &Plan::Go(Stage::Stage41),
 );
 
-static STAGE40: Plan = Plan::Kept(&Form::Then(
+static STAGE43: Plan = Plan::Kept(&Form::Then(
     &Form::When(
         Look::Word(Word::Where),
         &Form::Then(
@@ -1619,129 +1589,129 @@ static STAGE40: Plan = Plan::Kept(&Form::Then(
     &Form::Then(&Form::Mark(Mark::Semi), &Form::Empty),
 ));
 
-static STAGE41: Plan = Plan::Turns(
+static STAGE44: Plan = Plan::Turns(
     Look::Mark(Mark::Eq),
     &Plan::Reads(
         &Form::Mark(Mark::Eq),
         &Plan::Reads(
             &Form::Rule(Rule::WholeExpression),
-            &Plan::Go(Stage::Stage39),
+            &Plan::Go(Stage::Stage42),
         ),
     ),
-    &Plan::Go(Stage::Stage40),
-);
-
-static STAGE42: Plan = Plan::Turns(
-    Look::Mark(Mark::Lt),
-    &Plan::Go(Stage::Stage37),
-    &Plan::Reads(
-        &Form::Mark(Mark::Colon),
-        &Plan::Reads(&Form::Rule(Rule::Type), &Plan::Go(Stage::Stage41)),
-    ),
-);
-
-static STAGE43: Plan = Plan::Reads(
-    &Form::Token(Token::NameOrUnderscore),
-    &Plan::Go(Stage::Stage42),
-);
-
-static STAGE44: Plan = Plan::Turns(
-    Look::Or(
-        &Look::Word(Word::Async),
-        &Look::Or(&Look::Word(Word::Extern), &Look::Word(Word::Fn)),
-    ),
-    &Plan::Go(Stage::Stage36),
     &Plan::Go(Stage::Stage43),
 );
 
 static STAGE45: Plan = Plan::Turns(
-    Look::Word(Word::Trait),
-    &Plan::Go(Stage::Stage35),
-    &Plan::Turns(
-        Look::MarkedAuto,
-        &Plan::Go(Stage::Stage20),
-        &Plan::Turns(
-            Look::Word(Word::Impl),
-            &Plan::Go(Stage::Stage30),
-            &Plan::Go(Stage::Stage44),
-        ),
+    Look::Mark(Mark::Lt),
+    &Plan::Go(Stage::Stage40),
+    &Plan::Reads(
+        &Form::Mark(Mark::Colon),
+        &Plan::Reads(&Form::Rule(Rule::Type), &Plan::Go(Stage::Stage44)),
     ),
 );
 
 static STAGE46: Plan = Plan::Reads(
-    &Form::Token(Token::Word(Word::Const)),
-    &Plan::Turns(
-        Look::Word(Word::Unsafe),
-        &Plan::Reads(
-            &Form::Token(Token::Word(Word::Unsafe)),
-            &Plan::Go(Stage::Stage32),
-        ),
-        &Plan::Go(Stage::Stage45),
-    ),
+    &Form::Token(Token::NameOrUnderscore),
+    &Plan::Go(Stage::Stage45),
 );
 
-static STAGE47: Plan = Plan::Kept(&Form::When(
-    Look::Word(Word::Impl),
-    &Form::Then(
-        &Form::Token(Token::Word(Word::Impl)),
-        &Form::Part(Part::Planned23),
+static STAGE47: Plan = Plan::Turns(
+    Look::Or(
+        &Look::Word(Word::Async),
+        &Look::Or(&Look::Word(Word::Extern), &Look::Word(Word::Fn)),
     ),
-    &Form::Never(Fault::Unexpected),
-));
+    &Plan::Go(Stage::Stage39),
+    &Plan::Go(Stage::Stage46),
+);
 
 static STAGE48: Plan = Plan::Turns(
-    Look::Word(Word::Extern),
-    &Plan::Go(Stage::Stage27),
+    Look::Word(Word::Trait),
+    &Plan::Go(Stage::Stage38),
     &Plan::Turns(
-        Look::Word(Word::Unsafe),
-        &Plan::Go(Stage::Stage29),
+        Look::MarkedAuto,
+        &Plan::Go(Stage::Stage23),
         &Plan::Turns(
-            Look::Word(Word::Const),
-            &Plan::Go(Stage::Stage46),
+            Look::Word(Word::Impl),
+            &Plan::Go(Stage::Stage33),
             &Plan::Go(Stage::Stage47),
         ),
     ),
 );
 
-static STAGE49: Plan = Plan::Turns(
-    Look::Word(Word::Macro),
-    &Plan::Go(Stage::Stage21),
+static STAGE49: Plan = Plan::Reads(
+    &Form::Token(Token::Word(Word::Const)),
     &Plan::Turns(
-        Look::Or(&Look::Word(Word::Fn), &Look::Word(Word::Async)),
-        &Plan::Go(Stage::Stage23),
+        Look::Word(Word::Unsafe),
+        &Plan::Reads(
+            &Form::Token(Token::Word(Word::Unsafe)),
+            &Plan::Go(Stage::Stage35),
+        ),
         &Plan::Go(Stage::Stage48),
     ),
 );
 
-static STAGE50: Plan = Plan::Turns(
-    Look::Word(Word::Mod),
-    &Plan::Go(Stage::Stage18),
-    &Plan::Turns(
-        Look::Word(Word::Trait),
-        &Plan::Go(Stage::Stage19),
-        &Plan::Turns(
-            Look::MarkedAuto,
-            &Plan::Go(Stage::Stage20),
-            &Plan::Go(Stage::Stage49),
-        ),
+static STAGE50: Plan = Plan::Kept(&Form::When(
+    Look::Word(Word::Impl),
+    &Form::Then(
+        &Form::Token(Token::Word(Word::Impl)),
+        &Form::Part(Part::Planned22),
     ),
-);
+    &Form::Never(Fault::Unexpected),
+));
 
 static STAGE51: Plan = Plan::Turns(
-    Look::Word(Word::Type),
-    &Plan::Go(Stage::Stage9),
+    Look::Word(Word::Extern),
+    &Plan::Go(Stage::Stage30),
     &Plan::Turns(
-        Look::Word(Word::Static),
-        &Plan::Go(Stage::Stage14),
+        Look::Word(Word::Unsafe),
+        &Plan::Go(Stage::Stage32),
         &Plan::Turns(
-            Look::Word(Word::Use),
-            &Plan::Go(Stage::Stage17),
+            Look::Word(Word::Const),
+            &Plan::Go(Stage::Stage49),
             &Plan::Go(Stage::Stage50),
         ),
     ),
 );
 
 static STAGE52: Plan = Plan::Turns(
+    Look::Word(Word::Macro),
+    &Plan::Go(Stage::Stage24),
+    &Plan::Turns(
+        Look::Or(&Look::Word(Word::Fn), &Look::Word(Word::Async)),
+        &Plan::Go(Stage::Stage26),
+        &Plan::Go(Stage::Stage51),
+    ),
+);
+
+static STAGE53: Plan = Plan::Turns(
+    Look::Word(Word::Mod),
+    &Plan::Go(Stage::Stage21),
+    &Plan::Turns(
+        Look::Word(Word::Trait),
+        &Plan::Go(Stage::Stage22),
+        &Plan::Turns(
+            Look::MarkedAuto,
+            &Plan::Go(Stage::Stage23),
+            &Plan::Go(Stage::Stage52),
+        ),
+    ),
+);
+
+static STAGE54: Plan = Plan::Turns(
+    Look::Word(Word::Type),
+    &Plan::Go(Stage::Stage13),
+    &Plan::Turns(
+        Look::Word(Word::Static),
+        &Plan::Go(Stage::Stage18),
+        &Plan::Turns(
+            Look::Word(Word::Use),
+            &Plan::Go(Stage::Stage20),
+            &Plan::Go(Stage::Stage53),
+        ),
+    ),
+);
+
+static STAGE55: Plan = Plan::Turns(
     Look::Word(Word::Struct),
     &Plan::Go(Stage::Stage1),
     &Plan::Turns(
@@ -1750,102 +1720,100 @@ static STAGE52: Plan = Plan::Turns(
         &Plan::Turns(
             Look::MarkedUnion,
             &Plan::Go(Stage::Stage3),
-            &Plan::Go(Stage::Stage51),
-        ),
-    ),
-);
-
-static STAGE53: Plan = Plan::Rest(&Form::Never(Fault::Unexpected));
-
-static STAGE54: Plan = Plan::Turns(
-    Look::Or(&Look::Word(Word::Trait), &Look::Word(Word::Auto)),
-    &Plan::Go(Stage::Stage20),
-    &Plan::Turns(
-        Look::Word(Word::Impl),
-        &Plan::Go(Stage::Stage53),
-        &Plan::Go(Stage::Stage31),
-    ),
-);
-
-static STAGE55: Plan = Plan::Turns(
-    Look::Word(Word::Trait),
-    &Plan::Go(Stage::Stage35),
-    &Plan::Turns(
-        Look::MarkedAuto,
-        &Plan::Go(Stage::Stage20),
-        &Plan::Turns(
-            Look::Word(Word::Impl),
-            &Plan::Go(Stage::Stage53),
-            &Plan::Go(Stage::Stage44),
-        ),
-    ),
-);
-
-static STAGE56: Plan = Plan::Reads(
-    &Form::Token(Token::Word(Word::Const)),
-    &Plan::Turns(
-        Look::Word(Word::Unsafe),
-        &Plan::Reads(
-            &Form::Token(Token::Word(Word::Unsafe)),
             &Plan::Go(Stage::Stage54),
         ),
-        &Plan::Go(Stage::Stage55),
+    ),
+);
+
+static STAGE56: Plan = Plan::Turns(
+    Look::Or(&Look::Word(Word::Trait), &Look::Word(Word::Auto)),
+    &Plan::Go(Stage::Stage23),
+    &Plan::Turns(
+        Look::Word(Word::Impl),
+        &Plan::Go(Stage::Stage5),
+        &Plan::Go(Stage::Stage34),
     ),
 );
 
 static STAGE57: Plan = Plan::Turns(
-    Look::Word(Word::Extern),
-    &Plan::Go(Stage::Stage27),
+    Look::Word(Word::Trait),
+    &Plan::Go(Stage::Stage38),
     &Plan::Turns(
-        Look::Word(Word::Unsafe),
-        &Plan::Go(Stage::Stage29),
+        Look::MarkedAuto,
+        &Plan::Go(Stage::Stage23),
         &Plan::Turns(
-            Look::Word(Word::Const),
-            &Plan::Go(Stage::Stage56),
+            Look::Word(Word::Impl),
+            &Plan::Go(Stage::Stage5),
             &Plan::Go(Stage::Stage47),
         ),
     ),
 );
 
-static STAGE58: Plan = Plan::Turns(
-    Look::Word(Word::Macro),
-    &Plan::Go(Stage::Stage21),
+static STAGE58: Plan = Plan::Reads(
+    &Form::Token(Token::Word(Word::Const)),
     &Plan::Turns(
-        Look::Or(&Look::Word(Word::Fn), &Look::Word(Word::Async)),
-        &Plan::Go(Stage::Stage23),
+        Look::Word(Word::Unsafe),
+        &Plan::Reads(
+            &Form::Token(Token::Word(Word::Unsafe)),
+            &Plan::Go(Stage::Stage56),
+        ),
         &Plan::Go(Stage::Stage57),
     ),
 );
 
 static STAGE59: Plan = Plan::Turns(
-    Look::Word(Word::Mod),
-    &Plan::Go(Stage::Stage18),
+    Look::Word(Word::Extern),
+    &Plan::Go(Stage::Stage30),
     &Plan::Turns(
-        Look::Word(Word::Trait),
-        &Plan::Go(Stage::Stage19),
+        Look::Word(Word::Unsafe),
+        &Plan::Go(Stage::Stage32),
         &Plan::Turns(
-            Look::MarkedAuto,
-            &Plan::Go(Stage::Stage20),
+            Look::Word(Word::Const),
             &Plan::Go(Stage::Stage58),
+            &Plan::Go(Stage::Stage50),
         ),
     ),
 );
 
 static STAGE60: Plan = Plan::Turns(
-    Look::Word(Word::Type),
-    &Plan::Go(Stage::Stage9),
+    Look::Word(Word::Macro),
+    &Plan::Go(Stage::Stage24),
     &Plan::Turns(
-        Look::Word(Word::Static),
-        &Plan::Go(Stage::Stage14),
-        &Plan::Turns(
-            Look::Word(Word::Use),
-            &Plan::Go(Stage::Stage17),
-            &Plan::Go(Stage::Stage59),
-        ),
+        Look::Or(&Look::Word(Word::Fn), &Look::Word(Word::Async)),
+        &Plan::Go(Stage::Stage26),
+        &Plan::Go(Stage::Stage59),
     ),
 );
 
 static STAGE61: Plan = Plan::Turns(
+    Look::Word(Word::Mod),
+    &Plan::Go(Stage::Stage21),
+    &Plan::Turns(
+        Look::Word(Word::Trait),
+        &Plan::Go(Stage::Stage22),
+        &Plan::Turns(
+            Look::MarkedAuto,
+            &Plan::Go(Stage::Stage23),
+            &Plan::Go(Stage::Stage60),
+        ),
+    ),
+);
+
+static STAGE62: Plan = Plan::Turns(
+    Look::Word(Word::Type),
+    &Plan::Go(Stage::Stage13),
+    &Plan::Turns(
+        Look::Word(Word::Static),
+        &Plan::Go(Stage::Stage18),
+        &Plan::Turns(
+            Look::Word(Word::Use),
+            &Plan::Go(Stage::Stage20),
+            &Plan::Go(Stage::Stage61),
+        ),
+    ),
+);
+
+static STAGE63: Plan = Plan::Turns(
     Look::Word(Word::Struct),
     &Plan::Go(Stage::Stage1),
     &Plan::Turns(
@@ -1854,12 +1822,12 @@ static STAGE61: Plan = Plan::Turns(
         &Plan::Turns(
             Look::MarkedUnion,
             &Plan::Go(Stage::Stage3),
-            &Plan::Go(Stage::Stage60),
+            &Plan::Go(Stage::Stage62),
         ),
     ),
 );
 
-static STAGE62: Plan = Plan::Rest(&Form::Then(
+static STAGE64: Plan = Plan::Rest(&Form::Then(
     &Form::Inside(
         Delimiter::Brace,
         &Form::Then(
@@ -1870,22 +1838,22 @@ static STAGE62: Plan = Plan::Rest(&Form::Then(
     &Form::Empty,
 ));
 
-static STAGE63: Plan = Plan::Reads(
+static STAGE65: Plan = Plan::Reads(
     &Form::When(Look::StrLiteral, &Form::Token(Token::Str), &Form::Empty),
     &Plan::Turns(
         Look::Group(Delimiter::Brace),
-        &Plan::Go(Stage::Stage62),
-        &Plan::Go(Stage::Stage25),
+        &Plan::Go(Stage::Stage64),
+        &Plan::Go(Stage::Stage28),
     ),
 );
 
-static STAGE64: Plan = Plan::Rest(&Form::Then(&Form::Rule(Rule::ImplBody), &Form::Empty));
+static STAGE66: Plan = Plan::Rest(&Form::Then(&Form::Rule(Rule::ImplBody), &Form::Empty));
 
-static STAGE65: Plan = Plan::SelfType(&Plan::Go(Stage::Stage64));
+static STAGE67: Plan = Plan::SelfType(&Plan::Go(Stage::Stage66));
 
-static STAGE66: Plan = Plan::Reads(&Form::Rule(Rule::TypePath), &Plan::Go(Stage::Stage65));
+static STAGE68: Plan = Plan::Reads(&Form::Rule(Rule::TypePath), &Plan::Go(Stage::Stage67));
 
-static STAGE67: Plan = Plan::Kept(&Form::Then(
+static STAGE69: Plan = Plan::Kept(&Form::Then(
     &Form::Rule(Rule::Type),
     &Form::Then(
         &Form::Rule(Rule::ForSelfType),
@@ -1893,114 +1861,114 @@ static STAGE67: Plan = Plan::Kept(&Form::Then(
     ),
 ));
 
-static STAGE68: Plan = Plan::Turns(
+static STAGE70: Plan = Plan::Turns(
     Look::Group(Delimiter::Brace),
-    &Plan::Go(Stage::Stage64),
+    &Plan::Go(Stage::Stage66),
     &Plan::Turns(
         Look::Or(&Look::PathWord, &Look::Mark(Mark::PathSep)),
-        &Plan::Go(Stage::Stage66),
-        &Plan::Go(Stage::Stage67),
+        &Plan::Go(Stage::Stage68),
+        &Plan::Go(Stage::Stage69),
     ),
 );
 
-static STAGE69: Plan = Plan::Reads(
+static STAGE71: Plan = Plan::Reads(
     &Form::Rule(Rule::TypePath),
     &Plan::Turns(
         Look::Word(Word::For),
-        &Plan::Go(Stage::Stage65),
-        &Plan::Go(Stage::Stage64),
+        &Plan::Go(Stage::Stage67),
+        &Plan::Go(Stage::Stage66),
     ),
 );
 
-static STAGE70: Plan = Plan::Kept(&Form::Then(
+static STAGE72: Plan = Plan::Kept(&Form::Then(
     &Form::Rule(Rule::ForSelfType),
     &Form::Then(&Form::Rule(Rule::ImplBody), &Form::Empty),
 ));
 
-static STAGE71: Plan = Plan::Turns(
+static STAGE73: Plan = Plan::Turns(
     Look::Or(&Look::PathWord, &Look::Mark(Mark::PathSep)),
-    &Plan::Go(Stage::Stage69),
+    &Plan::Go(Stage::Stage71),
     &Plan::Reads(
         &Form::Rule(Rule::Type),
         &Plan::Turns(
             Look::Word(Word::For),
-            &Plan::Go(Stage::Stage70),
-            &Plan::Go(Stage::Stage64),
+            &Plan::Go(Stage::Stage72),
+            &Plan::Go(Stage::Stage66),
         ),
     ),
 );
 
-static STAGE72: Plan = Plan::Lists(&Plan::Led(&Plan::Turns(
+static STAGE74: Plan = Plan::Lists(&Plan::Led(&Plan::Turns(
     Look::Mark(Mark::Not),
-    &Plan::Reads(&Form::Mark(Mark::Not), &Plan::Go(Stage::Stage68)),
-    &Plan::Go(Stage::Stage71),
+    &Plan::Reads(&Form::Mark(Mark::Not), &Plan::Go(Stage::Stage70)),
+    &Plan::Go(Stage::Stage73),
 )));
 
-static STAGE73: Plan = Plan::Reads(
+static STAGE75: Plan = Plan::Reads(
     &Form::Token(Token::Word(Word::Impl)),
-    &Plan::Go(Stage::Stage72),
+    &Plan::Go(Stage::Stage74),
 );
 
-static STAGE74: Plan = Plan::Turns(
+static STAGE76: Plan = Plan::Turns(
     Look::Word(Word::Impl),
-    &Plan::Go(Stage::Stage73),
+    &Plan::Go(Stage::Stage75),
     &Plan::Turns(
         Look::Word(Word::Extern),
         &Plan::Reads(
             &Form::Token(Token::Word(Word::Extern)),
-            &Plan::Go(Stage::Stage63),
+            &Plan::Go(Stage::Stage65),
         ),
-        &Plan::Go(Stage::Stage25),
-    ),
-);
-
-static STAGE75: Plan = Plan::Turns(
-    Look::Word(Word::Mod),
-    &Plan::Go(Stage::Stage18),
-    &Plan::Turns(
-        Look::Or(&Look::Word(Word::Trait), &Look::Word(Word::Auto)),
-        &Plan::Go(Stage::Stage20),
-        &Plan::Go(Stage::Stage74),
-    ),
-);
-
-static STAGE76: Plan = Plan::Turns(
-    Look::Or(&Look::Word(Word::Trait), &Look::Word(Word::Auto)),
-    &Plan::Go(Stage::Stage20),
-    &Plan::Turns(
-        Look::Word(Word::Impl),
-        &Plan::Go(Stage::Stage73),
-        &Plan::Go(Stage::Stage31),
+        &Plan::Go(Stage::Stage28),
     ),
 );
 
 static STAGE77: Plan = Plan::Turns(
+    Look::Word(Word::Mod),
+    &Plan::Go(Stage::Stage21),
+    &Plan::Turns(
+        Look::Or(&Look::Word(Word::Trait), &Look::Word(Word::Auto)),
+        &Plan::Go(Stage::Stage23),
+        &Plan::Go(Stage::Stage76),
+    ),
+);
+
+static STAGE78: Plan = Plan::Turns(
+    Look::Or(&Look::Word(Word::Trait), &Look::Word(Word::Auto)),
+    &Plan::Go(Stage::Stage23),
+    &Plan::Turns(
+        Look::Word(Word::Impl),
+        &Plan::Go(Stage::Stage75),
+        &Plan::Go(Stage::Stage34),
+    ),
+);
+
+static STAGE79: Plan = Plan::Turns(
     Look::Word(Word::Trait),
-    &Plan::Go(Stage::Stage35),
+    &Plan::Go(Stage::Stage38),
     &Plan::Turns(
         Look::MarkedAuto,
-        &Plan::Go(Stage::Stage20),
+        &Plan::Go(Stage::Stage23),
         &Plan::Turns(
             Look::Word(Word::Impl),
-            &Plan::Go(Stage::Stage73),
-            &Plan::Go(Stage::Stage44),
+            &Plan::Go(Stage::Stage75),
+            &Plan::Go(Stage::Stage47),
         ),
     ),
 );
 
-static STAGE78: Plan = Plan::Reads(
+static STAGE80: Plan = Plan::Reads(
     &Form::Token(Token::Word(Word::Const)),
     &Plan::Turns(
         Look::Word(Word::Unsafe),
         &Plan::Reads(
             &Form::Token(Token::Word(Word::Unsafe)),
-            &Plan::Go(Stage::Stage76),
+            &Plan::Go(Stage::Stage78),
         ),
-        &Plan::Go(Stage::Stage77),
+        &Plan::Go(Stage::Stage79),
     ),
 );
 
-static STAGE79: Plan = Plan::Kept(&Form::Then(
+static STAGE81: Plan = Plan::Kept(&Form::Then(
     &Form::When(
         Look::Word(Word::Const),
         &Form::Token(Token::Word(Word::Const)),
@@ -2009,30 +1977,30 @@ static STAGE79: Plan = Plan::Kept(&Form::Then(
     &Form::Then(&Form::Rule(Rule::BareTrait), &Form::Empty),
 ));
 
-static STAGE80: Plan = Plan::Turns(
+static STAGE82: Plan = Plan::Turns(
     Look::Word(Word::For),
-    &Plan::Go(Stage::Stage70),
+    &Plan::Go(Stage::Stage72),
     &Plan::Turns(
         Look::Or(&Look::Word(Word::Where), &Look::Group(Delimiter::Brace)),
-        &Plan::Go(Stage::Stage64),
-        &Plan::Go(Stage::Stage79),
+        &Plan::Go(Stage::Stage66),
+        &Plan::Go(Stage::Stage81),
     ),
 );
 
-static STAGE81: Plan = Plan::Turns(
+static STAGE83: Plan = Plan::Turns(
     Look::InRestriction,
     &Plan::Kept(&Form::Then(
         &Form::Inside(Delimiter::Paren, &Form::Rule(Rule::Restriction)),
-        &Form::Part(Part::Planned24),
+        &Form::Part(Part::Planned23),
     )),
     &Plan::Turns(
         Look::LoneWord,
-        &Plan::Reads(&Form::Rule(Rule::Type), &Plan::Go(Stage::Stage80)),
-        &Plan::Go(Stage::Stage72),
+        &Plan::Reads(&Form::Rule(Rule::Type), &Plan::Go(Stage::Stage82)),
+        &Plan::Go(Stage::Stage74),
     ),
 );
 
-static STAGE82: Plan = Plan::Rest(&Form::When(
+static STAGE84: Plan = Plan::Rest(&Form::When(
     Look::NoMacroItem,
     &Form::Never(Fault::Unexpected),
     &Form::Then(
@@ -2043,12 +2011,12 @@ static STAGE82: Plan = Plan::Rest(&Form::When(
                 &Form::Mark(Mark::Not),
                 &Form::Never(Fault::Unexpected),
             ),
-            &Form::Part(Part::Planned25),
+            &Form::Part(Part::Planned24),
         ),
     ),
 ));
 
-static STAGE83: Plan = Plan::Reads(
+static STAGE85: Plan = Plan::Reads(
     &Form::When(
         Look::Word(Word::Const),
         &Form::Token(Token::Word(Word::Const)),
@@ -2060,95 +2028,95 @@ static STAGE83: Plan = Plan::Reads(
             &Form::Token(Token::Word(Word::Unsafe)),
             &Form::Empty,
         ),
-        &Plan::Go(Stage::Stage73),
-    ),
-);
-
-static STAGE84: Plan = Plan::Turns(
-    Look::Word(Word::Default),
-    &Plan::Turns(
-        Look::BeforeMacro,
-        &Plan::Go(Stage::Stage82),
-        &Plan::Reads(
-            &Form::Token(Token::Word(Word::Default)),
-            &Plan::Go(Stage::Stage83),
-        ),
-    ),
-    &Plan::Go(Stage::Stage82),
-);
-
-static STAGE85: Plan = Plan::Turns(
-    Look::Word(Word::Const),
-    &Plan::Go(Stage::Stage78),
-    &Plan::Turns(
-        Look::Word(Word::Impl),
-        &Plan::Reads(
-            &Form::Token(Token::Word(Word::Impl)),
-            &Plan::Go(Stage::Stage81),
-        ),
-        &Plan::Go(Stage::Stage84),
+        &Plan::Go(Stage::Stage75),
     ),
 );
 
 static STAGE86: Plan = Plan::Turns(
+    Look::Word(Word::Default),
+    &Plan::Turns(
+        Look::BeforeMacro,
+        &Plan::Go(Stage::Stage84),
+        &Plan::Reads(
+            &Form::Token(Token::Word(Word::Default)),
+            &Plan::Go(Stage::Stage85),
+        ),
+    ),
+    &Plan::Go(Stage::Stage84),
+);
+
+static STAGE87: Plan = Plan::Turns(
+    Look::Word(Word::Const),
+    &Plan::Go(Stage::Stage80),
+    &Plan::Turns(
+        Look::Word(Word::Impl),
+        &Plan::Reads(
+            &Form::Token(Token::Word(Word::Impl)),
+            &Plan::Go(Stage::Stage83),
+        ),
+        &Plan::Go(Stage::Stage86),
+    ),
+);
+
+static STAGE88: Plan = Plan::Turns(
     Look::Word(Word::Extern),
     &Plan::Reads(
         &Form::Token(Token::Word(Word::Extern)),
         &Plan::Turns(
             Look::Word(Word::Crate),
-            &Plan::Go(Stage::Stage24),
-            &Plan::Go(Stage::Stage63),
+            &Plan::Go(Stage::Stage27),
+            &Plan::Go(Stage::Stage65),
         ),
     ),
     &Plan::Turns(
         Look::Word(Word::Unsafe),
         &Plan::Reads(
             &Form::Token(Token::Word(Word::Unsafe)),
-            &Plan::Go(Stage::Stage75),
+            &Plan::Go(Stage::Stage77),
         ),
-        &Plan::Go(Stage::Stage85),
-    ),
-);
-
-static STAGE87: Plan = Plan::Turns(
-    Look::Word(Word::Macro),
-    &Plan::Go(Stage::Stage21),
-    &Plan::Turns(
-        Look::Or(&Look::Word(Word::Fn), &Look::Word(Word::Async)),
-        &Plan::Go(Stage::Stage23),
-        &Plan::Go(Stage::Stage86),
-    ),
-);
-
-static STAGE88: Plan = Plan::Turns(
-    Look::Word(Word::Mod),
-    &Plan::Go(Stage::Stage18),
-    &Plan::Turns(
-        Look::Word(Word::Trait),
-        &Plan::Go(Stage::Stage19),
-        &Plan::Turns(
-            Look::MarkedAuto,
-            &Plan::Go(Stage::Stage20),
-            &Plan::Go(Stage::Stage87),
-        ),
+        &Plan::Go(Stage::Stage87),
     ),
 );
 
 static STAGE89: Plan = Plan::Turns(
-    Look::Word(Word::Type),
-    &Plan::Go(Stage::Stage9),
+    Look::Word(Word::Macro),
+    &Plan::Go(Stage::Stage24),
     &Plan::Turns(
-        Look::Word(Word::Static),
-        &Plan::Go(Stage::Stage14),
-        &Plan::Turns(
-            Look::Word(Word::Use),
-            &Plan::Go(Stage::Stage17),
-            &Plan::Go(Stage::Stage88),
-        ),
+        Look::Or(&Look::Word(Word::Fn), &Look::Word(Word::Async)),
+        &Plan::Go(Stage::Stage26),
+        &Plan::Go(Stage::Stage88),
     ),
 );
 
 static STAGE90: Plan = Plan::Turns(
+    Look::Word(Word::Mod),
+    &Plan::Go(Stage::Stage21),
+    &Plan::Turns(
+        Look::Word(Word::Trait),
+        &Plan::Go(Stage::Stage22),
+        &Plan::Turns(
+            Look::MarkedAuto,
+            &Plan::Go(Stage::Stage23),
+            &Plan::Go(Stage::Stage89),
+        ),
+    ),
+);
+
+static STAGE91: Plan = Plan::Turns(
+    Look::Word(Word::Type),
+    &Plan::Go(Stage::Stage13),
+    &Plan::Turns(
+        Look::Word(Word::Static),
+        &Plan::Go(Stage::Stage18),
+        &Plan::Turns(
+            Look::Word(Word::Use),
+            &Plan::Go(Stage::Stage20),
+            &Plan::Go(Stage::Stage90),
+        ),
+    ),
+);
+
+static STAGE92: Plan = Plan::Turns(
     Look::Word(Word::Struct),
     &Plan::Go(Stage::Stage1),
     &Plan::Turns(
@@ -2157,22 +2125,22 @@ static STAGE90: Plan = Plan::Turns(
         &Plan::Turns(
             Look::MarkedUnion,
             &Plan::Go(Stage::Stage3),
-            &Plan::Go(Stage::Stage89),
+            &Plan::Go(Stage::Stage91),
         ),
     ),
 );
 
-static STAGE91: Plan = Plan::Turns(
+static STAGE93: Plan = Plan::Turns(
     Look::Word(Word::Pub),
-    &Plan::Reads(&Form::Rule(Rule::Visibility), &Plan::Go(Stage::Stage52)),
+    &Plan::Reads(&Form::Rule(Rule::Visibility), &Plan::Go(Stage::Stage55)),
     &Plan::Turns(
         Look::EmptyGroup,
-        &Plan::Reads(&Form::Rule(Rule::Visibility), &Plan::Go(Stage::Stage61)),
-        &Plan::Go(Stage::Stage90),
+        &Plan::Reads(&Form::Rule(Rule::Visibility), &Plan::Go(Stage::Stage63)),
+        &Plan::Go(Stage::Stage92),
     ),
 );
 
-static STAGE92: Plan = Plan::Kept(&Form::Then(
+static STAGE94: Plan = Plan::Kept(&Form::Then(
     &Form::Rule(Rule::Visibility),
     &Form::Then(
         &Form::When(
@@ -2180,68 +2148,68 @@ static STAGE92: Plan = Plan::Kept(&Form::Then(
             &Form::Token(Token::Word(Word::Default)),
             &Form::Empty,
         ),
-        &Form::Part(Part::Planned36),
+        &Form::Part(Part::Planned35),
     ),
 ));
 
-static STAGE93: Plan = Plan::Kept(&Form::Then(
+static STAGE95: Plan = Plan::Kept(&Form::Then(
     &Form::Rule(Rule::Visibility),
     &Form::When(
         Look::Word(Word::Default),
-        &Form::Part(Part::Planned52),
+        &Form::Part(Part::Planned51),
         &Form::Then(
             &Form::Token(Token::Word(Word::Const)),
             &Form::Then(
                 &Form::Token(Token::NameOrUnderscore),
-                &Form::Part(Part::Planned51),
+                &Form::Part(Part::Planned50),
             ),
         ),
     ),
 ));
 
-static STAGE94: Plan = Plan::Kept(&Form::Then(
+static STAGE96: Plan = Plan::Kept(&Form::Then(
     &Form::Token(Token::Word(Word::Default)),
     &Form::When(
         Look::Word(Word::Type),
-        &Form::Part(Part::Planned62),
+        &Form::Part(Part::Planned61),
         &Form::When(
             Look::Word(Word::Const),
             &Form::Then(
                 &Form::Token(Token::Word(Word::Const)),
-                &Form::Part(Part::Planned60),
+                &Form::Part(Part::Planned59),
             ),
-            &Form::Part(Part::Planned61),
+            &Form::Part(Part::Planned60),
         ),
     ),
 ));
 
-static STAGE95: Plan = Plan::Rest(&Form::Then(
+static STAGE97: Plan = Plan::Rest(&Form::Then(
     &Form::Token(Token::Word(Word::Type)),
     &Form::Then(
         &Form::Token(Token::Name),
-        &Form::Then(&Form::Rule(Rule::Generics), &Form::Part(Part::Planned64)),
+        &Form::Then(&Form::Rule(Rule::Generics), &Form::Part(Part::Planned63)),
     ),
 ));
 
-static STAGE96: Plan = Plan::Reads(
+static STAGE98: Plan = Plan::Reads(
     &Form::When(
         Look::Mark(Mark::Eq),
         &Form::Then(&Form::Mark(Mark::Eq), &Form::Rule(Rule::WholeExpression)),
         &Form::Empty,
     ),
-    &Plan::Go(Stage::Stage39),
+    &Plan::Go(Stage::Stage42),
 );
 
-static STAGE97: Plan = Plan::Turns(
+static STAGE99: Plan = Plan::Turns(
     Look::Mark(Mark::Lt),
-    &Plan::Go(Stage::Stage37),
+    &Plan::Go(Stage::Stage40),
     &Plan::Reads(
         &Form::Mark(Mark::Colon),
-        &Plan::Reads(&Form::Rule(Rule::Type), &Plan::Go(Stage::Stage96)),
+        &Plan::Reads(&Form::Rule(Rule::Type), &Plan::Go(Stage::Stage98)),
     ),
 );
 
-static STAGE98: Plan = Plan::Turns(
+static STAGE100: Plan = Plan::Turns(
     Look::Or(
         &Look::Word(Word::Async),
         &Look::Or(
@@ -2255,76 +2223,15 @@ static STAGE98: Plan = Plan::Turns(
             &Form::Token(Token::Word(Word::Async)),
             &Form::Empty,
         ),
-        &Form::Part(Part::Planned66),
+        &Form::Part(Part::Planned65),
     )),
     &Plan::Reads(
         &Form::Token(Token::NameOrUnderscore),
-        &Plan::Go(Stage::Stage97),
-    ),
-);
-
-static STAGE99: Plan = Plan::Rest(&Form::When(
-    Look::Or(
-        &Look::Word(Word::Async),
-        &Look::Or(
-            &Look::Word(Word::Unsafe),
-            &Look::Or(&Look::Word(Word::Extern), &Look::Word(Word::Fn)),
-        ),
-    ),
-    &Form::Part(Part::Planned68),
-    &Form::When(
-        Look::Or(&Look::Word(Word::SelfType), &Look::Word(Word::Default)),
-        &Form::Never(Fault::Unexpected),
-        &Form::Part(Part::Planned67),
-    ),
-));
-
-static STAGE100: Plan = Plan::Turns(
-    Look::Word(Word::Type),
-    &Plan::Go(Stage::Stage95),
-    &Plan::Turns(
-        Look::Word(Word::Const),
-        &Plan::Reads(
-            &Form::Token(Token::Word(Word::Const)),
-            &Plan::Go(Stage::Stage98),
-        ),
         &Plan::Go(Stage::Stage99),
     ),
 );
 
-static STAGE101: Plan = Plan::Turns(
-    Look::Word(Word::Pub),
-    &Plan::Go(Stage::Stage92),
-    &Plan::Turns(
-        Look::EmptyGroup,
-        &Plan::Go(Stage::Stage93),
-        &Plan::Turns(
-            Look::Word(Word::Default),
-            &Plan::Go(Stage::Stage94),
-            &Plan::Go(Stage::Stage100),
-        ),
-    ),
-);
-
-static STAGE102: Plan = Plan::Turns(
-    Look::Mark(Mark::Eq),
-    &Plan::Go(Stage::Stage7),
-    &Plan::Kept(&Form::When(
-        Look::Mark(Mark::Colon),
-        &Form::Then(&Form::Mark(Mark::Colon), &Form::Part(Part::Planned70)),
-        &Form::Part(Part::Planned71),
-    )),
-);
-
-static STAGE103: Plan = Plan::Reads(
-    &Form::Token(Token::Word(Word::Type)),
-    &Plan::Reads(
-        &Form::Token(Token::Name),
-        &Plan::Reads(&Form::Rule(Rule::Generics), &Plan::Go(Stage::Stage102)),
-    ),
-);
-
-static STAGE104: Plan = Plan::Turns(
+static STAGE101: Plan = Plan::Rest(&Form::When(
     Look::Or(
         &Look::Word(Word::Async),
         &Look::Or(
@@ -2332,26 +2239,98 @@ static STAGE104: Plan = Plan::Turns(
             &Look::Or(&Look::Word(Word::Extern), &Look::Word(Word::Fn)),
         ),
     ),
-    &Plan::Go(Stage::Stage36),
-    &Plan::Go(Stage::Stage43),
-);
+    &Form::Part(Part::Planned67),
+    &Form::When(
+        Look::Or(&Look::Word(Word::SelfType), &Look::Word(Word::Default)),
+        &Form::Never(Fault::Unexpected),
+        &Form::Part(Part::Planned66),
+    ),
+));
 
-static STAGE105: Plan = Plan::Reads(
-    &Form::Token(Token::Word(Word::Const)),
-    &Plan::Go(Stage::Stage104),
-);
-
-static STAGE106: Plan = Plan::Turns(
+static STAGE102: Plan = Plan::Turns(
     Look::Word(Word::Type),
-    &Plan::Go(Stage::Stage103),
+    &Plan::Go(Stage::Stage97),
     &Plan::Turns(
         Look::Word(Word::Const),
-        &Plan::Go(Stage::Stage105),
-        &Plan::Go(Stage::Stage23),
+        &Plan::Reads(
+            &Form::Token(Token::Word(Word::Const)),
+            &Plan::Go(Stage::Stage100),
+        ),
+        &Plan::Go(Stage::Stage101),
     ),
 );
 
-static STAGE107: Plan = Plan::Reads(
+static STAGE103: Plan = Plan::Turns(
+    Look::Word(Word::Pub),
+    &Plan::Go(Stage::Stage94),
+    &Plan::Turns(
+        Look::EmptyGroup,
+        &Plan::Go(Stage::Stage95),
+        &Plan::Turns(
+            Look::Word(Word::Default),
+            &Plan::Go(Stage::Stage96),
+            &Plan::Go(Stage::Stage102),
+        ),
+    ),
+);
+
+static STAGE104: Plan = Plan::Rest(&Form::Then(
+    &Form::Mark(Mark::Eq),
+    &Form::Then(
+        &Form::Rule(Rule::Type),
+        &Form::Then(
+            &Form::Rule(Rule::WhereClause),
+            &Form::Then(&Form::Mark(Mark::Semi), &Form::Empty),
+        ),
+    ),
+));
+
+static STAGE105: Plan = Plan::Turns(
+    Look::Mark(Mark::Eq),
+    &Plan::Go(Stage::Stage104),
+    &Plan::Kept(&Form::When(
+        Look::Mark(Mark::Colon),
+        &Form::Then(&Form::Mark(Mark::Colon), &Form::Part(Part::Planned69)),
+        &Form::Part(Part::Planned70),
+    )),
+);
+
+static STAGE106: Plan = Plan::Reads(
+    &Form::Token(Token::Word(Word::Type)),
+    &Plan::Reads(
+        &Form::Token(Token::Name),
+        &Plan::Reads(&Form::Rule(Rule::Generics), &Plan::Go(Stage::Stage105)),
+    ),
+);
+
+static STAGE107: Plan = Plan::Turns(
+    Look::Or(
+        &Look::Word(Word::Async),
+        &Look::Or(
+            &Look::Word(Word::Unsafe),
+            &Look::Or(&Look::Word(Word::Extern), &Look::Word(Word::Fn)),
+        ),
+    ),
+    &Plan::Go(Stage::Stage39),
+    &Plan::Go(Stage::Stage46),
+);
+
+static STAGE108: Plan = Plan::Reads(
+    &Form::Token(Token::Word(Word::Const)),
+    &Plan::Go(Stage::Stage107),
+);
+
+static STAGE109: Plan = Plan::Turns(
+    Look::Word(Word::Type),
+    &Plan::Go(Stage::Stage106),
+    &Plan::Turns(
+        Look::Word(Word::Const),
+        &Plan::Go(Stage::Stage108),
+        &Plan::Go(Stage::Stage26),
+    ),
+);
+
+static STAGE110: Plan = Plan::Reads(
     &Form::Rule(Rule::Visibility),
     &Plan::Reads(
         &Form::When(
@@ -2359,17 +2338,17 @@ static STAGE107: Plan = Plan::Reads(
             &Form::Token(Token::Word(Word::Default)),
             &Form::Empty,
         ),
-        &Plan::Go(Stage::Stage106),
+        &Plan::Go(Stage::Stage109),
     ),
 );
 
-static STAGE108: Plan = Plan::Rest(&Form::When(
+static STAGE111: Plan = Plan::Rest(&Form::When(
     Look::NoMacroItem,
     &Form::Never(Fault::Unexpected),
-    &Form::Part(Part::Planned72),
+    &Form::Part(Part::Planned71),
 ));
 
-static STAGE109: Plan = Plan::Turns(
+static STAGE112: Plan = Plan::Turns(
     Look::Or(
         &Look::Word(Word::Async),
         &Look::Or(
@@ -2377,82 +2356,82 @@ static STAGE109: Plan = Plan::Turns(
             &Look::Or(&Look::Word(Word::Extern), &Look::Word(Word::Fn)),
         ),
     ),
-    &Plan::Go(Stage::Stage23),
-    &Plan::Go(Stage::Stage108),
+    &Plan::Go(Stage::Stage26),
+    &Plan::Go(Stage::Stage111),
 );
 
-static STAGE110: Plan = Plan::Turns(
+static STAGE113: Plan = Plan::Turns(
     Look::Word(Word::Default),
     &Plan::Turns(
         Look::BeforeMacro,
-        &Plan::Go(Stage::Stage108),
+        &Plan::Go(Stage::Stage111),
         &Plan::Reads(
             &Form::Token(Token::Word(Word::Default)),
-            &Plan::Go(Stage::Stage106),
+            &Plan::Go(Stage::Stage109),
         ),
     ),
     &Plan::Turns(
         Look::Word(Word::Type),
-        &Plan::Go(Stage::Stage103),
+        &Plan::Go(Stage::Stage106),
         &Plan::Turns(
             Look::Word(Word::Const),
-            &Plan::Go(Stage::Stage105),
-            &Plan::Go(Stage::Stage109),
+            &Plan::Go(Stage::Stage108),
+            &Plan::Go(Stage::Stage112),
         ),
     ),
 );
 
-static STAGE111: Plan = Plan::Reads(
+static STAGE114: Plan = Plan::Reads(
     &Form::Mark(Mark::Colon),
     &Plan::Reads(
         &Form::Rule(Rule::Type),
         &Plan::Turns(
             Look::Mark(Mark::Semi),
-            &Plan::Go(Stage::Stage15),
-            &Plan::Go(Stage::Stage12),
+            &Plan::Go(Stage::Stage6),
+            &Plan::Go(Stage::Stage16),
         ),
     ),
 );
 
-static STAGE112: Plan = Plan::Reads(
+static STAGE115: Plan = Plan::Reads(
     &Form::When(
         Look::Word(Word::Mut),
         &Form::Token(Token::Word(Word::Mut)),
         &Form::Empty,
     ),
-    &Plan::Reads(&Form::Token(Token::Name), &Plan::Go(Stage::Stage111)),
+    &Plan::Reads(&Form::Token(Token::Name), &Plan::Go(Stage::Stage114)),
 );
 
-static STAGE113: Plan = Plan::Reads(
+static STAGE116: Plan = Plan::Reads(
     &Form::Token(Token::Word(Word::Static)),
-    &Plan::Go(Stage::Stage112),
+    &Plan::Go(Stage::Stage115),
 );
 
-static STAGE114: Plan = Plan::Turns(
+static STAGE117: Plan = Plan::Turns(
     Look::Mark(Mark::Semi),
-    &Plan::Go(Stage::Stage15),
+    &Plan::Go(Stage::Stage6),
     &Plan::Kept(&Form::Then(&Form::Rule(Rule::Body), &Form::Empty)),
 );
 
-static STAGE115: Plan = Plan::Reads(
+static STAGE118: Plan = Plan::Reads(
     &Form::When(
         Look::Word(Word::Extern),
         &Form::Rule(Rule::Abi),
         &Form::Empty,
     ),
-    &Plan::Reads(&Form::Rule(Rule::SignatureRest), &Plan::Go(Stage::Stage114)),
+    &Plan::Reads(&Form::Rule(Rule::SignatureRest), &Plan::Go(Stage::Stage117)),
 );
 
-static STAGE116: Plan = Plan::Reads(
+static STAGE119: Plan = Plan::Reads(
     &Form::Rule(Rule::SafeOrUnsafe),
     &Plan::Turns(
         Look::Word(Word::Static),
-        &Plan::Go(Stage::Stage113),
-        &Plan::Go(Stage::Stage115),
+        &Plan::Go(Stage::Stage116),
+        &Plan::Go(Stage::Stage118),
     ),
 );
 
-static STAGE117: Plan = Plan::Kept(&Form::Then(
+static STAGE120: Plan = Plan::Kept(&Form::Then(
     &Form::Mark(Mark::Eq),
     &Form::Then(
         &Form::Rule(Rule::Type),
@@ -2460,81 +2439,49 @@ static STAGE117: Plan = Plan::Kept(&Form::Then(
     ),
 ));
 
-static STAGE118: Plan = Plan::Turns(
+static STAGE121: Plan = Plan::Turns(
     Look::Mark(Mark::Semi),
-    &Plan::Go(Stage::Stage15),
+    &Plan::Go(Stage::Stage6),
     &Plan::Kept(&Form::Then(
         &Form::Mark(Mark::Eq),
-        &Form::Then(&Form::Rule(Rule::Type), &Form::Part(Part::Planned73)),
+        &Form::Then(&Form::Rule(Rule::Type), &Form::Part(Part::Planned72)),
     )),
 );
 
-static STAGE119: Plan = Plan::Turns(
+static STAGE122: Plan = Plan::Turns(
     Look::Word(Word::Where),
     &Plan::Reads(
         &Form::Rule(Rule::WhereClause),
         &Plan::Turns(
             Look::Mark(Mark::Semi),
-            &Plan::Go(Stage::Stage15),
-            &Plan::Go(Stage::Stage117),
+            &Plan::Go(Stage::Stage6),
+            &Plan::Go(Stage::Stage120),
         ),
     ),
-    &Plan::Go(Stage::Stage118),
+    &Plan::Go(Stage::Stage121),
 );
 
-static STAGE120: Plan = Plan::Reads(
+static STAGE123: Plan = Plan::Reads(
     &Form::Token(Token::Name),
     &Plan::Reads(
         &Form::Rule(Rule::Generics),
         &Plan::Turns(
             Look::Mark(Mark::Colon),
             &Plan::Go(Stage::Stage4),
-            &Plan::Go(Stage::Stage119),
+            &Plan::Go(Stage::Stage122),
         ),
     ),
 );
 
-static STAGE121: Plan = Plan::Reads(
+static STAGE124: Plan = Plan::Reads(
     &Form::Token(Token::Word(Word::Type)),
-    &Plan::Go(Stage::Stage120),
+    &Plan::Go(Stage::Stage123),
 );
 
-static STAGE122: Plan = Plan::Reads(
+static STAGE125: Plan = Plan::Reads(
     &Form::Rule(Rule::ForeignSignature),
-    &Plan::Go(Stage::Stage114),
+    &Plan::Go(Stage::Stage117),
 );
-
-static STAGE123: Plan = Plan::Turns(
-    Look::Or(
-        &Look::Word(Word::Const),
-        &Look::Or(
-            &Look::Word(Word::Async),
-            &Look::Or(&Look::Word(Word::Extern), &Look::Word(Word::Fn)),
-        ),
-    ),
-    &Plan::Go(Stage::Stage122),
-    &Plan::Go(Stage::Stage53),
-);
-
-static STAGE124: Plan = Plan::Turns(
-    Look::Word(Word::Type),
-    &Plan::Go(Stage::Stage121),
-    &Plan::Turns(
-        Look::Word(Word::Static),
-        &Plan::Go(Stage::Stage113),
-        &Plan::Turns(
-            Look::Word(Word::Unsafe),
-            &Plan::Go(Stage::Stage116),
-            &Plan::Go(Stage::Stage123),
-        ),
-    ),
-);
-
-static STAGE125: Plan = Plan::Rest(&Form::When(
-    Look::Word(Word::SelfType),
-    &Form::Never(Fault::Unexpected),
-    &Form::Part(Part::Planned74),
-));
 
 static STAGE126: Plan = Plan::Turns(
     Look::Or(
@@ -2544,89 +2491,130 @@ static STAGE126: Plan = Plan::Turns(
             &Look::Or(&Look::Word(Word::Extern), &Look::Word(Word::Fn)),
         ),
     ),
-    &Plan::Go(Stage::Stage122),
     &Plan::Go(Stage::Stage125),
+    &Plan::Go(Stage::Stage5),
 );
 
 static STAGE127: Plan = Plan::Turns(
     Look::Word(Word::Type),
-    &Plan::Go(Stage::Stage121),
+    &Plan::Go(Stage::Stage124),
     &Plan::Turns(
         Look::Word(Word::Static),
-        &Plan::Go(Stage::Stage113),
+        &Plan::Go(Stage::Stage116),
         &Plan::Turns(
             Look::Word(Word::Unsafe),
-            &Plan::Go(Stage::Stage116),
+            &Plan::Go(Stage::Stage119),
             &Plan::Go(Stage::Stage126),
         ),
     ),
 );
 
-static STAGE128: Plan = Plan::Turns(
+static STAGE128: Plan = Plan::Rest(&Form::When(
+    Look::Word(Word::SelfType),
+    &Form::Never(Fault::Unexpected),
+    &Form::Part(Part::Planned73),
+));
+
+static STAGE129: Plan = Plan::Turns(
+    Look::Or(
+        &Look::Word(Word::Const),
+        &Look::Or(
+            &Look::Word(Word::Async),
+            &Look::Or(&Look::Word(Word::Extern), &Look::Word(Word::Fn)),
+        ),
+    ),
+    &Plan::Go(Stage::Stage125),
+    &Plan::Go(Stage::Stage128),
+);
+
+static STAGE130: Plan = Plan::Turns(
+    Look::Word(Word::Type),
+    &Plan::Go(Stage::Stage124),
+    &Plan::Turns(
+        Look::Word(Word::Static),
+        &Plan::Go(Stage::Stage116),
+        &Plan::Turns(
+            Look::Word(Word::Unsafe),
+            &Plan::Go(Stage::Stage119),
+            &Plan::Go(Stage::Stage129),
+        ),
+    ),
+);
+
+static STAGE131: Plan = Plan::Turns(
     Look::Word(Word::Safe),
     &Plan::Turns(
         Look::BeforeMacro,
-        &Plan::Go(Stage::Stage125),
+        &Plan::Go(Stage::Stage128),
         &Plan::Turns(
             Look::BeforeColons,
-            &Plan::Go(Stage::Stage125),
-            &Plan::Go(Stage::Stage116),
+            &Plan::Go(Stage::Stage128),
+            &Plan::Go(Stage::Stage119),
         ),
     ),
-    &Plan::Go(Stage::Stage127),
+    &Plan::Go(Stage::Stage130),
 );
 
-static STAGE129: Plan = Plan::Turns(
+static STAGE132: Plan = Plan::Turns(
     Look::Or(&Look::Word(Word::Pub), &Look::EmptyGroup),
     &Plan::Reads(
         &Form::Rule(Rule::Visibility),
         &Plan::Turns(
             Look::Word(Word::Safe),
-            &Plan::Go(Stage::Stage116),
-            &Plan::Go(Stage::Stage124),
+            &Plan::Go(Stage::Stage119),
+            &Plan::Go(Stage::Stage127),
         ),
     ),
-    &Plan::Go(Stage::Stage128),
+    &Plan::Go(Stage::Stage131),
 );
 
-static STAGE130: Plan = Plan::Turns(
+static STAGE133: Plan = Plan::Turns(
     Look::Item,
-    &Plan::Then(&Plan::Go(Stage::Stage91), &Form::Rule(Rule::Statements)),
+    &Plan::Then(&Plan::Go(Stage::Stage93), &Form::Rule(Rule::Statements)),
     &Plan::Rest(&Form::Then(&Form::Rule(Rule::StatementRest), &Form::Empty)),
 );
 
-static STAGE131: Plan = Plan::Reads(
+static STAGE134: Plan = Plan::Reads(
     &Form::Token(Token::Word(Word::Use)),
     &Plan::Turns(
         Look::Group(Delimiter::Brace),
-        &Plan::Rooted(&Plan::Go(Stage::Stage53), &Plan::Go(Stage::Stage15)),
-        &Plan::Go(Stage::Stage16),
+        &Plan::Rooted(&Plan::Go(Stage::Stage5), &Plan::Go(Stage::Stage6)),
+        &Plan::Go(Stage::Stage19),
     ),
 );
 
-static STAGE132: Plan = Plan::Turns(
+static STAGE135: Plan = Plan::Reads(
+    &Form::Rule(Rule::Generics),
+    &Plan::Turns(
+        Look::Word(Word::Where),
+        &Plan::Reads(&Form::Rule(Rule::WhereClause), &Plan::Go(Stage::Stage8)),
+        &Plan::Go(Stage::Stage10),
+    ),
+);
+
+static STAGE136: Plan = Plan::Turns(
     Look::Or(&Look::PathWord, &Look::Mark(Mark::PathSep)),
-    &Plan::Go(Stage::Stage69),
+    &Plan::Go(Stage::Stage71),
     &Plan::Rest(&Form::Then(
         &Form::Rule(Rule::Type),
         &Form::Then(&Form::Rule(Rule::ImplBody), &Form::Empty),
     )),
 );
 
-static STAGE133: Plan = Plan::Turns(
+static STAGE137: Plan = Plan::Turns(
     Look::Mark(Mark::Not),
     &Plan::Reads(
         &Form::Mark(Mark::Not),
         &Plan::Turns(
             Look::Group(Delimiter::Brace),
-            &Plan::Go(Stage::Stage64),
             &Plan::Go(Stage::Stage66),
+            &Plan::Go(Stage::Stage68),
         ),
     ),
-    &Plan::Go(Stage::Stage132),
+    &Plan::Go(Stage::Stage136),
 );
 
-static STAGE134: Plan = Plan::Reads(
+static STAGE138: Plan = Plan::Reads(
     &Form::When(
         Look::Word(Word::Unsafe),
         &Form::Token(Token::Word(Word::Unsafe)),
@@ -2634,7 +2622,7 @@ static STAGE134: Plan = Plan::Reads(
     ),
     &Plan::Reads(
         &Form::Token(Token::Word(Word::Impl)),
-        &Plan::Lists(&Plan::Led(&Plan::Go(Stage::Stage133))),
+        &Plan::Lists(&Plan::Led(&Plan::Go(Stage::Stage137))),
     ),
 );
 
@@ -2796,5 +2784,9 @@ pub(crate) fn plan_of(stage: Stage) -> &'static Plan
         Stage::Stage132 => &STAGE132,
         Stage::Stage133 => &STAGE133,
         Stage::Stage134 => &STAGE134,
+        Stage::Stage135 => &STAGE135,
+        Stage::Stage136 => &STAGE136,
+        Stage::Stage137 => &STAGE137,
+        Stage::Stage138 => &STAGE138,
     }
 }

@@ -9,8 +9,8 @@ ghost use Rattle.syn_parse.specs.Refusals.{IsSyntax};
 ghost use Rattle.syn_parse.specs.declared.read.refusal.Refusal.TheVariants.{Memory};
 ghost use Rattle.syn_recognize.specs.Forms.{grammar_of};
 ghost use Rattle.syn_recognize.specs.Stages.{planned_form};
-ghost use Rattle.syn_recognize.specs.Courses.{course_of, copy_guess, copy_course, led_by, by_roots, guessed_generics, guessed_lists, no_parameters};
-ghost use Rattle.syn_recognize.specs.Copies.{Copy, copy_form};
+ghost use Rattle.syn_recognize.specs.Courses.{behind_form, course_of, copy_guess, copy_course, led_by, by_roots, shown_generics, impl_parameters, guessed_generics, guessed_lists, no_parameters};
+ghost use Rattle.syn_recognize.specs.Copies.{Copy, copy_form, next};
 ghost use Rattle.syn_recognize.specs.Names.{look_of};
 ghost use Rattle.syn_recognize.specs.Course.{reads, turns, rooted, followed, rest, kept, lists, led, self_type};
 ghost use Rattle.syn_recognize.specs.Steps.{Steps, Guessing};
@@ -41,8 +41,10 @@ static TREES_IN_BRACES: Form = Form::Inside(Delimiter::Brace, &Form::Rule(Rule::
 
 static STATEMENTS: Form = Form::Rule(Rule::Statements);
 
+static NOTHING: Form = Form::Empty;
+
 /// Begins a plan.
-#[tactic(auto, using(crate::proofs::Todo::push, crate::proofs::CourseProofs::goes_written))]
+#[tactic(auto, using(crate::proofs::PlanBegins::begins))]
 pub(crate) fn read_planned<'a>(
     planned: Planned,
     steps: &mut Vec<Step<'a>>,
@@ -60,6 +62,7 @@ pub(crate) fn read_planned<'a>(
 }
 
 /// The same, of what is kept as tokens: it is read and dropped, and then written as it is.
+#[tactic(auto, using(crate::proofs::PlanBegins::begins_aside))]
 fn read_aside<'a>(
     planned: Planned,
     steps: &mut Vec<Step<'a>>,
@@ -68,13 +71,21 @@ fn read_aside<'a>(
 ) -> Parsed<()>
     ensures { Guessing IsSyntax steps.old.items (copy_form (planned_form planned) out.old input.now) result steps.new.items out.new input.now }
 {
-    if let Planned::Statements = planned {
-        steps.push(Step::Form(&STATEMENTS))?;
-    }
+    steps.push(Step::Form(behind(planned)))?;
     let before = out.drop_aside()?;
     steps.push(Step::Capture(before, input.fork()))?;
     steps.push(Step::Plan(begin_of(planned), Guess::kept()))?;
     Ok(())
+}
+
+/// What stands behind an item that a plan reads.
+fn behind(planned: Planned) -> &'static Form
+    ensures { grammar_of result.now ≡ behind_form planned }
+{
+    match planned {
+        Planned::Statements => &STATEMENTS,
+        _ => &NOTHING,
+    }
 }
 
 /// Goes on with a plan.
@@ -257,7 +268,7 @@ fn read_kept<'a>(
 // IMPLS
 
 /// Reads the generics of an impl, and goes on.
-#[tactic(auto, using(crate::proofs::Todo::push, crate::proofs::Guessed::lists_is))]
+#[tactic(auto, using(crate::proofs::Guessed::lists_kept, crate::proofs::Guessed::lists_open, crate::proofs::Guessed::lists_guessed))]
 fn read_lists<'a>(
     plan: &'static Plan,
     guess: Guess,
@@ -267,14 +278,26 @@ fn read_lists<'a>(
 ) -> Parsed<()>
     ensures { Steps IsSyntax steps.old.items (copy_guess guess (lists (course_of plan.now)) out.old input.old) result steps.new.items out.new input.new }
 {
-    if !guess.kept {
-        if let Some(leads) = guess.leads {
-            if out.is_printing() {
-                return print_lists(plan, guess, leads, steps, out, input);
-            }
-            return Err(Refusal::Memory);
-        }
+    if guess.kept {
+        return show_lists(plan, guess, steps, out, input);
     }
+    match guess.leads {
+        None => show_lists(plan, guess, steps, out, input),
+        Some(leads) => print_lists(plan, guess, leads, steps, out, input),
+    }
+}
+
+/// The same, where they are shown.
+#[tactic(auto, using(crate::proofs::Todo::push, crate::proofs::Guessed::generics_stand, crate::proofs::Guessed::generics_lack))]
+fn show_lists<'a>(
+    plan: &'static Plan,
+    guess: Guess,
+    steps: &mut Vec<Step<'a>>,
+    out: &Writer,
+    input: &ParseBuffer<'a>,
+) -> Parsed<()>
+    ensures { Steps IsSyntax steps.old.items (next (copy_form shown_generics out.now input.now) (copy_guess guess (course_of plan.now))) result steps.new.items out.now input.now }
+{
     steps.push(Step::Plan(plan, guess))?;
     if at_generics(input) {
         steps.push(Step::Form(&PARAMETERS))?;
@@ -282,7 +305,8 @@ fn read_lists<'a>(
     Ok(())
 }
 
-/// The same, where generics without parameters are printed by a guess.
+/// The same, where generics without parameters are printed by a guess. Nothing is guessed where trees are shown.
+#[tactic(auto, using(crate::proofs::ImplGenerics::none_absent, crate::proofs::ImplGenerics::none_bare, crate::proofs::ImplGenerics::none_open, crate::proofs::ImplGenerics::none_refused, crate::proofs::ImplGenerics::some_kept))]
 fn print_lists<'a>(
     plan: &'static Plan,
     guess: Guess,
@@ -291,28 +315,63 @@ fn print_lists<'a>(
     out: &mut Writer,
     input: &mut ParseBuffer<'a>,
 ) -> Parsed<()>
-    requires printing { out.old.printing ≡ true }
     requires direct { guess.kept ≡ false }
     requires guessed { guess.leads ≡ Some leads }
     ensures { Steps IsSyntax steps.old.items (guessed_lists (no_parameters input.old) leads (copy_course (course_of plan.now)) out.old input.old) result steps.new.items out.new input.new }
 {
+    if !out.is_printing() {
+        return Err(Refusal::Memory);
+    }
     if at_generics(input) {
         let mut ahead = input.fork();
         let _less: Lt = ahead.read()?;
         if !ahead.peek::<Gt>() {
-            steps.push(Step::Plan(plan, guess.settled()))?;
-            steps.push(Step::Form(&PARAMETERS))?;
-            return Ok(());
+            return read_parameters(plan, guess, steps, out, input);
         }
         let _greater: Gt = ahead.read()?;
         input.advance_to(&ahead);
     }
     write_none(leads, out)?;
+    go_on_guessed(plan, guess, leads, steps, out, input)
+}
+
+/// Reads parameters, and goes on: how generics without parameters are printed is no matter.
+#[tactic(auto, using(crate::proofs::Todo::push, crate::proofs::Guessed::settled_follows))]
+fn read_parameters<'a>(
+    plan: &'static Plan,
+    guess: Guess,
+    steps: &mut Vec<Step<'a>>,
+    out: &Writer,
+    input: &ParseBuffer<'a>,
+) -> Parsed<()>
+    requires direct { guess.kept ≡ false }
+    ensures { Steps IsSyntax steps.old.items (next (copy_form impl_parameters out.now input.now) (copy_course (course_of plan.now) None)) result steps.new.items out.now input.now }
+{
+    steps.push(Step::Plan(plan, guess.settled()))?;
+    steps.push(Step::Form(&PARAMETERS))?;
+    Ok(())
+}
+
+/// Goes on with this guess of how they are printed.
+#[tactic(auto, using(crate::proofs::Todo::push, crate::proofs::Guessed::guess_is))]
+fn go_on_guessed<'a>(
+    plan: &'static Plan,
+    guess: Guess,
+    leads: bool,
+    steps: &mut Vec<Step<'a>>,
+    out: &Writer,
+    input: &ParseBuffer<'a>,
+) -> Parsed<()>
+    requires direct { guess.kept ≡ false }
+    requires guessed { guess.leads ≡ Some leads }
+    ensures { Steps IsSyntax steps.old.items (copy_course (course_of plan.now) (Some leads) out.now input.now) result steps.new.items out.now input.now }
+{
     steps.push(Step::Plan(plan, guess))?;
     Ok(())
 }
 
 /// Writes generics without parameters as `< >` where this is so, else nothing.
+#[tactic(auto, using(crate::proofs::ImplGenerics::both_marks, crate::proofs::Writes::adds_none))]
 fn write_none(leads: bool, out: &mut Writer) -> Result<(), AllocError>
     ensures { OnOk result (out.new ≡ adds out.old (guessed_generics leads)) }
 {

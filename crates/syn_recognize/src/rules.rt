@@ -736,10 +736,6 @@ pub enum Part {
     Planned82,
     Planned83,
     Planned84,
-    Planned85,
-    Planned86,
-    Planned87,
-    Planned88,
 }
 
 /// The form of the part.
@@ -977,9 +973,5 @@ pub(crate) fn form_of_part(part: Part) -> &'static Form
         Part::Planned82 => &crate::plan::PLANNED_82,
         Part::Planned83 => &crate::plan::PLANNED_83,
         Part::Planned84 => &crate::plan::PLANNED_84,
-        Part::Planned85 => &crate::plan::PLANNED_85,
-        Part::Planned86 => &crate::plan::PLANNED_86,
-        Part::Planned87 => &crate::plan::PLANNED_87,
-        Part::Planned88 => &crate::plan::PLANNED_88,
     }
 }

@@ -151,14 +151,25 @@ impl Writer {
     {
         if self.noting {
             let number = self.notes.begin_plan()?;
-            return Ok(Guess::noted_as(number));
+            return Ok(Guess {
+                kept: false,
+                leads: self.guessed(false),
+                number: Some(number),
+            });
         }
         let noted = self.notes.next_plan();
         Ok(Guess {
             kept: noted.kept,
-            leads: if self.printing { Some(noted.leads) } else { None },
+            leads: self.guessed(noted.leads),
             number: None,
         })
+    }
+
+    /// What is guessed of the generics of an impl: this where trees are written as they are printed, else nothing.
+    fn guessed(&self, leads: bool) -> Option<bool>
+        ensures { Fair self.now.printing result }
+    {
+        if self.printing { Some(leads) } else { None }
     }
 
     /// Notes that what the plan of this number reads is kept as tokens.
