@@ -486,6 +486,7 @@ class Writer:
                 own = plans.Plans(self.source)
                 own.reader, plans.Prover.count = plans.Prover, 0
                 goes[way] = plans.Proofs(way).of(own.call(PLANS[k], [], {}), 'm')
+                own.called |= {'item': {'impl_generics', 'impl_types'}, 'impl_definition_rest': {'plain_types'}}.get(k, set())
                 called |= own.called
             opened = ' '.join(sorted(own.called))
             course = f'(planned_course Planned-m.{camel(k)})'

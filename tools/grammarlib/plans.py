@@ -403,7 +403,7 @@ class Proofs:
             return f'(refl, {self.both_turns(plan, at, self.flat)})'
         if plan[0] == 'fails':
             return 'refl'
-        if plan[2].lstrip('(').startswith('impl_of '):
+        if plan[2].lstrip('( ').startswith('impl_of '):
             return f'(refl, {self.lone_end(plan)})'
         return f'(refl, text_behind {self.way} end {parts_text(plan[1])})'
 

@@ -1,7 +1,10 @@
 -- What is written on a course by a guess, by its first step.
-use Rattle.std.proofs.Common.{◌≡◌, Bool, true, false, Option, Some, None, refl, sym, ap, ap₂, ◌∙◌}
+use Rattle.std.proofs.Common.{◌≡◌, Bool, true, false, Option, Some, None, [], refl, sym, ap, ap₂, ◌∙◌}
 use Rattle.syn_grammar.specs.Tokens.{Stream, Look, pick, at_generics}
-use Rattle.syn_grammar.specs.Grammar.{Grammar, empty}
+use Rattle.syn_grammar.specs.Words.{w_for}
+use Rattle.syn_grammar.specs.Grammar.{word, Syntax, Grammar, empty, token}
+use Rattle.syn_grammar.specs.Run.{parse_form}
+use Rattle.syn_grammar.specs.Leads.{generics_behind, leads_on}
 use Rattle.syn_grammar.specs.Take.{sees}
 use Rattle.syn_recognize.specs.Written.{Written}
 use Rattle.syn_recognize.specs.Copies.{Copy, Reached, next, copy_form}
@@ -51,3 +54,10 @@ generics_stand w ts e = when_is at_generics impl_parameters empty w ts ∙ ap (�
 
 pub generics_lack : (w : Written) (ts : Stream) → sees at_generics ts ≡ false → copy_form shown_generics w ts ≡ Reached w ts
 generics_lack w ts e = when_is at_generics impl_parameters empty w ts ∙ ap (λ v. pick v (copy_form impl_parameters w ts) (copy_form empty w ts)) e ∙ empty_is w ts
+
+-- behind `for`
+pub for_led : (ts r : Stream) (s : Syntax) → parse_form (token [] (word w_for)) ts ≡ Some (s, r) → leads_on ts ≡ sees at_generics r
+for_led ts r s e = ap generics_behind e
+
+pub for_lacks : (ts : Stream) → parse_form (token [] (word w_for)) ts ≡ None → leads_on ts ≡ false
+for_lacks ts e = ap generics_behind e

@@ -1,7 +1,7 @@
 -- What is written on the course of an impl behind `impl` is what is written of its plan.
 use Rattle.std.proofs.Common.{◌≡◌, Bool, true, false, Option, [], ◌∷◌, Some, None, refl, sym, ap, ap₂, ◌∙◌, subst, true≢false}
 use Rattle.syn_grammar.specs.Words.{less, greater, exclamation, w_for}
-use Rattle.syn_grammar.specs.Tokens.{Stream, end, leaf, punct, group, ◌⧺◌, or, pick, at_generics}
+use Rattle.syn_grammar.specs.Tokens.{Stream, end, ◌⧺◌, or, pick, at_generics}
 use Rattle.syn_grammar.specs.Rules.{Rule, lifetime_parameter, type, type_path, for_self_type, impl_body}
 use Rattle.syn_grammar.specs.Grammar.{Syntax, Nothing, Both, Left, Right, Order, Done, Impl, bare, led, renew, show, no_generics, Grammar, empty, mark, word, ◌&◌, when◌then◌else◌, rule, at_row_end}
 use Rattle.syn_grammar.specs.Forms.{punctuation}
@@ -14,6 +14,7 @@ use Rattle.syn_grammar.specs.ItemPlan.{parts, absent, at_lone_word}
 use Rattle.syn_grammar.specs.Leads.{Reads, generics_behind, leads_on}
 use Rattle.syn_grammar.proofs.Leads.{impl_led}
 use Rattle.syn_grammar.proofs.Looks.{sees_word}
+use Rattle.syn_grammar.proofs.PlanSteps.{seen_apart}
 use Rattle.syn_grammar.proofs.Streams.{append_end, append_append}
 use Rattle.syn_recognize.specs.declared.list.List.TheVariants as List-m
 use Rattle.syn_recognize.specs.Ordered.{member}
@@ -121,22 +122,41 @@ optional_self_type = when at_for then rule for_self_type else empty
 abbrev behind_path : Course
 behind_path = turns at_for (self_type (rest body_form)) (rest body_form)
 
+abbrev kept_three : Grammar
+kept_three = rule type & (rule for_self_type & body_form)
+
+abbrev kept_two : Grammar
+kept_two = rule for_self_type & body_form
+
+abbrev for_course : Course
+for_course = reads (rule type_path) (self_type (rest body_form))
+
+abbrev plain_course : Course
+plain_course = reads (rule type_path) behind_path
+
+abbrev for_or_kept : Course
+for_or_kept = turns at_module_path for_course (kept kept_three)
+
+abbrev brace_course : Course
+brace_course = turns at_brace (rest body_form) for_or_kept
+
+abbrev type_course : Course
+type_course = turns at_for (kept kept_two) (rest body_form)
+
+abbrev path_course : Course
+path_course = turns at_module_path plain_course (reads (rule type) type_course)
+
 abbrev pub types_course : Course
-types_course =
-    turns at_exclamation (reads (mark false exclamation)
-    (turns at_brace (rest body_form)
-    (turns at_module_path (reads (rule type_path) (self_type (rest body_form)))
-    (kept (rule type & (rule for_self_type & body_form))))))
-    (turns at_module_path (reads (rule type_path) behind_path)
-    (reads (rule type) (turns at_for (kept (rule for_self_type & body_form)) (rest body_form))))
+types_course = turns at_exclamation (reads (mark false exclamation) brace_course) path_course
+
+abbrev brace_alone : Course
+brace_alone = turns at_brace (rest body_form) for_course
+
+abbrev path_alone : Course
+path_alone = turns at_module_path plain_course (rest (rule type & body_form))
 
 abbrev pub alone_course : Course
-alone_course =
-    turns at_exclamation (reads (mark false exclamation)
-    (turns at_brace (rest body_form)
-    (reads (rule type_path) (self_type (rest body_form)))))
-    (turns at_module_path (reads (rule type_path) behind_path)
-    (rest (rule type & body_form)))
+alone_course = turns at_exclamation (reads (mark false exclamation) brace_alone) path_alone
 
 -- (by the value of all, from that of the generics and what stands behind them)
 module _ (N : Syntax → Syntax) where
@@ -149,24 +169,41 @@ module _ (N : Syntax → Syntax) where
   abbrev path_plan : Syntax → Plan
   path_plan g = plan.reads (rule type_path) λ t. plan.reads optional_self_type λ f. ending g (λ b. Right (Left (parts (t ∷ f ∷ b ∷ []))))
 
+  abbrev three_kept : Plan
+  three_kept = plan.keeps (plan.reads (rule type) λ t. plan.reads (rule for_self_type) λ f. plan.reads (rule impl_body) λ c. plan.done)
+
+  abbrev two_kept : Plan
+  two_kept = plan.keeps (plan.reads (rule for_self_type) λ f. plan.reads (rule impl_body) λ c. plan.done)
+
+  abbrev never_plan : Syntax → Syntax → Plan
+  never_plan g x = ending g (λ c. Left (Both x (Left c)))
+
+  abbrev for_plan : Syntax → Syntax → Plan
+  for_plan g x = plan.turns at_module_path (for_type g x) three_kept
+
+  abbrev brace_plan : Syntax → Syntax → Plan
+  brace_plan g x = plan.turns at_brace (never_plan g x) (for_plan g x)
+
+  abbrev end_plan : Syntax → Syntax → Plan
+  end_plan g t = ending g (λ c. Right (Right (Both t c)))
+
+  abbrev type_plan : Syntax → Syntax → Plan
+  type_plan g t = plan.turns at_for two_kept (end_plan g t)
+
+  abbrev path_or_type : Syntax → Plan
+  path_or_type g = plan.turns at_module_path (path_plan g) (plan.reads (rule type) (type_plan g))
+
   abbrev pub types_plan : Syntax → Plan
-  types_plan g =
-      plan.turns at_exclamation (plan.reads (punctuation exclamation) λ x.
-      plan.turns at_brace (ending g (λ b. Left (Both x (Left b))))
-      (plan.turns at_module_path (for_type g x)
-      (plan.keeps (plan.reads (rule type) λ t. plan.reads (rule for_self_type) λ f. plan.reads (rule impl_body) λ b. plan.done))))
-      (plan.turns at_module_path (path_plan g)
-      (plan.reads (rule type) λ t.
-      plan.turns at_for (plan.keeps (plan.reads (rule for_self_type) λ f. plan.reads (rule impl_body) λ b. plan.done))
-      (ending g (λ b. Right (Right (Both t b))))))
+  types_plan g = plan.turns at_exclamation (plan.reads (punctuation exclamation) (brace_plan g)) (path_or_type g)
+
+  abbrev brace_alone_plan : Syntax → Syntax → Plan
+  brace_alone_plan g x = plan.turns at_brace (never_plan g x) (for_type g x)
+
+  abbrev path_alone_plan : Syntax → Plan
+  path_alone_plan g = plan.turns at_module_path (path_plan g) (plan.reads (rule type) (end_plan g))
 
   abbrev pub alone_plan : Syntax → Plan
-  alone_plan g =
-      plan.turns at_exclamation (plan.reads (punctuation exclamation) λ x.
-      plan.turns at_brace (ending g (λ b. Left (Both x (Left b))))
-      (for_type g x))
-      (plan.turns at_module_path (path_plan g)
-      (plan.reads (rule type) λ t. ending g (λ b. Right (Right (Both t b)))))
+  alone_plan g = plan.turns at_exclamation (plan.reads (punctuation exclamation) (brace_alone_plan g)) (path_alone_plan g)
 
   module _ (k : Rule) (b : Stream) (w : Written) (i : Stream) (H : (z : Syntax) → way w.printing (N z) ≡ i ⧺ way w.printing z) where
     abbrev As : Course → Plan → Option Bool → Stream → Stream → Type 0
@@ -255,24 +292,30 @@ module _ (N : Syntax → Syntax) where
         body_written l n (sees at_generics m) g (λ c. Right (Right (Both t c))) j (j ⧺ way w.printing t) p h q (λ c d y. impl_led.1.1.1 m p d t c v y)
         (λ c. ap (λ y. j ⧺ y) (type_text w.printing t c) ∙ sym (append_append j (way w.printing t) (way w.printing c)))
 
+    three_is : Kept kept_three three_kept
+    three_is = (refl, (refl, λ t. (refl, (refl, λ f. (refl, (refl, λ c. refl))))))
+
+    two_is : Kept kept_two two_kept
+    two_is = (refl, (refl, λ f. (refl, (refl, λ c. refl))))
+
     types_from : (l n : Option Bool) (g : Syntax) (j m : Stream) → Stands w.printing l g i j → Known l n (sees at_generics m) → As types_course (types_plan g) n j m
     types_from l n g j m h q =
-        turns_written k b w at_exclamation _ _ _ _ n j m
-        (λ s. reads_written k b w (mark false exclamation) (punctuation exclamation) _ _ n j m refl
-        (λ x r u. turns_written k b w at_brace _ _ _ _ n (j ⧺ way w.printing x) r (λ y. never_written l n g x j m r h q u)
-        (λ y. turns_written k b w at_module_path _ _ _ _ n (j ⧺ way w.printing x) r (λ z. for_written l n g x j m r h q u)
-        (λ z. kept_written k b w (rule type & (rule for_self_type & body_form)) _ n (j ⧺ way w.printing x) r (refl, (refl, λ t. (refl, (refl, λ f. (refl, (refl, λ c. refl)))))))))) 
-        (λ s. turns_written k b w at_module_path _ _ _ _ n j m (λ y. plain_written l n g j m h q)
-        (λ y. reads_written k b w (rule type) (rule type) _ _ n j m refl
-        (λ t p v. turns_written k b w at_for _ _ _ _ n (j ⧺ way w.printing t) p (λ z. kept_written k b w (rule for_self_type & body_form) _ n (j ⧺ way w.printing t) p (refl, (refl, λ f. (refl, (refl, λ c. refl)))))
+        turns_written k b w at_exclamation (reads (mark false exclamation) brace_course) path_course (plan.reads (punctuation exclamation) (brace_plan g)) (path_or_type g) n j m
+        (λ s. reads_written k b w (mark false exclamation) (punctuation exclamation) brace_course (brace_plan g) n j m refl
+        (λ x r u. turns_written k b w at_brace (rest body_form) for_or_kept (never_plan g x) (for_plan g x) n (j ⧺ way w.printing x) r (λ y. never_written l n g x j m r h q u)
+        (λ y. turns_written k b w at_module_path for_course (kept kept_three) (for_type g x) three_kept n (j ⧺ way w.printing x) r (λ z. for_written l n g x j m r h q u)
+        (λ z. kept_written k b w kept_three three_kept n (j ⧺ way w.printing x) r three_is))))
+        (λ s. turns_written k b w at_module_path plain_course (reads (rule type) type_course) (path_plan g) (plan.reads (rule type) (type_plan g)) n j m (λ y. plain_written l n g j m h q)
+        (λ y. reads_written k b w (rule type) (rule type) type_course (type_plan g) n j m refl
+        (λ t p v. turns_written k b w at_for (kept kept_two) (rest body_form) two_kept (end_plan g t) n (j ⧺ way w.printing t) p (λ z. kept_written k b w kept_two two_kept n (j ⧺ way w.printing t) p two_is)
         (λ z. type_written l n g t j m p h q v))))
 
     alone_from : (l n : Option Bool) (g : Syntax) (j m : Stream) → Stands w.printing l g i j → Known l n (sees at_generics m) → As alone_course (alone_plan g) n j m
     alone_from l n g j m h q =
-        turns_written k b w at_exclamation _ _ _ _ n j m
-        (λ s. reads_written k b w (mark false exclamation) (punctuation exclamation) _ _ n j m refl
-        (λ x r u. turns_written k b w at_brace _ _ _ _ n (j ⧺ way w.printing x) r (λ y. never_written l n g x j m r h q u) (λ y. for_written l n g x j m r h q u)))
-        (λ s. turns_written k b w at_module_path _ _ _ _ n j m (λ y. plain_written l n g j m h q) (λ y. last n q))
+        turns_written k b w at_exclamation (reads (mark false exclamation) brace_alone) path_alone (plan.reads (punctuation exclamation) (brace_alone_plan g)) (path_alone_plan g) n j m
+        (λ s. reads_written k b w (mark false exclamation) (punctuation exclamation) brace_alone (brace_alone_plan g) n j m refl
+        (λ x r u. turns_written k b w at_brace (rest body_form) for_course (never_plan g x) (for_type g x) n (j ⧺ way w.printing x) r (λ y. never_written l n g x j m r h q u) (λ y. for_written l n g x j m r h q u)))
+        (λ s. turns_written k b w at_module_path plain_course (rest (rule type & body_form)) (path_plan g) (plan.reads (rule type) (end_plan g)) n j m (λ y. plain_written l n g j m h q) (λ y. last n q))
       where
         last : (n : Option Bool) → Known l n (sees at_generics m) → As (rest (rule type & body_form)) (plan.reads (rule type) λ t. ending g (λ c. Right (Right (Both t c)))) n j m
         last (Some true) q = tt
@@ -315,32 +358,36 @@ module _ (N : Syntax → Syntax) where
             subst (λ c. Leads (copied w (follow (λ s r. run_plan (ending g (S s)) k b r) (branch c (parse_form (rule for_self_type) m) (Some (Nothing, m)))))
             (next (pick c (copy_kept (self_type (rest body_form)) v m) (copy_kept (rest body_form) v m)) (capturing w b))) (sym y) tt
 
-    for_kept : (g x : Syntax) (v : Written) (m : Stream) → Aside (reads (rule type_path) (self_type (rest body_form))) (for_type g x) v m
-    for_kept g x v m = reads_kept k b w (rule type_path) (rule type_path) _ _ v m refl (λ t r u q. self_kept g (λ f c. Left (Both x (Right (parts (t ∷ f ∷ c ∷ []))))) u r)
+    for_kept : (g x : Syntax) (v : Written) (m : Stream) → Aside for_course (for_type g x) v m
+    for_kept g x v m =
+        reads_kept k b w (rule type_path) (rule type_path) (self_type (rest body_form)) (λ t. plan.reads (rule for_self_type) λ f. ending g (λ c. Left (Both x (Right (parts (t ∷ f ∷ c ∷ [])))))) v m refl
+        (λ t r u q. self_kept g (λ f c. Left (Both x (Right (parts (t ∷ f ∷ c ∷ []))))) u r)
 
-    plain_kept : (g : Syntax) (v : Written) (m : Stream) → Aside (reads (rule type_path) behind_path) (path_plan g) v m
-    plain_kept g v m = reads_kept k b w (rule type_path) (rule type_path) _ _ v m refl (λ t r u q. path_kept g (λ f c. Right (Left (parts (t ∷ f ∷ c ∷ [])))) u r)
+    plain_kept : (g : Syntax) (v : Written) (m : Stream) → Aside plain_course (path_plan g) v m
+    plain_kept g v m =
+        reads_kept k b w (rule type_path) (rule type_path) behind_path (λ t. plan.reads optional_self_type λ f. ending g (λ c. Right (Left (parts (t ∷ f ∷ c ∷ []))))) v m refl
+        (λ t r u q. path_kept g (λ f c. Right (Left (parts (t ∷ f ∷ c ∷ [])))) u r)
 
     all_kept : (g : Grammar) (p : Plan) (v : Written) (m : Stream) → Kept g p → Aside (kept g) p v m
     all_kept g p v m e = leads_same (copied w (run_plan p k b m)) (next (copy_form g v m) (capturing w b)) (sym (kept_is k b w g p v m e))
 
     pub types_kept : (g : Syntax) (v : Written) (m : Stream) → Aside (behind-generics types_course) (types_plan g) v m
     types_kept g v m =
-        turns_kept k b w at_exclamation _ _ _ _ v m
-        (λ s. reads_kept k b w (mark false exclamation) (punctuation exclamation) _ _ v m refl
-        (λ x r u q. turns_kept k b w at_brace _ _ _ _ u r (λ y. tt)
-        (λ y. turns_kept k b w at_module_path _ _ _ _ u r (λ z. for_kept g x u r)
-        (λ z. all_kept (rule type & (rule for_self_type & body_form)) _ u r (refl, (refl, λ t. (refl, (refl, λ f. (refl, (refl, λ c. refl))))))))))
-        (λ s. turns_kept k b w at_module_path _ _ _ _ v m (λ y. plain_kept g v m)
-        (λ y. reads_kept k b w (rule type) (rule type) _ _ v m refl
-        (λ t r u q. turns_kept k b w at_for _ _ _ _ u r (λ z. all_kept (rule for_self_type & body_form) _ u r (refl, (refl, λ f. (refl, (refl, λ c. refl))))) (λ z. tt))))
+        turns_kept k b w at_exclamation (reads (mark false exclamation) brace_course) path_course (plan.reads (punctuation exclamation) (brace_plan g)) (path_or_type g) v m
+        (λ s. reads_kept k b w (mark false exclamation) (punctuation exclamation) brace_course (brace_plan g) v m refl
+        (λ x r u q. turns_kept k b w at_brace (rest body_form) for_or_kept (never_plan g x) (for_plan g x) u r (λ y. tt)
+        (λ y. turns_kept k b w at_module_path for_course (kept kept_three) (for_type g x) three_kept u r (λ z. for_kept g x u r)
+        (λ z. all_kept kept_three three_kept u r (refl, (refl, λ t. (refl, (refl, λ f. (refl, (refl, λ c. refl))))))))))
+        (λ s. turns_kept k b w at_module_path plain_course (reads (rule type) type_course) (path_plan g) (plan.reads (rule type) (type_plan g)) v m (λ y. plain_kept g v m)
+        (λ y. reads_kept k b w (rule type) (rule type) type_course (type_plan g) v m refl
+        (λ t r u q. turns_kept k b w at_for (kept kept_two) (rest body_form) two_kept (end_plan g t) u r (λ z. all_kept kept_two two_kept u r (refl, (refl, λ f. (refl, (refl, λ c. refl))))) (λ z. tt))))
 
     pub alone_kept : (g : Syntax) (v : Written) (m : Stream) → Aside (behind-generics alone_course) (alone_plan g) v m
     alone_kept g v m =
-        turns_kept k b w at_exclamation _ _ _ _ v m
-        (λ s. reads_kept k b w (mark false exclamation) (punctuation exclamation) _ _ v m refl
-        (λ x r u q. turns_kept k b w at_brace _ _ _ _ u r (λ y. tt) (λ y. for_kept g x u r)))
-        (λ s. turns_kept k b w at_module_path _ _ _ _ v m (λ y. plain_kept g v m) (λ y. tt))
+        turns_kept k b w at_exclamation (reads (mark false exclamation) brace_alone) path_alone (plan.reads (punctuation exclamation) (brace_alone_plan g)) (path_alone_plan g) v m
+        (λ s. reads_kept k b w (mark false exclamation) (punctuation exclamation) brace_alone (brace_alone_plan g) v m refl
+        (λ x r u q. turns_kept k b w at_brace (rest body_form) for_course (never_plan g x) (for_type g x) u r (λ y. tt) (λ y. for_kept g x u r)))
+        (λ s. turns_kept k b w at_module_path plain_course (rest (rule type & body_form)) (path_plan g) (plan.reads (rule type) (end_plan g)) v m (λ y. plain_kept g v m) (λ y. tt))
 
 -- THE GENERICS, and what stands behind them: of any such course and plan
 module _ (d : Course) (P : Syntax → Plan) where
@@ -477,10 +524,7 @@ alone_impl_meets a N i m H =
 
 -- AN IMPL OF A TYPE OF ONE WORD IN PARENTHESES, which has no generics
 not_generics : (m : Stream) → sees at_lone_word m ≡ true → sees at_generics m ≡ false
-not_generics end e = absurd (true≢false (sym e))
-not_generics (leaf x sp m) e = absurd (true≢false (sym e))
-not_generics (punct c j sp m) e = absurd (true≢false (sym e))
-not_generics (group d o c i m) e = refl
+not_generics m e = seen_apart at_lone_word at_generics m refl e
 
 pub lone_text : (a : Bool) (N : Syntax → Syntax) (i m p r : Stream) (t b : Syntax) → ((z : Syntax) → way a (N z) ≡ i ⧺ way a z) → sees at_lone_word m ≡ true → Reads (rule type) m t p → Reads (rule impl_body) p b r →
     way a (N (Impl absent (Right (Right (Both t b))))) ≡ (i ⧺ way a t) ⧺ way a b

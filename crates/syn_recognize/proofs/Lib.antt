@@ -13,6 +13,7 @@ pub mod FadingParts
 pub mod WrittenAside
 pub mod CourseProofs
 pub mod Guessed
+pub mod RootMarks
 pub mod ImplGenerics
 pub mod ImplCourses
 pub mod SmallCourses

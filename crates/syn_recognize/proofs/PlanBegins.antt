@@ -56,28 +56,28 @@ module _ (k j : Rule) (d : Course) (p : Plan) (law : (ts : Stream) → parse_rul
       (subst (λ o. Leads o (next (copy_kept d v ts) (capturing w ts))) (sym (table_is w ts k ∙ ap (copied w) (law ts))) (goes_kept j ts w d p end v ts (goes w.printing ts)))
 
 planned_written : (k : Planned) (w : Written) (ts : Stream) (l : Option Bool) → Fair w.printing l → Leads (copy_form (planned_form k) w ts) (copy_course (planned_course k) l w ts)
-planned_written Planned-m.Item w ts l fair = by_plan rules.item rules.kept_item _ item_plan item_plan_is item_goes w ts l fair
-planned_written Planned-m.TraitItem w ts l fair = by_plan rules.trait_item rules.kept_trait_item _ trait_item_plan trait_item_plan_is trait_item_goes w ts l fair
-planned_written Planned-m.ImplItem w ts l fair = by_plan rules.impl_item rules.kept_impl_item _ impl_item_plan impl_item_plan_is impl_item_goes w ts l fair
-planned_written Planned-m.ForeignItem w ts l fair = by_plan rules.foreign_item rules.kept_foreign_item _ foreign_item_plan foreign_item_plan_is foreign_item_goes w ts l fair
-planned_written Planned-m.CrateMacro w ts l fair = by_plan rules.crate_macro rules.kept_item _ crate_macro_plan crate_macro_plan_is crate_macro_goes w ts l fair
-planned_written Planned-m.DeriveInput w ts l fair = by_plan rules.derive_input rules.kept_item _ derive_input_plan derive_input_plan_is derive_input_goes w ts l fair
-planned_written Planned-m.UseItemRest w ts l fair = by_plan rules.use_item_rest rules.kept_item _ use_alone use_alone_is use_item_rest_goes w ts l fair
-planned_written Planned-m.TypeItemRest w ts l fair = by_plan rules.type_item_rest rules.kept_item _ type_alone type_alone_is type_item_rest_goes w ts l fair
-planned_written Planned-m.ImplDefinitionRest w ts l fair = by_plan rules.impl_definition_rest rules.kept_item _ impl_alone impl_alone_is impl_definition_rest_goes w ts l fair
+planned_written Planned-m.Item w ts l fair = by_plan rules.item rules.kept_item (planned_course Planned-m.Item) item_plan item_plan_is item_goes w ts l fair
+planned_written Planned-m.TraitItem w ts l fair = by_plan rules.trait_item rules.kept_trait_item (planned_course Planned-m.TraitItem) trait_item_plan trait_item_plan_is trait_item_goes w ts l fair
+planned_written Planned-m.ImplItem w ts l fair = by_plan rules.impl_item rules.kept_impl_item (planned_course Planned-m.ImplItem) impl_item_plan impl_item_plan_is impl_item_goes w ts l fair
+planned_written Planned-m.ForeignItem w ts l fair = by_plan rules.foreign_item rules.kept_foreign_item (planned_course Planned-m.ForeignItem) foreign_item_plan foreign_item_plan_is foreign_item_goes w ts l fair
+planned_written Planned-m.CrateMacro w ts l fair = by_plan rules.crate_macro rules.kept_item (planned_course Planned-m.CrateMacro) crate_macro_plan crate_macro_plan_is crate_macro_goes w ts l fair
+planned_written Planned-m.DeriveInput w ts l fair = by_plan rules.derive_input rules.kept_item (planned_course Planned-m.DeriveInput) derive_input_plan derive_input_plan_is derive_input_goes w ts l fair
+planned_written Planned-m.UseItemRest w ts l fair = by_plan rules.use_item_rest rules.kept_item (planned_course Planned-m.UseItemRest) use_alone use_alone_is use_item_rest_goes w ts l fair
+planned_written Planned-m.TypeItemRest w ts l fair = by_plan rules.type_item_rest rules.kept_item (planned_course Planned-m.TypeItemRest) type_alone type_alone_is type_item_rest_goes w ts l fair
+planned_written Planned-m.ImplDefinitionRest w ts l fair = by_plan rules.impl_definition_rest rules.kept_item (planned_course Planned-m.ImplDefinitionRest) impl_alone impl_alone_is impl_definition_rest_goes w ts l fair
 planned_written Planned-m.Statement w ts l fair = statement_written w ts l fair
 planned_written Planned-m.Statements w ts l fair = statements_written w ts l fair
 
 planned_kept : (k : Planned) (w v : Written) (ts : Stream) → Leads (copy_form (planned_form k) w ts) (next (next (copy_kept (planned_course k) v ts) (capturing w ts)) (copy_form (behind_form k)))
-planned_kept Planned-m.Item w v ts = by_plan_kept rules.item rules.kept_item _ item_plan item_plan_is item_goes w v ts
-planned_kept Planned-m.TraitItem w v ts = by_plan_kept rules.trait_item rules.kept_trait_item _ trait_item_plan trait_item_plan_is trait_item_goes w v ts
-planned_kept Planned-m.ImplItem w v ts = by_plan_kept rules.impl_item rules.kept_impl_item _ impl_item_plan impl_item_plan_is impl_item_goes w v ts
-planned_kept Planned-m.ForeignItem w v ts = by_plan_kept rules.foreign_item rules.kept_foreign_item _ foreign_item_plan foreign_item_plan_is foreign_item_goes w v ts
-planned_kept Planned-m.CrateMacro w v ts = by_plan_kept rules.crate_macro rules.kept_item _ crate_macro_plan crate_macro_plan_is crate_macro_goes w v ts
-planned_kept Planned-m.DeriveInput w v ts = by_plan_kept rules.derive_input rules.kept_item _ derive_input_plan derive_input_plan_is derive_input_goes w v ts
-planned_kept Planned-m.UseItemRest w v ts = by_plan_kept rules.use_item_rest rules.kept_item _ use_alone use_alone_is use_item_rest_goes w v ts
-planned_kept Planned-m.TypeItemRest w v ts = by_plan_kept rules.type_item_rest rules.kept_item _ type_alone type_alone_is type_item_rest_goes w v ts
-planned_kept Planned-m.ImplDefinitionRest w v ts = by_plan_kept rules.impl_definition_rest rules.kept_item _ impl_alone impl_alone_is impl_definition_rest_goes w v ts
+planned_kept Planned-m.Item w v ts = by_plan_kept rules.item rules.kept_item (planned_course Planned-m.Item) item_plan item_plan_is item_goes w v ts
+planned_kept Planned-m.TraitItem w v ts = by_plan_kept rules.trait_item rules.kept_trait_item (planned_course Planned-m.TraitItem) trait_item_plan trait_item_plan_is trait_item_goes w v ts
+planned_kept Planned-m.ImplItem w v ts = by_plan_kept rules.impl_item rules.kept_impl_item (planned_course Planned-m.ImplItem) impl_item_plan impl_item_plan_is impl_item_goes w v ts
+planned_kept Planned-m.ForeignItem w v ts = by_plan_kept rules.foreign_item rules.kept_foreign_item (planned_course Planned-m.ForeignItem) foreign_item_plan foreign_item_plan_is foreign_item_goes w v ts
+planned_kept Planned-m.CrateMacro w v ts = by_plan_kept rules.crate_macro rules.kept_item (planned_course Planned-m.CrateMacro) crate_macro_plan crate_macro_plan_is crate_macro_goes w v ts
+planned_kept Planned-m.DeriveInput w v ts = by_plan_kept rules.derive_input rules.kept_item (planned_course Planned-m.DeriveInput) derive_input_plan derive_input_plan_is derive_input_goes w v ts
+planned_kept Planned-m.UseItemRest w v ts = by_plan_kept rules.use_item_rest rules.kept_item (planned_course Planned-m.UseItemRest) use_alone use_alone_is use_item_rest_goes w v ts
+planned_kept Planned-m.TypeItemRest w v ts = by_plan_kept rules.type_item_rest rules.kept_item (planned_course Planned-m.TypeItemRest) type_alone type_alone_is type_item_rest_goes w v ts
+planned_kept Planned-m.ImplDefinitionRest w v ts = by_plan_kept rules.impl_definition_rest rules.kept_item (planned_course Planned-m.ImplDefinitionRest) impl_alone impl_alone_is impl_definition_rest_goes w v ts
 planned_kept Planned-m.Statement w v ts = subst (Leads (copy_form (table rules.statement) w ts)) (sym (nothing_behind (next (copy_kept (planned_course Planned-m.Statement) v ts) (capturing w ts)))) (statement_kept w ts v)
 planned_kept Planned-m.Statements w v ts = statements_kept w ts v
 

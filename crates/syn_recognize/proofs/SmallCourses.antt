@@ -88,8 +88,14 @@ one_course = reads (mark false equals) (reads (rule type) last_course)
 abbrev pub more_course : Course
 more_course = reads (mark false equals) (reads (rule type) (reads (rule where_clause) (rest ended)))
 
+abbrev one_or_kept : Course
+one_or_kept = turns at_equals one_course (kept ended)
+
+abbrev more_or_kept : Course
+more_or_kept = turns at_equals more_course (kept ended)
+
 abbrev pub clause_course : Course
-clause_course = turns at_where (reads (rule where_clause) (turns at_equals one_course (kept ended))) (turns at_equals more_course (kept ended))
+clause_course = turns at_where (reads (rule where_clause) one_or_kept) more_or_kept
 
 abbrev pub alone_clause_course : Course
 alone_clause_course = turns at_where (reads (rule where_clause) one_course) more_course
@@ -111,8 +117,20 @@ module _ (V : Syntax → Syntax → Syntax → Syntax → Syntax → Syntax) whe
   abbrev equal_plan : Syntax → Plan
   equal_plan c = plan.reads (punctuation equals) λ q. plan.reads (rule type) λ t. plan.reads (rule where_clause) λ x. tested c q t x
 
+  abbrev kept_plan : Plan
+  kept_plan = plan.keeps (plan.reads (punctuation semicolon) λ z. plan.done)
+
+  abbrev equal_or_kept : Syntax → Plan
+  equal_or_kept c = plan.turns at_equals (equal_plan c) kept_plan
+
+  abbrev type_plan : Syntax → Syntax → Plan
+  type_plan c q = plan.reads (rule type) λ t. plan.reads (rule where_clause) λ x. tested c q t x
+
+  abbrev last_plan : Syntax → Syntax → Syntax → Plan
+  last_plan c q t = plan.reads (rule where_clause) λ x. tested c q t x
+
   abbrev pub clause_plan : Plan
-  clause_plan = plan.reads (rule where_clause) λ c. plan.turns at_equals (equal_plan c) (plan.keeps (plan.reads (punctuation semicolon) λ z. plan.done))
+  clause_plan = plan.reads (rule where_clause) equal_or_kept
 
   abbrev pub alone_clause_plan : Plan
   alone_clause_plan = plan.reads (rule where_clause) equal_plan
@@ -164,8 +182,8 @@ module _ (V : Syntax → Syntax → Syntax → Syntax → Syntax → Syntax) whe
     more_written : (m0 : Stream) (l : Option Bool) → sees at_where m0 ≡ false → As more_course (equal_plan no_clause) l i m0
     more_written m0 l s =
         subst (λ e. As more_course (equal_plan no_clause) l e m0) (ap (λ z. i ⧺ z) (no_clause_text w.printing) ∙ append_end i)
-        (reads_written k b w (mark false equals) (punctuation equals) _ (λ q. plan.reads (rule type) λ t. plan.reads (rule where_clause) λ x. tested no_clause q t x) l (i ⧺ way w.printing no_clause) m0 refl
-        (λ q m2 iq. reads_written k b w (rule type) (rule type) _ (λ t. plan.reads (rule where_clause) λ x. tested no_clause q t x) l ((i ⧺ way w.printing no_clause) ⧺ way w.printing q) m2 refl
+        (reads_written k b w (mark false equals) (punctuation equals) (reads (rule type) (reads (rule where_clause) (rest ended))) (type_plan no_clause) l (i ⧺ way w.printing no_clause) m0 refl
+        (λ q m2 iq. reads_written k b w (rule type) (rule type) (reads (rule where_clause) (rest ended)) (last_plan no_clause q) l ((i ⧺ way w.printing no_clause) ⧺ way w.printing q) m2 refl
         (λ t m3 it. reads_written k b w (rule where_clause) (rule where_clause) (rest ended) (λ x. tested no_clause q t x) l (by_text no_clause q t) m3 refl
         (λ x m4 ix. passed no_clause q t x l (by_text no_clause q t ⧺ way w.printing x) m4 (one_where_seen m0 m0 m2 m3 m4 no_clause q t x (absent_clause m0 s) iq it ix ∙ ap (λ f. or (no f) (no (sees at_where m3))) s) refl))))
 
@@ -185,9 +203,9 @@ module _ (V : Syntax → Syntax → Syntax → Syntax → Syntax → Syntax) whe
 
     pub clause_written : (l : Option Bool) (m : Stream) → As clause_course clause_plan l i m
     clause_written l m =
-        first_written (λ c. plan.turns at_equals (equal_plan c) (plan.keeps (plan.reads (punctuation semicolon) λ z. plan.done))) (turns at_equals one_course (kept ended)) (turns at_equals more_course (kept ended))
-        (λ c m0 m1 l y ic. turns_written k b w at_equals _ _ _ _ l (i ⧺ way w.printing c) m1 (λ s. one_written c m0 m1 l y ic) (λ s. kept_written k b w ended _ l (i ⧺ way w.printing c) m1 (refl, (refl, λ z. refl))))
-        (λ m0 l y. turns_written k b w at_equals _ _ _ _ l i m0 (λ s. more_written m0 l y) (λ s. kept_written k b w ended _ l i m0 (refl, (refl, λ z. refl)))) l m
+        first_written equal_or_kept one_or_kept more_or_kept
+        (λ c m0 m1 l y ic. turns_written k b w at_equals one_course (kept ended) (equal_plan c) kept_plan l (i ⧺ way w.printing c) m1 (λ s. one_written c m0 m1 l y ic) (λ s. kept_written k b w ended kept_plan l (i ⧺ way w.printing c) m1 (refl, (refl, λ z. refl))))
+        (λ m0 l y. turns_written k b w at_equals more_course (kept ended) (equal_plan no_clause) kept_plan l i m0 (λ s. more_written m0 l y) (λ s. kept_written k b w ended kept_plan l i m0 (refl, (refl, λ z. refl)))) l m
 
     pub alone_clause_written : (l : Option Bool) (m : Stream) → As alone_clause_course alone_clause_plan l i m
     alone_clause_written l m = first_written equal_plan one_course more_course (λ c m0 m1 l y ic. one_written c m0 m1 l y ic) (λ m0 l y. more_written m0 l y) l m
@@ -210,12 +228,15 @@ module _ (V : Syntax → Syntax → Syntax → Syntax → Syntax → Syntax) whe
         go false y = subst (λ c. Leads (copied w (run_plan (plan.reads (rule where_clause) F) k b m)) (next (pick c (copy_kept (reads (rule where_clause) (rest (one_of []))) v m) (copy_kept (rest ended) v m)) (capturing w b))) (sym y) tt
 
     one_kept : (c : Syntax) (v : Written) (m : Stream) → Aside one_course (equal_plan c) v m
-    one_kept c v m = reads_kept k b w (mark false equals) (punctuation equals) _ _ v m refl (λ q r u iq. reads_kept k b w (rule type) (rule type) _ _ u r refl (λ t r u it. last_kept (λ x. tested c q t x) u r))
+    one_kept c v m =
+        reads_kept k b w (mark false equals) (punctuation equals) (reads (rule type) last_course) (type_plan c) v m refl
+        (λ q r u iq. reads_kept k b w (rule type) (rule type) last_course (last_plan c q) u r refl (λ t r u it. last_kept (λ x. tested c q t x) u r))
 
     more_kept : (c : Syntax) (v : Written) (m : Stream) → Aside more_course (equal_plan c) v m
     more_kept c v m =
-        reads_kept k b w (mark false equals) (punctuation equals) _ _ v m refl (λ q r u iq. reads_kept k b w (rule type) (rule type) _ _ u r refl
-        (λ t r u it. reads_kept k b w (rule where_clause) (rule where_clause) _ _ u r refl (λ x r u ix. tt)))
+        reads_kept k b w (mark false equals) (punctuation equals) (reads (rule type) (reads (rule where_clause) (rest ended))) (type_plan c) v m refl
+        (λ q r u iq. reads_kept k b w (rule type) (rule type) (reads (rule where_clause) (rest ended)) (last_plan c q) u r refl
+        (λ t r u it. reads_kept k b w (rule where_clause) (rule where_clause) (rest ended) (λ x. tested c q t x) u r refl (λ x r u ix. tt)))
 
     module _ (E : Syntax → Plan) (d e : Course) (each : (c : Syntax) (v : Written) (m : Stream) → Aside d (E c) v m) (none : (c : Syntax) (v : Written) (m : Stream) → Aside e (E c) v m) where
       first_kept : (v : Written) (m : Stream) → Aside (turns at_where (reads (rule where_clause) d) e) (plan.reads (rule where_clause) E) v m
@@ -229,13 +250,14 @@ module _ (V : Syntax → Syntax → Syntax → Syntax → Syntax → Syntax) whe
               subst (λ c. Leads (copied w (run_plan (plan.reads (rule where_clause) E) k b m)) (next (pick c (copy_kept (reads (rule where_clause) d) v m) (copy_kept e v m)) (capturing w b))) (sym y)
               (subst (λ o. Leads (copied w (follow (λ x r. run_plan (E x) k b r) o)) (next (copy_kept e v m) (capturing w b))) (sym (absent_clause m y)) (none no_clause v m))
 
-    all_ended : (v : Written) (m : Stream) → Aside (kept ended) (plan.keeps (plan.reads (punctuation semicolon) λ z. plan.done)) v m
-    all_ended v m = leads_same _ _ (sym (kept_is k b w ended (plan.keeps (plan.reads (punctuation semicolon) λ z. plan.done)) v m (refl, (refl, λ z. refl))))
+    all_ended : (v : Written) (m : Stream) → Aside (kept ended) kept_plan v m
+    all_ended v m = leads_same (copied w (run_plan kept_plan k b m)) (next (copy_form ended v m) (capturing w b)) (sym (kept_is k b w ended kept_plan v m (refl, (refl, λ z. refl))))
 
     pub clause_kept : (v : Written) (m : Stream) → Aside clause_course clause_plan v m
     clause_kept v m =
-        first_kept (λ c. plan.turns at_equals (equal_plan c) (plan.keeps (plan.reads (punctuation semicolon) λ z. plan.done))) (turns at_equals one_course (kept ended)) (turns at_equals more_course (kept ended))
-        (λ c v m. turns_kept k b w at_equals _ _ _ _ v m (λ s. one_kept c v m) (λ s. all_ended v m)) (λ c v m. turns_kept k b w at_equals _ _ _ _ v m (λ s. more_kept c v m) (λ s. all_ended v m)) v m
+        first_kept equal_or_kept one_or_kept more_or_kept
+        (λ c v m. turns_kept k b w at_equals one_course (kept ended) (equal_plan c) kept_plan v m (λ s. one_kept c v m) (λ s. all_ended v m))
+        (λ c v m. turns_kept k b w at_equals more_course (kept ended) (equal_plan c) kept_plan v m (λ s. more_kept c v m) (λ s. all_ended v m)) v m
 
     pub alone_clause_kept : (v : Written) (m : Stream) → Aside alone_clause_course alone_clause_plan v m
     alone_clause_kept v m = first_kept equal_plan one_course more_course (λ c v m. one_kept c v m) (λ c v m. more_kept c v m) v m

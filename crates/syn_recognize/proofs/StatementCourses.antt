@@ -1,11 +1,11 @@
 -- What is written on the courses of statements is what is written of them.
-use Rattle.std.proofs.Common.{◌≡◌, Bool, true, false, Option, [], ◌∷◌, Some, None, refl, sym, ap, ap₂, ◌∙◌, subst, true≢false}
-use Rattle.syn_grammar.specs.Tokens.{Stream, end, leaf, punct, group, ◌⧺◌, pick, ended}
+use Rattle.std.proofs.Common.{◌≡◌, Bool, true, false, Option, [], ◌∷◌, Some, None, refl, sym, ap, ap₂, ◌∙◌, subst, true≢false, ◌⊎◌, inl, inr}
+use Rattle.syn_grammar.specs.Tokens.{Stream, end, ◌⧺◌, pick, or, and, Look, Lookahead, lookahead, answers, ended, at_name, at_word, at_mark, at_literal, at_group, at_empty_group, ahead, ◌or_else◌, ◌and_also◌, ◌but_not◌}
 use Rattle.syn_grammar.specs.Rules.{Rule, attributes, statement, statements, statement_rest, kept_in_block, kept_item, kept_item_rest, item_rest, item}
 use Rattle.syn_grammar.specs.Shape.{an_item, attributed, choice, listed, single}
 use Rattle.syn_grammar.specs.Values.{shape, core, stated, in_list}
-use Rattle.syn_grammar.specs.Grammar.{Syntax, Nothing, Both, Left, Right, Node, Shaped, Grammar, empty, ◌&◌, when◌then◌else◌, rule}
-use Rattle.syn_grammar.specs.Table.{table, at_item, at_semicolon}
+use Rattle.syn_grammar.specs.Grammar.{Syntax, Nothing, Unshown, Both, Left, Right, Node, Shaped, Grammar, empty, ◌&◌, when◌then◌else◌, rule}
+use Rattle.syn_grammar.specs.Table.{table, at_item, at_pound, at_semicolon}
 use Rattle.syn_grammar.specs.Take.{Out, Parser, sees, before}
 use Rattle.syn_grammar.specs.Run.{and_then, branch, caught, first_of, parse_form, parse_rule, wrap}
 use Rattle.syn_grammar.specs.Plan.{Plan, follow, by_test, run_plan}
@@ -13,6 +13,10 @@ use Rattle.syn_grammar.specs.ItemPlan.{item_behind, item_plan}
 use Rattle.syn_grammar.specs.ItemStatements.{item_statement, item_listed}
 use Rattle.syn_grammar.specs.StatementPlans.{other_statement, of_other}
 use Rattle.syn_grammar.proofs.Each.{attributes_is}
+use Rattle.syn_grammar.proofs.Known.{not_true, never_with, never_with_is}
+use Rattle.syn_grammar.proofs.Sets.{or_split, and_left, and_right}
+use Rattle.syn_grammar.proofs.Takes.{sees_stands}
+use Rattle.syn_grammar.proofs.PlanSteps.{seen_apart}
 use Rattle.syn_grammar.proofs.Run.{parse_rule_is}
 use Rattle.syn_grammar.proofs.ItemStatements.{item_statements}
 use Rattle.syn_grammar.proofs.ItemPlan.{item_plan_is}
@@ -158,23 +162,48 @@ last_statement = rest (rule statement_rest & empty)
 abbrev statements_course : Course
 statements_course = reads (rule attributes) (turns at_item (followed item_course (rule statements)) last_statement)
 
--- no attributes stand where nothing does, nor before `;`
-no_attributes_at : (ts m : Stream) (a : Syntax) (c : Bool) → parse_rule attributes ts ≡ Some (a, m) → sees at_item m ≡ true → (sees ended ts ≡ false) × (sees at_semicolon ts ≡ false)
-no_attributes_at end m a c e v = absurd (true≢false (sym v ∙ ap (λ r. sees at_item r) (sym (rest_is e))))
+-- each alternative of the first excludes the second
+abbrev apart : Look → Look → Bool
+apart (a or_else b) d = and (apart a d) (apart b d)
+apart (a and_also b) d = or (apart a d) (apart b d)
+apart (a but_not b) d = apart a d
+apart c d = never_with c d
+
+apart_is : (c d : Look) (f : Lookahead) → apart c d ≡ true → answers c f ≡ true → answers d f ≡ true → ⊥
+apart_is (a or_else b) d f e h i = go (or_split (answers a f) (answers b f) h) (λ q. apart_is a d f (and_left (apart a d) _ e) q i) (λ q. apart_is b d f (and_right (apart a d) _ e) q i)
+  where
+    go : (answers a f ≡ true) ⊎ (answers b f ≡ true) → (answers a f ≡ true → ⊥) → (answers b f ≡ true → ⊥) → ⊥
+    go (inl q) u v = u q
+    go (inr q) u v = v q
+apart_is (a and_also b) d f e h i = go (or_split (apart a d) (apart b d) e) (λ q. apart_is a d f q (and_left (answers a f) _ h) i) (λ q. apart_is b d f q (and_right (answers a f) _ h) i)
+  where
+    go : (apart a d ≡ true) ⊎ (apart b d ≡ true) → (apart a d ≡ true → ⊥) → (apart b d ≡ true → ⊥) → ⊥
+    go (inl q) u v = u q
+    go (inr q) u v = v q
+apart_is (a but_not b) d f e h i = apart_is a d f e (and_left (answers a f) _ h) i
+apart_is ended d f e h i = never_with_is ended d f e h i
+apart_is at_name d f e h i = never_with_is at_name d f e h i
+apart_is (at_word x) d f e h i = never_with_is (at_word x) d f e h i
+apart_is (at_mark x) d f e h i = never_with_is (at_mark x) d f e h i
+apart_is (at_literal x) d f e h i = never_with_is (at_literal x) d f e h i
+apart_is (at_group x) d f e h i = never_with_is (at_group x) d f e h i
+apart_is at_empty_group d f e h i = never_with_is at_empty_group d f e h i
+apart_is (ahead x) d f e h i = never_with_is (ahead x) d f e h i
+
+-- no attributes stand where nothing does, nor before `;`, and no item begins there
+no_attributes_at : (ts m : Stream) (a : Syntax) → parse_rule attributes ts ≡ Some (a, m) → sees at_item m ≡ true → (sees ended ts ≡ false) × (sees at_semicolon ts ≡ false)
+no_attributes_at ts m a e v = go (sees at_pound ts) refl
   where
     rest_from : Out → Stream
     rest_from (Some p) = p.1
-    rest_from None = end
+    rest_from None = ts
 
-    rest_is : parse_rule attributes end ≡ Some (a, m) → end ≡ m
-    rest_is e = ap rest_from (sym (attributes_is end)) ∙ ap rest_from e
-no_attributes_at (leaf x sp r) m a c e v = (refl, refl)
-no_attributes_at (group d o k i r) m a c e v = (refl, refl)
-no_attributes_at (punct y j sp r) m a c e v = (refl, go (sees at_semicolon (punct y j sp r)) refl)
-  where
-    go : (b : Bool) → sees at_semicolon (punct y j sp r) ≡ b → b ≡ false
-    go false q = refl
-    go true q = search
+    go : (b : Bool) → sees at_pound ts ≡ b → (sees ended ts ≡ false) × (sees at_semicolon ts ≡ false)
+    go true q = (not_true (sees ended ts) (λ r. true≢false (sym q ∙ seen_apart ended at_pound ts refl r)), seen_apart at_pound at_semicolon ts refl q)
+    go false q =
+        let same : ts ≡ m = ap (λ c. rest_from (wrap Node (branch c (parse_form (first (table attributes)) ts) (Some (Unshown Nothing, ts))))) (sym q) ∙ ap rest_from (sym (attributes_is ts)) ∙ ap rest_from e in
+        let h : sees at_item ts ≡ true = ap (sees at_item) same ∙ v in
+        (not_true (sees ended ts) (λ r. true≢false (sym h ∙ seen_apart ended at_item ts refl r)), not_true (sees at_semicolon ts) (λ r. apart_is at_item at_semicolon (lookahead ts) refl (sym (sees_stands at_item ts) ∙ h) (sym (sees_stands at_semicolon ts) ∙ r)))
 
 module _ (w : Written) (ts : Stream) where
   abbrev list_out : Out
@@ -190,7 +219,7 @@ module _ (w : Written) (ts : Stream) where
       ∙ ap (λ o. next (copied w o) (λ u r. copied u (parse_rule statements r))) (item_plan_is ts ∙ ap (λ o. follow (λ s r. run_plan (item_behind s) kept_item ts r) o) e)
     where
       off : (sees ended ts ≡ false) × (sees at_semicolon ts ≡ false)
-      off = no_attributes_at ts m a true e v
+      off = no_attributes_at ts m a e v
 
       each : (p : Syntax × Stream) (o : Out) → copied w (wrap item_listed (wrap (Both p.0) o)) ≡ copied (adds w (way w.printing p.0)) o
       each p None = refl

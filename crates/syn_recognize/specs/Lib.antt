@@ -21,6 +21,7 @@ pub mod Opens
 pub mod Course
 pub mod Stages
 pub mod Courses
+pub mod RootMarks
 pub mod Steps
 pub mod Printed
 pub mod Parts

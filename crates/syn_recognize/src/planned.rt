@@ -434,13 +434,14 @@ fn compared(guess: Guess, it: bool, out: &mut Writer) -> Parsed<Guess>
 }
 
 /// Whether generics would be read behind the `for` that stands next. Refused only where memory is.
+#[tactic(auto, using(crate::proofs::Guessed::for_led, crate::proofs::Guessed::for_lacks))]
 fn leads_on(input: &ParseBuffer<'_>) -> Parsed<bool>
     ensures { OrMemory IsSyntax result (λ answer. answer ≡ leads_on input.now) }
 {
-    if !input.peek::<For>() {
-        return Ok(false);
-    }
     let mut ahead = input.fork();
-    let _for: For = ahead.read()?;
-    Ok(at_generics(&ahead))
+    match ahead.read::<For>() {
+        Ok(_) => Ok(at_generics(&ahead)),
+        Err(Refusal::Memory) => Err(Refusal::Memory),
+        Err(Refusal::Syntax { .. }) => Ok(false),
+    }
 }

@@ -3,6 +3,7 @@ ghost use Rattle.std.specs.Prelude.{◌≡◌, false};
 ghost use Rattle.syn_grammar.specs.Promises.{OrMemory};
 ghost use Rattle.syn_grammar.specs.Take.{before};
 ghost use Rattle.syn_parse.specs.Refusals.{IsSyntax};
+ghost use Rattle.syn_recognize.specs.RootMarks.{colon_entry, begins_entry};
 ghost use Rattle.syn_grammar.specs.ToldByTokens.{roots};
 
 use syn_parse::buffer::ParseBuffer;
@@ -24,6 +25,7 @@ pub(crate) fn has_root_mark<'a>(
 }
 
 /// Whether `:` stands at the beginning of a group among these tokens, or behind a comma.
+#[tactic(auto, using(crate::proofs::RootMarks::roots_are, crate::proofs::RootMarks::roots_step, crate::proofs::RootMarks::roots_done))]
 fn has_root(tokens: &TokenStream) -> bool
     ensures { result ≡ roots false tokens.now }
 {
@@ -38,18 +40,27 @@ fn has_root(tokens: &TokenStream) -> bool
 }
 
 /// Whether it is `:`.
-fn is_colon(entry: &Entry) -> bool {
+fn is_colon(entry: &Entry) -> bool
+    ensures { result ≡ colon_entry entry.now }
+{
     match entry.token() {
         Token::Punct(punct) => punct.character() == ':',
-        _ => false,
+        Token::Ident(_) => false,
+        Token::Literal(_) => false,
+        Token::Open(_) => false,
+        Token::Close(_) => false,
     }
 }
 
 /// Whether a tree begins behind it: the opening delimiter of a group, or a comma.
-fn begins_tree(entry: &Entry) -> bool {
+fn begins_tree(entry: &Entry) -> bool
+    ensures { result ≡ begins_entry entry.now }
+{
     match entry.token() {
         Token::Punct(punct) => punct.character() == ',',
         Token::Open(_) => true,
-        _ => false,
+        Token::Ident(_) => false,
+        Token::Literal(_) => false,
+        Token::Close(_) => false,
     }
 }
