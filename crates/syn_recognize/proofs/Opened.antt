@@ -1,5 +1,5 @@
 -- What a rule reads where it is known what stands next.
-use Rattle.std.proofs.Common.{◌≡◌, ℕ, zero, suc, Bool, true, false, List, [], ◌∷◌, ◌++◌, ◌-◌, arith, refl, sym, ap, ap₂, subst, ◌∙◌}
+use Rattle.std.proofs.Common.{◌≡◌, ℕ, zero, suc, Bool, true, false, List, [], ◌∷◌, ◌++◌, ◌+◌, ◌-◌, arith, refl, sym, ap, ap₂, subst, ◌∙◌}
 use Rattle.syn_grammar.specs.Tokens.{Stream, Look, Paren, Brace, Bracket, pick}
 use Rattle.syn_grammar.specs.Rules.{type, type_arguments, type_path, type_words, more_type_words, path_as_type, Rule, attributes, unary, unary_head, primary, primary_head, literal_fields, path_as_expression, expression_path, expression_words, expressions, array_content, macro_invocation, postfixes}
 use Rattle.syn_grammar.specs.Grammar.{any_literal, name_or, Grammar, empty, token, inside, ◌&◌, when◌then◌else◌, rule, shaped, unshown, among}
