@@ -50,7 +50,7 @@ pick_same : (b : Bool) (a : Grammar) (k : Rule) (ts : Stream) → Same a (table 
 pick_same true a k ts e w = e w ∙ sym (rule_is k (table k) w ts refl)
 pick_same false a k ts e w = refl
 
-pruned_is : (ks : List Rule) (n : ℕ) (f : First) (g : Grammar) (ts : Stream) → Begins f ts → Same (pruned ks n f g) g ts
+pub pruned_is : (ks : List Rule) (n : ℕ) (f : First) (g : Grammar) (ts : Stream) → Begins f ts → Same (pruned ks n f g) g ts
 pruned_is ks zero f g ts b w = refl
 pruned_is ks (suc n) f (when c then g else h) ts b w = either_same (sure c f) (may c f) c (pruned ks n f g) g (pruned ks n f h) h ts (surely c f ts b) (never c f ts b) (pruned_is ks n f g ts b) (pruned_is ks n f h ts b) w
 pruned_is ks (suc n) f (shaped j g) ts b w = pruned_is ks n f g ts b w ∙ sym (shaped_is j g w ts)
