@@ -43,3 +43,4 @@ pub mod May
 pub mod Ladder
 pub mod Opened
 pub mod Beginnings
+pub mod Listed

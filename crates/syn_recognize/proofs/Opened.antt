@@ -1,5 +1,5 @@
 -- What a rule reads where it is known what stands next.
-use Rattle.std.proofs.Common.{◌≡◌, ℕ, zero, suc, Bool, true, false, List, [], ◌∷◌, ◌++◌, ◌-◌, arith, refl, sym, ap, ap₂, subst, ◌∙◌}
+use Rattle.std.proofs.Common.{◌≡◌, ℕ, zero, suc, Bool, true, false, List, [], ◌∷◌, ◌++◌, ◌+◌, ◌-◌, arith, refl, sym, ap, ap₂, subst, ◌∙◌}
 use Rattle.syn_grammar.specs.Tokens.{Stream, Look, Paren, Brace, Bracket, pick}
 use Rattle.syn_grammar.specs.Rules.{type, type_arguments, type_path, type_words, more_type_words, path_as_type, Rule, attributes, unary, unary_head, primary, primary_head, literal_fields, path_as_expression, expression_path, expression_words, expressions, array_content, macro_invocation, postfixes}
 use Rattle.syn_grammar.specs.Grammar.{any_literal, name_or, Grammar, empty, token, inside, ◌&◌, when◌then◌else◌, rule, shaped, unshown, among}
@@ -50,7 +50,7 @@ pick_same : (b : Bool) (a : Grammar) (k : Rule) (ts : Stream) → Same a (table 
 pick_same true a k ts e w = e w ∙ sym (rule_is k (table k) w ts refl)
 pick_same false a k ts e w = refl
 
-pruned_is : (ks : List Rule) (n : ℕ) (f : First) (g : Grammar) (ts : Stream) → Begins f ts → Same (pruned ks n f g) g ts
+pub pruned_is : (ks : List Rule) (n : ℕ) (f : First) (g : Grammar) (ts : Stream) → Begins f ts → Same (pruned ks n f g) g ts
 pruned_is ks zero f g ts b w = refl
 pruned_is ks (suc n) f (when c then g else h) ts b w = either_same (sure c f) (may c f) c (pruned ks n f g) g (pruned ks n f h) h ts (surely c f ts b) (never c f ts b) (pruned_is ks n f g ts b) (pruned_is ks n f h ts b) w
 pruned_is ks (suc n) f (shaped j g) ts b w = pruned_is ks n f g ts b w ∙ sym (shaped_is j g w ts)

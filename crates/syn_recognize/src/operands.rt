@@ -1,6 +1,6 @@
 //! What a rule reads where it is known what stands next: forms of operands without the conditions that this rules out.
 ghost use Rattle.std.specs.Prelude.{◌≡◌};
-ghost use Rattle.syn_grammar.specs.Rules.{attributes, expression_words, generic_argument, member, meta, module_path, postfixes, statement_rest, more_type_words, type, type_arguments, type_path, type_words, unary, unary_head, visibility};
+ghost use Rattle.syn_grammar.specs.Rules.{attributes, expression_words, generic_argument, member, meta, module_path, postfixes, statement_rest, statements, more_type_words, type, type_arguments, type_path, type_words, unary, unary_head, visibility};
 ghost use Rattle.syn_grammar.specs.Table.{table};
 ghost use Rattle.syn_parse.specs.declared.buffer.first.First.TheVariants as first;
 ghost use Rattle.syn_recognize.specs.Forms.{grammar_of};
@@ -10,6 +10,7 @@ ghost use Rattle.syn_recognize.specs.Opens.{Opens};
 
 use crate::form::Form;
 use crate::look::{Look, is_any_group, is_group, is_keyword, is_mark};
+use crate::plan::Planned;
 use crate::rules::{Part, Rule, form_of, form_of_part};
 use crate::shape::Shape;
 use crate::token::Token;
@@ -159,6 +160,13 @@ static STATEMENT: Form = Form::When(
     ),
 );
 
+/// Statements of which the first begins with a word, and with no attribute.
+static LISTED: Form = Form::When(
+    Look::Item,
+    &Form::Planned(Planned::Statements),
+    &Form::Rule(Rule::StatementRest),
+);
+
 static EMPTY: Form = Form::Empty;
 
 /// A form that is read as the rule is, where this stands next.
@@ -183,6 +191,7 @@ pub(crate) fn opened(rule: Rule, next: First) -> &'static Form
         Rule::Visibility => visibility_by(next),
         Rule::ExpressionWords => expression_words_by(next),
         Rule::Member => member_by(next),
+        Rule::Statements => statements_by(next),
         Rule::StatementRest => statement_by(next),
         _ => form_of(rule),
     }
@@ -465,6 +474,18 @@ fn member_by(next: First) -> &'static Form
     match next {
         First::Name => form_of_part(Part::Member2),
         _ => form_of(Rule::Member),
+    }
+}
+
+/// A form that is read as statements are.
+#[tactic(auto, using(crate::proofs::Opened::opens_rule))]
+fn statements_by(next: First) -> &'static Form
+    ensures { Opens next (grammar_of result.now) statements }
+{
+    match next {
+        First::Name => &LISTED,
+        First::Keyword => &LISTED,
+        _ => form_of(Rule::Statements),
     }
 }
 
