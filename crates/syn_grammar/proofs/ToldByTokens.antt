@@ -1,5 +1,5 @@
 -- What the tests of plans say of values, the tokens that were read tell.
-use Rattle.std.proofs.Common.{◌≡◌, ℕ, ◌+◌, Bool, true, false, List, [], ◌∷◌, ◌++◌, Some, refl, sym, ap, ap₂, ◌∙◌, subst, true≢false, ◌⊎◌, inl, inr}
+use Rattle.std.proofs.Common.{◌≡◌, ℕ, Bool, true, false, List, [], ◌∷◌, ◌++◌, Some, refl, sym, ap, ap₂, ◌∙◌, subst, true≢false, ◌⊎◌, inl, inr}
 use Rattle.std.specs.Prelude.{nat_eq}
 use Rattle.syn_grammar.specs.Words.{Text, keywords, contextual, w_where, w_use, w_type, w_as, equals, comma, star, colons}
 use Rattle.syn_grammar.specs.Tokens.{Span, Leaf, ident, literal, Stream, end, leaf, punct, group, ◌⧺◌, and, or, no, pick, same_text, Brace, Word, Name, mem, one_of_texts, same_terminal, at_word}
@@ -8,7 +8,6 @@ use Rattle.syn_grammar.specs.RuleNumbers.{same_rule}
 use Rattle.syn_grammar.specs.Grammar.{Kind, name, among, terminals, underscore, suits, fits, word, has, one_where, holds, bare_leaf, no_where, at_most_one_where, has_part, Grammar, empty, token, mark, lifetime, ◌&◌, when◌then◌else◌, vanishing, inside, raw, either, one_of, rule, such, captured, unshown, supplied, row, ordered, shaped, generics_before, chars, Spelled, DerivesPrefix, Syntax, Nothing, Token, Mark, Lifetime, Both, Left, Right, Node, Vanishing, Group, Raw, Case, Such, Shaped, Captured, Unshown, Impl, Done, Last, More, Order}
 use Rattle.syn_grammar.specs.Forms.{plainly, punctuation}
 use Rattle.syn_grammar.specs.Table.{table, at_colons, at_comma, name_or_underscore}
-use Rattle.syn_grammar.specs.Take.{before}
 use Rattle.syn_grammar.specs.Run.{value_of, parse_form}
 use Rattle.syn_grammar.specs.ItemPlan.{parts}
 use Rattle.syn_grammar.specs.ToldByTokens.{is_text, opens_lifetime, once_at_most, has_one_where, roots, use_roots, wordless, opening, spares, Piece, WasRead, all_spare, OneWhereTold, RootMarkTold}
