@@ -93,7 +93,7 @@ class Mutations(unittest.TestCase):
 
     def test_borders_without_an_example(self):
         borders = self.borders()
-        rule, may = next(iter(borders.untold.items()))
+        rule, may = max(borders.untold.items(), key=lambda it: it[1])
         borders.lacking([rule])
         self.assertLessEqual(borders.counts[rule], may)
         borders.untold[rule] = borders.counts[rule] - 1

@@ -3,7 +3,7 @@
 use Rattle.std.proofs.Common.{true, false, [], ◌∷◌, refl}
 use Rattle.syn_grammar.specs.Words.{w_underscore, w_async, w_const, w_crate, w_else, w_extern, w_fn, w_mut, w_pub, w_Self_type, w_self, w_super, w_unsafe, w_where, w_union, w_auto, w_default, w_safe}
 use Rattle.syn_grammar.specs.Tokens.{call_site, Paren, Brace, Bracket, Str, Int, ident, literal, end, leaf, punct, group}
-use Rattle.syn_grammar.specs.Rules.{receiver, receiver_rest, argument, inputs, later_inputs, input_rest, variadic, abi, unsafe_only, safe_or_unsafe, signature, signature_rest, function_rest, bodiless_function, foreign_signature}
+use Rattle.syn_grammar.specs.Rules.{receiver, receiver_rest, argument, inputs, later_inputs, input_rest, variadic, abi, unsafe_only, safe_or_unsafe, signature, signature_rest, function_rest, foreign_signature}
 use Rattle.syn_grammar.specs.Grammar.{rule}
 use Rattle.syn_grammar.specs.Take.{left, is_end, lookahead_at, sees, take_token, take_lifetime, take_mark, take_group, before, first_span}
 use Rattle.syn_grammar.specs.Run.{rows_for, rows, run, parse_rule}
@@ -741,36 +741,6 @@ function_rest_border_7 : NotDerived (rule function_rest)
     (leaf (ident w_unsafe) (at 0 6) (leaf (ident w_fn) (at 7 9) (leaf (ident w_union) (at 10 15) (group Paren (at 16 17) (at 17 18) end (leaf (ident w_fn) (at 19 21) (leaf (ident w_auto) (at 22 26) (group Paren (at 27 28) (at 28 29) end (group Brace (at 30 31) (at 31 32) end end))))))))
 unfolding left is_end lookahead_at sees take_token take_lifetime take_mark take_group before first_span rows_for rows run parse_rule
 function_rest_border_7 = not_read function_rest _ refl
-
--- `fn auto () ,`: nothing is read
-bodiless_function_border_1 : NotDerived (rule bodiless_function)
-    (leaf (ident w_fn) (at 0 2) (leaf (ident w_auto) (at 3 7) (group Paren (at 8 9) (at 9 10) end (punct 44 false (at 11 12) end))))
-unfolding left is_end lookahead_at sees take_token take_lifetime take_mark take_group before first_span rows_for rows run parse_rule
-bodiless_function_border_1 = not_read bodiless_function _ refl
-
--- `; fn auto () ;`: nothing is read
-bodiless_function_border_2 : NotDerived (rule bodiless_function)
-    (punct 59 false (at 0 1) (leaf (ident w_fn) (at 2 4) (leaf (ident w_auto) (at 5 9) (group Paren (at 10 11) (at 11 12) end (punct 59 false (at 13 14) end)))))
-unfolding left is_end lookahead_at sees take_token take_lifetime take_mark take_group before first_span rows_for rows run parse_rule
-bodiless_function_border_2 = not_read bodiless_function _ refl
-
--- `fn auto () pub ;`: nothing is read
-bodiless_function_border_3 : NotDerived (rule bodiless_function)
-    (leaf (ident w_fn) (at 0 2) (leaf (ident w_auto) (at 3 7) (group Paren (at 8 9) (at 9 10) end (leaf (ident w_pub) (at 11 14) (punct 59 false (at 15 16) end)))))
-unfolding left is_end lookahead_at sees take_token take_lifetime take_mark take_group before first_span rows_for rows run parse_rule
-bodiless_function_border_3 = not_read bodiless_function _ refl
-
--- `pub pub fn safe () ;`: nothing is read
-bodiless_function_border_4 : NotDerived (rule bodiless_function)
-    (leaf (ident w_pub) (at 0 3) (leaf (ident w_pub) (at 4 7) (leaf (ident w_fn) (at 8 10) (leaf (ident w_safe) (at 11 15) (group Paren (at 16 17) (at 17 18) end (punct 59 false (at 19 20) end))))))
-unfolding left is_end lookahead_at sees take_token take_lifetime take_mark take_group before first_span rows_for rows run parse_rule
-bodiless_function_border_4 = not_read bodiless_function _ refl
-
--- `fn default () const fn default () ;`: nothing is read
-bodiless_function_border_5 : NotDerived (rule bodiless_function)
-    (leaf (ident w_fn) (at 0 2) (leaf (ident w_default) (at 3 10) (group Paren (at 11 12) (at 12 13) end (leaf (ident w_const) (at 14 19) (leaf (ident w_fn) (at 20 22) (leaf (ident w_default) (at 23 30) (group Paren (at 31 32) (at 32 33) end (punct 59 false (at 34 35) end))))))))
-unfolding left is_end lookahead_at sees take_token take_lifetime take_mark take_group before first_span rows_for rows run parse_rule
-bodiless_function_border_5 = not_read bodiless_function _ refl
 
 -- `safe fn a ()` prints `safe fn a ()`
 foreign_signature_border_1 : DerivesAs foreign_signature

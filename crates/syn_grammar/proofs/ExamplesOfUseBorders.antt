@@ -1,9 +1,9 @@
 -- Written by tools/grammar.py from specs/Table.antt; edits are lost.
 -- Worked examples of borders of uses, extern crates and macros, from tools/examples.txt: what each rule reads, prints and refuses. The checker computes each.
 use Rattle.std.proofs.Common.{true, false, [], ◌∷◌, refl}
-use Rattle.syn_grammar.specs.Words.{w_underscore, w_as, w_crate, w_else, w_extern, w_fn, w_in, w_macro, w_pub, w_Self_type, w_self, w_struct, w_super, w_try, w_use, w_where, w_union, w_auto, w_default, w_safe}
+use Rattle.syn_grammar.specs.Words.{w_underscore, w_as, w_crate, w_extern, w_fn, w_in, w_pub, w_Self_type, w_self, w_struct, w_super, w_try, w_use, w_union, w_auto, w_default, w_safe}
 use Rattle.syn_grammar.specs.Tokens.{call_site, Paren, Brace, Bracket, None, Int, ident, literal, end, leaf, punct, group}
-use Rattle.syn_grammar.specs.Rules.{crate_macro, brace_macro, extern_crate_rest, use_tree, use_trees, rooted_tree, rooted_trees, use_item_rest, rooted_use, macro_end, macro_item_rest, macro_definition, member_macro}
+use Rattle.syn_grammar.specs.Rules.{crate_macro, brace_macro, extern_crate, extern_crate_rest, use_tree, use_trees, rooted_tree, rooted_trees, use_item, use_item_rest, macro_end, macro_item, macro_item_rest, macro_as_item_rest, member_macro}
 use Rattle.syn_grammar.specs.Grammar.{rule}
 use Rattle.syn_grammar.specs.Take.{left, is_end, lookahead_at, sees, take_token, take_lifetime, take_mark, take_group, before}
 use Rattle.syn_grammar.specs.Run.{rows_for, rows, run, parse_rule}
@@ -59,6 +59,28 @@ brace_macro_border_7 : NotDerived (rule brace_macro)
     (leaf (ident w_Self_type) (at 0 4) (leaf (ident w_Self_type) (at 5 9) (punct 33 false (at 10 11) (group Brace (at 12 13) (at 14 15) (punct 42 false (at 13 14) end) end))))
 unfolding left is_end lookahead_at sees take_token take_lifetime take_mark take_group before rows_for rows run parse_rule
 brace_macro_border_7 = not_read brace_macro _ refl
+
+-- `crate auto ;`: nothing is read
+extern_crate_border_1 : NotDerived (rule extern_crate)
+    (leaf (ident w_crate) (at 0 5) (leaf (ident w_auto) (at 6 10) (punct 59 false (at 11 12) end)))
+unfolding left is_end lookahead_at sees take_token take_lifetime take_mark take_group before rows_for rows run parse_rule
+extern_crate_border_1 = not_read extern_crate _ refl
+
+-- `extern crate auto ; pub` prints `extern crate auto ;` and leaves `pub`
+extern_crate_border_2 : DerivesAs extern_crate
+    (leaf (ident w_extern) (at 0 6) (leaf (ident w_crate) (at 7 12) (leaf (ident w_auto) (at 13 17) (punct 59 false (at 18 19) (leaf (ident w_pub) (at 20 23) end)))))
+    (leaf (ident w_extern) call_site (leaf (ident w_crate) call_site (leaf (ident w_auto) call_site (punct 59 false call_site end))))
+    (leaf (ident w_pub) (at 20 23) end)
+unfolding left is_end lookahead_at sees take_token take_lifetime take_mark take_group before rows_for rows run parse_rule
+extern_crate_border_2 = computed extern_crate _ _ _ refl
+
+-- `extern crate auto ; # [c]` prints `extern crate auto ;` and leaves `# [c]`
+extern_crate_border_3 : DerivesAs extern_crate
+    (leaf (ident w_extern) (at 0 6) (leaf (ident w_crate) (at 7 12) (leaf (ident w_auto) (at 13 17) (punct 59 false (at 18 19) (punct 35 false (at 20 21) (group Bracket (at 22 23) (at 24 25) (leaf (ident (99 ∷ [])) (at 23 24) end) end))))))
+    (leaf (ident w_extern) call_site (leaf (ident w_crate) call_site (leaf (ident w_auto) call_site (punct 59 false call_site end))))
+    (punct 35 false (at 20 21) (group Bracket (at 22 23) (at 24 25) (leaf (ident (99 ∷ [])) (at 23 24) end) end))
+unfolding left is_end lookahead_at sees take_token take_lifetime take_mark take_group before rows_for rows run parse_rule
+extern_crate_border_3 = computed extern_crate _ _ _ refl
 
 -- `crate a ;`: nothing is read
 extern_crate_rest_border_1 : NotDerived (rule extern_crate_rest)
@@ -731,6 +753,28 @@ unfolding left is_end lookahead_at sees take_token take_lifetime take_mark take_
 rooted_trees_border_2 = not_read rooted_trees _ refl
 
 -- `* ;`: nothing is read
+use_item_border_1 : NotDerived (rule use_item)
+    (punct 42 false (at 0 1) (punct 59 false (at 2 3) end))
+unfolding left is_end lookahead_at sees take_token take_lifetime take_mark take_group before rows_for rows run parse_rule
+use_item_border_1 = not_read use_item _ refl
+
+-- `use * ;pub` prints `use * ;` and leaves `pub`
+use_item_border_2 : DerivesAs use_item
+    (leaf (ident w_use) (at 0 3) (punct 42 false (at 4 5) (punct 59 false (at 6 7) (leaf (ident w_pub) (at 7 10) end))))
+    (leaf (ident w_use) call_site (punct 42 false call_site (punct 59 false call_site end)))
+    (leaf (ident w_pub) (at 7 10) end)
+unfolding left is_end lookahead_at sees take_token take_lifetime take_mark take_group before rows_for rows run parse_rule
+use_item_border_2 = computed use_item _ _ _ refl
+
+-- `use * ;# [c]` prints `use * ;` and leaves `# [c]`
+use_item_border_3 : DerivesAs use_item
+    (leaf (ident w_use) (at 0 3) (punct 42 false (at 4 5) (punct 59 true (at 6 7) (punct 35 false (at 7 8) (group Bracket (at 9 10) (at 11 12) (leaf (ident (99 ∷ [])) (at 10 11) end) end)))))
+    (leaf (ident w_use) call_site (punct 42 false call_site (punct 59 false call_site end)))
+    (punct 35 false (at 7 8) (group Bracket (at 9 10) (at 11 12) (leaf (ident (99 ∷ [])) (at 10 11) end) end))
+unfolding left is_end lookahead_at sees take_token take_lifetime take_mark take_group before rows_for rows run parse_rule
+use_item_border_3 = computed use_item _ _ _ refl
+
+-- `* ;`: nothing is read
 use_item_rest_border_1 : NotDerived (rule use_item_rest)
     (punct 42 false (at 0 1) (punct 59 false (at 2 3) end))
 unfolding left is_end lookahead_at sees take_token take_lifetime take_mark take_group before rows_for rows run parse_rule
@@ -900,104 +944,6 @@ use_item_rest_border_26 : NotDerived (rule use_item_rest)
 unfolding left is_end lookahead_at sees take_token take_lifetime take_mark take_group before rows_for rows run parse_rule
 use_item_rest_border_26 = not_read use_item_rest _ refl
 
--- `pub {a , {:: b}} ;`: nothing is read
-rooted_use_border_1 : NotDerived (rule rooted_use)
-    (leaf (ident w_pub) (at 0 3) (group Brace (at 4 5) (at 15 16) (leaf (ident (97 ∷ [])) (at 5 6) (punct 44 false (at 7 8) (group Brace (at 9 10) (at 14 15) (punct 58 true (at 10 11) (punct 58 false (at 11 12) (leaf (ident (98 ∷ [])) (at 13 14) end))) end))) (punct 59 false (at 17 18) end)))
-unfolding left is_end lookahead_at sees take_token take_lifetime take_mark take_group before rows_for rows run parse_rule
-rooted_use_border_1 = not_read rooted_use _ refl
-
--- `use {a , {:: b}} ;` prints `use {a , {:: b}} ;`
-rooted_use_border_2 : DerivesAs rooted_use
-    (leaf (ident w_use) (at 0 3) (group Brace (at 4 5) (at 15 16) (leaf (ident (97 ∷ [])) (at 5 6) (punct 44 false (at 7 8) (group Brace (at 9 10) (at 14 15) (punct 58 true (at 10 11) (punct 58 false (at 11 12) (leaf (ident (98 ∷ [])) (at 13 14) end))) end))) (punct 59 false (at 17 18) end)))
-    (leaf (ident w_use) call_site (group Brace call_site call_site (leaf (ident (97 ∷ [])) call_site (punct 44 false call_site (group Brace call_site call_site (punct 58 true call_site (punct 58 false call_site (leaf (ident (98 ∷ [])) call_site end))) end))) (punct 59 false call_site end)))
-    (end)
-unfolding left is_end lookahead_at sees take_token take_lifetime take_mark take_group before rows_for rows run parse_rule
-rooted_use_border_2 = computed rooted_use _ _ _ refl
-
--- `pub use {a {:: b}} ;`: nothing is read
-rooted_use_border_3 : NotDerived (rule rooted_use)
-    (leaf (ident w_pub) (at 0 3) (leaf (ident w_use) (at 4 7) (group Brace (at 8 9) (at 17 18) (leaf (ident (97 ∷ [])) (at 9 10) (group Brace (at 11 12) (at 16 17) (punct 58 true (at 12 13) (punct 58 false (at 13 14) (leaf (ident (98 ∷ [])) (at 15 16) end))) end)) (punct 59 false (at 19 20) end))))
-unfolding left is_end lookahead_at sees take_token take_lifetime take_mark take_group before rows_for rows run parse_rule
-rooted_use_border_3 = not_read rooted_use _ refl
-
--- `pub use (a , {:: b}) ;`: nothing is read
-rooted_use_border_4 : NotDerived (rule rooted_use)
-    (leaf (ident w_pub) (at 0 3) (leaf (ident w_use) (at 4 7) (group Paren (at 8 9) (at 19 20) (leaf (ident (97 ∷ [])) (at 9 10) (punct 44 false (at 11 12) (group Brace (at 13 14) (at 18 19) (punct 58 true (at 14 15) (punct 58 false (at 15 16) (leaf (ident (98 ∷ [])) (at 17 18) end))) end))) (punct 59 false (at 21 22) end))))
-unfolding left is_end lookahead_at sees take_token take_lifetime take_mark take_group before rows_for rows run parse_rule
-rooted_use_border_4 = not_read rooted_use _ refl
-
--- `pub use [a , {:: b}] ;`: nothing is read
-rooted_use_border_5 : NotDerived (rule rooted_use)
-    (leaf (ident w_pub) (at 0 3) (leaf (ident w_use) (at 4 7) (group Bracket (at 8 9) (at 19 20) (leaf (ident (97 ∷ [])) (at 9 10) (punct 44 false (at 11 12) (group Brace (at 13 14) (at 18 19) (punct 58 true (at 14 15) (punct 58 false (at 15 16) (leaf (ident (98 ∷ [])) (at 17 18) end))) end))) (punct 59 false (at 21 22) end))))
-unfolding left is_end lookahead_at sees take_token take_lifetime take_mark take_group before rows_for rows run parse_rule
-rooted_use_border_5 = not_read rooted_use _ refl
-
--- `pub use {a , {:: b}} ,`: nothing is read
-rooted_use_border_6 : NotDerived (rule rooted_use)
-    (leaf (ident w_pub) (at 0 3) (leaf (ident w_use) (at 4 7) (group Brace (at 8 9) (at 19 20) (leaf (ident (97 ∷ [])) (at 9 10) (punct 44 false (at 11 12) (group Brace (at 13 14) (at 18 19) (punct 58 true (at 14 15) (punct 58 false (at 15 16) (leaf (ident (98 ∷ [])) (at 17 18) end))) end))) (punct 44 false (at 21 22) end))))
-unfolding left is_end lookahead_at sees take_token take_lifetime take_mark take_group before rows_for rows run parse_rule
-rooted_use_border_6 = not_read rooted_use _ refl
-
--- `pub Self {a , {:: b}} ;`: nothing is read
-rooted_use_border_7 : NotDerived (rule rooted_use)
-    (leaf (ident w_pub) (at 0 3) (leaf (ident w_Self_type) (at 4 8) (group Brace (at 9 10) (at 20 21) (leaf (ident (97 ∷ [])) (at 10 11) (punct 44 false (at 12 13) (group Brace (at 14 15) (at 19 20) (punct 58 true (at 15 16) (punct 58 false (at 16 17) (leaf (ident (98 ∷ [])) (at 18 19) end))) end))) (punct 59 false (at 22 23) end))))
-unfolding left is_end lookahead_at sees take_token take_lifetime take_mark take_group before rows_for rows run parse_rule
-rooted_use_border_7 = not_read rooted_use _ refl
-
--- `; pub use {a , {:: b}} ;`: nothing is read
-rooted_use_border_8 : NotDerived (rule rooted_use)
-    (punct 59 false (at 0 1) (leaf (ident w_pub) (at 2 5) (leaf (ident w_use) (at 6 9) (group Brace (at 10 11) (at 21 22) (leaf (ident (97 ∷ [])) (at 11 12) (punct 44 false (at 13 14) (group Brace (at 15 16) (at 20 21) (punct 58 true (at 16 17) (punct 58 false (at 17 18) (leaf (ident (98 ∷ [])) (at 19 20) end))) end))) (punct 59 false (at 23 24) end)))))
-unfolding left is_end lookahead_at sees take_token take_lifetime take_mark take_group before rows_for rows run parse_rule
-rooted_use_border_8 = not_read rooted_use _ refl
-
--- `pub ; use {a , {:: b}} ;`: nothing is read
-rooted_use_border_9 : NotDerived (rule rooted_use)
-    (leaf (ident w_pub) (at 0 3) (punct 59 false (at 4 5) (leaf (ident w_use) (at 6 9) (group Brace (at 10 11) (at 21 22) (leaf (ident (97 ∷ [])) (at 11 12) (punct 44 false (at 13 14) (group Brace (at 15 16) (at 20 21) (punct 58 true (at 16 17) (punct 58 false (at 17 18) (leaf (ident (98 ∷ [])) (at 19 20) end))) end))) (punct 59 false (at 23 24) end)))))
-unfolding left is_end lookahead_at sees take_token take_lifetime take_mark take_group before rows_for rows run parse_rule
-rooted_use_border_9 = not_read rooted_use _ refl
-
--- `pub use ; {a , {:: b}} ;`: nothing is read
-rooted_use_border_10 : NotDerived (rule rooted_use)
-    (leaf (ident w_pub) (at 0 3) (leaf (ident w_use) (at 4 7) (punct 59 false (at 8 9) (group Brace (at 10 11) (at 21 22) (leaf (ident (97 ∷ [])) (at 11 12) (punct 44 false (at 13 14) (group Brace (at 15 16) (at 20 21) (punct 58 true (at 16 17) (punct 58 false (at 17 18) (leaf (ident (98 ∷ [])) (at 19 20) end))) end))) (punct 59 false (at 23 24) end)))))
-unfolding left is_end lookahead_at sees take_token take_lifetime take_mark take_group before rows_for rows run parse_rule
-rooted_use_border_10 = not_read rooted_use _ refl
-
--- `pub use {a , {:: b} +} ;`: nothing is read
-rooted_use_border_11 : NotDerived (rule rooted_use)
-    (leaf (ident w_pub) (at 0 3) (leaf (ident w_use) (at 4 7) (group Brace (at 8 9) (at 21 22) (leaf (ident (97 ∷ [])) (at 9 10) (punct 44 false (at 11 12) (group Brace (at 13 14) (at 18 19) (punct 58 true (at 14 15) (punct 58 false (at 15 16) (leaf (ident (98 ∷ [])) (at 17 18) end))) (punct 43 false (at 20 21) end)))) (punct 59 false (at 23 24) end))))
-unfolding left is_end lookahead_at sees take_token take_lifetime take_mark take_group before rows_for rows run parse_rule
-rooted_use_border_11 = not_read rooted_use _ refl
-
--- `pub pub use {a , {:: b}} ;`: nothing is read
-rooted_use_border_12 : NotDerived (rule rooted_use)
-    (leaf (ident w_pub) (at 0 3) (leaf (ident w_pub) (at 4 7) (leaf (ident w_use) (at 8 11) (group Brace (at 12 13) (at 23 24) (leaf (ident (97 ∷ [])) (at 13 14) (punct 44 false (at 15 16) (group Brace (at 17 18) (at 22 23) (punct 58 true (at 18 19) (punct 58 false (at 19 20) (leaf (ident (98 ∷ [])) (at 21 22) end))) end))) (punct 59 false (at 25 26) end)))))
-unfolding left is_end lookahead_at sees take_token take_lifetime take_mark take_group before rows_for rows run parse_rule
-rooted_use_border_12 = not_read rooted_use _ refl
-
--- `pub use pub {a , {:: b}} ;`: nothing is read
-rooted_use_border_13 : NotDerived (rule rooted_use)
-    (leaf (ident w_pub) (at 0 3) (leaf (ident w_use) (at 4 7) (leaf (ident w_pub) (at 8 11) (group Brace (at 12 13) (at 23 24) (leaf (ident (97 ∷ [])) (at 13 14) (punct 44 false (at 15 16) (group Brace (at 17 18) (at 22 23) (punct 58 true (at 18 19) (punct 58 false (at 19 20) (leaf (ident (98 ∷ [])) (at 21 22) end))) end))) (punct 59 false (at 25 26) end)))))
-unfolding left is_end lookahead_at sees take_token take_lifetime take_mark take_group before rows_for rows run parse_rule
-rooted_use_border_13 = not_read rooted_use _ refl
-
--- `pub use use {a , {:: b}} ;`: nothing is read
-rooted_use_border_14 : NotDerived (rule rooted_use)
-    (leaf (ident w_pub) (at 0 3) (leaf (ident w_use) (at 4 7) (leaf (ident w_use) (at 8 11) (group Brace (at 12 13) (at 23 24) (leaf (ident (97 ∷ [])) (at 13 14) (punct 44 false (at 15 16) (group Brace (at 17 18) (at 22 23) (punct 58 true (at 18 19) (punct 58 false (at 19 20) (leaf (ident (98 ∷ [])) (at 21 22) end))) end))) (punct 59 false (at 25 26) end)))))
-unfolding left is_end lookahead_at sees take_token take_lifetime take_mark take_group before rows_for rows run parse_rule
-rooted_use_border_14 = not_read rooted_use _ refl
-
--- `pub use {a , {:: b}} pub ;`: nothing is read
-rooted_use_border_15 : NotDerived (rule rooted_use)
-    (leaf (ident w_pub) (at 0 3) (leaf (ident w_use) (at 4 7) (group Brace (at 8 9) (at 19 20) (leaf (ident (97 ∷ [])) (at 9 10) (punct 44 false (at 11 12) (group Brace (at 13 14) (at 18 19) (punct 58 true (at 14 15) (punct 58 false (at 15 16) (leaf (ident (98 ∷ [])) (at 17 18) end))) end))) (leaf (ident w_pub) (at 21 24) (punct 59 false (at 25 26) end)))))
-unfolding left is_end lookahead_at sees take_token take_lifetime take_mark take_group before rows_for rows run parse_rule
-rooted_use_border_15 = not_read rooted_use _ refl
-
--- `pub use {a , {:: b}} {a , {:: b}} ;`: nothing is read
-rooted_use_border_16 : NotDerived (rule rooted_use)
-    (leaf (ident w_pub) (at 0 3) (leaf (ident w_use) (at 4 7) (group Brace (at 8 9) (at 19 20) (leaf (ident (97 ∷ [])) (at 9 10) (punct 44 false (at 11 12) (group Brace (at 13 14) (at 18 19) (punct 58 true (at 14 15) (punct 58 false (at 15 16) (leaf (ident (98 ∷ [])) (at 17 18) end))) end))) (group Brace (at 21 22) (at 32 33) (leaf (ident (97 ∷ [])) (at 22 23) (punct 44 false (at 24 25) (group Brace (at 26 27) (at 31 32) (punct 58 true (at 27 28) (punct 58 false (at 28 29) (leaf (ident (98 ∷ [])) (at 30 31) end))) end))) (punct 59 false (at 34 35) end)))))
-unfolding left is_end lookahead_at sees take_token take_lifetime take_mark take_group before rows_for rows run parse_rule
-rooted_use_border_16 = not_read rooted_use _ refl
-
 -- `[] ;` prints `[] ;`
 macro_end_border_1 : DerivesAs macro_end
     (group Bracket (at 0 1) (at 1 2) end (punct 59 false (at 3 4) end))
@@ -1023,6 +969,28 @@ macro_end_border_4 : NotDerived (rule macro_end)
     (group Bracket (at 0 1) (at 4 5) (leaf (ident w_pub) (at 1 4) end) (group Bracket (at 6 7) (at 10 11) (leaf (ident w_pub) (at 7 10) end) (punct 59 false (at 12 13) end)))
 unfolding left is_end lookahead_at sees take_token take_lifetime take_mark take_group before rows_for rows run parse_rule
 macro_end_border_4 = not_read macro_end _ refl
+
+-- `! {!}`: nothing is read
+macro_item_border_1 : NotDerived (rule macro_item)
+    (punct 33 false (at 0 1) (group Brace (at 2 3) (at 4 5) (punct 33 false (at 3 4) end) end))
+unfolding left is_end lookahead_at sees take_token take_lifetime take_mark take_group before rows_for rows run parse_rule
+macro_item_border_1 = not_read macro_item _ refl
+
+-- `Self ! {#} b` prints `Self ! {#}` and leaves `b`
+macro_item_border_2 : DerivesAs macro_item
+    (leaf (ident w_Self_type) (at 0 4) (punct 33 false (at 5 6) (group Brace (at 7 8) (at 9 10) (punct 35 false (at 8 9) end) (leaf (ident (98 ∷ [])) (at 11 12) end))))
+    (leaf (ident w_Self_type) call_site (punct 33 false call_site (group Brace call_site call_site (punct 35 false call_site end) end)))
+    (leaf (ident (98 ∷ [])) (at 11 12) end)
+unfolding left is_end lookahead_at sees take_token take_lifetime take_mark take_group before rows_for rows run parse_rule
+macro_item_border_2 = computed macro_item _ _ _ refl
+
+-- `Self ! {#} # [c]` prints `Self ! {#}` and leaves `# [c]`
+macro_item_border_3 : DerivesAs macro_item
+    (leaf (ident w_Self_type) (at 0 4) (punct 33 false (at 5 6) (group Brace (at 7 8) (at 9 10) (punct 35 false (at 8 9) end) (punct 35 false (at 11 12) (group Bracket (at 13 14) (at 15 16) (leaf (ident (99 ∷ [])) (at 14 15) end) end)))))
+    (leaf (ident w_Self_type) call_site (punct 33 false call_site (group Brace call_site call_site (punct 35 false call_site end) end)))
+    (punct 35 false (at 11 12) (group Bracket (at 13 14) (at 15 16) (leaf (ident (99 ∷ [])) (at 14 15) end) end))
+unfolding left is_end lookahead_at sees take_token take_lifetime take_mark take_group before rows_for rows run parse_rule
+macro_item_border_3 = computed macro_item _ _ _ refl
 
 -- `! {!}`: nothing is read
 macro_item_rest_border_1 : NotDerived (rule macro_item_rest)
@@ -1122,161 +1090,25 @@ macro_item_rest_border_14 : NotDerived (rule macro_item_rest)
 unfolding left is_end lookahead_at sees take_token take_lifetime take_mark take_group before rows_for rows run parse_rule
 macro_item_rest_border_14 = not_read macro_item_rest _ refl
 
--- `a {}`: nothing is read
-macro_definition_border_1 : NotDerived (rule macro_definition)
-    (leaf (ident (97 ∷ [])) (at 0 1) (group Brace (at 2 3) (at 3 4) end end))
+-- `! () ;`: nothing is read
+macro_as_item_rest_border_1 : NotDerived (rule macro_as_item_rest)
+    (punct 33 false (at 0 1) (group Paren (at 2 3) (at 3 4) end (punct 59 false (at 5 6) end)))
 unfolding left is_end lookahead_at sees take_token take_lifetime take_mark take_group before rows_for rows run parse_rule
-macro_definition_border_1 = not_read macro_definition _ refl
+macro_as_item_rest_border_1 = not_read macro_as_item_rest _ refl
 
--- `Self a {}`: nothing is read
-macro_definition_border_2 : NotDerived (rule macro_definition)
-    (leaf (ident w_Self_type) (at 0 4) (leaf (ident (97 ∷ [])) (at 5 6) (group Brace (at 7 8) (at 8 9) end end)))
+-- `Self ! () ;`: nothing is read
+macro_as_item_rest_border_2 : NotDerived (rule macro_as_item_rest)
+    (leaf (ident w_Self_type) (at 0 4) (punct 33 false (at 5 6) (group Paren (at 7 8) (at 8 9) end (punct 59 false (at 10 11) end))))
 unfolding left is_end lookahead_at sees take_token take_lifetime take_mark take_group before rows_for rows run parse_rule
-macro_definition_border_2 = not_read macro_definition _ refl
+macro_as_item_rest_border_2 = not_read macro_as_item_rest _ refl
 
--- `macro 1 {}`: nothing is read
-macro_definition_border_3 : NotDerived (rule macro_definition)
-    (leaf (ident w_macro) (at 0 5) (leaf (literal Int (49 ∷ [])) (at 6 7) (group Brace (at 8 9) (at 9 10) end end)))
-unfolding left is_end lookahead_at sees take_token take_lifetime take_mark take_group before rows_for rows run parse_rule
-macro_definition_border_3 = not_read macro_definition _ refl
-
--- `macro _ {}`: nothing is read
-macro_definition_border_4 : NotDerived (rule macro_definition)
-    (leaf (ident w_macro) (at 0 5) (leaf (ident w_underscore) (at 6 7) (group Brace (at 8 9) (at 9 10) end end)))
-unfolding left is_end lookahead_at sees take_token take_lifetime take_mark take_group before rows_for rows run parse_rule
-macro_definition_border_4 = not_read macro_definition _ refl
-
--- `macro fn {}`: nothing is read
-macro_definition_border_5 : NotDerived (rule macro_definition)
-    (leaf (ident w_macro) (at 0 5) (leaf (ident w_fn) (at 6 8) (group Brace (at 9 10) (at 10 11) end end)))
-unfolding left is_end lookahead_at sees take_token take_lifetime take_mark take_group before rows_for rows run parse_rule
-macro_definition_border_5 = not_read macro_definition _ refl
-
--- `b macro a {}`: nothing is read
-macro_definition_border_6 : NotDerived (rule macro_definition)
-    (leaf (ident (98 ∷ [])) (at 0 1) (leaf (ident w_macro) (at 2 7) (leaf (ident (97 ∷ [])) (at 8 9) (group Brace (at 10 11) (at 11 12) end end))))
-unfolding left is_end lookahead_at sees take_token take_lifetime take_mark take_group before rows_for rows run parse_rule
-macro_definition_border_6 = not_read macro_definition _ refl
-
--- `macro a a {}`: nothing is read
-macro_definition_border_7 : NotDerived (rule macro_definition)
-    (leaf (ident w_macro) (at 0 5) (leaf (ident (97 ∷ [])) (at 6 7) (leaf (ident (97 ∷ [])) (at 8 9) (group Brace (at 10 11) (at 11 12) end end))))
-unfolding left is_end lookahead_at sees take_token take_lifetime take_mark take_group before rows_for rows run parse_rule
-macro_definition_border_7 = not_read macro_definition _ refl
-
--- `() macro a {}`: nothing is read
-macro_definition_border_8 : NotDerived (rule macro_definition)
-    (group Paren (at 0 1) (at 1 2) end (leaf (ident w_macro) (at 3 8) (leaf (ident (97 ∷ [])) (at 9 10) (group Brace (at 11 12) (at 12 13) end end))))
-unfolding left is_end lookahead_at sees take_token take_lifetime take_mark take_group before rows_for rows run parse_rule
-macro_definition_border_8 = not_read macro_definition _ refl
-
--- `macro () a {}`: nothing is read
-macro_definition_border_9 : NotDerived (rule macro_definition)
-    (leaf (ident w_macro) (at 0 5) (group Paren (at 6 7) (at 7 8) end (leaf (ident (97 ∷ [])) (at 9 10) (group Brace (at 11 12) (at 12 13) end end))))
-unfolding left is_end lookahead_at sees take_token take_lifetime take_mark take_group before rows_for rows run parse_rule
-macro_definition_border_9 = not_read macro_definition _ refl
-
--- `macro Self {}`: nothing is read
-macro_definition_border_10 : NotDerived (rule macro_definition)
-    (leaf (ident w_macro) (at 0 5) (leaf (ident w_Self_type) (at 6 10) (group Brace (at 11 12) (at 12 13) end end)))
-unfolding left is_end lookahead_at sees take_token take_lifetime take_mark take_group before rows_for rows run parse_rule
-macro_definition_border_10 = not_read macro_definition _ refl
-
--- `macro safe {}` prints `macro safe {}`
-macro_definition_border_11 : DerivesAs macro_definition
-    (leaf (ident w_macro) (at 0 5) (leaf (ident w_safe) (at 6 10) (group Brace (at 11 12) (at 12 13) end end)))
-    (leaf (ident w_macro) call_site (leaf (ident w_safe) call_site (group Brace call_site call_site end end)))
+-- `auto ::union ! {^}` prints `auto :: union ! {^}`
+macro_as_item_rest_border_3 : DerivesAs macro_as_item_rest
+    (leaf (ident w_auto) (at 0 4) (punct 58 true (at 5 6) (punct 58 false (at 6 7) (leaf (ident w_union) (at 7 12) (punct 33 false (at 13 14) (group Brace (at 15 16) (at 17 18) (punct 94 false (at 16 17) end) end))))))
+    (leaf (ident w_auto) call_site (punct 58 true call_site (punct 58 false call_site (leaf (ident w_union) call_site (punct 33 false call_site (group Brace call_site call_site (punct 94 false call_site end) end))))))
     (end)
 unfolding left is_end lookahead_at sees take_token take_lifetime take_mark take_group before rows_for rows run parse_rule
-macro_definition_border_11 = computed macro_definition _ _ _ refl
-
--- `macro self {}`: nothing is read
-macro_definition_border_12 : NotDerived (rule macro_definition)
-    (leaf (ident w_macro) (at 0 5) (leaf (ident w_self) (at 6 10) (group Brace (at 11 12) (at 12 13) end end)))
-unfolding left is_end lookahead_at sees take_token take_lifetime take_mark take_group before rows_for rows run parse_rule
-macro_definition_border_12 = not_read macro_definition _ refl
-
--- `macro {} a {}`: nothing is read
-macro_definition_border_13 : NotDerived (rule macro_definition)
-    (leaf (ident w_macro) (at 0 5) (group Brace (at 6 7) (at 7 8) end (leaf (ident (97 ∷ [])) (at 9 10) (group Brace (at 11 12) (at 12 13) end end))))
-unfolding left is_end lookahead_at sees take_token take_lifetime take_mark take_group before rows_for rows run parse_rule
-macro_definition_border_13 = not_read macro_definition _ refl
-
--- `{} macro a {}`: nothing is read
-macro_definition_border_14 : NotDerived (rule macro_definition)
-    (group Brace (at 0 1) (at 1 2) end (leaf (ident w_macro) (at 3 8) (leaf (ident (97 ∷ [])) (at 9 10) (group Brace (at 11 12) (at 12 13) end end))))
-unfolding left is_end lookahead_at sees take_token take_lifetime take_mark take_group before rows_for rows run parse_rule
-macro_definition_border_14 = not_read macro_definition _ refl
-
--- `macro a pub {}`: nothing is read
-macro_definition_border_15 : NotDerived (rule macro_definition)
-    (leaf (ident w_macro) (at 0 5) (leaf (ident (97 ∷ [])) (at 6 7) (leaf (ident w_pub) (at 8 11) (group Brace (at 12 13) (at 13 14) end end))))
-unfolding left is_end lookahead_at sees take_token take_lifetime take_mark take_group before rows_for rows run parse_rule
-macro_definition_border_15 = not_read macro_definition _ refl
-
--- `macro crate {}`: nothing is read
-macro_definition_border_16 : NotDerived (rule macro_definition)
-    (leaf (ident w_macro) (at 0 5) (leaf (ident w_crate) (at 6 11) (group Brace (at 12 13) (at 13 14) end end)))
-unfolding left is_end lookahead_at sees take_token take_lifetime take_mark take_group before rows_for rows run parse_rule
-macro_definition_border_16 = not_read macro_definition _ refl
-
--- `macro pub a {}`: nothing is read
-macro_definition_border_17 : NotDerived (rule macro_definition)
-    (leaf (ident w_macro) (at 0 5) (leaf (ident w_pub) (at 6 9) (leaf (ident (97 ∷ [])) (at 10 11) (group Brace (at 12 13) (at 13 14) end end))))
-unfolding left is_end lookahead_at sees take_token take_lifetime take_mark take_group before rows_for rows run parse_rule
-macro_definition_border_17 = not_read macro_definition _ refl
-
--- `macro super {}`: nothing is read
-macro_definition_border_18 : NotDerived (rule macro_definition)
-    (leaf (ident w_macro) (at 0 5) (leaf (ident w_super) (at 6 11) (group Brace (at 12 13) (at 13 14) end end)))
-unfolding left is_end lookahead_at sees take_token take_lifetime take_mark take_group before rows_for rows run parse_rule
-macro_definition_border_18 = not_read macro_definition _ refl
-
--- `macro union {}` prints `macro union {}`
-macro_definition_border_19 : DerivesAs macro_definition
-    (leaf (ident w_macro) (at 0 5) (leaf (ident w_union) (at 6 11) (group Brace (at 12 13) (at 13 14) end end)))
-    (leaf (ident w_macro) call_site (leaf (ident w_union) call_site (group Brace call_site call_site end end)))
-    (end)
-unfolding left is_end lookahead_at sees take_token take_lifetime take_mark take_group before rows_for rows run parse_rule
-macro_definition_border_19 = computed macro_definition _ _ _ refl
-
--- `macro macro {a}`: nothing is read
-macro_definition_border_20 : NotDerived (rule macro_definition)
-    (leaf (ident w_macro) (at 0 5) (leaf (ident w_macro) (at 6 11) (group Brace (at 12 13) (at 14 15) (leaf (ident (97 ∷ [])) (at 13 14) end) end)))
-unfolding left is_end lookahead_at sees take_token take_lifetime take_mark take_group before rows_for rows run parse_rule
-macro_definition_border_20 = not_read macro_definition _ refl
-
--- `macro default {}` prints `macro default {}`
-macro_definition_border_21 : DerivesAs macro_definition
-    (leaf (ident w_macro) (at 0 5) (leaf (ident w_default) (at 6 13) (group Brace (at 14 15) (at 15 16) end end)))
-    (leaf (ident w_macro) call_site (leaf (ident w_default) call_site (group Brace call_site call_site end end)))
-    (end)
-unfolding left is_end lookahead_at sees take_token take_lifetime take_mark take_group before rows_for rows run parse_rule
-macro_definition_border_21 = computed macro_definition _ _ _ refl
-
--- `macro macro a {}`: nothing is read
-macro_definition_border_22 : NotDerived (rule macro_definition)
-    (leaf (ident w_macro) (at 0 5) (leaf (ident w_macro) (at 6 11) (leaf (ident (97 ∷ [])) (at 12 13) (group Brace (at 14 15) (at 15 16) end end))))
-unfolding left is_end lookahead_at sees take_token take_lifetime take_mark take_group before rows_for rows run parse_rule
-macro_definition_border_22 = not_read macro_definition _ refl
-
--- `macro safe macro {^}`: nothing is read
-macro_definition_border_23 : NotDerived (rule macro_definition)
-    (leaf (ident w_macro) (at 0 5) (leaf (ident w_safe) (at 6 10) (leaf (ident w_macro) (at 11 16) (group Brace (at 17 18) (at 19 20) (punct 94 false (at 18 19) end) end))))
-unfolding left is_end lookahead_at sees take_token take_lifetime take_mark take_group before rows_for rows run parse_rule
-macro_definition_border_23 = not_read macro_definition _ refl
-
--- `macro union (1) (else) {/}`: nothing is read
-macro_definition_border_24 : NotDerived (rule macro_definition)
-    (leaf (ident w_macro) (at 0 5) (leaf (ident w_union) (at 6 11) (group Paren (at 12 13) (at 14 15) (leaf (literal Int (49 ∷ [])) (at 13 14) end) (group Paren (at 16 17) (at 21 22) (leaf (ident w_else) (at 17 21) end) (group Brace (at 23 24) (at 25 26) (punct 47 false (at 24 25) end) end)))))
-unfolding left is_end lookahead_at sees take_token take_lifetime take_mark take_group before rows_for rows run parse_rule
-macro_definition_border_24 = not_read macro_definition _ refl
-
--- `pub pub macro T (where) {<}`: nothing is read
-macro_definition_border_25 : NotDerived (rule macro_definition)
-    (leaf (ident w_pub) (at 0 3) (leaf (ident w_pub) (at 4 7) (leaf (ident w_macro) (at 8 13) (leaf (ident (84 ∷ [])) (at 14 15) (group Paren (at 16 17) (at 22 23) (leaf (ident w_where) (at 17 22) end) (group Brace (at 24 25) (at 26 27) (punct 60 false (at 25 26) end) end))))))
-unfolding left is_end lookahead_at sees take_token take_lifetime take_mark take_group before rows_for rows run parse_rule
-macro_definition_border_25 = not_read macro_definition _ refl
+macro_as_item_rest_border_3 = computed macro_as_item_rest _ _ _ refl
 
 -- `! {%}`: nothing is read
 member_macro_border_1 : NotDerived (rule member_macro)

@@ -38,9 +38,11 @@ mod ExamplesOfExpressions
 mod ExamplesOfFields
 mod ExamplesOfFunctions
 mod ExamplesOfGenerics
+mod ExamplesOfHeadBorders
 mod ExamplesOfHeads
 mod ExamplesOfImplBorders
 mod ExamplesOfItems
+mod ExamplesOfKeptBorders
 mod ExamplesOfLiterals
 mod ExamplesOfMemberBorders
 mod ExamplesOfOperators
