@@ -1,5 +1,5 @@
 -- What the tests of plans say of values, the tokens that were read tell.
-use Rattle.std.proofs.Common.{◌≡◌, ℕ, ◌+◌, Bool, true, false, List, [], ◌∷◌, ◌++◌, Some, refl, sym, ap, ap₂, ◌∙◌, subst, true≢false, ◌⊎◌, inl, inr}
+use Rattle.std.proofs.Common.{◌≡◌, ℕ, Bool, true, false, List, [], ◌∷◌, ◌++◌, Some, refl, sym, ap, ap₂, ◌∙◌, subst, true≢false, ◌⊎◌, inl, inr}
 use Rattle.std.specs.Prelude.{nat_eq}
 use Rattle.syn_grammar.specs.Words.{Text, keywords, contextual, w_where, w_use, w_type, w_as, equals, comma, star, colons}
 use Rattle.syn_grammar.specs.Tokens.{Span, Leaf, ident, literal, Stream, end, leaf, punct, group, ◌⧺◌, and, or, no, pick, same_text, Brace, Word, Name, mem, one_of_texts, same_terminal, at_word, stands}
