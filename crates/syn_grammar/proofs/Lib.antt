@@ -33,29 +33,20 @@ pub mod PrintedValues
 pub mod Shown
 pub mod ExamplesOfAttributes
 mod ExamplesOfAllItems
-mod ExamplesOfDefinitionBorders
 mod ExamplesOfExpressions
 mod ExamplesOfFields
 mod ExamplesOfFunctions
 mod ExamplesOfGenerics
-mod ExamplesOfHeadBorders
 mod ExamplesOfHeads
-mod ExamplesOfImplBorders
 mod ExamplesOfItems
-mod ExamplesOfKeptBorders
 mod ExamplesOfLiterals
-mod ExamplesOfMemberBorders
 mod ExamplesOfOperators
 mod ExamplesOfPaths
 mod ExamplesOfPatterns
-mod ExamplesOfPlaceBorders
-mod ExamplesOfSignatureBorders
 mod ExamplesOfSmallItems
 mod ExamplesOfStatements
 mod ExamplesOfTraits
 mod ExamplesOfTypes
-mod ExamplesOfUseBorders
-mod ExamplesOfValueBorders
 pub mod Shapes
 mod WorkedValues
 pub mod Same
@@ -80,7 +71,4 @@ pub mod Marked
 pub mod StatementPlans
 pub mod PlanSteps
 pub mod SmallPlans
-pub mod AlonePlans
-pub mod Spared
-pub mod ToldByTokens
-pub mod Leads
+pub mod EntryPoints

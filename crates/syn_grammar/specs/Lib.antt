@@ -28,6 +28,4 @@ pub mod ItemPlan
 pub mod MemberPlans
 pub mod StatementPlans
 pub mod SmallPlans
-pub mod AlonePlans
-pub mod ToldByTokens
-pub mod Leads
+pub mod EntryPoints
