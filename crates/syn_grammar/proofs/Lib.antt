@@ -72,3 +72,5 @@ pub mod StatementPlans
 pub mod PlanSteps
 pub mod SmallPlans
 pub mod EntryPoints
+pub mod Listed
+pub mod ListedItems

@@ -29,3 +29,4 @@ pub mod MemberPlans
 pub mod StatementPlans
 pub mod SmallPlans
 pub mod EntryPoints
+pub mod Listed

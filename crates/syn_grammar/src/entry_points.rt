@@ -2,6 +2,7 @@
 //! Their statements stand in specs/EntryPoints.antt. They hold of every token stream.
 
 ghost use Rattle.syn_grammar.specs.EntryPoints.{KindsAgree, KindsDerive, SomeKind, KeptAsRead, InputsAreItems, InputsDeriveItems};
+ghost use Rattle.syn_grammar.specs.Listed.{NamesStandAhead, ListingBegins, ListingGoesOn, ListingEnds, ListingRefused};
 ghost use Rattle.syn_grammar.specs.Rules.{item, trait_item, impl_item, foreign_item, derive_input};
 
 /// An item of some kind is read, and derived, exactly where the rule of that kind reads and derives it, as the same value and with
@@ -46,4 +47,18 @@ pub fn derive_inputs_are_items()
     ensures some_kind { SomeKind derive_input }
     ensures read_as_items { InputsAreItems }
     ensures derived_as_items { InputsDeriveItems }
+{}
+
+/// The name of an item (specs/Listed) stands behind the word of its kind, of a macro behind `!`: the first that stands in no group.
+pub fn names_stand_ahead()
+    ensures behind_the_word { NamesStandAhead }
+{}
+
+/// A file is listed item by item: behind its inner attributes each item by the rule of its kind, and by the name that stands ahead,
+/// up to the end; and where none of these rules reads, no file is derived.
+pub fn files_are_listed()
+    ensures begins { ListingBegins }
+    ensures goes_on { ListingGoesOn }
+    ensures ends { ListingEnds }
+    ensures refused { ListingRefused }
 {}
