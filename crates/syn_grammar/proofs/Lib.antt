@@ -74,3 +74,4 @@ pub mod SmallPlans
 pub mod EntryPoints
 pub mod Listed
 pub mod ListedItems
+pub mod Joined

@@ -30,3 +30,4 @@ pub mod StatementPlans
 pub mod SmallPlans
 pub mod EntryPoints
 pub mod Listed
+pub mod Joined

@@ -2,6 +2,7 @@
 //! Their statements stand in specs/EntryPoints.antt. They hold of every token stream.
 
 ghost use Rattle.syn_grammar.specs.EntryPoints.{KindsAgree, KindsDerive, SomeKind, KeptAsRead, InputsAreItems, InputsDeriveItems};
+ghost use Rattle.syn_grammar.specs.Joined.{JoinedItems, JoinedIsVisible};
 ghost use Rattle.syn_grammar.specs.Listed.{NamesStandAhead, ListingBegins, ListingGoesOn, ListingEnds, ListingRefused};
 ghost use Rattle.syn_grammar.specs.Rules.{item, trait_item, impl_item, foreign_item, derive_input};
 
@@ -61,4 +62,11 @@ pub fn files_are_listed()
     ensures goes_on { ListingGoesOn }
     ensures ends { ListingEnds }
     ensures refused { ListingRefused }
+{}
+
+/// The prints of items, one behind the other, are derived as a file without attributes, whose items have the normal forms of these;
+/// and they are visible where the items were derived of visible streams.
+pub fn items_are_joined()
+    ensures as_a_file { JoinedItems }
+    ensures stays_visible { JoinedIsVisible }
 {}
