@@ -38,8 +38,10 @@ from kindslib.program import canonical, comparisons_of_answers, dispatch, kind_e
 from kindslib.source import LOWEST, Fault, Source
 from kindslib.views import endings, plain_views
 
-# the program's word, the type, the rule that reads it
+# the program's word, the type (None where there is none yet), the rule that reads it
 KINDS = [
+    ("file", None, "file"),
+    ("item", None, "item"),
     ("derive", "DeriveInput", "derive_input"),
     ("visibility", "Visibility", "visibility"),
     ("variant", "Variant", "variant"),
@@ -47,51 +49,35 @@ KINDS = [
     ("unnamed-field", "UnnamedField", "unnamed_field"),
     ("fields-named", "FieldsNamed", "fields_named"),
     ("fields-unnamed", "FieldsUnnamed", "fields_unnamed"),
+    ("signature", None, "signature"),
+    ("fn-arg", None, "argument"),
+    ("receiver", None, "receiver"),
+    ("use-tree", None, "use_tree"),
+    ("trait-item", None, "trait_item"),
+    ("impl-item", None, "impl_item"),
+    ("foreign-item", None, "foreign_item"),
+    ("item-const", None, "const_item"),
     ("item-enum", "ItemEnum", "enumeration"),
+    ("item-extern-crate", None, "extern_crate"),
+    ("item-fn", None, "function"),
+    ("item-foreign-mod", None, "foreign_module"),
+    ("item-impl", None, "impl_definition"),
+    ("item-macro", None, "macro_item"),
+    ("item-mod", None, "module_item"),
+    ("item-static", None, "static_item"),
     ("item-struct", "ItemStruct", "structure"),
+    ("item-trait", None, "trait_definition"),
+    ("item-trait-alias", None, "trait_alias"),
+    ("item-type", None, "type_item"),
     ("item-union", "ItemUnion", "union_item"),
+    ("item-use", None, "use_item"),
     ("block", "Block", "block"),
     ("stmt", "Stmt", "statement"),
     ("stmts", "Stmts", "statements"),
 ]
 
-# all words of the program, each with the rule that reads it; it asks for no tree
-WORDS = [
-    ("file", "file"),
-    ("item", "item"),
-    ("derive", "derive_input"),
-    ("visibility", "visibility"),
-    ("variant", "variant"),
-    ("named-field", "named_field"),
-    ("unnamed-field", "unnamed_field"),
-    ("fields-named", "fields_named"),
-    ("fields-unnamed", "fields_unnamed"),
-    ("signature", "signature"),
-    ("fn-arg", "argument"),
-    ("receiver", "receiver"),
-    ("use-tree", "use_tree"),
-    ("trait-item", "trait_item"),
-    ("impl-item", "impl_item"),
-    ("foreign-item", "foreign_item"),
-    ("item-const", "const_item"),
-    ("item-enum", "enumeration"),
-    ("item-extern-crate", "extern_crate"),
-    ("item-fn", "function"),
-    ("item-foreign-mod", "foreign_module"),
-    ("item-impl", "impl_definition"),
-    ("item-macro", "macro_item"),
-    ("item-mod", "module_item"),
-    ("item-static", "static_item"),
-    ("item-struct", "structure"),
-    ("item-trait", "trait_definition"),
-    ("item-trait-alias", "trait_alias"),
-    ("item-type", "type_item"),
-    ("item-union", "union_item"),
-    ("item-use", "use_item"),
-    ("block", "block"),
-    ("stmt", "statement"),
-    ("stmts", "statements"),
-]
+# those of which there are trees
+TREES = [kind for kind in KINDS if kind[1]]
 
 # lists with one value at least, which end with one
 JOINED = {("Path", "segments")}
@@ -146,11 +132,11 @@ def outputs():
     files.update(comma_lists(source, table))
     files[page] = rows(source, table, page, patterns, operators, expressions)
     trees = Together(patterns, operators, expressions, source)
-    files[CRATES / "syn/src/kinds.rt"] = canonical(trees, KINDS)
-    files[CRATES / "syn_canon/src/kind.rt"] = kind_enum(WORDS)
-    files[CRATES / "syn_canon/src/by_kind.rt"] = dispatch(WORDS)
-    files[CRATES / "syn_canon/specs/Kinds.antt"] = kind_specs(WORDS)
-    files[CRATES / "tree_answers/src/by_kind.rt"] = comparisons_of_answers(trees, KINDS)
+    files[CRATES / "syn/src/kinds.rt"] = canonical(trees, TREES)
+    files[CRATES / "syn_canon/src/kind.rt"] = kind_enum(KINDS)
+    files[CRATES / "syn_canon/src/by_kind.rt"] = dispatch(KINDS)
+    files[CRATES / "syn_canon/specs/Kinds.antt"] = kind_specs(KINDS)
+    files[CRATES / "tree_answers/src/by_kind.rt"] = comparisons_of_answers(trees, TREES)
     return files
 
 
