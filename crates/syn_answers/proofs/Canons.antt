@@ -26,10 +26,10 @@ alike : (s t : Syntax) → normal s ≡ normal t → plain (print s) ≡ plain (
 alike s t e = sym (normal_prints s) ∙ ap print e ∙ normal_prints t
 
 -- the tree whose print it is
-abbrev Printed : Rule → Stream → Stream → Type 0
+abbrev pub Printed : Rule → Stream → Stream → Type 0
 Printed k ts p = (t : Syntax) × Derives k ts t × (p ≡ print t)
 
-tree_of : (k : Rule) (ts p : Stream) → IsWholePrint k ts p → Printed k ts p
+pub tree_of : (k : Rule) (ts p : Stream) → IsWholePrint k ts p → Printed k ts p
 tree_of k ts p (s, e, q) = let (t, d, v) = (means k ts s end).0 e in (t, d, q ∙ ap print (sym v) ∙ print_value t)
 
 pub derived_of : (k : Rule) (ts : Stream) → IsWhole k ts → (tree : Syntax) × Derives k ts tree

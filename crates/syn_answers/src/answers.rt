@@ -1,10 +1,12 @@
 //! Canonical prints, and whether two streams have the same, by the rules of the grammar.
 ghost use Rattle.syn_answers.specs.Canonical.{CanonicalOutcome, SameFormOutcome, WholeOutcome};
+ghost use Rattle.syn_answers.specs.Joining.{JoinOutcome};
 ghost use Rattle.syn_answers.specs.Whole.{WholePrint, WholeRead};
 ghost use Rattle.syn_parse.specs.Refusals.{IsSyntax};
 ghost use Rattle.syn_recognize.specs.Names.{rule_of};
 ghost use Rattle.syn_tokens.specs.Faults.{IsSyntaxError};
 
+use std::alloc::Global;
 use syn_parse::buffer::ParseBuffer;
 use syn_parse::read::refusal::Parsed;
 use syn_recognize::{Rule, printed_by, read_by};
@@ -64,4 +66,20 @@ pub fn same_form_by(rule: Rule, left: TokenStream, right: TokenStream) -> Result
     let left_print = printed_whole(rule, &left)?;
     let right_print = printed_whole(rule, &right)?;
     Ok(left_print == right_print)
+}
+
+/// The items that these pieces spell, one in each, as one file: the canonical print of each piece, one behind the other. No pieces
+/// give no tokens.
+///
+/// It is refused where some piece spells no item, or where memory is refused.
+#[tactic(auto, using(crate::proofs::Joining::begins, crate::proofs::Joining::goes_on, crate::proofs::Joining::ends))]
+pub fn join_items(alloc: Global, pieces: &[TokenStream]) -> Result<TokenStream>
+    ensures joined { JoinOutcome IsSyntaxError pieces.now result }
+{
+    let mut joined = TokenStream::new(alloc);
+    'pieces: for piece in pieces {
+        let printed = printed_whole(Rule::Item, piece)?;
+        joined.append(printed)?;
+    }
+    Ok(joined)
 }
