@@ -13,9 +13,9 @@ fn kinds_and_names(rt: HostRuntime) {
 fn names_of_items(rt: HostRuntime) {
     let found = names(
         rt.alloc(),
-        "#[struct] pub(in fn) static mut r#static: u8 = 1;",
+        "#[a(static b)] pub(in c) static mut r#static: u8 = 1;",
     );
-    assert_text(&rt, found, "Static r#static@32..40;");
+    assert_text(&rt, found, "Static r#static@36..44;");
     assert_text(
         &rt,
         names(rt.alloc(), "union union {}"),
