@@ -1,6 +1,6 @@
 -- Lines are written one by one.
-use Rattle.std.proofs.Common.{◌≡◌, ℕ, ◌+◌, ◌<◌, ◌≤◌, refl, sym, ap, ◌∙◌}
-use Rattle.std.specs.Prelude.{List, [], ◌∷◌, ◌++◌, length, drop, get_or, map}
+use Rattle.std.proofs.Common.{◌≡◌, ℕ, ◌+◌, ◌<◌, ◌≤◌, sym, ap, ◌∙◌}
+use Rattle.std.specs.Prelude.{List, ◌++◌, length, drop, get_or, map}
 use Rattle.std.proofs.lemmas.List.{append-nil, append_assoc, at_drop_more, drop_all}
 use Rattle.syn_answers.specs.declared.list.ListedItem.{ListedItem}
 use Rattle.syn_answers.specs.Listing.{entry_of}
