@@ -1,20 +1,20 @@
 -- The prints of items, one behind the other, are a file of them.
-use Rattle.std.proofs.Common.{◌≡◌, Bool, true, false, Option, Some, None, refl, sym, ap, ap₂, ◌∙◌, subst, true≢false, ◌⊎◌, inl, inr, arith, ◌<◌}
-use Rattle.std.specs.Prelude.{ℕ, List, [], ◌∷◌, map}
-use Rattle.syn_grammar.specs.Words.{Text, pound}
-use Rattle.syn_grammar.specs.Tokens.{Span, Delimiter, Paren, Brace, Bracket, None as Invisible, Stream, end, leaf, punct, group, ◌⧺◌, visible, and, ended, stands, has_fact, Before_bang, lookahead}
-use Rattle.syn_grammar.specs.Rules.{Rule, attributes, inner_attributes, meta, item, items, file}
-use Rattle.syn_grammar.specs.Grammar.{Grammar, rule, ◌&◌, empty, when◌then◌else◌, inside, unshown, Syntax, Nothing, Mark, Group, Node, Both, Left, Right, Unshown, DerivesPrefix, Spelled, chars, print, normal, vacant}
+use Rattle.std.proofs.Common.{◌≡◌, Bool, true, false, Some, None, refl, sym, ap, ap₂, ◌∙◌, ◌⊎◌, inl, inr, arith, ◌<◌}
+use Rattle.std.specs.Prelude.{List, [], ◌∷◌, map}
+use Rattle.syn_grammar.specs.Words.{pound}
+use Rattle.syn_grammar.specs.Tokens.{Span, Delimiter, Bracket, Stream, punct, group, ◌⧺◌, and, ended, stands, has_fact, Before_bang, lookahead}
+use Rattle.syn_grammar.specs.Rules.{attributes, meta, item, items}
+use Rattle.syn_grammar.specs.Grammar.{rule, ◌&◌, inside, unshown, Syntax, Nothing, Mark, Group, Node, Both, Left, Right, Unshown, DerivesPrefix, print, normal}
 use Rattle.syn_grammar.specs.Forms.{asking_punctuation}
 use Rattle.syn_grammar.specs.Table.{table, at_pound, at_inner_attribute}
 use Rattle.syn_grammar.specs.Laws.{Derives}
-use Rattle.syn_grammar.specs.Take.{Out, left, sees}
+use Rattle.syn_grammar.specs.Take.{Out, left}
 use Rattle.syn_grammar.specs.Run.{parse_rule, value_of}
 use Rattle.syn_grammar.specs.Plan.{follow, run_plan}
 use Rattle.syn_grammar.specs.ItemPlan.{item_plan, item_behind}
 use Rattle.syn_grammar.specs.Rules.{kept_item}
-use Rattle.syn_grammar.specs.Listed.{first_part, other_parts, behind_parts, of_rule, of_choice}
-use Rattle.syn_grammar.specs.Joined.{attributes_of_file, items_among, items_of_file, prints, AllDerived, AllVisible, IsFileOf, JoinedItems, JoinedIsVisible}
+use Rattle.syn_grammar.specs.Listed.{first_part, other_parts, of_rule, of_choice}
+use Rattle.syn_grammar.specs.Joined.{items_among, prints, AllDerived, JoinedItems, JoinedIsVisible}
 use Rattle.syn_grammar.proofs.Means.{means, parse_rule_found}
 use Rattle.syn_grammar.proofs.Run.{parse_rule_less}
 use Rattle.syn_grammar.proofs.Takes.{TreeAndRest}

@@ -1,14 +1,14 @@
 -- The name of an item stands behind the word of its kind.
-use Rattle.std.proofs.Common.{◌≡◌, ℕ, zero, suc, Bool, true, false, Option, Some, None, refl, sym, ap, ap₂, ◌∙◌, subst, true≢false, ◌⊎◌, inl, inr}
+use Rattle.std.proofs.Common.{◌≡◌, ℕ, Bool, true, false, None, refl, sym, ap, ap₂, ◌∙◌, subst, true≢false, ◌⊎◌, inl, inr}
 use Rattle.std.specs.Prelude.{List, [], ◌∷◌, ◌++◌, map, nat_eq}
-use Rattle.syn_grammar.specs.Words.{Text, keywords, contextual, w_as, w_async, w_auto, w_const, w_crate, w_enum, w_extern, w_fn, w_mod, w_mut, w_static, w_struct, w_trait, w_try, w_type, w_union, w_unsafe, exclamation, semicolon}
-use Rattle.syn_grammar.specs.Tokens.{Span, Delimiter, Paren, Brace, Bracket, Fact, Leaf, ident, literal, LitKind, Stream, end, leaf, punct, group, and, or, no, pick, same_text, one_of_texts, Terminal, Name as NameT, Word, Literal, mem, leaf_terminal, same_terminal, Look, at_word, stands}
-use Rattle.syn_grammar.specs.Rules.{Rule, attributes, visibility, unsafe_only, abi, alias, bare_trait, signature, signature_rest, macro_item_rest, macro_end, macro_as_item_rest, module_path, module_words, structure, enumeration, union_item, function, const_item, static_item, extern_crate, module_item, trait_alias, type_item, macro_as_item, trait_definition, impl_definition, use_item, foreign_module, kept_item, item}
+use Rattle.syn_grammar.specs.Words.{Text, keywords, contextual, w_async, w_auto, w_const, w_crate, w_enum, w_extern, w_fn, w_mod, w_mut, w_static, w_struct, w_trait, w_try, w_type, w_union, w_unsafe, exclamation, semicolon}
+use Rattle.syn_grammar.specs.Tokens.{Span, Delimiter, Paren, Brace, Bracket, Fact, Leaf, ident, literal, LitKind, Stream, end, leaf, punct, group, and, or, no, pick, same_text, one_of_texts, Name as NameT, Word, Literal, mem, Look, at_word, stands}
+use Rattle.syn_grammar.specs.Rules.{Rule, attributes, visibility, unsafe_only, abi, alias, bare_trait, signature, signature_rest, macro_item_rest, macro_end, macro_as_item_rest, module_path, module_words, structure, enumeration, union_item, function, const_item, static_item, extern_crate, module_item, trait_alias, type_item, macro_as_item, trait_definition, item}
 use Rattle.syn_grammar.specs.RuleNumbers.{same_rule}
-use Rattle.syn_grammar.specs.Grammar.{Kind, word, name_or, literal_of, name, identifier, index, fits, Grammar, empty, token, mark, lifetime, ◌&◌, when◌then◌else◌, vanishing, inside, raw, rule, shaped, unshown, Syntax, Nothing, Token, Mark, Both, Left, Right, Node, Vanishing, Group, Raw, Case, one_of, Shaped, Unshown, DerivesPrefix, Spelled, chars, among}
+use Rattle.syn_grammar.specs.Grammar.{Kind, word, name_or, literal_of, fits, Grammar, empty, token, mark, ◌&◌, when◌then◌else◌, vanishing, inside, raw, rule, shaped, unshown, Syntax, Nothing, Token, Mark, Both, Left, Right, Node, Vanishing, Group, Raw, Case, one_of, Shaped, Unshown, DerivesPrefix, Spelled, chars, among}
 use Rattle.syn_grammar.specs.Table.{at_paren, at_bracket, at_no_macro_item, at_bang, at_extern, at_macro_name, optional_item_word, table}
 use Rattle.syn_grammar.specs.Forms.{plainly, punctuation, asking_punctuation, never, optional}
-use Rattle.syn_grammar.specs.EntryPoints.{kinds_of, IsKind}
+use Rattle.syn_grammar.specs.EntryPoints.{kinds_of}
 use Rattle.syn_grammar.specs.Listed.{first_part, other_parts, behind_parts, of_rule, of_choice, token_name, name_behind, behind_attributes, name_in, Marker, a_word, a_bang, marks_leaf, marks_char, past, name_next, past_mut, name_past, name_ahead, NamesStandAhead}
 use Rattle.std.proofs.lemmas.Bool.{eq-eqb}
 use Rattle.syn_grammar.proofs.RuleLemmas.{same_rule_eq}

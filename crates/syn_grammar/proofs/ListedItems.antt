@@ -1,17 +1,17 @@
 -- A file is listed item by item.
-use Rattle.std.proofs.Common.{◌≡◌, Bool, true, false, Option, Some, None, refl, sym, ap, ap₂, ◌∙◌, subst, true≢false, ◌⊎◌, inl, inr}
+use Rattle.std.proofs.Common.{◌≡◌, true, false, None, refl, sym, ap, ◌∙◌, subst, true≢false, ◌⊎◌, inl, inr}
 use Rattle.std.specs.Prelude.{List, [], ◌∷◌, ◌++◌}
 use Rattle.std.proofs.lemmas.List.{append-nil, append_assoc}
 use Rattle.syn_grammar.specs.Tokens.{Stream, end, ended, stands}
 use Rattle.syn_grammar.specs.Rules.{Rule, inner_attributes, item, items, file}
-use Rattle.syn_grammar.specs.Grammar.{Grammar, rule, ◌&◌, empty, when◌then◌else◌, unshown, Syntax, Nothing, Node, Case, Both, Left, Right, Unshown, DerivesPrefix}
+use Rattle.syn_grammar.specs.Grammar.{rule, ◌&◌, empty, unshown, Syntax, Nothing, Node, Case, Both, Left, Right, Unshown, DerivesPrefix}
 use Rattle.syn_grammar.specs.Table.{table}
 use Rattle.syn_grammar.specs.Laws.{Derives}
 use Rattle.syn_grammar.specs.Promises.{Refused}
 use Rattle.syn_grammar.specs.Take.{sees}
-use Rattle.syn_grammar.specs.Run.{parse_rule, value_of}
+use Rattle.syn_grammar.specs.Run.{parse_rule}
 use Rattle.syn_grammar.specs.EntryPoints.{IsKind}
-use Rattle.syn_grammar.specs.Listed.{Listed, behind_parts, first_part, other_parts, of_rule, of_choice, behind_attributes, listed_as, listed_item, listed_items, listed, FileLists, ListedSoFar, name_ahead, ListingBegins, ListingGoesOn, ListingEnds, ListingRefused}
+use Rattle.syn_grammar.specs.Listed.{Listed, first_part, other_parts, of_rule, of_choice, listed_item, listed_items, ListedSoFar, name_ahead, ListingBegins, ListingGoesOn, ListingEnds, ListingRefused}
 use Rattle.syn_grammar.proofs.Means.{means, refused}
 use Rattle.syn_grammar.proofs.Takes.{sees_stands}
 use Rattle.syn_grammar.proofs.Proved.{one_tree}

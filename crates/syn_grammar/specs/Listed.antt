@@ -1,7 +1,7 @@
 -- WHAT A FILE LISTS: the kind of each of its items, and its name.
 use Rattle.std.specs.Prelude.{◌≡◌, ℕ, zero, suc, Bool, true, false, List, [], ◌∷◌, ◌++◌, Option, Some, None, nat_eq}
 use Rattle.syn_grammar.specs.Words.{Text, w_const, w_crate, w_enum, w_fn, w_mod, w_mut, w_static, w_struct, w_trait, w_type, w_union}
-use Rattle.syn_grammar.specs.Tokens.{Span, Leaf, ident, literal, Stream, end, leaf, punct, group, pick, same_text, ended}
+use Rattle.syn_grammar.specs.Tokens.{Span, Leaf, ident, Stream, end, leaf, punct, group, pick, same_text, ended}
 use Rattle.syn_grammar.specs.Rules.{Rule, structure, enumeration, union_item, function, const_item, static_item, extern_crate, module_item, trait_alias, type_item, macro_as_item, trait_definition, inner_attributes, item, items, file}
 use Rattle.syn_grammar.specs.Grammar.{Syntax, Nothing, Token, Both, Left, Right, Node, Case, DerivesPrefix, rule}
 use Rattle.syn_grammar.specs.Table.{table}
