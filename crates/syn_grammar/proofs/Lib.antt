@@ -18,6 +18,10 @@ pub mod Reprint
 pub mod Visible
 pub mod Said
 pub mod Proved
+pub mod EntryPoints
+pub mod Listed
+pub mod ListedItems
+pub mod Joined
 pub mod Low
 pub mod Ranks
 pub mod Takes
@@ -71,7 +75,3 @@ pub mod Marked
 pub mod StatementPlans
 pub mod PlanSteps
 pub mod SmallPlans
-pub mod EntryPoints
-pub mod Listed
-pub mod ListedItems
-pub mod Joined

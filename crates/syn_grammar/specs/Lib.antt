@@ -9,6 +9,9 @@ pub mod Forms
 pub mod Values
 pub mod Table
 pub mod Laws
+pub mod EntryPoints
+pub mod Listed
+pub mod Joined
 pub mod Before
 pub mod Grows
 pub mod Codes
@@ -28,6 +31,3 @@ pub mod ItemPlan
 pub mod MemberPlans
 pub mod StatementPlans
 pub mod SmallPlans
-pub mod EntryPoints
-pub mod Listed
-pub mod Joined
