@@ -39,8 +39,8 @@ ghost use Rattle.syn_grammar.specs.Rules as rules;
 
 
 def kind_enum(kinds):
-    variants = "".join(f"    {camel(word)},\n" for word, _ in kinds)
-    arms = "".join(f'            "{word}" => Some(Kind::{camel(word)}),\n' for word, _ in kinds)
+    variants = "".join(f"    {camel(word)},\n" for word, _, _ in kinds)
+    arms = "".join(f'            "{word}" => Some(Kind::{camel(word)}),\n' for word, _, _ in kinds)
     return f"""//! {WRITTEN}
 //!
 //! What a text may spell.
@@ -66,7 +66,7 @@ impl Kind {{
 
 
 def dispatch(kinds):
-    arms = "".join(f"        Kind::{camel(word)} => Rule::{camel(rule.replace('_', '-'))},\n" for word, rule in kinds)
+    arms = "".join(f"        Kind::{camel(word)} => Rule::{camel(rule.replace('_', '-'))},\n" for word, _, rule in kinds)
     return f"""//! {WRITTEN}
 //!
 //! By which rule each kind is read.
@@ -103,9 +103,9 @@ pub(crate) fn compare_as_each(case: &Case<'_>, tally: &mut Tally) -> Result<(), 
 
 
 def kind_specs(kinds):
-    names = ", ".join(camel(word) for word, _ in kinds)
-    words = "".join(f'word_of {camel(word)} = codes "{word}"\n' for word, _ in kinds)
-    rules = "".join(f"rule_of {camel(word)} = rules.{rule}\n" for word, rule in kinds)
+    names = ", ".join(camel(word) for word, _, _ in kinds)
+    words = "".join(f'word_of {camel(word)} = codes "{word}"\n' for word, _, _ in kinds)
+    rules = "".join(f"rule_of {camel(word)} = rules.{rule}\n" for word, _, rule in kinds)
     return f"""-- {WRITTEN}
 -- THE KINDS OF THE PROGRAM: how each is written, each as bytes, and by which rule of the grammar it is read.
 use Rattle.std.specs.Prelude.{{◌≡◌, ℕ, List, codes}}

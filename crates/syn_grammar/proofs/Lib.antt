@@ -18,10 +18,6 @@ pub mod Reprint
 pub mod Visible
 pub mod Said
 pub mod Proved
-pub mod EntryPoints
-pub mod Listed
-pub mod ListedItems
-pub mod Joined
 pub mod Low
 pub mod Ranks
 pub mod Takes
@@ -37,20 +33,29 @@ pub mod PrintedValues
 pub mod Shown
 pub mod ExamplesOfAttributes
 mod ExamplesOfAllItems
+mod ExamplesOfDefinitionBorders
 mod ExamplesOfExpressions
 mod ExamplesOfFields
 mod ExamplesOfFunctions
 mod ExamplesOfGenerics
+mod ExamplesOfHeadBorders
 mod ExamplesOfHeads
+mod ExamplesOfImplBorders
 mod ExamplesOfItems
+mod ExamplesOfKeptBorders
 mod ExamplesOfLiterals
+mod ExamplesOfMemberBorders
 mod ExamplesOfOperators
 mod ExamplesOfPaths
 mod ExamplesOfPatterns
+mod ExamplesOfPlaceBorders
+mod ExamplesOfSignatureBorders
 mod ExamplesOfSmallItems
 mod ExamplesOfStatements
 mod ExamplesOfTraits
 mod ExamplesOfTypes
+mod ExamplesOfUseBorders
+mod ExamplesOfValueBorders
 pub mod Shapes
 mod WorkedValues
 pub mod Same
@@ -75,3 +80,11 @@ pub mod Marked
 pub mod StatementPlans
 pub mod PlanSteps
 pub mod SmallPlans
+pub mod AlonePlans
+pub mod Spared
+pub mod ToldByTokens
+pub mod Leads
+pub mod EntryPoints
+pub mod Listed
+pub mod ListedItems
+pub mod Joined

@@ -9,9 +9,6 @@ pub mod Forms
 pub mod Values
 pub mod Table
 pub mod Laws
-pub mod EntryPoints
-pub mod Listed
-pub mod Joined
 pub mod Before
 pub mod Grows
 pub mod Codes
@@ -31,3 +28,9 @@ pub mod ItemPlan
 pub mod MemberPlans
 pub mod StatementPlans
 pub mod SmallPlans
+pub mod AlonePlans
+pub mod ToldByTokens
+pub mod Leads
+pub mod EntryPoints
+pub mod Listed
+pub mod Joined
