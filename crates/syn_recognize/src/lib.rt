@@ -27,6 +27,7 @@ mod refused;
 mod roots;
 mod rows;
 mod rules;
+mod same;
 mod shape;
 mod step;
 mod steps;
