@@ -112,7 +112,8 @@ pub mod stmt {
 /// Parts of trees that are kept as their tokens until they are opened.
 pub mod deferred {
     pub use syn_recognize::deferred::{
-        Deferred, DeferredConstant, DeferredExpr, TreeOf, read_deferred, read_deferred_rest,
+        BlockOf, Deferred, DeferredBlock, DeferredConstant, DeferredExpr, DeferredItem,
+        DeferredItems, DeferredStatements, TreeOf, read_deferred, read_deferred_rest,
     };
 }
 
