@@ -11,5 +11,6 @@ pub mod Parts
 pub mod Postfixes
 pub mod Primary
 pub mod Spines
+pub mod Spots
 pub mod StatementForms
 pub mod Unary
