@@ -13,4 +13,5 @@ pub mod Primary
 pub mod Spines
 pub mod Spots
 pub mod StatementForms
+pub mod Then
 pub mod Unary

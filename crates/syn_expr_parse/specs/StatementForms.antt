@@ -10,11 +10,7 @@ use Rattle.syn_grammar.specs.Table.{at_block_like, at_brace_macro, at_crate_macr
 use Rattle.syn_grammar.specs.Take.{Out, Parser, only, sees, take_mark}
 use Rattle.syn_grammar.specs.Values.{core, moved, new, onto, sentence}
 use Rattle.syn_grammar.specs.Run.{wrap, parse_rule, parse_form}
-
--- with what was read so far
-abbrev pub then_by : Out → (Syntax → Parser) → Out
-then_by (Some p) q = q p.0 p.1
-then_by None q = None
+pub use Rattle.syn_expr_parse.specs.Then.{then_by}
 
 -- what ends an expression: `;`, or in a list (true) the end
 abbrev pub no_semicolon : Bool → Parser
