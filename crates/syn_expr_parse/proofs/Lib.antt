@@ -12,4 +12,5 @@ pub mod Primary
 pub mod Spines
 pub mod StatementEnds
 pub mod StatementLists
+pub mod StructLiterals
 pub mod Unary

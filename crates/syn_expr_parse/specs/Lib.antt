@@ -13,5 +13,6 @@ pub mod Primary
 pub mod Spines
 pub mod Spots
 pub mod StatementForms
+pub mod StructLiterals
 pub mod Then
 pub mod Unary
