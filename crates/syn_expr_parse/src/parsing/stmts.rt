@@ -28,7 +28,8 @@ use syn_parse::buffer::ParseBuffer;
 use syn_parse::read::refusal::{Parsed, Refusal};
 use syn_pat::parsing::{macro_invocation, typed_pattern};
 use syn_recognize::expression_looks::{at_block_like, at_postfix_mark};
-use syn_recognize::looks::{at_brace_macro, at_crate_macro, at_item};
+use syn_recognize::item_looks::at_item;
+use syn_recognize::looks::{at_brace_macro, at_crate_macro};
 use syn_tokens::token::{Else, Eq, Let, Semi};
 
 /// Where a statement stands: what may end it.
