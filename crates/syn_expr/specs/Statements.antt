@@ -1,7 +1,7 @@
 -- WHAT SYNTAX BLOCKS AND STATEMENTS STAND FOR, one level at a time, every field.
 use Rattle.std.specs.Prelude.{List, [], ◌∷◌}
 use Rattle.syn_grammar.specs.Tokens.{Brace}
-use Rattle.syn_grammar.specs.Shape.{a_local, listed, said, said_macro, untagged}
+use Rattle.syn_grammar.specs.Shape.{a_local, an_item, listed, said, said_macro, untagged}
 use Rattle.syn_grammar.specs.Grammar.{Syntax, Nothing, Both, Left, Right, Node, Such, Shaped}
 use Rattle.syn_grammar.specs.Promises.{itself}
 use Rattle.syn_tokens.specs.Leaves.{maybe}
@@ -22,6 +22,7 @@ use Rattle.syn_expr.specs.declared.stmt.StmtMacro.TheInside as StmtMacro-in
 
 abbrev pub statement_of : Stmt-m.the_data → Syntax
 statement_of (Stmt-m.Local s) = Shaped a_local s
+statement_of (Stmt-m.Item i) = Shaped an_item i
 statement_of (Stmt-m.Expr e semi) = Shaped said (Both (syntax_of_Expr e) (maybe semi_syntax semi))
 statement_of (Stmt-m.Macro s) = Shaped said_macro s
 

@@ -12,7 +12,7 @@ use crate::trees::ExprTrees;
 use crate::{Block, Expr, Stmt};
 use std::marker::PhantomData;
 use syn_expr_parse::parsing::{
-    Inside, Knot, Rung, block, constant, expression, statement, statements,
+    Inside, Knot, Rung, Spot, block, constant, expression, statement, statements,
 };
 use syn_expr_parse::trees::Trees;
 use syn_lower::carrier::Carrier;
@@ -80,14 +80,14 @@ impl Read for Expr {
 
     #[tactic(auto, using(crate::specs::Cores::core_view))]
     fn read(input: &mut ParseBuffer<'_>) -> Parsed<Expr> {
-        Ok(ExprTrees::unboxed(nested_expr::<Refusal>(Rung::Whole, input, (LEVELS, PhantomData))?))
+        Ok(ExprTrees::unboxed(nested_expr::<Refusal>(Rung::Whole(Spot::Anywhere), input, (LEVELS, PhantomData))?))
     }
 }
 
 /// Expressions may be deferred.
 impl TreeOf<0> for Expr {
     fn read_tree(input: &mut ParseBuffer<'_>) -> Parsed<Expr> {
-        Ok(ExprTrees::unboxed(nested_expr::<Refusal>(Rung::Whole, input, (LEVELS, PhantomData))?))
+        Ok(ExprTrees::unboxed(nested_expr::<Refusal>(Rung::Whole(Spot::Anywhere), input, (LEVELS, PhantomData))?))
     }
 }
 
@@ -128,7 +128,6 @@ impl Read for Stmt {
 
     ghost meaning = { meaning_of_rule rules.statement };
 
-    #[tactic(auto, using(syn_grammar::proofs::Each::statement_is))]
     fn read(input: &mut ParseBuffer<'_>) -> Parsed<Stmt> {
         let knot = Knot {
             expr: nested_expr::<Refusal>,

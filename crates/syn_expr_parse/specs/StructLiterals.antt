@@ -2,11 +2,13 @@
 use Rattle.std.specs.Prelude.{List, [], ◌∷◌}
 use Rattle.syn_grammar.specs.Words.{colon, dots}
 use Rattle.syn_grammar.specs.Rules.{whole_expression}
-use Rattle.syn_grammar.specs.Shape.{based}
+use Rattle.syn_grammar.specs.Tokens.{pick}
+use Rattle.syn_grammar.specs.Shape.{Path, based, untagged}
 use Rattle.syn_grammar.specs.Grammar.{Syntax, Nothing, Both, Left, Right, Node, Unshown, Shaped, Grammar, index, name, rule, unshown, when◌then◌else◌, ◌&◌}
 use Rattle.syn_grammar.specs.Forms.{plainly, punctuation}
 use Rattle.syn_grammar.specs.Table.{at_colon}
-use Rattle.syn_grammar.specs.Values.{more_members}
+use Rattle.syn_grammar.specs.Same.{same_syntax}
+use Rattle.syn_grammar.specs.Values.{more_members, new}
 
 -- a list of fields, `..` and an expression, each of these or nothing
 abbrev pub literal_of_parts : Syntax → Syntax → Syntax → Syntax
@@ -40,11 +42,25 @@ numbered_form = plainly index & value_form
 abbrev pub named_form : Grammar
 named_form = plainly name & (when at_colon then value_form else unshown)
 
--- behind attributes: its number or its name, and what stands behind that
-abbrev pub field_of : Syntax → Syntax → Syntax → Syntax
-field_of attributes (Left number) value = Node (Both attributes (Left (Both number value)))
-field_of attributes (Right word) value = Node (Both attributes (Right (Both word (Left value))))
-field_of attributes member value = Node (Both attributes (Both member value))
+-- a name alone, which stands for the variable of that name
+abbrev pub named_path : Syntax → Syntax
+named_path word = new Path (Node (Right (Node (Both (Right Nothing) (Node (Both (Shaped untagged (Both word (Shaped untagged Nothing))) (Right Nothing)))))))
+
+-- what is left unshown behind a name alone: nothing, where the value is that variable (spans aside)
+abbrev pub hidden : Syntax → Syntax → Syntax
+hidden word value = pick (same_syntax (named_path word) value) Nothing (Node value)
+
+-- a number or a name; a colon, or none; and a value. Without a colon the value, which only a tree made by hand holds there, isn't shown.
+abbrev pub member_and_value : Syntax → Syntax → Syntax → Syntax
+member_and_value (Left number) (Left sign) value = Left (Both number (Both sign (Node value)))
+member_and_value (Right word) (Left sign) value = Right (Both word (Left (Both sign (Node value))))
+member_and_value (Left number) sign value = Left (Both number (Unshown (Node value)))
+member_and_value (Right word) sign value = Right (Both word (Right (Unshown (hidden word value))))
+member_and_value member sign value = Both member (Both sign (Node value))
+
+-- a field, of its attributes and these
+abbrev pub field_of : Syntax → Syntax → Syntax → Syntax → Syntax
+field_of attributes member sign value = Node (Both attributes (member_and_value member sign value))
 
 -- a name alone
 abbrev pub lone_field : Syntax → Syntax → Syntax

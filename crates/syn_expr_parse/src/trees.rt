@@ -280,7 +280,7 @@ pub trait Trees {
         colon_token: Colon,
         expr: Box<Self::Expr>,
     ) -> Self::FieldValue
-        ensures { Self.field_syntax result ≡ field_of (attributes_syntax attrs.items) (syntax_of_Member member) (Both (colon_syntax colon_token) (Node (Self.expr_syntax expr.value))) };
+        ensures { Self.field_syntax result ≡ field_of (attributes_syntax attrs.items) (syntax_of_Member member) (Left (colon_syntax colon_token)) (Self.expr_syntax expr.value) };
 
     /// A field of a struct literal whose value is the variable of its name.
     fn lone_field(

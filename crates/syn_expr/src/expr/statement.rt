@@ -43,6 +43,7 @@ impl Expr {
             Expr::Reference(e) => Stmt::Expr(Expr::Reference(e), semi),
             Expr::Repeat(e) => Stmt::Expr(Expr::Repeat(e), semi),
             Expr::Return(e) => Stmt::Expr(Expr::Return(e), semi),
+            Expr::Struct(e) => Stmt::Expr(Expr::Struct(e), semi),
             Expr::Try(e) => Stmt::Expr(Expr::Try(e), semi),
             Expr::Tuple(e) => Stmt::Expr(Expr::Tuple(e), semi),
             Expr::Unary(e) => Stmt::Expr(Expr::Unary(e), semi),

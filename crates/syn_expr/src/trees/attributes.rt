@@ -53,6 +53,7 @@ pub(super) fn put_before(attrs: Vec<Attribute>, expr: &mut Expr) -> Parsed<()>
         Expr::Reference(e) => join(attrs, &mut e.attrs),
         Expr::Repeat(e) => join(attrs, &mut e.attrs),
         Expr::Return(e) => join(attrs, &mut e.attrs),
+        Expr::Struct(e) => join(attrs, &mut e.attrs),
         Expr::Try(e) => join(attrs, &mut e.attrs),
         Expr::Tuple(e) => join(attrs, &mut e.attrs),
         Expr::Unary(e) => join(attrs, &mut e.attrs),
