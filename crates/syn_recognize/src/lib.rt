@@ -28,6 +28,7 @@ mod rules;
 mod shape;
 mod step;
 mod steps;
+mod supplied;
 mod token;
 mod words;
 mod writer;

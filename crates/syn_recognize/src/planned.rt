@@ -3,9 +3,6 @@
 ghost use Rattle.std.specs.Prelude.{◌≡◌, true, false, OnOk};
 ghost use Rattle.syn_grammar.specs.Promises.{OrMemory};
 ghost use Rattle.syn_grammar.specs.Take.{before, first, sees};
-ghost use Rattle.syn_grammar.specs.Tokens.{Before_less};
-ghost use Rattle.syn_grammar.specs.Grammar.{supplied, rule};
-ghost use Rattle.syn_grammar.specs.Rules.{pattern};
 ghost use Rattle.syn_parse.specs.Refusals.{IsSyntax};
 ghost use Rattle.syn_recognize.specs.Forms.{grammar_of};
 ghost use Rattle.syn_recognize.specs.Stages.{planned_form};
@@ -26,25 +23,19 @@ use crate::look::{Look, holds};
 use crate::plan::{Doubt, Plan, Planned, begin_of, plan_of};
 use crate::rules::Rule;
 use crate::step::Step;
-use crate::words::Mark;
 use crate::writer::Writer;
 use std::alloc::AllocError;
 use syn_parse::buffer::ParseBuffer;
 use syn_parse::read::refusal::{Parsed, Refusal};
-use syn_tokens::ident::Ident;
 use syn_tokens::span::Span;
 use syn_tokens::stream::TokenStream;
 use syn_tokens::stream::cursor::{Cursor, TokenTreeRef};
 use syn_tokens::stream::entry::Token;
-use syn_tokens::token::{Colon, For, Gt, Lt, Underscore};
+use syn_tokens::token::{For, Gt, Lt};
 
 static PARAMETERS: Form = Form::Ordered(List::Parameters);
 
 static SELF_TYPE: Form = Form::Rule(Rule::ForSelfType);
-
-static PATTERN: Form = Form::Rule(Rule::Pattern);
-
-static COLON: Form = Form::Mark(Mark::Colon);
 
 /// Begins a plan.
 #[tactic(auto, using(crate::proofs::Todo::push, crate::proofs::PlannedCourses::trait_item_written, crate::proofs::PlannedCourses::impl_item_written, crate::proofs::PlannedCourses::foreign_item_written, crate::proofs::PlannedCourses::derive_input_written, crate::proofs::PlannedCourses::crate_macro_written))]
@@ -490,27 +481,4 @@ fn has_root_mark(tokens: &TokenStream) -> bool
         }
     }
     false
-}
-
-// A PART OF A PARAMETER THAT IS SUPPLIED
-
-/// Reads a pattern, a colon and this form. Where a name stands before `<` the form stands alone, and `_ :` is written before it.
-pub(crate) fn read_supplied<'a>(
-    form: &'static Form,
-    steps: &mut Vec<Step<'a>>,
-    out: &mut Writer,
-    input: &ParseBuffer<'a>,
-) -> Parsed<()>
-    ensures { Steps IsSyntax steps.old.items (copy_form (supplied Before_less (rule pattern) (grammar_of form.now)) out.old input.now) result steps.new.items out.new input.now }
-{
-    steps.push(Step::Form(form))?;
-    if input.peek::<Ident>() && input.peek2::<Lt>() {
-        let span = input.span();
-        out.write(&Underscore::new(span))?;
-        out.write(&Colon::new([span]))?;
-        return Ok(());
-    }
-    steps.push(Step::Form(&COLON))?;
-    steps.push(Step::Form(&PATTERN))?;
-    Ok(())
 }

@@ -28,13 +28,14 @@ use crate::form::Form;
 use crate::levels::{behind, first_level, head_height_of, height_of};
 use crate::look::{Look, holds_next};
 use crate::operands::{head_operand, opened, operand};
-use crate::planned::{keep, read_plan, read_planned, read_supplied};
+use crate::planned::{keep, read_plan, read_planned};
 use crate::refused::{left_over, told};
 use crate::rows::{
     note, read_ordered, read_others, read_others_rest, read_row, read_row_rest, skip_late,
 };
 use crate::rules::{Part, Rule, form_of, form_of_part};
 use crate::step::Step;
+use crate::supplied::read_supplied;
 use crate::token::{copy, copy_token};
 use crate::words::{Mark, copy_mark};
 use crate::writer::Writer;
@@ -388,7 +389,7 @@ fn read_leaf<'a>(
         Form::Captured(form) => read_captured(form, steps, out, input),
         Form::ByBraces(one, other) => read_value(one, other, steps, out, input),
         Form::Planned(planned) => read_planned(*planned, steps, out, input),
-        Form::Supplied(form) => read_supplied(form, steps, out, input),
+        Form::Supplied(nameless) => read_supplied(*nameless, steps, out, input),
         Form::Then(_, _) => Err(Refusal::Memory),
         Form::When(_, _, _) => Err(Refusal::Memory),
         Form::Rule(_) => Err(Refusal::Memory),
