@@ -80,13 +80,13 @@ pub without_name : (k : Nameless) (w v : Written) (ts : Stream) → sees (at_unn
 without_name k w v ts h (sp, first, e) = unnamed_written (typed_form k) Before_less ts sp h first (typed_some k) w ∙ ap (λ z. copy_form (typed_form k) z ts) (sym e)
 
 -- with its name
-pub with_its_name : (k : Nameless) (w : Written) (ts : Stream) → sees (at_unnamed Before_less) ts ≡ false → copy_form (supplied_form k) w ts ≡ next (next (copy_form (rule pattern) w ts) (copy_form (mark false colon))) (copy_form (typed_form k))
-with_its_name k w ts h = one h ∙ then_is (rule pattern) (mark false colon & typed_form k) w ts ∙ go (copy_form (rule pattern) w ts)
-  where
-    one : sees (at_unnamed Before_less) ts ≡ false → copy_form (supplied_form k) w ts ≡ copy_form (rule pattern & mark false colon & typed_form k) w ts
-    unfolding copy_form
-    one h = ap (λ b. copied w (named_or_not b (parse_rule pattern) (parse_form (typed_form k)) ts)) h
+named : (k : Nameless) (w : Written) (ts : Stream) → sees (at_unnamed Before_less) ts ≡ false → copy_form (supplied_form k) w ts ≡ copy_form (rule pattern & mark false colon & typed_form k) w ts
+unfolding copy_form
+named k w ts h = ap (λ b. copied w (named_or_not b (parse_rule pattern) (parse_form (typed_form k)) ts)) h
 
+pub with_its_name : (k : Nameless) (w : Written) (ts : Stream) → sees (at_unnamed Before_less) ts ≡ false → copy_form (supplied_form k) w ts ≡ next (next (copy_form (rule pattern) w ts) (copy_form (mark false colon))) (copy_form (typed_form k))
+with_its_name k w ts h = named k w ts h ∙ then_is (rule pattern) (mark false colon & typed_form k) w ts ∙ go (copy_form (rule pattern) w ts)
+  where
     go : (o : Copy) → next o (copy_form (mark false colon & typed_form k)) ≡ next (next o (copy_form (mark false colon))) (copy_form (typed_form k))
     go (Reached v r) = then_is (mark false colon) (typed_form k) v r
     go Refused = refl

@@ -80,6 +80,7 @@ pub(crate) fn read_supplied<'a>(
 }
 
 /// Writes `_ :`, with the span of the name that stands next.
+#[tactic(auto, unfolding(syn_tokens::specs::Punct::is_punct_character))]
 fn write_unnamed(out: &mut Writer, input: &ParseBuffer<'_>) -> Result<(), AllocError>
     requires { sees (at_unnamed Before_less) input.now ≡ true }
     ensures { OnOk result (Unnamed out.old input.now out.new) }
