@@ -76,6 +76,9 @@ FADING = {'lifetimes': 'Lifetimes', 'parameter_bounds': 'Bounds', 'predicates': 
 # Lists in `< >`, by their first members.
 ORDERED = {('lifetime',): 'Arguments', ('rule', ('lifetime_parameter',)): 'Parameters'}
 
+# Rules of parameters whose name may be left out; what stands behind the name is told by src/supplied.rt.
+NAMELESS = {'argument': 'Argument', 'input_rest': 'Input'}
+
 # Rules with a union, which is read by a plan (grammarlib/plans.py): by the specifications' plan, or by one of these.
 PLANS = {'item': 'item_plan', 'trait_item': 'trait_item_plan', 'impl_item': 'impl_item_plan', 'foreign_item': 'foreign_item_plan', 'crate_macro': 'crate_macro_plan',
          'derive_input': 'derive_input_plan', 'statements': 'statements_list', 'statement': 'statement_alone', 'use_item_rest': 'use_alone', 'type_item_rest': 'type_alone',
@@ -302,7 +305,7 @@ class Writer:
             return self.named('Form', f'Then(&{self.form(rest[0], first)}, &{self.named("Form", "MarkElse")}({self.mark(";")}, {self.named("Fault", "MissingSemi")}))')
         if name == 'supplied':
             assert rest[:2] == [('Before_less',), ('rule', ('pattern',))], rest
-            return self.made('Supplied(', [(rest[2], second)])
+            return self.named('Form', f'Supplied({self.named("Nameless", NAMELESS[self.rule])})')
         parts = {
             'token': lambda: self.placed('Token', self.token(rest[1])),
             'mark': lambda: self.placed('Mark', self.mark(rest[1])),
@@ -326,7 +329,7 @@ class Writer:
         for (name, _, sentence), start, end in zip(TOPICS, starts, starts[1:]):
             yield name, sentence, [k for k in self.source.rules[start:end] if k in rules]
 
-    MODULES = {'Fault': 'crate::fault', 'Fading': 'crate::fading', 'List': 'crate::list', 'Place': 'crate::left_out', 'Planned': 'crate::plan', 'Stage': 'crate::plan', 'Delimiter': 'syn_tokens::delimiter',
+    MODULES = {'Fault': 'crate::fault', 'Fading': 'crate::fading', 'List': 'crate::list', 'Nameless': 'crate::supplied', 'Place': 'crate::left_out', 'Planned': 'crate::plan', 'Stage': 'crate::plan', 'Delimiter': 'syn_tokens::delimiter',
                'Form': 'crate::form', 'Look': 'crate::look', 'Rule': 'crate::rules', 'Part': 'crate::rules', 'Shape': 'crate::shape',
                'Variant': 'crate::shape', 'Token': 'crate::token', 'Word': 'crate::words', 'Mark': 'crate::words'}
 

@@ -37,6 +37,7 @@ pub mod ItemLooks
 pub mod ParameterLooks
 pub mod MacroLooks
 pub mod Strings
+pub mod SuppliedNames
 pub mod ExpressionLooks
 pub mod Known
 pub mod May

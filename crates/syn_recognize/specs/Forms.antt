@@ -6,9 +6,9 @@ use Rattle.syn_grammar.specs.Grammar as grammar
 use Rattle.syn_recognize.specs.Ordered.{first_form, other_form, generics_form}
 use Rattle.syn_recognize.specs.Fading.{fading_form}
 use Rattle.syn_recognize.specs.Stages.{planned_form}
-use Rattle.syn_grammar.specs.Rules.{pattern}
-use Rattle.syn_grammar.specs.Tokens.{Str, Before_less}
-use Rattle.syn_grammar.specs.Grammar.{Kind, Grammar, empty, token, mark, lifetime, ◌&◌, when◌then◌else◌, inside, raw, rest_after, either, one_of, rule, such, trailing_brace, no_trailing_brace, shaped, unshown, ordered, vanishing, captured, supplied}
+use Rattle.syn_recognize.specs.Supplied.{supplied_form}
+use Rattle.syn_grammar.specs.Tokens.{Str}
+use Rattle.syn_grammar.specs.Grammar.{Kind, Grammar, empty, token, mark, lifetime, ◌&◌, when◌then◌else◌, inside, raw, rest_after, either, one_of, rule, such, trailing_brace, no_trailing_brace, shaped, unshown, ordered, vanishing, captured}
 use Rattle.syn_tokens.specs.Delimiters.{delimiter_of}
 use Rattle.syn_recognize.specs.Parts.{part_form}
 use Rattle.syn_recognize.specs.Names.{look_of, mark_text, word_text, rule_of, shape_of}
@@ -56,5 +56,5 @@ grammar_of (Form-m.Hidden' c p f) = vanishing true (look_of c.now) (grammar_of f
 grammar_of (Form-m.Captured' p f) = captured (grammar_of f)
 grammar_of (Form-m.Planned k) = planned_form k
 grammar_of (Form-m.Only k) = one_of (rule_of k ∷ [])
-grammar_of (Form-m.Supplied' p f) = supplied Before_less (rule pattern) (grammar_of f)
+grammar_of (Form-m.Supplied k) = supplied_form k
 grammar_of (Form-m.ByBraces' p f q g) = either (such trailing_brace (rule whole_expression) & grammar_of f) (such no_trailing_brace (rule whole_expression) & grammar_of g)

@@ -10,6 +10,7 @@ pub mod Guesses
 pub mod Late
 pub mod Ordered
 pub mod Fading
+pub mod Supplied
 pub mod Restricted
 pub mod ItemLooks
 pub mod Strings

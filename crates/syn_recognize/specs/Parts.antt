@@ -103,7 +103,6 @@ part_form Part-m.ReceiverRest1 = second (second (first (table rules.receiver_res
 part_form Part-m.ReceiverRest2 = second (second (table rules.receiver_rest))
 part_form Part-m.ReceiverRest3 = first (table rules.receiver_rest)
 part_form Part-m.Inputs1 = second (first (table rules.inputs))
-part_form Part-m.InputRest1 = second (table rules.input_rest)
 part_form Part-m.Signature1 = second (table rules.signature)
 part_form Part-m.SignatureRest1 = second (table rules.signature_rest)
 part_form Part-m.ConstItemRest1 = second (second (second (second (table rules.const_item_rest))))

@@ -7,6 +7,7 @@ use crate::look::Look;
 use crate::plan::Planned;
 use crate::rules::{Part, Rule};
 use crate::shape::Shape;
+use crate::supplied::Nameless;
 use crate::token::Token;
 use crate::words::Mark;
 use syn_tokens::delimiter::Delimiter;
@@ -49,8 +50,8 @@ pub enum Form {
     Planned(Planned),
     /// A union of this rule alone.
     Only(Rule),
-    /// A pattern, a colon and this; where a name stands before `<`, this alone, and `_ :` before it counts as read.
-    Supplied(&'static Form),
+    /// A pattern, a colon and what stands behind them; where a name stands before `<`, this alone, and `_ :` before it counts as read.
+    Supplied(Nameless),
     /// A whole expression, and what follows it: the first form where its last token tree is a group in braces, else the second.
     ByBraces(&'static Form, &'static Form),
 }

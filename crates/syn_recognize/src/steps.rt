@@ -389,7 +389,7 @@ fn read_leaf<'a>(
         Form::Captured(form) => read_captured(form, steps, out, input),
         Form::ByBraces(one, other) => read_value(one, other, steps, out, input),
         Form::Planned(planned) => read_planned(*planned, steps, out, input),
-        Form::Supplied(form) => read_supplied(form, steps, out, input),
+        Form::Supplied(nameless) => read_supplied(*nameless, steps, out, input),
         Form::Then(_, _) => Err(Refusal::Memory),
         Form::When(_, _, _) => Err(Refusal::Memory),
         Form::Rule(_) => Err(Refusal::Memory),

@@ -1,43 +1,92 @@
-//! A part of a parameter that is supplied where it isn't written.
+//! The name of a parameter, which is supplied where none is written.
+ghost use Rattle.std.specs.Prelude.{◌≡◌, true, OnOk};
 ghost use Rattle.syn_grammar.specs.Tokens.{Before_less};
-ghost use Rattle.syn_grammar.specs.Grammar.{supplied, rule};
-ghost use Rattle.syn_grammar.specs.Rules.{pattern};
+ghost use Rattle.syn_grammar.specs.Grammar.{at_unnamed};
+ghost use Rattle.syn_grammar.specs.Take.{sees};
 ghost use Rattle.syn_parse.specs.Refusals.{IsSyntax};
 ghost use Rattle.syn_recognize.specs.Forms.{grammar_of};
+ghost use Rattle.syn_recognize.specs.Supplied.{supplied_form, typed_form, Unnamed};
 ghost use Rattle.syn_recognize.specs.Copies.{copy_form};
 ghost use Rattle.syn_recognize.specs.Steps.{Steps};
 
 use crate::form::Form;
+use crate::item_looks::at_unnamed;
+use crate::look::Look;
 use crate::rules::Rule;
 use crate::step::Step;
 use crate::words::Mark;
 use crate::writer::Writer;
+use std::alloc::AllocError;
 use syn_parse::buffer::ParseBuffer;
 use syn_parse::read::refusal::Parsed;
-use syn_tokens::ident::Ident;
-use syn_tokens::token::{Colon, Lt, Underscore};
+use syn_tokens::punct::Spacing;
+
+/// What stands behind the name of a parameter and its colon.
+#[derive(Clone, Copy)]
+pub enum Nameless {
+    /// A type.
+    Argument,
+    /// `...`, or a type and the parameters behind it.
+    Input,
+}
 
 static PATTERN: Form = Form::Rule(Rule::Pattern);
 
 static COLON: Form = Form::Mark(Mark::Colon);
 
-/// Reads a pattern, a colon and this form. Where a name stands before `<` the form stands alone, and `_ :` is written before it.
+static ARGUMENT: Form = Form::Rule(Rule::Type);
+
+static INPUT: Form = Form::When(
+    Look::Mark(Mark::DotDotDot),
+    &Form::Rule(Rule::Variadic),
+    &Form::Then(
+        &Form::Rule(Rule::Type),
+        &Form::When(
+            Look::Mark(Mark::Comma),
+            &Form::Then(&Form::Mark(Mark::Comma), &Form::Rule(Rule::LaterInputs)),
+            &Form::Empty,
+        ),
+    ),
+);
+
+/// What stands behind the name and its colon, as a form.
+fn typed(nameless: Nameless) -> &'static Form
+    ensures { grammar_of result.now ≡ typed_form nameless }
+{
+    match nameless {
+        Nameless::Argument => &ARGUMENT,
+        Nameless::Input => &INPUT,
+    }
+}
+
+/// Reads a pattern, a colon and what stands behind them. Where a name stands before `<`, this stands alone, and `_ :` is written before it.
 pub(crate) fn read_supplied<'a>(
-    form: &'static Form,
+    nameless: Nameless,
     steps: &mut Vec<Step<'a>>,
     out: &mut Writer,
     input: &ParseBuffer<'a>,
 ) -> Parsed<()>
-    ensures { Steps IsSyntax steps.old.items (copy_form (supplied Before_less (rule pattern) (grammar_of form.now)) out.old input.now) result steps.new.items out.new input.now }
+    ensures { Steps IsSyntax steps.old.items (copy_form (supplied_form nameless) out.old input.now) result steps.new.items out.new input.now }
 {
-    steps.push(Step::Form(form))?;
-    if input.peek::<Ident>() && input.peek2::<Lt>() {
-        let span = input.span();
-        out.write(&Underscore::new(span))?;
-        out.write(&Colon::new([span]))?;
+    if at_unnamed(input) {
+        write_unnamed(out, input)?;
+        steps.push(Step::Form(typed(nameless)))?;
         return Ok(());
     }
+    steps.push(Step::Form(typed(nameless)))?;
     steps.push(Step::Form(&COLON))?;
     steps.push(Step::Form(&PATTERN))?;
+    Ok(())
+}
+
+/// Writes `_ :`, with the span of the name that stands next.
+#[tactic(auto, unfolding(syn_tokens::specs::Punct::is_punct_character))]
+fn write_unnamed(out: &mut Writer, input: &ParseBuffer<'_>) -> Result<(), AllocError>
+    requires { sees (at_unnamed Before_less) input.now ≡ true }
+    ensures { OnOk result (Unnamed out.old input.now out.new) }
+{
+    let span = input.span();
+    out.write_word("_", span)?;
+    out.write_punct(':', Spacing::Alone, span)?;
     Ok(())
 }

@@ -6,6 +6,7 @@ use crate::form::Form;
 use crate::look::Look;
 use crate::rules::{Part, Rule};
 use crate::shape::Shape;
+use crate::supplied::Nameless;
 use crate::token::Token;
 use crate::words::{Mark, Word};
 use syn_tokens::delimiter::Delimiter;
@@ -89,7 +90,7 @@ pub(super) static ARGUMENT: Form = Form::Then(
     &Form::When(
         Look::Receiver,
         &Form::Rule(Rule::ReceiverRest),
-        &Form::Supplied(&Form::Rule(Rule::Type)),
+        &Form::Supplied(Nameless::Argument),
     ),
 );
 
@@ -139,22 +140,8 @@ pub(super) static LATER_INPUTS: Form = Form::Shaped(
 pub(super) static INPUT_REST: Form = Form::When(
     Look::Mark(Mark::DotDotDot),
     &Form::Rule(Rule::Variadic),
-    &Form::Part(Part::InputRest1),
+    &Form::Supplied(Nameless::Input),
 );
-
-/// A part of `input_rest`.
-pub(super) static INPUT_REST_1: Form = Form::Supplied(&Form::When(
-    Look::Mark(Mark::DotDotDot),
-    &Form::Rule(Rule::Variadic),
-    &Form::Then(
-        &Form::Rule(Rule::Type),
-        &Form::When(
-            Look::Mark(Mark::Comma),
-            &Form::Then(&Form::Mark(Mark::Comma), &Form::Rule(Rule::LaterInputs)),
-            &Form::Empty,
-        ),
-    ),
-));
 
 /// `...`, and perhaps a comma, and nothing behind them.
 pub(super) static VARIADIC: Form = Form::Then(
