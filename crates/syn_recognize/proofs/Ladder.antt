@@ -19,7 +19,7 @@ use Rattle.syn_tokens.specs.declared.delimiter.Delimiter.TheVariants as D
 use Rattle.syn_recognize.specs.May.{may}
 use Rattle.syn_recognize.proofs.Copied.{rule_is, shaped_is, then_is, when_is, empty_is, unshown_is}
 use Rattle.syn_recognize.proofs.WrittenAside.{hidden_absent}
-use Rattle.syn_recognize.specs.Steps.{todo, Reads, GoesOn}
+use Rattle.syn_recognize.specs.Steps.{todo, Leading, GoesOn}
 use Rattle.syn_recognize.specs.declared.step.Step.{Step}
 use Rattle.syn_recognize.specs.declared.step.Step.TheVariants as Step-m
 use Rattle.syn_recognize.proofs.Todo.{push, goes_first, goes_back, goes_read}
@@ -266,16 +266,16 @@ passes_ended n k f e = λ w ts b. nothing_behind (k - n) n f w ts b e ∙ sym (n
 -- WHAT IS READ BY LEVELS
 
 pub levels_read : {E : Type 0} (refusal : E → Type 0) (n k m : ℕ) (f : First) (l : List Step) (w v : Written) (ts r : Stream) (x : Result (Unit {0}) E) (i : List Step) → Passes n k m f → Begins f ts →
-    Reads refusal l (climb (k - m) m w ts) x i v r → Reads refusal l (climb (k - n) n w ts) x i v r
+    Leading refusal l (climb (k - m) m w ts) x i v r → Leading refusal l (climb (k - n) n w ts) x i v r
 unfolding Passes
-levels_read refusal n k m f l w v ts r x i h b s = subst (λ o. Reads refusal l o x i v r) (sym (h w ts b)) s
+levels_read refusal n k m f l w v ts r x i h b s = subst (λ o. Leading refusal l o x i v r) (sym (h w ts b)) s
 
 pub levels_end : (n k m : ℕ) (f : First) (w : Written) (ts : Stream) → Passes n k m f → Begins f ts → k ≤ m → climb (k - n) n w ts ≡ Reached w ts
 unfolding Passes
 levels_end n k m f w ts h b l = h w ts b ∙ none_left m k w ts l
 
 pub level_read : {E : Type 0} (refusal : E → Type 0) (n k : ℕ) (g : Grammar) (l m : List Step) (w v : Written) (ts r : Stream) (x : Result (Unit {0}) E) (i : List Step) → n < k → parse_form g ≡ parse_form (level_form n) →
-    m ≡ l ++ Step-m.Levels (n + 1) k ∷ [] → Reads refusal m (copy_form g w ts) x i v r → Reads refusal l (climb (k - n) n w ts) x i v r
+    m ≡ l ++ Step-m.Levels (n + 1) k ∷ [] → Leading refusal m (copy_form g w ts) x i v r → Leading refusal l (climb (k - n) n w ts) x i v r
 level_read refusal n k g l m w v ts r x i h e p s =
     goes_read refusal l m i (climb (k - n) n w ts) g w v ts r x
     (subst (λ j. GoesOn l (climb (k - n) n w ts) j g w ts) (sym p) (goes_first l (Step-m.Levels (n + 1) k) (climb (k - n) n w ts) g w ts (begun n k g w ts h e))) s

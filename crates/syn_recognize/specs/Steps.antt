@@ -48,12 +48,7 @@ abbrev pub Runs : {E : Type 0} → (E → Type 0) → Copy → Result (Unit {0})
 Runs refusal out (Ok x) w ts = out ≡ Reached w ts
 Runs refusal out (Err e) w ts = refusal e → out ≡ Refused
 
--- the same of several steps: nothing is read by all that was to be done
-abbrev pub Reads : {E : Type 0} → (E → Type 0) → List Step → Copy → Result (Unit {0}) E → List Step → Written → Stream → Type 0
-Reads refusal old out (Ok x) new w ts = todo old out ≡ todo new (Reached w ts)
-Reads refusal old out (Err e) new w ts = refusal e → todo old out ≡ Refused
-
--- and where one of them may begin with a guess
+-- the same of several steps, of which one may begin with a guess: nothing is read by all that was to be done
 abbrev pub Leading : {E : Type 0} → (E → Type 0) → List Step → Copy → Result (Unit {0}) E → List Step → Written → Stream → Type 0
 Leading refusal old out (Ok x) new w ts = Leads (todo old out) (todo new (Reached w ts))
 Leading refusal old out (Err e) new w ts = refusal e → todo old out ≡ Refused

@@ -73,7 +73,7 @@ pub struct ShownAndPrinted {
 
 /// Reads what the rule reads: its tokens as they are shown, and as they are printed; each is written by a reading of its own. What was
 /// noted of lists and plans is known before, or it is guessed that nothing was: a wrong guess is refused as memory is.
-#[tactic(auto, using(crate::proofs::Shown::not_read, crate::proofs::Shown::kept, crate::proofs::Shown::moved, crate::proofs::Shown::both_written))]
+#[tactic(auto, using(crate::proofs::Shown::not_read))]
 fn both_by(rule: Rule, notes: Notes, input: &mut ParseBuffer<'_>) -> Parsed<ShownAndPrinted>
     ensures reads { ShowsAndPrints IsSyntax (rule_of rule) input.old result input.new }
     ensures kept { Kept input.old result input.new }

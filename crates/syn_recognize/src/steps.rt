@@ -18,7 +18,7 @@ ghost use Rattle.syn_recognize.specs.Written.{adds};
 ghost use Rattle.syn_parse.specs.Firsts.{Begins};
 ghost use Rattle.syn_recognize.specs.Ladder.{climb};
 ghost use Rattle.syn_recognize.specs.declared.step.Step.TheVariants.{Levels};
-ghost use Rattle.syn_recognize.specs.Steps.{Steps, Guessing, GoesOn, Leading, Reads, Runs, after};
+ghost use Rattle.syn_recognize.specs.Steps.{Steps, Guessing, GoesOn, Leading, Runs, after};
 
 use crate::aside::{capture, forget, read_captured, read_hidden};
 use crate::braces::has_trailing_brace;
@@ -51,7 +51,7 @@ use syn_tokens::token::{DelimiterKind, kind};
 static EMPTY: Form = Form::Empty;
 
 /// Does one step, and those behind it up to the next token.
-#[tactic(auto, using(crate::proofs::Todo::reads_lead, crate::proofs::Todo::guessing_leads))]
+#[tactic(auto, using(crate::proofs::Todo::guessing_leads))]
 pub(crate) fn take<'a>(
     step: Step<'a>,
     steps: &mut Vec<Step<'a>>,
@@ -107,7 +107,7 @@ fn read_levels<'a>(
     out: &mut Writer,
     input: &mut ParseBuffer<'a>,
 ) -> Parsed<()>
-    ensures { Reads IsSyntax steps.old.items (climb (to - from) from out.old input.old) result steps.new.items out.new input.new }
+    ensures { Leading IsSyntax steps.old.items (climb (to - from) from out.old input.old) result steps.new.items out.new input.new }
 {
     let level = first_level(from, to, input.first());
     if level < to {
@@ -126,7 +126,7 @@ fn read_level<'a>(
     input: &mut ParseBuffer<'a>,
 ) -> Parsed<()>
     requires { level < to }
-    ensures { Reads IsSyntax steps.old.items (climb (to - level) level out.old input.old) result steps.new.items out.new input.new }
+    ensures { Leading IsSyntax steps.old.items (climb (to - level) level out.old input.old) result steps.new.items out.new input.new }
 {
     let Some(form) = behind(level) else {
         return Err(Refusal::Memory);
@@ -136,17 +136,17 @@ fn read_level<'a>(
 }
 
 /// Reads a form, or says what is to be read for it; where nothing is to be read for it, the same of what was put off.
-#[tactic(auto, using(crate::proofs::Todo::goes_read, crate::proofs::Todo::steps_read))]
+#[tactic(auto, using(crate::proofs::Todo::goes_read, crate::proofs::Todo::guessing_leads))]
 fn read_form<'a>(
     form: &'static Form,
     steps: &mut Vec<Step<'a>>,
     out: &mut Writer,
     input: &mut ParseBuffer<'a>,
 ) -> Parsed<()>
-    ensures { Reads IsSyntax steps.old.items (copy_form (grammar_of form.now) out.old input.old) result steps.new.items out.new input.new }
+    ensures { Leading IsSyntax steps.old.items (copy_form (grammar_of form.now) out.old input.old) result steps.new.items out.new input.new }
 {
     let first = descend(form, steps, out, input)?;
-    match read_leaf(first, steps, out, input) {
+    match read_begun(first, steps, out, input) {
         Ok(()) => Ok(()),
         Err(refusal) => Err(told(refusal, first, input)),
     }
@@ -359,7 +359,23 @@ fn begin_other<'a>(
     }
 }
 
-/// Reads a form that isn't made of another that begins where it does.
+/// Begins a plan, or reads another form that isn't made of one that begins where it does.
+#[tactic(auto, using(crate::proofs::Todo::guessing))]
+fn read_begun<'a>(
+    form: &'static Form,
+    steps: &mut Vec<Step<'a>>,
+    out: &mut Writer,
+    input: &mut ParseBuffer<'a>,
+) -> Parsed<()>
+    ensures { Guessing IsSyntax steps.old.items (copy_form (grammar_of form.now) out.old input.old) result steps.new.items out.new input.new }
+{
+    match form {
+        Form::Planned(planned) => read_planned(*planned, steps, out, input),
+        _ => read_leaf(form, steps, out, input),
+    }
+}
+
+/// Reads a form that isn't made of another that begins where it does, and isn't read by a plan.
 #[tactic(auto, unfolding(crate::specs::Copies::copy_form))]
 fn read_leaf<'a>(
     form: &'static Form,
@@ -388,7 +404,7 @@ fn read_leaf<'a>(
         Form::Hidden(look, form) => read_hidden(look, form, steps, out, input),
         Form::Captured(form) => read_captured(form, steps, out, input),
         Form::ByBraces(one, other) => read_value(one, other, steps, out, input),
-        Form::Planned(planned) => read_planned(*planned, steps, out, input),
+        Form::Planned(_) => Err(Refusal::Memory),
         Form::Supplied(nameless) => read_supplied(*nameless, steps, out, input),
         Form::Then(_, _) => Err(Refusal::Memory),
         Form::When(_, _, _) => Err(Refusal::Memory),

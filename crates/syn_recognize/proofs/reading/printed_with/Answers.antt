@@ -4,7 +4,7 @@ use Rattle.syn_recognize.specs.Written.{blank}
 use Rattle.syn_recognize.specs.Copies.{Reached, copied}
 use Rattle.syn_recognize.specs.Names.{rule_of}
 use Rattle.syn_recognize.proofs.Shown.{shown}
-use Rattle.syn_recognize.proofs.reading.printed_at_once.Goals as goal
+use Rattle.syn_recognize.proofs.reading.printed_with.Goals as goal
 
 pub returns-clause-reads : goal.returns-clause-reads
 returns-clause-reads c =

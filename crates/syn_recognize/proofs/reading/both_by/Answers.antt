@@ -4,7 +4,7 @@ use Rattle.syn_recognize.specs.Written.{blank}
 use Rattle.syn_recognize.specs.Copies.{Reached, copied}
 use Rattle.syn_recognize.specs.Names.{rule_of}
 use Rattle.syn_recognize.proofs.Shown.{both_written, kept, moved}
-use Rattle.syn_recognize.proofs.reading.recognized_and_printed.Goals as goal
+use Rattle.syn_recognize.proofs.reading.both_by.Goals as goal
 
 pub returns-clause-reads : goal.returns-clause-reads
 returns-clause-reads c =
@@ -14,7 +14,7 @@ returns-clause-reads c =
     let two = c.write_rule-2.new in
     let shown : copied (blank false) (parse_rule k ts) ≡ Reached one.out one.input = search rules in
     let printed : copied (blank true) (parse_rule k ts) ≡ Reached two.out two.input = search rules in
-    both_written k one.out two.out ts two.input one.input c.in_ok-shown.shown c.in_ok-printed-2.printed shown c.in_ok-shown.ensures printed c.in_ok-printed-2.ensures
+    both_written k one.out two.out ts two.input one.input c.in_ok-shown.shown c.in_ok-printed.printed shown c.in_ok-shown.ensures printed c.in_ok-printed.ensures
 
 pub returns-clause-kept : goal.returns-clause-kept
 returns-clause-kept c =
