@@ -44,6 +44,7 @@ fn kind_of(stmt: &Stmt) -> &'static str {
         Stmt::Local(_) => "local",
         Stmt::Expr(_, Some(_)) => "expression with `;`",
         Stmt::Expr(_, None) => "expression",
+        Stmt::Item(_) => "item",
         Stmt::Macro(_) => "macro",
     }
 }
