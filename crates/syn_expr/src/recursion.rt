@@ -19,8 +19,9 @@ use syn_lower::carrier::Carrier;
 use syn_parse::buffer::ParseBuffer;
 use syn_parse::read::Read;
 use syn_parse::read::refusal::{Parsed, Refusal};
-use syn_recognize::deferred::TreeOf;
+use syn_recognize::deferred::{BlockOf, TreeOf};
 use syn_tokens::error::Result;
+use syn_tokens::token::Brace;
 
 /// How many expressions and blocks may stand inside each other. The stack is memory too, and is refused for what is deeper.
 const LEVELS: u32 = 50;
@@ -119,6 +120,14 @@ impl Read for Block {
             trees: PhantomData::<ExprTrees>,
         };
         block(&knot, input)
+    }
+}
+
+/// Blocks may be deferred.
+impl BlockOf for Block {
+    fn read_statements(brace_token: Brace, input: &mut ParseBuffer<'_>) -> Parsed<Block> {
+        let stmts = Block::read_within(input)?;
+        Ok(Block { brace_token, stmts })
     }
 }
 
