@@ -81,14 +81,22 @@ impl Read for Expr {
 
     #[tactic(auto, using(crate::specs::Cores::core_view))]
     fn read(input: &mut ParseBuffer<'_>) -> Parsed<Expr> {
-        Ok(ExprTrees::unboxed(nested_expr::<Refusal>(Rung::Whole(Spot::Anywhere), input, (LEVELS, PhantomData))?))
+        Ok(ExprTrees::unboxed(nested_expr::<Refusal>(
+            Rung::Whole(Spot::Anywhere),
+            input,
+            (LEVELS, PhantomData),
+        )?))
     }
 }
 
 /// Expressions may be deferred.
 impl TreeOf<0> for Expr {
     fn read_tree(input: &mut ParseBuffer<'_>) -> Parsed<Expr> {
-        Ok(ExprTrees::unboxed(nested_expr::<Refusal>(Rung::Whole(Spot::Anywhere), input, (LEVELS, PhantomData))?))
+        Ok(ExprTrees::unboxed(nested_expr::<Refusal>(
+            Rung::Whole(Spot::Anywhere),
+            input,
+            (LEVELS, PhantomData),
+        )?))
     }
 }
 

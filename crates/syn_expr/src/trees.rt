@@ -35,8 +35,8 @@ use crate::Expr;
 use crate::expr::{
     ExprArray, ExprAssign, ExprBinary, ExprBlock, ExprBreak, ExprCall, ExprCast, ExprContinue,
     ExprField, ExprForLoop, ExprGroup, ExprIf, ExprIndex, ExprLit, ExprLoop, ExprMacro,
-    ExprMethodCall, ExprParen, ExprPath, ExprReference, ExprRepeat, ExprReturn, ExprStruct, ExprTry,
-    ExprTuple, ExprUnary, ExprUnsafe, ExprWhile, FieldValue,
+    ExprMethodCall, ExprParen, ExprPath, ExprReference, ExprRepeat, ExprReturn, ExprStruct,
+    ExprTry, ExprTuple, ExprUnary, ExprUnsafe, ExprWhile, FieldValue,
 };
 use crate::op::{BinOp, UnOp};
 use crate::stmt::{Block, Local, LocalInit, LocalModifiers, Stmt};
@@ -52,8 +52,8 @@ use syn_tokens::lifetime::Lifetime;
 use syn_tokens::punctuated::Punctuated;
 use syn_tokens::stream::TokenStream;
 use syn_tokens::token::{
-    And, As, Brace, Bracket, Break, Colon, Comma, Continue, Dot, DotDot, Else, Eq, For, Group, If, In, Let,
-    Loop, Mut, Paren, Question, Return, Semi, Unsafe, While,
+    And, As, Brace, Bracket, Break, Colon, Comma, Continue, Dot, DotDot, Else, Eq, For, Group, If,
+    In, Let, Loop, Mut, Paren, Question, Return, Semi, Unsafe, While,
 };
 
 /// The trees of this crate.

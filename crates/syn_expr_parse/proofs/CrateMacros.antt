@@ -70,9 +70,9 @@ module _ (ts m : Stream) (a : Syntax) (outer : parse_rule attributes ts ≡ Some
   as_item =
       item_plan_is ts
       ∙ happened kept_item ts
-        (took a m ∷ went false ∷ went false ∷ went false ∷ went false ∷ went false ∷ went false ∷ went false ∷ went false ∷ went false ∷ went false ∷ went false ∷ went false ∷ went false ∷ went false ∷ went false ∷ went false ∷ went false ∷ went false ∷ [])
-        item_plan ts
-        (outer, (off _ refl, (off _ refl, (off _ refl, (off _ refl, (off _ refl, (off _ refl, (off _ refl, (off _ refl, (off _ refl, (off _ refl, (off _ refl, (off _ refl, (off _ refl, (off _ refl, (off _ refl, (off _ refl, (off _ refl, (off _ refl, tt)))))))))))))))))))
+      (took a m ∷ went false ∷ went false ∷ went false ∷ went false ∷ went false ∷ went false ∷ went false ∷ went false ∷ went false ∷ went false ∷ went false ∷ went false ∷ went false ∷ went false ∷ went false ∷ went false ∷ went false ∷ went false ∷ [])
+      item_plan ts
+      (outer, (off _ refl, (off _ refl, (off _ refl, (off _ refl, (off _ refl, (off _ refl, (off _ refl, (off _ refl, (off _ refl, (off _ refl, (off _ refl, (off _ refl, (off _ refl, (off _ refl, (off _ refl, (off _ refl, (off _ refl, (off _ refl, tt)))))))))))))))))))
 
   module _ (p x : Syntax) (n r : Stream) (path : parse_rule module_path m ≡ Some (p, n)) (bang : parse_form bang_form n ≡ Some (x, r)) (brace : sees at_brace r ≡ true) where
     abbrev braces : Out

@@ -34,8 +34,8 @@ use syn_tokens::ident::Ident;
 use syn_tokens::lifetime::Lifetime;
 use syn_tokens::punctuated::Punctuated;
 use syn_tokens::token::{
-    And, As, Brace, Bracket, Break, Colon, Comma, Continue, Dot, DotDot, Else, Eq, For, Group, If, In, Let,
-    Loop, Mut, Paren, Question, Return, Semi, Unsafe, While,
+    And, As, Brace, Bracket, Break, Colon, Comma, Continue, Dot, DotDot, Else, Eq, For, Group, If,
+    In, Let, Loop, Mut, Paren, Question, Return, Semi, Unsafe, While,
 };
 
 /// The trees of expressions, blocks and statements. Each function that may want memory is refused only where that is.
@@ -283,11 +283,7 @@ pub trait Trees {
         ensures { Self.field_syntax result ≡ field_of (attributes_syntax attrs.items) (syntax_of_Member member) (Left (colon_syntax colon_token)) (Self.expr_syntax expr.value) };
 
     /// A field of a struct literal whose value is the variable of its name.
-    fn lone_field(
-        attrs: Vec<Attribute>,
-        name: Ident,
-        alloc: Global,
-    ) -> Parsed<Self::FieldValue>
+    fn lone_field(attrs: Vec<Attribute>, name: Ident, alloc: Global) -> Parsed<Self::FieldValue>
         ensures { OrMemory IsSyntax result (λ f. Self.field_syntax f ≡ lone_field (attributes_syntax attrs.items) (syntax_of_ident name)) };
 
     /// `?` behind an expression.

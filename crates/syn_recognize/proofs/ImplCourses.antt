@@ -247,7 +247,7 @@ module _ (N : Syntax → Syntax) where
         go true y =
             let parse : parse_form optional_self_type m ≡ wrap Left (parse_form (rule for_self_type) m) = parsed true y in
             let plans : run_plan (plan.reads optional_self_type λ s. ending g (S s)) k b m ≡ run_plan (plan.reads (rule for_self_type) λ s. ending g (S (Left s))) k b m
-                = ap (follow (λ s r. run_plan (ending g (S s)) k b r)) parse ∙ moved (parse_form (rule for_self_type) m) in
+            = ap (follow (λ s r. run_plan (ending g (S s)) k b r)) parse ∙ moved (parse_form (rule for_self_type) m) in
             subst (λ p. Leads (copied w p) (copy_course behind_path n (adds w e) m)) (sym plans)
             (subst (λ c. Leads (copied w (run_plan (plan.reads (rule for_self_type) λ s. ending g (S (Left s))) k b m)) (pick c (copy_course (self_type (rest body_form)) n (adds w e) m) (copy_course (rest body_form) n (adds w e) m))) (sym y)
             (self_written l n z g (λ s. S (Left s)) j e m h q (λ s t c r u d. f (Left s) t c r (parse ∙ ap (wrap Left) u) d) (λ s t. x (Left s) t ∙ ap (λ c. (e ⧺ c) ⧺ way w.printing t) (way_left w.printing s))))
@@ -320,13 +320,41 @@ module _ (N : Syntax → Syntax) where
         last : (n : Option Bool) → Known l n (sees at_generics m) → As (rest (rule type & body_form)) (plan.reads (rule type) λ t. ending g (λ c. Right (Right (Both t c)))) n j m
         last (Some true) q = tt
         last (Some false) q =
-            rest_written k b w (rule type & body_form) (plan.reads (rule type) λ t. ending g (λ c. Right (Right (Both t c)))) (Some false) j m
-            (refl, (refl, λ t p v. (refl, (refl, λ c r y. (refl, H (Impl g (Right (Right (Both t c)))) ∙ impl_text w.printing l (Some false) (sees at_generics m) g (Right (Right (Both t c))) i j h q (λ u. absurd (cc u)) (impl_led.1.1.1 m p r t c v y)
-            ∙ ap (λ y. j ⧺ y) (type_text w.printing t c) ∙ sym (append_append j (way w.printing t) (way w.printing c)))))))
+            rest_written k b w (rule type & body_form) (plan.reads (rule type) λ t. ending g (λ c. Right (Right (Both t c)))) (Some false) j m (
+              refl,
+              (
+                refl,
+                λ t p v. (
+                  refl,
+                  (
+                    refl,
+                    λ c r y. (
+                      refl,
+                      H (Impl g (Right (Right (Both t c)))) ∙ impl_text w.printing l (Some false) (sees at_generics m) g (Right (Right (Both t c))) i j h q (λ u. absurd (cc u)) (impl_led.1.1.1 m p r t c v y)
+                          ∙ ap (λ y. j ⧺ y) (type_text w.printing t c) ∙ sym (append_append j (way w.printing t) (way w.printing c)),
+                    ),
+                  ),
+                ),
+              ),
+            )
         last None q =
-            rest_written k b w (rule type & body_form) (plan.reads (rule type) λ t. ending g (λ c. Right (Right (Both t c)))) None j m
-            (refl, (refl, λ t p v. (refl, (refl, λ c r y. (refl, H (Impl g (Right (Right (Both t c)))) ∙ impl_text w.printing l None (sees at_generics m) g (Right (Right (Both t c))) i j h q (λ u. absurd (cc u)) (impl_led.1.1.1 m p r t c v y)
-            ∙ ap (λ y. j ⧺ y) (type_text w.printing t c) ∙ sym (append_append j (way w.printing t) (way w.printing c)))))))
+            rest_written k b w (rule type & body_form) (plan.reads (rule type) λ t. ending g (λ c. Right (Right (Both t c)))) None j m (
+              refl,
+              (
+                refl,
+                λ t p v. (
+                  refl,
+                  (
+                    refl,
+                    λ c r y. (
+                      refl,
+                      H (Impl g (Right (Right (Both t c)))) ∙ impl_text w.printing l None (sees at_generics m) g (Right (Right (Both t c))) i j h q (λ u. absurd (cc u)) (impl_led.1.1.1 m p r t c v y)
+                          ∙ ap (λ y. j ⧺ y) (type_text w.printing t c) ∙ sym (append_append j (way w.printing t) (way w.printing c)),
+                    ),
+                  ),
+                ),
+              ),
+            )
 
     pub types_written : (l : Option Bool) (g : Syntax) (j m : Stream) → Stands w.printing l g i j → As (behind-generics types_course) (types_plan g) l j m
     types_written l g j m h = seen l l false (sees at_generics m) (copied w (run_plan (types_plan g) k b m)) (λ o. copy_course types_course o (adds w j) m) (known_first l) (λ o q. types_from l o g j m h q)

@@ -42,7 +42,10 @@ impl Notes {
     /// The same, of which no plan was used yet.
     pub(crate) fn anew(self) -> Notes {
         let Notes {
-            late, plans, alloc, ..
+            late,
+            plans,
+            alloc,
+            ..
         } = self;
         Notes {
             late,

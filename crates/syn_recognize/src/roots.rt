@@ -12,10 +12,7 @@ use syn_tokens::stream::TokenStream;
 use syn_tokens::stream::entry::{Entry, Token};
 
 /// Whether `::` stands before one of the trees in braces that were read from there on. Refused only where memory is.
-pub(crate) fn has_root_mark<'a>(
-    begin: &ParseBuffer<'a>,
-    input: &ParseBuffer<'a>,
-) -> Parsed<bool>
+pub(crate) fn has_root_mark<'a>(begin: &ParseBuffer<'a>, input: &ParseBuffer<'a>) -> Parsed<bool>
     ensures { OrMemory IsSyntax result (λ answer. answer ≡ roots false (before begin.now input.now)) }
 {
     match begin.between(input) {

@@ -44,7 +44,15 @@ pub(super) fn struct_literal<N: Nested>(
     let (brace_token, mut content) = input.read_group::<kind::Brace>()?;
     let (fields, dot2_token, rest) = literal_fields(nested, &mut content)?;
     content.read_end()?;
-    N::Trees::expr_struct(qself, path, brace_token, fields, dot2_token, rest, input.alloc())
+    N::Trees::expr_struct(
+        qself,
+        path,
+        brace_token,
+        fields,
+        dot2_token,
+        rest,
+        input.alloc(),
+    )
 }
 
 /// Fields with commas between them, up to the end; and there, or alone, `..` and an expression.
@@ -110,12 +118,7 @@ fn numbered<N: Nested>(
     let index = input.read()?;
     let colon_token = input.read()?;
     let value = nested.expr(Rung::Whole(Spot::Anywhere), input)?;
-    Ok(N::Trees::field_value(
-        attrs,
-        Member::Unnamed(index),
-        colon_token,
-        value,
-    ))
+    Ok(N::Trees::field_value(attrs, Member::Unnamed(index), colon_token, value))
 }
 
 /// A field by its name, behind its attributes.
@@ -134,10 +137,5 @@ fn named<N: Nested>(
     }
     let colon_token = input.read()?;
     let value = nested.expr(Rung::Whole(Spot::Anywhere), input)?;
-    Ok(N::Trees::field_value(
-        attrs,
-        Member::Named(name),
-        colon_token,
-        value,
-    ))
+    Ok(N::Trees::field_value(attrs, Member::Named(name), colon_token, value))
 }

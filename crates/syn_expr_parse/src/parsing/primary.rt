@@ -150,11 +150,7 @@ fn continue_loop<N: Nested>(input: &mut ParseBuffer<'_>) -> Parsed<Box<Expr<N>>>
 }
 
 /// A path, and the braces of a struct literal behind it, where they may stand.
-fn path<N: Nested>(
-    spot: Spot,
-    nested: &N,
-    input: &mut ParseBuffer<'_>,
-) -> Parsed<Box<Expr<N>>>
+fn path<N: Nested>(spot: Spot, nested: &N, input: &mut ParseBuffer<'_>) -> Parsed<Box<Expr<N>>>
     requires { MayBelow N.may nested.now input.old }
     ensures reads { Computes IsSyntax (λ e. N.Trees.expr_syntax e.value) (path_out spot input.old) result input.new }
     ensures moved { Moved input.old result input.new }

@@ -87,11 +87,7 @@ fn signed<N: Nested>(
 }
 
 /// `&`, perhaps `mut`, and a unary level.
-fn reference<N: Nested>(
-    spot: Spot,
-    nested: &N,
-    input: &mut ParseBuffer<'_>,
-) -> Parsed<Box<Expr<N>>>
+fn reference<N: Nested>(spot: Spot, nested: &N, input: &mut ParseBuffer<'_>) -> Parsed<Box<Expr<N>>>
     requires { MayBelow N.may nested.now input.old }
     ensures reads { Computes IsSyntax (λ e. N.Trees.expr_syntax e.value) (wrap (new Reference) (parse_form (reference_form spot) input.old)) result input.new }
     ensures moved { Moved input.old result input.new }

@@ -29,7 +29,11 @@ pub fn copy_fields<N: CopyOf<Expr>>(
 
 /// A copy of the value of a field. A path leads back to no expression; behind a name alone it isn't shown.
 #[tactic(auto, using(crate::proofs::Fields::no_path_size))]
-pub fn copy_value<N: CopyOf<Expr>>(nested: &N, expr: &Expr, alloc: Global) -> Result<Expr, AllocError>
+pub fn copy_value<N: CopyOf<Expr>>(
+    nested: &N,
+    expr: &Expr,
+    alloc: Global,
+) -> Result<Expr, AllocError>
     requires { (n : ℕ) → n ≤ size_unless_path (syntax_of_Expr expr.now) → N.may nested.now n }
     ensures copy { IfOk result (λ copy. syntax_of_Expr copy ≡ syntax_of_Expr expr.now) }
 {
