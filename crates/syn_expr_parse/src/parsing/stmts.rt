@@ -74,6 +74,7 @@ fn listed<N: Nested>(nested: &N, input: &mut ParseBuffer<'_>) -> Parsed<Stmt<N>>
 pub fn statement<N: Nested>(nested: &N, input: &mut ParseBuffer<'_>) -> Parsed<Stmt<N>>
     requires { MayHere N.may nested.now input.old }
     ensures parses { Parses IsSyntax (λ s. Node (N.Trees.stmt_syntax s)) rules.statement input.old result input.new }
+    ensures moved { Moved input.old result input.new }
 {
     statement_in(Place::Alone, nested, input)
 }
