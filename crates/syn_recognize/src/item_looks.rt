@@ -31,7 +31,7 @@ use syn_tokens::token::{
 
 /// Whether an item stands next in a block, behind its attributes. Refused only where memory is.
 #[tactic(auto, using(crate::proofs::ItemLooks::item_seen))]
-pub(crate) fn at_item(input: &ParseBuffer<'_>) -> Parsed<bool>
+pub fn at_item(input: &ParseBuffer<'_>) -> Parsed<bool>
     ensures { OrMemory IsSyntax result (λ answer. answer ≡ sees table.at_item input.now) }
 {
     if at_item_word(input) {

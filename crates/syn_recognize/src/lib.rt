@@ -10,7 +10,7 @@ mod fault;
 pub mod field_numbers;
 mod form;
 mod guess;
-mod item_looks;
+pub mod item_looks;
 mod late;
 mod left_out;
 mod levels;
