@@ -8,7 +8,7 @@
 
 A change is found out by a worked example of its rule (tools/examples.txt) that the changed table reads otherwise, or by a law that refuses
 the changed table. Changes that alter nothing of what is read and printed are named in tools/equivalent_mutants.txt, with the reason. Of
-some rules not each border has an example yet; how many lack one stands in tools/untold_borders.txt (tools/grammar.py --check counts them).
+some rules not each border has an example yet; how many lack one stands in tools/untold_borders.txt (tools/grammar.py counts them).
 Ends with 1 where a change of another rule gets through. Writes no file."""
 import argparse
 import random
