@@ -1,5 +1,5 @@
 //! Canonical prints, and whether two streams have the same, by the rules of the grammar.
-ghost use Rattle.syn_answers.specs.Canonical.{CanonicalOutcome, SameFormOutcome, WholeOutcome};
+ghost use Rattle.syn_answers.specs.Canonical.{CanonicalOutcome, SameFormOutcome, StillCanonical, WholeOutcome};
 ghost use Rattle.syn_answers.specs.Joining.{JoinOutcome};
 ghost use Rattle.syn_answers.specs.Whole.{WholePrint, WholeRead};
 ghost use Rattle.syn_parse.specs.Refusals.{IsSyntax};
@@ -38,9 +38,13 @@ fn read_whole(rule: Rule, tokens: &TokenStream) -> Parsed<()>
 /// It is refused where the rule derives none: with a fault at a token that can't stand there, or at the first token that is
 /// left over; else only where memory is. The stream is used up, whatever the answer. It takes no stack, however deep the
 /// stream is nested.
-#[tactic(auto, using(crate::proofs::Canons::canonical_of))]
+///
+/// What the grammar before traits and impls with `const` became kinds of items reads is read still (`still_derives`), and where none
+/// stands in it, its print is as it was (`lift_keeps`).
+#[tactic(auto, using(crate::proofs::Canons::canonical_of, crate::proofs::Canons::still_of))]
 pub fn canonical_by(rule: Rule, tokens: TokenStream) -> Result<TokenStream>
     ensures canonical { CanonicalOutcome IsSyntaxError (rule_of rule) tokens result }
+    ensures grown { StillCanonical IsSyntaxError (rule_of rule) tokens result }
 {
     Ok(printed_whole(rule, &tokens)?)
 }
