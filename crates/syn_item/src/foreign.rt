@@ -1,0 +1,81 @@
+//! Foreign modules and their members.
+
+use crate::sig::{Abi, Safety, Signature};
+use crate::simple::StaticMutability;
+use syn_lower::{Attribute, Generics, Type};
+use syn_pat::Macro;
+use syn_tokens::ident::Ident;
+use syn_tokens::stream::TokenStream;
+use syn_tokens::token;
+use syn_tokens::token::{Brace, Colon, Semi, Static, Unsafe};
+use syn_tree::item::{FnModifiers, TypeModifiers};
+use syn_tree::restriction::Visibility;
+
+/// A foreign module, such as `extern "C" { fn f(); }`.
+#[derive(Drop)]
+pub struct ItemForeignMod {
+    pub attrs: Vec<Attribute>,
+    pub unsafety: Option<Unsafe>,
+    pub abi: Abi,
+    pub brace_token: Brace,
+    pub items: Vec<ForeignItem>,
+}
+
+/// A member of a foreign module.
+#[derive(Drop)]
+pub enum ForeignItem {
+    /// `fn f(a: u8, ...);`
+    Fn(ForeignItemFn),
+    /// `static A: u8;`
+    Static(ForeignItemStatic),
+    /// `type A;`
+    Ty(ForeignItemType),
+    /// `m!(a);`
+    Macro(ForeignItemMacro),
+    /// What has no kind of its own, such as `fn f() {}`.
+    Verbatim(TokenStream),
+}
+
+/// A foreign function, such as `safe fn f(a: u8, ...);`.
+#[derive(Drop)]
+pub struct ForeignItemFn {
+    pub attrs: Vec<Attribute>,
+    pub vis: Visibility,
+    pub modifiers: FnModifiers,
+    pub sig: Signature,
+    pub semi_token: Semi,
+}
+
+/// A foreign static, such as `safe static A: u8;`.
+#[derive(Drop)]
+pub struct ForeignItemStatic {
+    pub attrs: Vec<Attribute>,
+    pub vis: Visibility,
+    pub safety: Safety,
+    pub static_token: Static,
+    pub mutability: StaticMutability,
+    pub ident: Ident,
+    pub colon_token: Colon,
+    pub ty: Box<Type>,
+    pub semi_token: Semi,
+}
+
+/// A foreign type, such as `type A;`.
+#[derive(Drop)]
+pub struct ForeignItemType {
+    pub attrs: Vec<Attribute>,
+    pub vis: Visibility,
+    pub modifiers: TypeModifiers,
+    pub type_token: token::Type,
+    pub ident: Ident,
+    pub generics: Generics,
+    pub semi_token: Semi,
+}
+
+/// A macro among foreign members, such as `m!(a);`.
+#[derive(Drop)]
+pub struct ForeignItemMacro {
+    pub attrs: Vec<Attribute>,
+    pub mac: Macro,
+    pub semi_token: Option<Semi>,
+}

@@ -1,0 +1,48 @@
+//! Items of every kind.
+
+use crate::foreign::ItemForeignMod;
+use crate::function::ItemFn;
+use crate::impls::ItemImpl;
+use crate::simple::{
+    ItemConst, ItemExternCrate, ItemMacro, ItemMod, ItemStatic, ItemTraitAlias, ItemType, ItemUse,
+};
+use crate::traits::ItemTrait;
+use syn_tokens::stream::TokenStream;
+use syn_tree::item::{ItemEnum, ItemStruct, ItemUnion};
+
+/// An item.
+#[derive(Drop)]
+pub enum Item {
+    /// `const A: u8 = 1;`
+    Const(ItemConst),
+    /// `enum E { A, B }`
+    Enum(ItemEnum),
+    /// `extern crate std;`
+    ExternCrate(ItemExternCrate),
+    /// `fn f() {}`
+    Fn(ItemFn),
+    /// `extern "C" { fn f(); }`
+    ForeignMod(ItemForeignMod),
+    /// `impl A for B {}`
+    Impl(ItemImpl),
+    /// `m! { a }`
+    Macro(ItemMacro),
+    /// `mod a;`
+    Mod(ItemMod),
+    /// `static A: u8 = 1;`
+    Static(ItemStatic),
+    /// `struct S { a: A }`
+    Struct(ItemStruct),
+    /// `trait A {}`
+    Trait(ItemTrait),
+    /// `trait A = B;`
+    TraitAlias(ItemTraitAlias),
+    /// `type A = B;`
+    Ty(ItemType),
+    /// `union U { a: A }`
+    Union(ItemUnion),
+    /// `use a::b;`
+    Use(ItemUse),
+    /// What has no kind of its own, such as `fn f();`.
+    Verbatim(TokenStream),
+}

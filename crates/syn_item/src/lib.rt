@@ -1,0 +1,13 @@
+//! The syntax trees of items and files: functions, traits, impls and all else that stands beside structs, enums and unions. They hold
+//! no expression and no item: bodies, values and the content of modules are kept as their tokens.
+#![tactic(auto)]
+
+pub mod file;
+pub mod foreign;
+pub mod function;
+pub mod impls;
+pub mod item;
+pub mod sig;
+pub mod simple;
+pub mod traits;
+pub mod use_tree;
