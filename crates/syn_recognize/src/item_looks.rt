@@ -290,7 +290,7 @@ fn at_first_parameter(input: &ParseBuffer<'_>) -> bool
 
 /// Whether generics stand next where a type may stand too.
 #[tactic(auto, using(crate::proofs::ParameterLooks::generics_seen))]
-pub(crate) fn at_generics(input: &ParseBuffer<'_>) -> bool
+pub fn at_generics(input: &ParseBuffer<'_>) -> bool
     ensures { result ≡ sees grammar.at_generics input.now }
 {
     input.peek::<Lt>() && input.peek2::<FirstParameter>()

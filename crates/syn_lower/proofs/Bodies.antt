@@ -11,8 +11,7 @@ use Rattle.syn_lower.specs.declared.attr.AttrStyle.TheVariants as AttrStyle-m
 use Rattle.syn_lower.specs.declared.attr.Attribute.{Attribute}
 use Rattle.syn_lower.proofs.Attributes.{print_outer_listed}
 use Rattle.syn_lower.proofs.Compared.{told}
-use Rattle.syn_expr_parse.specs.Bodies.{attributes_before_body, attributes_in_body, listed_before, listed_inside, outer_first}
-use Rattle.syn_expr.specs.Bodies.{inner_part, inner_row}
+use Rattle.syn_lower.specs.Bodies.{attributes_before_body, attributes_in_body, inner_part, inner_row, listed_before, listed_inside, outer_first}
 
 abbrev all : List Attribute → Syntax
 all l = in_order syntax_of_Attribute l
