@@ -41,11 +41,31 @@ FAMILIES = {
     "types": Family("Type", "Type", "type", "type", "list"),
     "patterns": Family("Pat", "Of", "one", "pat", "list", "<Pat>"),
     "expressions": Family("Expr", "Of", "one", "expr", "exprs", "<Expr>", "copy_operand"),
+    "use_trees": Family("UseTree", "Of", "one", "tree", "list", "<UseTree>"),
 }
 
-# of the types that lead back to a pattern or an expression, those that are copied, compared and printed by themselves too: a variant's
-# struct isn't, as its `Pat` or `Expr` stands for it
-ALONE = {"Block", "Expr", "Local", "LocalInit", "Pat", "PatType", "Stmt"}
+# of the types that lead back to a pattern, an expression or a tree of a use, those that are copied, compared and printed by themselves
+# too: a variant's struct of the first two isn't, as its `Pat` or `Expr` stands for it
+ALONE = {"Block", "Expr", "Local", "LocalInit", "Pat", "PatType", "Stmt", "UseGroup", "UsePath", "UseTree"}
+
+# the fields of items and members that are never printed
+UNSHOWN = {
+    **dict.fromkeys(("ItemConst", "TraitItemConst"), {"modifiers", "generics"}),
+    **dict.fromkeys(("ForeignItemFn", "ForeignItemType", "ItemFn", "TraitItemType"), {"modifiers"}),
+    "ImplItemConst": {"generics"},
+}
+
+# the field behind which the where clause of generics stands that isn't printed with the parameters
+CLAUSES = {"ForeignItemType": "generics", "ImplItemType": "ty", "ItemTraitAlias": "bounds", "Signature": "output", "TraitItemType": "default"}
+
+# what stands in the braces of a body, behind inner attributes
+BODY_TYPES = re.compile(r"DeferredBlock|Vec<(?!Attribute>).*")
+NUMBERS = ["none", "one", "two", "three", "four", "five"]
+
+
+def has_body(t):
+    """Whether it has attributes, of which the inner ones stand in its braces."""
+    return t.has_attributes() and any(BODY_TYPES.fullmatch(kind) for _, kind in t.fields)
 
 
 def stands_alone(t):
@@ -356,11 +376,19 @@ COMPARED = Calls(
 
 def compared_part(source, t, field, kind, uses):
     """How a field is compared."""
-    return COMPARED.of(source, t, field, kind, uses) or f"self.{field}.is_same(&other.{field})"
+    if kind == "Generics" and t.name in CLAUSES:
+        return f"self.{field}.has_same_params(&other.{field})"
+    place = f"{field}.stmts" if kind == "DeferredBlock" else field
+    return COMPARED.of(source, t, field, kind, uses) or f"self.{place}.is_same(&other.{place})"
 
 
 def compare_struct(source, t, uses):
-    parts = [compared_part(source, t, field, kind, uses) for field, kind in t.fields if is_compared(source, t, kind)]
+    parts = []
+    for field, kind in t.fields:
+        if is_compared(source, t, kind):
+            parts.append(compared_part(source, t, field, kind, uses))
+        if CLAUSES.get(t.name) == field:
+            parts.append("self.generics.has_same_where(&other.generics)")
     if not parts:
         return "        true\n"
     return wrapped(" && ".join(parts), 8, parts, "&& ") + "\n"
@@ -397,6 +425,9 @@ def compare_body(source, t, uses):
 def compared_lemmas(source, t, body):
     """What the proof of such a comparison is handed."""
     attributes = [f"{source.root()}::proofs::Attributes::same_attributes"] if t.has_attributes() else []
+    if has_body(t):
+        between = [kind for field, kind in t.fields if not BODY_TYPES.fullmatch(kind) and kind != ATTRIBUTES and is_compared(source, t, kind)]
+        attributes = [f"{source.root()}::proofs::Bodies::same_behind_{NUMBERS[len(between)]}"]
     return attributes + lemmas(source, t, "compare", body)
 
 
@@ -500,25 +531,51 @@ PRINTED = Calls(
 def print_step(source, t, field, kind, uses):
     """How one field is printed."""
     if kind == ATTRIBUTES:
-        uses.append((f"{source.root()}::attr", "print_outer"))
-        return f"print_outer(&self.{field}, out)"
+        print_attributes = "print_before_body" if has_body(t) else "print_outer"
+        uses.append((f"{source.root()}::attr", print_attributes))
+        return f"{print_attributes}(&self.{field}, out)"
     if nested := PRINTED.of(source, t, field, kind, uses):
         return nested
+    if ("colon_token", "Option<Colon>") in t.fields and kind == "Punctuated<TypeParamBound, Plus>":
+        uses.append((f"{source.root()}::generics", "print_bounds"))
+        return f"print_bounds(&self.colon_token, &self.{field}, out)"
     if kind.startswith("Punctuated<"):
         uses.append(("syn_tokens::print", "print_list"))
         return f"print_list(&self.{field}, out)"
+    if kind.startswith("Option<("):
+        uses.append(("crate::parts", "print_pair"))
+        return f"print_pair(&self.{field}, out)"
+    if kind == "DeferredBlock":
+        uses.append(("crate::parts", "print_body"))
+        return f"print_body(&self.attrs, &self.{field}, out)"
+    if kind == "Generics" and t.name in CLAUSES:
+        return f"self.{field}.print_params(out)"
     return f"self.{field}.print_in(out)"
+
+
+def print_steps(source, t, field, kind, uses):
+    """The steps of a field: a modifier is printed by itself, and members stand behind inner attributes."""
+    if field in UNSHOWN.get(t.name, ()) or kind == "Option<Colon>" and ("bounds", "Punctuated<TypeParamBound, Plus>") in t.fields:
+        return []
+    if field == "modifiers":
+        return [f"self.{field}.{modifier}.print_in(out)" for modifier, _ in source.types[kind].fields]
+    if has_body(t) and kind.startswith("Vec<") and kind != ATTRIBUTES:
+        uses.append(("crate::parts", "print_braced"))
+        return [f"print_braced(&self.brace_token, &self.attrs, &self.{field}, out)"]
+    return [print_step(source, t, field, kind, uses)]
 
 
 def print_struct(source, t, uses):
     """The fields in order; what stands behind a delimiter of a group is printed between its delimiters."""
     steps, open_groups = [], []
     for field, kind in t.fields:
-        if kind in DELIMITERS and source.is_token(t, kind):
+        if kind in DELIMITERS and source.is_token(t, kind) and not has_body(t):
             steps.append(f"self.{field}.open(out)")
             open_groups.append(f"self.{field}.close(out)")
-        elif not (source.is_empty(kind) or kind in source.types and source.types[kind].has_one_value()):
-            steps.append(print_step(source, t, field, kind, uses))
+        elif kind not in DELIMITERS and not (source.is_empty(kind) or kind in source.types and source.types[kind].has_one_value()):
+            steps += print_steps(source, t, field, kind, uses)
+        if CLAUSES.get(t.name) == field:
+            steps.append("self.generics.print_where(out)")
     steps += reversed(open_groups)
     return "".join(f"        {step}?;\n" for step in steps[:-1]) + f"        {steps[-1] if steps else 'Ok(())'}\n"
 

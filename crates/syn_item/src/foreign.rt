@@ -79,3 +79,106 @@ pub struct ForeignItemMacro {
     pub mac: Macro,
     pub semi_token: Option<Semi>,
 }
+
+// Written by tools/kinds.py from here to the end; edits are lost.
+
+impl std::marker::Model for ItemForeignMod {
+    ghost use Rattle.syn_grammar.specs.Grammar.{Syntax};
+    ghost use Rattle.syn_grammar.specs.TreeCodes.{syntax_code};
+
+    ghost Value = { Syntax };
+
+    ghost coded = { syntax_code };
+
+    ghost use Rattle.syn_item.specs.Foreign.{view_ItemForeignMod};
+
+    ghost view = { view_ItemForeignMod };
+}
+
+impl std::marker::Model for ForeignItemFn {
+    ghost use Rattle.syn_grammar.specs.Grammar.{Syntax};
+    ghost use Rattle.syn_grammar.specs.TreeCodes.{syntax_code};
+
+    ghost Value = { Syntax };
+
+    ghost coded = { syntax_code };
+
+    ghost use Rattle.syn_item.specs.Foreign.{view_ForeignItemFn};
+
+    ghost view = { view_ForeignItemFn };
+}
+
+impl std::marker::Model for ForeignItemStatic {
+    ghost use Rattle.syn_grammar.specs.Grammar.{Syntax};
+    ghost use Rattle.syn_grammar.specs.TreeCodes.{syntax_code};
+
+    ghost Value = { Syntax };
+
+    ghost coded = { syntax_code };
+
+    ghost use Rattle.syn_item.specs.Foreign.{view_ForeignItemStatic};
+
+    ghost view = { view_ForeignItemStatic };
+}
+
+impl std::marker::Model for ForeignItemType {
+    ghost use Rattle.syn_grammar.specs.Grammar.{Syntax};
+    ghost use Rattle.syn_grammar.specs.TreeCodes.{syntax_code};
+
+    ghost Value = { Syntax };
+
+    ghost coded = { syntax_code };
+
+    ghost use Rattle.syn_item.specs.Foreign.{view_ForeignItemType};
+
+    ghost view = { view_ForeignItemType };
+}
+
+impl std::marker::Model for ForeignItemMacro {
+    ghost use Rattle.syn_grammar.specs.Grammar.{Syntax};
+    ghost use Rattle.syn_grammar.specs.TreeCodes.{syntax_code};
+
+    ghost Value = { Syntax };
+
+    ghost coded = { syntax_code };
+
+    ghost use Rattle.syn_item.specs.Macros.{view_ForeignItemMacro};
+
+    ghost view = { view_ForeignItemMacro };
+}
+
+impl syn_tokens::syntactic::Syntactic for ItemForeignMod {
+    ghost use Rattle.syn_item.specs.Foreign.{syntax_of_ItemForeignMod};
+
+    ghost syntax = { syntax_of_ItemForeignMod };
+}
+
+impl syn_tokens::syntactic::Syntactic for ForeignItem {
+    ghost use Rattle.syn_item.specs.Foreign.{syntax_of_ForeignItem};
+
+    ghost syntax = { syntax_of_ForeignItem };
+}
+
+impl syn_tokens::syntactic::Syntactic for ForeignItemFn {
+    ghost use Rattle.syn_item.specs.Foreign.{syntax_of_ForeignItemFn};
+
+    ghost syntax = { syntax_of_ForeignItemFn };
+}
+
+impl syn_tokens::syntactic::Syntactic for ForeignItemStatic {
+    ghost use Rattle.syn_item.specs.Foreign.{syntax_of_ForeignItemStatic};
+
+    ghost syntax = { syntax_of_ForeignItemStatic };
+}
+
+impl syn_tokens::syntactic::Syntactic for ForeignItemType {
+    ghost use Rattle.syn_item.specs.Foreign.{syntax_of_ForeignItemType};
+
+    ghost syntax = { syntax_of_ForeignItemType };
+}
+
+impl syn_tokens::syntactic::Syntactic for ForeignItemMacro {
+    ghost use Rattle.syn_item.specs.Macros.{syntax_of_ForeignItemMacro};
+
+    ghost syntax = { syntax_of_ForeignItemMacro };
+}

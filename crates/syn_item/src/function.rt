@@ -15,3 +15,24 @@ pub struct ItemFn {
     pub sig: Signature,
     pub block: DeferredBlock,
 }
+
+// Written by tools/kinds.py from here to the end; edits are lost.
+
+impl std::marker::Model for ItemFn {
+    ghost use Rattle.syn_grammar.specs.Grammar.{Syntax};
+    ghost use Rattle.syn_grammar.specs.TreeCodes.{syntax_code};
+
+    ghost Value = { Syntax };
+
+    ghost coded = { syntax_code };
+
+    ghost use Rattle.syn_item.specs.Functions.{view_ItemFn};
+
+    ghost view = { view_ItemFn };
+}
+
+impl syn_tokens::syntactic::Syntactic for ItemFn {
+    ghost use Rattle.syn_item.specs.Functions.{syntax_of_ItemFn};
+
+    ghost syntax = { syntax_of_ItemFn };
+}

@@ -1,13 +1,27 @@
 //! Impls and their members.
+ghost use Rattle.std.specs.Prelude.{◌≡◌, IfOk, OnOk, []};
+ghost use Rattle.syn_grammar.specs.Grammar.{led, print, renew};
+ghost use Rattle.syn_tokens.specs.Building.{added};
+ghost use Rattle.syn_lower.specs.Types.{syntax_of_Type};
+ghost use Rattle.syn_item.specs.Impls.{behind_generics, behind_impl};
 
+use crate::parts::{print_braced, print_pair};
 use crate::sig::Signature;
+use std::alloc::{AllocError, Global};
+use syn_lower::attr::print_before_body;
 use syn_lower::{Attribute, Generics, Path, Type};
+use syn_parse::buffer::ParseBuffer;
 use syn_pat::Macro;
 use syn_recognize::deferred::{DeferredBlock, DeferredExpr};
+use syn_recognize::item_looks::at_generics;
 use syn_tokens::ident::Ident;
+use syn_tokens::print::Print;
+use syn_tokens::span::Span;
 use syn_tokens::stream::TokenStream;
+use syn_tokens::stream::builder::StreamBuilder;
+use syn_tokens::syntactic::compare::Compared;
 use syn_tokens::token;
-use syn_tokens::token::{Brace, Colon, Const, Eq, For, Impl, Semi, Unsafe};
+use syn_tokens::token::{Brace, Colon, Const, Eq, For, Gt, Impl, Lt, Semi, Unsafe};
 use syn_tree::item::{ConstModifiers, FnModifiers, ImplModifiers, TypeModifiers};
 use syn_tree::restriction::Visibility;
 
@@ -86,4 +100,213 @@ pub struct ImplItemMacro {
     pub attrs: Vec<Attribute>,
     pub mac: Macro,
     pub semi_token: Option<Semi>,
+}
+
+/// What stands behind an impl's generics: `!`, a trait's path and `for`, the self type, the where clause and the members.
+#[tactic(auto, using(syn_tokens::proofs::Prints::prints, crate::proofs::Impls::print_implemented))]
+fn print_behind_generics(item: &ItemImpl, out: &mut StreamBuilder) -> Result<(), AllocError>
+    ensures prints { OnOk result (out.new ≡ added out.old (print (behind_generics item.now))) }
+    ensures begins { out.new.before ≡ out.old.before }
+{
+    item.modifiers.polarity.print_in(out)?;
+    print_pair(&item.trait_, out)?;
+    item.self_ty.print_in(out)?;
+    item.generics.print_where(out)?;
+    print_braced(&item.brace_token, &item.attrs, &item.items, out)
+}
+
+/// The stream of a builder in which no group is open.
+fn finished(out: StreamBuilder) -> Result<TokenStream, AllocError>
+    requires { out.open_groups ≡ [] }
+    ensures { IfOk result (λ stream. stream ≡ out.stream) }
+{
+    match out.finish() {
+        Ok(stream) => Ok(stream),
+        Err(_unbalanced) => Err(AllocError),
+    }
+}
+
+/// The tokens of what stands behind an impl's generics.
+fn tokens_behind_generics(item: &ItemImpl, alloc: Global) -> Result<TokenStream, AllocError>
+    ensures { IfOk result (λ stream. stream ≡ print (behind_generics item.now)) }
+{
+    let mut out = StreamBuilder::new(alloc);
+    print_behind_generics(item, &mut out)?;
+    finished(out)
+}
+
+/// The tokens of a type.
+fn tokens_of_type(ty: &Type, alloc: Global) -> Result<TokenStream, AllocError>
+    ensures { IfOk result (λ stream. stream ≡ print (syntax_of_Type ty.now)) }
+{
+    let mut out = StreamBuilder::new(alloc);
+    ty.print_in(&mut out)?;
+    finished(out)
+}
+
+/// Whether what stands behind an impl's generics, of which these are the tokens, would be read as generics where there are none; or
+/// its self type behind `for` would.
+#[tactic(auto, using(crate::proofs::Impls::led_by))]
+fn is_led(item: &ItemImpl, behind: &TokenStream, alloc: Global) -> Result<bool, AllocError>
+    requires { behind.now ≡ print (behind_generics item.now) }
+    ensures { IfOk result (λ answer. answer ≡ led (renew (behind_generics item.now))) }
+{
+    if at_generics(&ParseBuffer::new(behind)) {
+        return Ok(true);
+    }
+    match &item.trait_ {
+        Some((_path, _for_token)) => {
+            let self_ty = tokens_of_type(&item.self_ty, alloc)?;
+            Ok(at_generics(&ParseBuffer::new(&self_ty)))
+        }
+        None => Ok(false),
+    }
+}
+
+/// Generics and what stands behind them. Empty generics are printed as `< >` where it would be read as generics else.
+#[tactic(auto, using(syn_tokens::proofs::Prints::prints, crate::proofs::Impls::print_generics))]
+fn print_behind_impl(item: &ItemImpl, out: &mut StreamBuilder) -> Result<(), AllocError>
+    ensures prints { OnOk result (out.new ≡ added out.old (print (behind_impl item.now))) }
+    ensures begins { out.new.before ≡ out.old.before }
+{
+    if !item.generics.params.is_empty() {
+        item.generics.print_params(out)?;
+        return print_behind_generics(item, out);
+    }
+    let behind = tokens_behind_generics(item, out.alloc())?;
+    if is_led(item, &behind, out.alloc())? {
+        Lt::new([Span::call_site()]).print_in(out)?;
+        Gt::new([Span::call_site()]).print_in(out)?;
+    }
+    out.append(&behind)
+}
+
+/// `default`, `const` and `unsafe` stand before `impl`, and the where clause before the braces.
+impl Print for ItemImpl {
+    #[tactic(auto, using(syn_tokens::proofs::Prints::prints))]
+    fn print_in(&self, out: &mut StreamBuilder) -> Result<(), AllocError> {
+        print_before_body(&self.attrs, out)?;
+        self.modifiers.defaultness.print_in(out)?;
+        self.modifiers.constness.print_in(out)?;
+        self.unsafety.print_in(out)?;
+        self.impl_token.print_in(out)?;
+        print_behind_impl(self, out)
+    }
+}
+
+/// What stands behind the generics is compared by what it is together.
+impl Compared for ItemImpl {
+    fn is_same(&self, other: &ItemImpl) -> bool {
+        self.attrs.is_same(&other.attrs)
+            && self.modifiers.is_same(&other.modifiers)
+            && self.unsafety.is_same(&other.unsafety)
+            && self.generics.has_same_params(&other.generics)
+            && self.trait_.is_same(&other.trait_)
+            && self.self_ty.is_same(&other.self_ty)
+            && self.generics.has_same_where(&other.generics)
+            && self.items.is_same(&other.items)
+    }
+}
+
+// Written by tools/kinds.py from here to the end; edits are lost.
+
+impl std::marker::Model for ItemImpl {
+    ghost use Rattle.syn_grammar.specs.Grammar.{Syntax};
+    ghost use Rattle.syn_grammar.specs.TreeCodes.{syntax_code};
+
+    ghost Value = { Syntax };
+
+    ghost coded = { syntax_code };
+
+    ghost use Rattle.syn_item.specs.Impls.{view_ItemImpl};
+
+    ghost view = { view_ItemImpl };
+}
+
+impl std::marker::Model for ImplItemConst {
+    ghost use Rattle.syn_grammar.specs.Grammar.{Syntax};
+    ghost use Rattle.syn_grammar.specs.TreeCodes.{syntax_code};
+
+    ghost Value = { Syntax };
+
+    ghost coded = { syntax_code };
+
+    ghost use Rattle.syn_item.specs.Impls.{view_ImplItemConst};
+
+    ghost view = { view_ImplItemConst };
+}
+
+impl std::marker::Model for ImplItemFn {
+    ghost use Rattle.syn_grammar.specs.Grammar.{Syntax};
+    ghost use Rattle.syn_grammar.specs.TreeCodes.{syntax_code};
+
+    ghost Value = { Syntax };
+
+    ghost coded = { syntax_code };
+
+    ghost use Rattle.syn_item.specs.Impls.{view_ImplItemFn};
+
+    ghost view = { view_ImplItemFn };
+}
+
+impl std::marker::Model for ImplItemType {
+    ghost use Rattle.syn_grammar.specs.Grammar.{Syntax};
+    ghost use Rattle.syn_grammar.specs.TreeCodes.{syntax_code};
+
+    ghost Value = { Syntax };
+
+    ghost coded = { syntax_code };
+
+    ghost use Rattle.syn_item.specs.Impls.{view_ImplItemType};
+
+    ghost view = { view_ImplItemType };
+}
+
+impl std::marker::Model for ImplItemMacro {
+    ghost use Rattle.syn_grammar.specs.Grammar.{Syntax};
+    ghost use Rattle.syn_grammar.specs.TreeCodes.{syntax_code};
+
+    ghost Value = { Syntax };
+
+    ghost coded = { syntax_code };
+
+    ghost use Rattle.syn_item.specs.Macros.{view_ImplItemMacro};
+
+    ghost view = { view_ImplItemMacro };
+}
+
+impl syn_tokens::syntactic::Syntactic for ItemImpl {
+    ghost use Rattle.syn_item.specs.Impls.{syntax_of_ItemImpl};
+
+    ghost syntax = { syntax_of_ItemImpl };
+}
+
+impl syn_tokens::syntactic::Syntactic for ImplItem {
+    ghost use Rattle.syn_item.specs.Impls.{syntax_of_ImplItem};
+
+    ghost syntax = { syntax_of_ImplItem };
+}
+
+impl syn_tokens::syntactic::Syntactic for ImplItemConst {
+    ghost use Rattle.syn_item.specs.Impls.{syntax_of_ImplItemConst};
+
+    ghost syntax = { syntax_of_ImplItemConst };
+}
+
+impl syn_tokens::syntactic::Syntactic for ImplItemFn {
+    ghost use Rattle.syn_item.specs.Impls.{syntax_of_ImplItemFn};
+
+    ghost syntax = { syntax_of_ImplItemFn };
+}
+
+impl syn_tokens::syntactic::Syntactic for ImplItemType {
+    ghost use Rattle.syn_item.specs.Impls.{syntax_of_ImplItemType};
+
+    ghost syntax = { syntax_of_ImplItemType };
+}
+
+impl syn_tokens::syntactic::Syntactic for ImplItemMacro {
+    ghost use Rattle.syn_item.specs.Macros.{syntax_of_ImplItemMacro};
+
+    ghost syntax = { syntax_of_ImplItemMacro };
 }

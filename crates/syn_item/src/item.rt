@@ -46,3 +46,11 @@ pub enum Item {
     /// What has no kind of its own, such as `fn f();`.
     Verbatim(TokenStream),
 }
+
+// Written by tools/kinds.py from here to the end; edits are lost.
+
+impl syn_tokens::syntactic::Syntactic for Item {
+    ghost use Rattle.syn_item.specs.Items.{syntax_of_Item};
+
+    ghost syntax = { syntax_of_Item };
+}

@@ -2,11 +2,16 @@
 //! no expression and no item: bodies, values and the content of modules are kept as their tokens.
 #![tactic(auto)]
 
+mod compare;
+mod copies;
 pub mod file;
 pub mod foreign;
 pub mod function;
 pub mod impls;
 pub mod item;
+mod nested;
+mod parts;
+mod prints;
 pub mod sig;
 pub mod simple;
 pub mod traits;

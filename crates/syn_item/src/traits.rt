@@ -1,12 +1,30 @@
 //! Traits and their members.
+ghost use Rattle.std.specs.Prelude.{◌≡◌, OnOk};
+ghost use Rattle.syn_grammar.specs.Grammar.{print};
+ghost use Rattle.syn_grammar.specs.Promises.{itself};
+ghost use Rattle.syn_tokens.specs.Building.{added};
+ghost use Rattle.syn_tokens.specs.Kinds.{semi_syntax};
+ghost use Rattle.syn_tokens.specs.Leaves.{maybe};
+ghost use Rattle.syn_lower.specs.Attributes.{attributes_syntax};
+ghost use Rattle.syn_lower.specs.Bodies.{attributes_before_body, attributes_in_body};
+ghost use Rattle.syn_item.specs.Simple.{attributes_by_content};
+ghost use Rattle.syn_item.specs.Traits.{function_end};
 
+use crate::parts::{print_body, print_braced};
 use crate::sig::Signature;
+use std::alloc::AllocError;
+use syn_lower::attr::{print_before_body, print_outer};
+use syn_lower::generics::print_bounds;
 use syn_lower::{Attribute, Generics, Type, TypeParamBound};
 use syn_pat::Macro;
 use syn_recognize::deferred::{DeferredBlock, DeferredExpr};
 use syn_tokens::ident::Ident;
+use syn_tokens::print::Print;
 use syn_tokens::punctuated::Punctuated;
+use syn_tokens::span::Span;
 use syn_tokens::stream::TokenStream;
+use syn_tokens::stream::builder::StreamBuilder;
+use syn_tokens::syntactic::compare::Compared;
 use syn_tokens::token;
 use syn_tokens::token::{Brace, Colon, Const, Eq, Plus, Semi, Trait, Unsafe};
 use syn_tree::item::{ConstModifiers, FnModifiers, TraitModifiers, TypeModifiers};
@@ -87,4 +105,191 @@ pub struct TraitItemMacro {
     pub attrs: Vec<Attribute>,
     pub mac: Macro,
     pub semi_token: Option<Semi>,
+}
+
+/// `unsafe` is printed before `auto`. Without bounds the colon isn't printed.
+impl Print for ItemTrait {
+    #[tactic(auto, using(syn_tokens::proofs::Prints::prints, syn_lower::proofs::GenericPrints::print_bounds))]
+    fn print_in(&self, out: &mut StreamBuilder) -> Result<(), AllocError> {
+        print_before_body(&self.attrs, out)?;
+        self.vis.print_in(out)?;
+        self.modifiers.constness.print_in(out)?;
+        self.unsafety.print_in(out)?;
+        self.modifiers.auto_token.print_in(out)?;
+        self.trait_token.print_in(out)?;
+        self.ident.print_in(out)?;
+        self.generics.print_params(out)?;
+        print_bounds(&self.colon_token, &self.supertraits, out)?;
+        self.generics.print_where(out)?;
+        print_braced(&self.brace_token, &self.attrs, &self.items, out)
+    }
+}
+
+/// The where clause stands before the braces.
+impl Compared for ItemTrait {
+    fn is_same(&self, other: &ItemTrait) -> bool {
+        self.attrs.is_same(&other.attrs)
+            && self.vis.is_same(&other.vis)
+            && self.modifiers.constness.is_same(&other.modifiers.constness)
+            && self.unsafety.is_same(&other.unsafety)
+            && self
+                .modifiers
+                .auto_token
+                .is_same(&other.modifiers.auto_token)
+            && self.ident.is_same(&other.ident)
+            && self.generics.has_same_params(&other.generics)
+            && self.colon_token.is_same(&other.colon_token)
+            && self.supertraits.is_same(&other.supertraits)
+            && self.generics.has_same_where(&other.generics)
+            && self.items.is_same(&other.items)
+    }
+}
+
+/// The attributes before a function: inner ones are printed in its body, and without a body never.
+#[tactic(auto, using(syn_tokens::proofs::Prints::prints))]
+fn print_function_attributes(
+    attrs: &Vec<Attribute>,
+    default: &Option<DeferredBlock>,
+    out: &mut StreamBuilder,
+) -> Result<(), AllocError>
+    ensures prints { OnOk result (out.new ≡ added out.old (print (attributes_by_content (maybe itself default.now) (attributes_before_body attrs.now.items) (attributes_syntax attrs.now.items)))) }
+    ensures begins { out.new.before ≡ out.old.before }
+{
+    match default {
+        Some(_block) => print_before_body(attrs, out),
+        None => print_outer(attrs, out),
+    }
+}
+
+/// A body, or a `;`, which is printed though there is none.
+#[tactic(auto, using(syn_tokens::proofs::Prints::prints))]
+fn print_function_end(
+    attrs: &Vec<Attribute>,
+    default: &Option<DeferredBlock>,
+    semi_token: &Option<Semi>,
+    out: &mut StreamBuilder,
+) -> Result<(), AllocError>
+    ensures prints { OnOk result (out.new ≡ added out.old (print (function_end (attributes_in_body attrs.now.items) (maybe itself default.now) (maybe semi_syntax semi_token.now)))) }
+    ensures begins { out.new.before ≡ out.old.before }
+{
+    match default {
+        Some(block) => print_body(attrs, block, out),
+        None => {
+            let semi_token = semi_token.unwrap_or(Semi::new([Span::call_site()]));
+            semi_token.print_in(out)
+        }
+    }
+}
+
+/// A `;` is printed where there is no body, though there is none, and never behind a body. Modifiers are not printed.
+impl Print for TraitItemFn {
+    #[tactic(auto, using(syn_tokens::proofs::Prints::prints))]
+    fn print_in(&self, out: &mut StreamBuilder) -> Result<(), AllocError> {
+        print_function_attributes(&self.attrs, &self.default, out)?;
+        self.sig.print_in(out)?;
+        print_function_end(&self.attrs, &self.default, &self.semi_token, out)
+    }
+}
+
+// Written by tools/kinds.py from here to the end; edits are lost.
+
+impl std::marker::Model for ItemTrait {
+    ghost use Rattle.syn_grammar.specs.Grammar.{Syntax};
+    ghost use Rattle.syn_grammar.specs.TreeCodes.{syntax_code};
+
+    ghost Value = { Syntax };
+
+    ghost coded = { syntax_code };
+
+    ghost use Rattle.syn_item.specs.Traits.{view_ItemTrait};
+
+    ghost view = { view_ItemTrait };
+}
+
+impl std::marker::Model for TraitItemConst {
+    ghost use Rattle.syn_grammar.specs.Grammar.{Syntax};
+    ghost use Rattle.syn_grammar.specs.TreeCodes.{syntax_code};
+
+    ghost Value = { Syntax };
+
+    ghost coded = { syntax_code };
+
+    ghost use Rattle.syn_item.specs.Traits.{view_TraitItemConst};
+
+    ghost view = { view_TraitItemConst };
+}
+
+impl std::marker::Model for TraitItemFn {
+    ghost use Rattle.syn_grammar.specs.Grammar.{Syntax};
+    ghost use Rattle.syn_grammar.specs.TreeCodes.{syntax_code};
+
+    ghost Value = { Syntax };
+
+    ghost coded = { syntax_code };
+
+    ghost use Rattle.syn_item.specs.Traits.{view_TraitItemFn};
+
+    ghost view = { view_TraitItemFn };
+}
+
+impl std::marker::Model for TraitItemType {
+    ghost use Rattle.syn_grammar.specs.Grammar.{Syntax};
+    ghost use Rattle.syn_grammar.specs.TreeCodes.{syntax_code};
+
+    ghost Value = { Syntax };
+
+    ghost coded = { syntax_code };
+
+    ghost use Rattle.syn_item.specs.Traits.{view_TraitItemType};
+
+    ghost view = { view_TraitItemType };
+}
+
+impl std::marker::Model for TraitItemMacro {
+    ghost use Rattle.syn_grammar.specs.Grammar.{Syntax};
+    ghost use Rattle.syn_grammar.specs.TreeCodes.{syntax_code};
+
+    ghost Value = { Syntax };
+
+    ghost coded = { syntax_code };
+
+    ghost use Rattle.syn_item.specs.Macros.{view_TraitItemMacro};
+
+    ghost view = { view_TraitItemMacro };
+}
+
+impl syn_tokens::syntactic::Syntactic for ItemTrait {
+    ghost use Rattle.syn_item.specs.Traits.{syntax_of_ItemTrait};
+
+    ghost syntax = { syntax_of_ItemTrait };
+}
+
+impl syn_tokens::syntactic::Syntactic for TraitItem {
+    ghost use Rattle.syn_item.specs.Traits.{syntax_of_TraitItem};
+
+    ghost syntax = { syntax_of_TraitItem };
+}
+
+impl syn_tokens::syntactic::Syntactic for TraitItemConst {
+    ghost use Rattle.syn_item.specs.Traits.{syntax_of_TraitItemConst};
+
+    ghost syntax = { syntax_of_TraitItemConst };
+}
+
+impl syn_tokens::syntactic::Syntactic for TraitItemFn {
+    ghost use Rattle.syn_item.specs.Traits.{syntax_of_TraitItemFn};
+
+    ghost syntax = { syntax_of_TraitItemFn };
+}
+
+impl syn_tokens::syntactic::Syntactic for TraitItemType {
+    ghost use Rattle.syn_item.specs.Traits.{syntax_of_TraitItemType};
+
+    ghost syntax = { syntax_of_TraitItemType };
+}
+
+impl syn_tokens::syntactic::Syntactic for TraitItemMacro {
+    ghost use Rattle.syn_item.specs.Macros.{syntax_of_TraitItemMacro};
+
+    ghost syntax = { syntax_of_TraitItemMacro };
 }

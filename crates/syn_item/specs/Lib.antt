@@ -1,0 +1,13 @@
+pub mod Falls
+pub mod Files
+pub mod Foreign
+pub mod Functions
+pub mod Impls
+pub mod Items
+pub mod Macros
+pub mod Parts
+pub mod Plain
+pub mod Signatures
+pub mod Simple
+pub mod Traits
+pub mod Uses

@@ -1,0 +1,89 @@
+//! Written by tools/kinds.py; edits are lost.
+//!
+//! Prints of `foreign`.
+
+use crate::foreign::{
+    ForeignItem, ForeignItemFn, ForeignItemMacro, ForeignItemStatic, ForeignItemType,
+    ItemForeignMod,
+};
+use crate::parts::print_braced;
+use std::alloc::AllocError;
+use syn_lower::attr::{print_before_body, print_outer};
+use syn_tokens::print::{Print, ToTokens};
+use syn_tokens::stream::builder::StreamBuilder;
+
+impl Print for ItemForeignMod {
+    fn print_in(&self, out: &mut StreamBuilder) -> Result<(), AllocError> {
+        print_before_body(&self.attrs, out)?;
+        self.unsafety.print_in(out)?;
+        self.abi.print_in(out)?;
+        print_braced(&self.brace_token, &self.attrs, &self.items, out)
+    }
+}
+
+impl ToTokens for ItemForeignMod {}
+
+impl Print for ForeignItem {
+    fn print_in(&self, out: &mut StreamBuilder) -> Result<(), AllocError> {
+        match self {
+            ForeignItem::Fn(value) => value.print_in(out),
+            ForeignItem::Static(value) => value.print_in(out),
+            ForeignItem::Ty(value) => value.print_in(out),
+            ForeignItem::Macro(value) => value.print_in(out),
+            ForeignItem::Verbatim(value) => value.print_in(out),
+        }
+    }
+}
+
+impl ToTokens for ForeignItem {}
+
+impl Print for ForeignItemFn {
+    fn print_in(&self, out: &mut StreamBuilder) -> Result<(), AllocError> {
+        print_outer(&self.attrs, out)?;
+        self.vis.print_in(out)?;
+        self.sig.print_in(out)?;
+        self.semi_token.print_in(out)
+    }
+}
+
+impl ToTokens for ForeignItemFn {}
+
+impl Print for ForeignItemStatic {
+    fn print_in(&self, out: &mut StreamBuilder) -> Result<(), AllocError> {
+        print_outer(&self.attrs, out)?;
+        self.vis.print_in(out)?;
+        self.safety.print_in(out)?;
+        self.static_token.print_in(out)?;
+        self.mutability.print_in(out)?;
+        self.ident.print_in(out)?;
+        self.colon_token.print_in(out)?;
+        self.ty.print_in(out)?;
+        self.semi_token.print_in(out)
+    }
+}
+
+impl ToTokens for ForeignItemStatic {}
+
+impl Print for ForeignItemType {
+    fn print_in(&self, out: &mut StreamBuilder) -> Result<(), AllocError> {
+        print_outer(&self.attrs, out)?;
+        self.vis.print_in(out)?;
+        self.type_token.print_in(out)?;
+        self.ident.print_in(out)?;
+        self.generics.print_params(out)?;
+        self.generics.print_where(out)?;
+        self.semi_token.print_in(out)
+    }
+}
+
+impl ToTokens for ForeignItemType {}
+
+impl Print for ForeignItemMacro {
+    fn print_in(&self, out: &mut StreamBuilder) -> Result<(), AllocError> {
+        print_outer(&self.attrs, out)?;
+        self.mac.print_in(out)?;
+        self.semi_token.print_in(out)
+    }
+}
+
+impl ToTokens for ForeignItemMacro {}

@@ -1,0 +1,82 @@
+//! Written by tools/kinds.py; edits are lost.
+//!
+//! Prints of `impls`.
+
+use crate::impls::{ImplItem, ImplItemConst, ImplItemFn, ImplItemMacro, ImplItemType, ItemImpl};
+use crate::parts::print_body;
+use std::alloc::AllocError;
+use syn_lower::attr::{print_before_body, print_outer};
+use syn_tokens::print::{Print, ToTokens};
+use syn_tokens::stream::builder::StreamBuilder;
+
+impl ToTokens for ItemImpl {}
+
+impl Print for ImplItem {
+    fn print_in(&self, out: &mut StreamBuilder) -> Result<(), AllocError> {
+        match self {
+            ImplItem::Const(value) => value.print_in(out),
+            ImplItem::Fn(value) => value.print_in(out),
+            ImplItem::Ty(value) => value.print_in(out),
+            ImplItem::Macro(value) => value.print_in(out),
+            ImplItem::Verbatim(value) => value.print_in(out),
+        }
+    }
+}
+
+impl ToTokens for ImplItem {}
+
+impl Print for ImplItemConst {
+    fn print_in(&self, out: &mut StreamBuilder) -> Result<(), AllocError> {
+        print_outer(&self.attrs, out)?;
+        self.vis.print_in(out)?;
+        self.modifiers.defaultness.print_in(out)?;
+        self.const_token.print_in(out)?;
+        self.ident.print_in(out)?;
+        self.colon_token.print_in(out)?;
+        self.ty.print_in(out)?;
+        self.eq_token.print_in(out)?;
+        self.expr.print_in(out)?;
+        self.semi_token.print_in(out)
+    }
+}
+
+impl ToTokens for ImplItemConst {}
+
+impl Print for ImplItemFn {
+    fn print_in(&self, out: &mut StreamBuilder) -> Result<(), AllocError> {
+        print_before_body(&self.attrs, out)?;
+        self.vis.print_in(out)?;
+        self.modifiers.defaultness.print_in(out)?;
+        self.sig.print_in(out)?;
+        print_body(&self.attrs, &self.block, out)
+    }
+}
+
+impl ToTokens for ImplItemFn {}
+
+impl Print for ImplItemType {
+    fn print_in(&self, out: &mut StreamBuilder) -> Result<(), AllocError> {
+        print_outer(&self.attrs, out)?;
+        self.vis.print_in(out)?;
+        self.modifiers.defaultness.print_in(out)?;
+        self.type_token.print_in(out)?;
+        self.ident.print_in(out)?;
+        self.generics.print_params(out)?;
+        self.eq_token.print_in(out)?;
+        self.ty.print_in(out)?;
+        self.generics.print_where(out)?;
+        self.semi_token.print_in(out)
+    }
+}
+
+impl ToTokens for ImplItemType {}
+
+impl Print for ImplItemMacro {
+    fn print_in(&self, out: &mut StreamBuilder) -> Result<(), AllocError> {
+        print_outer(&self.attrs, out)?;
+        self.mac.print_in(out)?;
+        self.semi_token.print_in(out)
+    }
+}
+
+impl ToTokens for ImplItemMacro {}

@@ -1,0 +1,70 @@
+//! Written by tools/kinds.py; edits are lost.
+//!
+//! Prints of `traits`.
+
+use crate::parts::print_pair;
+use crate::traits::{
+    ItemTrait, TraitItem, TraitItemConst, TraitItemFn, TraitItemMacro, TraitItemType,
+};
+use std::alloc::AllocError;
+use syn_lower::attr::print_outer;
+use syn_lower::generics::print_bounds;
+use syn_tokens::print::{Print, ToTokens};
+use syn_tokens::stream::builder::StreamBuilder;
+
+impl ToTokens for ItemTrait {}
+
+impl Print for TraitItem {
+    fn print_in(&self, out: &mut StreamBuilder) -> Result<(), AllocError> {
+        match self {
+            TraitItem::Const(value) => value.print_in(out),
+            TraitItem::Fn(value) => value.print_in(out),
+            TraitItem::Ty(value) => value.print_in(out),
+            TraitItem::Macro(value) => value.print_in(out),
+            TraitItem::Verbatim(value) => value.print_in(out),
+        }
+    }
+}
+
+impl ToTokens for TraitItem {}
+
+impl Print for TraitItemConst {
+    fn print_in(&self, out: &mut StreamBuilder) -> Result<(), AllocError> {
+        print_outer(&self.attrs, out)?;
+        self.const_token.print_in(out)?;
+        self.ident.print_in(out)?;
+        self.colon_token.print_in(out)?;
+        self.ty.print_in(out)?;
+        print_pair(&self.default, out)?;
+        self.semi_token.print_in(out)
+    }
+}
+
+impl ToTokens for TraitItemConst {}
+
+impl ToTokens for TraitItemFn {}
+
+impl Print for TraitItemType {
+    fn print_in(&self, out: &mut StreamBuilder) -> Result<(), AllocError> {
+        print_outer(&self.attrs, out)?;
+        self.type_token.print_in(out)?;
+        self.ident.print_in(out)?;
+        self.generics.print_params(out)?;
+        print_bounds(&self.colon_token, &self.bounds, out)?;
+        print_pair(&self.default, out)?;
+        self.generics.print_where(out)?;
+        self.semi_token.print_in(out)
+    }
+}
+
+impl ToTokens for TraitItemType {}
+
+impl Print for TraitItemMacro {
+    fn print_in(&self, out: &mut StreamBuilder) -> Result<(), AllocError> {
+        print_outer(&self.attrs, out)?;
+        self.mac.print_in(out)?;
+        self.semi_token.print_in(out)
+    }
+}
+
+impl ToTokens for TraitItemMacro {}
