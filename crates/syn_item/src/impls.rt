@@ -200,6 +200,7 @@ impl Compared for ItemImpl {
         self.attrs.is_same(&other.attrs)
             && self.modifiers.is_same(&other.modifiers)
             && self.unsafety.is_same(&other.unsafety)
+            && self.impl_token.is_same(&other.impl_token)
             && self.generics.has_same_params(&other.generics)
             && self.trait_.is_same(&other.trait_)
             && self.self_ty.is_same(&other.self_ty)

@@ -228,10 +228,10 @@ impl Compared for ReceiverKind {
     fn is_same(&self, other: &ReceiverKind) -> bool {
         match (self, other) {
             (ReceiverKind::Value, ReceiverKind::Value) => true,
-            (ReceiverKind::Reference(_, a, a_mut), ReceiverKind::Reference(_, b, b_mut)) => {
-                a.is_same(b) && a_mut.is_same(b_mut)
+            (ReceiverKind::Reference(a, x, m), ReceiverKind::Reference(b, y, n)) => {
+                a.is_same(b) && x.is_same(y) && m.is_same(n)
             }
-            (ReceiverKind::Typed(_, a), ReceiverKind::Typed(_, b)) => a.is_same(b),
+            (ReceiverKind::Typed(a, x), ReceiverKind::Typed(b, y)) => a.is_same(b) && x.is_same(y),
             _ => false,
         }
     }

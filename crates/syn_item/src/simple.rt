@@ -207,13 +207,16 @@ impl Compared for ItemType {
         self.attrs.is_same(&other.attrs)
             && self.vis.is_same(&other.vis)
             && self.modifiers.is_same(&other.modifiers)
+            && self.type_token.is_same(&other.type_token)
             && self.ident.is_same(&other.ident)
             && self.generics.has_same_params(&other.generics)
             && self
                 .where_clause_placement
                 .is_same(&other.where_clause_placement)
             && self.generics.has_same_where(&other.generics)
+            && self.eq_token.is_same(&other.eq_token)
             && self.ty.is_same(&other.ty)
+            && self.semi_token.is_same(&other.semi_token)
     }
 }
 
@@ -319,6 +322,7 @@ impl Compared for ItemMod {
         self.attrs.is_same(&other.attrs)
             && self.vis.is_same(&other.vis)
             && self.unsafety.is_same(&other.unsafety)
+            && self.mod_token.is_same(&other.mod_token)
             && self.ident.is_same(&other.ident)
             && same_content(&self.content, &other.content)
             && self.semi.is_same(&other.semi)

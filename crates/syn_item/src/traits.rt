@@ -136,6 +136,7 @@ impl Compared for ItemTrait {
                 .modifiers
                 .auto_token
                 .is_same(&other.modifiers.auto_token)
+            && self.trait_token.is_same(&other.trait_token)
             && self.ident.is_same(&other.ident)
             && self.generics.has_same_params(&other.generics)
             && self.colon_token.is_same(&other.colon_token)

@@ -1,1 +1,9 @@
-mod built;
+mod files;
+mod foreign;
+mod functions;
+mod impls;
+mod signatures;
+mod simple;
+mod support;
+mod traits;
+mod uses;
