@@ -77,12 +77,15 @@ def stands_alone(t):
 SMALLER_LISTS = "proofs::Smaller::lists"
 SMALLER = {"TypePath": ["crate::proofs::Smaller::qself_smaller", "crate::proofs::Smaller::path_smaller"]}
 
-# what the proofs of a type want whose view is its fields in a form of its own: of its print, its copy and its comparison
+# what the proofs of a type want whose view is its fields in a form of its own: of its print, its copy and its comparison (by its crate
+# too, where several have a type of this name)
 FORMS = "crate::proofs::Forms"
 PATTERNS = "crate::proofs::Patterns"
 BODY = {"smaller": ["crate::specs::Falls::inner_size"]}
 LEMMAS = {
     **dict.fromkeys(("ExprBlock", "ExprForLoop", "ExprLoop", "ExprUnsafe", "ExprWhile"), BODY),
+    **dict.fromkeys(("ForeignItem", "ImplItem", "TraitItem"), {"print": ["crate::proofs::Macros::print_among_members"]}),
+    **dict.fromkeys(("ForeignItemMacro", "ImplItemMacro", "TraitItemMacro"), {"print": ["crate::proofs::Macros::print_ended_macro"]}),
     "ExprArray": {"print": ["crate::proofs::Lists::print_array"], "compare": ["crate::proofs::Lists::same_array"], "smaller": ["crate::proofs::Lists::in_array"]},
     "ExprBreak": {"compare": ["syn_grammar::proofs::Same::and_true"]},
     "ExprField": {"print": [f"{FORMS}::print_member"], "compare": [f"{FORMS}::same_member"]},
@@ -94,17 +97,21 @@ LEMMAS = {
         "smaller": [f"{FORMS}::arguments_smaller"],
     },
     "ExprParen": {"compare": ["syn_grammar::proofs::Same::and_true"]},
+    "FnArg": {"print": ["crate::proofs::Arguments::print_receiver_argument", "crate::proofs::Arguments::print_typed_argument"]},
+    "ItemUse": {"print": ["crate::proofs::Uses::print_used"]},
     "Local": {"print": ["syn_pat::proofs::Patterns::print_local"]},
     "PatIdent": {"print": [f"{PATTERNS}::print_bound"], "compare": [f"{PATTERNS}::same_bound"]},
     "PatParen": {"compare": ["syn_grammar::proofs::Same::and_true"]},
     "PatType": {"print": [f"{PATTERNS}::print_behind"], "compare": [f"{PATTERNS}::same_typed"], "smaller": [f"{PATTERNS}::behind_smaller"]},
     "PatWild": {"print": [f"{PATTERNS}::print_behind"], "compare": [f"{PATTERNS}::same_wild"]},
+    "TraitItemType": {"print": ["syn_lower::proofs::GenericPrints::print_bounds"], "compare": ["syn_lower::proofs::GenericsCompared::same_bounds"]},
+    "syn_item::Item": {"print": ["crate::proofs::Macros::print_among_items"]},
 }
 
 
 def lemmas(source, t, verb, body):
     """What the proof of such a body is handed."""
-    of = LEMMAS.get(t.name, {}) if t.crate != LOWEST else {}
+    of = LEMMAS.get(f"{t.crate}::{t.name}", LEMMAS.get(t.name, {})) if t.crate != LOWEST else {}
     found = of.get(verb, []) + (of.get("smaller", []) if t.is_nested else [])
     if verb != "print" and t.is_nested and t.crate == LOWEST:
         found = SMALLER.get(t.name, []) + found

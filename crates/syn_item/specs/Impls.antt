@@ -75,7 +75,7 @@ for_type for_token ty = Node (Both for_token (Case self_type (without_self_type 
 
 -- an impl without a trait, behind its generics: the never type, a plain path or another type, and the rest
 abbrev pub inherent : Syntax → Syntax → Syntax
-inherent (Node (Right (Right (Right (Right (Left bang)))))) rest = Left (Both bang (Left rest))
+inherent (Node (Right (Right (Right (Right (Left bang)))))) rest = Left (Both (without_self_type bang) (Left rest))
 inherent (Node (Right (Right (Right (Right (Right (Right (Node (Right path))))))))) rest = Right (Left (Both (without_self_type path) (Both (Right Nothing) rest)))
 inherent ty rest = Right (Right (Both (without_self_type ty) rest))
 

@@ -18,12 +18,12 @@ ended_group s group = group
 -- a macro as an item, with a name or without one
 abbrev pub named_macro : Syntax → Syntax → Syntax → Syntax
 named_macro ident semi_token (Node (Both path (Both bang group))) = Node (Both path (Both bang (Both ident (Node (ended_group semi_token group)))))
-named_macro ident semi_token s = Both ident (Both semi_token s)
+named_macro ident semi_token s = Both s (Both ident semi_token)
 
 -- a macro as a member
 abbrev pub ended_macro : Syntax → Syntax → Syntax
 ended_macro semi_token (Node (Both path (Both bang group))) = Node (Both path (Both bang (Node (ended_group semi_token group))))
-ended_macro semi_token s = Both semi_token s
+ended_macro semi_token s = Both s semi_token
 
 abbrev pub view_ItemMacro : ItemMacro-in.Inside → Syntax
 view_ItemMacro a = Both (attributes_syntax a.attrs.items) (named_macro (maybe syntax_of_ident a.ident) (maybe semi_syntax a.semi_token) a.mac)

@@ -1,8 +1,9 @@
 -- WHAT SYNTAX SIGNATURES STAND FOR, one level at a time, every field.
+use Rattle.std.specs.Prelude.{Option, Some, None}
 use Rattle.syn_grammar.specs.Words.{comma}
-use Rattle.syn_grammar.specs.Tokens.{Paren}
+use Rattle.syn_grammar.specs.Tokens.{Paren, Stream, end}
 use Rattle.syn_grammar.specs.Shape.{parameters, untagged}
-use Rattle.syn_grammar.specs.Grammar.{Syntax, Nothing, Both, Left, Right, Node, Shaped, Added}
+use Rattle.syn_grammar.specs.Grammar.{Syntax, Nothing, Both, Left, Right, Node, Shaped, Added, added, spell}
 use Rattle.syn_grammar.specs.Promises.{itself}
 use Rattle.syn_tokens.specs.InOrder.{pair_of}
 use Rattle.syn_tokens.specs.Kinds.{and_syntax, async_syntax, colon_syntax, comma_syntax, const_syntax, dot_dot_dot_syntax, fn_syntax, mut_syntax, safe_syntax, self_value_syntax, unsafe_syntax}
@@ -72,6 +73,11 @@ abbrev pub comma_behind : Syntax → Syntax
 comma_behind (Node (Right (Both x (Right Nothing)))) = Node (Right (Both x (Left (Both (Added comma) (Node (Left Nothing))))))
 comma_behind (Node (Right (Both x (Left (Both sign l))))) = Node (Right (Both x (Left (Both sign (comma_behind l)))))
 comma_behind s = s
+
+-- that comma, as it is printed
+abbrev pub last_comma : {T : Type 0} → Option T → Stream
+last_comma None = end
+last_comma (Some t) = spell (added comma) end
 
 -- parameters, and a variadic one or none
 abbrev pub parameters_of : Syntax → Syntax → Syntax

@@ -30,7 +30,7 @@ pub struct Frontmatter {}
 
 /// Neither the first line nor the frontmatter is printed, and no outer attributes.
 impl Print for File {
-    #[tactic(auto, using(syn_tokens::proofs::Prints::prints, crate::proofs::Members::print_inner_ones))]
+    #[tactic(auto, using(syn_tokens::proofs::Prints::prints, syn_lower::proofs::Bodies::print_inner_listed))]
     fn print_in(&self, out: &mut StreamBuilder) -> Result<(), AllocError> {
         print_inner(&self.attrs, out)?;
         print_members(&self.items, out)

@@ -164,7 +164,7 @@ fn is_led(item: &ItemImpl, behind: &TokenStream, alloc: Global) -> Result<bool, 
 }
 
 /// Generics and what stands behind them. Empty generics are printed as `< >` where it would be read as generics else.
-#[tactic(auto, using(syn_tokens::proofs::Prints::prints, crate::proofs::Impls::print_generics))]
+#[tactic(auto, using(syn_tokens::proofs::Prints::prints, crate::proofs::Impls::some_printed, crate::proofs::Impls::none_printed))]
 fn print_behind_impl(item: &ItemImpl, out: &mut StreamBuilder) -> Result<(), AllocError>
     ensures prints { OnOk result (out.new ≡ added out.old (print (behind_impl item.now))) }
     ensures begins { out.new.before ≡ out.old.before }

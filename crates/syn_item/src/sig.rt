@@ -8,7 +8,7 @@ ghost use Rattle.syn_tokens.specs.Kinds.{comma_syntax, mut_syntax, self_value_sy
 ghost use Rattle.syn_tokens.specs.Leaves.{maybe};
 ghost use Rattle.syn_tokens.specs.Listing.{list_of};
 ghost use Rattle.syn_lower.specs.Parts.{group_syntax};
-ghost use Rattle.syn_item.specs.Signatures.{comma_behind, parameters_of, received, syntax_of_FnArg, syntax_of_ReceiverKind};
+ghost use Rattle.syn_item.specs.Signatures.{comma_behind, last_comma, parameters_of, received, syntax_of_FnArg, syntax_of_ReceiverKind};
 
 use std::alloc::{AllocError, Global};
 use syn_lower::attr::print_outer;
@@ -100,7 +100,22 @@ pub struct Variadic {
     pub comma: Option<Comma>,
 }
 
-/// The comma between parameters and a variadic one, where they lack it.
+/// The comma that parameters before a variadic one lack.
+#[tactic(auto, using(syn_tokens::proofs::Prints::prints))]
+fn print_last_comma(
+    inputs: &Punctuated<FnArg, Comma>,
+    out: &mut StreamBuilder,
+) -> Result<(), AllocError>
+    ensures prints { OnOk result (out.new ≡ added out.old (last_comma inputs.now.last)) }
+    ensures begins { out.new.before ≡ out.old.before }
+{
+    if inputs.trailing_value().is_some() {
+        return Comma::new([Span::call_site()]).print_in(out);
+    }
+    Ok(())
+}
+
+/// Parameters before a variadic one, with a comma behind the last of them.
 #[tactic(auto, using(syn_tokens::proofs::Prints::prints, crate::proofs::Parameters::print_comma_behind))]
 fn print_before_variadic(
     inputs: &Punctuated<FnArg, Comma>,
@@ -110,10 +125,7 @@ fn print_before_variadic(
     ensures begins { out.new.before ≡ out.old.before }
 {
     print_list(inputs, out)?;
-    if inputs.empty_or_trailing() {
-        return Ok(());
-    }
-    Comma::new([Span::call_site()]).print_in(out)
+    print_last_comma(inputs, out)
 }
 
 /// Parameters, and a variadic one or none.

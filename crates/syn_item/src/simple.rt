@@ -331,7 +331,7 @@ impl Compared for ItemMod {
 
 /// A name stands between `!` and the group.
 impl Print for ItemMacro {
-    #[tactic(auto, using(syn_tokens::proofs::Prints::prints))]
+    #[tactic(auto, using(syn_tokens::proofs::Prints::prints, crate::proofs::Macros::print_ended_group))]
     fn print_in(&self, out: &mut StreamBuilder) -> Result<(), AllocError> {
         print_outer(&self.attrs, out)?;
         self.mac.path.print_in(out)?;

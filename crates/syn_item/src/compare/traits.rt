@@ -131,7 +131,7 @@ impl Eq for TraitItemFn {
 }
 
 impl Compared for TraitItemType {
-    #[tactic(auto, using(syn_lower::proofs::Attributes::same_attributes))]
+    #[tactic(auto, using(syn_lower::proofs::Attributes::same_attributes, syn_lower::proofs::GenericsCompared::same_bounds))]
     fn is_same(&self, other: &TraitItemType) -> bool {
         self.attrs.is_same(&other.attrs)
             && self.modifiers.is_same(&other.modifiers)

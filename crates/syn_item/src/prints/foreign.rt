@@ -24,6 +24,7 @@ impl Print for ItemForeignMod {
 impl ToTokens for ItemForeignMod {}
 
 impl Print for ForeignItem {
+    #[tactic(auto, using(syn_tokens::proofs::Prints::prints, crate::proofs::Macros::print_among_members))]
     fn print_in(&self, out: &mut StreamBuilder) -> Result<(), AllocError> {
         match self {
             ForeignItem::Fn(value) => value.print_in(out),
@@ -79,6 +80,7 @@ impl Print for ForeignItemType {
 impl ToTokens for ForeignItemType {}
 
 impl Print for ForeignItemMacro {
+    #[tactic(auto, using(syn_tokens::proofs::Prints::prints, crate::proofs::Macros::print_ended_macro))]
     fn print_in(&self, out: &mut StreamBuilder) -> Result<(), AllocError> {
         print_outer(&self.attrs, out)?;
         self.mac.print_in(out)?;

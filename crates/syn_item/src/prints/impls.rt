@@ -12,6 +12,7 @@ use syn_tokens::stream::builder::StreamBuilder;
 impl ToTokens for ItemImpl {}
 
 impl Print for ImplItem {
+    #[tactic(auto, using(syn_tokens::proofs::Prints::prints, crate::proofs::Macros::print_among_members))]
     fn print_in(&self, out: &mut StreamBuilder) -> Result<(), AllocError> {
         match self {
             ImplItem::Const(value) => value.print_in(out),
@@ -72,6 +73,7 @@ impl Print for ImplItemType {
 impl ToTokens for ImplItemType {}
 
 impl Print for ImplItemMacro {
+    #[tactic(auto, using(syn_tokens::proofs::Prints::prints, crate::proofs::Macros::print_ended_macro))]
     fn print_in(&self, out: &mut StreamBuilder) -> Result<(), AllocError> {
         print_outer(&self.attrs, out)?;
         self.mac.print_in(out)?;

@@ -33,6 +33,7 @@ impl Print for Abi {
 impl ToTokens for Abi {}
 
 impl Print for FnArg {
+    #[tactic(auto, using(syn_tokens::proofs::Prints::prints, crate::proofs::Arguments::print_receiver_argument, crate::proofs::Arguments::print_typed_argument))]
     fn print_in(&self, out: &mut StreamBuilder) -> Result<(), AllocError> {
         match self {
             FnArg::Receiver(value) => value.print_in(out),

@@ -59,6 +59,7 @@ impl ToTokens for StaticMutability {}
 impl ToTokens for ItemType {}
 
 impl Print for ItemUse {
+    #[tactic(auto, using(syn_tokens::proofs::Prints::prints, crate::proofs::Uses::print_used))]
     fn print_in(&self, out: &mut StreamBuilder) -> Result<(), AllocError> {
         print_outer(&self.attrs, out)?;
         self.vis.print_in(out)?;

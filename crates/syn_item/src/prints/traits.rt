@@ -15,6 +15,7 @@ use syn_tokens::stream::builder::StreamBuilder;
 impl ToTokens for ItemTrait {}
 
 impl Print for TraitItem {
+    #[tactic(auto, using(syn_tokens::proofs::Prints::prints, crate::proofs::Macros::print_among_members))]
     fn print_in(&self, out: &mut StreamBuilder) -> Result<(), AllocError> {
         match self {
             TraitItem::Const(value) => value.print_in(out),
@@ -45,6 +46,7 @@ impl ToTokens for TraitItemConst {}
 impl ToTokens for TraitItemFn {}
 
 impl Print for TraitItemType {
+    #[tactic(auto, using(syn_tokens::proofs::Prints::prints, syn_lower::proofs::GenericPrints::print_bounds))]
     fn print_in(&self, out: &mut StreamBuilder) -> Result<(), AllocError> {
         print_outer(&self.attrs, out)?;
         self.type_token.print_in(out)?;
@@ -60,6 +62,7 @@ impl Print for TraitItemType {
 impl ToTokens for TraitItemType {}
 
 impl Print for TraitItemMacro {
+    #[tactic(auto, using(syn_tokens::proofs::Prints::prints, crate::proofs::Macros::print_ended_macro))]
     fn print_in(&self, out: &mut StreamBuilder) -> Result<(), AllocError> {
         print_outer(&self.attrs, out)?;
         self.mac.print_in(out)?;
