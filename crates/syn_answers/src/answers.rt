@@ -41,7 +41,7 @@ fn read_whole(rule: Rule, tokens: &TokenStream) -> Parsed<()>
 ///
 /// What the grammar before traits and impls with `const` became kinds of items reads is read still (`still_derives`), and where none
 /// stands in it, its print is as it was (`lift_keeps`).
-#[tactic(auto, using(crate::proofs::Canons::canonical_of, crate::proofs::Canons::still_of))]
+#[tactic(auto, using(crate::proofs::Canons::canonical_of))]
 pub fn canonical_by(rule: Rule, tokens: TokenStream) -> Result<TokenStream>
     ensures canonical { CanonicalOutcome IsSyntaxError (rule_of rule) tokens result }
     ensures grown { StillCanonical IsSyntaxError (rule_of rule) tokens result }
