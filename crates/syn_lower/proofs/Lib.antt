@@ -7,7 +7,7 @@ mod GenericPrints
 mod GenericsCompared
 mod LifetimePrints
 mod Lifetimes
-mod Lists
+pub mod Lists
 mod Literals
 pub mod Nameless
 mod Numbers
