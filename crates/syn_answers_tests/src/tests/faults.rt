@@ -54,7 +54,7 @@ const RECEIVERS: &[Refused] = &[
     ("mut self::X", "8: expected `:`"),
     ("& 'a mut self ::", "14: expected `:`"),
     ("self self", "5: unexpected token"),
-    ("self: A ::<B> :: C d", "18: unexpected token"),
+    ("self: A ::<B> :: C d", "19: unexpected token"),
     ("self: (self)::X", "12: unexpected token"),
     ("#[a] self::X", "0: unexpected token"),
 ];
