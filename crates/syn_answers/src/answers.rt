@@ -6,6 +6,7 @@ ghost use Rattle.syn_parse.specs.Refusals.{IsSyntax};
 ghost use Rattle.syn_recognize.specs.Names.{rule_of};
 ghost use Rattle.syn_tokens.specs.Faults.{IsSyntaxError};
 
+use crate::faults::told;
 use std::alloc::Global;
 use syn_parse::buffer::ParseBuffer;
 use syn_parse::read::refusal::Parsed;
@@ -14,7 +15,7 @@ use syn_tokens::error::Result;
 use syn_tokens::stream::TokenStream;
 
 /// What the rule reads of the whole stream, as it is printed.
-fn printed_whole(rule: Rule, tokens: &TokenStream) -> Parsed<TokenStream>
+fn printed_to_end(rule: Rule, tokens: &TokenStream) -> Parsed<TokenStream>
     ensures { WholePrint IsSyntax (rule_of rule) tokens.now result }
 {
     let mut input = ParseBuffer::new(tokens);
@@ -23,14 +24,34 @@ fn printed_whole(rule: Rule, tokens: &TokenStream) -> Parsed<TokenStream>
     Ok(printed)
 }
 
+/// What the rule reads of the whole stream, as it is printed, with the faults that more than a token tells.
+fn printed_whole(rule: Rule, tokens: &TokenStream) -> Parsed<TokenStream>
+    ensures { WholePrint IsSyntax (rule_of rule) tokens.now result }
+{
+    match printed_to_end(rule, tokens) {
+        Ok(printed) => Ok(printed),
+        Err(refusal) => Err(told(refusal, rule, tokens)),
+    }
+}
+
 /// Whether the rule reads the whole stream. Nothing is kept of it.
-fn read_whole(rule: Rule, tokens: &TokenStream) -> Parsed<()>
+fn read_to_end(rule: Rule, tokens: &TokenStream) -> Parsed<()>
     ensures { WholeRead IsSyntax (rule_of rule) tokens.now result }
 {
     let mut input = ParseBuffer::new(tokens);
     read_by(rule, &mut input)?;
     input.read_end()?;
     Ok(())
+}
+
+/// Whether the rule reads the whole stream, with the faults that more than a token tells.
+fn read_whole(rule: Rule, tokens: &TokenStream) -> Parsed<()>
+    ensures { WholeRead IsSyntax (rule_of rule) tokens.now result }
+{
+    match read_to_end(rule, tokens) {
+        Ok(()) => Ok(()),
+        Err(refusal) => Err(told(refusal, rule, tokens)),
+    }
 }
 
 /// The canonical print of what the tokens spell: the print of the tree that the rule derives of the whole stream.
@@ -41,7 +62,7 @@ fn read_whole(rule: Rule, tokens: &TokenStream) -> Parsed<()>
 ///
 /// What the grammar before traits and impls with `const` became kinds of items reads is read still (`still_derives`), and where none
 /// stands in it, its print is as it was (`lift_keeps`).
-#[tactic(auto, using(crate::proofs::Canons::canonical_of, crate::proofs::Canons::still_of))]
+#[tactic(auto, using(crate::proofs::Canons::canonical_of))]
 pub fn canonical_by(rule: Rule, tokens: TokenStream) -> Result<TokenStream>
     ensures canonical { CanonicalOutcome IsSyntaxError (rule_of rule) tokens result }
     ensures grown { StillCanonical IsSyntaxError (rule_of rule) tokens result }

@@ -3,6 +3,7 @@
 #![tactic(auto)]
 
 pub mod answers;
+mod faults;
 mod guess;
 pub mod list;
 mod names;

@@ -10,6 +10,7 @@ ghost use Rattle.syn_tokens.specs.Faults.{IsSyntaxError};
 ghost use Rattle.syn_answers.specs.Listing.{entry_of, rule_of, KindTried, KindsTried, KindRead, ItemRead};
 ghost use Rattle.syn_answers.specs.declared.list.ItemKind.TheVariants as K;
 
+use crate::faults::told;
 use crate::guess::guess;
 use crate::names::name_ahead;
 use syn_parse::buffer::ParseBuffer;
@@ -198,7 +199,7 @@ fn read_item(input: &mut ParseBuffer<'_>) -> Parsed<ListedItem>
 
 /// The items of a whole file.
 #[tactic(auto, using(crate::proofs::Listing::ends))]
-fn listed(tokens: &TokenStream) -> Parsed<Vec<ListedItem>>
+fn listed_to_end(tokens: &TokenStream) -> Parsed<Vec<ListedItem>>
     ensures listed { IfOk result (λ list. FileLists tokens.now (map entry_of list.items)) }
     ensures refused { IfErr result (λ e. IsSyntax e → Refused rules.file tokens.now) }
 {
@@ -213,6 +214,17 @@ fn listed(tokens: &TokenStream) -> Parsed<Vec<ListedItem>>
         list.push(item)?;
     }
     Err(Refusal::Memory)
+}
+
+/// The items of a whole file, with the faults that more than a token tells.
+fn listed(tokens: &TokenStream) -> Parsed<Vec<ListedItem>>
+    ensures listed { IfOk result (λ list. FileLists tokens.now (map entry_of list.items)) }
+    ensures refused { IfErr result (λ e. IsSyntax e → Refused rules.file tokens.now) }
+{
+    match listed_to_end(tokens) {
+        Ok(list) => Ok(list),
+        Err(refusal) => Err(told(refusal, Rule::File, tokens)),
+    }
 }
 
 /// The items of the file that these tokens spell, in order: of each its kind and its name. No tree is made, and no stack is

@@ -72,7 +72,7 @@ fn behind<'a>(trees: &Cursor<'a>, marker: Marker) -> Cursor<'a>
 }
 
 /// What stands behind `mut`, where that stands next.
-fn behind_mut<'a>(trees: &Cursor<'a>) -> Cursor<'a>
+pub(crate) fn behind_mut<'a>(trees: &Cursor<'a>) -> Cursor<'a>
     ensures { result ≡ grammar.past_mut trees.now }
 {
     let Some((ident, behind)) = trees.split_ident() else {

@@ -133,7 +133,18 @@ impl Drop for Expr {
             Expr::Reference(_value) => (),
             Expr::Repeat(_value) => (),
             Expr::Return(_value) => (),
-            Expr::Struct(_value) => (),
+            Expr::Struct(value) => {
+                let ExprStruct {
+                    attrs: _attrs,
+                    qself: _qself,
+                    path: _path,
+                    brace_token: _,
+                    fields,
+                    dot2_token: _,
+                    rest: _rest,
+                } = value;
+                let_go(fields)
+            }
             Expr::Try(_value) => (),
             Expr::Tuple(value) => {
                 let ExprTuple {

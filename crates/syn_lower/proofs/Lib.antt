@@ -8,7 +8,7 @@ pub mod GenericPrints
 pub mod GenericsCompared
 mod LifetimePrints
 mod Lifetimes
-mod Lists
+pub mod Lists
 mod Literals
 pub mod Nameless
 mod Numbers

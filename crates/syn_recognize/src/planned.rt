@@ -14,7 +14,7 @@ ghost use Rattle.syn_recognize.specs.Copies.{Copy, copy_form, next};
 ghost use Rattle.syn_recognize.specs.Names.{look_of};
 ghost use Rattle.syn_recognize.specs.Course.{reads, turns, rooted, followed, rest, kept, lists, led, self_type};
 ghost use Rattle.syn_recognize.specs.Steps.{Steps, Guessing};
-ghost use Rattle.syn_recognize.specs.Written.{adds};
+ghost use Rattle.syn_recognize.specs.Written.{adds, drops};
 
 use crate::form::Form;
 use crate::guess::Guess;
@@ -259,8 +259,29 @@ fn read_kept<'a>(
         if !out.is_dropping() {
             return Err(Refusal::Memory);
         }
-        out.note_kept(guess.number);
+        if let Some(number) = guess.number {
+            return note_kept(form, number, steps, out, input);
+        }
     }
+    steps.push(Step::Form(form))?;
+    Ok(())
+}
+
+/// Notes that what the plan of this number reads is kept, and nothing more of it: reads what is left.
+#[tactic(auto, using(crate::proofs::Todo::push, crate::proofs::WrittenAside::dropped_is))]
+fn note_kept<'a>(
+    form: &'static Form,
+    number: usize,
+    steps: &mut Vec<Step<'a>>,
+    out: &mut Writer,
+    input: &ParseBuffer<'a>,
+) -> Parsed<()>
+    requires { drops out.old ≡ true }
+    ensures { Steps IsSyntax steps.old.items (copy_form (grammar_of form.now) out.old input.now) result steps.new.items out.new input.now }
+{
+    out.note_kept(number);
+    let before = out.drop_aside()?;
+    steps.push(Step::Forget(before))?;
     steps.push(Step::Form(form))?;
     Ok(())
 }

@@ -173,12 +173,10 @@ impl Writer {
     }
 
     /// Notes that what the plan of this number reads is kept as tokens.
-    pub(crate) fn note_kept(&mut self, plan: Option<usize>)
+    pub(crate) fn note_kept(&mut self, plan: usize)
         ensures { self.new ≡ self.old }
     {
-        if let Some(plan) = plan {
-            self.notes.note_kept(plan);
-        }
+        self.notes.note_kept(plan);
     }
 
     /// Notes that what stands behind the generics of the impl that the plan of this number reads, or its self type, would be read as

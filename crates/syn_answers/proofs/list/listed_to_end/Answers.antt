@@ -1,7 +1,7 @@
 use Rattle.syn_grammar.specs.Promises.{Refused}
 use Rattle.syn_grammar.specs.Rules.{file}
 use Rattle.syn_answers.proofs.Listing.{begun, unbegun, gone_on, refused, same_err}
-use Rattle.syn_answers.proofs.list.listed.Goals as goal
+use Rattle.syn_answers.proofs.list.listed_to_end.Goals as goal
 
 pub returns-in_err-read_by-clause-refused : goal.returns-in_err-read_by-clause-refused
 returns-in_err-read_by-clause-refused c =
