@@ -8,7 +8,7 @@ use Rattle.syn_grammar.specs.Shape.{parameters}
 use Rattle.syn_grammar.specs.Grammar.{Syntax, Nothing, Both, Left, Right, Node, Shaped, Grammar, empty, ◌&◌, when◌then◌else◌, rule, supplied}
 use Rattle.syn_grammar.specs.Forms.{punctuation}
 use Rattle.syn_grammar.specs.Table.{at_comma, at_ellipsis, at_receiver}
-use Rattle.syn_grammar.specs.Take.{Out, Parser, sees, take_mark}
+use Rattle.syn_grammar.specs.Take.{Out, sees, take_mark}
 use Rattle.syn_grammar.specs.Values.{more_members, no_members, one_member, shape}
 use Rattle.syn_grammar.specs.Run.{and_then, branch, parse_form, parse_rule, wrap}
 use Rattle.syn_grammar.proofs.Each.{inputs_is, input_rest_is, later_inputs_is}
