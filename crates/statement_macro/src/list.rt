@@ -1,6 +1,6 @@
 //! The lines that are written of a function.
 
-use crate::block::without_value;
+use crate::block::take_value;
 use crate::function::Function;
 use std::alloc::Global;
 use std::fmt::Write as _;
@@ -18,15 +18,12 @@ pub(crate) fn add_function(
 ) -> syn::Result<()> {
     writeln!(lines, "fn {}", function.name.text())?;
     writeln!(lines, "attributes: {}", function.attrs.len())?;
-    let block: Block = function.block.open()?;
+    let mut block: Block = function.block.open()?;
     for stmt in &block.stmts {
         add_statement(lines, stmt, alloc)?;
     }
-    add_block(
-        lines,
-        &DeferredBlock::new(&without_value(block)?, alloc)?,
-        alloc,
-    )
+    take_value(&mut block);
+    add_block(lines, &DeferredBlock::new(&block, alloc)?, alloc)
 }
 
 /// Adds the line of a block that was changed.

@@ -30,8 +30,8 @@ casts-preserved g c =
     let same : core (g.N.Trees.Trees.expr_syntax c.in_ok-all.all.value) ≡ new Cast (Both (core a) (Both x t)) = ap core made ∙ ap (λ z. new Cast (Both z (Both x t))) (sym (g.N.Trees.Trees.core_is c.casts.all.value)) in (
       omega (arith, c.casts.invariant.0, less, lesser),
       c.casts.invariant.1 ∙ casts_step (core a) ts
-      ∙ ap (λ b. pick b (cast_out (core a) (take_token (word w_as) ts)) (Some (core a, ts))) seen
-      ∙ ap (cast_out (core a)) sign
-      ∙ ap (λ o. then_more (joined Cast (core a) x o) (parse_rule casts)) read
-      ∙ ap (λ s. wrap (onto s) (parse_rule casts n)) (sym same),
+          ∙ ap (λ b. pick b (cast_out (core a) (take_token (word w_as) ts)) (Some (core a, ts))) seen
+          ∙ ap (cast_out (core a)) sign
+          ∙ ap (λ o. then_more (joined Cast (core a) x o) (parse_rule casts)) read
+          ∙ ap (λ s. wrap (onto s) (parse_rule casts n)) (sym same),
     )
