@@ -1,5 +1,10 @@
 //! Foreign modules and their members.
 
+mod members;
+mod parsing;
+
+pub(crate) use parsing::foreign_module_rest;
+
 use crate::sig::{Abi, Safety, Signature};
 use crate::simple::StaticMutability;
 use syn_lower::{Attribute, Generics, Type};

@@ -5,6 +5,11 @@ ghost use Rattle.syn_tokens.specs.Building.{added};
 ghost use Rattle.syn_lower.specs.Types.{syntax_of_Type};
 ghost use Rattle.syn_item.specs.Impls.{behind_generics, behind_impl};
 
+mod members;
+mod parsing;
+
+pub(crate) use parsing::{ImplMarks, impl_end, impl_generics, impl_or_kept, implemented};
+
 use crate::parts::{print_braced, print_pair};
 use crate::sig::Signature;
 use std::alloc::{AllocError, Global};

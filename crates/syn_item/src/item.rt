@@ -1,5 +1,7 @@
 //! Items of every kind.
 
+mod parsing;
+
 use crate::foreign::ItemForeignMod;
 use crate::function::ItemFn;
 use crate::impls::ItemImpl;

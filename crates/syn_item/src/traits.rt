@@ -10,6 +10,10 @@ ghost use Rattle.syn_lower.specs.Bodies.{attributes_before_body, attributes_in_b
 ghost use Rattle.syn_item.specs.Simple.{attributes_by_content};
 ghost use Rattle.syn_item.specs.Traits.{function_end};
 
+mod parsing;
+
+pub(crate) use parsing::{TraitHead, TraitMarks, named_trait, trait_end, unmarked_trait};
+
 use crate::parts::{print_body, print_braced};
 use crate::sig::Signature;
 use std::alloc::AllocError;

@@ -1,0 +1,50 @@
+-- HOW TRAITS AND THEIR MEMBERS ARE READ: forms of their parts, and what the parts stand for together.
+use Rattle.std.specs.Prelude.{Option, Some, None}
+use Rattle.syn_grammar.specs.Words.{w_auto, w_trait, w_type, colon, semicolon, w_const}
+use Rattle.syn_grammar.specs.Rules.{generics, supertraits, trait_items, type, where_clause, body}
+use Rattle.syn_grammar.specs.Grammar.{Grammar, Syntax, Nothing, Both, Left, Right, Node, Unshown, ◌&◌, name, word, rule, unshown, when◌then◌else◌}
+use Rattle.syn_grammar.specs.Forms.{plainly, punctuation}
+use Rattle.syn_grammar.specs.Table.{at_semicolon, name_or_underscore, optional_item_word, optional_value}
+use Rattle.syn_tokens.specs.Idents.{IdentValue}
+use Rattle.syn_tokens.specs.Kinds.{Auto, Const, Trait, Unsafe, auto_syntax, const_syntax, trait_syntax, unsafe_syntax}
+use Rattle.syn_tokens.specs.Leaves.{maybe, syntax_of_ident}
+use Rattle.syn_lower.specs.Attributes.{attributes_syntax}
+use Rattle.syn_lower.specs.Parts.{first}
+use Rattle.syn_tree.specs.Derive.{item_of}
+use Rattle.syn_tree.specs.Restriction.{syntax_of_Visibility}
+use Rattle.syn_item.specs.Pieces.{bounds_form, braced_form}
+use Rattle.syn_item.specs.declared.traits.parsing.TraitHead.{TraitHead}
+use Rattle.syn_item.specs.declared.traits.parsing.TraitMarks.{TraitMarks}
+
+-- `trait`, a name and generics
+abbrev pub named_form : Grammar
+named_form = plainly (word w_trait) & plainly name & rule generics
+
+abbrev pub named_syntax : Trait × IdentValue × Syntax → Syntax
+named_syntax p = Both (trait_syntax p.0) (Both (syntax_of_ident p.1) (first p.2))
+
+-- what stands behind them
+abbrev pub trait_end_form : Grammar
+trait_end_form = bounds_form supertraits & rule where_clause & braced_form trait_items
+
+-- a trait of what stands before its word, of that, its name and generics, and of what stands behind them
+abbrev pub trait_of : TraitMarks → Syntax → Syntax → Syntax
+trait_of m o rest =
+    item_of (attributes_syntax m.attrs.items) (syntax_of_Visibility m.vis) (Both (maybe const_syntax m.constness) (Node (Both (maybe unsafe_syntax m.unsafety) (Both o rest))))
+
+-- behind generics
+abbrev pub behind_head : TraitHead → Syntax → Syntax
+behind_head h s =
+    trait_of h.marks (maybe auto_syntax h.auto_token) (Both (trait_syntax h.trait_token) (Both (syntax_of_ident h.ident) (Both (first h.generics) s)))
+
+-- behind `unsafe`
+abbrev pub behind_marks : TraitMarks → Syntax → Syntax
+behind_marks m (Both o rest) = trait_of m o rest
+behind_marks m s = trait_of m s Nothing
+
+abbrev pub unmarked_form : Grammar
+unmarked_form = optional_item_word w_auto & plainly (word w_trait) & plainly name & rule generics & trait_end_form
+
+-- `;` or a body
+abbrev pub function_end_form : Grammar
+function_end_form = when at_semicolon then punctuation semicolon else unshown & rule body
