@@ -1,6 +1,12 @@
 pub mod Arguments
+pub mod Bodies
 pub mod Impls
+pub mod Inputs
 pub mod Macros
 pub mod Members
 pub mod Parameters
+pub mod Receivers
+pub mod Standing
+pub mod Strings
+pub mod Supplied
 pub mod Uses

@@ -3,11 +3,14 @@ pub mod Files
 pub mod Foreign
 pub mod Functions
 pub mod Impls
+pub mod ItemForms
 pub mod Items
 pub mod Macros
 pub mod Parts
 pub mod Plain
+pub mod SignatureForms
 pub mod Signatures
 pub mod Simple
 pub mod Traits
+pub mod UseForms
 pub mod Uses

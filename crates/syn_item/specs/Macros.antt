@@ -1,4 +1,8 @@
 -- WHAT SYNTAX MACROS AMONG ITEMS AND MEMBERS STAND FOR, one level at a time, every field.
+use Rattle.std.specs.Prelude.{Some, None}
+use Rattle.syn_grammar.specs.Words.{semicolon}
+use Rattle.syn_grammar.specs.Take.{Parser, take_mark}
+use Rattle.syn_grammar.specs.Run.{wrap}
 use Rattle.syn_grammar.specs.Grammar.{Syntax, Both, Left, Right, Node}
 use Rattle.syn_tokens.specs.Kinds.{semi_syntax}
 use Rattle.syn_tokens.specs.Leaves.{maybe, syntax_of_ident}
@@ -58,3 +62,11 @@ among_items s = s
 abbrev pub among_members : Syntax → Syntax
 among_members (Both attrs rest) = Both attrs (Right rest)
 among_members s = s
+
+-- AS A GROUP IS READ, with what ends it: `;` behind it, unless it is in braces
+
+unfoldable pub ended_behind : Syntax → Parser
+ended_behind (Right (Right s)) ts = Some (Right (Right s), ts)
+ended_behind (Right (Left s)) ts = wrap (λ semi. Right (Left (Both s semi))) (take_mark semicolon ts)
+ended_behind (Left s) ts = wrap (λ semi. Left (Both s semi)) (take_mark semicolon ts)
+ended_behind s ts = None

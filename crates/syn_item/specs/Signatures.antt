@@ -3,7 +3,7 @@ use Rattle.std.specs.Prelude.{Option, Some, None}
 use Rattle.syn_grammar.specs.Words.{comma}
 use Rattle.syn_grammar.specs.Tokens.{Paren, Stream, end}
 use Rattle.syn_grammar.specs.Shape.{parameters, untagged}
-use Rattle.syn_grammar.specs.Grammar.{Syntax, Nothing, Both, Left, Right, Node, Shaped, Added, added, spell}
+use Rattle.syn_grammar.specs.Grammar.{Syntax, Nothing, Both, Left, Right, Node, Shaped, Added, Group, added, spell}
 use Rattle.syn_grammar.specs.Promises.{itself}
 use Rattle.syn_tokens.specs.InOrder.{pair_of}
 use Rattle.syn_tokens.specs.Kinds.{and_syntax, async_syntax, colon_syntax, comma_syntax, const_syntax, dot_dot_dot_syntax, fn_syntax, mut_syntax, safe_syntax, self_value_syntax, unsafe_syntax}
@@ -92,3 +92,13 @@ view_Signature a =
     (Node (Both (fn_syntax a.fn_token) (Both (syntax_of_ident a.ident) (Both (first a.generics)
     (Both (group_syntax Paren a.paren_token (parameters_of (list_of syntax_of_FnArg comma_syntax a.inputs.pairs a.inputs.last) (maybe itself a.variadic)))
     (Both (syntax_of_ReturnType a.output) (clause_of a.generics)))))))))))
+
+-- the first of these parameters, where it is a receiver
+abbrev pub first_receiver : Syntax → Option Syntax
+first_receiver (Node (Right (Both (Node (Both attrs (Left receiver))) more))) = Some (Node (Both attrs receiver))
+first_receiver s = None
+
+-- the receiver of a signature
+abbrev pub receiver_in : Syntax → Option Syntax
+receiver_in (Node (Both constness (Both asyncness (Both safety (Both abi (Node (Both sign (Both ident (Both generics (Both (Group d o c (Node (Shaped j (Both inputs last)))) more)))))))))) = first_receiver inputs
+receiver_in s = None

@@ -1,6 +1,9 @@
 //! Functions as items.
 
+mod parsing;
+
 use crate::sig::Signature;
+pub(crate) use parsing::{function, function_rest};
 use syn_lower::Attribute;
 use syn_recognize::deferred::DeferredBlock;
 use syn_tree::item::FnModifiers;

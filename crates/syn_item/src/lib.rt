@@ -2,13 +2,16 @@
 //! no expression and no item: bodies, values and the content of modules are kept as their tokens.
 #![tactic(auto)]
 
+mod bodies;
 mod compare;
+mod conversions;
 mod copies;
 pub mod file;
 pub mod foreign;
 pub mod function;
 pub mod impls;
 pub mod item;
+mod names;
 mod nested;
 mod parts;
 mod prints;

@@ -1,5 +1,6 @@
 //! Signatures of functions, and what stands in them.
 ghost use Rattle.std.specs.Prelude.{◌≡◌, OnOk};
+ghost use Rattle.std.specs.Option.{option_copied};
 ghost use Rattle.syn_grammar.specs.Grammar.{print};
 ghost use Rattle.syn_grammar.specs.Promises.{itself};
 ghost use Rattle.syn_grammar.specs.Tokens as grammar;
@@ -8,8 +9,14 @@ ghost use Rattle.syn_tokens.specs.Kinds.{comma_syntax, mut_syntax, self_value_sy
 ghost use Rattle.syn_tokens.specs.Leaves.{maybe};
 ghost use Rattle.syn_tokens.specs.Listing.{list_of};
 ghost use Rattle.syn_lower.specs.Parts.{group_syntax};
-ghost use Rattle.syn_item.specs.Signatures.{comma_behind, last_comma, parameters_of, received, syntax_of_FnArg, syntax_of_ReceiverKind};
+ghost use Rattle.syn_item.specs.Signatures.{comma_behind, last_comma, parameters_of, received, receiver_in, syntax_of_FnArg, syntax_of_ReceiverKind};
 
+mod parameters;
+mod parsing;
+mod wrappers;
+
+pub use parsing::foreign_signature;
+pub(crate) use parsing::{Qualifiers, safe_or_unsafe, signature_rest, unsafe_only};
 use std::alloc::{AllocError, Global};
 use syn_lower::attr::print_outer;
 use syn_lower::{Attribute, Generics, ReturnType, Type};
@@ -27,6 +34,7 @@ use syn_tokens::token::{
     And, Async, Colon, Comma, Const, DotDotDot, Extern, Mut, Paren, Safe, SelfValue, Unsafe,
 };
 use syn_tokens::{error, token};
+pub use wrappers::{SafeOrUnsafe, UnsafeOnly};
 
 /// A signature, such as `const unsafe extern "C" fn f<T>(self, a: T) -> T where T: Copy`.
 #[derive(Drop)]
@@ -98,6 +106,19 @@ pub struct Variadic {
     pub pat: Option<(Box<Pat>, Colon)>,
     pub dots: DotDotDot,
     pub comma: Option<Comma>,
+}
+
+impl Signature {
+    /// What the method is called on: the first parameter, where it is a receiver.
+    pub fn receiver(&self) -> Option<&Receiver>
+        ensures { option_copied result ≡ receiver_in self.now }
+    {
+        match self.inputs.first() {
+            Some(FnArg::Receiver(receiver)) => Some(receiver),
+            Some(FnArg::Typed(_)) => None,
+            None => None,
+        }
+    }
 }
 
 /// The comma that parameters before a variadic one lack.

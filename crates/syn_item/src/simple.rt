@@ -11,7 +11,15 @@ ghost use Rattle.syn_lower.specs.Generics.{clause_of};
 ghost use Rattle.syn_lower.specs.Types.{syntax_of_Type};
 ghost use Rattle.syn_item.specs.Simple.{aliased, attributes_by_content, content_syntax, module_content, syntax_of_WhereClausePlacement};
 
+mod aliases;
+mod macro_items;
+mod modules;
+mod values;
+
 use crate::use_tree::UseTree;
+pub(crate) use aliases::{aliased_bounds, trait_alias, trait_alias_rest, type_alias, type_rest};
+pub(crate) use macro_items::{ended_group, macro_as_item_rest, macro_rest};
+pub(crate) use modules::{extern_crate, extern_crate_rest, module, module_rest};
 use std::alloc::{AllocError, Global};
 use syn_lower::attr::{print_before_body, print_inner, print_outer};
 use syn_lower::{Attribute, Generics, Type, TypeParamBound};
@@ -32,6 +40,7 @@ use syn_tokens::token::{
 use syn_tokens::{error, token};
 use syn_tree::item::{ConstModifiers, TypeModifiers};
 use syn_tree::restriction::Visibility;
+pub(crate) use values::{const_rest, constant, static_item, static_rest};
 
 /// A constant, such as `const A: u8 = 1;`.
 #[derive(Drop)]

@@ -1,5 +1,8 @@
 //! The trees of `use` items.
 
+mod parsing;
+
+pub(crate) use parsing::{use_item, use_rest};
 use syn_tokens::ident::Ident;
 use syn_tokens::punctuated::Punctuated;
 use syn_tokens::token::{As, Brace, Comma, PathSep, Star};

@@ -206,7 +206,7 @@ impl Peek for MacroName {
 
 /// Whether an identifier that is no keyword, or `try`, stands next.
 #[tactic(auto, using(syn_grammar::proofs::Looks::sees_or))]
-fn at_macro_name(input: &ParseBuffer<'_>) -> bool
+pub fn at_macro_name(input: &ParseBuffer<'_>) -> bool
     ensures { result ≡ sees table.at_macro_name input.now }
 {
     input.peek::<Ident>() || input.peek::<Try>()
@@ -249,7 +249,7 @@ fn at_own_self(input: &ParseBuffer<'_>) -> bool
 
 /// Whether a receiver stands next.
 #[tactic(auto, using(crate::proofs::ItemLooks::receiver_seen))]
-pub(crate) fn at_receiver(input: &ParseBuffer<'_>) -> bool
+pub fn at_receiver(input: &ParseBuffer<'_>) -> bool
     ensures { result ≡ sees table.at_receiver input.now }
 {
     input.peek::<And>() || (input.peek::<Mut>() && input.peek2::<OwnSelf>()) || at_own_self(input)
@@ -257,7 +257,7 @@ pub(crate) fn at_receiver(input: &ParseBuffer<'_>) -> bool
 
 /// Whether a name stands next that begins a type, as `<` follows it, where a parameter may have none.
 #[tactic(auto, using(crate::proofs::ItemLooks::unnamed_seen))]
-pub(crate) fn at_unnamed(input: &ParseBuffer<'_>) -> bool
+pub fn at_unnamed(input: &ParseBuffer<'_>) -> bool
     ensures { result ≡ sees (at_unnamed Before_less) input.now }
 {
     input.peek::<Ident>() && input.peek2::<Lt>()
@@ -334,7 +334,7 @@ fn at_parameter(input: &ParseBuffer<'_>) -> bool
 
 /// Whether a path stands next by which a macro is no item.
 #[tactic(auto, using(crate::proofs::ItemLooks::no_macro_item_seen))]
-pub(crate) fn at_no_macro_item(input: &ParseBuffer<'_>) -> bool
+pub fn at_no_macro_item(input: &ParseBuffer<'_>) -> bool
     ensures { result ≡ sees table.at_no_macro_item input.now }
 {
     input.peek::<SelfType>() || (input.peek::<Default>() && input.peek2::<PathSep>())
@@ -342,7 +342,7 @@ pub(crate) fn at_no_macro_item(input: &ParseBuffer<'_>) -> bool
 
 /// Whether a string stands next. Refused only where memory is.
 #[tactic(auto, using(crate::proofs::Strings::string_seen, crate::proofs::Strings::no_string_seen))]
-pub(crate) fn at_str(input: &ParseBuffer<'_>) -> Parsed<bool>
+pub fn at_str(input: &ParseBuffer<'_>) -> Parsed<bool>
     ensures { OrMemory IsSyntax result (λ answer. answer ≡ sees (grammar.at_literal Str) input.now) }
 {
     match input.fork().read::<Literal>() {

@@ -1,0 +1,86 @@
+-- Receivers, and parameters alone.
+use Rattle.std.proofs.Common.{◌≡◌, Bool, true, false, Some, None, refl, sym, ap, ◌∙◌}
+use Rattle.syn_grammar.specs.Words.{w_self}
+use Rattle.syn_grammar.specs.Tokens.{Stream, Before_less, pick}
+use Rattle.syn_grammar.specs.Rules.{argument, attributes, no_attributes, pattern, receiver, receiver_rest, type}
+use Rattle.syn_grammar.specs.Grammar.{Syntax, Nothing, Both, Left, Right, Node, Unshown, Grammar, ◌&◌, when◌then◌else◌, empty, rule, supplied, word}
+use Rattle.syn_grammar.specs.Forms.{never, plainly}
+use Rattle.syn_grammar.specs.Table.{at_colons, at_pound, at_receiver}
+use Rattle.syn_grammar.specs.Take.{Out, Parser, sees, take_token}
+use Rattle.syn_grammar.specs.Run.{and_then, branch, parse_form, parse_rule, wrap}
+use Rattle.syn_grammar.proofs.Each.{argument_is, no_attributes_is, receiver_is}
+use Rattle.syn_lower.specs.Attributes.{none_listed}
+use Rattle.syn_lower.specs.Parameters.{after}
+use Rattle.syn_pat.specs.Patterns.{behind_attributes}
+use Rattle.syn_item.specs.SignatureForms.{argument_behind, kind_form, named_pattern, own_self_form, typed_as, typed_parameter, with_attributes}
+use Rattle.syn_item.specs.Signatures.{receiver_argument, typed_argument}
+use Rattle.syn_item.proofs.Supplied.{supplied_is, with_name}
+
+-- A RECEIVER ALONE: no attribute stands before it
+by_attributes : (ts : Stream) → parse_rule receiver ts ≡ wrap Node (and_then (wrap Node (branch (sees at_pound ts) None (Some (Unshown Nothing, ts)))) (parse_rule receiver_rest))
+by_attributes ts = receiver_is ts ∙ ap (λ o. wrap Node (and_then o (parse_rule receiver_rest))) (no_attributes_is ts)
+
+pub receiver_alone : (ts : Stream) → sees at_pound ts ≡ false → parse_rule receiver ts ≡ wrap (with_attributes none_listed) (parse_rule receiver_rest ts)
+receiver_alone ts h = by_attributes ts ∙ ap (λ b. wrap Node (and_then (wrap Node (branch b None (Some (Unshown Nothing, ts)))) (parse_rule receiver_rest))) h ∙ go (parse_rule receiver_rest ts)
+  where
+    go : (o : Out) → wrap Node (wrap (Both none_listed) o) ≡ wrap (with_attributes none_listed) o
+    go None = refl
+    go (Some p) = refl
+
+pub no_receiver : (ts : Stream) → sees at_pound ts ≡ true → parse_rule receiver ts ≡ None
+no_receiver ts h = by_attributes ts ∙ ap (λ b. wrap Node (and_then (wrap Node (branch b None (Some (Unshown Nothing, ts)))) (parse_rule receiver_rest))) h
+
+-- BEHIND `self`: a `::` is refused, and then a colon and a type may stand
+abbrev behind_self : Grammar
+behind_self = when at_colons then never else kind_form
+
+abbrev with_kind : Syntax → Syntax → Syntax
+with_kind (Both w s) kind = Both w (Right kind)
+with_kind s kind = Both s kind
+
+pub by_value : (ts : Stream) → parse_form (plainly (word w_self) & behind_self) ts ≡ after (parse_form own_self_form ts) (λ s m. wrap (with_kind s) (parse_form kind_form m))
+by_value ts = go (take_token (word w_self) ts)
+  where
+    kinds : (w : Syntax) (o : Out) → wrap (Both w) (wrap Right o) ≡ wrap (with_kind (Both w (Right Nothing))) o
+    kinds w None = refl
+    kinds w (Some p) = refl
+
+    by_colons : (w : Syntax) (m : Stream) (b : Bool) → wrap (Both w) (branch b None (parse_form kind_form m)) ≡ after (wrap (Both w) (branch b None (Some (Nothing, m)))) (λ s n. wrap (with_kind s) (parse_form kind_form n))
+    by_colons w m true = refl
+    by_colons w m false = kinds w (parse_form kind_form m)
+
+    go : (o : Out) → and_then o (parse_form behind_self) ≡ after (and_then o (parse_form (when at_colons then never else empty))) (λ s m. wrap (with_kind s) (parse_form kind_form m))
+    go None = refl
+    go (Some p) = by_colons p.0 p.1 (sees at_colons p.1)
+
+-- A PARAMETER ALONE
+
+-- with a type, as the value of a pattern with its type
+pub typed_is : (attrs pat sign ty : Syntax) → typed_argument (behind_attributes attrs (Both pat (Left (Both sign ty)))) ≡ typed_as attrs (Both pat sign) ty
+typed_is (Node (Right (Unshown Nothing))) pat sign ty = refl
+typed_is attrs pat sign ty = refl
+
+pub argument_by : (ts : Stream) → parse_rule argument ts ≡ after (parse_rule attributes ts) argument_behind
+unfolding typed_parameter
+argument_by ts = argument_is ts ∙ go (parse_rule attributes ts)
+  where
+    received : (a : Syntax) (o : Out) → wrap Node (wrap (Both a) (wrap Left o)) ≡ wrap receiver_argument (wrap (with_attributes a) o)
+    received a None = refl
+    received a (Some p) = refl
+
+    by_type : (a name : Syntax) (o : Out) → wrap Node (wrap (Both a) (wrap Right (wrap (with_name name) o))) ≡ wrap (typed_as a name) o
+    by_type a name None = refl
+    by_type a name (Some p) = refl
+
+    by_name : (a : Syntax) (o : Out) → wrap Node (wrap (Both a) (wrap Right (after o (λ name m. wrap (with_name name) (parse_rule type m))))) ≡ after o (λ name m. wrap (typed_as a name) (parse_rule type m))
+    by_name a None = refl
+    by_name a (Some p) = by_type a p.0 (parse_rule type p.1)
+
+    turn : (a : Syntax) (m : Stream) (b : Bool) → wrap Node (wrap (Both a) (branch b (parse_rule receiver_rest m) (parse_form (supplied Before_less (rule pattern) (rule type)) m)))
+        ≡ pick b (wrap receiver_argument (wrap (with_attributes a) (parse_rule receiver_rest m))) (after (named_pattern m) (λ name n. wrap (typed_as a name) (parse_rule type n)))
+    turn a m true = received a (parse_rule receiver_rest m)
+    turn a m false = ap (λ o. wrap Node (wrap (Both a) (wrap Right o))) (supplied_is (rule type) m refl) ∙ by_name a (named_pattern m)
+
+    go : (o : Out) → wrap Node (and_then o (λ m. branch (sees at_receiver m) (parse_rule receiver_rest m) (parse_form (supplied Before_less (rule pattern) (rule type)) m))) ≡ after o argument_behind
+    go None = refl
+    go (Some p) = turn p.0 p.1 (sees at_receiver p.1)
