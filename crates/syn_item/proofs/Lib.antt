@@ -1,8 +1,11 @@
 pub mod Arguments
 pub mod Bodies
+pub mod BoundLists
 pub mod Impls
 pub mod Inputs
+pub mod Kept
 pub mod Macros
+pub mod MemberLists
 pub mod Members
 pub mod Parameters
 pub mod Receivers

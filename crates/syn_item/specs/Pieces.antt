@@ -1,8 +1,8 @@
 -- WHAT MANY ITEMS ARE READ WITH: forms of their parts, and what the parts stand for.
-use Rattle.std.specs.Prelude.{◌≡◌, false, List, Some}
+use Rattle.std.specs.Prelude.{◌≡◌, false, List, [], ◌∷◌, Some}
 use Rattle.syn_grammar.specs.Tokens.{Stream, Brace, ended}
 use Rattle.syn_grammar.specs.Rules.{Rule, inner_attributes}
-use Rattle.syn_grammar.specs.Grammar.{Grammar, Syntax, Nothing, Both, Node, ◌&◌, inside, rule, vanishing}
+use Rattle.syn_grammar.specs.Grammar.{Grammar, Syntax, Nothing, Both, Right, Node, ◌&◌, inside, rule, vanishing}
 use Rattle.syn_grammar.specs.Forms.{punctuation}
 use Rattle.syn_grammar.specs.Words.{colon}
 use Rattle.syn_grammar.specs.Table.{at_colon}
@@ -29,3 +29,8 @@ braced_syntax view p = group_syntax Brace p.1 (Both (attributes_in_body p.0) (me
 -- a colon and bounds, or nothing
 abbrev pub bounds_form : Rule → Grammar
 bounds_form k = vanishing false at_colon (punctuation colon & rule k)
+
+-- members that were read, before those that follow
+abbrev pub before_members : {T : Type 0} → (T → Syntax) → List T → Syntax → Syntax
+before_members view [] s = s
+before_members view (x ∷ l) s = Node (Right (Both (view x) (before_members view l s)))

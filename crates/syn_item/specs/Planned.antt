@@ -1,6 +1,6 @@
 -- WHAT FOLLOWS A PLAN PROMISES: a member or an item of a kind of its own, or that the plan has come to where it is known that all is kept as
 -- tokens.
-use Rattle.std.specs.Prelude.{◌≡◌, Option, Some, None, Result, Ok, Err}
+use Rattle.std.specs.Prelude.{◌≡◌, Bool, true, false, Option, Some, None, Result, Ok, Err}
 use Rattle.syn_grammar.specs.Tokens.{Stream}
 use Rattle.syn_grammar.specs.Rules.{Rule}
 use Rattle.syn_grammar.specs.Grammar.{Syntax}
@@ -23,3 +23,8 @@ Follows refusal view k ts out (Err e) new = refusal e → out ≡ None
 abbrev pub CopiesBy : {E : Type 0} → (E → Type 0) → Out → Stream → Result Stream E → Stream → Type 0
 CopiesBy refusal out ts (Ok tokens) new = (s : Syntax) × (out ≡ Some (s, new)) × (tokens ≡ before ts new)
 CopiesBy refusal out ts (Err e) new = refusal e → out ≡ None
+
+-- something is read, or nothing
+abbrev pub IsRead : Bool → Out → Type 0
+IsRead true out = (p : Syntax × Stream) × (out ≡ Some p)
+IsRead false out = out ≡ None

@@ -3,10 +3,9 @@
 mod members;
 mod parsing;
 
-pub(crate) use parsing::foreign_module_rest;
-
 use crate::sig::{Abi, Safety, Signature};
 use crate::simple::StaticMutability;
+pub(crate) use parsing::foreign_module_rest;
 use syn_lower::{Attribute, Generics, Type};
 use syn_pat::Macro;
 use syn_tokens::ident::Ident;

@@ -8,10 +8,9 @@ ghost use Rattle.syn_item.specs.Impls.{behind_generics, behind_impl};
 mod members;
 mod parsing;
 
-pub(crate) use parsing::{ImplMarks, impl_end, impl_generics, impl_or_kept, implemented};
-
 use crate::parts::{print_braced, print_pair};
 use crate::sig::Signature;
+pub(crate) use parsing::{ImplMarks, impl_end, impl_generics, impl_or_kept, implemented};
 use std::alloc::{AllocError, Global};
 use syn_lower::attr::print_before_body;
 use syn_lower::{Attribute, Generics, Path, Type};

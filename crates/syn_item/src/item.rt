@@ -1,6 +1,8 @@
 //! Items of every kind.
 
+mod derive;
 mod parsing;
+mod trees;
 
 use crate::foreign::ItemForeignMod;
 use crate::function::ItemFn;

@@ -44,7 +44,7 @@ use syn_tokens::token::{
 };
 
 /// Members, to the end.
-#[tactic(auto, using(crate::proofs::MemberLists::all_read, crate::proofs::MemberLists::none_more))]
+#[tactic(auto, using(crate::proofs::MemberLists::all_read, crate::proofs::MemberLists::none_more, crate::proofs::MemberLists::one_more))]
 pub(crate) fn members<T: Read + Drop>(input: &mut ParseBuffer<'_>) -> Parsed<Vec<T>>
     ensures reads { (k : GrammarRule) → IsMembers k T.form → Computes IsSyntax (λ v. members_of T.syntax v.items) (parse_rule k input.old) result input.new }
     ensures kept { Kept input.old result input.new }

@@ -2,6 +2,7 @@ mod files;
 mod foreign;
 mod functions;
 mod impls;
+mod opened;
 mod parsed;
 mod signatures;
 mod simple;

@@ -19,7 +19,7 @@ impl Read for File {
 
     ghost meaning = { meaning_of_rule rules.file };
 
-    #[tactic(auto, using(syn_grammar::proofs::Each::file_is, crate::proofs::MemberLists::items, crate::proofs::MemberLists::inner_read))]
+    #[tactic(auto, using(syn_grammar::proofs::Each::file_is, crate::proofs::MemberLists::whole_items))]
     fn read(input: &mut ParseBuffer<'_>) -> Parsed<File> {
         Ok(File {
             shebang: None,

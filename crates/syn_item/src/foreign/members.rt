@@ -14,9 +14,7 @@ ghost use Rattle.syn_item.specs.ForeignForms.{bare_static_syntax};
 ghost use Rattle.syn_item.specs.Planned.{Follows};
 ghost use Rattle.syn_item.specs.Stages.{foreign_function_or_kept, foreign_item_plan_behind, foreign_static_or_kept, foreign_type_or_kept};
 
-use super::{
-    ForeignItem, ForeignItemFn, ForeignItemMacro, ForeignItemStatic, ForeignItemType,
-};
+use super::{ForeignItem, ForeignItemFn, ForeignItemMacro, ForeignItemStatic, ForeignItemType};
 use crate::pieces::{kept_tokens, member_macro, type_head};
 use crate::sig::{Safety, foreign_signature, safe_or_unsafe};
 use crate::simple::StaticMutability;
@@ -44,24 +42,20 @@ impl Read for ForeignItem {
 
     ghost meaning = { meaning_of_rule rules.foreign_item };
 
-    #[tactic(auto, using(crate::proofs::Plans::foreign_item_read))]
+    #[tactic(auto, using(syn_grammar::proofs::MemberPlans::foreign_item_plan_is, crate::proofs::Kept::kept_whole), unfolding(syn_grammar::specs::MemberPlans::foreign_item_plan))]
     fn read(input: &mut ParseBuffer<'_>) -> Parsed<ForeignItem> {
         let start = input.fork();
         let attrs = outer_attributes(input)?;
         match foreign_item_behind(attrs, input) {
             Ok(Some(member)) => Ok(member),
-            Ok(None) => Ok(ForeignItem::Verbatim(kept_tokens(
-                Rule::ForeignItem,
-                &start,
-                input,
-            )?)),
+            Ok(None) => Ok(ForeignItem::Verbatim(kept_tokens(Rule::ForeignItem, &start, input)?)),
             Err(refusal) => Err(refusal),
         }
     }
 }
 
 /// A foreign member, behind its attributes; `None` where it is kept as its tokens.
-#[tactic(auto, using(crate::proofs::Plans::foreign_item_behind))]
+#[tactic(auto, using(crate::proofs::Kept::only_kept), unfolding(crate::specs::Stages::foreign_item_plan_behind, syn_grammar::specs::MemberPlans::foreign_member_plan, syn_grammar::specs::MemberPlans::safety_plan, syn_grammar::specs::MemberPlans::foreign_macro_plan))]
 fn foreign_item_behind(
     attrs: Vec<Attribute>,
     input: &mut ParseBuffer<'_>,
@@ -99,15 +93,17 @@ fn at_foreign_function(is_marked: bool, input: &ParseBuffer<'_>) -> Parsed<bool>
     if input.peek::<Safe>() {
         return Ok(is_marked || !(is_before_macro(input)? || is_before_colons(input)));
     }
-    Ok(input.peek::<Unsafe>()
-        || input.peek::<Const>()
-        || input.peek::<Async>()
-        || input.peek::<Extern>()
-        || input.peek::<Fn>())
+    Ok(
+        input.peek::<Unsafe>()
+            || input.peek::<Const>()
+            || input.peek::<Async>()
+            || input.peek::<Extern>()
+            || input.peek::<Fn>(),
+    )
 }
 
 /// A foreign function, behind its visibility; `None` where it is kept as its tokens: with a body.
-#[tactic(auto, using(crate::proofs::Plans::foreign_function_read))]
+#[tactic(auto, using(crate::proofs::Kept::only_kept), unfolding(syn_grammar::specs::MemberPlans::foreign_function_end))]
 fn foreign_function(
     attrs: Vec<Attribute>,
     vis: Visibility,
@@ -129,7 +125,7 @@ fn foreign_function(
 }
 
 /// A foreign static, behind its visibility; `None` where it is kept as its tokens: with a value.
-#[tactic(auto, using(crate::proofs::Plans::foreign_static_read))]
+#[tactic(auto, using(crate::proofs::Kept::only_kept), unfolding(syn_grammar::specs::MemberPlans::foreign_static_plan, syn_grammar::specs::ItemPlan::kept_end))]
 fn foreign_static(
     attrs: Vec<Attribute>,
     vis: Visibility,
@@ -142,13 +138,11 @@ fn foreign_static(
         return Ok(None);
     }
     let semi_token = input.read()?;
-    Ok(Some(ForeignItem::Static(whole_static(
-        attrs, vis, bare, semi_token,
-    ))))
+    Ok(Some(ForeignItem::Static(whole_static(attrs, vis, bare, semi_token))))
 }
 
 /// A foreign type, behind its visibility; `None` where it is kept as its tokens: with a colon or with `=`.
-#[tactic(auto, using(crate::proofs::Plans::foreign_type_read))]
+#[tactic(auto, using(crate::proofs::Kept::only_kept), unfolding(syn_grammar::specs::MemberPlans::foreign_type_plan, syn_grammar::specs::ItemPlan::kept_end))]
 fn foreign_type(
     attrs: Vec<Attribute>,
     vis: Visibility,

@@ -61,28 +61,21 @@ impl Read for ImplItem {
 
     ghost meaning = { meaning_of_rule rules.impl_item };
 
-    #[tactic(auto, using(crate::proofs::Plans::impl_item_read))]
+    #[tactic(auto, using(syn_grammar::proofs::MemberPlans::impl_item_plan_is, crate::proofs::Kept::kept_whole), unfolding(syn_grammar::specs::MemberPlans::impl_item_plan))]
     fn read(input: &mut ParseBuffer<'_>) -> Parsed<ImplItem> {
         let start = input.fork();
         let attrs = outer_attributes(input)?;
         match impl_item_behind(attrs, input) {
             Ok(Some(member)) => Ok(member),
-            Ok(None) => Ok(ImplItem::Verbatim(kept_tokens(
-                Rule::ImplItem,
-                &start,
-                input,
-            )?)),
+            Ok(None) => Ok(ImplItem::Verbatim(kept_tokens(Rule::ImplItem, &start, input)?)),
             Err(refusal) => Err(refusal),
         }
     }
 }
 
 /// A member of an impl, behind its attributes; `None` where it is kept as its tokens.
-#[tactic(auto, using(crate::proofs::Plans::impl_item_behind))]
-fn impl_item_behind(
-    attrs: Vec<Attribute>,
-    input: &mut ParseBuffer<'_>,
-) -> Parsed<Option<ImplItem>>
+#[tactic(auto, using(crate::proofs::Kept::only_kept), unfolding(crate::specs::Stages::impl_item_plan_behind))]
+fn impl_item_behind(attrs: Vec<Attribute>, input: &mut ParseBuffer<'_>) -> Parsed<Option<ImplItem>>
     requires outer { all_attributes_syntax attrs.items ≡ attributes_syntax attrs.items }
     ensures follows { (ts : Stream) → Follows IsSyntax syntax_of_ImplItem rules.kept_impl_item ts (run_plan (impl_item_plan_behind (attributes_syntax attrs.items)) rules.kept_impl_item ts input.old) result input.new }
 {
@@ -113,7 +106,7 @@ fn at_impl_macro(input: &ParseBuffer<'_>) -> Parsed<bool> {
 }
 
 /// A member of an impl that is no macro, behind its `default`; `None` where it is kept as its tokens.
-#[tactic(auto, using(crate::proofs::Plans::impl_member_read))]
+#[tactic(auto, using(crate::proofs::Kept::only_kept), unfolding(syn_grammar::specs::MemberPlans::impl_member_plan, syn_grammar::specs::MemberPlans::impl_const_or_function, syn_grammar::specs::MemberPlans::impl_function_end, syn_grammar::specs::ItemPlan::kept_end))]
 fn impl_member(marks: MemberMarks, input: &mut ParseBuffer<'_>) -> Parsed<Option<ImplItem>>
     requires outer { all_attributes_syntax marks.attrs.items ≡ attributes_syntax marks.attrs.items }
     ensures follows { (ts : Stream) → Follows IsSyntax syntax_of_ImplItem rules.kept_impl_item ts (run_plan (plan.impl_member_plan (attributes_syntax marks.attrs.items) (syntax_of_Visibility marks.vis) (maybe default_syntax marks.defaultness)) rules.kept_impl_item ts input.old) result input.new }
@@ -141,7 +134,7 @@ fn impl_member(marks: MemberMarks, input: &mut ParseBuffer<'_>) -> Parsed<Option
 }
 
 /// A type of an impl, behind its `default`; `None` where it is kept as its tokens: without `=` behind its generics.
-#[tactic(auto, using(crate::proofs::Plans::impl_type_read))]
+#[tactic(auto, using(crate::proofs::Kept::only_kept), unfolding(syn_grammar::specs::MemberPlans::impl_type_plan, syn_grammar::specs::ItemPlan::kept_end))]
 fn impl_type(marks: MemberMarks, input: &mut ParseBuffer<'_>) -> Parsed<Option<ImplItem>>
     ensures follows { (ts : Stream) → Follows IsSyntax syntax_of_ImplItem rules.kept_impl_item ts (run_plan (plan.impl_type_plan (attributes_syntax marks.attrs.items) (syntax_of_Visibility marks.vis) (maybe default_syntax marks.defaultness)) rules.kept_impl_item ts input.old) result input.new }
 {
@@ -154,7 +147,7 @@ fn impl_type(marks: MemberMarks, input: &mut ParseBuffer<'_>) -> Parsed<Option<I
 
 /// A constant of an impl, behind its `default`; `None` where it is kept as its tokens: with generics, without a value or with a where
 /// clause.
-#[tactic(auto, using(crate::proofs::Plans::impl_const_read))]
+#[tactic(auto, using(crate::proofs::Kept::only_kept), unfolding(syn_grammar::specs::MemberPlans::impl_const_plan, syn_grammar::specs::ItemPlan::kept_end))]
 fn impl_const(marks: MemberMarks, input: &mut ParseBuffer<'_>) -> Parsed<Option<ImplItem>>
     ensures follows { (ts : Stream) → Follows IsSyntax syntax_of_ImplItem rules.kept_impl_item ts (run_plan (impl_const_or_kept (attributes_syntax marks.attrs.items) (syntax_of_Visibility marks.vis) (maybe default_syntax marks.defaultness)) rules.kept_impl_item ts input.old) result input.new }
 {

@@ -63,10 +63,7 @@ impl Read for ItemImpl {
 
 /// An impl, behind its attributes.
 #[tactic(auto, using(syn_grammar::proofs::Each::impl_definition_rest_is))]
-fn impl_definition_rest(
-    attrs: Vec<Attribute>,
-    input: &mut ParseBuffer<'_>,
-) -> Parsed<ItemImpl>
+fn impl_definition_rest(attrs: Vec<Attribute>, input: &mut ParseBuffer<'_>) -> Parsed<ItemImpl>
     requires outer { all_attributes_syntax attrs.items ≡ attributes_syntax attrs.items }
     ensures reads { Computes IsSyntax itself (wrap (Both (attributes_syntax attrs.items)) (parse_rule rules.impl_definition_rest input.old)) result input.new }
     ensures moved { Moved input.old result input.new }
@@ -82,7 +79,6 @@ fn impl_definition_rest(
 }
 
 /// An impl, behind its word.
-#[tactic(auto, using(crate::proofs::ImplParts::impl_read))]
 fn behind_impl(marks: ImplMarks, input: &mut ParseBuffer<'_>) -> Parsed<ItemImpl>
     requires outer { all_attributes_syntax marks.attrs.items ≡ attributes_syntax marks.attrs.items }
     ensures reads { Computes IsSyntax itself (wrap (impl_of marks) (parse_form behind_impl_form input.old)) result input.new }
@@ -212,7 +208,7 @@ pub(crate) fn impl_end(
 }
 
 /// An impl among items, behind its generics; `None` where it is kept as its tokens: with a first type that is no plain path before `for`.
-#[tactic(auto, using(crate::proofs::Plans::impl_types_read))]
+#[tactic(auto, using(crate::proofs::Kept::only_kept), unfolding(syn_grammar::specs::ItemPlan::impl_types, syn_grammar::specs::ItemPlan::kept_impl))]
 pub(crate) fn impl_or_kept(
     marks: ImplMarks,
     generics: Generics,

@@ -31,7 +31,8 @@ use syn_recognize::item_looks::{at_auto, at_union, is_before_macro};
 use syn_recognize::looks::at_empty_group;
 use syn_tokens::token;
 use syn_tokens::token::{
-    Async, Const, Default, Enum, Extern, Fn, Impl, Mod, Pub, Static, Struct, Trait, Type, Unsafe, Use,
+    Async, Const, Default, Enum, Extern, Fn, Impl, Mod, Pub, Static, Struct, Trait, Type, Unsafe,
+    Use,
 };
 use syn_tree::item::{enum_behind, struct_behind, union_behind};
 use syn_tree::restriction::Visibility;
@@ -86,7 +87,7 @@ impl Read for Item {
 
     ghost meaning = { meaning_of_rule rules.item };
 
-    #[tactic(auto, using(crate::proofs::Plans::item_read))]
+    #[tactic(auto, using(syn_grammar::proofs::ItemPlan::item_plan_is, crate::proofs::Kept::kept_whole), unfolding(syn_grammar::specs::ItemPlan::item_plan))]
     fn read(input: &mut ParseBuffer<'_>) -> Parsed<Item> {
         let start = input.fork();
         let attrs = outer_attributes(input)?;
@@ -99,7 +100,7 @@ impl Read for Item {
 }
 
 /// An item, behind its attributes; `None` where it is kept as its tokens.
-#[tactic(auto, using(crate::proofs::Plans::item_behind))]
+#[tactic(auto, using(crate::proofs::Kept::only_kept), unfolding(syn_grammar::specs::ItemPlan::item_behind))]
 fn item_behind(attrs: Vec<Attribute>, input: &mut ParseBuffer<'_>) -> Parsed<Option<Item>>
     requires outer { all_attributes_syntax attrs.items ≡ attributes_syntax attrs.items }
     ensures follows { (ts : Stream) → Follows IsSyntax syntax_of_Item rules.kept_item ts (run_plan (plan.item_behind (attributes_syntax attrs.items)) rules.kept_item ts input.old) result input.new }
@@ -121,7 +122,7 @@ fn place_of(input: &ParseBuffer<'_>) -> Place {
 }
 
 /// An item, behind its visibility; `None` where it is kept as its tokens.
-#[tactic(auto, using(crate::proofs::Plans::behind_visibility))]
+#[tactic(auto, using(crate::proofs::Kept::only_kept), unfolding(syn_grammar::specs::ItemPlan::behind_visibility, syn_grammar::specs::ItemPlan::struct_plan, syn_grammar::specs::ItemPlan::enum_plan, syn_grammar::specs::ItemPlan::union_plan, syn_grammar::specs::ItemPlan::module_plan))]
 fn behind_visibility(begun: Begun, input: &mut ParseBuffer<'_>) -> Parsed<Option<Item>>
     requires outer { all_attributes_syntax begun.attrs.items ≡ attributes_syntax begun.attrs.items }
     ensures follows { (ts : Stream) → Follows IsSyntax syntax_of_Item rules.kept_item ts (run_plan (behind_place begun) rules.kept_item ts input.old) result input.new }
@@ -155,7 +156,7 @@ fn behind_visibility(begun: Begun, input: &mut ParseBuffer<'_>) -> Parsed<Option
 }
 
 /// The same, where none of these words stands next.
-#[tactic(auto, using(crate::proofs::Plans::other_kinds))]
+#[tactic(auto, using(crate::proofs::Kept::only_kept), unfolding(syn_grammar::specs::ItemPlan::definition_plan))]
 fn other_kinds(begun: Begun, input: &mut ParseBuffer<'_>) -> Parsed<Option<Item>>
     requires outer { all_attributes_syntax begun.attrs.items ≡ attributes_syntax begun.attrs.items }
     ensures follows { (ts : Stream) → Follows IsSyntax syntax_of_Item rules.kept_item ts (run_plan (other_kinds_plan begun) rules.kept_item ts input.old) result input.new }
@@ -188,7 +189,7 @@ fn other_kinds(begun: Begun, input: &mut ParseBuffer<'_>) -> Parsed<Option<Item>
 }
 
 /// What else may stand, where no visibility was read: an impl behind `default`, or a macro.
-#[tactic(auto, using(crate::proofs::Plans::without_keyword))]
+#[tactic(auto, using(crate::proofs::Kept::only_kept), unfolding(syn_grammar::specs::ItemPlan::other_plan, syn_grammar::specs::ItemPlan::macro_plan))]
 fn without_keyword(begun: Begun, input: &mut ParseBuffer<'_>) -> Parsed<Option<Item>>
     requires outer { all_attributes_syntax begun.attrs.items ≡ attributes_syntax begun.attrs.items }
     ensures follows { (ts : Stream) → Follows IsSyntax syntax_of_Item rules.kept_item ts (run_plan (other_plan_of begun) rules.kept_item ts input.old) result input.new }

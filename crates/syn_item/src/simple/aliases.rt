@@ -110,7 +110,7 @@ fn aliased(input: &mut ParseBuffer<'_>) -> Parsed<Aliased>
 }
 
 /// The one of these clauses that stands, and its place, which is early where none stands. `None` where both stand.
-fn one_clause(
+pub(crate) fn one_clause(
     early: Option<WhereClause>,
     late: Option<WhereClause>,
 ) -> Option<(WhereClausePlacement, Option<WhereClause>)>

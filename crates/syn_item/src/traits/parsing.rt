@@ -18,9 +18,7 @@ ghost use Rattle.syn_item.specs.Stages.{trait_const_or_kept, trait_item_plan_beh
 ghost use Rattle.syn_item.specs.TraitForms.{behind_head, behind_marks, function_end_form, named_form, named_syntax, trait_end_form, unmarked_form};
 ghost use Rattle.syn_item.specs.Traits.{function_end, syntax_of_TraitItem};
 
-use super::{
-    ItemTrait, TraitItem, TraitItemConst, TraitItemFn, TraitItemMacro, TraitItemType,
-};
+use super::{ItemTrait, TraitItem, TraitItemConst, TraitItemFn, TraitItemMacro, TraitItemType};
 use crate::bodies::body;
 use crate::names::{OrUnderscore, name_or};
 use crate::pieces::{
@@ -77,10 +75,7 @@ impl Read for ItemTrait {
 
 /// A trait, behind its attributes.
 #[tactic(auto, using(syn_grammar::proofs::Each::trait_definition_rest_is))]
-fn trait_definition_rest(
-    attrs: Vec<Attribute>,
-    input: &mut ParseBuffer<'_>,
-) -> Parsed<ItemTrait>
+fn trait_definition_rest(attrs: Vec<Attribute>, input: &mut ParseBuffer<'_>) -> Parsed<ItemTrait>
     requires outer { all_attributes_syntax attrs.items ≡ attributes_syntax attrs.items }
     ensures reads { Computes IsSyntax itself (wrap (Both (attributes_syntax attrs.items)) (parse_rule rules.trait_definition_rest input.old)) result input.new }
     ensures moved { Moved input.old result input.new }
@@ -178,24 +173,20 @@ impl Read for TraitItem {
 
     ghost meaning = { meaning_of_rule rules.trait_item };
 
-    #[tactic(auto, using(crate::proofs::Plans::trait_item_read))]
+    #[tactic(auto, using(syn_grammar::proofs::MemberPlans::trait_item_plan_is, crate::proofs::Kept::kept_whole), unfolding(syn_grammar::specs::MemberPlans::trait_item_plan))]
     fn read(input: &mut ParseBuffer<'_>) -> Parsed<TraitItem> {
         let start = input.fork();
         let attrs = outer_attributes(input)?;
         match trait_item_behind(attrs, input) {
             Ok(Some(member)) => Ok(member),
-            Ok(None) => Ok(TraitItem::Verbatim(kept_tokens(
-                Rule::TraitItem,
-                &start,
-                input,
-            )?)),
+            Ok(None) => Ok(TraitItem::Verbatim(kept_tokens(Rule::TraitItem, &start, input)?)),
             Err(refusal) => Err(refusal),
         }
     }
 }
 
 /// A member of a trait, behind its attributes; `None` where it is kept as its tokens.
-#[tactic(auto, using(crate::proofs::Plans::trait_item_behind))]
+#[tactic(auto, using(crate::proofs::Kept::only_kept), unfolding(crate::specs::Stages::trait_item_plan_behind))]
 fn trait_item_behind(
     attrs: Vec<Attribute>,
     input: &mut ParseBuffer<'_>,
@@ -222,7 +213,7 @@ fn trait_item_behind(
 }
 
 /// A constant of a trait, behind its attributes; `None` where it is kept as its tokens: with generics or with a where clause.
-#[tactic(auto, using(crate::proofs::Plans::trait_const_read))]
+#[tactic(auto, using(crate::proofs::Kept::only_kept), unfolding(syn_grammar::specs::MemberPlans::trait_const_plan, syn_grammar::specs::ItemPlan::kept_end))]
 fn trait_const(attrs: Vec<Attribute>, input: &mut ParseBuffer<'_>) -> Parsed<Option<TraitItem>>
     ensures follows { (ts : Stream) → Follows IsSyntax syntax_of_TraitItem rules.kept_trait_item ts (run_plan (trait_const_or_kept (attributes_syntax attrs.items)) rules.kept_trait_item ts input.old) result input.new }
 {

@@ -6,9 +6,11 @@ ghost use Rattle.syn_grammar.specs.Rules as rules;
 ghost use Rattle.syn_grammar.specs.Tokens.{Stream};
 ghost use Rattle.syn_lower.specs.Attributes.{all_attributes_syntax, attributes_syntax};
 ghost use Rattle.syn_lower.specs.Parsing.{IsSyntax};
+ghost use Rattle.syn_tokens.specs.Kinds.{const_syntax, unsafe_syntax};
+ghost use Rattle.syn_tokens.specs.Leaves.{maybe};
 ghost use Rattle.syn_tree.specs.Restriction.{syntax_of_Visibility};
 ghost use Rattle.syn_item.specs.Items.{syntax_of_Item};
-ghost use Rattle.syn_item.specs.ItemStages.{const_or_kept_plan, const_stage, extern_stage, function_stage, unsafe_stage};
+ghost use Rattle.syn_item.specs.ItemStages.{const_or_kept_plan, const_stage, extern_stage, function_stage, module_or_function_stage, place_of, unsafe_stage};
 ghost use Rattle.syn_item.specs.Planned.{Follows};
 
 use super::impls::impl_behind;
@@ -29,7 +31,7 @@ use syn_tokens::token::{
 use syn_tree::item::ConstModifiers;
 
 /// A function; `None` where it is kept as its tokens: without a body.
-#[tactic(auto, using(crate::proofs::Plans::function_read))]
+#[tactic(auto, using(crate::proofs::Kept::only_kept), unfolding(syn_grammar::specs::ItemPlan::function_end, syn_grammar::specs::ItemPlan::kept_end))]
 pub(super) fn function_or_kept(begun: Begun, input: &mut ParseBuffer<'_>) -> Parsed<Option<Item>>
     requires outer { all_attributes_syntax begun.attrs.items ≡ attributes_syntax begun.attrs.items }
     ensures follows { (ts : Stream) → Follows IsSyntax syntax_of_Item rules.kept_item ts (run_plan (function_stage begun) rules.kept_item ts input.old) result input.new }
@@ -43,7 +45,7 @@ pub(super) fn function_or_kept(begun: Begun, input: &mut ParseBuffer<'_>) -> Par
 }
 
 /// What begins with `extern`: an extern crate; without a visibility a foreign module; or a function.
-#[tactic(auto, using(crate::proofs::Plans::extern_read))]
+#[tactic(auto, using(crate::proofs::Kept::only_kept), unfolding(syn_grammar::specs::ItemPlan::extern_crate_plan, syn_grammar::specs::ItemPlan::extern_plan))]
 pub(super) fn behind_extern(begun: Begun, input: &mut ParseBuffer<'_>) -> Parsed<Option<Item>>
     requires outer { all_attributes_syntax begun.attrs.items ≡ attributes_syntax begun.attrs.items }
     ensures follows { (ts : Stream) → Follows IsSyntax syntax_of_Item rules.kept_item ts (run_plan (extern_stage begun) rules.kept_item ts input.old) result input.new }
@@ -56,7 +58,7 @@ pub(super) fn behind_extern(begun: Begun, input: &mut ParseBuffer<'_>) -> Parsed
 }
 
 /// What begins with `unsafe`: a module, a trait, without a visibility an impl or a foreign module, or a function.
-#[tactic(auto, using(crate::proofs::Plans::unsafe_read))]
+#[tactic(auto, using(crate::proofs::Kept::only_kept), unfolding(syn_grammar::specs::ItemPlan::unsafe_plan, syn_grammar::specs::ItemPlan::module_plan))]
 pub(super) fn behind_unsafe(begun: Begun, input: &mut ParseBuffer<'_>) -> Parsed<Option<Item>>
     requires outer { all_attributes_syntax begun.attrs.items ≡ attributes_syntax begun.attrs.items }
     ensures follows { (ts : Stream) → Follows IsSyntax syntax_of_Item rules.kept_item ts (run_plan (unsafe_stage begun) rules.kept_item ts input.old) result input.new }
@@ -78,7 +80,7 @@ pub(super) fn behind_unsafe(begun: Begun, input: &mut ParseBuffer<'_>) -> Parsed
 }
 
 /// A foreign module where no visibility was read and braces stand behind the ABI; else a function.
-#[tactic(auto, using(crate::proofs::Plans::module_or_function_read))]
+#[tactic(auto, using(syn_grammar::proofs::Each::signature_is), unfolding(syn_grammar::specs::ItemPlan::extern_plan, syn_grammar::specs::ItemPlan::unsafe_plan, syn_grammar::specs::ItemPlan::signature_end))]
 fn module_or_function(begun: Begun, input: &mut ParseBuffer<'_>) -> Parsed<Option<Item>>
     requires outer { all_attributes_syntax begun.attrs.items ≡ attributes_syntax begun.attrs.items }
     ensures follows { (ts : Stream) → Follows IsSyntax syntax_of_Item rules.kept_item ts (run_plan (module_or_function_stage begun) rules.kept_item ts input.old) result input.new }
@@ -99,7 +101,7 @@ fn at_foreign_module(input: &ParseBuffer<'_>) -> Parsed<bool> {
 }
 
 /// What begins with `const`: a trait, an impl, a function or a constant.
-#[tactic(auto, using(crate::proofs::Plans::const_read))]
+#[tactic(auto, using(crate::proofs::Kept::only_kept), unfolding(syn_grammar::specs::ItemPlan::behind_const))]
 pub(super) fn behind_const(begun: Begun, input: &mut ParseBuffer<'_>) -> Parsed<Option<Item>>
     requires outer { all_attributes_syntax begun.attrs.items ≡ attributes_syntax begun.attrs.items }
     ensures follows { (ts : Stream) → Follows IsSyntax syntax_of_Item rules.kept_item ts (run_plan (const_stage begun) rules.kept_item ts input.old) result input.new }
@@ -126,7 +128,7 @@ pub(super) fn behind_const(begun: Begun, input: &mut ParseBuffer<'_>) -> Parsed<
 }
 
 /// What begins with `const unsafe`: a trait, an impl or a function.
-#[tactic(auto, using(crate::proofs::Plans::const_unsafe_read))]
+#[tactic(auto, using(crate::proofs::Kept::only_kept), unfolding(syn_grammar::specs::ItemPlan::behind_const, syn_grammar::specs::ItemPlan::abi_and_signature))]
 fn behind_const_unsafe(begun: Begun, input: &mut ParseBuffer<'_>) -> Parsed<Option<Item>>
     requires outer { all_attributes_syntax begun.attrs.items ≡ attributes_syntax begun.attrs.items }
     ensures follows { (ts : Stream) → Follows IsSyntax syntax_of_Item rules.kept_item ts (run_plan (const_stage begun) rules.kept_item ts input.old) result input.new }
@@ -146,7 +148,7 @@ fn behind_const_unsafe(begun: Begun, input: &mut ParseBuffer<'_>) -> Parsed<Opti
 
 /// An impl behind its `const`, and perhaps `unsafe`; `None` where it is kept as its tokens, as behind `pub`. Behind an invisible group that
 /// stands for no visibility there is none.
-#[tactic(auto, using(crate::proofs::Plans::const_impl_read))]
+#[tactic(auto, using(crate::proofs::Kept::only_kept), unfolding(syn_grammar::specs::ItemPlan::const_impl_plan, syn_grammar::specs::ItemPlan::visible_impl))]
 fn const_impl(
     begun: Begun,
     constness: Option<Const>,
@@ -164,7 +166,7 @@ fn const_impl(
 }
 
 /// A constant; `None` where it is kept as its tokens: with generics, with a where clause or without a value.
-#[tactic(auto, using(crate::proofs::Plans::constant_read))]
+#[tactic(auto, using(crate::proofs::Kept::only_kept), unfolding(syn_grammar::specs::ItemPlan::const_plan, syn_grammar::specs::ItemPlan::kept_end))]
 fn const_or_kept(begun: Begun, input: &mut ParseBuffer<'_>) -> Parsed<Option<Item>>
     ensures follows { (ts : Stream) → Follows IsSyntax syntax_of_Item rules.kept_item ts (run_plan (const_or_kept_plan (attributes_syntax begun.attrs.items) (syntax_of_Visibility begun.vis)) rules.kept_item ts input.old) result input.new }
 {

@@ -22,7 +22,7 @@ use syn_recognize::item_looks::{at_in_restriction, at_lone_word};
 use syn_tokens::token::{Brace, Const, For, Unsafe, Where};
 
 /// An impl behind its `const` and `unsafe`, each of them or not; `None` where it is kept as its tokens: of what is no plain path for a type.
-#[tactic(auto, using(crate::proofs::Plans::impl_read))]
+#[tactic(auto, using(crate::proofs::Kept::only_kept), unfolding(syn_grammar::specs::ItemPlan::impl_plan))]
 pub(super) fn impl_behind(
     begun: Begun,
     constness: Option<Const>,
@@ -30,7 +30,7 @@ pub(super) fn impl_behind(
     input: &mut ParseBuffer<'_>,
 ) -> Parsed<Option<Item>>
     requires outer { all_attributes_syntax begun.attrs.items ≡ attributes_syntax begun.attrs.items }
-    ensures follows { (ts : Stream) → Follows IsSyntax syntax_of_Item rules.kept_item ts (run_plan (plan.impl_plan (attributes_syntax begun.attrs.items) absent (maybe const_syntax constness) (maybe unsafe_syntax unsafety)) rules.kept_item ts input.old) result input.new }
+    ensures follows { (ts : Stream) → Follows IsSyntax syntax_of_Item rules.kept_item ts (run_plan (plan.impl_plan (attributes_syntax begun.attrs.items) plan.absent (maybe const_syntax constness) (maybe unsafe_syntax unsafety)) rules.kept_item ts input.old) result input.new }
 {
     let marks = ImplMarks {
         attrs: begun.attrs,
@@ -43,7 +43,7 @@ pub(super) fn impl_behind(
 }
 
 /// An impl that begins with `default`.
-#[tactic(auto, using(crate::proofs::Plans::default_impl_read))]
+#[tactic(auto, using(crate::proofs::Kept::only_kept), unfolding(syn_grammar::specs::ItemPlan::impl_plan))]
 pub(super) fn default_impl(begun: Begun, input: &mut ParseBuffer<'_>) -> Parsed<Option<Item>>
     requires outer { all_attributes_syntax begun.attrs.items ≡ attributes_syntax begun.attrs.items }
     ensures follows { (ts : Stream) → Follows IsSyntax syntax_of_Item rules.kept_item ts (run_plan (default_impl_plan (attributes_syntax begun.attrs.items)) rules.kept_item ts input.old) result input.new }
@@ -59,7 +59,7 @@ pub(super) fn default_impl(begun: Begun, input: &mut ParseBuffer<'_>) -> Parsed<
 }
 
 /// An impl, behind its word; `None` where it is kept as its tokens.
-#[tactic(auto, using(crate::proofs::Plans::impl_generics_read))]
+#[tactic(auto, using(syn_grammar::proofs::Each::generics_is), unfolding(syn_grammar::specs::ItemPlan::impl_generics))]
 fn behind_marks(marks: ImplMarks, input: &mut ParseBuffer<'_>) -> Parsed<Option<Item>>
     requires outer { all_attributes_syntax marks.attrs.items ≡ attributes_syntax marks.attrs.items }
     ensures follows { (ts : Stream) → Follows IsSyntax syntax_of_Item rules.kept_item ts (run_plan (impl_behind_marks marks) rules.kept_item ts input.old) result input.new }
@@ -72,7 +72,7 @@ fn behind_marks(marks: ImplMarks, input: &mut ParseBuffer<'_>) -> Parsed<Option<
 }
 
 /// What begins with `impl`: an impl, or, kept as its tokens, a trait behind a restriction in parentheses. Behind a visibility it is no impl.
-#[tactic(auto, using(crate::proofs::Plans::bare_impl_read))]
+#[tactic(auto, using(crate::proofs::Kept::only_kept), unfolding(syn_grammar::specs::ItemPlan::bare_impl_plan, syn_grammar::specs::ItemPlan::restricted_end))]
 pub(super) fn bare_impl(begun: Begun, input: &mut ParseBuffer<'_>) -> Parsed<Option<Item>>
     requires outer { all_attributes_syntax begun.attrs.items ≡ attributes_syntax begun.attrs.items }
     ensures follows { (ts : Stream) → Follows IsSyntax syntax_of_Item rules.kept_item ts (run_plan (bare_impl_plan_of begun) rules.kept_item ts input.old) result input.new }
@@ -97,7 +97,7 @@ pub(super) fn bare_impl(begun: Begun, input: &mut ParseBuffer<'_>) -> Parsed<Opt
 }
 
 /// An impl of a type in parentheses that hold one word; `None` where these are a trait's restriction, or stand before `for`.
-#[tactic(auto, using(crate::proofs::Plans::impl_of_parentheses_read))]
+#[tactic(auto, using(crate::proofs::Kept::only_kept), unfolding(syn_grammar::specs::ItemPlan::kept_impl, syn_grammar::specs::ItemPlan::restricted_end))]
 fn impl_of_parentheses(marks: ImplMarks, input: &mut ParseBuffer<'_>) -> Parsed<Option<Item>> {
     let types = implemented(input)?;
     if input.peek::<For>() {

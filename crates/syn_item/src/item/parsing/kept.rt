@@ -10,7 +10,7 @@ ghost use Rattle.syn_lower.specs.Attributes.{attributes_syntax};
 ghost use Rattle.syn_lower.specs.Parsing.{IsSyntax};
 ghost use Rattle.syn_tree.specs.Restriction.{syntax_of_Visibility};
 ghost use Rattle.syn_item.specs.Items.{syntax_of_Item};
-ghost use Rattle.syn_item.specs.Planned.{Follows};
+ghost use Rattle.syn_item.specs.Planned.{Follows, IsRead};
 
 use super::Begun;
 use crate::item::Item;
@@ -26,7 +26,7 @@ use syn_tree::item::TypeModifiers;
 
 /// A type alias; `None` where it is kept as its tokens: with a colon behind its generics, or without `=` behind these and a where clause.
 /// Where a clause stands before the `=` and behind the type, what follows the second one is refused.
-#[tactic(auto, using(crate::proofs::Plans::type_read))]
+#[tactic(auto, using(crate::proofs::Kept::only_kept), unfolding(syn_grammar::specs::ItemPlan::type_plan, syn_grammar::specs::ItemPlan::kept_end))]
 pub(super) fn type_or_kept(begun: Begun, input: &mut ParseBuffer<'_>) -> Parsed<Option<Item>>
     ensures follows { (ts : Stream) → Follows IsSyntax syntax_of_Item rules.kept_item ts (run_plan (plan.type_plan (attributes_syntax begun.attrs.items) (syntax_of_Visibility begun.vis)) rules.kept_item ts input.old) result input.new }
 {
@@ -60,7 +60,7 @@ pub(super) fn type_or_kept(begun: Begun, input: &mut ParseBuffer<'_>) -> Parsed<
 }
 
 /// A static; `None` where it is kept as its tokens: without a type, or without a value.
-#[tactic(auto, using(crate::proofs::Plans::static_read))]
+#[tactic(auto, using(crate::proofs::Kept::only_kept), unfolding(syn_grammar::specs::ItemPlan::static_plan, syn_grammar::specs::ItemPlan::kept_end))]
 pub(super) fn static_or_kept(begun: Begun, input: &mut ParseBuffer<'_>) -> Parsed<Option<Item>>
     ensures follows { (ts : Stream) → Follows IsSyntax syntax_of_Item rules.kept_item ts (run_plan (plan.static_plan (attributes_syntax begun.attrs.items) (syntax_of_Visibility begun.vis)) rules.kept_item ts input.old) result input.new }
 {
@@ -93,7 +93,7 @@ pub(super) fn static_or_kept(begun: Begun, input: &mut ParseBuffer<'_>) -> Parse
 }
 
 /// A use; `None` where it is kept as its tokens: of trees in braces of which one has `::` before it.
-#[tactic(auto, using(crate::proofs::Plans::use_read))]
+#[tactic(auto, using(crate::proofs::Kept::only_kept), unfolding(syn_grammar::specs::ItemPlan::use_plan, syn_grammar::specs::ItemPlan::kept_end))]
 pub(super) fn use_or_kept(begun: Begun, input: &mut ParseBuffer<'_>) -> Parsed<Option<Item>>
     ensures follows { (ts : Stream) → Follows IsSyntax syntax_of_Item rules.kept_item ts (run_plan (plan.use_plan (attributes_syntax begun.attrs.items) (syntax_of_Visibility begun.vis)) rules.kept_item ts input.old) result input.new }
 {

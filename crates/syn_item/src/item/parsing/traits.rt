@@ -1,5 +1,6 @@
 //! Traits and trait aliases among items.
-ghost use Rattle.std.specs.Prelude.{◌≡◌, None};
+ghost use Rattle.std.specs.Prelude.{◌≡◌};
+ghost use Rattle.syn_grammar.specs.Grammar.{Left};
 ghost use Rattle.syn_grammar.specs.ItemPlan as plan;
 ghost use Rattle.syn_grammar.specs.Plan.{run_plan};
 ghost use Rattle.syn_grammar.specs.Rules as rules;
@@ -21,7 +22,7 @@ use syn_parse::read::refusal::Parsed;
 use syn_tokens::token::{Const, Eq, Unsafe};
 
 /// A trait behind its `const` and `unsafe`, each of them or not.
-#[tactic(auto, using(crate::proofs::Plans::trait_read))]
+#[tactic(auto, using(syn_grammar::proofs::Each::bare_trait_is), unfolding(syn_grammar::specs::ItemPlan::trait_plan, syn_grammar::specs::ItemPlan::trait_end))]
 pub(super) fn trait_behind(
     begun: Begun,
     constness: Option<Const>,
@@ -42,7 +43,7 @@ pub(super) fn trait_behind(
 }
 
 /// A trait or a trait alias, which begins with `trait`.
-#[tactic(auto, using(crate::proofs::Plans::trait_or_alias_read))]
+#[tactic(auto, using(crate::proofs::Kept::only_kept), unfolding(syn_grammar::specs::ItemPlan::trait_or_alias, syn_grammar::specs::ItemPlan::trait_end))]
 pub(super) fn trait_or_alias(begun: Begun, input: &mut ParseBuffer<'_>) -> Parsed<Option<Item>>
     requires outer { all_attributes_syntax begun.attrs.items ≡ attributes_syntax begun.attrs.items }
     ensures follows { (ts : Stream) → Follows IsSyntax syntax_of_Item rules.kept_item ts (run_plan (plan.trait_or_alias (attributes_syntax begun.attrs.items) (syntax_of_Visibility begun.vis)) rules.kept_item ts input.old) result input.new }
@@ -57,7 +58,7 @@ pub(super) fn trait_or_alias(begun: Begun, input: &mut ParseBuffer<'_>) -> Parse
 }
 
 /// The same behind `const`; `None` where it is kept as its tokens: as an alias.
-#[tactic(auto, using(crate::proofs::Plans::const_trait_read))]
+#[tactic(auto, using(crate::proofs::Kept::only_kept), unfolding(syn_grammar::specs::ItemPlan::const_trait_or_alias, syn_grammar::specs::ItemPlan::trait_end, syn_grammar::specs::ItemPlan::kept_end))]
 pub(super) fn const_trait(
     begun: Begun,
     const_token: Const,

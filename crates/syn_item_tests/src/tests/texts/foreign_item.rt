@@ -17,7 +17,10 @@ pub const READ: &[(&str, &str)] = &[
     ("const safe fn f();", "const safe fn f ( ) ;"),
     ("extern \"C\" fn f();", "extern \"C\" fn f ( ) ;"),
     ("safe extern \"C\" fn f();", "safe extern \"C\" fn f ( ) ;"),
-    ("unsafe extern fn f() { #![a] }", "unsafe extern fn f ( ) { #! [ a ] }"),
+    (
+        "unsafe extern fn f() { #![a] }",
+        "unsafe extern fn f ( ) { #! [ a ] }",
+    ),
     ("static A: u8;", "static A : u8 ;"),
     ("static mut A: u8;", "static mut A : u8 ;"),
     ("safe static A: u8;", "safe static A : u8 ;"),
@@ -50,7 +53,10 @@ pub const READ: &[(&str, &str)] = &[
     ("default::m!{}", "default :: m ! { }"),
     ("#[a] fn f();", "# [ a ] fn f ( ) ;"),
     ("#[a] static A: u8;", "# [ a ] static A : u8 ;"),
-    ("pub(in a) fn f<T>(a: T) -> T where T: B;", "pub ( in a ) fn f < T > ( a : T ) -> T where T : B ;"),
+    (
+        "pub(in a) fn f<T>(a: T) -> T where T: B;",
+        "pub ( in a ) fn f < T > ( a : T ) -> T where T : B ;",
+    ),
     ("fn f(self);", "fn f ( self ) ;"),
     ("union!{}", "union ! { }"),
     ("m![];", "m ! [ ] ;"),
@@ -71,12 +77,27 @@ pub const READ: &[(&str, &str)] = &[
     ("fn a ( self: b ){ ;}", "fn a ( self : b ) { ; }"),
     ("static zA: u8u8q = 1;", "static zA : u8u8q = 1 ;"),
     ("type A = C where T: B;", "type A = C where T : B ;"),
-    ("pub type A<T> where T: B;", "pub type A < T > where T : B ;"),
+    (
+        "pub type A<T> where T: B;",
+        "pub type A < T > where T : B ;",
+    ),
     ("type Ax where _T: _B = Cx;", "type Ax where _T : _B = Cx ;"),
-    ("T\n!\n[ c { 'static\n} { $\na } ] ;", "T ! [ c { 'static } { $ a } ] ;"),
-    ("static\nT\n: & mut x :: <\nx , > ;", "static T : & mut x :: < x , > ;"),
-    ("const async safe extern \"C\" fn f();", "const async safe extern \"C\" fn f ( ) ;"),
-    ("# [ unsafe [ , ] ] safe static T : A ;", "# [ unsafe [ , ] ] safe static T : A ;"),
+    (
+        "T\n!\n[ c { 'static\n} { $\na } ] ;",
+        "T ! [ c { 'static } { $ a } ] ;",
+    ),
+    (
+        "static\nT\n: & mut x :: <\nx , > ;",
+        "static T : & mut x :: < x , > ;",
+    ),
+    (
+        "const async safe extern \"C\" fn f();",
+        "const async safe extern \"C\" fn f ( ) ;",
+    ),
+    (
+        "# [ unsafe [ , ] ] safe static T : A ;",
+        "# [ unsafe [ , ] ] safe static T : A ;",
+    ),
 ];
 
 /// What is refused, with the byte where.

@@ -16,20 +16,38 @@ pub const READ: &[(&str, &str)] = &[
     ("extern \"C\" fn f();", "extern \"C\" fn f ( ) ;"),
     ("unsafe extern fn f() {}", "unsafe extern fn f ( ) { }"),
     ("unsafe extern fn f();", "unsafe extern fn f ( ) ;"),
-    ("const async unsafe extern \"C\" fn f<T>(self) -> T where T: A {}", "const async unsafe extern \"C\" fn f < T > ( self ) -> T where T : A { }"),
-    ("const async unsafe extern \"C\" fn f<T>(self) -> T where T: A;", "const async unsafe extern \"C\" fn f < T > ( self ) -> T where T : A ;"),
+    (
+        "const async unsafe extern \"C\" fn f<T>(self) -> T where T: A {}",
+        "const async unsafe extern \"C\" fn f < T > ( self ) -> T where T : A { }",
+    ),
+    (
+        "const async unsafe extern \"C\" fn f<T>(self) -> T where T: A;",
+        "const async unsafe extern \"C\" fn f < T > ( self ) -> T where T : A ;",
+    ),
     ("const A: u8 = 1;", "const A : u8 = 1 ;"),
     ("const A: u8;", "const A : u8 ;"),
     ("const _: u8 = 1;", "const _ : u8 = 1 ;"),
     ("const A<T>: u8 = 1;", "const A < T >: u8 = 1 ;"),
-    ("const A: u8 = 1 where T: B;", "const A : u8 = 1 where T : B ;"),
+    (
+        "const A: u8 = 1 where T: B;",
+        "const A : u8 = 1 where T : B ;",
+    ),
     ("const A: u8 where T: B;", "const A : u8 where T : B ;"),
     ("pub const A: u8 = 1;", "pub const A : u8 = 1 ;"),
     ("default const A: u8 = 1;", "default const A : u8 = 1 ;"),
-    ("pub default const A: u8 = 1;", "pub default const A : u8 = 1 ;"),
-    ("pub(crate) default const A<T>: u8;", "pub ( crate ) default const A < T >: u8 ;"),
+    (
+        "pub default const A: u8 = 1;",
+        "pub default const A : u8 = 1 ;",
+    ),
+    (
+        "pub(crate) default const A<T>: u8;",
+        "pub ( crate ) default const A < T >: u8 ;",
+    ),
     ("type A = B;", "type A = B ;"),
-    ("pub type A<T> = B where T: C;", "pub type A < T > = B where T : C ;"),
+    (
+        "pub type A<T> = B where T: C;",
+        "pub type A < T > = B where T : C ;",
+    ),
     ("default type A = B;", "default type A = B ;"),
     ("type A;", "type A ;"),
     ("type A: B;", "type A : B ;"),
@@ -37,7 +55,10 @@ pub const READ: &[(&str, &str)] = &[
     ("type A where T: B;", "type A where T : B ;"),
     ("pub default type A: B;", "pub default type A : B ;"),
     ("default fn f() {}", "default fn f ( ) { }"),
-    ("pub default unsafe fn f() {}", "pub default unsafe fn f ( ) { }"),
+    (
+        "pub default unsafe fn f() {}",
+        "pub default unsafe fn f ( ) { }",
+    ),
     ("default fn f();", "default fn f ( ) ;"),
     ("pub fn f() { #![a] 1 }", "pub fn f ( ) { # ! [ a ] 1 }"),
     ("#[a] fn f() { #![b] }", "# [ a ] fn f ( ) { # ! [ b ] }"),
@@ -49,7 +70,10 @@ pub const READ: &[(&str, &str)] = &[
     ("default!();", "default ! ( ) ;"),
     ("crate::m!{}", "crate :: m ! { }"),
     ("default async fn f() {}", "default async fn f ( ) { }"),
-    ("pub const async unsafe extern \"C\" fn f(&mut self) {}", "pub const async unsafe extern \"C\" fn f ( & mut self ) { }"),
+    (
+        "pub const async unsafe extern \"C\" fn f(&mut self) {}",
+        "pub const async unsafe extern \"C\" fn f ( & mut self ) { }",
+    ),
     ("union!{}", "union ! { }"),
     ("safe!();", "safe ! ( ) ;"),
     ("m![];", "m ! [ ] ;"),
@@ -69,13 +93,28 @@ pub const READ: &[(&str, &str)] = &[
     ("pub fn fx(&self) {}", "pub fn fx ( & self ) { }"),
     ("mmq!(=> $xxq , ; #);", "mmq ! ( => $ xxq , ; # ) ;"),
     ("type T = & 'static b ;", "type T = & 'static b ;"),
-    ("#[ax] fn ffq() { #![_b] }", "# [ ax ] fn ffq ( ) { # ! [ _b ] }"),
+    (
+        "#[ax] fn ffq() { #![_b] }",
+        "# [ ax ] fn ffq ( ) { # ! [ _b ] }",
+    ),
     ("const AAq:  _u8 =\n1 where;", "const AAq : _u8 = 1 where ;"),
     ("pub ( in r#self ) type a ;", "pub ( in r#self ) type a ;"),
-    ("pub default const _: u8 = 1;", "pub default const _ : u8 = 1 ;"),
-    ("pub const _A<Tx>: _u8 = 1;\n/* e */\n", "pub const _A < Tx >: _u8 = 1 ;"),
-    ("pub default type A<T>: B + C where T: D;", "pub default type A < T >: B + C where T : D ;"),
-    ("U ::macro_rules ::A !\n{:: {\n::$ 'static {..} } .>}", "U :: macro_rules :: A ! { :: { ::$ 'static { .. } } .> }"),
+    (
+        "pub default const _: u8 = 1;",
+        "pub default const _ : u8 = 1 ;",
+    ),
+    (
+        "pub const _A<Tx>: _u8 = 1;\n/* e */\n",
+        "pub const _A < Tx >: _u8 = 1 ;",
+    ),
+    (
+        "pub default type A<T>: B + C where T: D;",
+        "pub default type A < T >: B + C where T : D ;",
+    ),
+    (
+        "U ::macro_rules ::A !\n{:: {\n::$ 'static {..} } .>}",
+        "U :: macro_rules :: A ! { :: { ::$ 'static { .. } } .> }",
+    ),
 ];
 
 /// What is refused, with the byte where.

@@ -7,19 +7,37 @@ pub const READ: &[(&str, &str)] = &[
     ("unsafe trait A {}", "unsafe trait A { }"),
     ("auto trait A {}", "auto trait A { }"),
     ("const trait A {}", "const trait A { }"),
-    ("pub(crate) const unsafe auto trait A<T>: B + C where T: D {}", "pub ( crate ) const unsafe auto trait A < T > : B + C where T : D { }"),
+    (
+        "pub(crate) const unsafe auto trait A<T>: B + C where T: D {}",
+        "pub ( crate ) const unsafe auto trait A < T > : B + C where T : D { }",
+    ),
     ("trait A: {}", "trait A { }"),
     ("trait A: B {}", "trait A : B { }"),
     ("trait A: B + 'a + {}", "trait A : B + 'a + { }"),
     ("trait A: ?B {}", "trait A : ? B { }"),
-    ("trait A: for<'a> B<'a> {}", "trait A : for < 'a > B < 'a > { }"),
+    (
+        "trait A: for<'a> B<'a> {}",
+        "trait A : for < 'a > B < 'a > { }",
+    ),
     ("trait A where {}", "trait A { }"),
     ("trait A: where T: B {}", "trait A where T : B { }"),
     ("trait A { #![a] }", "trait A { # ! [ a ] }"),
-    ("#[a] trait A { #![b] fn f(); }", "# [ a ] trait A { # ! [ b ] fn f ( ) ; }"),
-    ("trait A { fn f(); fn g() {} const B: u8; type C; m!{} }", "trait A { fn f ( ) ; fn g ( ) { } const B : u8 ; type C ; m ! { } }"),
-    ("trait A { pub fn f(); default fn g() {} const B<T>: u8; }", "trait A { pub fn f ( ) ; default fn g ( ) { } const B < T >: u8 ; }"),
-    ("trait A<'a, T: 'a, const N: usize> {}", "trait A < 'a , T : 'a , const N : usize > { }"),
+    (
+        "#[a] trait A { #![b] fn f(); }",
+        "# [ a ] trait A { # ! [ b ] fn f ( ) ; }",
+    ),
+    (
+        "trait A { fn f(); fn g() {} const B: u8; type C; m!{} }",
+        "trait A { fn f ( ) ; fn g ( ) { } const B : u8 ; type C ; m ! { } }",
+    ),
+    (
+        "trait A { pub fn f(); default fn g() {} const B<T>: u8; }",
+        "trait A { pub fn f ( ) ; default fn g ( ) { } const B < T >: u8 ; }",
+    ),
+    (
+        "trait A<'a, T: 'a, const N: usize> {}",
+        "trait A < 'a , T : 'a , const N : usize > { }",
+    ),
     ("unsafe auto trait A {}", "unsafe auto trait A { }"),
     ("const auto trait A {}", "const auto trait A { }"),
     ("trait A: (B) {}", "trait A : ( B ) { }"),
@@ -40,13 +58,34 @@ pub const READ: &[(&str, &str)] = &[
     ("trait zA: zB + {} // e", "trait zA : zB + { }"),
     ("pub ( crate ) trait S { }", "pub ( crate ) trait S { }"),
     ("trait Ax: where T1: B1 {}", "trait Ax where T1 : B1 { }"),
-    ("unsafe trait S\n< r#self : >{ }", "unsafe trait S < r#self > { }"),
-    ("trait _A: for<'aaq> Bx<'aaq> {}", "trait _A : for < 'aaq > Bx < 'aaq > { }"),
-    ("pub trait a < T : r#fn , B > { }", "pub trait a < T : r#fn , B > { }"),
-    ("auto trait B :\ncrate\n{\ntype foo ; }", "auto trait B : crate { type foo ; }"),
-    ("trait A1: zB + where zT: _C {} // e", "trait A1 : zB + where zT : _C { }"),
-    ("trait A : '_ + { :: T ! [ 'c' = ] ; }", "trait A : '_ + { :: T ! [ 'c' = ] ; }"),
-    ("trait _A<zT>\nwhere zT: BBq\n{ /**/ fn fx(); }", "trait _A < zT > where zT : BBq { fn fx ( ) ; }"),
+    (
+        "unsafe trait S\n< r#self : >{ }",
+        "unsafe trait S < r#self > { }",
+    ),
+    (
+        "trait _A: for<'aaq> Bx<'aaq> {}",
+        "trait _A : for < 'aaq > Bx < 'aaq > { }",
+    ),
+    (
+        "pub trait a < T : r#fn , B > { }",
+        "pub trait a < T : r#fn , B > { }",
+    ),
+    (
+        "auto trait B :\ncrate\n{\ntype foo ; }",
+        "auto trait B : crate { type foo ; }",
+    ),
+    (
+        "trait A1: zB + where zT: _C {} // e",
+        "trait A1 : zB + where zT : _C { }",
+    ),
+    (
+        "trait A : '_ + { :: T ! [ 'c' = ] ; }",
+        "trait A : '_ + { :: T ! [ 'c' = ] ; }",
+    ),
+    (
+        "trait _A<zT>\nwhere zT: BBq\n{ /**/ fn fx(); }",
+        "trait _A < zT > where zT : BBq { fn fx ( ) ; }",
+    ),
 ];
 
 /// What is refused, with the byte where.
@@ -86,7 +125,16 @@ pub const REFUSED: &[(&str, usize)] = &[
     ("trait>default<>:where'static:'a[]", 5),
     ("trait A: B where T: C where U: D {}", 22),
     ("trait T : default ( ) -unsafe > ? A where 'a : , { }", 22),
-    ("pub ( ; crate ) const unsafe trait b < 'static , x , 'a , > { }", 4),
-    ("pub unsafe auto\ntrait S where : : a\n< A , b = raw > : , Self :\nraw\n+ 'a { }", 30),
-    ("# [ unsafe { union '_ r#fn } ] pub ( super ) unsafe trait x < - b : '_ > { }", 62),
+    (
+        "pub ( ; crate ) const unsafe trait b < 'static , x , 'a , > { }",
+        4,
+    ),
+    (
+        "pub unsafe auto\ntrait S where : : a\n< A , b = raw > : , Self :\nraw\n+ 'a { }",
+        30,
+    ),
+    (
+        "# [ unsafe { union '_ r#fn } ] pub ( super ) unsafe trait x < - b : '_ > { }",
+        62,
+    ),
 ];
