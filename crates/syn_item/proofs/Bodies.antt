@@ -1,15 +1,18 @@
 -- The attributes of what has a body: outer ones, and inner ones behind them.
 use Rattle.std.proofs.Common.{◌≡◌, ℕ, zero, suc, Bool, true, false, List, [], ◌∷◌, ◌++◌, Some, None, refl, sym, ap, ◌∙◌, true≢false}
+use Rattle.std.specs.Prelude.{Option}
 use Rattle.syn_grammar.specs.Words.{exclamation, pound}
-use Rattle.syn_grammar.specs.Tokens.{Stream, Bracket, and, no, pick}
-use Rattle.syn_grammar.specs.Rules.{inner_attributes, meta}
-use Rattle.syn_grammar.specs.Grammar.{Syntax, Nothing, Both, Left, Right, Node, Unshown, Grammar, ◌&◌, inside, rule}
+use Rattle.syn_grammar.specs.Tokens.{Delimiter, Stream, Brace, Bracket, and, no, pick}
+use Rattle.syn_grammar.specs.Rules.{Rule, body, inner_attributes, items, meta, statements}
+use Rattle.syn_grammar.specs.Grammar.{Syntax, Nothing, Both, Left, Right, Node, Group, Unshown, Grammar, ◌&◌, inside, rule}
 use Rattle.syn_grammar.specs.Forms.{asking_punctuation, punctuation}
 use Rattle.syn_grammar.specs.Table.{at_inner_attribute}
-use Rattle.syn_grammar.specs.Take.{Out, sees}
-use Rattle.syn_grammar.specs.Run.{wrap, and_then, branch, run, runs, parse_rule}
+use Rattle.syn_grammar.specs.Take.{Opened, Out, Parser, is_end, only, sees, take_group}
+use Rattle.syn_grammar.specs.Run.{wrap, and_then, branch, close, run, runs, parse_form, parse_rule, within}
+use Rattle.syn_grammar.proofs.Each.{body_is}
 use Rattle.syn_grammar.proofs.Takes.{TreeAndRest}
 use Rattle.syn_tokens.specs.InOrder.{in_order}
+use Rattle.syn_recognize.specs.DeferredTokens.{whole_only}
 use Rattle.syn_lower.specs.Attributes.{all_attributes_syntax, all_listed, attributes_syntax, every, inner_attributes_syntax, inner_listed, is_inner, is_outer, none_listed, outer_listed, shown_before, syntax_of_Attribute}
 use Rattle.syn_lower.specs.declared.attr.Attribute.{Attribute}
 use Rattle.syn_lower.specs.Bodies.{attributes_before_body, attributes_in_body, listed_before, listed_inside, outer_first}
@@ -161,3 +164,30 @@ unfolding listed_inside inner_listed
 inner_stand_inside ts l m r o i =
     let h = inner_read ts m r i in
     i ∙ ap (λ s. Some (s, r)) (ap (λ b. shown_before is_inner (pick b Nothing (all m)) (all m)) h ∙ sym (inner_front l m (outer_of l o)))
+
+-- IN BRACES, behind the attributes, the rest is read to the end
+
+behind_closed : (d : Delimiter) (g : Opened) (f : Syntax → Syntax) (o : Out) → close d g (wrap f o) ≡ close d g (wrap f (whole_only o))
+behind_closed d g f None = refl
+behind_closed d g f (Some p) = go (is_end p.1) refl
+  where
+    go : (b : Bool) → is_end p.1 ≡ b → close d g (Some (f p.0, p.1)) ≡ close d g (wrap f (only b (Some p)))
+    go true e = refl
+    go false e = ap (λ b. only b (Some (Group d g.opening g.closing (f p.0), g.rest))) e
+
+abbrev to_end : Rule → Parser
+to_end k m = whole_only (parse_rule k m)
+
+behind_attributes : (k : Rule) (o : Option Opened) → within Brace o (λ i. and_then (parse_rule inner_attributes i) (parse_rule k)) ≡ within Brace o (λ i. and_then (parse_rule inner_attributes i) (to_end k))
+behind_attributes k None = refl
+behind_attributes k (Some g) = go (parse_rule inner_attributes g.content)
+  where
+    go : (o : Out) → close Brace g (and_then o (parse_rule k)) ≡ close Brace g (and_then o (to_end k))
+    go None = refl
+    go (Some p) = behind_closed Brace g (Both p.0) (parse_rule k p.1)
+
+pub body_read : (ts : Stream) → parse_rule body ts ≡ wrap Node (within Brace (take_group Brace ts) (λ i. and_then (parse_rule inner_attributes i) (to_end statements)))
+body_read ts = body_is ts ∙ ap (wrap Node) (behind_attributes statements (take_group Brace ts))
+
+pub items_read : (ts : Stream) → parse_form (inside Brace (rule inner_attributes & rule items)) ts ≡ within Brace (take_group Brace ts) (λ i. and_then (parse_rule inner_attributes i) (to_end items))
+items_read ts = behind_attributes items (take_group Brace ts)

@@ -1,3 +1,4 @@
+pub mod Aliases
 pub mod Arguments
 pub mod Bodies
 pub mod BoundLists

@@ -1,5 +1,6 @@
 -- Receivers, and parameters alone.
-use Rattle.std.proofs.Common.{◌≡◌, Bool, true, false, Some, None, refl, sym, ap, ◌∙◌}
+use Rattle.std.proofs.Common.{◌≡◌, Bool, true, false, List, [], ◌∷◌, Some, None, refl, sym, ap, ◌∙◌}
+use Rattle.std.specs.Prelude.{Option}
 use Rattle.syn_grammar.specs.Words.{w_self}
 use Rattle.syn_grammar.specs.Tokens.{Stream, Before_less, pick}
 use Rattle.syn_grammar.specs.Rules.{argument, attributes, no_attributes, pattern, receiver, receiver_rest, type}
@@ -9,11 +10,14 @@ use Rattle.syn_grammar.specs.Table.{at_colons, at_pound, at_receiver}
 use Rattle.syn_grammar.specs.Take.{Out, Parser, sees, take_token}
 use Rattle.syn_grammar.specs.Run.{and_then, branch, parse_form, parse_rule, wrap}
 use Rattle.syn_grammar.proofs.Each.{argument_is, no_attributes_is, receiver_is}
+use Rattle.syn_tokens.specs.Kinds.{Comma, comma_syntax}
+use Rattle.syn_tokens.specs.Listing.{list_of}
 use Rattle.syn_lower.specs.Attributes.{none_listed}
 use Rattle.syn_lower.specs.Parameters.{after}
 use Rattle.syn_pat.specs.Patterns.{behind_attributes}
 use Rattle.syn_item.specs.SignatureForms.{argument_behind, kind_form, named_pattern, own_self_form, typed_as, typed_parameter, with_attributes}
-use Rattle.syn_item.specs.Signatures.{receiver_argument, typed_argument}
+use Rattle.syn_item.specs.Signatures.{comma_behind, first_receiver, receiver_argument, receiver_of, syntax_of_FnArg, typed_argument}
+use Rattle.syn_item.specs.declared.sig.FnArg.TheVariants as FnArg-m
 use Rattle.syn_item.proofs.Supplied.{supplied_is, with_name}
 
 -- A RECEIVER ALONE: no attribute stands before it
@@ -84,3 +88,41 @@ argument_by ts = argument_is ts ∙ go (parse_rule attributes ts)
     go : (o : Out) → wrap Node (and_then o (λ m. branch (sees at_receiver m) (parse_rule receiver_rest m) (parse_form (supplied Before_less (rule pattern) (rule type)) m))) ≡ after o argument_behind
     go None = refl
     go (Some p) = turn p.0 p.1 (sees at_receiver p.1)
+
+-- THE RECEIVER OF A SIGNATURE is its first parameter, where that is one
+
+abbrev Pairs : Type 0
+Pairs = List (FnArg-m.the_data × Comma)
+
+receiver_told : (s : Syntax) → receiver_of (receiver_argument s) ≡ Some s
+receiver_told (Node (Both attrs receiver)) = refl
+receiver_told s = refl
+
+typed_told : (s : Syntax) → receiver_of (typed_argument s) ≡ None
+typed_told (Both pat (Left (Both colon ty))) = refl
+typed_told (Both attrs (Both pat (Left (Both colon ty)))) = refl
+typed_told s = refl
+
+-- a comma behind the last one changes nothing of it
+pub comma_aside : (s : Syntax) → first_receiver (comma_behind s) ≡ first_receiver s
+comma_aside (Node (Right (Both x (Right Nothing)))) = refl
+comma_aside (Node (Right (Both x (Left (Both sign l))))) = refl
+comma_aside s = refl
+
+-- the first of a list
+abbrev pub first_of_list : Pairs → Option FnArg-m.the_data → Option FnArg-m.the_data
+first_of_list (x ∷ l) last = Some x.0
+first_of_list [] last = last
+
+abbrev pub as_receiver : Option FnArg-m.the_data → Option Syntax
+as_receiver (Some (FnArg-m.Receiver s)) = Some s
+as_receiver _ = None
+
+of_argument : (x : FnArg-m.the_data) → receiver_of (syntax_of_FnArg x) ≡ as_receiver (Some x)
+of_argument (FnArg-m.Receiver s) = receiver_told s
+of_argument (FnArg-m.Typed s) = typed_told s
+
+pub receiver_listed : (l : Pairs) (last : Option FnArg-m.the_data) → first_receiver (list_of syntax_of_FnArg comma_syntax l last) ≡ as_receiver (first_of_list l last)
+receiver_listed (x ∷ l) last = of_argument x.0
+receiver_listed [] (Some x) = of_argument x
+receiver_listed [] None = refl

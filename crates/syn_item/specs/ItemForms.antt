@@ -1,5 +1,5 @@
 -- HOW ITEMS WITHOUT MEMBERS ARE READ, part by part.
-use Rattle.std.specs.Prelude.{Option, List, [], ◌∷◌, Some, None, ⊥}
+use Rattle.std.specs.Prelude.{Bool, true, false, Option, List, [], ◌∷◌}
 use Rattle.syn_grammar.specs.Words.{colon, equals, semicolon, w_as, w_const, w_crate, w_extern, w_mod, w_mut, w_self, w_static, w_try, w_type}
 use Rattle.syn_grammar.specs.Tokens.{Brace, at_word}
 use Rattle.syn_grammar.specs.Rules.{alias_bounds, generics, inner_attributes, items, type, where_clause, whole_expression}
@@ -21,7 +21,7 @@ use Rattle.syn_lower.specs.Types.{syntax_of_Type}
 use Rattle.syn_lower.specs.declared.attr.Attribute.{Attribute}
 use Rattle.syn_lower.specs.declared.bounds.TypeParamBound.TheVariants as TypeParamBound-m
 use Rattle.syn_tree.specs.Derive.{item_of}
-use Rattle.syn_item.specs.Simple.{aliased, content_syntax, early, late, module_content, syntax_of_WhereClausePlacement}
+use Rattle.syn_item.specs.Simple.{aliased, content_syntax, module_content, syntax_of_WhereClausePlacement}
 use Rattle.syn_item.specs.declared.simple.WhereClausePlacement.TheVariants as WhereClausePlacement-m
 use Rattle.syn_item.specs.declared.simple.aliases.Aliased.{Aliased}
 
@@ -52,14 +52,10 @@ type_form = unshown & plainly (word w_type) & plainly name & rule generics & uns
 abbrev pub aliased_syntax : Aliased → Syntax
 aliased_syntax a = aliased (syntax_of_WhereClausePlacement a.placement) (where_part a.where_clause) (eq_syntax a.eq_token) (syntax_of_Type a.ty.value)
 
--- a clause where it is placed, and none at the other place
-abbrev pub placed : WhereClausePlacement-m.the_data → Syntax → Syntax
-placed place clause = Both (early (syntax_of_WhereClausePlacement place) clause) (late (syntax_of_WhereClausePlacement place) clause)
-
--- a clause stands at both places
-abbrev pub BothStand : Option Syntax → Option Syntax → Type 0
-BothStand (Some _) (Some _) = Unit {0}
-BothStand _ _ = ⊥
+-- the place of a clause that stands behind the type (true), or before it
+abbrev pub place_by : Bool → WhereClausePlacement-m.the_data
+place_by true = WhereClausePlacement-m.Late
+place_by false = WhereClausePlacement-m.Early
 
 -- TRAIT ALIASES behind their generics
 

@@ -93,9 +93,15 @@ view_Signature a =
     (Both (group_syntax Paren a.paren_token (parameters_of (list_of syntax_of_FnArg comma_syntax a.inputs.pairs a.inputs.last) (maybe itself a.variadic)))
     (Both (syntax_of_ReturnType a.output) (clause_of a.generics)))))))))))
 
--- the first of these parameters, where it is a receiver
+-- this parameter, where it is a receiver
+abbrev pub receiver_of : Syntax → Option Syntax
+receiver_of (Node (Both attrs (Left receiver))) = Some (Node (Both attrs receiver))
+receiver_of (Left receiver) = Some receiver
+receiver_of s = None
+
+-- the first of these parameters, where it is one
 abbrev pub first_receiver : Syntax → Option Syntax
-first_receiver (Node (Right (Both (Node (Both attrs (Left receiver))) more))) = Some (Node (Both attrs receiver))
+first_receiver (Node (Right (Both x more))) = receiver_of x
 first_receiver s = None
 
 -- the receiver of a signature

@@ -1,8 +1,6 @@
 //! Parsers of bodies: of what stands in braces, with the inner attributes at its beginning.
 ghost use Rattle.std.specs.Prelude.{◌≡◌, IfOk};
 ghost use Rattle.syn_grammar.specs.Rules as rules;
-ghost use Rattle.syn_grammar.specs.Grammar.{Both};
-ghost use Rattle.syn_grammar.specs.Run.{wrap};
 ghost use Rattle.syn_lower.specs.Attributes.{all_attributes_syntax, attributes_syntax, inner_attributes_syntax};
 ghost use Rattle.syn_lower.specs.Bodies.{attributes_before_body, attributes_in_body, body as body_syntax};
 ghost use Rattle.syn_lower.specs.Parsing.{parse_rule, Computes, Moved, Kept, IsSyntax};
@@ -32,7 +30,7 @@ pub(crate) fn with_inner(
 }
 
 /// A body: inner attributes and statements in braces. The inner attributes stand behind these outer ones in the list that is answered.
-#[tactic(auto, using(syn_grammar::proofs::Each::body_is), unfolding(syn_grammar::specs::Take::is_end))]
+#[tactic(auto, using(crate::proofs::Bodies::body_read), unfolding(syn_grammar::specs::Take::is_end))]
 pub(crate) fn body(
     attrs: Vec<Attribute>,
     input: &mut ParseBuffer<'_>,

@@ -110,6 +110,7 @@ pub struct Variadic {
 
 impl Signature {
     /// What the method is called on: the first parameter, where it is a receiver.
+    #[tactic(auto, using(crate::proofs::Receivers::comma_aside, crate::proofs::Receivers::receiver_listed))]
     pub fn receiver(&self) -> Option<&Receiver>
         ensures { option_copied result ≡ receiver_in self.now }
     {

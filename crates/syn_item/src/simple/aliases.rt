@@ -1,5 +1,6 @@
 //! Parsers of type aliases and trait aliases.
-ghost use Rattle.std.specs.Prelude.{◌≡◌, codes, MatchOption};
+ghost use Rattle.std.specs.Prelude.{◌≡◌, codes};
+ghost use Rattle.syn_grammar.specs.Tokens.{pick};
 ghost use Rattle.syn_grammar.specs.Rules as rules;
 ghost use Rattle.syn_grammar.specs.Table as table;
 ghost use Rattle.syn_grammar.specs.Grammar.{Both};
@@ -12,7 +13,7 @@ ghost use Rattle.syn_lower.specs.Generics.{where_part};
 ghost use Rattle.syn_lower.specs.Parsing.{of, rule, list_of, meaning_of_rule, parse_form, parse_rule, Computes, Kept, Moved, itself, IsSyntax};
 ghost use Rattle.syn_tree.specs.Derive.{item_of};
 ghost use Rattle.syn_tree.specs.Restriction.{syntax_of_Visibility};
-ghost use Rattle.syn_item.specs.ItemForms.{BothStand, aliased_form, aliased_syntax, bounds_end_form, bounds_end_syntax, placed, type_form};
+ghost use Rattle.syn_item.specs.ItemForms.{aliased_form, aliased_syntax, bounds_end_form, bounds_end_syntax, place_by, type_form};
 
 use crate::simple::{ItemTraitAlias, ItemType, WhereClausePlacement};
 use syn_lower::attr::outer_attributes;
@@ -89,18 +90,22 @@ struct Aliased {
     where_clause: Option<WhereClause>,
 }
 
-/// `=` and a type, with a where clause before them or behind them.
+/// `=` and a type, with a where clause before them or behind them. Where none stands, its place is before them.
+#[tactic(auto, using(crate::proofs::Aliases::alias_read, syn_lower::proofs::WhereClauses::none_clause))]
 fn aliased(input: &mut ParseBuffer<'_>) -> Parsed<Aliased>
     ensures reads { Computes IsSyntax aliased_syntax (parse_form aliased_form input.old) result input.new }
     ensures moved { Moved input.old result input.new }
 {
+    let is_early = input.peek::<Where>();
     let early = where_clause(input)?;
     let eq_token = input.read()?;
     let ty = input.read()?;
+    let is_late = input.peek::<Where>();
     let late = where_clause(input)?;
-    let Some((placement, where_clause)) = one_clause(early, late) else {
+    if is_early && is_late {
         return Err(input.refusal("unexpected token"));
-    };
+    }
+    let (placement, where_clause) = placed(is_late, early, late);
     Ok(Aliased {
         eq_token,
         ty,
@@ -109,18 +114,19 @@ fn aliased(input: &mut ParseBuffer<'_>) -> Parsed<Aliased>
     })
 }
 
-/// The one of these clauses that stands, and its place, which is early where none stands. `None` where both stand.
-pub(crate) fn one_clause(
+/// The clause that stands, and its place.
+pub(crate) fn placed(
+    is_late: bool,
     early: Option<WhereClause>,
     late: Option<WhereClause>,
-) -> Option<(WhereClausePlacement, Option<WhereClause>)>
-    ensures { MatchOption result (BothStand early late) (λ p. placed p.0 (where_part p.1) ≡ Both (where_part early) (where_part late)) }
+) -> (WhereClausePlacement, Option<WhereClause>)
+    ensures place { result.0 ≡ place_by is_late }
+    ensures clause { where_part result.1 ≡ pick is_late (where_part late) (where_part early) }
 {
-    match (early, late) {
-        (Some(_early), Some(_late)) => None,
-        (Some(clause), None) => Some((WhereClausePlacement::Early, Some(clause))),
-        (None, Some(clause)) => Some((WhereClausePlacement::Late, Some(clause))),
-        (None, None) => Some((WhereClausePlacement::Early, None)),
+    if is_late {
+        (WhereClausePlacement::Late, late)
+    } else {
+        (WhereClausePlacement::Early, early)
     }
 }
 

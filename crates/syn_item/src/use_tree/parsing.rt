@@ -1,7 +1,8 @@
 //! Parsers of uses and their trees. A tree holds trees: each parser is told what reads one inside, and the knot at the end closes the
 //! circle.
-ghost use Rattle.std.specs.Prelude.{◌≡◌, ◌∷◌, [], None};
+ghost use Rattle.std.specs.Prelude.{◌≡◌, ◌∷◌, [], None, true};
 ghost use Rattle.syn_grammar.specs.Rules as rules;
+ghost use Rattle.syn_grammar.specs.Table as table;
 ghost use Rattle.syn_grammar.specs.Tokens.{Stream};
 ghost use Rattle.syn_grammar.specs.Grammar.{Both, Left, Node, Right};
 ghost use Rattle.syn_grammar.specs.Words.{w_underscore};
@@ -9,7 +10,7 @@ ghost use Rattle.syn_grammar.specs.Run.{wrap};
 ghost use Rattle.syn_tokens.specs.Kinds.{comma_syntax};
 ghost use Rattle.syn_tokens.specs.Leaves.{syntax_of_ident};
 ghost use Rattle.syn_lower.specs.Attributes.{attributes_syntax};
-ghost use Rattle.syn_lower.specs.Parsing.{of, rule, name_or as name_kind, list_of, meaning_of_rule, parse_form, parse_rule, take_token, Computes, Kept, Moved, MayBelow, MayHere, Parses, itself, IsSyntax};
+ghost use Rattle.syn_lower.specs.Parsing.{of, rule, sees, name_or as name_kind, list_of, meaning_of_rule, parse_form, parse_rule, take_token, Computes, Kept, Moved, MayBelow, MayHere, Parses, itself, IsSyntax};
 ghost use Rattle.syn_lower.specs.ParseTies.{Ties};
 ghost use Rattle.syn_tree.specs.Derive.{item_of};
 ghost use Rattle.syn_tree.specs.Restriction.{syntax_of_Visibility};
@@ -92,8 +93,9 @@ fn used(input: &mut ParseBuffer<'_>) -> Parsed<(Option<PathSep>, UseTree)>
 }
 
 /// Trees in braces behind `use`: none of them has `::` before it.
-#[tactic(auto, unfolding(crate::specs::UseForms::read_braced))]
+#[tactic(auto, using(crate::proofs::Uses::braced_trees))]
 fn braced(input: &mut ParseBuffer<'_>) -> Parsed<UseTree>
+    requires next { sees table.at_brace input.old ≡ true }
     ensures reads { Computes IsSyntax (λ t. used_syntax (None, t)) (read_braced input.old) result input.new }
     ensures moved { Moved input.old result input.new }
 {

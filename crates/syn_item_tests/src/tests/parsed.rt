@@ -108,34 +108,46 @@ fn modules(rt: HostRuntime) {
     assert!(rt; plain.unsafety.is_none() && plain.content.is_none() && plain.semi.is_some());
 }
 
-/// Which safety is read from a text, and whether something is left.
-fn safety(
-    rt: &impl Abort,
-    alloc: Global,
-    text: &str,
-    parse: fn(&mut ParseBuffer<'_>) -> Result<Safety>,
-) -> (Safety, bool) {
+/// Which safety `parse_safe_or_unsafe` parses from a text, and whether something is left.
+fn either(rt: &impl Abort, alloc: Global, text: &str) -> (Safety, bool) {
     let tokens = tokens(rt, alloc, text);
     let mut input = ParseBuffer::new(&tokens);
-    let safety = value(rt, parse(&mut input));
+    let safety = value(rt, Safety::parse_safe_or_unsafe(&mut input));
+    (safety, !input.is_empty())
+}
+
+/// The same of `parse_unsafe_only`.
+fn unsafe_only(rt: &impl Abort, alloc: Global, text: &str) -> (Safety, bool) {
+    let tokens = tokens(rt, alloc, text);
+    let mut input = ParseBuffer::new(&tokens);
+    let safety = value(rt, Safety::parse_unsafe_only(&mut input));
     (safety, !input.is_empty())
 }
 
 /// `safe` and `unsafe` are read where they stand next, and else nothing.
 #[test]
-fn safeties(rt: HostRuntime) {
+fn safe_or_unsafe(rt: HostRuntime) {
     let alloc = rt.alloc();
-    let either = |text: &str| safety(&rt, alloc, text, Safety::parse_safe_or_unsafe);
-    assert!(rt; matches!(either("safe"), (Safety::Safe(_), false)));
-    assert!(rt; matches!(either("unsafe fn"), (Safety::Unsafe(_), true)));
-    assert!(rt; matches!(either("fn"), (Safety::Default, true)));
-    assert!(rt; matches!(either(""), (Safety::Default, false)));
-    let only = |text: &str| safety(&rt, alloc, text, Safety::parse_unsafe_only);
-    assert!(rt; matches!(only("safe"), (Safety::Default, true)));
-    assert!(rt; matches!(only("unsafe"), (Safety::Unsafe(_), false)));
-    assert!(rt; matches!(only("(unsafe)"), (Safety::Default, true)));
+    assert!(rt; matches!(either(&rt, alloc, "safe"), (Safety::Safe(_), false)));
+    assert!(rt; matches!(either(&rt, alloc, "unsafe fn"), (Safety::Unsafe(_), true)));
+    assert!(rt; matches!(either(&rt, alloc, "fn"), (Safety::Default, true)));
+    assert!(rt; matches!(either(&rt, alloc, ""), (Safety::Default, false)));
     let wrapped: SafeOrUnsafe = part(&rt, alloc, "safe");
     assert!(rt; matches!(wrapped.0, Safety::Safe(_)));
+}
+
+/// `unsafe` alone is read where it stands next, and else nothing.
+#[test]
+fn only_unsafe(rt: HostRuntime) {
+    let alloc = rt.alloc();
+    assert!(rt; matches!(unsafe_only(&rt, alloc, "safe"), (Safety::Default, true)));
+    assert!(rt;
+        matches!(
+            unsafe_only(&rt, alloc, "unsafe"),
+            (Safety::Unsafe(_), false)
+        )
+    );
+    assert!(rt; matches!(unsafe_only(&rt, alloc, "(unsafe)"), (Safety::Default, true)));
     let wrapped: UnsafeOnly = part(&rt, alloc, "unsafe");
     assert!(rt; matches!(wrapped.0, Safety::Unsafe(_)));
 }

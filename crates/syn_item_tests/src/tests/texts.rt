@@ -1,6 +1,6 @@
 //! Texts of each kind, by tables: what is read prints as its table says, and so does a copy; what is refused is refused at the byte that
 //! the table says.
-use crate::tests::support::{assert_tree, part, tokens};
+use crate::tests::support::{assert_tree, part};
 use std::alloc::Global;
 use std::process::Abort;
 use syn_item::file::File;
@@ -15,6 +15,7 @@ use syn_item::simple::{
 use syn_item::traits::{ItemTrait, TraitItem};
 use syn_item::use_tree::UseTree;
 use syn_parse::parse::{Parse, parse2};
+use syn_reader::reader::read_tokens;
 use syn_tokens::error::Result;
 use syn_tokens::print::ToTokens;
 use syn_tokens::syntactic::try_clone::TryClone;
@@ -47,9 +48,14 @@ type Printed = (&'static str, &'static str);
 /// A text, and the byte at which it is refused.
 type Refused = (&'static str, usize);
 
-/// The byte at which an answer is refused for what was to be read.
-fn refused_at<T: Drop>(answer: Result<T>) -> Option<usize> {
-    match answer {
+/// What a text is parsed as, or its fault.
+fn parsed<T: Parse + Drop>(alloc: Global, text: &str) -> Result<T> {
+    parse2(read_tokens(alloc, text)?)
+}
+
+/// The byte at which a text is refused as a `T`.
+fn refused_at<T: Parse + Drop>(alloc: Global, text: &str) -> Option<usize> {
+    match parsed::<T>(alloc, text) {
         Ok(_) => None,
         Err(error) if error.is_memory() => None,
         Err(error) => Some(error.span().start),
@@ -68,8 +74,7 @@ fn assert_texts<T: Parse + ToTokens + TryClone + PartialEq + Drop>(
         assert_tree(rt, alloc, tree, want);
     }
     for (text, want) in refused {
-        let answer: Result<T> = parse2(tokens(rt, alloc, text));
-        let found = refused_at(answer);
+        let found = refused_at::<T>(alloc, text);
         assert!(rt;
             found == Some(*want),
             "{text:?} is refused at {found:?}, and not at {want}"

@@ -15,13 +15,13 @@ ghost use Rattle.syn_item.specs.Planned.{Follows, IsRead};
 use super::Begun;
 use crate::item::Item;
 use crate::pieces::type_head;
-use crate::simple::{ItemStatic, ItemType, one_clause};
+use crate::simple::{ItemStatic, ItemType, placed};
 use crate::use_tree::use_item;
 use syn_lower::where_clause::where_clause;
 use syn_parse::buffer::ParseBuffer;
 use syn_parse::read::refusal::{Parsed, Refusal};
 use syn_recognize::{Rule, read_by};
-use syn_tokens::token::{Brace, Colon, Eq};
+use syn_tokens::token::{Brace, Colon, Eq, Where};
 use syn_tree::item::TypeModifiers;
 
 /// A type alias; `None` where it is kept as its tokens: with a colon behind its generics, or without `=` behind these and a where clause.
@@ -34,16 +34,19 @@ pub(super) fn type_or_kept(begun: Begun, input: &mut ParseBuffer<'_>) -> Parsed<
     if input.peek::<Colon>() {
         return Ok(None);
     }
+    let is_early = input.peek::<Where>();
     let early = where_clause(input)?;
     if !input.peek::<Eq>() {
         return Ok(None);
     }
     let eq_token = input.read()?;
     let ty = input.read()?;
+    let is_late = input.peek::<Where>();
     let late = where_clause(input)?;
-    let Some((placement, clause)) = one_clause(early, late) else {
+    if is_early && is_late {
         return Err(input.refusal("unexpected token"));
-    };
+    }
+    let (placement, clause) = placed(is_late, early, late);
     let semi_token = input.read()?;
     Ok(Some(Item::Ty(ItemType {
         attrs: begun.attrs,
