@@ -3,17 +3,12 @@ use Rattle.std.proofs.Common.{◌≡◌, ℕ, ◌+◌, ◌<◌, ◌≤◌, List,
 use Rattle.std.proofs.lemmas.List.{at_drop_more, drop_all}
 use Rattle.syn_grammar.specs.Tokens.{end, ◌⧺◌}
 use Rattle.syn_grammar.specs.Grammar.{Syntax, print}
-use Rattle.syn_tokens.specs.InOrder.{in_order}
 use Rattle.syn_item.specs.Parts.{members_of, members_row}
 
 module _ {T : Type 0} (view : T → Syntax) where
   pub print_members : (l : List T) → print (members_of view l) ≡ members_row view l
   print_members [] = refl
   print_members (x ∷ l) = ap (λ z. print (view x) ⧺ z) (print_members l)
-
-  pub print_in_order : (l : List T) → print (in_order view l) ≡ print (members_of view l)
-  print_in_order [] = refl
-  print_in_order (x ∷ l) = ap (λ z. print (view x) ⧺ z) (print_in_order l)
 
   -- what is left of a list, one step on
   pub row_step : (l : List T) (i : ℕ) (d : T) → i < length l → members_row view (drop i l) ≡ print (view (get_or l i d)) ⧺ members_row view (drop (i + 1) l)

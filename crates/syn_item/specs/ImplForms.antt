@@ -5,7 +5,7 @@ use Rattle.syn_grammar.specs.Grammar.{Grammar, Syntax, Both, Node, ◌&◌, empt
 use Rattle.syn_grammar.specs.Forms.{optional, plainly, punctuation}
 use Rattle.syn_grammar.specs.Table.{at_brace, at_exclamation, at_for, at_module_path, name_or_underscore, parameter}
 use Rattle.syn_tokens.specs.Idents.{IdentValue}
-use Rattle.syn_tokens.specs.Kinds.{Const, Type as TypeToken, const_syntax, default_syntax, for_syntax, impl_syntax, not_syntax, type_syntax, unsafe_syntax}
+use Rattle.syn_tokens.specs.Kinds.{Const, «Type» as TypeToken, const_syntax, default_syntax, for_syntax, impl_syntax, not_syntax, type_syntax, unsafe_syntax}
 use Rattle.syn_tokens.specs.InOrder.{pair_of}
 use Rattle.syn_tokens.specs.Leaves.{maybe, syntax_of_ident}
 use Rattle.syn_lower.specs.Attributes.{attributes_syntax}

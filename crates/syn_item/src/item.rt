@@ -13,6 +13,7 @@ use crate::simple::{
 use crate::traits::ItemTrait;
 use syn_tokens::stream::TokenStream;
 use syn_tree::item::{ItemEnum, ItemStruct, ItemUnion};
+pub use trees::Items;
 
 /// An item.
 #[derive(Drop)]

@@ -1,3 +1,4 @@
+mod every;
 mod files;
 mod foreign;
 mod functions;

@@ -12,6 +12,7 @@ use syn_parse::read::refusal::Parsed;
 use syn_recognize::deferred::TreeOf;
 use syn_tokens::print::{Print, ToTokens};
 use syn_tokens::stream::builder::StreamBuilder;
+use syn_tokens::syntactic::Syntactic;
 
 /// An item may be deferred, as among statements.
 impl TreeOf<2> for Item {
@@ -22,22 +23,29 @@ impl TreeOf<2> for Item {
     }
 }
 
-/// Items are printed one behind the other.
-impl Print for Vec<Item> {
-    #[tactic(auto, using(crate::proofs::Members::print_in_order))]
+/// Items in a row, as a module holds them.
+#[derive(Drop)]
+pub struct Items(pub Vec<Item>);
+
+impl Syntactic for Items {
+    ghost syntax = { λ items. members_of syntax_of_Item items.0.items };
+}
+
+/// They are printed one behind the other.
+impl Print for Items {
     fn print_in(&self, out: &mut StreamBuilder) -> Result<(), AllocError> {
-        print_members(self, out)
+        print_members(&self.0, out)
     }
 }
 
-impl ToTokens for Vec<Item> {}
+impl ToTokens for Items {}
 
 /// The items of a module are deferred.
-impl TreeOf<4> for Vec<Item> {
-    ghost whole = { λ items. members_of syntax_of_Item items.items };
+impl TreeOf<4> for Items {
+    ghost whole = { λ items. members_of syntax_of_Item items.0.items };
 
     #[tactic(auto, using(crate::proofs::MemberLists::whole_items))]
-    fn read_tree(input: &mut ParseBuffer<'_>) -> Parsed<Vec<Item>> {
-        members(input)
+    fn read_tree(input: &mut ParseBuffer<'_>) -> Parsed<Items> {
+        Ok(Items(members(input)?))
     }
 }

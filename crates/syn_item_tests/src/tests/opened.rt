@@ -5,7 +5,7 @@ use syn_item::foreign::{
     ForeignItem, ForeignItemFn, ForeignItemMacro, ForeignItemStatic, ForeignItemType,
 };
 use syn_item::impls::{ImplItem, ImplItemConst, ImplItemFn, ImplItemMacro, ImplItemType, ItemImpl};
-use syn_item::item::Item;
+use syn_item::item::{Item, Items};
 use syn_item::laws::{enum_there_and_back, struct_there_and_back, union_there_and_back};
 use syn_item::simple::ItemMod;
 use syn_item::traits::{
@@ -27,12 +27,13 @@ fn module(rt: HostRuntime) {
     let Some((_braces, deferred)) = &module.content else {
         panic!(rt; "no content");
     };
-    let items: Vec<Item> = value(&rt, deferred.open());
+    let opened: Items = value(&rt, deferred.open());
+    let items = &opened.0;
     assert_eq!(rt; items.len(), 3);
     assert!(rt; matches!(&items[0], Item::Fn(_)));
     assert!(rt; matches!(&items[1], Item::Verbatim(_)));
     assert!(rt; matches!(&items[2], Item::Mod(_)));
-    let again: DeferredItems = value(&rt, DeferredItems::new(&items, alloc));
+    let again: DeferredItems = value(&rt, DeferredItems::new(&opened, alloc));
     assert!(rt; again == *deferred);
 }
 

@@ -115,7 +115,6 @@ pub const READ: &[(&str, &str)] = &[
 /// What is refused, with the byte where.
 pub const REFUSED: &[(&str, usize)] = &[
     ("fn f() {} 1", 10),
-    ("fn f() {} }", 10),
     ("#[a] fn f() {} #![b]", 16),
     ("impl A { fn f() } fn g() {}", 16),
     ("#!/bin/a\nfn f() {}", 2),
@@ -124,30 +123,43 @@ pub const REFUSED: &[(&str, usize)] = &[
     ("pub(crate) fn f() {} pub struct S", 33),
     ("mod a { #![b] } mod c { #[d] }", 29),
     ("1", 0),
-    ("\n]", 1),
     ("a1", 2),
     ("#!a", 2),
     ("{ }", 0),
-    ("\n[[[", 1),
-    ("  \"a", 2),
-    ("\n#![a", 3),
     ("/// a", 5),
-    ("\n( [ )", 5),
-    ("\na \\ b", 3),
-    ("\nr##\"a\"#", 1),
-    ("\n/* /* */", 1),
     ("#[_a] // e", 5),
-    ("/* v */ b'\\", 8),
     ("struct S; ?", 10),
-    ("  struct S {", 11),
     ("let aaq = 1;", 0),
     ("use a; #![b]", 8),
-    ("/* v */ { ( } )", 12),
     ("# ! [ ; A\n]\nT\n! { }", 6),
     ("# [\nT T] const a <\n>:macro_rules=raw\n: ;", 6),
     ("pub\n( ) macro A ( .\n) {\n# a ..\n} const\n_ : x ;", 4),
     (
         "extern \"C\"\n{ } fn\nb ( mut b\n: , mut safe : A )\n->\na ;",
         30,
+    ),
+    (
+        "auto trait a { # ! [ & :: T == \"s\" A macro_rules ] # ! [ a ] }",
+        21,
+    ),
+    (
+        "unsafe extern \"C\" [ static A : a = \"s\" ; pub static safe : T A = a ; ]",
+        18,
+    ),
+    (
+        "const a : S = 0 [ \"s\" ] ; struct a < safe , foo : :: a + self > ( , foo , pub b ) ;",
+        66,
+    ),
+    (
+        "extern crate self as A ; enum A < T\n: , '_ > { } impl\nA : :\n< foo\n, 'a , A >\nfor crate where {\n}",
+        56,
+    ),
+    (
+        "'pub\nmod\ndefault { }\npub ( self\n)\nenum union < '_ : '_ + 'b ,\nconst a : a = { } ,\n> { T ( ) = 1\n, }",
+        0,
+    ),
+    (
+        "fn\nauto <\nsafe , '_ , > ( self : c , #\n[ c ] #\n[ :: a ] mut foo : T ,\n)\n> safe where\n'b : , a :\n,\n{ T } extern\n{ }",
+        72,
     ),
 ];
