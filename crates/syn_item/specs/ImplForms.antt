@@ -1,9 +1,13 @@
 -- HOW IMPLS AND THEIR MEMBERS ARE READ: forms of their parts, and what the parts stand for together.
 use Rattle.syn_grammar.specs.Words.{exclamation, equals, semicolon, w_const, w_default, w_type}
+use Rattle.std.specs.Prelude.{◌≡◌, None, Result, Ok, Err}
+use Rattle.syn_grammar.specs.Tokens.{Stream, at_generics}
+use Rattle.syn_grammar.specs.Take.{Out, sees}
+use Rattle.syn_grammar.specs.Run.{and_then, branch, parse_form, parse_rule, wrap}
 use Rattle.syn_grammar.specs.Rules.{attributes, for_self_type, generics, impl_body, lifetime_parameter, type, type_path, visibility, where_clause}
 use Rattle.syn_grammar.specs.Grammar.{Grammar, Syntax, Both, Node, ◌&◌, empty, generics_before, name, rule, when◌then◌else◌, word}
 use Rattle.syn_grammar.specs.Forms.{optional, plainly, punctuation}
-use Rattle.syn_grammar.specs.Table.{at_brace, at_exclamation, at_for, at_module_path, name_or_underscore, parameter}
+use Rattle.syn_grammar.specs.Table.{at_brace, at_exclamation, at_for, at_module_path, kept_generics, name_or_underscore, parameter}
 use Rattle.syn_tokens.specs.Idents.{IdentValue}
 use Rattle.syn_tokens.specs.Kinds.{Const, «Type» as TypeToken, const_syntax, default_syntax, for_syntax, impl_syntax, not_syntax, type_syntax, unsafe_syntax}
 use Rattle.syn_tokens.specs.InOrder.{pair_of}
@@ -38,6 +42,28 @@ impl_of m s =
 -- an impl's first types, and what ends it
 abbrev pub types_before : Implemented → Syntax → Syntax
 types_before i rest = implemented (maybe not_syntax i.polarity) (maybe (pair_of itself for_syntax) i.trait_) (syntax_of_Type i.self_ty.value) rest
+
+-- What stands before the end of an impl, by what reads on: `!` and what follows it, a path and what follows it, or a type.
+abbrev pub bang_then : (Stream → Out) → Stream → Out
+bang_then f ts =
+    and_then (parse_form (punctuation exclamation) ts) (λ r. branch (sees at_brace r) (f r) (and_then (parse_rule type_path r) (λ q. and_then (parse_rule for_self_type q) f)))
+
+abbrev pub path_then : (Stream → Out) → Stream → Out
+path_then f ts = and_then (parse_rule type_path ts) (λ r. and_then (parse_form (when at_for then rule for_self_type else empty) r) f)
+
+abbrev pub types_then : (Stream → Out) → Stream → Out
+types_then f ts =
+    branch (sees at_exclamation ts) (bang_then f ts)
+    (branch (sees at_module_path ts) (path_then f ts) (and_then (parse_rule type ts) f))
+
+-- A part that others are read behind: whatever reads on, it goes on from here, and both are this together; or nothing is read.
+abbrev pub ReadsBefore : {X E : Type 0} → (E → Type 0) → (X → Syntax → Syntax) → ((Stream → Out) → Out) → Result X E → Stream → Type 0
+ReadsBefore refusal view out (Ok x) new = (f : Stream → Out) → out f ≡ wrap (view x) (f new)
+ReadsBefore refusal view out (Err e) new = refusal e → (f : Stream → Out) → out f ≡ None
+
+-- generics, where they stand next and no type does
+abbrev pub impl_generics_form : Grammar
+impl_generics_form = when at_generics then kept_generics else empty
 
 -- `const`, and a name or `_`
 abbrev pub const_head_form : Grammar

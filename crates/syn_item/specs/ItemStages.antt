@@ -1,12 +1,15 @@
 -- STAGES OF THE PLAN OF ITEMS: what is left of it where the attributes and the visibility are known, and where a word says what goes on.
+use Rattle.std.specs.Prelude.{Bool, false, Some, None}
 use Rattle.syn_grammar.specs.Words.{w_auto, w_async, w_const, w_crate, w_default, w_extern, w_fn, w_impl, w_macro, w_mod, w_trait, w_unsafe}
-use Rattle.syn_grammar.specs.Tokens.{Begins_item, ahead, at_word, ◌and_also◌, ◌or_else◌}
-use Rattle.syn_grammar.specs.Rules.{signature}
-use Rattle.syn_grammar.specs.Grammar.{Syntax, Left, Node, rule, word}
+use Rattle.syn_grammar.specs.Tokens.{Stream, Begins_item, ahead, at_word, ◌and_also◌, ◌or_else◌}
+use Rattle.syn_grammar.specs.Rules.{abi, impl_body, signature, type}
+use Rattle.syn_grammar.specs.Grammar.{Syntax, Both, Left, Right, Node, ◌&◌, rule, word}
 use Rattle.syn_grammar.specs.Forms.{plainly}
-use Rattle.syn_grammar.specs.Table.{at_extern, item_word, optional_item_word}
-use Rattle.syn_grammar.specs.Plan.{Plan, reads, turns}
-use Rattle.syn_grammar.specs.ItemPlan.{Place, public, unwritten, plain, absent, bare_impl_plan, behind_const, behind_visibility, const_plan, definition_plan, extern_crate_plan, extern_plan, function_end, impl_generics, impl_plan, module_plan, other_plan, trait_or_alias, trait_plan, unsafe_plan}
+use Rattle.syn_grammar.specs.Table.{at_brace, at_extern, at_for, at_where, item_word, optional_item_word}
+use Rattle.syn_grammar.specs.Take.{Out, sees}
+use Rattle.syn_grammar.specs.Run.{parse_form}
+use Rattle.syn_grammar.specs.Plan.{Plan, ends, keeps, reads, turns}
+use Rattle.syn_grammar.specs.ItemPlan.{Place, public, unwritten, plain, absent, bare_impl_plan, behind_const, behind_visibility, const_plan, definition_plan, extern_crate_plan, extern_plan, function_end, impl_generics, impl_of, impl_plan, kept_impl, module_plan, other_plan, restricted_end, trait_or_alias, trait_plan, unsafe_plan}
 use Rattle.syn_tokens.specs.Kinds.{const_syntax, default_syntax, impl_syntax, unsafe_syntax}
 use Rattle.syn_tokens.specs.Leaves.{maybe}
 use Rattle.syn_lower.specs.Attributes.{attributes_syntax}
@@ -80,3 +83,19 @@ other_kinds_plan b =
     (turns (at_word w_const) (const_stage b)
     (turns (at_word w_impl) (bare_impl_plan_of b)
     (other_plan_of b))))))))
+
+-- an impl of a type in parentheses that hold one word, or a trait behind such a restriction, behind `impl`
+abbrev pub lone_word_plan : ImplMarks → Plan
+lone_word_plan m =
+    reads (rule type) λ t.
+    turns at_for kept_impl
+    (turns (at_where or_else at_brace) (reads (rule impl_body) λ b. ends (impl_of (attributes_syntax m.attrs.items) absent absent absent (impl_syntax m.impl_token) absent (Right (Right (Both t b)))))
+    (keeps restricted_end))
+
+-- behind an ABI, perhaps with `unsafe` before it, stand braces
+abbrev pub braces_next : Out → Bool
+braces_next (Some p) = sees at_brace p.1
+braces_next None = false
+
+abbrev pub module_next : Stream → Bool
+module_next ts = braces_next (parse_form (optional_item_word w_unsafe & rule abi) ts)

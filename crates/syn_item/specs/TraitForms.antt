@@ -5,6 +5,7 @@ use Rattle.syn_grammar.specs.Rules.{generics, supertraits, trait_items, type, wh
 use Rattle.syn_grammar.specs.Grammar.{Grammar, Syntax, Nothing, Both, Left, Right, Node, Unshown, ◌&◌, name, word, rule, unshown, when◌then◌else◌}
 use Rattle.syn_grammar.specs.Forms.{plainly, punctuation}
 use Rattle.syn_grammar.specs.Table.{at_semicolon, name_or_underscore, optional_item_word, optional_value}
+use Rattle.syn_grammar.specs.ItemPlan.{absent}
 use Rattle.syn_tokens.specs.Idents.{IdentValue}
 use Rattle.syn_tokens.specs.Kinds.{Auto, Const, Trait, Unsafe, auto_syntax, const_syntax, trait_syntax, unsafe_syntax}
 use Rattle.syn_tokens.specs.Leaves.{maybe, syntax_of_ident}
@@ -48,3 +49,13 @@ unmarked_form = optional_item_word w_auto & plainly (word w_trait) & plainly nam
 -- `;` or a body
 abbrev pub function_end_form : Grammar
 function_end_form = when at_semicolon then punctuation semicolon else unshown & rule body
+
+-- a trait or an alias up to its generics, as a trait of which nothing stands behind them
+abbrev pub named_head : Syntax → Syntax → Syntax → Syntax → Syntax
+named_head a v c (Both k (Both n g)) = item_of a v (Both c (Node (Both absent (Both absent (Both k (Both n (Both g Nothing)))))))
+named_head a v c s = s
+
+-- an alias behind its generics, of `=`, bounds, a where clause and `;`
+abbrev pub alias_of : TraitHead → Syntax → Syntax
+alias_of h s =
+    item_of (attributes_syntax h.marks.attrs.items) (syntax_of_Visibility h.marks.vis) (Node (Both (trait_syntax h.trait_token) (Both (syntax_of_ident h.ident) (Both (first h.generics) s))))

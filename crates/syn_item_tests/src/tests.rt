@@ -1,4 +1,4 @@
-mod every;
+mod deep;
 mod files;
 mod foreign;
 mod functions;

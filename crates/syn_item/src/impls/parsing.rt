@@ -1,7 +1,7 @@
 //! Parsers of impls.
 ghost use Rattle.std.specs.Prelude.{◌≡◌, codes};
 ghost use Rattle.syn_grammar.specs.Rules as rules;
-ghost use Rattle.syn_grammar.specs.Grammar.{Both, Case, Impl, Node};
+ghost use Rattle.syn_grammar.specs.Grammar.{Both, Case, Impl, Left, Node, Right};
 ghost use Rattle.syn_grammar.specs.Plan.{run_plan};
 ghost use Rattle.syn_grammar.specs.Run.{wrap};
 ghost use Rattle.syn_grammar.specs.Table as table;
@@ -10,7 +10,7 @@ ghost use Rattle.syn_lower.specs.Attributes.{all_attributes_syntax, attributes_s
 ghost use Rattle.syn_lower.specs.Parsing.{of, rule, meaning_of_rule, parse_rule, parse_form, Computes, Moved, Kept, itself, IsSyntax};
 ghost use Rattle.syn_lower.specs.Parts.{first};
 ghost use Rattle.syn_parse.specs.Form.{by};
-ghost use Rattle.syn_item.specs.ImplForms.{behind_impl_form, impl_of, types_before};
+ghost use Rattle.syn_item.specs.ImplForms.{ReadsBefore, bang_then, behind_impl_form, impl_generics_form, impl_of, path_then, types_before, types_then};
 ghost use Rattle.syn_item.specs.Impls.{kept_list, syntax_of_ItemImpl};
 ghost use Rattle.syn_item.specs.Planned.{Follows};
 ghost use Rattle.syn_item.specs.Stages.{impl_types_behind};
@@ -92,6 +92,7 @@ fn behind_impl(marks: ImplMarks, input: &mut ParseBuffer<'_>) -> Parsed<ItemImpl
 /// Generics, where they stand next and no type does.
 #[tactic(auto, using(syn_grammar::proofs::Each::generics_is))]
 pub(crate) fn impl_generics(input: &mut ParseBuffer<'_>) -> Parsed<Generics>
+    ensures reads { Computes IsSyntax (λ g. kept_list (first g)) (parse_form impl_generics_form input.old) result input.new }
     ensures kept { Kept input.old result input.new }
 {
     if at_generics(input) {
@@ -121,6 +122,7 @@ impl Peek for ModulePath {
 
 /// `!` alone; `!`, a path, `for` and a type; a path with `for` and a type or alone; or a type that is no plain path.
 pub(crate) fn implemented(input: &mut ParseBuffer<'_>) -> Parsed<Implemented>
+    ensures reads { ReadsBefore IsSyntax types_before (λ f. types_then f input.old) result input.new }
     ensures moved { Moved input.old result input.new }
 {
     if input.peek::<Not>() {
@@ -138,6 +140,7 @@ pub(crate) fn implemented(input: &mut ParseBuffer<'_>) -> Parsed<Implemented>
 
 /// `!`, and before braces nothing else, as a self type; else a path, `for` and a self type.
 fn behind_bang(input: &mut ParseBuffer<'_>) -> Parsed<Implemented>
+    ensures reads { ReadsBefore IsSyntax types_before (λ f. wrap Left (bang_then f input.old)) result input.new }
     ensures moved { Moved input.old result input.new }
 {
     let bang_token = input.read()?;
@@ -158,6 +161,7 @@ fn behind_bang(input: &mut ParseBuffer<'_>) -> Parsed<Implemented>
 
 /// A path as a trait's, with `for` and a self type behind it; or as the self type.
 fn behind_path(input: &mut ParseBuffer<'_>) -> Parsed<Implemented>
+    ensures reads { ReadsBefore IsSyntax types_before (λ f. wrap Right (wrap Left (path_then f input.old))) result input.new }
     ensures moved { Moved input.old result input.new }
 {
     let path = input.read()?;

@@ -2,6 +2,7 @@
 ghost use Rattle.std.specs.Prelude.{◌≡◌};
 ghost use Rattle.syn_grammar.specs.ItemPlan as plan;
 ghost use Rattle.syn_grammar.specs.Plan.{run_plan};
+ghost use Rattle.syn_grammar.specs.Promises.{OrMemory};
 ghost use Rattle.syn_grammar.specs.Rules as rules;
 ghost use Rattle.syn_grammar.specs.Tokens.{Stream};
 ghost use Rattle.syn_lower.specs.Attributes.{all_attributes_syntax, attributes_syntax};
@@ -10,7 +11,7 @@ ghost use Rattle.syn_tokens.specs.Kinds.{const_syntax, unsafe_syntax};
 ghost use Rattle.syn_tokens.specs.Leaves.{maybe};
 ghost use Rattle.syn_tree.specs.Restriction.{syntax_of_Visibility};
 ghost use Rattle.syn_item.specs.Items.{syntax_of_Item};
-ghost use Rattle.syn_item.specs.ItemStages.{const_or_kept_plan, const_stage, extern_stage, function_stage, module_or_function_stage, place_of, unsafe_stage};
+ghost use Rattle.syn_item.specs.ItemStages.{const_or_kept_plan, const_stage, extern_stage, function_stage, module_next, module_or_function_stage, place_of, unsafe_stage};
 ghost use Rattle.syn_item.specs.Planned.{Follows};
 
 use super::impls::impl_behind;
@@ -93,7 +94,9 @@ fn module_or_function(begun: Begun, input: &mut ParseBuffer<'_>) -> Parsed<Optio
 }
 
 /// Whether a foreign module stands next: perhaps `unsafe`, an ABI, and braces. Refused only where memory is.
-fn at_foreign_module(input: &ParseBuffer<'_>) -> Parsed<bool> {
+fn at_foreign_module(input: &ParseBuffer<'_>) -> Parsed<bool>
+    ensures { OrMemory IsSyntax result (λ answer. answer ≡ module_next input.now) }
+{
     let mut ahead = input.fork();
     let _unsafety: Option<Unsafe> = ahead.read()?;
     let abi: Option<Abi> = ahead.read()?;

@@ -9,7 +9,7 @@ ghost use Rattle.syn_lower.specs.Parsing.{IsSyntax};
 ghost use Rattle.syn_tokens.specs.Kinds.{const_syntax, unsafe_syntax};
 ghost use Rattle.syn_tokens.specs.Leaves.{maybe};
 ghost use Rattle.syn_item.specs.Items.{syntax_of_Item};
-ghost use Rattle.syn_item.specs.ItemStages.{bare_impl_plan_of, default_impl_plan, impl_behind_marks};
+ghost use Rattle.syn_item.specs.ItemStages.{bare_impl_plan_of, default_impl_plan, impl_behind_marks, lone_word_plan};
 ghost use Rattle.syn_item.specs.Planned.{Follows};
 
 use super::Begun;
@@ -98,7 +98,10 @@ pub(super) fn bare_impl(begun: Begun, input: &mut ParseBuffer<'_>) -> Parsed<Opt
 
 /// An impl of a type in parentheses that hold one word; `None` where these are a trait's restriction, or stand before `for`.
 #[tactic(auto, using(crate::proofs::Kept::only_kept), unfolding(syn_grammar::specs::ItemPlan::kept_impl, syn_grammar::specs::ItemPlan::restricted_end))]
-fn impl_of_parentheses(marks: ImplMarks, input: &mut ParseBuffer<'_>) -> Parsed<Option<Item>> {
+fn impl_of_parentheses(marks: ImplMarks, input: &mut ParseBuffer<'_>) -> Parsed<Option<Item>>
+    requires outer { all_attributes_syntax marks.attrs.items ≡ attributes_syntax marks.attrs.items }
+    ensures follows { (ts : Stream) → Follows IsSyntax syntax_of_Item rules.kept_item ts (run_plan (lone_word_plan marks) rules.kept_item ts input.old) result input.new }
+{
     let types = implemented(input)?;
     if input.peek::<For>() {
         return Ok(None);

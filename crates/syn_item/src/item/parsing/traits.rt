@@ -1,17 +1,20 @@
 //! Traits and trait aliases among items.
-ghost use Rattle.std.specs.Prelude.{◌≡◌};
-ghost use Rattle.syn_grammar.specs.Grammar.{Left};
+ghost use Rattle.std.specs.Prelude.{◌≡◌, IfOk};
+ghost use Rattle.syn_grammar.specs.Grammar.{Left, Nothing};
+ghost use Rattle.syn_grammar.specs.Run.{wrap};
 ghost use Rattle.syn_grammar.specs.ItemPlan as plan;
 ghost use Rattle.syn_grammar.specs.Plan.{run_plan};
 ghost use Rattle.syn_grammar.specs.Rules as rules;
 ghost use Rattle.syn_grammar.specs.Tokens.{Stream};
 ghost use Rattle.syn_lower.specs.Attributes.{all_attributes_syntax, attributes_syntax};
-ghost use Rattle.syn_lower.specs.Parsing.{IsSyntax};
+ghost use Rattle.syn_lower.specs.Parsing.{itself, parse_form, Computes, IsSyntax, Moved};
 ghost use Rattle.syn_tokens.specs.Kinds.{const_syntax, unsafe_syntax};
 ghost use Rattle.syn_tokens.specs.Leaves.{maybe};
 ghost use Rattle.syn_tree.specs.Restriction.{syntax_of_Visibility};
+ghost use Rattle.syn_item.specs.ItemForms.{bounds_end_form};
 ghost use Rattle.syn_item.specs.Items.{syntax_of_Item};
 ghost use Rattle.syn_item.specs.Planned.{Follows};
+ghost use Rattle.syn_item.specs.TraitForms.{alias_of, behind_head, named_form, named_head};
 
 use super::Begun;
 use crate::item::Item;
@@ -80,7 +83,12 @@ fn trait_head(
     begun: Begun,
     constness: Option<Const>,
     input: &mut ParseBuffer<'_>,
-) -> Parsed<TraitHead> {
+) -> Parsed<TraitHead>
+    requires outer { all_attributes_syntax begun.attrs.items ≡ attributes_syntax begun.attrs.items }
+    ensures reads { Computes IsSyntax (λ h. behind_head h Nothing) (wrap (λ s. named_head (attributes_syntax begun.attrs.items) (syntax_of_Visibility begun.vis) (maybe const_syntax constness) s) (parse_form named_form input.old)) result input.new }
+    ensures outer { IfOk result (λ h. all_attributes_syntax h.marks.attrs.items ≡ attributes_syntax h.marks.attrs.items) }
+    ensures moved { Moved input.old result input.new }
+{
     let (trait_token, ident, generics) = named_trait(input)?;
     Ok(TraitHead {
         marks: TraitMarks {
@@ -97,7 +105,10 @@ fn trait_head(
 }
 
 /// A trait alias, behind its generics.
-fn trait_alias(head: TraitHead, input: &mut ParseBuffer<'_>) -> Parsed<ItemTraitAlias> {
+fn trait_alias(head: TraitHead, input: &mut ParseBuffer<'_>) -> Parsed<ItemTraitAlias>
+    ensures reads { Computes IsSyntax itself (wrap (alias_of head) (parse_form bounds_end_form input.old)) result input.new }
+    ensures moved { Moved input.old result input.new }
+{
     let (eq_token, bounds, where_clause, semi_token) = aliased_bounds(input)?;
     Ok(ItemTraitAlias {
         attrs: head.marks.attrs,
