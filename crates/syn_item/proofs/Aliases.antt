@@ -3,7 +3,7 @@ use Rattle.std.proofs.Common.{◌≡◌, Some, ap, ◌∙◌}
 use Rattle.syn_grammar.specs.Words.{equals, w_where}
 use Rattle.syn_grammar.specs.Tokens.{Stream, at_word, no, or}
 use Rattle.syn_grammar.specs.Rules.{type, where_clause}
-use Rattle.syn_grammar.specs.Grammar.{Syntax, Both, Such, Grammar, ◌&◌, one_where, rule}
+use Rattle.syn_grammar.specs.Grammar.{Syntax, Both, Such, ◌&◌, one_where, rule}
 use Rattle.syn_grammar.specs.Forms.{punctuation}
 use Rattle.syn_grammar.specs.Take.{only, sees, take_mark}
 use Rattle.syn_grammar.specs.Run.{and_then, parse_form, parse_rule, such_as, wrap}

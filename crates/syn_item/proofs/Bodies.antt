@@ -13,7 +13,7 @@ use Rattle.syn_grammar.proofs.Each.{body_is}
 use Rattle.syn_grammar.proofs.Takes.{TreeAndRest}
 use Rattle.syn_tokens.specs.InOrder.{in_order}
 use Rattle.syn_recognize.specs.DeferredTokens.{whole_only}
-use Rattle.syn_lower.specs.Attributes.{all_attributes_syntax, all_listed, attributes_syntax, every, inner_attributes_syntax, inner_listed, is_inner, is_outer, none_listed, outer_listed, shown_before, syntax_of_Attribute}
+use Rattle.syn_lower.specs.Attributes.{all_attributes_syntax, all_listed, attributes_syntax, every, inner_attributes_syntax, inner_listed, is_inner, is_outer, outer_listed, shown_before, syntax_of_Attribute}
 use Rattle.syn_lower.specs.declared.attr.Attribute.{Attribute}
 use Rattle.syn_lower.specs.Bodies.{attributes_before_body, attributes_in_body, listed_before, listed_inside, outer_first}
 

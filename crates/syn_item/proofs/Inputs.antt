@@ -1,5 +1,5 @@
 -- The parameters of a signature, one after the other.
-use Rattle.std.proofs.Common.{◌≡◌, Bool, true, false, List, [], ◌∷◌, ◌++◌, Some, None, refl, sym, ap, ◌∙◌}
+use Rattle.std.proofs.Common.{◌≡◌, ◌≢◌, Bool, true, false, List, [], ◌∷◌, ◌++◌, Some, None, refl, sym, ap, ◌∙◌}
 use Rattle.std.specs.Prelude.{Option}
 use Rattle.syn_grammar.specs.Words.{comma}
 use Rattle.syn_grammar.specs.Tokens.{Stream, Before_less, ended, pick}
@@ -8,13 +8,14 @@ use Rattle.syn_grammar.specs.Shape.{parameters}
 use Rattle.syn_grammar.specs.Grammar.{Syntax, Nothing, Both, Left, Right, Node, Shaped, Grammar, empty, ◌&◌, when◌then◌else◌, rule, supplied}
 use Rattle.syn_grammar.specs.Forms.{punctuation}
 use Rattle.syn_grammar.specs.Table.{at_comma, at_ellipsis, at_receiver}
-use Rattle.syn_grammar.specs.Take.{Out, Parser, sees, take_mark}
+use Rattle.syn_grammar.specs.Take.{Out, sees, take_mark}
 use Rattle.syn_grammar.specs.Values.{more_members, no_members, one_member, shape}
 use Rattle.syn_grammar.specs.Run.{and_then, branch, parse_form, parse_rule, wrap}
 use Rattle.syn_grammar.proofs.Each.{inputs_is, input_rest_is, later_inputs_is}
 use Rattle.syn_parse.proofs.Listing.{wrap_wrap, wrap_same}
 use Rattle.syn_tokens.specs.Kinds.{Comma, comma_syntax}
 use Rattle.syn_tokens.specs.Listing.{list_of}
+use Rattle.syn_tokens.specs.Lists.{Sequence, nothing_listed}
 use Rattle.syn_lower.specs.Parameters.{after}
 use Rattle.syn_lower.specs.Parts.{first, second}
 use Rattle.syn_item.specs.SignatureForms.{before_parameters, inputs_by, is_first, named_pattern, next_parameter, of_variadic, other_parameter, parameter_behind, parameters_behind, read_parameter, typed_as, with_attributes}
@@ -201,3 +202,15 @@ all_read l ts h = ap (wrap (before_parameters l)) (at_end (is_first l None) ts h
 pub later : (l : Pairs) (x : FnArg-m.the_data) (c : Comma) → is_first {B = FnArg-m.the_data} (l ++ (x, c) ∷ []) None ≡ false
 later [] x c = refl
 later (y ∷ l) x c = refl
+
+-- a parameter is the first where none is listed
+pub none_before : (l : Sequence FnArg-m.the_data Comma) → l ≡ nothing_listed → is_first l.pairs l.last ≡ true
+none_before l h = ap (λ (k : Sequence FnArg-m.the_data Comma). is_first k.pairs k.last) h
+
+pub some_before : (l : Sequence FnArg-m.the_data Comma) → (l ≢ nothing_listed) → is_first l.pairs l.last ≡ false
+some_before l h = go l.pairs l.last h
+  where
+    go : (pairs : Pairs) (last : Option FnArg-m.the_data) → ((record { pairs = pairs; last = last }) ≢ nothing_listed) → is_first pairs last ≡ false
+    go [] None k = absurd (k refl)
+    go [] (Some x) k = refl
+    go (x ∷ l) last k = refl

@@ -1,5 +1,5 @@
 -- Receivers, and parameters alone.
-use Rattle.std.proofs.Common.{◌≡◌, Bool, true, false, List, [], ◌∷◌, Some, None, refl, sym, ap, ◌∙◌}
+use Rattle.std.proofs.Common.{◌≡◌, Bool, true, false, List, [], ◌∷◌, Some, None, refl, ap, ◌∙◌}
 use Rattle.std.specs.Prelude.{Option}
 use Rattle.syn_grammar.specs.Words.{w_self}
 use Rattle.syn_grammar.specs.Tokens.{Stream, Before_less, pick}
@@ -7,7 +7,7 @@ use Rattle.syn_grammar.specs.Rules.{argument, attributes, no_attributes, pattern
 use Rattle.syn_grammar.specs.Grammar.{Syntax, Nothing, Both, Left, Right, Node, Unshown, Grammar, ◌&◌, when◌then◌else◌, empty, rule, supplied, word}
 use Rattle.syn_grammar.specs.Forms.{never, plainly}
 use Rattle.syn_grammar.specs.Table.{at_colons, at_pound, at_receiver}
-use Rattle.syn_grammar.specs.Take.{Out, Parser, sees, take_token}
+use Rattle.syn_grammar.specs.Take.{Out, sees, take_token}
 use Rattle.syn_grammar.specs.Run.{and_then, branch, parse_form, parse_rule, wrap}
 use Rattle.syn_grammar.proofs.Each.{argument_is, no_attributes_is, receiver_is}
 use Rattle.syn_tokens.specs.Kinds.{Comma, comma_syntax}

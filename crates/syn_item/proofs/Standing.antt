@@ -1,5 +1,5 @@
 -- Whether a word stands next is whether it is read.
-use Rattle.std.proofs.Common.{◌≡◌, true, false, Some, None, refl, ap, ◌∙◌}
+use Rattle.std.proofs.Common.{◌≡◌, true, false, Some, None, ap, ◌∙◌}
 use Rattle.syn_grammar.specs.Words.{Text}
 use Rattle.syn_grammar.specs.Tokens.{Stream, at_word}
 use Rattle.syn_grammar.specs.Grammar.{Syntax, word}

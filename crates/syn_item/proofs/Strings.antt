@@ -1,9 +1,9 @@
 -- A string is a literal of the kind that an ABI asks for.
-use Rattle.std.proofs.Common.{◌≡◌, Bool, true, false, [], ◌∷◌, Some, None, refl, sym, ap, ◌∙◌}
+use Rattle.std.proofs.Common.{◌≡◌, true, [], ◌∷◌, Some, refl, sym, ap, ◌∙◌}
 use Rattle.syn_grammar.specs.Words.{Text}
 use Rattle.syn_grammar.specs.Tokens.{Span, LitKind, Str, ByteStr, CStr, Byte, Char, Int, Float, ident, literal, Stream, end, leaf, punct, group, at_literal}
-use Rattle.syn_grammar.specs.Grammar.{Syntax, any_literal, literal_of, Token}
-use Rattle.syn_grammar.specs.Take.{Out, sees, take_token, taken, only}
+use Rattle.syn_grammar.specs.Grammar.{any_literal, literal_of, Token}
+use Rattle.syn_grammar.specs.Take.{sees, take_token, taken}
 use Rattle.syn_grammar.proofs.Looks.{sees_literal}
 use Rattle.syn_parse.proofs.FirstTokens.{no_literal_at_ident}
 use Rattle.syn_parse.proofs.Words.{take_literal}

@@ -1,11 +1,10 @@
 -- A pattern and a colon, written or supplied, and what stands behind them.
 use Rattle.std.proofs.Common.{◌≡◌, ◌<◌, Bool, true, false, [], ◌∷◌, Some, None, refl, sym, ap, ◌∙◌, true≢false}
-use Rattle.std.specs.Prelude.{Option}
 use Rattle.std.proofs.lemmas.Bool.{lt-ltb}
-use Rattle.syn_grammar.specs.Words.{colon, w_underscore}
-use Rattle.syn_grammar.specs.Tokens.{Span, Stream, end, leaf, punct, group, ident, Before_less, at_name, pick}
+use Rattle.syn_grammar.specs.Words.{colon}
+use Rattle.syn_grammar.specs.Tokens.{Span, Stream, end, leaf, punct, group, Before_less, at_name, pick}
 use Rattle.syn_grammar.specs.Rules.{pattern}
-use Rattle.syn_grammar.specs.Grammar.{Syntax, Token, Mark, Both, Node, Left, Grammar, ◌&◌, rule, supplied, at_unnamed, underscore}
+use Rattle.syn_grammar.specs.Grammar.{Syntax, Mark, Both, Grammar, ◌&◌, rule, supplied, at_unnamed, underscore}
 use Rattle.syn_grammar.specs.Forms.{punctuation}
 use Rattle.syn_grammar.specs.Take.{Out, left, is_end, sees, lookahead_at, take_mark, take_token, first_span, leaf_span, only}
 use Rattle.syn_grammar.specs.Run.{and_then, wrap, named_or_not, supplied_to, supplied_at, name_supplied, parse_form, parse_rule}

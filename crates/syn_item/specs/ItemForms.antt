@@ -3,16 +3,14 @@ use Rattle.std.specs.Prelude.{Bool, true, false, Option, List, [], ◌∷◌}
 use Rattle.syn_grammar.specs.Words.{colon, equals, semicolon, w_as, w_const, w_crate, w_extern, w_mod, w_mut, w_self, w_static, w_try, w_type}
 use Rattle.syn_grammar.specs.Tokens.{Brace, at_word}
 use Rattle.syn_grammar.specs.Rules.{alias_bounds, generics, inner_attributes, items, type, where_clause, whole_expression}
-use Rattle.syn_grammar.specs.Grammar.{Syntax, Nothing, Both, Left, Right, Node, Such, Unshown, Grammar, empty, inside, name, name_or, one_where, ◌&◌, when◌then◌else◌, rule, such, unshown, word}
+use Rattle.syn_grammar.specs.Grammar.{Syntax, Nothing, Both, Unshown, Grammar, empty, inside, name, name_or, one_where, ◌&◌, when◌then◌else◌, rule, such, unshown, word}
 use Rattle.syn_grammar.specs.Forms.{optional, plainly, punctuation}
-use Rattle.syn_grammar.specs.Promises.{itself}
 use Rattle.syn_grammar.specs.Table.{at_macro_name, at_semicolon, item_word, name_or_underscore}
-use Rattle.syn_tokens.specs.Kinds.{colon_syntax, eq_syntax, plus_syntax, semi_syntax, Colon, Eq, Plus, Semi}
+use Rattle.syn_tokens.specs.Kinds.{eq_syntax, plus_syntax, semi_syntax, Eq, Plus, Semi}
 use Rattle.syn_tokens.specs.Kinds as kinds
 use Rattle.syn_tokens.specs.Leaves.{maybe}
 use Rattle.syn_tokens.specs.Listing.{list_of}
 use Rattle.syn_tokens.specs.Lists.{Sequence}
-use Rattle.syn_lower.specs.Attributes.{syntax_of_MacroDelimiter}
 use Rattle.syn_lower.specs.Bodies.{attributes_in_body}
 use Rattle.syn_lower.specs.Bounds.{syntax_of_TypeParamBound}
 use Rattle.syn_lower.specs.Generics.{where_part}

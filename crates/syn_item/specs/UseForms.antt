@@ -1,5 +1,5 @@
 -- HOW USES ARE READ, part by part.
-use Rattle.std.specs.Prelude.{Option, List, [], ◌∷◌}
+use Rattle.std.specs.Prelude.{Option, [], ◌∷◌}
 use Rattle.syn_grammar.specs.Words.{colons, semicolon, star, w_as, w_crate, w_self, w_super, w_try, w_use}
 use Rattle.syn_grammar.specs.Tokens.{Brace, at_word}
 use Rattle.syn_grammar.specs.Rules.{root_mark, rooted_trees, use_tree, use_trees}

@@ -1,7 +1,7 @@
 //! Parsers of bodies: of what stands in braces, with the inner attributes at its beginning.
 ghost use Rattle.std.specs.Prelude.{◌≡◌, IfOk};
 ghost use Rattle.syn_grammar.specs.Rules as rules;
-ghost use Rattle.syn_lower.specs.Attributes.{all_attributes_syntax, attributes_syntax, inner_attributes_syntax};
+ghost use Rattle.syn_lower.specs.Attributes.{all_attributes_syntax, attributes_syntax};
 ghost use Rattle.syn_lower.specs.Bodies.{attributes_before_body, attributes_in_body, body as body_syntax};
 ghost use Rattle.syn_lower.specs.Parsing.{parse_rule, Computes, Moved, Kept, IsSyntax};
 

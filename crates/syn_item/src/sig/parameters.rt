@@ -89,7 +89,7 @@ fn before_variadic(inputs: Punctuated<FnArg, Comma>, last: Variadic) -> Paramete
 }
 
 /// The parameter behind these.
-#[tactic(auto, unfolding(crate::specs::SignatureForms::read_parameter))]
+#[tactic(auto, using(crate::proofs::Inputs::none_before, crate::proofs::Inputs::some_before), unfolding(crate::specs::SignatureForms::read_parameter))]
 fn parameter(inputs: &Punctuated<FnArg, Comma>, input: &mut ParseBuffer<'_>) -> Parsed<Parameter>
     ensures reads { Computes IsSyntax parameter_syntax (read_parameter (is_first inputs.now.pairs inputs.now.last) input.old) result input.new }
     ensures moved { Moved input.old result input.new }
@@ -99,21 +99,23 @@ fn parameter(inputs: &Punctuated<FnArg, Comma>, input: &mut ParseBuffer<'_>) -> 
         return other(attrs, input);
     }
     if !inputs.is_empty() {
-        return Err(late_receiver(inputs, input));
+        return late_receiver(inputs, input);
     }
     Ok(Parameter::Input(FnArg::Receiver(receiver(attrs, input)?)))
 }
 
-/// The refusal of a receiver behind other parameters. It stands at the `self`, and where there is none, at what only begins like a receiver.
-fn late_receiver(inputs: &Punctuated<FnArg, Comma>, input: &ParseBuffer<'_>) -> Refusal {
+/// Refuses a receiver behind other parameters: at its `self`; or, where there is none, at what only begins like a receiver.
+fn late_receiver(inputs: &Punctuated<FnArg, Comma>, input: &ParseBuffer<'_>) -> Parsed<Parameter>
+    ensures { IfOk result (λ _. ⊥) }
+{
     let text = match inputs.first() {
         Some(FnArg::Receiver(_)) => "unexpected second method receiver",
-        _ => "unexpected method receiver",
+        Some(FnArg::Typed(_)) => "unexpected method receiver",
+        None => "unexpected method receiver",
     };
-    match span_of_self(input) {
-        Ok(Some(span)) => Refusal::Syntax { span, text },
-        Ok(None) => input.refusal("unexpected token"),
-        Err(refusal) => refusal,
+    match span_of_self(input)? {
+        Some(span) => Err(Refusal::Syntax { span, text }),
+        None => Err(input.refusal("unexpected token")),
     }
 }
 

@@ -6,11 +6,13 @@ ghost use Rattle.syn_grammar.specs.Grammar.{Both};
 ghost use Rattle.syn_grammar.specs.Words.{w_mut};
 ghost use Rattle.syn_grammar.specs.Run.{wrap};
 ghost use Rattle.syn_parse.specs.Meanings.{meaning_of};
+ghost use Rattle.syn_tokens.specs.Kinds.{colon_syntax, eq_syntax, semi_syntax};
 ghost use Rattle.syn_lower.specs.Attributes.{attributes_syntax};
+ghost use Rattle.syn_lower.specs.Types.{syntax_of_Type};
 ghost use Rattle.syn_lower.specs.Parsing.{of, rule, meaning_of_rule, parse_form, parse_rule, Computes, Moved, itself, IsSyntax};
 ghost use Rattle.syn_tree.specs.Derive.{item_of};
 ghost use Rattle.syn_tree.specs.Restriction.{syntax_of_Visibility};
-ghost use Rattle.syn_item.specs.ItemForms.{const_form, static_form, value_form, value_syntax};
+ghost use Rattle.syn_item.specs.ItemForms.{const_form, static_form, value_form};
 
 use crate::names::{OrUnderscore, name_or};
 use crate::simple::{ItemConst, ItemStatic, StaticMutability};
@@ -78,7 +80,7 @@ pub(crate) fn constant(
 
 /// `:`, a type, `=`, an expression and `;`.
 fn typed_value(input: &mut ParseBuffer<'_>) -> Parsed<(Colon, Box<Type>, Eq, DeferredExpr, Semi)>
-    ensures reads { Computes IsSyntax value_syntax (parse_form value_form input.old) result input.new }
+    ensures reads { Computes IsSyntax (λ p. Both (colon_syntax p.0) (Both (syntax_of_Type p.1.value) (Both (eq_syntax p.2) (Both p.3 (semi_syntax p.4))))) (parse_form value_form input.old) result input.new }
     ensures moved { Moved input.old result input.new }
 {
     Ok((

@@ -1,6 +1,6 @@
 //! Parsers of uses and their trees. A tree holds trees: each parser is told what reads one inside, and the knot at the end closes the
 //! circle.
-ghost use Rattle.std.specs.Prelude.{◌≡◌, ◌∷◌, [], None, true};
+ghost use Rattle.std.specs.Prelude.{◌≡◌, ◌∷◌, [], IfOk, None, true};
 ghost use Rattle.syn_grammar.specs.Rules as rules;
 ghost use Rattle.syn_grammar.specs.Table as table;
 ghost use Rattle.syn_grammar.specs.Tokens.{Stream};
@@ -106,23 +106,19 @@ fn braced(input: &mut ParseBuffer<'_>) -> Parsed<UseTree>
             Ok(tree)
         }
         Err(Refusal::Memory) => Err(Refusal::Memory),
-        Err(refusal) => Err(behind_root_marks(refusal, input)),
+        Err(Refusal::Syntax { span: _, text: _ }) => refused_trees(input),
     }
 }
 
-/// The refusal of trees in braces that aren't read as such trees: behind the braces, where they are read once `::` may stand before them.
-fn behind_root_marks(refusal: Refusal, input: &ParseBuffer<'_>) -> Refusal {
-    let mut behind = input.fork();
-    let Ok((_braces, mut content)) = behind.read_group::<kind::Brace>() else {
-        return refusal;
-    };
-    if let Err(refusal) = read_by(Rule::RootedTrees, &mut content) {
-        return refusal;
-    }
-    match content.read_end() {
-        Ok(()) => behind.refusal("unexpected token"),
-        Err(refusal) => refusal,
-    }
+/// Refuses trees in braces that aren't read as such trees: in the braces; or behind them, where they are read once `::` may stand before
+/// them.
+fn refused_trees(input: &mut ParseBuffer<'_>) -> Parsed<UseTree>
+    ensures { IfOk result (λ _. ⊥) }
+{
+    let (_brace_token, mut content) = input.read_group::<kind::Brace>()?;
+    read_by(Rule::RootedTrees, &mut content)?;
+    content.read_end()?;
+    Err(input.refusal("unexpected token"))
 }
 
 /// What reads a tree inside of another.
