@@ -1,12 +1,11 @@
 -- Where a plan has come to its mark: what it reads from there is kept as tokens, or it reads nothing.
-use Rattle.std.proofs.Common.{◌≡◌, Bool, true, false, Some, None, refl, sym, ap, ◌∙◌, true≢false}
+use Rattle.std.proofs.Common.{◌≡◌, Bool, true, false, Some, None, refl, ap, ◌∙◌, true≢false}
 use Rattle.syn_grammar.specs.Tokens.{Stream}
 use Rattle.syn_grammar.specs.Rules.{Rule}
-use Rattle.syn_grammar.specs.Grammar.{Syntax, Grammar, holds}
+use Rattle.syn_grammar.specs.Grammar.{Syntax, holds}
 use Rattle.syn_grammar.specs.Take.{Out, sees}
 use Rattle.syn_grammar.specs.Run.{parse_form}
 use Rattle.syn_grammar.specs.Plan.{Plan, reads, turns, tests, keeps, ends, done, fails, Marked, by_test, follow, kept_as, run_plan}
-use Rattle.syn_grammar.specs.ItemPlan.{definition_plan, kept_end, kept_impl, restricted_end, visible_impl}
 use Rattle.syn_item.specs.Planned.{OnlyKept}
 
 module _ (k : Rule) (ts : Stream) where

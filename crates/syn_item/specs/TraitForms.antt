@@ -1,13 +1,12 @@
 -- HOW TRAITS AND THEIR MEMBERS ARE READ: forms of their parts, and what the parts stand for together.
-use Rattle.std.specs.Prelude.{Option, Some, None}
-use Rattle.syn_grammar.specs.Words.{w_auto, w_trait, w_type, colon, semicolon, w_const}
-use Rattle.syn_grammar.specs.Rules.{generics, supertraits, trait_items, type, where_clause, body}
-use Rattle.syn_grammar.specs.Grammar.{Grammar, Syntax, Nothing, Both, Left, Right, Node, Unshown, ◌&◌, name, word, rule, unshown, when◌then◌else◌}
+use Rattle.syn_grammar.specs.Words.{w_auto, w_trait, semicolon}
+use Rattle.syn_grammar.specs.Rules.{generics, supertraits, trait_items, where_clause, body}
+use Rattle.syn_grammar.specs.Grammar.{Grammar, Syntax, Nothing, Both, Node, ◌&◌, name, word, rule, unshown, when◌then◌else◌}
 use Rattle.syn_grammar.specs.Forms.{plainly, punctuation}
-use Rattle.syn_grammar.specs.Table.{at_semicolon, name_or_underscore, optional_item_word, optional_value}
+use Rattle.syn_grammar.specs.Table.{at_semicolon, optional_item_word}
 use Rattle.syn_grammar.specs.ItemPlan.{absent}
 use Rattle.syn_tokens.specs.Idents.{IdentValue}
-use Rattle.syn_tokens.specs.Kinds.{Auto, Const, Trait, Unsafe, auto_syntax, const_syntax, trait_syntax, unsafe_syntax}
+use Rattle.syn_tokens.specs.Kinds.{Trait, auto_syntax, const_syntax, trait_syntax, unsafe_syntax}
 use Rattle.syn_tokens.specs.Leaves.{maybe, syntax_of_ident}
 use Rattle.syn_lower.specs.Attributes.{attributes_syntax}
 use Rattle.syn_lower.specs.Parts.{first}

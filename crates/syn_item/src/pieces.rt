@@ -14,7 +14,7 @@ ghost use Rattle.syn_lower.specs.Generics.{bounds_syntax};
 ghost use Rattle.syn_lower.specs.Parsing.{parse_rule, parse_form, Computes, Moved, Kept, IsSyntax, list_of};
 ghost use Rattle.syn_recognize.specs.Names.{rule_of};
 ghost use Rattle.syn_grammar.specs.Tokens.{at_word, pick};
-ghost use Rattle.syn_grammar.specs.Words.{w_const};
+ghost use Rattle.syn_grammar.specs.Words.{equals, w_const};
 ghost use Rattle.syn_grammar.specs.Take.{sees};
 ghost use Rattle.syn_grammar.specs.MemberPlans as plan;
 ghost use Rattle.syn_parse.specs.Peeks.{past};

@@ -6,7 +6,7 @@ ghost use Rattle.syn_grammar.specs.Plan.{run_plan};
 ghost use Rattle.syn_grammar.specs.Run.{wrap};
 ghost use Rattle.syn_grammar.specs.Tokens.{Stream};
 ghost use Rattle.syn_lower.specs.Attributes.{attributes_syntax};
-ghost use Rattle.syn_lower.specs.Parsing.{of, rule, meaning_of_rule, parse_rule, parse_form, Computes, Moved, itself, IsSyntax};
+ghost use Rattle.syn_lower.specs.Parsing.{of, rule, meaning_of_rule, parse_rule, Computes, Moved, itself, IsSyntax};
 ghost use Rattle.syn_tokens.specs.Kinds.{semi_syntax};
 ghost use Rattle.syn_tree.specs.Restriction.{syntax_of_Visibility};
 ghost use Rattle.syn_item.specs.Foreign.{syntax_of_ForeignItem};
