@@ -1,9 +1,12 @@
 pub mod Aliases
 pub mod Arguments
 pub mod Bodies
+pub mod BoundLists
 pub mod Impls
 pub mod Inputs
+pub mod Kept
 pub mod Macros
+pub mod MemberLists
 pub mod Members
 pub mod Parameters
 pub mod Receivers

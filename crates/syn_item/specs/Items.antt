@@ -21,3 +21,10 @@ syntax_of_Item (Item-m.Ty t) = Node (Case type_item t)
 syntax_of_Item (Item-m.Union t) = Node (Case union_item t)
 syntax_of_Item (Item-m.Use t) = Node (Case use_item t)
 syntax_of_Item (Item-m.Verbatim tokens) = Node (Case kept_item (Captured Nothing tokens))
+
+-- the item that the input of a derive is
+abbrev pub item_in : Syntax → Item-m.the_data
+item_in (Node (Case enumeration s)) = Item-m.Enum s
+item_in (Node (Case structure s)) = Item-m.Struct s
+item_in (Node (Case union_item s)) = Item-m.Union s
+item_in s = Item-m.Struct s

@@ -2,6 +2,8 @@
 //! is taken.
 ghost use Rattle.std.specs.Prelude.{◌≡◌};
 
+mod members;
+
 use crate::function::ItemFn;
 use crate::item::Item;
 use crate::sig::{FnArg, Receiver};

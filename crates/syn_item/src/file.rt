@@ -4,6 +4,8 @@ ghost use Rattle.syn_grammar.specs.Same.{same_syntax};
 ghost use Rattle.syn_tokens.specs.Leaves.{maybe};
 ghost use Rattle.syn_item.specs.Files.{unshown_text};
 
+mod parsing;
+
 use crate::item::Item;
 use crate::parts::print_members;
 use std::alloc::{AllocError, Global};

@@ -1,7 +1,11 @@
 //! Foreign modules and their members.
 
+mod members;
+mod parsing;
+
 use crate::sig::{Abi, Safety, Signature};
 use crate::simple::StaticMutability;
+pub(crate) use parsing::foreign_module_rest;
 use syn_lower::{Attribute, Generics, Type};
 use syn_pat::Macro;
 use syn_tokens::ident::Ident;

@@ -5,8 +5,12 @@ ghost use Rattle.syn_tokens.specs.Building.{added};
 ghost use Rattle.syn_lower.specs.Types.{syntax_of_Type};
 ghost use Rattle.syn_item.specs.Impls.{behind_generics, behind_impl};
 
+mod members;
+mod parsing;
+
 use crate::parts::{print_braced, print_pair};
 use crate::sig::Signature;
+pub(crate) use parsing::{ImplMarks, impl_end, impl_generics, impl_or_kept, implemented};
 use std::alloc::{AllocError, Global};
 use syn_lower::attr::print_before_body;
 use syn_lower::{Attribute, Generics, Path, Type};

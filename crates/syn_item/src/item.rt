@@ -1,5 +1,9 @@
 //! Items of every kind.
 
+mod derive;
+mod parsing;
+mod trees;
+
 use crate::foreign::ItemForeignMod;
 use crate::function::ItemFn;
 use crate::impls::ItemImpl;
@@ -9,6 +13,7 @@ use crate::simple::{
 use crate::traits::ItemTrait;
 use syn_tokens::stream::TokenStream;
 use syn_tree::item::{ItemEnum, ItemStruct, ItemUnion};
+pub use trees::Items;
 
 /// An item.
 #[derive(Drop)]

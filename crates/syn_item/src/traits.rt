@@ -10,8 +10,11 @@ ghost use Rattle.syn_lower.specs.Bodies.{attributes_before_body, attributes_in_b
 ghost use Rattle.syn_item.specs.Simple.{attributes_by_content};
 ghost use Rattle.syn_item.specs.Traits.{function_end};
 
+mod parsing;
+
 use crate::parts::{print_body, print_braced};
 use crate::sig::Signature;
+pub(crate) use parsing::{TraitHead, TraitMarks, named_trait, trait_end, unmarked_trait};
 use std::alloc::AllocError;
 use syn_lower::attr::{print_before_body, print_outer};
 use syn_lower::generics::print_bounds;

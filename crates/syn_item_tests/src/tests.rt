@@ -1,7 +1,9 @@
+mod deep;
 mod files;
 mod foreign;
 mod functions;
 mod impls;
+mod opened;
 mod parsed;
 mod signatures;
 mod simple;

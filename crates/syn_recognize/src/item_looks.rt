@@ -157,7 +157,7 @@ fn at_async_item(input: &ParseBuffer<'_>) -> bool
 
 /// Whether `union` stands next, and a name behind it.
 #[tactic(auto, using(crate::proofs::ItemLooks::union_seen))]
-pub(crate) fn at_union(input: &ParseBuffer<'_>) -> bool
+pub fn at_union(input: &ParseBuffer<'_>) -> bool
     ensures { result ≡ sees (grammar.at_word w_union and_also ahead Begins_item) input.now }
 {
     input.peek::<Union>() && input.peek2::<Ident>()
@@ -165,7 +165,7 @@ pub(crate) fn at_union(input: &ParseBuffer<'_>) -> bool
 
 /// Whether `auto` stands next, and `trait` behind it.
 #[tactic(auto, using(crate::proofs::ItemLooks::auto_seen))]
-pub(crate) fn at_auto(input: &ParseBuffer<'_>) -> bool
+pub fn at_auto(input: &ParseBuffer<'_>) -> bool
     ensures { result ≡ sees (grammar.at_word w_auto and_also ahead Begins_item) input.now }
 {
     input.peek::<Auto>() && input.peek2::<Trait>()
@@ -369,14 +369,14 @@ pub(crate) fn is_string(literal: &Literal) -> bool
 
 /// Whether a word of a path stands next, and `::` behind it.
 #[tactic(auto, using(crate::proofs::MacroLooks::before_colons_seen))]
-pub(crate) fn is_before_colons(input: &ParseBuffer<'_>) -> bool
+pub fn is_before_colons(input: &ParseBuffer<'_>) -> bool
     ensures { result ≡ sees (ahead Before_colons) input.now }
 {
     at_path_word(input) && input.peek2::<PathSep>()
 }
 
 /// Whether the path of a macro stands next, or its rest behind a `:`. Refused only where memory is.
-pub(crate) fn is_before_macro(input: &ParseBuffer<'_>) -> Parsed<bool>
+pub fn is_before_macro(input: &ParseBuffer<'_>) -> Parsed<bool>
     ensures { OrMemory IsSyntax result (λ answer. answer ≡ sees (ahead Before_macro) input.now) }
 {
     if !at_lone_colon(input) {
@@ -392,7 +392,7 @@ pub(crate) fn is_before_macro(input: &ParseBuffer<'_>) -> Parsed<bool>
 
 /// Whether parentheses stand next that begin with `in`.
 #[tactic(auto, using(crate::proofs::Restricted::in_restriction_seen))]
-pub(crate) fn at_in_restriction(input: &ParseBuffer<'_>) -> bool
+pub fn at_in_restriction(input: &ParseBuffer<'_>) -> bool
     ensures { result ≡ sees plan.at_in_restriction input.now }
 {
     match input.peek_group::<kind::Paren>() {
@@ -403,7 +403,7 @@ pub(crate) fn at_in_restriction(input: &ParseBuffer<'_>) -> bool
 
 /// Whether parentheses stand next that hold `crate`, `self` or `super` alone.
 #[tactic(auto, using(crate::proofs::Restricted::lone_word_seen))]
-pub(crate) fn at_lone_word(input: &ParseBuffer<'_>) -> bool
+pub fn at_lone_word(input: &ParseBuffer<'_>) -> bool
     ensures { result ≡ sees plan.at_lone_word input.now }
 {
     match input.peek_group::<kind::Paren>() {

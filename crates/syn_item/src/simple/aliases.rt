@@ -115,7 +115,7 @@ fn aliased(input: &mut ParseBuffer<'_>) -> Parsed<Aliased>
 }
 
 /// The clause that stands, and its place.
-fn placed(
+pub(crate) fn placed(
     is_late: bool,
     early: Option<WhereClause>,
     late: Option<WhereClause>,

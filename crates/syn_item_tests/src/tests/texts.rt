@@ -3,11 +3,16 @@
 use crate::tests::support::{assert_tree, part};
 use std::alloc::Global;
 use std::process::Abort;
+use syn_item::file::File;
+use syn_item::foreign::{ForeignItem, ItemForeignMod};
 use syn_item::function::ItemFn;
+use syn_item::impls::{ImplItem, ItemImpl};
+use syn_item::item::Item;
 use syn_item::sig::{FnArg, Receiver, Signature};
 use syn_item::simple::{
     ItemConst, ItemExternCrate, ItemMacro, ItemMod, ItemStatic, ItemTraitAlias, ItemType, ItemUse,
 };
+use syn_item::traits::{ItemTrait, TraitItem};
 use syn_item::use_tree::UseTree;
 use syn_parse::parse::{Parse, parse2};
 use syn_reader::reader::read_tokens;
@@ -15,18 +20,26 @@ use syn_tokens::error::Result;
 use syn_tokens::print::ToTokens;
 use syn_tokens::syntactic::try_clone::TryClone;
 
+mod file;
 mod fn_arg;
+mod foreign_item;
+mod impl_item;
+mod item;
 mod item_const;
 mod item_extern_crate;
 mod item_fn;
+mod item_foreign_mod;
+mod item_impl;
 mod item_macro;
 mod item_mod;
 mod item_static;
+mod item_trait;
 mod item_trait_alias;
 mod item_type;
 mod item_use;
 mod receiver;
 mod signature;
+mod trait_item;
 mod use_tree;
 
 /// A text, and what it prints.
@@ -141,5 +154,50 @@ fn trait_aliases(rt: HostRuntime) {
         rt.alloc(),
         item_trait_alias::READ,
         item_trait_alias::REFUSED,
+    );
+}
+
+#[test]
+fn items(rt: HostRuntime) {
+    assert_texts::<Item>(&rt, rt.alloc(), item::READ, item::REFUSED);
+}
+
+#[test]
+fn files(rt: HostRuntime) {
+    assert_texts::<File>(&rt, rt.alloc(), file::READ, file::REFUSED);
+}
+
+#[test]
+fn members_of_traits(rt: HostRuntime) {
+    assert_texts::<TraitItem>(&rt, rt.alloc(), trait_item::READ, trait_item::REFUSED);
+}
+
+#[test]
+fn members_of_impls(rt: HostRuntime) {
+    assert_texts::<ImplItem>(&rt, rt.alloc(), impl_item::READ, impl_item::REFUSED);
+}
+
+#[test]
+fn foreign_members(rt: HostRuntime) {
+    assert_texts::<ForeignItem>(&rt, rt.alloc(), foreign_item::READ, foreign_item::REFUSED);
+}
+
+#[test]
+fn traits(rt: HostRuntime) {
+    assert_texts::<ItemTrait>(&rt, rt.alloc(), item_trait::READ, item_trait::REFUSED);
+}
+
+#[test]
+fn impls(rt: HostRuntime) {
+    assert_texts::<ItemImpl>(&rt, rt.alloc(), item_impl::READ, item_impl::REFUSED);
+}
+
+#[test]
+fn foreign_modules(rt: HostRuntime) {
+    assert_texts::<ItemForeignMod>(
+        &rt,
+        rt.alloc(),
+        item_foreign_mod::READ,
+        item_foreign_mod::REFUSED,
     );
 }

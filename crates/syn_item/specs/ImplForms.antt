@@ -1,0 +1,96 @@
+-- HOW IMPLS AND THEIR MEMBERS ARE READ: forms of their parts, and what the parts stand for together.
+use Rattle.syn_grammar.specs.Words.{exclamation, equals, semicolon, w_const, w_default, w_type}
+use Rattle.std.specs.Prelude.{◌≡◌, None, Result, Ok, Err}
+use Rattle.syn_grammar.specs.Tokens.{Stream, at_generics}
+use Rattle.syn_grammar.specs.Take.{Out, sees}
+use Rattle.syn_grammar.specs.Run.{and_then, branch, parse_form, parse_rule, wrap}
+use Rattle.syn_grammar.specs.Rules.{attributes, for_self_type, generics, impl_body, lifetime_parameter, type, type_path, visibility, where_clause}
+use Rattle.syn_grammar.specs.Grammar.{Grammar, Syntax, Both, Node, ◌&◌, empty, generics_before, name, rule, when◌then◌else◌, word}
+use Rattle.syn_grammar.specs.Forms.{optional, plainly, punctuation}
+use Rattle.syn_grammar.specs.Table.{at_brace, at_exclamation, at_for, at_module_path, kept_generics, name_or_underscore, parameter}
+use Rattle.syn_tokens.specs.Idents.{IdentValue}
+use Rattle.syn_tokens.specs.Kinds.{Const, «Type» as TypeToken, const_syntax, default_syntax, for_syntax, impl_syntax, not_syntax, type_syntax, unsafe_syntax}
+use Rattle.syn_tokens.specs.InOrder.{pair_of}
+use Rattle.syn_tokens.specs.Leaves.{maybe, syntax_of_ident}
+use Rattle.syn_lower.specs.Attributes.{attributes_syntax}
+use Rattle.syn_lower.specs.Parts.{first}
+use Rattle.syn_lower.specs.Types.{syntax_of_Type}
+use Rattle.syn_grammar.specs.Promises.{itself}
+use Rattle.syn_tree.specs.Restriction.{syntax_of_Visibility}
+use Rattle.syn_item.specs.Impls.{implemented}
+use Rattle.syn_item.specs.declared.impls.members.MemberMarks.{MemberMarks}
+use Rattle.syn_item.specs.declared.impls.parsing.ImplMarks.{ImplMarks}
+use Rattle.syn_item.specs.declared.impls.parsing.Implemented.{Implemented}
+
+-- what stands behind an impl's generics, and what ends it
+abbrev pub implemented_form : Grammar
+implemented_form =
+    when at_exclamation then punctuation exclamation & (when at_brace then rule impl_body else rule type_path & rule for_self_type & rule impl_body)
+    else when at_module_path then rule type_path & (when at_for then rule for_self_type else empty) & rule impl_body
+    else rule type & rule impl_body
+
+-- generics, and what stands behind them
+abbrev pub behind_impl_form : Grammar
+behind_impl_form = generics_before (rule lifetime_parameter) parameter implemented_form
+
+-- an impl of what stands before its generics, and of these and what stands behind them
+abbrev pub impl_of : ImplMarks → Syntax → Syntax
+impl_of m s =
+    Both (attributes_syntax m.attrs.items)
+    (Node (Both (maybe default_syntax m.defaultness) (Both (maybe const_syntax m.constness) (Both (maybe unsafe_syntax m.unsafety) (Both (impl_syntax m.impl_token) s)))))
+
+-- an impl's first types, and what ends it
+abbrev pub types_before : Implemented → Syntax → Syntax
+types_before i rest = implemented (maybe not_syntax i.polarity) (maybe (pair_of itself for_syntax) i.trait_) (syntax_of_Type i.self_ty.value) rest
+
+-- What stands before the end of an impl, by what reads on: `!` and what follows it, a path and what follows it, or a type.
+abbrev pub bang_then : (Stream → Out) → Stream → Out
+bang_then f ts =
+    and_then (parse_form (punctuation exclamation) ts) (λ r. branch (sees at_brace r) (f r) (and_then (parse_rule type_path r) (λ q. and_then (parse_rule for_self_type q) f)))
+
+abbrev pub path_then : (Stream → Out) → Stream → Out
+path_then f ts = and_then (parse_rule type_path ts) (λ r. and_then (parse_form (when at_for then rule for_self_type else empty) r) f)
+
+abbrev pub types_then : (Stream → Out) → Stream → Out
+types_then f ts =
+    branch (sees at_exclamation ts) (bang_then f ts)
+    (branch (sees at_module_path ts) (path_then f ts) (and_then (parse_rule type ts) f))
+
+-- A part that others are read behind: whatever reads on, it goes on from here, and both are this together; or nothing is read.
+abbrev pub ReadsBefore : {X E : Type 0} → (E → Type 0) → (X → Syntax → Syntax) → ((Stream → Out) → Out) → Result X E → Stream → Type 0
+ReadsBefore refusal view out (Ok x) new = (f : Stream → Out) → out f ≡ wrap (view x) (f new)
+ReadsBefore refusal view out (Err e) new = refusal e → (f : Stream → Out) → out f ≡ None
+
+-- generics, where they stand next and no type does
+abbrev pub impl_generics_form : Grammar
+impl_generics_form = when at_generics then kept_generics else empty
+
+-- `const`, and a name or `_`
+abbrev pub const_head_form : Grammar
+const_head_form = plainly (word w_const) & name_or_underscore
+
+abbrev pub const_head_syntax : Const × IdentValue → Syntax
+const_head_syntax p = Both (const_syntax p.0) (syntax_of_ident p.1)
+
+-- `type`, a name and generics
+abbrev pub type_head_form : Grammar
+type_head_form = plainly (word w_type) & plainly name & rule generics
+
+abbrev pub type_head_syntax : TypeToken × IdentValue × Syntax → Syntax
+type_head_syntax p = Both (type_syntax p.0) (Both (syntax_of_ident p.1) (first p.2))
+
+-- `=`, a type, a where clause and `;`
+abbrev pub type_rest_form : Grammar
+type_rest_form = punctuation equals & rule type & rule where_clause & punctuation semicolon
+
+-- what stands before the words of a member: attributes, a visibility and perhaps `default`
+abbrev pub member_marks_form : Grammar
+member_marks_form = rule attributes & rule visibility & optional w_default
+
+abbrev pub member_marks_syntax : MemberMarks → Syntax
+member_marks_syntax m = Both (attributes_syntax m.attrs.items) (Both (syntax_of_Visibility m.vis) (maybe default_syntax m.defaultness))
+
+-- a type of what stands before its word, of its head, and of what stands behind its generics
+abbrev pub type_rest_of : Syntax → Syntax → Syntax → Syntax
+type_rest_of (Both a (Both v d)) (Both k (Both n g)) rest = Node (Both a (Both v (Both d (Both k (Both n (Both g rest))))))
+type_rest_of m h rest = rest

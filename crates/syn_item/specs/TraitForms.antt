@@ -1,0 +1,60 @@
+-- HOW TRAITS AND THEIR MEMBERS ARE READ: forms of their parts, and what the parts stand for together.
+use Rattle.syn_grammar.specs.Words.{w_auto, w_trait, semicolon}
+use Rattle.syn_grammar.specs.Rules.{generics, supertraits, trait_items, where_clause, body}
+use Rattle.syn_grammar.specs.Grammar.{Grammar, Syntax, Nothing, Both, Node, ◌&◌, name, word, rule, unshown, when◌then◌else◌}
+use Rattle.syn_grammar.specs.Forms.{plainly, punctuation}
+use Rattle.syn_grammar.specs.Table.{at_semicolon, optional_item_word}
+use Rattle.syn_grammar.specs.ItemPlan.{absent}
+use Rattle.syn_tokens.specs.Idents.{IdentValue}
+use Rattle.syn_tokens.specs.Kinds.{Trait, auto_syntax, const_syntax, trait_syntax, unsafe_syntax}
+use Rattle.syn_tokens.specs.Leaves.{maybe, syntax_of_ident}
+use Rattle.syn_lower.specs.Attributes.{attributes_syntax}
+use Rattle.syn_lower.specs.Parts.{first}
+use Rattle.syn_tree.specs.Derive.{item_of}
+use Rattle.syn_tree.specs.Restriction.{syntax_of_Visibility}
+use Rattle.syn_item.specs.Pieces.{bounds_form, braced_form}
+use Rattle.syn_item.specs.declared.traits.parsing.TraitHead.{TraitHead}
+use Rattle.syn_item.specs.declared.traits.parsing.TraitMarks.{TraitMarks}
+
+-- `trait`, a name and generics
+abbrev pub named_form : Grammar
+named_form = plainly (word w_trait) & plainly name & rule generics
+
+abbrev pub named_syntax : Trait × IdentValue × Syntax → Syntax
+named_syntax p = Both (trait_syntax p.0) (Both (syntax_of_ident p.1) (first p.2))
+
+-- what stands behind them
+abbrev pub trait_end_form : Grammar
+trait_end_form = bounds_form supertraits & rule where_clause & braced_form trait_items
+
+-- a trait of what stands before its word, of that, its name and generics, and of what stands behind them
+abbrev pub trait_of : TraitMarks → Syntax → Syntax → Syntax
+trait_of m o rest =
+    item_of (attributes_syntax m.attrs.items) (syntax_of_Visibility m.vis) (Both (maybe const_syntax m.constness) (Node (Both (maybe unsafe_syntax m.unsafety) (Both o rest))))
+
+-- behind generics
+abbrev pub behind_head : TraitHead → Syntax → Syntax
+behind_head h s =
+    trait_of h.marks (maybe auto_syntax h.auto_token) (Both (trait_syntax h.trait_token) (Both (syntax_of_ident h.ident) (Both (first h.generics) s)))
+
+-- behind `unsafe`
+abbrev pub behind_marks : TraitMarks → Syntax → Syntax
+behind_marks m (Both o rest) = trait_of m o rest
+behind_marks m s = trait_of m s Nothing
+
+abbrev pub unmarked_form : Grammar
+unmarked_form = optional_item_word w_auto & plainly (word w_trait) & plainly name & rule generics & trait_end_form
+
+-- `;` or a body
+abbrev pub function_end_form : Grammar
+function_end_form = when at_semicolon then punctuation semicolon else unshown & rule body
+
+-- a trait or an alias up to its generics, as a trait of which nothing stands behind them
+abbrev pub named_head : Syntax → Syntax → Syntax → Syntax → Syntax
+named_head a v c (Both k (Both n g)) = item_of a v (Both c (Node (Both absent (Both absent (Both k (Both n (Both g Nothing)))))))
+named_head a v c s = s
+
+-- an alias behind its generics, of `=`, bounds, a where clause and `;`
+abbrev pub alias_of : TraitHead → Syntax → Syntax
+alias_of h s =
+    item_of (attributes_syntax h.marks.attrs.items) (syntax_of_Visibility h.marks.vis) (Node (Both (trait_syntax h.trait_token) (Both (syntax_of_ident h.ident) (Both (first h.generics) s))))

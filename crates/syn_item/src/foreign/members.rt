@@ -1,0 +1,303 @@
+//! Parsers of the members of foreign modules.
+ghost use Rattle.std.specs.Prelude.{◌≡◌};
+ghost use Rattle.syn_grammar.specs.Rules as rules;
+ghost use Rattle.syn_grammar.specs.Grammar.{Both};
+ghost use Rattle.syn_grammar.specs.Plan.{run_plan};
+ghost use Rattle.syn_grammar.specs.Run.{wrap};
+ghost use Rattle.syn_grammar.specs.Tokens.{Stream};
+ghost use Rattle.syn_lower.specs.Attributes.{attributes_syntax};
+ghost use Rattle.syn_lower.specs.Parsing.{of, rule, meaning_of_rule, parse_rule, Computes, Moved, itself, IsSyntax};
+ghost use Rattle.syn_tokens.specs.Kinds.{semi_syntax};
+ghost use Rattle.syn_tree.specs.Restriction.{syntax_of_Visibility};
+ghost use Rattle.syn_item.specs.Foreign.{syntax_of_ForeignItem};
+ghost use Rattle.syn_item.specs.ForeignForms.{bare_static_syntax};
+ghost use Rattle.syn_item.specs.Planned.{Follows};
+ghost use Rattle.syn_item.specs.Stages.{foreign_function_or_kept, foreign_item_plan_behind, foreign_static_or_kept, foreign_type_or_kept};
+
+use super::{ForeignItem, ForeignItemFn, ForeignItemMacro, ForeignItemStatic, ForeignItemType};
+use crate::pieces::{kept_tokens, member_macro, type_head};
+use crate::sig::{Safety, foreign_signature, safe_or_unsafe};
+use crate::simple::StaticMutability;
+use syn_lower::attr::outer_attributes;
+use syn_lower::where_clause::where_clause;
+use syn_lower::{Attribute, Type};
+use syn_parse::buffer::ParseBuffer;
+use syn_parse::read::Read;
+use syn_parse::read::refusal::Parsed;
+use syn_recognize::Rule;
+use syn_recognize::item_looks::{is_before_colons, is_before_macro};
+use syn_recognize::looks::at_empty_group;
+use syn_tokens::ident::Ident;
+use syn_tokens::token;
+use syn_tokens::token::{
+    Async, Colon, Const, Extern, Fn, Pub, Safe, SelfType, Semi, Static, Unsafe,
+};
+use syn_tree::item::{FnModifiers, TypeModifiers};
+use syn_tree::restriction::Visibility;
+
+/// A foreign member: attributes, and then what the next words tell. A function with a body, a static with a value, and a type with bounds or
+/// with a type are kept as their tokens.
+impl Read for ForeignItem {
+    ghost form = { of (rule rules.foreign_item) };
+
+    ghost meaning = { meaning_of_rule rules.foreign_item };
+
+    #[tactic(auto, using(syn_grammar::proofs::MemberPlans::foreign_item_plan_is, crate::proofs::Kept::kept_whole), unfolding(syn_grammar::specs::MemberPlans::foreign_item_plan))]
+    fn read(input: &mut ParseBuffer<'_>) -> Parsed<ForeignItem> {
+        let start = input.fork();
+        let attrs = outer_attributes(input)?;
+        match foreign_item_behind(attrs, input) {
+            Ok(Some(member)) => Ok(member),
+            Ok(None) => Ok(ForeignItem::Verbatim(kept_tokens(Rule::ForeignItem, &start, input)?)),
+            Err(refusal) => Err(refusal),
+        }
+    }
+}
+
+/// A foreign member, behind its attributes; `None` where it is kept as its tokens.
+#[tactic(auto, using(crate::proofs::Kept::only_kept), unfolding(crate::specs::Stages::foreign_item_plan_behind, syn_grammar::specs::MemberPlans::foreign_member_plan, syn_grammar::specs::MemberPlans::safety_plan, syn_grammar::specs::MemberPlans::foreign_macro_plan))]
+fn foreign_item_behind(
+    attrs: Vec<Attribute>,
+    input: &mut ParseBuffer<'_>,
+) -> Parsed<Option<ForeignItem>>
+    ensures follows { (ts : Stream) → Follows IsSyntax syntax_of_ForeignItem rules.kept_foreign_item ts (run_plan (foreign_item_plan_behind (attributes_syntax attrs.items)) rules.kept_foreign_item ts input.old) result input.new }
+{
+    let is_marked = input.peek::<Pub>() || at_empty_group(input);
+    let vis = input.read()?;
+    if input.peek::<token::Type>() {
+        return foreign_type(attrs, vis, input);
+    }
+    if at_static(input) {
+        return foreign_static(attrs, vis, input);
+    }
+    if at_foreign_function(is_marked, input)? {
+        return foreign_function(attrs, vis, input);
+    }
+    if is_marked || input.peek::<SelfType>() {
+        return Err(input.refusal("unexpected token"));
+    }
+    Ok(Some(ForeignItem::Macro(foreign_macro(attrs, input)?)))
+}
+
+/// Whether `static` stands next, or behind `safe` or `unsafe`.
+fn at_static(input: &ParseBuffer<'_>) -> bool {
+    if input.peek::<Safe>() || input.peek::<Unsafe>() {
+        input.peek2::<Static>()
+    } else {
+        input.peek::<Static>()
+    }
+}
+
+/// Whether a word of a foreign signature stands next. Where no visibility stands before it (`is_marked`), `safe` may also begin a path.
+fn at_foreign_function(is_marked: bool, input: &ParseBuffer<'_>) -> Parsed<bool> {
+    if input.peek::<Safe>() {
+        return Ok(is_marked || !(is_before_macro(input)? || is_before_colons(input)));
+    }
+    Ok(
+        input.peek::<Unsafe>()
+            || input.peek::<Const>()
+            || input.peek::<Async>()
+            || input.peek::<Extern>()
+            || input.peek::<Fn>(),
+    )
+}
+
+/// A foreign function, behind its visibility; `None` where it is kept as its tokens: with a body.
+#[tactic(auto, using(crate::proofs::Kept::only_kept), unfolding(syn_grammar::specs::MemberPlans::foreign_function_end))]
+fn foreign_function(
+    attrs: Vec<Attribute>,
+    vis: Visibility,
+    input: &mut ParseBuffer<'_>,
+) -> Parsed<Option<ForeignItem>>
+    ensures follows { (ts : Stream) → Follows IsSyntax syntax_of_ForeignItem rules.kept_foreign_item ts (run_plan (foreign_function_or_kept (attributes_syntax attrs.items) (syntax_of_Visibility vis)) rules.kept_foreign_item ts input.old) result input.new }
+{
+    let sig = foreign_signature(input)?;
+    if !input.peek::<Semi>() {
+        return Ok(None);
+    }
+    Ok(Some(ForeignItem::Fn(ForeignItemFn {
+        attrs,
+        vis,
+        modifiers: FnModifiers::default(),
+        sig,
+        semi_token: input.read()?,
+    })))
+}
+
+/// A foreign static, behind its visibility; `None` where it is kept as its tokens: with a value.
+#[tactic(auto, using(crate::proofs::Kept::only_kept), unfolding(syn_grammar::specs::MemberPlans::foreign_static_plan, syn_grammar::specs::ItemPlan::kept_end))]
+fn foreign_static(
+    attrs: Vec<Attribute>,
+    vis: Visibility,
+    input: &mut ParseBuffer<'_>,
+) -> Parsed<Option<ForeignItem>>
+    ensures follows { (ts : Stream) → Follows IsSyntax syntax_of_ForeignItem rules.kept_foreign_item ts (run_plan (foreign_static_or_kept (attributes_syntax attrs.items) (syntax_of_Visibility vis)) rules.kept_foreign_item ts input.old) result input.new }
+{
+    let bare = bare_static(input)?;
+    if !input.peek::<Semi>() {
+        return Ok(None);
+    }
+    let semi_token = input.read()?;
+    Ok(Some(ForeignItem::Static(whole_static(attrs, vis, bare, semi_token))))
+}
+
+/// A foreign type, behind its visibility; `None` where it is kept as its tokens: with a colon or with `=`.
+#[tactic(auto, using(crate::proofs::Kept::only_kept), unfolding(syn_grammar::specs::MemberPlans::foreign_type_plan, syn_grammar::specs::ItemPlan::kept_end))]
+fn foreign_type(
+    attrs: Vec<Attribute>,
+    vis: Visibility,
+    input: &mut ParseBuffer<'_>,
+) -> Parsed<Option<ForeignItem>>
+    ensures follows { (ts : Stream) → Follows IsSyntax syntax_of_ForeignItem rules.kept_foreign_item ts (run_plan (foreign_type_or_kept (attributes_syntax attrs.items) (syntax_of_Visibility vis)) rules.kept_foreign_item ts input.old) result input.new }
+{
+    let (type_token, ident, generics) = type_head(input)?;
+    if input.peek::<Colon>() {
+        return Ok(None);
+    }
+    let where_clause = where_clause(input)?;
+    if !input.peek::<Semi>() {
+        return Ok(None);
+    }
+    Ok(Some(ForeignItem::Ty(ForeignItemType {
+        attrs,
+        vis,
+        modifiers: TypeModifiers::default(),
+        type_token,
+        ident,
+        generics: generics.with_where(where_clause),
+        semi_token: input.read()?,
+    })))
+}
+
+/// Attributes, a visibility, a foreign signature and `;`.
+impl Read for ForeignItemFn {
+    ghost form = { of (rule rules.foreign_function) };
+
+    ghost meaning = { meaning_of_rule rules.foreign_function };
+
+    #[tactic(auto, using(syn_grammar::proofs::Each::foreign_function_is))]
+    fn read(input: &mut ParseBuffer<'_>) -> Parsed<ForeignItemFn> {
+        Ok(ForeignItemFn {
+            attrs: outer_attributes(input)?,
+            vis: input.read()?,
+            modifiers: FnModifiers::default(),
+            sig: foreign_signature(input)?,
+            semi_token: input.read()?,
+        })
+    }
+}
+
+/// A foreign static without its attributes, its visibility and its `;`.
+#[derive(Drop)]
+struct BareStatic {
+    safety: Safety,
+    static_token: Static,
+    mutability: StaticMutability,
+    ident: Ident,
+    colon_token: Colon,
+    ty: Box<Type>,
+}
+
+/// Perhaps `safe` or `unsafe`, `static`, perhaps `mut`, a name, `:` and a type.
+#[tactic(auto, using(syn_grammar::proofs::Each::bare_foreign_static_is))]
+fn bare_static(input: &mut ParseBuffer<'_>) -> Parsed<BareStatic>
+    ensures reads { Computes IsSyntax bare_static_syntax (parse_rule rules.bare_foreign_static input.old) result input.new }
+    ensures moved { Moved input.old result input.new }
+{
+    Ok(BareStatic {
+        safety: safe_or_unsafe(input),
+        static_token: input.read()?,
+        mutability: input.read()?,
+        ident: input.read()?,
+        colon_token: input.read()?,
+        ty: input.read()?,
+    })
+}
+
+/// A foreign static of these parts.
+fn whole_static(
+    attrs: Vec<Attribute>,
+    vis: Visibility,
+    bare: BareStatic,
+    semi_token: Semi,
+) -> ForeignItemStatic
+    ensures { result ≡ Both (attributes_syntax attrs.items) (Both (syntax_of_Visibility vis) (Both (bare_static_syntax bare) (semi_syntax semi_token))) }
+{
+    ForeignItemStatic {
+        attrs,
+        vis,
+        safety: bare.safety,
+        static_token: bare.static_token,
+        mutability: bare.mutability,
+        ident: bare.ident,
+        colon_token: bare.colon_token,
+        ty: bare.ty,
+        semi_token,
+    }
+}
+
+/// Attributes, a visibility, perhaps `safe` or `unsafe`, `static`, perhaps `mut`, a name, `:`, a type and `;`.
+impl Read for ForeignItemStatic {
+    ghost form = { of (rule rules.foreign_static) };
+
+    ghost meaning = { meaning_of_rule rules.foreign_static };
+
+    #[tactic(auto, using(syn_grammar::proofs::Each::foreign_static_is))]
+    fn read(input: &mut ParseBuffer<'_>) -> Parsed<ForeignItemStatic> {
+        let attrs = outer_attributes(input)?;
+        let vis = input.read()?;
+        let bare = bare_static(input)?;
+        let semi_token = input.read()?;
+        Ok(whole_static(attrs, vis, bare, semi_token))
+    }
+}
+
+/// Attributes, a visibility, `type`, a name, generics, a where clause and `;`.
+impl Read for ForeignItemType {
+    ghost form = { of (rule rules.foreign_type) };
+
+    ghost meaning = { meaning_of_rule rules.foreign_type };
+
+    #[tactic(auto, using(syn_grammar::proofs::Each::foreign_type_is))]
+    fn read(input: &mut ParseBuffer<'_>) -> Parsed<ForeignItemType> {
+        let attrs = outer_attributes(input)?;
+        let vis = input.read()?;
+        let (type_token, ident, generics) = type_head(input)?;
+        let where_clause = where_clause(input)?;
+        Ok(ForeignItemType {
+            attrs,
+            vis,
+            modifiers: TypeModifiers::default(),
+            type_token,
+            ident,
+            generics: generics.with_where(where_clause),
+            semi_token: input.read()?,
+        })
+    }
+}
+
+/// Attributes, and a macro of any path.
+impl Read for ForeignItemMacro {
+    ghost form = { of (rule rules.foreign_macro) };
+
+    ghost meaning = { meaning_of_rule rules.foreign_macro };
+
+    #[tactic(auto, using(syn_grammar::proofs::Each::foreign_macro_is))]
+    fn read(input: &mut ParseBuffer<'_>) -> Parsed<ForeignItemMacro> {
+        let attrs = outer_attributes(input)?;
+        foreign_macro(attrs, input)
+    }
+}
+
+/// A macro in a foreign module, behind its attributes.
+fn foreign_macro(attrs: Vec<Attribute>, input: &mut ParseBuffer<'_>) -> Parsed<ForeignItemMacro>
+    ensures reads { Computes IsSyntax itself (wrap (Both (attributes_syntax attrs.items)) (parse_rule rules.member_macro input.old)) result input.new }
+    ensures moved { Moved input.old result input.new }
+{
+    let (mac, semi_token) = member_macro(input)?;
+    Ok(ForeignItemMacro {
+        attrs,
+        mac,
+        semi_token,
+    })
+}

@@ -1,0 +1,237 @@
+//! Parsers of impls.
+ghost use Rattle.std.specs.Prelude.{◌≡◌, codes};
+ghost use Rattle.syn_grammar.specs.Rules as rules;
+ghost use Rattle.syn_grammar.specs.Grammar.{Both, Case, Impl, Left, Node, Right};
+ghost use Rattle.syn_grammar.specs.Plan.{run_plan};
+ghost use Rattle.syn_grammar.specs.Run.{wrap};
+ghost use Rattle.syn_grammar.specs.Table as table;
+ghost use Rattle.syn_grammar.specs.Tokens.{Stream};
+ghost use Rattle.syn_lower.specs.Attributes.{all_attributes_syntax, attributes_syntax};
+ghost use Rattle.syn_lower.specs.Parsing.{of, rule, meaning_of_rule, parse_rule, parse_form, Computes, Moved, Kept, itself, IsSyntax};
+ghost use Rattle.syn_lower.specs.Parts.{first};
+ghost use Rattle.syn_parse.specs.Form.{by};
+ghost use Rattle.syn_item.specs.ImplForms.{ReadsBefore, bang_then, behind_impl_form, impl_generics_form, impl_of, path_then, types_before, types_then};
+ghost use Rattle.syn_item.specs.Impls.{kept_list, syntax_of_ItemImpl};
+ghost use Rattle.syn_item.specs.Planned.{Follows};
+ghost use Rattle.syn_item.specs.Stages.{impl_types_behind};
+
+use super::ItemImpl;
+use crate::pieces::braced;
+use syn_lower::attr::outer_attributes;
+use syn_lower::where_clause::where_clause;
+use syn_lower::{Attribute, Generics, Path, Type, TypeNever, TypePath};
+use syn_parse::buffer::ParseBuffer;
+use syn_parse::read::refusal::Parsed;
+use syn_parse::read::{Peek, Read};
+use syn_recognize::item_looks::at_generics;
+use syn_recognize::looks::at_path_word;
+use syn_tokens::token::{Brace, Const, Default, For, Impl, Not, PathSep, Unsafe};
+use syn_tree::item::ImplModifiers;
+
+/// What stands before an impl's generics.
+#[derive(Drop)]
+pub(crate) struct ImplMarks {
+    pub(crate) attrs: Vec<Attribute>,
+    pub(crate) defaultness: Option<Default>,
+    pub(crate) constness: Option<Const>,
+    pub(crate) unsafety: Option<Unsafe>,
+    pub(crate) impl_token: Impl,
+}
+
+/// What an impl is for: perhaps `!`, perhaps a trait's path and `for`, and the self type.
+#[derive(Drop)]
+pub(crate) struct Implemented {
+    pub(crate) polarity: Option<Not>,
+    pub(crate) trait_: Option<(Path, For)>,
+    pub(crate) self_ty: Box<Type>,
+}
+
+/// Attributes, perhaps `default`, perhaps `const`, perhaps `unsafe`, `impl`, generics where they stand and no type does; `!` alone, or `!`,
+/// a path, `for` and a type, or a path with `for` and a type or alone, or a type that is no plain path; a where clause, and inner
+/// attributes and members in braces.
+impl Read for ItemImpl {
+    ghost form = { of (rule rules.impl_definition) };
+
+    ghost meaning = { meaning_of_rule rules.impl_definition };
+
+    #[tactic(auto, using(syn_grammar::proofs::Each::impl_definition_is))]
+    fn read(input: &mut ParseBuffer<'_>) -> Parsed<ItemImpl> {
+        let attrs = outer_attributes(input)?;
+        impl_definition_rest(attrs, input)
+    }
+}
+
+/// An impl, behind its attributes.
+#[tactic(auto, using(syn_grammar::proofs::Each::impl_definition_rest_is))]
+fn impl_definition_rest(attrs: Vec<Attribute>, input: &mut ParseBuffer<'_>) -> Parsed<ItemImpl>
+    requires outer { all_attributes_syntax attrs.items ≡ attributes_syntax attrs.items }
+    ensures reads { Computes IsSyntax itself (wrap (Both (attributes_syntax attrs.items)) (parse_rule rules.impl_definition_rest input.old)) result input.new }
+    ensures moved { Moved input.old result input.new }
+{
+    let marks = ImplMarks {
+        attrs,
+        defaultness: input.read()?,
+        constness: input.read()?,
+        unsafety: input.read()?,
+        impl_token: input.read()?,
+    };
+    behind_impl(marks, input)
+}
+
+/// An impl, behind its word.
+fn behind_impl(marks: ImplMarks, input: &mut ParseBuffer<'_>) -> Parsed<ItemImpl>
+    requires outer { all_attributes_syntax marks.attrs.items ≡ attributes_syntax marks.attrs.items }
+    ensures reads { Computes IsSyntax itself (wrap (impl_of marks) (parse_form behind_impl_form input.old)) result input.new }
+    ensures moved { Moved input.old result input.new }
+{
+    let generics = impl_generics(input)?;
+    let types = implemented(input)?;
+    impl_end(marks, generics, types, input)
+}
+
+/// Generics, where they stand next and no type does.
+#[tactic(auto, using(syn_grammar::proofs::Each::generics_is))]
+pub(crate) fn impl_generics(input: &mut ParseBuffer<'_>) -> Parsed<Generics>
+    ensures reads { Computes IsSyntax (λ g. kept_list (first g)) (parse_form impl_generics_form input.old) result input.new }
+    ensures kept { Kept input.old result input.new }
+{
+    if at_generics(input) {
+        Generics::read_params(input)
+    } else {
+        Ok(Generics::empty(input.alloc()))
+    }
+}
+
+/// Where a path in module style begins.
+struct ModulePath;
+
+impl Peek for ModulePath {
+    ghost look = { by table.at_module_path };
+
+    ghost fault = { codes "expected identifier" };
+
+    #[tactic(auto, using(syn_grammar::proofs::Looks::sees_or))]
+    fn peek(input: &ParseBuffer<'_>) -> bool {
+        at_path_word(input) || input.peek::<PathSep>()
+    }
+
+    fn expected() -> &'static str {
+        "expected identifier"
+    }
+}
+
+/// `!` alone; `!`, a path, `for` and a type; a path with `for` and a type or alone; or a type that is no plain path.
+pub(crate) fn implemented(input: &mut ParseBuffer<'_>) -> Parsed<Implemented>
+    ensures reads { ReadsBefore IsSyntax types_before (λ f. types_then f input.old) result input.new }
+    ensures moved { Moved input.old result input.new }
+{
+    if input.peek::<Not>() {
+        return behind_bang(input);
+    }
+    if input.peek::<ModulePath>() {
+        return behind_path(input);
+    }
+    Ok(Implemented {
+        polarity: None,
+        trait_: None,
+        self_ty: input.read()?,
+    })
+}
+
+/// `!`, and before braces nothing else, as a self type; else a path, `for` and a self type.
+fn behind_bang(input: &mut ParseBuffer<'_>) -> Parsed<Implemented>
+    ensures reads { ReadsBefore IsSyntax types_before (λ f. wrap Left (bang_then f input.old)) result input.new }
+    ensures moved { Moved input.old result input.new }
+{
+    let bang_token = input.read()?;
+    if input.peek::<Brace>() {
+        let never = Type::Never(TypeNever { bang_token });
+        return Ok(Implemented {
+            polarity: None,
+            trait_: None,
+            self_ty: Box::new(input.alloc(), never)?,
+        });
+    }
+    Ok(Implemented {
+        polarity: Some(bang_token),
+        trait_: Some((input.read()?, input.read()?)),
+        self_ty: input.read()?,
+    })
+}
+
+/// A path as a trait's, with `for` and a self type behind it; or as the self type.
+fn behind_path(input: &mut ParseBuffer<'_>) -> Parsed<Implemented>
+    ensures reads { ReadsBefore IsSyntax types_before (λ f. wrap Right (wrap Left (path_then f input.old))) result input.new }
+    ensures moved { Moved input.old result input.new }
+{
+    let path = input.read()?;
+    if input.peek::<For>() {
+        return Ok(Implemented {
+            polarity: None,
+            trait_: Some((path, input.read()?)),
+            self_ty: input.read()?,
+        });
+    }
+    let ty = Type::Path(TypePath { qself: None, path });
+    Ok(Implemented {
+        polarity: None,
+        trait_: None,
+        self_ty: Box::new(input.alloc(), ty)?,
+    })
+}
+
+/// An impl, behind its types.
+#[tactic(auto, using(syn_grammar::proofs::Each::impl_body_is, crate::proofs::MemberLists::impl_members))]
+pub(crate) fn impl_end(
+    marks: ImplMarks,
+    generics: Generics,
+    types: Implemented,
+    input: &mut ParseBuffer<'_>,
+) -> Parsed<ItemImpl>
+    requires outer { all_attributes_syntax marks.attrs.items ≡ attributes_syntax marks.attrs.items }
+    ensures reads { Computes IsSyntax itself (wrap (λ s. impl_of marks (Impl (kept_list (first generics)) (types_before types s))) (parse_rule rules.impl_body input.old)) result input.new }
+    ensures moved { Moved input.old result input.new }
+{
+    let where_clause = where_clause(input)?;
+    let (attrs, brace_token, items) = braced(marks.attrs, input)?;
+    Ok(ItemImpl {
+        attrs,
+        modifiers: ImplModifiers {
+            defaultness: marks.defaultness,
+            constness: marks.constness,
+            polarity: types.polarity,
+        },
+        unsafety: marks.unsafety,
+        impl_token: marks.impl_token,
+        generics: generics.with_where(where_clause),
+        trait_: types.trait_,
+        self_ty: types.self_ty,
+        brace_token,
+        items,
+    })
+}
+
+/// An impl among items, behind its generics; `None` where it is kept as its tokens: with a first type that is no plain path before `for`.
+#[tactic(auto, using(crate::proofs::Kept::only_kept), unfolding(syn_grammar::specs::ItemPlan::impl_types, syn_grammar::specs::ItemPlan::kept_impl))]
+pub(crate) fn impl_or_kept(
+    marks: ImplMarks,
+    generics: Generics,
+    input: &mut ParseBuffer<'_>,
+) -> Parsed<Option<ItemImpl>>
+    requires outer { all_attributes_syntax marks.attrs.items ≡ attributes_syntax marks.attrs.items }
+    ensures follows { (ts : Stream) → Follows IsSyntax (λ item. Node (Case rules.impl_definition (syntax_of_ItemImpl item))) rules.kept_item ts (run_plan (impl_types_behind marks (first generics)) rules.kept_item ts input.old) result input.new }
+{
+    if at_odd_negative(input) {
+        return Ok(None);
+    }
+    let types = implemented(input)?;
+    if input.peek::<For>() {
+        return Ok(None);
+    }
+    Ok(Some(impl_end(marks, generics, types, input)?))
+}
+
+/// Whether `!` stands next, with neither braces nor a path in module style behind it.
+fn at_odd_negative(input: &ParseBuffer<'_>) -> bool {
+    input.peek::<Not>() && !input.peek2::<Brace>() && !input.peek2::<ModulePath>()
+}

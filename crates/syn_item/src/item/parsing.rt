@@ -1,0 +1,205 @@
+//! The parser of items. It follows the plan of items: attributes and a visibility are read once, and then what stands next tells the kind.
+ghost use Rattle.std.specs.Prelude.{◌≡◌};
+ghost use Rattle.syn_grammar.specs.ItemPlan as plan;
+ghost use Rattle.syn_grammar.specs.Plan.{run_plan};
+ghost use Rattle.syn_grammar.specs.Rules as rules;
+ghost use Rattle.syn_grammar.specs.Tokens.{Stream};
+ghost use Rattle.syn_lower.specs.Attributes.{all_attributes_syntax, attributes_syntax};
+ghost use Rattle.syn_lower.specs.Parsing.{of, rule, meaning_of_rule, IsSyntax};
+ghost use Rattle.syn_item.specs.ItemStages.{behind_place, other_kinds_plan, other_plan_of};
+ghost use Rattle.syn_item.specs.Items.{syntax_of_Item};
+ghost use Rattle.syn_item.specs.Planned.{Follows};
+
+mod functions;
+mod impls;
+mod kept;
+mod traits;
+
+use super::Item;
+use crate::pieces::kept_tokens;
+use crate::simple::{macro_as_item_rest, module};
+use functions::{behind_const, behind_extern, behind_unsafe, function_or_kept};
+use impls::{bare_impl, default_impl};
+use kept::{static_or_kept, type_or_kept, use_or_kept};
+use syn_lower::Attribute;
+use syn_lower::attr::outer_attributes;
+use syn_parse::buffer::ParseBuffer;
+use syn_parse::read::Read;
+use syn_parse::read::refusal::Parsed;
+use syn_recognize::Rule;
+use syn_recognize::item_looks::{at_auto, at_union, is_before_macro};
+use syn_recognize::looks::at_empty_group;
+use syn_tokens::token;
+use syn_tokens::token::{
+    Async, Const, Default, Enum, Extern, Fn, Impl, Mod, Pub, Static, Struct, Trait, Type, Unsafe,
+    Use,
+};
+use syn_tree::item::{enum_behind, struct_behind, union_behind};
+use syn_tree::restriction::Visibility;
+use traits::{trait_behind, trait_or_alias};
+
+/// Where an item stands, behind its attributes.
+#[derive(Clone, Copy, Debug)]
+enum Place {
+    /// Behind `pub`.
+    Public,
+    /// Behind an invisible group without content, which stands for a visibility that isn't written.
+    Unwritten,
+    /// With no visibility before it.
+    Plain,
+}
+
+/// What was read of an item: its attributes and its visibility.
+#[derive(Drop)]
+struct Begun {
+    place: Place,
+    attrs: Vec<Attribute>,
+    vis: Visibility,
+}
+
+impl Begun {
+    /// Whether no visibility stands before it.
+    fn is_plain(&self) -> bool {
+        match self.place {
+            Place::Public => false,
+            Place::Unwritten => false,
+            Place::Plain => true,
+        }
+    }
+}
+
+/// An item: attributes, a visibility, and then what the next words tell. It is kept as its tokens where it is
+///
+/// - a function without a body,
+/// - a use of trees in braces of which one has `::` before it,
+/// - a static without a type or without a value,
+/// - a constant with generics, with a where clause or without a value,
+/// - a definition by `macro`,
+/// - a type alias with bounds or without a type,
+/// - a trait alias with `const`,
+/// - a trait with a restriction,
+/// - an impl of what is no plain path for a type,
+/// - or an impl with `pub` and `const`.
+///
+/// It is refused at the first token that can't stand there.
+impl Read for Item {
+    ghost form = { of (rule rules.item) };
+
+    ghost meaning = { meaning_of_rule rules.item };
+
+    #[tactic(auto, using(syn_grammar::proofs::ItemPlan::item_plan_is, crate::proofs::Kept::kept_whole), unfolding(syn_grammar::specs::ItemPlan::item_plan))]
+    fn read(input: &mut ParseBuffer<'_>) -> Parsed<Item> {
+        let start = input.fork();
+        let attrs = outer_attributes(input)?;
+        match item_behind(attrs, input) {
+            Ok(Some(item)) => Ok(item),
+            Ok(None) => Ok(Item::Verbatim(kept_tokens(Rule::Item, &start, input)?)),
+            Err(refusal) => Err(refusal),
+        }
+    }
+}
+
+/// An item, behind its attributes; `None` where it is kept as its tokens.
+#[tactic(auto, using(crate::proofs::Kept::only_kept), unfolding(syn_grammar::specs::ItemPlan::item_behind))]
+fn item_behind(attrs: Vec<Attribute>, input: &mut ParseBuffer<'_>) -> Parsed<Option<Item>>
+    requires outer { all_attributes_syntax attrs.items ≡ attributes_syntax attrs.items }
+    ensures follows { (ts : Stream) → Follows IsSyntax syntax_of_Item rules.kept_item ts (run_plan (plan.item_behind (attributes_syntax attrs.items)) rules.kept_item ts input.old) result input.new }
+{
+    let place = place_of(input);
+    let vis = input.read()?;
+    behind_visibility(Begun { place, attrs, vis }, input)
+}
+
+/// Where what stands next stands.
+fn place_of(input: &ParseBuffer<'_>) -> Place {
+    if input.peek::<Pub>() {
+        Place::Public
+    } else if at_empty_group(input) {
+        Place::Unwritten
+    } else {
+        Place::Plain
+    }
+}
+
+/// An item, behind its visibility; `None` where it is kept as its tokens.
+#[tactic(auto, using(crate::proofs::Kept::only_kept), unfolding(syn_grammar::specs::ItemPlan::behind_visibility, syn_grammar::specs::ItemPlan::struct_plan, syn_grammar::specs::ItemPlan::enum_plan, syn_grammar::specs::ItemPlan::union_plan, syn_grammar::specs::ItemPlan::module_plan))]
+fn behind_visibility(begun: Begun, input: &mut ParseBuffer<'_>) -> Parsed<Option<Item>>
+    requires outer { all_attributes_syntax begun.attrs.items ≡ attributes_syntax begun.attrs.items }
+    ensures follows { (ts : Stream) → Follows IsSyntax syntax_of_Item rules.kept_item ts (run_plan (behind_place begun) rules.kept_item ts input.old) result input.new }
+{
+    if input.peek::<Struct>() {
+        let item = struct_behind(begun.attrs, begun.vis, input)?;
+        return Ok(Some(Item::Struct(item)));
+    }
+    if input.peek::<Enum>() {
+        let item = enum_behind(begun.attrs, begun.vis, input)?;
+        return Ok(Some(Item::Enum(item)));
+    }
+    if at_union(input) {
+        let item = union_behind(begun.attrs, begun.vis, input)?;
+        return Ok(Some(Item::Union(item)));
+    }
+    if input.peek::<Type>() {
+        return type_or_kept(begun, input);
+    }
+    if input.peek::<Static>() {
+        return static_or_kept(begun, input);
+    }
+    if input.peek::<Use>() {
+        return use_or_kept(begun, input);
+    }
+    if input.peek::<Mod>() {
+        let item = module(begun.attrs, begun.vis, None, input)?;
+        return Ok(Some(Item::Mod(item)));
+    }
+    other_kinds(begun, input)
+}
+
+/// The same, where none of these words stands next.
+#[tactic(auto, using(crate::proofs::Kept::only_kept), unfolding(syn_grammar::specs::ItemPlan::definition_plan))]
+fn other_kinds(begun: Begun, input: &mut ParseBuffer<'_>) -> Parsed<Option<Item>>
+    requires outer { all_attributes_syntax begun.attrs.items ≡ attributes_syntax begun.attrs.items }
+    ensures follows { (ts : Stream) → Follows IsSyntax syntax_of_Item rules.kept_item ts (run_plan (other_kinds_plan begun) rules.kept_item ts input.old) result input.new }
+{
+    if input.peek::<Trait>() {
+        return trait_or_alias(begun, input);
+    }
+    if at_auto(input) {
+        return trait_behind(begun, None, None, input);
+    }
+    if input.peek::<token::Macro>() {
+        return Ok(None);
+    }
+    if input.peek::<Fn>() || input.peek::<Async>() {
+        return function_or_kept(begun, input);
+    }
+    if input.peek::<Extern>() {
+        return behind_extern(begun, input);
+    }
+    if input.peek::<Unsafe>() {
+        return behind_unsafe(begun, input);
+    }
+    if input.peek::<Const>() {
+        return behind_const(begun, input);
+    }
+    if input.peek::<Impl>() {
+        return bare_impl(begun, input);
+    }
+    without_keyword(begun, input)
+}
+
+/// What else may stand, where no visibility was read: an impl behind `default`, or a macro.
+#[tactic(auto, using(crate::proofs::Kept::only_kept), unfolding(syn_grammar::specs::ItemPlan::other_plan, syn_grammar::specs::ItemPlan::macro_plan))]
+fn without_keyword(begun: Begun, input: &mut ParseBuffer<'_>) -> Parsed<Option<Item>>
+    requires outer { all_attributes_syntax begun.attrs.items ≡ attributes_syntax begun.attrs.items }
+    ensures follows { (ts : Stream) → Follows IsSyntax syntax_of_Item rules.kept_item ts (run_plan (other_plan_of begun) rules.kept_item ts input.old) result input.new }
+{
+    if !begun.is_plain() {
+        return Err(input.refusal("unexpected token"));
+    }
+    if input.peek::<Default>() && !is_before_macro(input)? {
+        return default_impl(begun, input);
+    }
+    let item = macro_as_item_rest(begun.attrs, input)?;
+    Ok(Some(Item::Macro(item)))
+}

@@ -1,0 +1,120 @@
+//! Type aliases, statics and uses among items, some of which are kept as their tokens.
+ghost use Rattle.std.specs.Prelude.{◌≡◌};
+ghost use Rattle.syn_grammar.specs.ItemPlan as plan;
+ghost use Rattle.syn_grammar.specs.Plan.{run_plan};
+ghost use Rattle.syn_grammar.specs.Promises.{OrMemory};
+ghost use Rattle.syn_grammar.specs.Rules as rules;
+ghost use Rattle.syn_grammar.specs.Run.{parse_rule};
+ghost use Rattle.syn_grammar.specs.Tokens.{Stream};
+ghost use Rattle.syn_lower.specs.Attributes.{attributes_syntax};
+ghost use Rattle.syn_lower.specs.Parsing.{IsSyntax};
+ghost use Rattle.syn_tree.specs.Restriction.{syntax_of_Visibility};
+ghost use Rattle.syn_item.specs.Items.{syntax_of_Item};
+ghost use Rattle.syn_item.specs.Planned.{Follows, IsRead};
+
+use super::Begun;
+use crate::item::Item;
+use crate::pieces::type_head;
+use crate::simple::{ItemStatic, ItemType, placed};
+use crate::use_tree::use_item;
+use syn_lower::where_clause::where_clause;
+use syn_parse::buffer::ParseBuffer;
+use syn_parse::read::refusal::{Parsed, Refusal};
+use syn_recognize::{Rule, read_by};
+use syn_tokens::token::{Brace, Colon, Eq, Where};
+use syn_tree::item::TypeModifiers;
+
+/// A type alias; `None` where it is kept as its tokens: with a colon behind its generics, or without `=` behind these and a where clause.
+/// Where a clause stands before the `=` and behind the type, what follows the second one is refused.
+#[tactic(auto, using(crate::proofs::Kept::only_kept), unfolding(syn_grammar::specs::ItemPlan::type_plan, syn_grammar::specs::ItemPlan::kept_end))]
+pub(super) fn type_or_kept(begun: Begun, input: &mut ParseBuffer<'_>) -> Parsed<Option<Item>>
+    ensures follows { (ts : Stream) → Follows IsSyntax syntax_of_Item rules.kept_item ts (run_plan (plan.type_plan (attributes_syntax begun.attrs.items) (syntax_of_Visibility begun.vis)) rules.kept_item ts input.old) result input.new }
+{
+    let (type_token, ident, generics) = type_head(input)?;
+    if input.peek::<Colon>() {
+        return Ok(None);
+    }
+    let is_early = input.peek::<Where>();
+    let early = where_clause(input)?;
+    if !input.peek::<Eq>() {
+        return Ok(None);
+    }
+    let eq_token = input.read()?;
+    let ty = input.read()?;
+    let is_late = input.peek::<Where>();
+    let late = where_clause(input)?;
+    if is_early && is_late {
+        return Err(input.refusal("unexpected token"));
+    }
+    let (placement, clause) = placed(is_late, early, late);
+    let semi_token = input.read()?;
+    Ok(Some(Item::Ty(ItemType {
+        attrs: begun.attrs,
+        vis: begun.vis,
+        modifiers: TypeModifiers::default(),
+        type_token,
+        ident,
+        generics: generics.with_where(clause),
+        eq_token,
+        ty,
+        semi_token,
+        where_clause_placement: placement,
+    })))
+}
+
+/// A static; `None` where it is kept as its tokens: without a type, or without a value.
+#[tactic(auto, using(crate::proofs::Kept::only_kept), unfolding(syn_grammar::specs::ItemPlan::static_plan, syn_grammar::specs::ItemPlan::kept_end))]
+pub(super) fn static_or_kept(begun: Begun, input: &mut ParseBuffer<'_>) -> Parsed<Option<Item>>
+    ensures follows { (ts : Stream) → Follows IsSyntax syntax_of_Item rules.kept_item ts (run_plan (plan.static_plan (attributes_syntax begun.attrs.items) (syntax_of_Visibility begun.vis)) rules.kept_item ts input.old) result input.new }
+{
+    let static_token = input.read()?;
+    let mutability = input.read()?;
+    let ident = input.read()?;
+    if !input.peek::<Colon>() {
+        return Ok(None);
+    }
+    let colon_token = input.read()?;
+    let ty = input.read()?;
+    if !input.peek::<Eq>() {
+        return Ok(None);
+    }
+    let eq_token = input.read()?;
+    let expr = input.read()?;
+    let semi_token = input.read()?;
+    Ok(Some(Item::Static(ItemStatic {
+        attrs: begun.attrs,
+        vis: begun.vis,
+        static_token,
+        mutability,
+        ident,
+        colon_token,
+        ty,
+        eq_token,
+        expr,
+        semi_token,
+    })))
+}
+
+/// A use; `None` where it is kept as its tokens: of trees in braces of which one has `::` before it.
+#[tactic(auto, using(crate::proofs::Kept::only_kept), unfolding(syn_grammar::specs::ItemPlan::use_plan, syn_grammar::specs::ItemPlan::kept_end))]
+pub(super) fn use_or_kept(begun: Begun, input: &mut ParseBuffer<'_>) -> Parsed<Option<Item>>
+    ensures follows { (ts : Stream) → Follows IsSyntax syntax_of_Item rules.kept_item ts (run_plan (plan.use_plan (attributes_syntax begun.attrs.items) (syntax_of_Visibility begun.vis)) rules.kept_item ts input.old) result input.new }
+{
+    if input.peek2::<Brace>() && !is_use(input)? {
+        return Ok(None);
+    }
+    let item = use_item(begun.attrs, begun.vis, input)?;
+    Ok(Some(Item::Use(item)))
+}
+
+/// Whether a use stands next that isn't kept as its tokens. It is read by the recognizer, which makes no tree. Refused only where memory
+/// is.
+fn is_use(input: &ParseBuffer<'_>) -> Parsed<bool>
+    ensures { OrMemory IsSyntax result (λ answer. IsRead answer (parse_rule rules.use_item_rest input.now)) }
+{
+    match read_by(Rule::UseItemRest, &mut input.fork()) {
+        Ok(()) => Ok(true),
+        Err(Refusal::Memory) => Err(Refusal::Memory),
+        Err(Refusal::Syntax { .. }) => Ok(false),
+    }
+}
