@@ -38,7 +38,7 @@ STAGE = 15
 # A trial takes at most a MiB of input.
 CHUNK = 1_000_000
 # How long a run may take, its build not counted: ./test has it wait for others.
-SECONDS = 3600
+SECONDS = 9000
 # No random text is longer.
 LONGEST = 4000
 # How many of the answers that differ are shown, of three lines each.

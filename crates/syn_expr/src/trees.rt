@@ -24,7 +24,7 @@ ghost use Rattle.syn_expr_parse.specs.Spines.{spine_shown};
 ghost use Rattle.syn_expr_parse.specs.StructLiterals.{field_of, literal_of_parts, lone_field};
 ghost use Rattle.syn_expr_parse.specs.Unary.{own_shown};
 ghost use Rattle.syn_expr.specs.Expressions.{syntax_of_Expr};
-ghost use Rattle.syn_expr.specs.Statements.{statement_of};
+ghost use Rattle.syn_expr.specs.Statements.{statement_of, value_of_local};
 ghost use Rattle.syn_expr.specs.Cores.{core_view};
 
 mod attributes;
@@ -40,7 +40,7 @@ use crate::expr::{
 };
 use crate::op::{BinOp, UnOp};
 use crate::stmt::{Block, Local, LocalInit, LocalModifiers, Stmt};
-use parts::{boxed, labelled, named, out_of_box, sentence};
+use parts::{boxed, labelled, named, out_of_box};
 use std::alloc::Global;
 use syn_expr_parse::trees::Trees;
 use syn_lower::{AngleBracketedGenericArguments, Attribute, Lit, Member, Path, QSelf, Type};
@@ -68,6 +68,8 @@ impl Trees for ExprTrees {
 
     type LocalInit = LocalInit;
 
+    type Held = LocalInit;
+
     type FieldValue = FieldValue;
 
     ghost expr_syntax = { syntax_of_Expr };
@@ -77,6 +79,8 @@ impl Trees for ExprTrees {
     ghost stmt_syntax = { statement_of };
 
     ghost init_syntax = { itself };
+
+    ghost held_syntax = { value_of_local };
 
     ghost field_syntax = { itself };
 
@@ -656,10 +660,16 @@ impl Trees for ExprTrees {
         Block { brace_token, stmts }
     }
 
-    fn stmt(braces: bool, expr: Box<Expr>, semi: Option<Semi>) -> Stmt
-        ensures { statement_of result ≡ sentence_syntax braces (syntax_of_Expr expr.value) (maybe semi_syntax semi) }
+    fn held(expr: Box<Expr>) -> LocalInit
+        ensures { value_of_local result ≡ syntax_of_Expr expr.value }
     {
-        sentence(braces, out_of_box(expr), semi)
+        LocalInit::holding(expr)
+    }
+
+    fn stmt(braces: bool, expr: LocalInit, semi: Option<Semi>) -> Stmt
+        ensures { statement_of result ≡ sentence_syntax braces (value_of_local expr) (maybe semi_syntax semi) }
+    {
+        expr.into_stmt(braces, semi)
     }
 
     fn semi_alone(semi: Semi, alloc: Global) -> Stmt

@@ -56,6 +56,9 @@ pub trait Trees {
     /// `=` and the value of a local.
     type LocalInit: Drop;
 
+    /// Expressions of which a statement is made.
+    type Held: Drop;
+
     /// Fields of struct literals.
     type FieldValue: Drop;
 
@@ -68,6 +71,9 @@ pub trait Trees {
     ghost stmt_syntax: { Self.Stmt → Syntax };
 
     ghost init_syntax: { Self.LocalInit → Syntax };
+
+    /// What the expression stands for of which a statement is made.
+    ghost held_syntax: { Self.Held → Syntax };
 
     ghost field_syntax: { Self.FieldValue → Syntax };
 
@@ -346,9 +352,13 @@ pub trait Trees {
     fn block(brace_token: Brace, stmts: Vec<Self::Stmt>) -> Self::Block
         ensures { Self.block_syntax result ≡ Node (group_syntax grammar.Brace brace_token (statements_of Self.stmt_syntax stmts.items)) };
 
+    /// An expression, held to make a statement of it.
+    fn held(expr: Box<Self::Expr>) -> Self::Held
+        ensures { Self.held_syntax result ≡ Self.expr_syntax expr.value };
+
     /// An expression as a statement. A macro with `;` is a macro's statement, and so is one in braces (`braces`).
-    fn stmt(braces: bool, expr: Box<Self::Expr>, semi: Option<Semi>) -> Self::Stmt
-        ensures { Self.stmt_syntax result ≡ sentence_syntax braces (Self.expr_syntax expr.value) (maybe semi_syntax semi) };
+    fn stmt(braces: bool, expr: Self::Held, semi: Option<Semi>) -> Self::Stmt
+        ensures { Self.stmt_syntax result ≡ sentence_syntax braces (Self.held_syntax expr) (maybe semi_syntax semi) };
 
     /// `;` alone.
     fn semi_alone(semi: Semi, alloc: Global) -> Self::Stmt

@@ -276,7 +276,8 @@ fn with_attributes<N: Nested>(
     requires shown { spine_shown (N.Trees.expr_syntax expr.value) ≡ true }
     ensures { OrMemory IsSyntax result (λ s. N.Trees.stmt_syntax s ≡ sentence_syntax braces (moved_syntax (attributes_syntax attrs.items) (N.Trees.expr_syntax expr.value)) (maybe semi_syntax semi)) }
 {
-    Ok(N::Trees::stmt(braces, N::Trees::moved(attrs, expr)?, semi))
+    let expr = N::Trees::moved(attrs, expr)?;
+    Ok(N::Trees::stmt(braces, N::Trees::held(expr), semi))
 }
 
 /// `;`; or at the end of a list nothing.
