@@ -1,5 +1,4 @@
 pub mod Attributes
-pub mod Bodies
 pub mod Else
 pub mod Fields
 pub mod Forms

@@ -15,7 +15,7 @@ use Rattle.syn_lower.specs.Literals.{syntax_of_Lit}
 use Rattle.syn_lower.specs.Members.{syntax_of_Member}
 use Rattle.syn_lower.specs.Parts.{first, group_syntax, second}
 use Rattle.syn_lower.specs.Types.{syntax_of_lifetime, syntax_of_Type, tuple_elements}
-use Rattle.syn_expr_parse.specs.Bodies.{attributes_before_body, body}
+use Rattle.syn_lower.specs.Bodies.{attributes_before_body, body}
 use Rattle.syn_expr_parse.specs.Operators.{syntax_of_BinOp, syntax_of_UnOp}
 pub use Rattle.syn_expr_parse.specs.Parts.{array_elements, behind_else, block_behind_else, field_member, in_braces, method_arguments, token_of}
 use Rattle.syn_expr_parse.specs.StructLiterals.{field_of, literal_of_parts}

@@ -16,7 +16,7 @@ use Rattle.syn_lower.specs.Parts.{group_syntax}
 use Rattle.syn_lower.specs.declared.member.Member.TheVariants as Member-m
 use Rattle.syn_lower.specs.Types.{syntax_of_Type, tuple_elements}
 use Rattle.syn_expr_parse.specs.StructLiterals.{field_of, hidden}
-use Rattle.syn_expr.specs.Bodies.{attributes_in_body, body, with_inner}
+use Rattle.syn_lower.specs.Bodies.{attributes_in_body, body, with_inner}
 use Rattle.syn_expr.specs.Expressions.{array_elements, behind_else, block_behind_else, method_arguments, syntax_of_Expr, whole, view_ExprArray, view_ExprAssign, view_ExprBinary, view_ExprBlock, view_ExprCall, view_ExprCast, view_ExprField, view_ExprForLoop, view_ExprGroup, view_ExprIf, view_ExprIndex, view_ExprLoop, view_ExprMethodCall, view_ExprParen, view_ExprReference, view_ExprRepeat, view_ExprReturn, view_ExprStruct, view_FieldValue, view_ExprTry, view_ExprTuple, view_ExprUnary, view_ExprUnsafe, view_ExprWhile}
 use Rattle.syn_expr.specs.Statements.{diverging, statements_syntax, statement_of, view_Block, view_Local, view_LocalInit}
 use Rattle.syn_expr.specs.declared.expr.blocks.ExprBlock.TheDeep.{deep-Expr, deep-ExprStruct, deep-FieldValue, deep-ExprArray, deep-ExprAssign, deep-ExprBinary, deep-ExprBlock, deep-ExprCall, deep-ExprCast, deep-ExprField, deep-ExprForLoop, deep-ExprGroup, deep-ExprIf, deep-ExprIndex, deep-ExprLoop, deep-ExprMethodCall, deep-ExprParen, deep-ExprReference, deep-ExprRepeat, deep-ExprReturn, deep-ExprTry, deep-ExprTuple, deep-ExprUnary, deep-ExprUnsafe, deep-ExprWhile, deep-Block, deep-Stmt, deep-Local, deep-LocalInit}

@@ -1,4 +1,3 @@
-pub mod Bodies
 pub mod Cores
 pub mod Expressions
 pub mod Falls

@@ -16,7 +16,7 @@ ghost use Rattle.syn_lower.specs.Types.{syntax_of_Type, syntax_of_lifetime, tupl
 ghost use Rattle.syn_lower.specs.Literals.{syntax_of_Lit};
 ghost use Rattle.syn_lower.specs.Members.{syntax_of_Member};
 ghost use Rattle.syn_pat.specs.Patterns.{local_pattern, path_of, syntax_of_Pat};
-ghost use Rattle.syn_expr_parse.specs.Bodies.{attributes_before_body, body as body_syntax};
+ghost use Rattle.syn_lower.specs.Bodies.{attributes_before_body, body as body_syntax};
 ghost use Rattle.syn_expr_parse.specs.Operators.{syntax_of_BinOp, syntax_of_UnOp};
 ghost use Rattle.syn_expr_parse.specs.Parts.{array_elements, behind_else, block_behind_else, diverging, field_member, label_syntax, method_arguments, statements_of, token_of};
 ghost use Rattle.syn_expr_parse.specs.Primary.{in_literal};

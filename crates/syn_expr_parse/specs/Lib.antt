@@ -1,6 +1,5 @@
 pub mod Arrays
 pub mod BlockForms
-pub mod Bodies
 pub mod LevelSteps
 pub mod Levels
 pub mod Listed

@@ -1,10 +1,11 @@
 mod AttributeLists
 pub mod Attributes
+pub mod Bodies
 mod BoundLists
 pub mod Compared
 pub mod Equality
-mod GenericPrints
-mod GenericsCompared
+pub mod GenericPrints
+pub mod GenericsCompared
 mod LifetimePrints
 mod Lifetimes
 pub mod Lists

@@ -157,7 +157,7 @@ fn at_async_item(input: &ParseBuffer<'_>) -> bool
 
 /// Whether `union` stands next, and a name behind it.
 #[tactic(auto, using(crate::proofs::ItemLooks::union_seen))]
-pub(crate) fn at_union(input: &ParseBuffer<'_>) -> bool
+pub fn at_union(input: &ParseBuffer<'_>) -> bool
     ensures { result ≡ sees (grammar.at_word w_union and_also ahead Begins_item) input.now }
 {
     input.peek::<Union>() && input.peek2::<Ident>()
@@ -165,7 +165,7 @@ pub(crate) fn at_union(input: &ParseBuffer<'_>) -> bool
 
 /// Whether `auto` stands next, and `trait` behind it.
 #[tactic(auto, using(crate::proofs::ItemLooks::auto_seen))]
-pub(crate) fn at_auto(input: &ParseBuffer<'_>) -> bool
+pub fn at_auto(input: &ParseBuffer<'_>) -> bool
     ensures { result ≡ sees (grammar.at_word w_auto and_also ahead Begins_item) input.now }
 {
     input.peek::<Auto>() && input.peek2::<Trait>()
@@ -206,7 +206,7 @@ impl Peek for MacroName {
 
 /// Whether an identifier that is no keyword, or `try`, stands next.
 #[tactic(auto, using(syn_grammar::proofs::Looks::sees_or))]
-fn at_macro_name(input: &ParseBuffer<'_>) -> bool
+pub fn at_macro_name(input: &ParseBuffer<'_>) -> bool
     ensures { result ≡ sees table.at_macro_name input.now }
 {
     input.peek::<Ident>() || input.peek::<Try>()
@@ -249,7 +249,7 @@ fn at_own_self(input: &ParseBuffer<'_>) -> bool
 
 /// Whether a receiver stands next.
 #[tactic(auto, using(crate::proofs::ItemLooks::receiver_seen))]
-pub(crate) fn at_receiver(input: &ParseBuffer<'_>) -> bool
+pub fn at_receiver(input: &ParseBuffer<'_>) -> bool
     ensures { result ≡ sees table.at_receiver input.now }
 {
     input.peek::<And>() || (input.peek::<Mut>() && input.peek2::<OwnSelf>()) || at_own_self(input)
@@ -257,7 +257,7 @@ pub(crate) fn at_receiver(input: &ParseBuffer<'_>) -> bool
 
 /// Whether a name stands next that begins a type, as `<` follows it, where a parameter may have none.
 #[tactic(auto, using(crate::proofs::ItemLooks::unnamed_seen))]
-pub(crate) fn at_unnamed(input: &ParseBuffer<'_>) -> bool
+pub fn at_unnamed(input: &ParseBuffer<'_>) -> bool
     ensures { result ≡ sees (at_unnamed Before_less) input.now }
 {
     input.peek::<Ident>() && input.peek2::<Lt>()
@@ -290,7 +290,7 @@ fn at_first_parameter(input: &ParseBuffer<'_>) -> bool
 
 /// Whether generics stand next where a type may stand too.
 #[tactic(auto, using(crate::proofs::ParameterLooks::generics_seen))]
-pub(crate) fn at_generics(input: &ParseBuffer<'_>) -> bool
+pub fn at_generics(input: &ParseBuffer<'_>) -> bool
     ensures { result ≡ sees grammar.at_generics input.now }
 {
     input.peek::<Lt>() && input.peek2::<FirstParameter>()
@@ -334,7 +334,7 @@ fn at_parameter(input: &ParseBuffer<'_>) -> bool
 
 /// Whether a path stands next by which a macro is no item.
 #[tactic(auto, using(crate::proofs::ItemLooks::no_macro_item_seen))]
-pub(crate) fn at_no_macro_item(input: &ParseBuffer<'_>) -> bool
+pub fn at_no_macro_item(input: &ParseBuffer<'_>) -> bool
     ensures { result ≡ sees table.at_no_macro_item input.now }
 {
     input.peek::<SelfType>() || (input.peek::<Default>() && input.peek2::<PathSep>())
@@ -342,7 +342,7 @@ pub(crate) fn at_no_macro_item(input: &ParseBuffer<'_>) -> bool
 
 /// Whether a string stands next. Refused only where memory is.
 #[tactic(auto, using(crate::proofs::Strings::string_seen, crate::proofs::Strings::no_string_seen))]
-pub(crate) fn at_str(input: &ParseBuffer<'_>) -> Parsed<bool>
+pub fn at_str(input: &ParseBuffer<'_>) -> Parsed<bool>
     ensures { OrMemory IsSyntax result (λ answer. answer ≡ sees (grammar.at_literal Str) input.now) }
 {
     match input.fork().read::<Literal>() {
@@ -369,14 +369,14 @@ pub(crate) fn is_string(literal: &Literal) -> bool
 
 /// Whether a word of a path stands next, and `::` behind it.
 #[tactic(auto, using(crate::proofs::MacroLooks::before_colons_seen))]
-pub(crate) fn is_before_colons(input: &ParseBuffer<'_>) -> bool
+pub fn is_before_colons(input: &ParseBuffer<'_>) -> bool
     ensures { result ≡ sees (ahead Before_colons) input.now }
 {
     at_path_word(input) && input.peek2::<PathSep>()
 }
 
 /// Whether the path of a macro stands next, or its rest behind a `:`. Refused only where memory is.
-pub(crate) fn is_before_macro(input: &ParseBuffer<'_>) -> Parsed<bool>
+pub fn is_before_macro(input: &ParseBuffer<'_>) -> Parsed<bool>
     ensures { OrMemory IsSyntax result (λ answer. answer ≡ sees (ahead Before_macro) input.now) }
 {
     if !at_lone_colon(input) {
@@ -392,7 +392,7 @@ pub(crate) fn is_before_macro(input: &ParseBuffer<'_>) -> Parsed<bool>
 
 /// Whether parentheses stand next that begin with `in`.
 #[tactic(auto, using(crate::proofs::Restricted::in_restriction_seen))]
-pub(crate) fn at_in_restriction(input: &ParseBuffer<'_>) -> bool
+pub fn at_in_restriction(input: &ParseBuffer<'_>) -> bool
     ensures { result ≡ sees plan.at_in_restriction input.now }
 {
     match input.peek_group::<kind::Paren>() {
@@ -403,7 +403,7 @@ pub(crate) fn at_in_restriction(input: &ParseBuffer<'_>) -> bool
 
 /// Whether parentheses stand next that hold `crate`, `self` or `super` alone.
 #[tactic(auto, using(crate::proofs::Restricted::lone_word_seen))]
-pub(crate) fn at_lone_word(input: &ParseBuffer<'_>) -> bool
+pub fn at_lone_word(input: &ParseBuffer<'_>) -> bool
     ensures { result ≡ sees plan.at_lone_word input.now }
 {
     match input.peek_group::<kind::Paren>() {

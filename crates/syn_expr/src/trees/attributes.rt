@@ -5,7 +5,7 @@ ghost use Rattle.syn_grammar.specs.Values.{attributes_before};
 ghost use Rattle.syn_grammar.specs.Promises.{OrMemory};
 ghost use Rattle.syn_lower.specs.Attributes.{all_attributes_syntax, attributes_syntax};
 ghost use Rattle.syn_lower.specs.Parsing.{IsSyntax};
-ghost use Rattle.syn_expr_parse.specs.Bodies.{attributes_before_body, attributes_in_body};
+ghost use Rattle.syn_lower.specs.Bodies.{attributes_before_body, attributes_in_body};
 ghost use Rattle.syn_expr_parse.specs.Unary.{all_shown, own_shown};
 ghost use Rattle.syn_expr.specs.Expressions.{syntax_of_Expr};
 

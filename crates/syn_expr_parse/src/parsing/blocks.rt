@@ -12,7 +12,7 @@ ghost use Rattle.syn_lower.specs.Attributes.{none_listed};
 ghost use Rattle.syn_lower.specs.Parsing.{parse_rule, parse_form, Computes, Parses, Moved, Kept, MayBelow, MayHere, itself, IsSyntax};
 ghost use Rattle.syn_expr_parse.specs.BlockForms.{else_branch_form, for_form, label_form, labelled_as, labelled_form, loop_form, otherwise_form, unsafe_form, while_form};
 ghost use Rattle.syn_expr_parse.specs.Parts.{behind_else, block_behind_else, label_syntax};
-ghost use Rattle.syn_expr_parse.specs.Bodies.{attributes_before_body, attributes_in_body, body as body_syntax};
+ghost use Rattle.syn_lower.specs.Bodies.{attributes_before_body, attributes_in_body, body as body_syntax};
 
 use crate::parsing::nested::{Block, Expr, Nested, Rung, Spot};
 use crate::trees::Trees;

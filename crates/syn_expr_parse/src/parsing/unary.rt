@@ -9,7 +9,7 @@ ghost use Rattle.syn_grammar.specs.Run.{wrap};
 ghost use Rattle.syn_grammar.specs.Promises.{OrMemory};
 ghost use Rattle.syn_lower.specs.Attributes.{all_attributes_syntax, attributes_syntax};
 ghost use Rattle.syn_lower.specs.Parsing.{parse_rule, parse_form, Computes, Parses, Moved, MayBelow, MayHere, IsSyntax};
-ghost use Rattle.syn_expr_parse.specs.Bodies.{attributes_before_body, attributes_in_body};
+ghost use Rattle.syn_lower.specs.Bodies.{attributes_before_body, attributes_in_body};
 ghost use Rattle.syn_expr_parse.specs.Operators.{syntax_of_UnOp};
 ghost use Rattle.syn_expr_parse.specs.Spots.{within};
 ghost use Rattle.syn_expr_parse.specs.Unary as unaries;

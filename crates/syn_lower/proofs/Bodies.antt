@@ -6,13 +6,12 @@ use Rattle.syn_grammar.specs.Grammar.{Syntax, Nothing, Both, Left, Right, Node, 
 use Rattle.syn_grammar.specs.Same.{same_syntax}
 use Rattle.syn_grammar.proofs.Same.{and_false}
 use Rattle.syn_tokens.specs.InOrder.{in_order}
-use Rattle.syn_lower.specs.Attributes.{attributes_syntax, every, is_inner, is_outer, outer_row, shown_before, syntax_of_Attribute, syntax_of_AttrStyle}
+use Rattle.syn_lower.specs.Attributes.{attributes_syntax, every, inner_attributes_syntax, inner_listed, is_inner, is_outer, outer_row, shown_before, syntax_of_Attribute, syntax_of_AttrStyle}
 use Rattle.syn_lower.specs.declared.attr.AttrStyle.TheVariants as AttrStyle-m
 use Rattle.syn_lower.specs.declared.attr.Attribute.{Attribute}
 use Rattle.syn_lower.proofs.Attributes.{print_outer_listed}
 use Rattle.syn_lower.proofs.Compared.{told}
-use Rattle.syn_expr_parse.specs.Bodies.{attributes_before_body, attributes_in_body, listed_before, listed_inside, outer_first}
-use Rattle.syn_expr.specs.Bodies.{inner_part, inner_row}
+use Rattle.syn_lower.specs.Bodies.{attributes_before_body, attributes_in_body, inner_part, inner_row, listed_before, listed_inside, outer_first}
 
 abbrev all : List Attribute → Syntax
 all l = in_order syntax_of_Attribute l
@@ -48,6 +47,11 @@ print_before_body l = print_outer_ones (pick (outer_first (all l)) Nothing (all 
 pub print_in_body : (l : List Attribute) → print (attributes_in_body l) ≡ inner_row l
 unfolding listed_inside
 print_in_body l = print_inner_ones Nothing l
+
+-- inner attributes by themselves
+pub print_inner_listed : (l : List Attribute) → print (inner_attributes_syntax l) ≡ print (attributes_in_body l)
+unfolding inner_listed
+print_inner_listed l = print_inner_ones (pick (every is_inner (all l)) Nothing (all l)) l ∙ sym (print_in_body l)
 
 -- what is left of a list, one step on
 pub inner_step : (l : List Attribute) (i : ℕ) (d : Attribute) → i < length l → inner_row (drop i l) ≡ inner_part (get_or l i d) ⧺ inner_row (drop (i + 1) l)

@@ -1,7 +1,7 @@
 use Rattle.std.proofs.Common.{◌≡◌, drop}
 use Rattle.syn_tokens.specs.Building.{added}
-use Rattle.syn_expr.specs.Bodies.{inner_row}
-use Rattle.syn_expr.proofs.nested.print.bodies.print_inner_row.Given as goal
+use Rattle.syn_lower.specs.Bodies.{inner_row}
+use Rattle.syn_lower.proofs.attr.bodies.print_inner_row.Given as goal
 
 abbrev pub invariant-loop-attr : goal.invariant-loop-attr
 invariant-loop-attr l =
