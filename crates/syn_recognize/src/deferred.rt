@@ -2,7 +2,7 @@
 //! back to itself through its tree: nothing that is kept, read, copied, compared, printed or dropped knows the tree's type.
 ghost use Rattle.std.specs.Prelude.{◌≡◌, ◌↔◌, [], true, Some, IfOk, IfErr, OnOk, IsTrue};
 ghost use Rattle.syn_grammar.specs.Tokens.{end};
-ghost use Rattle.syn_grammar.specs.Grammar.{rule, Node, show, print, plain_syntax};
+ghost use Rattle.syn_grammar.specs.Grammar.{rule, show, print, plain_syntax};
 ghost use Rattle.syn_grammar.specs.Run.{parse_rule};
 ghost use Rattle.syn_grammar.specs.Same.{same_syntax};
 ghost use Rattle.syn_grammar.specs.StandsAlone.{stands_alone};
@@ -41,15 +41,18 @@ pub use block::{BlockOf, DeferredBlock};
 
 /// A type of the trees that a deferred one stands for. It may stand above all types that hold a deferred tree.
 pub trait TreeOf<const KIND: usize>: ToTokens + Drop {
-    ghost use Rattle.syn_grammar.specs.Grammar.{Node};
+    ghost use Rattle.syn_grammar.specs.Grammar.{Syntax};
     ghost use Rattle.syn_grammar.specs.Run.{parse_rule};
     ghost use Rattle.syn_grammar.specs.Promises.{Computes};
     ghost use Rattle.syn_parse.specs.Refusals.{IsSyntax};
     ghost use Rattle.syn_recognize.specs.DeferredTokens.{kind_rule};
 
+    /// What a tree stands for, as the kind's rule reads it.
+    ghost whole: { Self → Syntax };
+
     /// Reads a tree by the kind's rule. Refused for the input only where the rule computes nothing.
     fn read_tree(input: &mut ParseBuffer<'_>) -> Parsed<Self>
-        ensures reads { Computes IsSyntax (λ tree. Node (Self.syntax tree)) (parse_rule (kind_rule KIND) input.old) result input.new };
+        ensures reads { Computes IsSyntax Self.whole (parse_rule (kind_rule KIND) input.old) result input.new };
 }
 
 /// Any expression as its tokens.
@@ -147,7 +150,7 @@ impl<const KIND: usize> Deferred<KIND> {
     /// The tree that it stands for, spans included. Refused only where memory is, and where the tree's type reads no tree that is
     /// nested so deep.
     pub fn open<T: TreeOf<KIND>>(&self) -> Result<T>
-        ensures ok { IfOk result (λ tree. Node (T.syntax tree) ≡ self.now) }
+        ensures ok { IfOk result (λ tree. T.whole tree ≡ self.now) }
         ensures memory { IfErr result (λ e. e ≡ []) }
     {
         let mut input = ParseBuffer::new(self.source());
