@@ -91,6 +91,8 @@ impl Read for Expr {
 
 /// Expressions may be deferred.
 impl TreeOf<0> for Expr {
+    ghost whole = { whole };
+
     fn read_tree(input: &mut ParseBuffer<'_>) -> Parsed<Expr> {
         Ok(ExprTrees::unboxed(nested_expr::<Refusal>(
             Rung::Whole(Spot::Anywhere),
@@ -102,6 +104,8 @@ impl TreeOf<0> for Expr {
 
 /// Constants are deferred as such, and opened as expressions.
 impl TreeOf<1> for Expr {
+    ghost whole = { whole };
+
     #[tactic(auto, using(crate::specs::Cores::core_view))]
     fn read_tree(input: &mut ParseBuffer<'_>) -> Parsed<Expr> {
         let knot = Knot {

@@ -41,18 +41,18 @@ pub use block::{BlockOf, DeferredBlock};
 
 /// A type of the trees that a deferred one stands for. It may stand above all types that hold a deferred tree.
 pub trait TreeOf<const KIND: usize>: ToTokens + Drop {
-    ghost use Rattle.syn_grammar.specs.Grammar.{Node, Syntax};
+    ghost use Rattle.syn_grammar.specs.Grammar.{Syntax};
     ghost use Rattle.syn_grammar.specs.Run.{parse_rule};
     ghost use Rattle.syn_grammar.specs.Promises.{Computes};
     ghost use Rattle.syn_parse.specs.Refusals.{IsSyntax};
     ghost use Rattle.syn_recognize.specs.DeferredTokens.{kind_rule};
 
     /// What a tree stands for, as the kind's rule reads it.
-    ghost whole: { Self → Syntax } = { λ tree. Node (Self.syntax tree) };
+    ghost whole: { Self → Syntax };
 
     /// Reads a tree by the kind's rule. Refused for the input only where the rule computes nothing.
     fn read_tree(input: &mut ParseBuffer<'_>) -> Parsed<Self>
-        ensures reads { Computes IsSyntax whole (parse_rule (kind_rule KIND) input.old) result input.new };
+        ensures reads { Computes IsSyntax Self.whole (parse_rule (kind_rule KIND) input.old) result input.new };
 }
 
 /// Any expression as its tokens.
