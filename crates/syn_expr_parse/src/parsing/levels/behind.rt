@@ -9,6 +9,7 @@ ghost use Rattle.syn_grammar.specs.Values.{core, new, onto};
 ghost use Rattle.syn_tokens.specs.Kinds.{as_syntax};
 ghost use Rattle.syn_lower.specs.Types.{syntax_of_Type};
 ghost use Rattle.syn_lower.specs.Parsing.{parse_rule, Computes, Kept, MayBelow, Parses, IsSyntax};
+ghost use Rattle.syn_expr_parse.specs.Levels.{assignment_operators, first_operator, going_once};
 ghost use Rattle.syn_expr_parse.specs.Spots.{within};
 
 use super::looks::at_equals_operator;
@@ -103,11 +104,25 @@ pub(super) fn assigned<N: Nested>(
     ensures reads { Computes IsSyntax (λ e. N.Trees.expr_syntax e.value) (wrap (onto (core (N.Trees.expr_syntax left.value))) (parse_rule (within spot rules.assigned) input.old)) result input.new }
     ensures kept { Kept input.old result input.new }
 {
-    if at_equals_operator(input) {
-        let eq_token = input.read()?;
-        let right = nested.expr(Rung::Whole(spot), input)?;
-        return N::Trees::expr_assign(left, eq_token, right, input.alloc());
+    if !at_equals_operator(input) {
+        return assigned_by_operator(spot, nested, left, input);
     }
+    let eq_token = input.read()?;
+    let right = nested.expr(Rung::Whole(spot), input)?;
+    N::Trees::expr_assign(left, eq_token, right, input.alloc())
+}
+
+/// What is assigned to an expression by an operator with `=`, once at most.
+fn assigned_by_operator<N: Nested>(
+    spot: Spot,
+    nested: &N,
+    left: Box<Expr<N>>,
+    input: &mut ParseBuffer<'_>,
+) -> Parsed<Box<Expr<N>>>
+    requires { MayBelow N.may nested.now input.old }
+    ensures reads { Computes IsSyntax (λ e. N.Trees.expr_syntax e.value) (going_once (core (N.Trees.expr_syntax left.value)) input.old (first_operator assignment_operators input.old) (parse_rule (within spot rules.whole_expression))) result input.new }
+    ensures kept { Kept input.old result input.new }
+{
     match assignment_operator(input)? {
         Some(op) => {
             let right = nested.expr(Rung::Whole(spot), input)?;
