@@ -75,7 +75,7 @@ crate_form = plainly (word w_extern) & plainly (word w_crate) & plainly (name_or
 
 -- inner attributes and items in braces
 abbrev pub items_syntax : List Attribute → kinds.Brace → Syntax → Syntax
-items_syntax attrs braces items = group_syntax Brace braces (Both (attributes_in_body attrs) items)
+items_syntax attrs braces rest = group_syntax Brace braces (Both (attributes_in_body attrs) rest)
 
 abbrev pub content_form : Grammar
 content_form = when at_semicolon then punctuation semicolon else unshown & inside Brace (rule inner_attributes & rule items)
