@@ -1,8 +1,8 @@
 pub mod Aliases
 pub mod Arguments
-pub mod Bodies
+pub mod BodyForms
 pub mod BoundLists
-pub mod Impls
+pub mod ImplForms
 pub mod Inputs
 pub mod Kept
 pub mod Macros

@@ -20,7 +20,7 @@ use Rattle.syn_tree.specs.Restriction.{syntax_of_Visibility}
 use Rattle.syn_item.specs.Impls.{implemented}
 use Rattle.syn_item.specs.declared.impls.members.MemberMarks.{MemberMarks}
 use Rattle.syn_item.specs.declared.impls.parsing.ImplMarks.{ImplMarks}
-use Rattle.syn_item.specs.declared.impls.parsing.Implemented.{Implemented}
+use Rattle.syn_item.specs.declared.impls.parsing.ImplTypes.{ImplTypes}
 
 -- what stands behind an impl's generics, and what ends it
 abbrev pub implemented_form : Grammar
@@ -40,7 +40,7 @@ impl_of m s =
     (Node (Both (maybe default_syntax m.defaultness) (Both (maybe const_syntax m.constness) (Both (maybe unsafe_syntax m.unsafety) (Both (impl_syntax m.impl_token) s)))))
 
 -- an impl's first types, and what ends it
-abbrev pub types_before : Implemented → Syntax → Syntax
+abbrev pub types_before : ImplTypes → Syntax → Syntax
 types_before i rest = implemented (maybe not_syntax i.polarity) (maybe (pair_of itself for_syntax) i.trait_) (syntax_of_Type i.self_ty.value) rest
 
 -- What stands before the end of an impl, by what reads on: `!` and what follows it, a path and what follows it, or a type.

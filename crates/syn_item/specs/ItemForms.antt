@@ -21,7 +21,7 @@ use Rattle.syn_lower.specs.declared.bounds.TypeParamBound.TheVariants as TypePar
 use Rattle.syn_tree.specs.Derive.{item_of}
 use Rattle.syn_item.specs.Simple.{aliased, content_syntax, module_content, syntax_of_WhereClausePlacement}
 use Rattle.syn_item.specs.declared.simple.WhereClausePlacement.TheVariants as WhereClausePlacement-m
-use Rattle.syn_item.specs.declared.simple.aliases.Aliased.{Aliased}
+use Rattle.syn_item.specs.declared.simple.aliases.AliasParts.{AliasParts}
 
 -- FUNCTIONS: of these attributes, this visibility and this signature, by their body
 abbrev pub function_of : Syntax → Syntax → Syntax → Syntax → Syntax
@@ -47,7 +47,7 @@ aliased_form = such one_where (rule where_clause & punctuation equals & rule typ
 abbrev pub type_form : Grammar
 type_form = unshown & plainly (word w_type) & plainly name & rule generics & unshown & aliased_form & punctuation semicolon
 
-abbrev pub aliased_syntax : Aliased → Syntax
+abbrev pub aliased_syntax : AliasParts → Syntax
 aliased_syntax a = aliased (syntax_of_WhereClausePlacement a.placement) (where_part a.where_clause) (eq_syntax a.eq_token) (syntax_of_Type a.ty.value)
 
 -- the place of a clause that stands behind the type (true), or before it
@@ -75,7 +75,7 @@ crate_form = plainly (word w_extern) & plainly (word w_crate) & plainly (name_or
 
 -- inner attributes and items in braces
 abbrev pub items_syntax : List Attribute → kinds.Brace → Syntax → Syntax
-items_syntax attrs braces items = group_syntax Brace braces (Both (attributes_in_body attrs) items)
+items_syntax attrs braces rest = group_syntax Brace braces (Both (attributes_in_body attrs) rest)
 
 abbrev pub content_form : Grammar
 content_form = when at_semicolon then punctuation semicolon else unshown & inside Brace (rule inner_attributes & rule items)

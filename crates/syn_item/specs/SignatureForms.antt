@@ -22,8 +22,8 @@ use Rattle.syn_lower.specs.Paths.{syntax_of_ReturnType}
 use Rattle.syn_lower.specs.declared.path.ReturnType.TheVariants as ReturnType-m
 use Rattle.syn_item.specs.Signatures.{parameters_of, receiver_argument, syntax_of_FnArg, syntax_of_Safety}
 use Rattle.syn_item.specs.declared.sig.FnArg.TheVariants as FnArg-m
-use Rattle.syn_item.specs.declared.sig.parameters.Parameter.TheVariants as Parameter-m
-use Rattle.syn_item.specs.declared.sig.parameters.Parameters.{Parameters}
+use Rattle.syn_item.specs.declared.sig.parameters.OneParameter.TheVariants as OneParameter-m
+use Rattle.syn_item.specs.declared.sig.parameters.ParameterList.{ParameterList}
 use Rattle.syn_item.specs.declared.sig.parsing.Qualifiers.{Qualifiers}
 
 -- WHAT STANDS BEFORE `fn`, and a signature behind it
@@ -40,7 +40,7 @@ abbrev pub string_form : Grammar
 string_form = when at_literal Str then plainly (literal_of (Str ∷ [])) else empty
 
 -- parameters in parentheses
-abbrev pub parameters_syntax : kinds.Paren × Parameters → Syntax
+abbrev pub parameters_syntax : kinds.Paren × ParameterList → Syntax
 parameters_syntax p = group_syntax Paren p.0 (parameters_of (list_of syntax_of_FnArg comma_syntax p.1.inputs.pairs p.1.inputs.last) (maybe itself p.1.variadic))
 
 -- what stands behind them
@@ -100,9 +100,9 @@ abbrev pub argument_behind : Syntax → Parser
 argument_behind attrs ts = pick (sees at_receiver ts) (wrap receiver_argument (wrap (with_attributes attrs) (parse_rule receiver_rest ts))) (typed_parameter attrs ts)
 
 -- a parameter in parentheses: one in the list, or a variadic one behind it
-abbrev pub parameter_syntax : Parameter-m.the_data → Syntax
-parameter_syntax (Parameter-m.Input arg) = Left (syntax_of_FnArg arg)
-parameter_syntax (Parameter-m.Variadic v) = Right v
+abbrev pub parameter_syntax : OneParameter-m.the_data → Syntax
+parameter_syntax (OneParameter-m.Input arg) = Left (syntax_of_FnArg arg)
+parameter_syntax (OneParameter-m.Variadic v) = Right v
 
 unfoldable pub parameter_behind : Syntax → Syntax → Parser
 parameter_behind attrs name ts =

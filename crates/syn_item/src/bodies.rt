@@ -13,7 +13,7 @@ use syn_recognize::deferred::{DeferredBlock, read_deferred_rest};
 use syn_tokens::token::kind;
 
 /// The inner attributes that stand next, behind these outer ones in one list.
-#[tactic(auto, using(crate::proofs::Bodies::outer_stand_before, crate::proofs::Bodies::inner_stand_inside))]
+#[tactic(auto, using(crate::proofs::BodyForms::outer_stand_before, crate::proofs::BodyForms::inner_stand_inside))]
 pub(crate) fn with_inner(
     attrs: Vec<Attribute>,
     input: &mut ParseBuffer<'_>,
@@ -30,7 +30,7 @@ pub(crate) fn with_inner(
 }
 
 /// A body: inner attributes and statements in braces. The inner attributes stand behind these outer ones in the list that is answered.
-#[tactic(auto, using(crate::proofs::Bodies::body_read), unfolding(syn_grammar::specs::Take::is_end))]
+#[tactic(auto, using(crate::proofs::BodyForms::body_read), unfolding(syn_grammar::specs::Take::is_end))]
 pub(crate) fn body(
     attrs: Vec<Attribute>,
     input: &mut ParseBuffer<'_>,

@@ -107,7 +107,7 @@ pub struct ImplItemMacro {
 }
 
 /// What stands behind an impl's generics: `!`, a trait's path and `for`, the self type, the where clause and the members.
-#[tactic(auto, using(syn_tokens::proofs::Prints::prints, crate::proofs::Impls::print_implemented))]
+#[tactic(auto, using(syn_tokens::proofs::Prints::prints, crate::proofs::ImplForms::print_implemented))]
 fn print_behind_generics(item: &ItemImpl, out: &mut StreamBuilder) -> Result<(), AllocError>
     ensures prints { OnOk result (out.new ≡ added out.old (print (behind_generics item.now))) }
     ensures begins { out.new.before ≡ out.old.before }
@@ -150,7 +150,7 @@ fn tokens_of_type(ty: &Type, alloc: Global) -> Result<TokenStream, AllocError>
 
 /// Whether what stands behind an impl's generics, of which these are the tokens, would be read as generics where there are none; or
 /// its self type behind `for` would.
-#[tactic(auto, using(crate::proofs::Impls::led_by))]
+#[tactic(auto, using(crate::proofs::ImplForms::led_by))]
 fn is_led(item: &ItemImpl, behind: &TokenStream, alloc: Global) -> Result<bool, AllocError>
     requires { behind.now ≡ print (behind_generics item.now) }
     ensures { IfOk result (λ answer. answer ≡ led (renew (behind_generics item.now))) }
@@ -168,7 +168,7 @@ fn is_led(item: &ItemImpl, behind: &TokenStream, alloc: Global) -> Result<bool, 
 }
 
 /// Generics and what stands behind them. Empty generics are printed as `< >` where it would be read as generics else.
-#[tactic(auto, using(syn_tokens::proofs::Prints::prints, crate::proofs::Impls::some_printed, crate::proofs::Impls::none_printed))]
+#[tactic(auto, using(syn_tokens::proofs::Prints::prints, crate::proofs::ImplForms::some_printed, crate::proofs::ImplForms::none_printed))]
 fn print_behind_impl(item: &ItemImpl, out: &mut StreamBuilder) -> Result<(), AllocError>
     ensures prints { OnOk result (out.new ≡ added out.old (print (behind_impl item.now))) }
     ensures begins { out.new.before ≡ out.old.before }

@@ -40,7 +40,7 @@ pub(crate) struct ImplMarks {
 
 /// What an impl is for: perhaps `!`, perhaps a trait's path and `for`, and the self type.
 #[derive(Drop)]
-pub(crate) struct Implemented {
+pub(crate) struct ImplTypes {
     pub(crate) polarity: Option<Not>,
     pub(crate) trait_: Option<(Path, For)>,
     pub(crate) self_ty: Box<Type>,
@@ -121,7 +121,7 @@ impl Peek for ModulePath {
 }
 
 /// `!` alone; `!`, a path, `for` and a type; a path with `for` and a type or alone; or a type that is no plain path.
-pub(crate) fn implemented(input: &mut ParseBuffer<'_>) -> Parsed<Implemented>
+pub(crate) fn implemented(input: &mut ParseBuffer<'_>) -> Parsed<ImplTypes>
     ensures reads { ReadsBefore IsSyntax types_before (λ f. types_then f input.old) result input.new }
     ensures moved { Moved input.old result input.new }
 {
@@ -131,7 +131,7 @@ pub(crate) fn implemented(input: &mut ParseBuffer<'_>) -> Parsed<Implemented>
     if input.peek::<ModulePath>() {
         return behind_path(input);
     }
-    Ok(Implemented {
+    Ok(ImplTypes {
         polarity: None,
         trait_: None,
         self_ty: input.read()?,
@@ -139,20 +139,20 @@ pub(crate) fn implemented(input: &mut ParseBuffer<'_>) -> Parsed<Implemented>
 }
 
 /// `!`, and before braces nothing else, as a self type; else a path, `for` and a self type.
-fn behind_bang(input: &mut ParseBuffer<'_>) -> Parsed<Implemented>
+fn behind_bang(input: &mut ParseBuffer<'_>) -> Parsed<ImplTypes>
     ensures reads { ReadsBefore IsSyntax types_before (λ f. wrap Left (bang_then f input.old)) result input.new }
     ensures moved { Moved input.old result input.new }
 {
     let bang_token = input.read()?;
     if input.peek::<Brace>() {
         let never = Type::Never(TypeNever { bang_token });
-        return Ok(Implemented {
+        return Ok(ImplTypes {
             polarity: None,
             trait_: None,
             self_ty: Box::new(input.alloc(), never)?,
         });
     }
-    Ok(Implemented {
+    Ok(ImplTypes {
         polarity: Some(bang_token),
         trait_: Some((input.read()?, input.read()?)),
         self_ty: input.read()?,
@@ -160,20 +160,20 @@ fn behind_bang(input: &mut ParseBuffer<'_>) -> Parsed<Implemented>
 }
 
 /// A path as a trait's, with `for` and a self type behind it; or as the self type.
-fn behind_path(input: &mut ParseBuffer<'_>) -> Parsed<Implemented>
+fn behind_path(input: &mut ParseBuffer<'_>) -> Parsed<ImplTypes>
     ensures reads { ReadsBefore IsSyntax types_before (λ f. wrap Right (wrap Left (path_then f input.old))) result input.new }
     ensures moved { Moved input.old result input.new }
 {
     let path = input.read()?;
     if input.peek::<For>() {
-        return Ok(Implemented {
+        return Ok(ImplTypes {
             polarity: None,
             trait_: Some((path, input.read()?)),
             self_ty: input.read()?,
         });
     }
     let ty = Type::Path(TypePath { qself: None, path });
-    Ok(Implemented {
+    Ok(ImplTypes {
         polarity: None,
         trait_: None,
         self_ty: Box::new(input.alloc(), ty)?,
@@ -185,7 +185,7 @@ fn behind_path(input: &mut ParseBuffer<'_>) -> Parsed<Implemented>
 pub(crate) fn impl_end(
     marks: ImplMarks,
     generics: Generics,
-    types: Implemented,
+    types: ImplTypes,
     input: &mut ParseBuffer<'_>,
 ) -> Parsed<ItemImpl>
     requires outer { all_attributes_syntax marks.attrs.items ≡ attributes_syntax marks.attrs.items }

@@ -31,14 +31,14 @@ use syn_tokens::token::{And, Colon, Comma, DotDotDot, Mut, PathSep, Pound, SelfV
 
 /// What the parentheses of a signature hold.
 #[derive(Drop)]
-pub(crate) struct Parameters {
+pub(crate) struct ParameterList {
     pub inputs: Punctuated<FnArg, Comma>,
     pub variadic: Option<Variadic>,
 }
 
 /// One of them.
 #[derive(Drop)]
-enum Parameter {
+enum OneParameter {
     Input(FnArg),
     /// It is the last.
     Variadic(Variadic),
@@ -46,15 +46,15 @@ enum Parameter {
 
 /// Parameters to the end, separated by commas; the last comma may stand or not. A receiver stands first only, and a variadic one last only.
 #[tactic(auto, using(crate::proofs::Inputs::all_read, crate::proofs::Inputs::none_more, crate::proofs::Inputs::last_one, crate::proofs::Inputs::variadic_one))]
-pub(crate) fn parameters(input: &mut ParseBuffer<'_>) -> Parsed<Parameters>
+pub(crate) fn parameters(input: &mut ParseBuffer<'_>) -> Parsed<ParameterList>
     ensures reads { Computes IsSyntax (λ p. parameters_of (list_of syntax_of_FnArg comma_syntax p.inputs.pairs p.inputs.last) (maybe itself p.variadic)) (parse_rule rules.inputs input.old) result input.new }
     ensures kept { Kept input.old result input.new }
 {
     let mut inputs = Punctuated::new(input.alloc());
     'parameters: while !input.is_empty() {
         let arg = match parameter(&inputs, input)? {
-            Parameter::Input(arg) => arg,
-            Parameter::Variadic(last) => return Ok(before_variadic(inputs, last)),
+            OneParameter::Input(arg) => arg,
+            OneParameter::Variadic(last) => return Ok(before_variadic(inputs, last)),
         };
         if !input.peek::<Comma>() {
             inputs.push_value(arg)?;
@@ -67,22 +67,22 @@ pub(crate) fn parameters(input: &mut ParseBuffer<'_>) -> Parsed<Parameters>
 }
 
 /// These parameters, and no variadic one.
-fn without_variadic(inputs: Punctuated<FnArg, Comma>) -> Parameters
+fn without_variadic(inputs: Punctuated<FnArg, Comma>) -> ParameterList
     ensures inputs { result.inputs ≡ inputs }
     ensures variadic { maybe itself result.variadic ≡ maybe itself None }
 {
-    Parameters {
+    ParameterList {
         inputs,
         variadic: None,
     }
 }
 
 /// These parameters, and a variadic one.
-fn before_variadic(inputs: Punctuated<FnArg, Comma>, last: Variadic) -> Parameters
+fn before_variadic(inputs: Punctuated<FnArg, Comma>, last: Variadic) -> ParameterList
     ensures inputs { result.inputs ≡ inputs }
     ensures variadic { maybe itself result.variadic ≡ maybe itself (Some last) }
 {
-    Parameters {
+    ParameterList {
         inputs,
         variadic: Some(last),
     }
@@ -90,7 +90,7 @@ fn before_variadic(inputs: Punctuated<FnArg, Comma>, last: Variadic) -> Paramete
 
 /// The parameter behind these.
 #[tactic(auto, using(crate::proofs::Inputs::none_before, crate::proofs::Inputs::some_before), unfolding(crate::specs::SignatureForms::read_parameter))]
-fn parameter(inputs: &Punctuated<FnArg, Comma>, input: &mut ParseBuffer<'_>) -> Parsed<Parameter>
+fn parameter(inputs: &Punctuated<FnArg, Comma>, input: &mut ParseBuffer<'_>) -> Parsed<OneParameter>
     ensures reads { Computes IsSyntax parameter_syntax (read_parameter (is_first inputs.now.pairs inputs.now.last) input.old) result input.new }
     ensures moved { Moved input.old result input.new }
 {
@@ -101,11 +101,11 @@ fn parameter(inputs: &Punctuated<FnArg, Comma>, input: &mut ParseBuffer<'_>) -> 
     if !inputs.is_empty() {
         return late_receiver(inputs, input);
     }
-    Ok(Parameter::Input(FnArg::Receiver(receiver(attrs, input)?)))
+    Ok(OneParameter::Input(FnArg::Receiver(receiver(attrs, input)?)))
 }
 
 /// Refuses a receiver behind other parameters: at its `self`; or, where there is none, at what only begins like a receiver.
-fn late_receiver(inputs: &Punctuated<FnArg, Comma>, input: &ParseBuffer<'_>) -> Parsed<Parameter>
+fn late_receiver(inputs: &Punctuated<FnArg, Comma>, input: &ParseBuffer<'_>) -> Parsed<OneParameter>
     ensures { IfOk result (λ _. ⊥) }
 {
     let text = match inputs.first() {
@@ -135,12 +135,12 @@ fn span_of_self(input: &ParseBuffer<'_>) -> Parsed<Option<Span>> {
 /// A parameter that is no receiver, behind its attributes: `...` with a pattern and a colon before it or without them; or a pattern, a
 /// colon and a type.
 #[tactic(auto, unfolding(crate::specs::SignatureForms::other_parameter))]
-fn other(attrs: Vec<Attribute>, input: &mut ParseBuffer<'_>) -> Parsed<Parameter>
+fn other(attrs: Vec<Attribute>, input: &mut ParseBuffer<'_>) -> Parsed<OneParameter>
     ensures reads { Computes IsSyntax parameter_syntax (other_parameter (attributes_syntax attrs.items) input.old) result input.new }
     ensures moved { Moved input.old result input.new }
 {
     if input.peek::<DotDotDot>() {
-        return Ok(Parameter::Variadic(variadic(attrs, None, input)?));
+        return Ok(OneParameter::Variadic(variadic(attrs, None, input)?));
     }
     let (pat, colon_token) = pattern(input)?;
     behind_pattern(attrs, pat, colon_token, input)
@@ -153,15 +153,15 @@ fn behind_pattern(
     pat: Box<Pat>,
     colon_token: Colon,
     input: &mut ParseBuffer<'_>,
-) -> Parsed<Parameter>
+) -> Parsed<OneParameter>
     ensures reads { Computes IsSyntax parameter_syntax (parameter_behind (attributes_syntax attrs.items) (Both (syntax_of_Pat pat.value) (colon_syntax colon_token)) input.old) result input.new }
     ensures moved { Moved input.old result input.new }
 {
     if input.peek::<DotDotDot>() {
         let variadic = variadic(attrs, Some((pat, colon_token)), input)?;
-        return Ok(Parameter::Variadic(variadic));
+        return Ok(OneParameter::Variadic(variadic));
     }
-    Ok(Parameter::Input(FnArg::Typed(PatType {
+    Ok(OneParameter::Input(FnArg::Typed(PatType {
         attrs,
         pat,
         colon_token,

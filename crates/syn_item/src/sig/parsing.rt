@@ -15,7 +15,7 @@ ghost use Rattle.syn_lower.specs.Parsing.{inside, of, meaning_of_rule, parse_for
 ghost use Rattle.syn_item.specs.SignatureForms.{behind_qualifiers, end_form, end_syntax, parameters_syntax, qualifiers_syntax, string_form};
 ghost use Rattle.syn_item.specs.Signatures.{syntax_of_Safety};
 
-use crate::sig::parameters::{Parameters, parameters};
+use crate::sig::parameters::{ParameterList, parameters};
 use crate::sig::{Abi, Safety, Signature};
 use syn_lower::where_clause::where_clause;
 use syn_lower::{Generics, ReturnType, WhereClause};
@@ -103,7 +103,7 @@ pub(crate) fn signature_rest(
 
 /// Parameters in parentheses.
 #[tactic(auto, unfolding(syn_grammar::specs::Take::is_end))]
-fn in_parentheses(input: &mut ParseBuffer<'_>) -> Parsed<(Paren, Parameters)>
+fn in_parentheses(input: &mut ParseBuffer<'_>) -> Parsed<(Paren, ParameterList)>
     ensures reads { Computes IsSyntax parameters_syntax (parse_form (inside grammar.Paren (rule rules.inputs)) input.old) result input.new }
     ensures moved { Moved input.old result input.new }
 {

@@ -83,7 +83,7 @@ pub(crate) fn type_alias(
 
 /// What a type alias stands for, with its where clause.
 #[derive(Drop)]
-struct Aliased {
+struct AliasParts {
     eq_token: Eq,
     ty: Box<Type>,
     placement: WhereClausePlacement,
@@ -92,7 +92,7 @@ struct Aliased {
 
 /// `=` and a type, with a where clause before them or behind them. Where none stands, its place is before them.
 #[tactic(auto, using(crate::proofs::Aliases::alias_read, syn_lower::proofs::WhereClauses::none_clause))]
-fn aliased(input: &mut ParseBuffer<'_>) -> Parsed<Aliased>
+fn aliased(input: &mut ParseBuffer<'_>) -> Parsed<AliasParts>
     ensures reads { Computes IsSyntax aliased_syntax (parse_form aliased_form input.old) result input.new }
     ensures moved { Moved input.old result input.new }
 {
@@ -106,7 +106,7 @@ fn aliased(input: &mut ParseBuffer<'_>) -> Parsed<Aliased>
         return Err(input.refusal("unexpected token"));
     }
     let (placement, where_clause) = placed(is_late, early, late);
-    Ok(Aliased {
+    Ok(AliasParts {
         eq_token,
         ty,
         placement,

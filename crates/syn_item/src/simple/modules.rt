@@ -156,7 +156,7 @@ fn content(
 }
 
 /// Inner attributes and items in braces.
-#[tactic(auto, using(crate::proofs::Bodies::items_read), unfolding(syn_grammar::specs::Take::is_end))]
+#[tactic(auto, using(crate::proofs::BodyForms::items_read), unfolding(syn_grammar::specs::Take::is_end))]
 fn braced_items(
     attrs: Vec<Attribute>,
     input: &mut ParseBuffer<'_>,
