@@ -1,9 +1,10 @@
 //! What an attribute macro on functions does: reads a function from standard input, such as `#[a] fn p(x: u8) -> u8 { let y = x; y }`.
 //! Its body is kept as tokens, opened, changed, and kept as tokens again.
 //!
-//! It writes a line with the name, one with the number of attributes, one for each parameter but a variadic one, one for each statement
-//! (what it is, from which byte to which it stands, and its text), and one with the function whose body has no value: `;` stands behind a last expression
-//! that had none. The status is 0; 1 where the text is refused or can't be read or written, with a line on standard error.
+//! It writes a line with the name, one with the number of attributes, one for each parameter but a variadic one, one for each
+//! statement (what it is, from which byte to which it stands, and its text), and one with the function whose body has no value: `;`
+//! stands behind a last expression that had none. The status is 0; 1 where the text is refused or can't be read or written, with a line
+//! on standard error.
 #![tactic(auto)]
 
 mod block;
