@@ -58,6 +58,8 @@ SECONDS = {
     "syn_canon": 140,
     "statement_macro": 480,
     "list_fields": 400,
+    "list_items": 400,
+    "rewrite_items": 400,
     "first_steps": 270,
     "own_syntax": 270,
     "token_stats": 160,

@@ -1,43 +1,43 @@
 //! The lines that are written of a function.
 
 use crate::block::take_value;
-use crate::function::Function;
 use std::alloc::Global;
 use std::fmt::Write as _;
 use syn::deferred::DeferredBlock;
 use syn::reader::token_text;
 use syn::stmt::{Block, Stmt};
 use syn::token::{TokenStream, TokenTreeRef};
-use syn::{Span, ToTokens};
+use syn::{ItemFn, Span, ToTokens};
 
-/// Adds a line with the name, one with the number of attributes, one for each statement, and one with the block without its value.
+/// Adds a line with the name, one with the number of attributes, one for each parameter but a variadic one, one for each
+/// statement, and one with the function without its value.
 pub(crate) fn add_function(
     lines: &mut String,
-    function: &Function,
+    mut function: ItemFn,
     alloc: Global,
 ) -> syn::Result<()> {
-    writeln!(lines, "fn {}", function.name.text())?;
+    writeln!(lines, "fn {}", function.sig.ident.text())?;
     writeln!(lines, "attributes: {}", function.attrs.len())?;
+    for input in function.sig.inputs.iter() {
+        writeln!(lines, "parameter: {}", text_of(input, alloc)?.as_str())?;
+    }
     let mut block: Block = function.block.open()?;
     for stmt in &block.stmts {
         add_statement(lines, stmt, alloc)?;
     }
     take_value(&mut block);
-    add_block(lines, &DeferredBlock::new(&block, alloc)?, alloc)
-}
-
-/// Adds the line of a block that was changed.
-fn add_block(lines: &mut String, block: &DeferredBlock, alloc: Global) -> syn::Result<()> {
-    let mut tokens = TokenStream::new(alloc);
-    block.to_tokens(&mut tokens)?;
-    writeln!(lines, "without value: {}", token_text(&tokens)?.as_str())?;
+    function.block = DeferredBlock::new(&block, alloc)?;
+    writeln!(
+        lines,
+        "without value: {}",
+        text_of(&function, alloc)?.as_str()
+    )?;
     Ok(())
 }
 
 /// Adds the line of a statement: what it is, where it stands, and its text.
 fn add_statement(lines: &mut String, stmt: &Stmt, alloc: Global) -> syn::Result<()> {
-    let mut tokens = TokenStream::new(alloc);
-    stmt.to_tokens(&mut tokens)?;
+    let tokens = tokens_of(stmt, alloc)?;
     let Span { start, end } = place_of(&tokens);
     let text = token_text(&tokens)?;
     writeln!(
@@ -58,6 +58,18 @@ fn kind_of(stmt: &Stmt) -> &'static str {
         Stmt::Item(_) => "item",
         Stmt::Macro(_) => "macro",
     }
+}
+
+/// The text of a tree's tokens.
+fn text_of<T: ToTokens>(tree: &T, alloc: Global) -> syn::Result<String> {
+    token_text(&tokens_of(tree, alloc)?)
+}
+
+/// The tokens of a tree.
+fn tokens_of<T: ToTokens>(tree: &T, alloc: Global) -> syn::Result<TokenStream> {
+    let mut tokens = TokenStream::new(alloc);
+    tree.to_tokens(&mut tokens)?;
+    Ok(tokens)
 }
 
 /// From where the first of these tokens begins to where the last one ends; 0 to 0 where there are none. What is printed of a tree

@@ -1,38 +1,28 @@
-//! What an attribute macro of one's own reads: a function of statements alone, `#[a] fn p { let x = 1; x }`, from standard input. Its
-//! block is kept as tokens, opened, changed, and kept as tokens again.
+//! What an attribute macro on functions does: reads a function from standard input, such as `#[a] fn p(x: u8) -> u8 { let y = x; y }`.
+//! Its body is kept as tokens, opened, changed, and kept as tokens again.
 //!
-//! It writes a line with the name, one with the number of attributes, one for each statement (what it is, from which byte to which it
-//! stands, and its text), and one with the block without its value: `;` stands behind a last expression that had none. The status is 0;
-//! 1 where the text is refused or can't be read or written, with a line on standard error.
+//! It writes a line with the name, one with the number of attributes, one for each parameter but a variadic one, one for each
+//! statement (what it is, from which byte to which it stands, and its text), and one with the function whose body has no value: `;`
+//! stands behind a last expression that had none. The status is 0; 1 where the text is refused or can't be read or written, with a line
+//! on standard error.
 #![tactic(auto)]
 
 mod block;
-mod function;
 mod list;
 
-pub use crate::function::{Function, parse_function};
 use crate::list::add_function;
 use std::alloc::Global;
 use std::fmt::Write as _;
 use std::io::{Read, Write};
 use std::process::ExitCode;
-use syn::parse::ParseBuffer;
 use syn::reader::read_tokens;
-use syn::token::TokenStream;
-
-/// The function that a whole stream is.
-fn parse_whole(tokens: &TokenStream) -> syn::Result<Function> {
-    let mut input = ParseBuffer::new(tokens);
-    let function = parse_function(&mut input)?;
-    input.finish()?;
-    Ok(function)
-}
+use syn::{ItemFn, parse2};
 
 /// The lines of the function that a text is.
 fn describe(alloc: Global, text: &str) -> syn::Result<String> {
-    let function = parse_whole(&read_tokens(alloc, text)?)?;
+    let function: ItemFn = parse2(read_tokens(alloc, text)?)?;
     let mut lines = String::new(alloc);
-    add_function(&mut lines, &function, alloc)?;
+    add_function(&mut lines, function, alloc)?;
     Ok(lines)
 }
 

@@ -29,12 +29,8 @@ pub use syn_tree::data::{
     Field, FieldModifiers, Fields, FieldsNamed, FieldsUnnamed, MemberRef, Members, Variant,
 };
 pub use syn_tree::derive::{Data, DataEnum, DataStruct, DataUnion, DeriveInput};
-pub use syn_tree::item::{
-    ConstModifiers, FnModifiers, ImplModifiers, Item, ItemEnum, ItemStruct, ItemUnion,
-    TraitModifiers, TypeModifiers,
-};
 pub use syn_tree::restriction::{VisRestricted, Visibility};
-pub use syn_tree::{data, derive, item, restriction};
+pub use syn_tree::{data, derive, restriction};
 
 /// Buffers of tokens, and what is parsed from them.
 pub mod parse {
@@ -55,6 +51,7 @@ pub mod punctuated {
 
 /// What the trees of items are made of: attributes, paths, types, generics and literals.
 pub mod lower {
+    pub use syn_item::sig::Abi;
     pub use syn_lower::{
         AngleBracketedGenericArguments, AssocType, AttrStyle, Attribute, BoundLifetimes,
         ConstParam, GenericArgument, GenericParam, Generics, Index, LifetimeParam, Lit, LitBool,
@@ -67,6 +64,61 @@ pub mod lower {
     };
 }
 
+pub use syn_item::file::{File, Frontmatter};
+pub use syn_item::foreign::{
+    ForeignItem, ForeignItemFn, ForeignItemMacro, ForeignItemStatic, ForeignItemType,
+    ItemForeignMod,
+};
+pub use syn_item::function::ItemFn;
+pub use syn_item::impls::{
+    ImplItem, ImplItemConst, ImplItemFn, ImplItemMacro, ImplItemType, ItemImpl,
+};
+pub use syn_item::item::Item;
+pub use syn_item::sig::{Abi, FnArg, Receiver, ReceiverKind, Safety, Signature, Variadic};
+pub use syn_item::simple::{
+    ItemConst, ItemExternCrate, ItemMacro, ItemMod, ItemStatic, ItemTraitAlias, ItemType, ItemUse,
+    StaticMutability, WhereClausePlacement,
+};
+pub use syn_item::traits::{
+    ItemTrait, TraitItem, TraitItemConst, TraitItemFn, TraitItemMacro, TraitItemType,
+};
+pub use syn_item::use_tree::{UseGlob, UseGroup, UseName, UsePath, UseRename, UseTree};
+pub use syn_tree::item::{
+    ConstModifiers, FnModifiers, ImplModifiers, ItemEnum, ItemStruct, ItemUnion, TraitModifiers,
+    TypeModifiers,
+};
+
+/// Items, members, signatures and trees of a use. `Items` is what the content of a module is, once it is opened.
+pub mod item {
+    pub use syn_item::foreign::{
+        ForeignItem, ForeignItemFn, ForeignItemMacro, ForeignItemStatic, ForeignItemType,
+        ItemForeignMod,
+    };
+    pub use syn_item::function::ItemFn;
+    pub use syn_item::impls::{
+        ImplItem, ImplItemConst, ImplItemFn, ImplItemMacro, ImplItemType, ItemImpl,
+    };
+    pub use syn_item::item::{Item, Items};
+    pub use syn_item::sig::{FnArg, Receiver, ReceiverKind, Safety, Signature, Variadic};
+    pub use syn_item::simple::{
+        ItemConst, ItemExternCrate, ItemMacro, ItemMod, ItemStatic, ItemTraitAlias, ItemType,
+        ItemUse, StaticMutability, WhereClausePlacement,
+    };
+    pub use syn_item::traits::{
+        ItemTrait, TraitItem, TraitItemConst, TraitItemFn, TraitItemMacro, TraitItemType,
+    };
+    pub use syn_item::use_tree::{UseGlob, UseGroup, UseName, UsePath, UseRename, UseTree};
+    pub use syn_tree::item::{
+        ConstModifiers, FnModifiers, ImplModifiers, ItemEnum, ItemStruct, ItemUnion,
+        TraitModifiers, TypeModifiers,
+    };
+}
+
+/// Files.
+pub mod file {
+    pub use syn_item::file::{File, Frontmatter};
+}
+
 pub use syn_expr::expr::{
     Expr, ExprArray, ExprAssign, ExprBinary, ExprBlock, ExprBreak, ExprCall, ExprCast,
     ExprContinue, ExprField, ExprForLoop, ExprGroup, ExprIf, ExprIndex, ExprLit, ExprLoop,
@@ -75,7 +127,9 @@ pub use syn_expr::expr::{
 };
 pub use syn_expr::op::{BinOp, UnOp};
 pub use syn_expr::stmt::{Block, Local, LocalInit, LocalModifiers, Stmt, StmtMacro};
-pub use syn_pat::{Macro, Pat};
+pub use syn_pat::{
+    Macro, Pat, PatIdent, PatParen, PatPath, PatTuple, PatTupleStruct, PatType, PatWild,
+};
 
 /// Expressions.
 pub mod expr {

@@ -1,17 +1,20 @@
 //! Texts that show trees whole: each token with its spans, each part that is there.
 
 mod exprs;
+mod items;
+mod members;
 mod ops;
 mod parts;
 mod pats;
+mod sigs;
 
 use std::alloc::{AllocError, Global};
 use syn::ToTokens;
 use syn::canon::{NamedField, UnnamedField};
 use syn::data::{Field, Fields, FieldsNamed, FieldsUnnamed, Variant};
-use syn::deferred::{Deferred, DeferredExpr};
+use syn::deferred::{Deferred, DeferredBlock, DeferredExpr};
 use syn::derive::{Data, DataEnum, DataStruct, DataUnion, DeriveInput};
-use syn::item::{Item, ItemEnum, ItemStruct, ItemUnion};
+use syn::item::{ItemEnum, ItemStruct, ItemUnion};
 use syn::lower::{
     AttrStyle, Attribute, BoundLifetimes, GenericParam, Generics, LifetimeParam, Lit,
     MacroDelimiter, Meta, MetaList, MetaNameValue, Path, PathArguments, PathSegment, ReturnType,
@@ -146,6 +149,15 @@ impl Outlined for TokenStream {
 impl<const KIND: usize> Outlined for Deferred<KIND> {
     fn show(&self, out: &mut TreeText) {
         self.source().show(out);
+    }
+}
+
+/// Braces, and the tokens of the statements in them.
+impl Outlined for DeferredBlock {
+    fn show(&self, out: &mut TreeText) {
+        out.token("{", self.brace_token.opening);
+        self.stmts.show(out);
+        out.token("}", self.brace_token.closing);
     }
 }
 
@@ -561,15 +573,5 @@ impl Outlined for ItemUnion {
         self.ident.show(out);
         self.generics.show(out);
         self.fields.show(out);
-    }
-}
-
-impl Outlined for Item {
-    fn show(&self, out: &mut TreeText) {
-        match self {
-            Item::Enum(item) => item.show(out),
-            Item::Struct(item) => item.show(out),
-            Item::Union(item) => item.show(out),
-        }
     }
 }

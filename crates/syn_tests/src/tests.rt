@@ -1,5 +1,5 @@
 //! What is no row of `check_rows`: trees and tokens made by hand, copies of parts, walks from both ends, nested texts, deferred
-//! trees and scarce memory, by examples.
+//! trees and scarce memory, by examples; and items, whole.
 mod asserts;
 mod attributes;
 mod canonical_prints;
@@ -11,9 +11,12 @@ mod handmade_exprs;
 mod handmade_generics;
 mod handmade_items;
 mod handmade_types;
+mod item_conversions;
+mod item_trees;
 mod literals;
 mod members;
 mod modifiers;
+mod opened_items;
 mod scarce_memory;
 mod type_groups;
 mod visibilities;

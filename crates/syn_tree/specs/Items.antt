@@ -1,8 +1,7 @@
 -- WHAT SYNTAX ITEMS STAND FOR, one level at a time, every field.
 -- A struct stands for what its rule's form reads, without the mark of the rule: an item tells by that of which kind it is.
 use Rattle.syn_grammar.specs.Tokens.{Brace}
-use Rattle.syn_grammar.specs.Rules.{structure, enumeration, union_item}
-use Rattle.syn_grammar.specs.Grammar.{Syntax, Both, Node, Case}
+use Rattle.syn_grammar.specs.Grammar.{Syntax, Both, Node}
 use Rattle.syn_grammar.specs.Promises.{itself}
 use Rattle.syn_tokens.specs.Leaves.{maybe, syntax_of_ident}
 use Rattle.syn_tokens.specs.Idents.{IdentValue}
@@ -21,7 +20,6 @@ use Rattle.syn_tree.specs.declared.derive.DataUnion.{DataUnion}
 use Rattle.syn_tree.specs.declared.item.ItemEnum.TheInside as ItemEnum-in
 use Rattle.syn_tree.specs.declared.item.ItemStruct.TheInside as ItemStruct-in
 use Rattle.syn_tree.specs.declared.item.ItemUnion.TheInside as ItemUnion-in
-use Rattle.syn_tree.specs.declared.item.Item.TheVariants as Item-m
 
 abbrev pub view_ItemStruct : ItemStruct-in.Inside → Syntax
 view_ItemStruct a =
@@ -46,18 +44,6 @@ syntax_of_ItemEnum = Node
 
 abbrev pub syntax_of_ItemUnion : Syntax → Syntax
 syntax_of_ItemUnion = Node
-
-abbrev pub syntax_of_Item : Item-m.the_data → Syntax
-syntax_of_Item (Item-m.Enum s) = Node (Case enumeration s)
-syntax_of_Item (Item-m.Struct s) = Node (Case structure s)
-syntax_of_Item (Item-m.Union s) = Node (Case union_item s)
-
--- the item that the input of a derive is
-abbrev pub item_in : Syntax → Item-m.the_data
-item_in (Node (Case enumeration s)) = Item-m.Enum s
-item_in (Node (Case structure s)) = Item-m.Struct s
-item_in (Node (Case union_item s)) = Item-m.Union s
-item_in s = Item-m.Struct s
 
 -- AS THEY ARE READ, behind the attributes
 

@@ -1,4 +1,4 @@
-//! Items.
+//! Enums, structs and unions as items.
 ghost use Rattle.std.specs.Prelude.{◌≡◌};
 ghost use Rattle.syn_grammar.specs.Rules as rules;
 ghost use Rattle.syn_grammar.specs.Grammar.{Case, Node};
@@ -34,17 +34,6 @@ use syn_tokens::punctuated::Punctuated;
 use syn_tokens::stream::builder::StreamBuilder;
 use syn_tokens::syntactic::compare::Compared;
 use syn_tokens::token::{Brace, Comma, Enum, Semi, Struct, Union};
-
-/// An item. As far as items are trees yet, it is an enum, a struct or a union.
-#[derive(Drop)]
-pub enum Item {
-    /// `enum E { A, B }`
-    Enum(ItemEnum),
-    /// `struct S { a: A }`
-    Struct(ItemStruct),
-    /// `union U { a: A }`
-    Union(ItemUnion),
-}
 
 /// An enum.
 #[derive(Drop)]
@@ -275,36 +264,6 @@ impl From<ItemUnion> for DeriveInput {
     }
 }
 
-impl From<ItemEnum> for Item {
-    ghost use Rattle.syn_tree.specs.declared.item.Item.TheVariants as items;
-
-    ghost from_gives = { λ part item. item ≡ items.Enum part };
-
-    fn from(item: ItemEnum) -> Item {
-        Item::Enum(item)
-    }
-}
-
-impl From<ItemStruct> for Item {
-    ghost use Rattle.syn_tree.specs.declared.item.Item.TheVariants as items;
-
-    ghost from_gives = { λ part item. item ≡ items.Struct part };
-
-    fn from(item: ItemStruct) -> Item {
-        Item::Struct(item)
-    }
-}
-
-impl From<ItemUnion> for Item {
-    ghost use Rattle.syn_tree.specs.declared.item.Item.TheVariants as items;
-
-    ghost from_gives = { λ part item. item ≡ items.Union part };
-
-    fn from(item: ItemUnion) -> Item {
-        Item::Union(item)
-    }
-}
-
 /// An enum of these parts, spans included.
 pub fn item_enum(
     attrs: Vec<Attribute>,
@@ -364,31 +323,6 @@ pub fn item_union(
         ident,
         generics,
         fields: own.fields,
-    }
-}
-
-/// All fields are moved, spans included: the item stands for what the input stands for. An input that was made of an item gives
-/// that item back.
-impl From<DeriveInput> for Item {
-    ghost use Rattle.syn_tree.specs.Items.{item_in, syntax_of_Item};
-
-    ghost from_gives = { λ input item. item ≡ item_in input };
-
-    fn from(input: DeriveInput) -> Item
-        ensures same { syntax_of_Item result ≡ input }
-    {
-        let DeriveInput {
-            attrs,
-            vis,
-            ident,
-            generics,
-            shape,
-        } = input;
-        match shape {
-            Data::Enum(data) => Item::Enum(item_enum(attrs, vis, ident, generics, data)),
-            Data::Struct(data) => Item::Struct(item_struct(attrs, vis, ident, generics, data)),
-            Data::Union(data) => Item::Union(item_union(attrs, vis, ident, generics, data)),
-        }
     }
 }
 
@@ -525,12 +459,6 @@ impl std::marker::Model for ItemUnion {
     ghost use Rattle.syn_tree.specs.Items.{view_ItemUnion};
 
     ghost view = { view_ItemUnion };
-}
-
-impl syn_tokens::syntactic::Syntactic for Item {
-    ghost use Rattle.syn_tree.specs.Items.{syntax_of_Item};
-
-    ghost syntax = { syntax_of_Item };
 }
 
 impl syn_tokens::syntactic::Syntactic for ItemEnum {

@@ -1,4 +1,4 @@
-//! The syntax trees of items, with their parsers, prints, copies and comparisons.
+//! The syntax trees of structs, enums, unions and inputs of derives, with their parsers, prints, copies and comparisons.
 #![tactic(auto)]
 
 mod comma_lists;
@@ -7,6 +7,5 @@ mod copies;
 pub mod data;
 pub mod derive;
 pub mod item;
-pub mod laws;
 mod prints;
 pub mod restriction;

@@ -4,7 +4,7 @@ use crate::outline::{Outlined, TreeText};
 use syn::Macro;
 use syn::expr::Label;
 use syn::lower::{AngleBracketedGenericArguments, Attribute, Member, Path, QSelf, Type};
-use syn::token::{Lifetime, Mut, Semi};
+use syn::token::{Colon, Lifetime, Mark, Mut, Semi, Word};
 
 /// Adds the attributes of a part, and then what it is called. So attributes stand before the word of what has them.
 pub(super) fn node(word: &str, attrs: &Vec<Attribute>, out: &mut TreeText) {
@@ -35,7 +35,7 @@ pub(super) fn show_type(ty: &Type, out: &mut TreeText) {
 }
 
 /// Adds what shows a lifetime.
-fn show_lifetime(lifetime: &Lifetime, out: &mut TreeText) {
+pub(super) fn show_lifetime(lifetime: &Lifetime, out: &mut TreeText) {
     out.token("'", lifetime.apostrophe);
     lifetime.ident.show(out);
 }
@@ -68,6 +68,31 @@ pub(super) fn show_mut(mutability: &Option<Mut>, out: &mut TreeText) {
 pub(super) fn show_semi(semi: &Option<Semi>, out: &mut TreeText) {
     match semi {
         Some(token) => out.mark(";", token),
+        None => {}
+    }
+}
+
+/// Adds `:`, if it is there.
+pub(super) fn show_colon(colon: &Option<Colon>, out: &mut TreeText) {
+    show_mark(":", colon, out);
+}
+
+/// Adds a mark of this text, if it is there.
+pub(super) fn show_mark<K, const N: usize>(
+    text: &str,
+    mark: &Option<Mark<K, N>>,
+    out: &mut TreeText,
+) {
+    match mark {
+        Some(token) => out.mark(text, token),
+        None => {}
+    }
+}
+
+/// Adds a word of this text, if it is there.
+pub(super) fn show_word<K>(text: &str, word: &Option<Word<K>>, out: &mut TreeText) {
+    match word {
+        Some(token) => out.token(text, token.span),
         None => {}
     }
 }

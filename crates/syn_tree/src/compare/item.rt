@@ -1,45 +1,14 @@
 //! Written by tools/kinds.py; edits are lost.
 //!
 //! Comparisons of `item`.
-ghost use Rattle.syn_tree.specs.Items.{syntax_of_Item, syntax_of_ItemEnum, syntax_of_ItemStruct, syntax_of_ItemUnion};
+ghost use Rattle.syn_tree.specs.Items.{syntax_of_ItemEnum, syntax_of_ItemStruct, syntax_of_ItemUnion};
 ghost use Rattle.syn_lower.specs.Equality.{IsSame, IsEqual, PrintsAlike};
 ghost use Rattle.syn_tokens.specs.Comparison.{same_by, same_equiv, same_per};
 
 mod modifiers;
 
-use crate::item::{Item, ItemEnum, ItemStruct, ItemUnion};
+use crate::item::{ItemEnum, ItemStruct, ItemUnion};
 use syn_tokens::syntactic::compare::Compared;
-
-impl Compared for Item {
-    fn is_same(&self, other: &Item) -> bool {
-        match (self, other) {
-            (Item::Enum(a), Item::Enum(b)) => a.is_same(b),
-            (Item::Struct(a), Item::Struct(b)) => a.is_same(b),
-            (Item::Union(a), Item::Union(b)) => a.is_same(b),
-            _ => false,
-        }
-    }
-}
-
-/// Two are equal exactly where they are once every span is 0 to 0.
-impl PartialEq for Item {
-    ghost eq = { same_by syntax_of_Item };
-
-    ghost laws = { same_per syntax_of_Item };
-
-    #[tactic(auto, using(syn_lower::proofs::Equality::equals))]
-    fn eq(&self, other: &Item) -> bool
-        ensures same { IsSame syntax_of_Item self.now other.now result }
-        ensures equal { IsEqual syntax_of_Item self.now other.now result }
-        ensures prints { PrintsAlike syntax_of_Item self.now other.now result }
-    {
-        self.is_same(other)
-    }
-}
-
-impl Eq for Item {
-    ghost laws = { same_equiv syntax_of_Item };
-}
 
 /// Two are equal exactly where they are once every span is 0 to 0.
 impl PartialEq for ItemEnum {

@@ -4,20 +4,10 @@
 
 mod modifiers;
 
-use crate::item::{Item, ItemEnum, ItemStruct, ItemUnion};
+use crate::item::{ItemEnum, ItemStruct, ItemUnion};
 use std::alloc::Global;
 use syn_tokens::error::Result;
 use syn_tokens::syntactic::try_clone::TryClone;
-
-impl TryClone for Item {
-    fn try_clone(&self, alloc: Global) -> Result<Item> {
-        match self {
-            Item::Enum(value) => Ok(Item::Enum(value.try_clone(alloc)?)),
-            Item::Struct(value) => Ok(Item::Struct(value.try_clone(alloc)?)),
-            Item::Union(value) => Ok(Item::Union(value.try_clone(alloc)?)),
-        }
-    }
-}
 
 impl TryClone for ItemEnum {
     fn try_clone(&self, alloc: Global) -> Result<ItemEnum> {
