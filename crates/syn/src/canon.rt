@@ -5,6 +5,7 @@ ghost use Rattle.syn_tokens.specs.Faults.{IsSyntaxError};
 mod wrappers;
 
 pub use crate::lawful::Canonical;
+pub use syn_item::sig::{SafeOrUnsafe, UnsafeOnly};
 use syn_parse::parse::parse2;
 use syn_tokens::error::Result;
 use syn_tokens::print::ToTokens;
