@@ -1,9 +1,13 @@
 //! Texts that show trees whole: each token with its spans, each part that is there.
 
 mod exprs;
+mod items;
+mod members;
 mod ops;
 mod parts;
 mod pats;
+mod sigs;
+mod uses;
 
 use std::alloc::{AllocError, Global};
 use syn::ToTokens;
@@ -11,7 +15,7 @@ use syn::canon::{NamedField, UnnamedField};
 use syn::data::{Field, Fields, FieldsNamed, FieldsUnnamed, Variant};
 use syn::deferred::{Deferred, DeferredExpr};
 use syn::derive::{Data, DataEnum, DataStruct, DataUnion, DeriveInput};
-use syn::item::{Item, ItemEnum, ItemStruct, ItemUnion};
+use syn::item::{ItemEnum, ItemStruct, ItemUnion};
 use syn::lower::{
     AttrStyle, Attribute, BoundLifetimes, GenericParam, Generics, LifetimeParam, Lit,
     MacroDelimiter, Meta, MetaList, MetaNameValue, Path, PathArguments, PathSegment, ReturnType,
@@ -561,15 +565,5 @@ impl Outlined for ItemUnion {
         self.ident.show(out);
         self.generics.show(out);
         self.fields.show(out);
-    }
-}
-
-impl Outlined for Item {
-    fn show(&self, out: &mut TreeText) {
-        match self {
-            Item::Enum(item) => item.show(out),
-            Item::Struct(item) => item.show(out),
-            Item::Union(item) => item.show(out),
-        }
     }
 }
