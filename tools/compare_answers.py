@@ -12,8 +12,8 @@ have to be the same. The texts are
 - random ones, as many as --count says, by the generator of the other reading beside the repository: derivations of each kind that is
   built at the stage, each followed by itself with a few tokens changed, both as that kind.
 
-Each is also asked as a few other kinds, which are drawn by --seed, and with --every as each kind. A text takes some 3 ms of a processor
-a kind in a trial build, which looks for faults of memory as well; so --every takes half an hour, and a count of 100,000 some 20 minutes.
+Each is also asked as a few other kinds, which are drawn by --seed, and with --every as each kind. A text takes some 6 ms of a processor
+a kind in a trial build, which looks for faults of memory as well.
 
 What isn't beside the repository is left out, and named. The program is run by a trial build, in a copy of the sources, or is
 PROGRAM. The status is 0 where nothing differs, 1 where something does, and 2 where the program didn't end well.
@@ -178,7 +178,7 @@ def summed(answers):
 def main():
     parser = argparse.ArgumentParser(description=__doc__, formatter_class=argparse.RawDescriptionHelpFormatter)
     parser.add_argument("--stage", type=int, default=STAGE, help=f"how much of the grammar is built ({STAGE})")
-    parser.add_argument("--count", type=int, default=5000, help="how many random texts (5000)")
+    parser.add_argument("--count", type=int, default=3000, help="how many random texts (3000)")
     parser.add_argument("--seed", type=int, default=1)
     parser.add_argument("--every", action="store_true", help="ask each text as each kind")
     parser.add_argument("--conformance", type=Path, default=CONFORMANCE, help="the file of cases with answers")
