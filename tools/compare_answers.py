@@ -1,16 +1,19 @@
 #!/usr/bin/env python3
 """Compares what is answered by trees with what is answered by recognition, on texts with known answers, rows and random texts.
 
-    tools/compare_answers.py [--stage N] [--count N] [--seed N] [--conformance FILE] [--oracle FOLDER] [--bin PROGRAM]
+    tools/compare_answers.py [--stage N] [--count N] [--seed N] [--every] [--conformance FILE] [--oracle FOLDER] [--bin PROGRAM]
 
-The program `tree_answers` is asked (its src/main.rt tells the questions): as each kind, for the print of each text, whether it has one, and
-whether it has the form of its print and of the text before it. The answers, and the bytes at which a text is refused, have to be the
-same. The texts are
+The program `tree_answers` is asked (its src/main.rt tells the questions): as kinds of the program, for the print of each text, whether
+it has one, and whether it has the form of its print and of the text before it. The answers, and the bytes at which a text is refused,
+have to be the same. The texts are
 
-- those of the conformance cases, in the file beside the repository;
+- those of the conformance cases, in the file beside the repository, each as the kinds that its cases name;
 - both lines of each row of `check_rows`, so that texts which are to be compared follow each other;
 - random ones, as many as --count says, by the generator of the other reading beside the repository: derivations of each kind that is
-  built at the stage, each followed by itself with a few tokens changed.
+  built at the stage, each followed by itself with a few tokens changed, both as that kind.
+
+Each is also asked as a few other kinds, which are drawn by --seed, and with --every as each kind. A text takes some 6 ms of a processor
+a kind in a trial build, which looks for faults of memory as well.
 
 What isn't beside the repository is left out, and named. The program is run by a trial build, in a copy of the sources, or is
 PROGRAM. The status is 0 where nothing differs, 1 where something does, and 2 where the program didn't end well.
@@ -19,6 +22,7 @@ import argparse
 import importlib
 import itertools
 import json
+import random
 import re
 import subprocess
 import sys
@@ -27,6 +31,7 @@ from collections import Counter
 from pathlib import Path
 
 import try_tests
+from kinds import KINDS
 
 TOP = Path(__file__).resolve().parent.parent
 ROWS = TOP / "crates/check_rows/stdin"
@@ -37,6 +42,9 @@ CRATE = "tree_answers"
 STAGE = 15
 # A trial takes at most a MiB of input.
 CHUNK = 1_000_000
+# The words of all kinds, and as how many others each text is asked.
+WORDS = [word for word, _, _ in KINDS]
+OTHERS = 2
 # How long a run may take, its build not counted: ./test has it wait for others.
 SECONDS = 9000
 # No random text is longer.
@@ -48,22 +56,31 @@ COUNT = re.compile(r"(\d+) ([a-z ]+)")
 
 
 def conformance_texts(path, stage):
-    """What the cases that have answers at the stage give to the program, where that is text; each once."""
+    """What the cases that have answers at the stage give to the program, where that is text; each once, with the kinds that are named."""
     cases = map(json.loads, path.read_text(encoding="utf-8").splitlines())
     live = [case for case in cases if case["stage"] <= stage and (case["until"] is None or stage <= case["until"])]
-    return dict.fromkeys(case["stdin"] for case in live if "stdin" in case)
+    texts = {}
+    for case in live:
+        if "stdin" in case:
+            texts.setdefault(case["stdin"], []).append(kind_of(case["args"]))
+    return list(texts.items())
+
+
+def kind_of(words):
+    """As which kind the program reads a text where it is called with these words: `list` reads a file."""
+    return words[1] if len(words) == 2 and words[1] in WORDS else "file"
 
 
 def row_texts(path):
-    """What the lines of the rows stand for."""
+    """What the lines of the rows stand for; no kind is named."""
     for section in path.read_text(encoding="utf-8").split("\n\n"):
         lines = list(itertools.dropwhile(lambda line: line.startswith("#"), section.splitlines()))
         for line in lines[1:]:
-            yield re.sub(r"\\(.)", lambda found: ESCAPES[found[1]], line.removeprefix("    "))
+            yield re.sub(r"\\(.)", lambda found: ESCAPES[found[1]], line.removeprefix("    ")), []
 
 
 def random_texts(folder, stage, count, seed):
-    """Derivations of each kind, each followed by itself changed."""
+    """Derivations of each kind, each followed by itself changed, with that kind."""
     sys.path.insert(0, str(folder))
     gen, oracle, mkrender = (importlib.import_module(name) for name in ("gen", "oracle", "mkrender"))
     made = gen.G(seed, stage)
@@ -75,15 +92,25 @@ def random_texts(folder, stage, count, seed):
         changed = made.mutate(trees, made.ch(1, 1, 2, 3))
         pair = [mkrender.render(each, made.r, made.ch(0, 0.3, 0.9)) for each in (trees, changed)]
         if max(map(len, pair)) <= LONGEST:
-            texts += pair
+            texts += [(text, [kind]) for text in pair]
     return texts[:count]
+
+
+def asked_as(texts, seed, every):
+    """The texts, each with the words of the kinds as which it is asked; none where that is each. Two that follow each other are asked as
+    the same others."""
+    dice = random.Random(seed)
+    for number, (text, words) in enumerate(texts):
+        if number % 2 == 0:
+            others = dice.sample(WORDS, OTHERS)
+        yield text, [] if every else sorted({*words, *others})
 
 
 def chunks(texts, size=CHUNK):
     """The lines of the texts, as many together as one run takes."""
     lines, length = [], 0
-    for text in texts:
-        line = text.encode().hex() + "\n"
+    for text, words in texts:
+        line = " ".join([text.encode().hex(), *words]) + "\n"
         if lines and length + len(line) > size:
             yield "".join(lines)
             lines, length = [], 0
@@ -94,14 +121,14 @@ def chunks(texts, size=CHUNK):
 
 
 def gathered(options):
-    """The texts, in the order of their sources."""
+    """The texts, in the order of their sources, each with kinds as which it is asked."""
     texts = []
     if there(options.conformance, "the conformance cases"):
         texts += conformance_texts(options.conformance, options.stage)
     texts += row_texts(ROWS)
     if there(options.oracle / "oracle.py", "random texts"):
         texts += random_texts(options.oracle, options.stage, options.count, options.seed)
-    return texts
+    return asked_as(texts, options.seed, options.every)
 
 
 def there(path, name):
@@ -150,9 +177,10 @@ def summed(answers):
 
 def main():
     parser = argparse.ArgumentParser(description=__doc__, formatter_class=argparse.RawDescriptionHelpFormatter)
-    parser.add_argument("--stage", type=int, default=STAGE, help="how much of the grammar is built (4)")
-    parser.add_argument("--count", type=int, default=20000, help="how many random texts (20000)")
+    parser.add_argument("--stage", type=int, default=STAGE, help=f"how much of the grammar is built ({STAGE})")
+    parser.add_argument("--count", type=int, default=3000, help="how many random texts (3000)")
     parser.add_argument("--seed", type=int, default=1)
+    parser.add_argument("--every", action="store_true", help="ask each text as each kind")
     parser.add_argument("--conformance", type=Path, default=CONFORMANCE, help="the file of cases with answers")
     parser.add_argument("--oracle", type=Path, default=ORACLE, help="the folder of the other reading")
     parser.add_argument("--bin", help="the program, built")

@@ -17,7 +17,7 @@ It writes, laid out as `rt fmt` wants it, in the crates of trees:
 and beside them:
 
     crates/syn_tree/src/comma_lists.rt  the function of each rule that is a comma list, with its proof (proofs/CommaLists)
-    crates/syn/src/kinds.rt             `Canonical`, of the kinds below
+    crates/syn/src/kinds.rt             `Canonical`, of the kinds below and of what else is read by one rule
     docs/GRAMMAR.md                     the table of rules, each in the words above it, with what reads it
     crates/syn_canon                    src/kind.rt, src/by_kind.rt, specs/Kinds.antt: the program's list of kinds
     crates/tree_answers/src/by_kind.rt  the same kinds, by their trees and by their rules
@@ -38,10 +38,10 @@ from kindslib.program import canonical, comparisons_of_answers, dispatch, kind_e
 from kindslib.source import LOWEST, Fault, Source
 from kindslib.views import endings, plain_views
 
-# the program's word, the type (None where there is none yet), the rule that reads it
+# the program's word, the type, the rule that reads it
 KINDS = [
-    ("file", None, "file"),
-    ("item", None, "item"),
+    ("file", "File", "file"),
+    ("item", "Item", "item"),
     ("derive", "DeriveInput", "derive_input"),
     ("visibility", "Visibility", "visibility"),
     ("variant", "Variant", "variant"),
@@ -49,35 +49,60 @@ KINDS = [
     ("unnamed-field", "UnnamedField", "unnamed_field"),
     ("fields-named", "FieldsNamed", "fields_named"),
     ("fields-unnamed", "FieldsUnnamed", "fields_unnamed"),
-    ("signature", None, "signature"),
-    ("fn-arg", None, "argument"),
-    ("receiver", None, "receiver"),
-    ("use-tree", None, "use_tree"),
-    ("trait-item", None, "trait_item"),
-    ("impl-item", None, "impl_item"),
-    ("foreign-item", None, "foreign_item"),
-    ("item-const", None, "const_item"),
+    ("signature", "Signature", "signature"),
+    ("fn-arg", "FnArg", "argument"),
+    ("receiver", "Receiver", "receiver"),
+    ("use-tree", "UseTree", "use_tree"),
+    ("trait-item", "TraitItem", "trait_item"),
+    ("impl-item", "ImplItem", "impl_item"),
+    ("foreign-item", "ForeignItem", "foreign_item"),
+    ("item-const", "ItemConst", "const_item"),
     ("item-enum", "ItemEnum", "enumeration"),
-    ("item-extern-crate", None, "extern_crate"),
-    ("item-fn", None, "function"),
-    ("item-foreign-mod", None, "foreign_module"),
-    ("item-impl", None, "impl_definition"),
-    ("item-macro", None, "macro_item"),
-    ("item-mod", None, "module_item"),
-    ("item-static", None, "static_item"),
+    ("item-extern-crate", "ItemExternCrate", "extern_crate"),
+    ("item-fn", "ItemFn", "function"),
+    ("item-foreign-mod", "ItemForeignMod", "foreign_module"),
+    ("item-impl", "ItemImpl", "impl_definition"),
+    ("item-macro", "ItemMacro", "macro_item"),
+    ("item-mod", "ItemMod", "module_item"),
+    ("item-static", "ItemStatic", "static_item"),
     ("item-struct", "ItemStruct", "structure"),
-    ("item-trait", None, "trait_definition"),
-    ("item-trait-alias", None, "trait_alias"),
-    ("item-type", None, "type_item"),
+    ("item-trait", "ItemTrait", "trait_definition"),
+    ("item-trait-alias", "ItemTraitAlias", "trait_alias"),
+    ("item-type", "ItemType", "type_item"),
     ("item-union", "ItemUnion", "union_item"),
-    ("item-use", None, "use_item"),
+    ("item-use", "ItemUse", "use_item"),
     ("block", "Block", "block"),
     ("stmt", "Stmt", "statement"),
     ("stmts", "Stmts", "statements"),
 ]
 
-# those of which there are trees
-TREES = [kind for kind in KINDS if kind[1]]
+# what else is read by one rule, and is no KIND of the program: the type, the rule
+OTHERS = [
+    ("SafeOrUnsafe", "safe_or_unsafe"),
+    ("UnsafeOnly", "unsafe_only"),
+    ("Abi", "abi"),
+    ("TraitItemConst", "trait_const"),
+    ("TraitItemFn", "trait_function"),
+    ("TraitItemMacro", "trait_macro"),
+    ("TraitItemType", "trait_type"),
+    ("ImplItemConst", "impl_const"),
+    ("ImplItemFn", "impl_function"),
+    ("ImplItemMacro", "impl_macro"),
+    ("ImplItemType", "impl_type"),
+    ("ForeignItemFn", "foreign_function"),
+    ("ForeignItemMacro", "foreign_macro"),
+    ("ForeignItemStatic", "foreign_static"),
+    ("ForeignItemType", "foreign_type"),
+    ("Macro", "macro_invocation"),
+    ("Pat", "pattern"),
+    ("LifetimeParam", "lifetime_parameter"),
+    ("Path", "type_path"),
+    ("ReturnType", "return_type"),
+    ("Type", "type"),
+    ("TypeParamBound", "bound"),
+    ("TypePath", "path_as_type"),
+    ("WherePredicate", "predicate"),
+]
 
 # lists with one value at least, which end with one
 JOINED = {("Path", "segments")}
@@ -139,12 +164,12 @@ def outputs():
     table, page = CRATES / "syn_grammar/specs/Table.antt", Path("docs/GRAMMAR.md")
     files.update(comma_lists(source, table))
     files[page] = rows(source, table, page, patterns, operators, expressions, items)
-    trees = Together(patterns, operators, expressions, source)
-    files[CRATES / "syn/src/kinds.rt"] = canonical(trees, TREES)
+    trees = Together(items, patterns, operators, expressions, source)
+    files[CRATES / "syn/src/kinds.rt"] = canonical(trees, [kind[1:] for kind in KINDS] + OTHERS)
     files[CRATES / "syn_canon/src/kind.rt"] = kind_enum(KINDS)
     files[CRATES / "syn_canon/src/by_kind.rt"] = dispatch(KINDS)
     files[CRATES / "syn_canon/specs/Kinds.antt"] = kind_specs(KINDS)
-    files[CRATES / "tree_answers/src/by_kind.rt"] = comparisons_of_answers(trees, TREES)
+    files[CRATES / "tree_answers/src/by_kind.rt"] = comparisons_of_answers(trees, KINDS)
     return files
 
 

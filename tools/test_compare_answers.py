@@ -39,7 +39,7 @@ class G:
 }
 # In place of the program: it finds a difference in a text with this byte.
 PROGRAM = """import sys
-texts = [bytes.fromhex(line) for line in sys.stdin]
+texts = [bytes.fromhex(line.split(' ')[0]) for line in sys.stdin]
 wrong = [text for text in texts if b'!' in text]
 for text in wrong:
     print(f'line 1, derive, print, {text}\\n    by trees "a"\\n    by the rule "b"')
@@ -72,16 +72,17 @@ class Compare(unittest.TestCase):
 class Texts(Compare):
     def test_cases_of_the_stage_that_are_texts(self):
         cases = [("a\nb", 1, None), ("", 4, 4), ("late", 5, None), ("over", 1, 3), ("a\nb", 2, 9)]
-        lines = [{"stdin": text, "stage": first, "until": last} for text, first, last in cases] + [{"stdin_hex": "ff", "stage": 1, "until": None}]
+        lines = [{"stdin": text, "stage": first, "until": last, "args": ["print", "item"]} for text, first, last in cases] + [{"stdin_hex": "ff", "stage": 1, "until": None}]
+        lines += [{"stdin": "", "stage": 4, "until": None, "args": ["list"]}]
         path = self.write("cases", "".join(json.dumps(line) + "\n" for line in lines))
-        self.assertEqual(list(compare_answers.conformance_texts(path, 4)), ["a\nb", ""])
+        self.assertEqual(compare_answers.conformance_texts(path, 4), [("a\nb", ["item", "item"]), ("", ["item", "file"])])
 
     def test_both_lines_of_a_row(self):
         path = self.write("rows", "# Comments.\n\n# More.\nalike Path\na\\nb\n    \\s\\\\n\n\\e\n    c\n\nprint Path\n#[d]\\t\n    e\n")
-        self.assertEqual(list(compare_answers.row_texts(path)), ["a\nb", " \\n", "", "c", "#[d]\t", "e"])
+        self.assertEqual(list(compare_answers.row_texts(path)), [(text, []) for text in ("a\nb", " \\n", "", "c", "#[d]\t", "e")])
 
     def test_the_rows_of_the_repository(self):
-        texts = list(compare_answers.row_texts(compare_answers.ROWS))
+        texts = [text for text, _ in compare_answers.row_texts(compare_answers.ROWS)]
         self.assertGreater(len(texts), 4000)
         self.assertIn("struct S;", texts)
 
@@ -91,16 +92,31 @@ class Texts(Compare):
         self.addCleanup(sys.path.remove, str(self.folder))
         for name in READING:
             self.addCleanup(sys.modules.pop, name, None)
-        texts = compare_answers.random_texts(self.folder, 4, 41, 7)
-        self.assertEqual(len(texts), 41)
+        pairs = compare_answers.random_texts(self.folder, 4, 41, 7)
+        self.assertEqual(len(pairs), 41)
+        texts = [text for text, _ in pairs]
+        self.assertEqual([words for _, words in pairs], [[text.split()[0].lower()] for text in texts])
         self.assertEqual({text.split()[0] for text in texts}, {"low", "high", "LOW", "HIGH"})
         self.assertEqual([text.upper() for text in texts[0:40:2]], texts[1:40:2])
         self.assertLess(max(map(len, texts)), 9000)
 
     def test_chunks_hold_all_texts_in_order(self):
-        found = list(compare_answers.chunks(["a", "é" * 20, "bc", ""], 10))
-        self.assertEqual(found, ["61\n", "c3a9" * 20 + "\n", "6263\n\n"])
+        found = list(compare_answers.chunks([("a", ["b", "c"]), ("é" * 20, []), ("bc", []), ("", ["d"])], 10))
+        self.assertEqual(found, ["61 b c\n", "c3a9" * 20 + "\n", "6263\n d\n"])
         self.assertEqual(list(compare_answers.chunks([])), [])
+
+
+    def test_a_text_is_asked_as_its_kinds_and_as_others(self):
+        texts = [("a", ["item"]), ("b", ["item"]), ("c", []), ("d", [])]
+        asked = list(compare_answers.asked_as(texts, 7, False))
+        self.assertEqual([text for text, _ in asked], ["a", "b", "c", "d"])
+        words = [set(words) for _, words in asked]
+        self.assertEqual(words[0], words[1])
+        self.assertTrue(all("item" in each for each in words[:2]))
+        self.assertEqual((len(words[2]), words[2]), (compare_answers.OTHERS, words[3]))
+        self.assertLessEqual(set.union(*words), set(compare_answers.WORDS))
+        self.assertEqual(asked, list(compare_answers.asked_as(texts, 7, False)))
+        self.assertEqual([words for _, words in compare_answers.asked_as(texts, 7, True)], [[], [], [], []])
 
 
 class Answers(Compare):
@@ -153,7 +169,7 @@ class Script(Compare):
         self.assertTrue(said.endswith("\n2 texts, 0 unread, 0 differ\n"), said)
 
     def test_a_difference(self):
-        cases = self.write("cases", json.dumps({"stdin": "a!", "stage": 1, "until": None}) + "\n")
+        cases = self.write("cases", json.dumps({"stdin": "a!", "stage": 1, "until": None, "args": ["print", "item"]}) + "\n")
         status, said = self.status("--conformance", str(cases))
         self.assertEqual(status, 1)
         self.assertTrue(said.endswith("""line 1, derive, print, b'a!'\n    by trees "a"\n    by the rule "b"\n3 texts, 0 unread, 1 differ\n"""), said)

@@ -304,12 +304,13 @@ table entry =
 
     def test_a_wrapper_is_a_kind_too(self):
         source = self.crate()
-        self.assertIn("use crate::canon::Wrapped;\n", canonical(source, [("thing", "Thing", "thing"), ("wrapped", "Wrapped", "thing")]))
+        self.assertIn("use crate::canon::Wrapped;\n", canonical(source, [("Thing", "thing"), ("Wrapped", "thing")]))
         self.assertIn("        Kind::Thing => Rule::AThing,\n", dispatch([("thing", "Thing", "a_thing")]))
 
     def test_a_kind_is_compared_by_its_trees_and_its_rule(self):
         text = comparisons_of_answers(self.crate(), [("a-thing", "Thing", "a_thing"), ("wrapped", "Wrapped", "thing")])
-        self.assertIn("use syn::canon::Wrapped;\nuse syn::things::Thing;\n", text)
+        self.assertIn("use syn::canon::Wrapped;\n", text)
+        self.assertIn("use syn_tree::things::Thing;\n", text)
         self.assertIn('    compare::<Thing>(case, "a-thing", Rule::AThing, tally)?;\n    compare::<Wrapped>(case, "wrapped", Rule::Thing, tally)?;\n', text)
 
     def test_the_kinds_of_the_program(self):

@@ -1,41 +1,36 @@
 """The kinds that have canonical prints, and the program's list of them."""
 from .impls import WRITTEN, import_lines
-from .source import LOWEST_MODULE, camel
+from .source import camel
 
 
-def imports(source, named, own, kinds, others):
-    """What the kinds' types and these others are imported by: by the crates of the trees, or as the crate `syn` has `named` them. A
-    type that is no tree is a wrapper, in the module `canon` of the crate that is called `own`."""
+def imports(source, own, names, others):
+    """What types of these names and these others are imported by. One that is no tree is a wrapper, in the module `canon` of the crate
+    that is called `own`."""
     uses = {}
-    for _, name, _ in kinds:
-        path = named(source.path_of(name)) if name in source.types else f"{own}::canon"
+    for name in names:
+        path = source.path_of(name) if name in source.types else f"{own}::canon"
         uses.setdefault(path, []).append(name)
     for path, name in others:
         uses.setdefault(path, []).append(name)
     return import_lines(uses)
 
 
-def by_syn(path):
-    """What the crate `syn` calls a module of the crates of trees."""
-    crate, *modules = path.split("::")
-    return "::".join(["syn", *(modules or [LOWEST_MODULE])])
-
-
-def canonical(source, kinds):
+def canonical(source, types):
+    """Of each of these types, what makes it one with a canonical print."""
     blocks = "".join(f"""
 impl Canonical for {name} {{
     ghost rule = {{ rules.{rule} }};
 
     ghost reads_rule = {{ refl }};
 }}
-""" for _, name, rule in kinds)
+""" for name, rule in types)
     return f"""//! {WRITTEN}
 //!
-//! The kinds that have canonical prints, each by its rule.
+//! The types that have canonical prints, each by its rule.
 ghost use Rattle.std.specs.Prelude.{{refl}};
 ghost use Rattle.syn_grammar.specs.Rules as rules;
 
-{imports(source, str, "crate", kinds, [("crate::lawful", "Canonical")])}{blocks}"""
+{imports(source, "crate", [name for name, _ in types], [("crate::lawful", "Canonical")])}{blocks}"""
 
 
 def kind_enum(kinds):
@@ -94,7 +89,7 @@ def comparisons_of_answers(source, kinds):
 //!
 //! Each kind, by its trees and by the rule that reads it.
 
-{imports(source, by_syn, "syn", kinds, others)}
+{imports(source, "syn", [name for _, name, _ in kinds], others)}
 /// Compares what is answered about the text as each kind.
 pub(crate) fn compare_as_each(case: &Case<'_>, tally: &mut Tally) -> Result<(), Failure> {{
 {calls}    Ok(())

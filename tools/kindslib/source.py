@@ -55,8 +55,8 @@ class Type:
         return not self.fields and not self.is_enum or [payload for _, payload in self.variants] == [""]
 
 
-# the crate of the trees that all others are made of, and the module in which the crate `syn` has them
-LOWEST, LOWEST_MODULE = "syn_lower", "lower"
+# the crate of the trees that all others are made of
+LOWEST = "syn_lower"
 
 
 class Source:

@@ -4,12 +4,16 @@ use std::alloc::Global;
 use std::convert::From;
 use std::marker::PhantomData;
 use syn::data::Field;
-use syn::deferred::{DeferredConstant, DeferredExpr, read_deferred_rest};
+use syn::deferred::{
+    DeferredBlock, DeferredConstant, DeferredExpr, DeferredItem, read_deferred_rest,
+};
 use syn::lower::{Attribute, Path, Type};
 use syn::parse::{Parse, ParseBuffer};
 use syn::stmt::{Block, Stmt};
 use syn::token::{Span, TokenStream};
 use syn::{Error, Expr, Pat, Result, ToTokens, TryClone};
+use syn_item::item::Item;
+use syn_item::sig::{Receiver, Safety, Signature, foreign_signature};
 use syn_pat::parsing::typed_pattern;
 use syn_test_support::outline::Outlined;
 use syn_tokens::syntactic::compare::Compared;
@@ -201,6 +205,102 @@ impl Call for OpenedLength {
     }
 
     fn print(tree: &Expr, tokens: &mut TokenStream) -> Result<()> {
+        tree.to_tokens(tokens)
+    }
+}
+
+/// `foreign_signature`
+pub(crate) struct ForeignSignature;
+
+impl Call for ForeignSignature {
+    type Tree = Signature;
+
+    fn read(input: &mut ParseBuffer<'_>) -> Result<Signature> {
+        Ok(foreign_signature(input)?)
+    }
+
+    fn print(tree: &Signature, tokens: &mut TokenStream) -> Result<()> {
+        tree.to_tokens(tokens)
+    }
+}
+
+/// `Signature::receiver`
+pub(crate) struct ReceiverOf;
+
+impl Call for ReceiverOf {
+    type Tree = Option<Receiver>;
+
+    fn read(input: &mut ParseBuffer<'_>) -> Result<Option<Receiver>> {
+        let sig: Signature = input.parse()?;
+        match sig.receiver() {
+            Some(receiver) => Ok(Some(receiver.try_clone(input.alloc())?)),
+            None => Ok(None),
+        }
+    }
+
+    fn print(tree: &Option<Receiver>, tokens: &mut TokenStream) -> Result<()> {
+        tree.to_tokens(tokens)
+    }
+}
+
+/// `Safety::parse_safe_or_unsafe`
+pub(crate) struct EitherSafety;
+
+impl Call for EitherSafety {
+    type Tree = Safety;
+
+    fn read(input: &mut ParseBuffer<'_>) -> Result<Safety> {
+        Safety::parse_safe_or_unsafe(input)
+    }
+
+    fn print(tree: &Safety, tokens: &mut TokenStream) -> Result<()> {
+        tree.to_tokens(tokens)
+    }
+}
+
+/// `Safety::parse_unsafe_only`
+pub(crate) struct UnsafeAlone;
+
+impl Call for UnsafeAlone {
+    type Tree = Safety;
+
+    fn read(input: &mut ParseBuffer<'_>) -> Result<Safety> {
+        Safety::parse_unsafe_only(input)
+    }
+
+    fn print(tree: &Safety, tokens: &mut TokenStream) -> Result<()> {
+        tree.to_tokens(tokens)
+    }
+}
+
+/// `Deferred::open` of an item
+pub(crate) struct OpenedItem;
+
+impl Call for OpenedItem {
+    type Tree = Item;
+
+    fn read(input: &mut ParseBuffer<'_>) -> Result<Item> {
+        let deferred: DeferredItem = input.parse()?;
+        deferred.open()
+    }
+
+    fn print(tree: &Item, tokens: &mut TokenStream) -> Result<()> {
+        tree.to_tokens(tokens)
+    }
+}
+
+/// `DeferredBlock::open`
+pub(crate) struct OpenedBlock;
+
+impl Call for OpenedBlock {
+    type Tree = Block;
+
+    fn read(input: &mut ParseBuffer<'_>) -> Result<Block> {
+        let deferred: DeferredBlock = input.parse()?;
+        deferred.open()
+    }
+
+    fn print(tree: &Block, tokens: &mut TokenStream) -> Result<()> {
         tree.to_tokens(tokens)
     }
 }

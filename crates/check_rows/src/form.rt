@@ -2,6 +2,7 @@
 
 use crate::answer::{fault_told, told};
 use crate::failure::Failure;
+use crate::item_forms::item_form_as;
 use crate::question::{FormQuestion, Heading};
 use crate::row::Row;
 use std::alloc::Global;
@@ -15,7 +16,7 @@ use syn::stmt::{Block, Stmt};
 use syn::{Error, Result, Span};
 use syn_test_support::fault;
 
-/// What comes of the row as the kind of this word, which stands in the heading.
+/// What comes of the row as the kind of this word, which stands in the heading; else what `item_form_as` says.
 pub(crate) fn form_as(
     alloc: Global,
     question: FormQuestion,
@@ -37,12 +38,12 @@ pub(crate) fn form_as(
         "Block" => form::<Block>(alloc, question, row),
         "Stmt" => form::<Stmt>(alloc, question, row),
         "Stmts" => form::<Stmts>(alloc, question, row),
-        _ => Err(Failure::Malformed(heading.line, "no such kind")),
+        _ => item_form_as(alloc, question, heading, word, row),
     }
 }
 
 /// The same as a `T`.
-fn form<T: Canonical + Drop>(
+pub(crate) fn form<T: Canonical + Drop>(
     alloc: Global,
     question: FormQuestion,
     row: &Row<'_>,

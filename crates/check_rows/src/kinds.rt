@@ -6,9 +6,12 @@ use crate::call::{
     OuterAttributes, Rest, TypedPattern, UnnamedField, WithinBlock,
 };
 use crate::called::called;
+use crate::conversions::of_items_made;
 use crate::failure::Failure;
 use crate::fields::fields_as;
 use crate::form::form_as;
+use crate::item_kinds::of_whole_items;
+use crate::modifiers::faults_as;
 use crate::parts::parts_as;
 use crate::question::{Heading, Question, TreeQuestion};
 use crate::row::Row;
@@ -16,7 +19,7 @@ use std::alloc::Global;
 use syn::data::{Fields, FieldsNamed, FieldsUnnamed, Variant};
 use syn::deferred::DeferredConstant;
 use syn::derive::DeriveInput;
-use syn::item::{Item, ItemEnum, ItemStruct, ItemUnion};
+use syn::item::{ItemEnum, ItemStruct, ItemUnion};
 use syn::lower::{
     BoundLifetimes, GenericParam, Generics, LifetimeParam, Lit, Path, ReturnType, TraitBound,
     TraitBoundModifier, Type, TypeParamBound, TypePath, WhereClause, WherePredicate,
@@ -37,10 +40,11 @@ pub(crate) fn answer_as(
         Question::OfForm(question) => form_as(alloc, question, heading, word, row),
         Question::Parts => parts_as(alloc, heading, word, row.text),
         Question::Fields => fields_as(alloc, heading, word, row.text),
+        Question::Faults => faults_as(alloc, heading, word, row.text),
     }
 }
 
-/// Items, and what is in them; else what `of_expressions` says.
+/// Structs, enums and unions, and what is in them; else what `of_whole_items` says.
 fn of_items(
     alloc: Global,
     question: TreeQuestion,
@@ -57,12 +61,12 @@ fn of_items(
         "FieldsNamed" => answer::<FieldsNamed>(alloc, question, row),
         "FieldsUnnamed" => answer::<FieldsUnnamed>(alloc, question, row),
         "Visibility" => answer::<Visibility>(alloc, question, row),
-        _ => of_expressions(alloc, question, heading, word, row),
+        _ => of_whole_items(alloc, question, heading, word, row),
     }
 }
 
 /// Patterns, macros, expressions and statements; else what `of_types` says.
-fn of_expressions(
+pub(crate) fn of_expressions(
     alloc: Global,
     question: TreeQuestion,
     heading: &Heading<'_>,
@@ -141,7 +145,7 @@ fn of_calls(
     }
 }
 
-/// Deferred trees that calls read, and what they are once opened; else what `of_conversions` says.
+/// Deferred trees that calls read, and what they are once opened; else what `of_derive_inputs` says.
 fn of_deferred_trees(
     alloc: Global,
     question: TreeQuestion,
@@ -154,12 +158,12 @@ fn of_deferred_trees(
         "Deferred<Expr>::open" => called::<OpenedRest>(alloc, question, row),
         "TypeArray::len" => called::<OpenedLength>(alloc, question, row),
         "read_deferred_rest" => called::<Rest>(alloc, question, row),
-        _ => of_conversions(alloc, question, heading, word, row),
+        _ => of_derive_inputs(alloc, question, heading, word, row),
     }
 }
 
-/// Trees that are made of others.
-fn of_conversions(
+/// Inputs of derives and fields that are made of others; else what `of_items_made` says.
+fn of_derive_inputs(
     alloc: Global,
     question: TreeQuestion,
     heading: &Heading<'_>,
@@ -167,10 +171,6 @@ fn of_conversions(
     row: &Row<'_>,
 ) -> Result<String, Failure> {
     match word {
-        "Item::from(DeriveInput)" => called::<Converted<DeriveInput, Item>>(alloc, question, row),
-        "Item::from(ItemStruct)" => called::<Converted<ItemStruct, Item>>(alloc, question, row),
-        "Item::from(ItemEnum)" => called::<Converted<ItemEnum, Item>>(alloc, question, row),
-        "Item::from(ItemUnion)" => called::<Converted<ItemUnion, Item>>(alloc, question, row),
         "DeriveInput::from(ItemStruct)" => {
             called::<Converted<ItemStruct, DeriveInput>>(alloc, question, row)
         }
@@ -186,6 +186,6 @@ fn of_conversions(
         "Fields::from(FieldsUnnamed)" => {
             called::<Converted<FieldsUnnamed, Fields>>(alloc, question, row)
         }
-        _ => Err(Failure::Malformed(heading.line, "no such kind")),
+        _ => of_items_made(alloc, question, heading, word, row),
     }
 }

@@ -20,7 +20,8 @@
 //! - `parts`: what the tree is made of (`parts`, `types`);
 //! - `fields`: of a struct's fields, what the word behind it says: `members` what they are called, `names` the names of those that
 //!   have one, `number` how many there are, `prints` what each prints, `changed` and `changed_struct` what all of them and the
-//!   struct print once the type of each is `()`.
+//!   struct print once the type of each is `()`;
+//! - `faults`: what `require_empty` says of the tree's modifiers: each fault's first byte and words, or `none`.
 //!
 //! A kind of the first seven may also be a call, as `Attribute::parse_outer` or `Item::from(ItemEnum)` (`call`). It reads a tree at
 //! the front of the text, and doesn't ask what is left behind that.
@@ -37,11 +38,15 @@ mod answer;
 mod call;
 mod called;
 mod compared;
+mod conversions;
 mod escapes;
 mod failure;
 mod fields;
 mod form;
+mod item_forms;
+mod item_kinds;
 mod kinds;
+mod modifiers;
 mod parts;
 mod question;
 mod row;

@@ -11,6 +11,8 @@ pub(crate) enum Question {
     Parts,
     /// The fields of a struct.
     Fields,
+    /// The faults of a tree's modifiers.
+    Faults,
 }
 
 /// What is asked of a text as a tree.
@@ -91,6 +93,7 @@ fn question_of(word: &str) -> Option<Asked> {
         "canonical" => Some((Question::OfForm(FormQuestion::Canonical), None)),
         "parts" => Some((Question::Parts, None)),
         "fields" => Some((Question::Fields, None)),
+        "faults" => Some((Question::Faults, None)),
         _ => question_of_two(word),
     }
 }

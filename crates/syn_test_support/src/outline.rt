@@ -7,12 +7,13 @@ mod ops;
 mod parts;
 mod pats;
 mod sigs;
+mod uses;
 
 use std::alloc::{AllocError, Global};
 use syn::ToTokens;
 use syn::canon::{NamedField, UnnamedField};
 use syn::data::{Field, Fields, FieldsNamed, FieldsUnnamed, Variant};
-use syn::deferred::{Deferred, DeferredBlock, DeferredExpr};
+use syn::deferred::{Deferred, DeferredExpr};
 use syn::derive::{Data, DataEnum, DataStruct, DataUnion, DeriveInput};
 use syn::item::{ItemEnum, ItemStruct, ItemUnion};
 use syn::lower::{
@@ -149,15 +150,6 @@ impl Outlined for TokenStream {
 impl<const KIND: usize> Outlined for Deferred<KIND> {
     fn show(&self, out: &mut TreeText) {
         self.source().show(out);
-    }
-}
-
-/// Braces, and the tokens of the statements in them.
-impl Outlined for DeferredBlock {
-    fn show(&self, out: &mut TreeText) {
-        out.token("{", self.brace_token.opening);
-        self.stmts.show(out);
-        out.token("}", self.brace_token.closing);
     }
 }
 

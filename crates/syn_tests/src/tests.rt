@@ -6,6 +6,7 @@ mod canonical_prints;
 mod copies;
 mod deep;
 mod deferred;
+mod deferred_items;
 mod handmade;
 mod handmade_exprs;
 mod handmade_generics;

@@ -7,6 +7,14 @@ use syn::token::TokenStream;
 use syn::{Error, Result};
 use syn_outlines::stream_shown;
 
+/// Where a text is refused: the byte of which is told, and the one at which reading it stopped. A fault that more than one token tells is
+/// told of at another byte than that.
+#[derive(Clone, Copy, PartialEq, Eq)]
+pub(crate) struct Place {
+    pub(crate) told: usize,
+    pub(crate) stopped: usize,
+}
+
 /// What is answered to a question about a text.
 #[derive(PartialEq, Drop)]
 pub(crate) enum Answer {
@@ -16,8 +24,8 @@ pub(crate) enum Answer {
     Read,
     /// Whether it has the form of another text.
     Compared(bool),
-    /// It is refused at this byte.
-    Refused(usize),
+    /// It is refused.
+    Refused(Place),
     /// Memory is refused.
     Memory,
 }
@@ -46,7 +54,7 @@ impl Answer {
     pub(crate) fn as_check(&self) -> Answer {
         match self {
             Answer::Printed(_) | Answer::Read | Answer::Compared(_) => Answer::Read,
-            Answer::Refused(start) => Answer::Refused(*start),
+            Answer::Refused(place) => Answer::Refused(*place),
             Answer::Memory => Answer::Memory,
         }
     }
@@ -61,9 +69,22 @@ impl Answer {
 
     fn of_error(error: &Error) -> Answer {
         if error.is_memory() {
-            Answer::Memory
-        } else {
-            Answer::Refused(error.span().start)
+            return Answer::Memory;
+        }
+        let start = error.span().start;
+        Answer::Refused(Place {
+            told: start,
+            stopped: start,
+        })
+    }
+
+    /// Whether this answer by trees is the same as that by the rule. Trees may tell of a refusal at either byte.
+    pub(crate) fn is_as_by_rule(&self, by_rule: &Answer) -> bool {
+        match (self, by_rule) {
+            (Answer::Refused(tree), Answer::Refused(rule)) => {
+                tree.told == rule.told || tree.told == rule.stopped
+            }
+            _ => self == by_rule,
         }
     }
 }
@@ -75,7 +96,12 @@ impl fmt::Display for Answer {
             Answer::Read => f.write_str("read"),
             Answer::Compared(true) => f.write_str("the same"),
             Answer::Compared(false) => f.write_str("another"),
-            Answer::Refused(start) => write!(f, "refused at {start}"),
+            Answer::Refused(place) if place.told == place.stopped => {
+                write!(f, "refused at {}", place.told)
+            }
+            Answer::Refused(place) => {
+                write!(f, "refused at {} or {}", place.told, place.stopped)
+            }
             Answer::Memory => f.write_str("memory refused"),
         }
     }

@@ -11,10 +11,19 @@ pub(crate) struct Case<'a> {
     pub(crate) alloc: Global,
     /// The number of its line.
     pub(crate) line: usize,
+    /// The words of the kinds as which it is asked about, with a space between them; none where that is each.
+    pub(crate) words: &'a str,
     pub(crate) text: &'a str,
     pub(crate) tokens: &'a TokenStream,
     /// The tokens of the last text before it that could be read; none where it is the first.
     pub(crate) before: &'a TokenStream,
+}
+
+impl Case<'_> {
+    /// Whether it is asked about as the kind of this word.
+    pub(crate) fn is_asked_as(&self, word: &str) -> bool {
+        self.words.is_empty() || self.words.split(' ').any(|each| each == word)
+    }
 }
 
 /// A kind, as a word and by the rule that reads it.

@@ -1,6 +1,6 @@
 //! What both ways answer about a text as one kind.
 
-use crate::answer::Answer;
+use crate::answer::{Answer, Place};
 use crate::case::{Case, Kind, Question};
 use crate::failure::Failure;
 use crate::tally::Tally;
@@ -11,13 +11,17 @@ use syn::token::TokenStream;
 use syn_answers::answers::{canonical_by, derived_by, same_form_by};
 use syn_recognize::{Rule, read_by};
 
-/// Compares what is answered about the text as a `T`, by trees and by the rule that reads it. The word names the kind.
+/// Compares what is answered about the text as a `T`, by trees and by the rule that reads it, where it is asked about as the kind of
+/// this word.
 pub(crate) fn compare<T: Canonical + Drop>(
     case: &Case<'_>,
     word: &'static str,
     rule: Rule,
     tally: &mut Tally,
 ) -> Result<(), Failure> {
+    if !case.is_asked_as(word) {
+        return Ok(());
+    }
     let kind = Kind { word, rule };
     compare_prints::<T>(case, &kind, tally)?;
     let Some(print) = print_of(case, rule)? else {
@@ -64,8 +68,14 @@ fn checked_by_rule(case: &Case<'_>, rule: Rule) -> Result<Answer, Failure> {
 /// The same answer; where it is a refusal, with the byte at which reading stopped: faults that more than one token tells are told at
 /// others.
 fn stopped(answer: Answer, rule: Rule, tokens: &TokenStream) -> Answer {
-    match answer {
-        Answer::Refused(_) => Answer::of_check(&read_whole(rule, tokens)),
+    let Answer::Refused(place) = answer else {
+        return answer;
+    };
+    match Answer::of_check(&read_whole(rule, tokens)) {
+        Answer::Refused(stopped) => Answer::Refused(Place {
+            told: place.told,
+            stopped: stopped.told,
+        }),
         other => other,
     }
 }
@@ -112,8 +122,11 @@ fn form_by_rule(
 ) -> Result<Answer, Failure> {
     let copies = (left.try_clone(case.alloc)?, right.try_clone(case.alloc)?);
     let answer = Answer::of_form(&same_form_by(rule, copies.0, copies.1));
-    match stopped(answer, rule, left) {
-        Answer::Read => Ok(stopped(Answer::Refused(0), rule, right)),
+    let Answer::Refused(place) = answer else {
+        return Ok(answer);
+    };
+    match stopped(Answer::Refused(place), rule, left) {
+        Answer::Read => Ok(stopped(Answer::Refused(place), rule, right)),
         answer => Ok(answer),
     }
 }

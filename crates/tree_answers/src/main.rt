@@ -1,7 +1,8 @@
 //! Compares two ways to answer about texts: by trees, as `canonical` and `same_form` of `syn` do, and by recognition, as
 //! `canonical_by`, `derived_by` and `same_form_by` of `syn_answers` do.
 //!
-//! Each line of standard input is the hex digits of a text's bytes. As each kind of `by_kind` both ways are asked of it
+//! Each line of standard input is the hex digits of a text's bytes, and behind them may stand words of kinds, each behind a space. As
+//! each of these kinds, or of all in `by_kind` where none stands there, both ways are asked of it
 //!
 //! - `print`: its canonical print, each token with its spans;
 //! - `check`: whether it has one;
@@ -12,8 +13,10 @@
 //! - `form of the text before`: whether the last text before it that could be read has, and
 //! - `form, as the text before has it`: the same in the other order.
 //!
-//! Both have to answer the same, or to stop reading the text at the same byte; the words may differ. Trees refuse memory to what is
-//! nested too deep, and recognition doesn't: where memory is refused to one of them, that is counted, and nothing is compared.
+//! Both have to answer the same, or to refuse the text at the same byte; the words may differ. Recognition has two such bytes: where
+//! it stops reading, and the one of which is told, as of the `self` of a receiver behind other parameters where reading stops at its
+//! `&`; trees may be refused at either. Trees refuse memory to what is nested too deep, and recognition doesn't: where memory is refused
+//! to one of them, that is counted, and nothing is compared.
 //!
 //! Each question whose answers differ is three lines on standard output, and at the end there stands what was counted. The
 //! status is 0; 1 where answers differ, where a line is no text in hex digits, or where the input can't be read or the output

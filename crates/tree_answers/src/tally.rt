@@ -95,7 +95,7 @@ impl Tally {
             add_one(&mut self.counts.beyond_trees);
         } else if *by_rule == Answer::Memory {
             add_one(&mut self.counts.beyond_rules);
-        } else if by_tree == by_rule {
+        } else if by_tree.is_as_by_rule(by_rule) {
             self.counts.count(question, by_tree);
         } else {
             add_one(&mut self.counts.differ);

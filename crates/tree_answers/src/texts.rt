@@ -21,14 +21,15 @@ pub(crate) fn compare_texts(alloc: Global, source: &str, tally: &mut Tally) -> R
     Ok(())
 }
 
-/// Compares what is answered about the text with these hex digits, and gives its tokens, if it has some.
+/// Compares what is answered about the text of the line with this number, and gives its tokens, if it has some.
 fn compare_line(
     alloc: Global,
-    line: usize,
-    digits: &str,
+    number: usize,
+    line: &str,
     before: &TokenStream,
     tally: &mut Tally,
 ) -> Result<Option<TokenStream>, Failure> {
+    let (digits, words) = line.split_once(' ').unwrap_or((line, ""));
     let bytes = hex::decode(alloc, digits)?;
     let text = String::from_utf8(bytes).map_err(|_| Failure::Broken)?;
     let Some(tokens) = tokens_of(alloc, text.as_str())? else {
@@ -37,7 +38,8 @@ fn compare_line(
     };
     let case = Case {
         alloc,
-        line,
+        line: number,
+        words,
         text: text.as_str(),
         tokens: &tokens,
         before,

@@ -13,6 +13,7 @@ use syn_expr::stmt::{Block, Stmt};
 use syn_parse::buffer::ParseBuffer;
 use syn_parse::read::Read;
 use syn_parse::read::refusal::Parsed;
+use syn_recognize::deferred::TreeOf;
 use syn_tokens::print::{Print, ToTokens};
 use syn_tokens::stream::builder::StreamBuilder;
 use syn_tokens::syntactic::Syntactic;
@@ -70,7 +71,7 @@ impl Print for UnnamedField {
 
 impl ToTokens for UnnamedField {}
 
-/// Statements to the end, as `Block::parse_within` parses them.
+/// Statements to the end, as `Block::parse_within` parses them, and as deferred statements are opened.
 #[derive(Drop)]
 pub struct Stmts(pub Vec<Stmt>);
 
@@ -110,3 +111,12 @@ fn print_row(stmts: &Vec<Stmt>, out: &mut StreamBuilder) -> Result<(), AllocErro
 }
 
 impl ToTokens for Stmts {}
+
+/// The statements of a block may be deferred.
+impl TreeOf<3> for Stmts {
+    ghost whole = { λ stmts. statements_syntax stmts.0.items };
+
+    fn read_tree(input: &mut ParseBuffer<'_>) -> Parsed<Stmts> {
+        Ok(Stmts(Block::read_within(input)?))
+    }
+}

@@ -1,11 +1,14 @@
 //! Parsers of impls.
 ghost use Rattle.std.specs.Prelude.{◌≡◌, codes};
 ghost use Rattle.syn_grammar.specs.Rules as rules;
-ghost use Rattle.syn_grammar.specs.Grammar.{Both, Case, Impl, Left, Node, Right};
+ghost use Rattle.syn_grammar.specs.Forms.{plainly};
+ghost use Rattle.syn_grammar.specs.Grammar.{Both, Case, Impl, Left, Node, Right, word};
 ghost use Rattle.syn_grammar.specs.Plan.{run_plan};
 ghost use Rattle.syn_grammar.specs.Run.{wrap};
 ghost use Rattle.syn_grammar.specs.Table as table;
 ghost use Rattle.syn_grammar.specs.Tokens.{Stream};
+ghost use Rattle.syn_grammar.specs.Words.{w_for};
+ghost use Rattle.syn_tokens.specs.Kinds.{for_syntax};
 ghost use Rattle.syn_lower.specs.Attributes.{all_attributes_syntax, attributes_syntax};
 ghost use Rattle.syn_lower.specs.Parsing.{of, rule, meaning_of_rule, parse_rule, parse_form, Computes, Moved, Kept, itself, IsSyntax};
 ghost use Rattle.syn_lower.specs.Parts.{first};
@@ -21,10 +24,11 @@ use syn_lower::attr::outer_attributes;
 use syn_lower::where_clause::where_clause;
 use syn_lower::{Attribute, Generics, Path, Type, TypeNever, TypePath};
 use syn_parse::buffer::ParseBuffer;
-use syn_parse::read::refusal::Parsed;
+use syn_parse::read::refusal::{Parsed, Refusal};
 use syn_parse::read::{Peek, Read};
 use syn_recognize::item_looks::at_generics;
 use syn_recognize::looks::at_path_word;
+use syn_tokens::span::Span;
 use syn_tokens::token::{Brace, Const, Default, For, Impl, Not, PathSep, Unsafe};
 use syn_tree::item::ImplModifiers;
 
@@ -85,8 +89,27 @@ fn behind_impl(marks: ImplMarks, input: &mut ParseBuffer<'_>) -> Parsed<ItemImpl
     ensures moved { Moved input.old result input.new }
 {
     let generics = impl_generics(input)?;
+    let first = input.span();
     let types = implemented(input)?;
-    impl_end(marks, generics, types, input)
+    let is_odd = types.trait_.is_none() && input.peek::<For>();
+    match impl_end(marks, generics, types, input) {
+        Ok(item) => Ok(item),
+        Err(Refusal::Memory) => Err(Refusal::Memory),
+        Err(Refusal::Syntax { span, text }) => Err(told(is_odd, first, span, text)),
+    }
+}
+
+/// The fault of an impl: where its first type is no path of a trait, and `for` stands behind it, it is told where that type begins.
+fn told(is_odd: bool, first: Span, span: Span, text: &'static str) -> Refusal
+    ensures syntax { IsSyntax result }
+{
+    if is_odd {
+        return Refusal::Syntax {
+            span: first,
+            text: "expected trait path",
+        };
+    }
+    Refusal::Syntax { span, text }
 }
 
 /// Generics, where they stand next and no type does.
@@ -154,9 +177,24 @@ fn behind_bang(input: &mut ParseBuffer<'_>) -> Parsed<ImplTypes>
     }
     Ok(ImplTypes {
         polarity: Some(bang_token),
-        trait_: Some((input.read()?, input.read()?)),
+        trait_: Some((input.read()?, for_behind_bang(bang_token, input)?)),
         self_ty: input.read()?,
     })
+}
+
+/// The `for` behind `!` and a path. Where none stands next, the fault stands at the `!`.
+fn for_behind_bang(bang_token: Not, input: &mut ParseBuffer<'_>) -> Parsed<For>
+    ensures reads { Computes IsSyntax for_syntax (parse_form (plainly (word w_for)) input.old) result input.new }
+    ensures moved { Moved input.old result input.new }
+{
+    match input.read() {
+        Ok(for_token) => Ok(for_token),
+        Err(Refusal::Memory) => Err(Refusal::Memory),
+        Err(Refusal::Syntax { span: _, text: _ }) => Err(Refusal::Syntax {
+            span: bang_token.spans[0],
+            text: "inherent impls cannot be negative",
+        }),
+    }
 }
 
 /// A path as a trait's, with `for` and a self type behind it; or as the self type.

@@ -1,18 +1,40 @@
-//! Items and files.
+//! Items and files. A word or a mark tells of most items which they are; before a macro and before what is kept as tokens stands what
+//! it is called.
 
-use super::parts::{node, show_colon, show_mark, show_semi, show_word};
-use crate::outline::{Outlined, TreeText};
-use syn::file::File;
-use syn::item::{
-    Item, ItemConst, ItemExternCrate, ItemFn, ItemForeignMod, ItemImpl, ItemMacro, ItemMod,
-    ItemStatic, ItemTrait, ItemTraitAlias, ItemType, ItemUse, Items, StaticMutability,
-    WhereClausePlacement,
+use super::parts::{
+    node, show_bounds, show_mark, show_modifier, show_rename, show_semi, show_type, show_word,
 };
-use syn::lower::{Attribute, TypeParamBound};
-use syn::punctuated::Punctuated;
-use syn::token::{Brace, Plus};
+use crate::outline::{Outlined, TreeText};
+use syn_item::file::File;
+use syn_item::foreign::ItemForeignMod;
+use syn_item::function::ItemFn;
+use syn_item::impls::ItemImpl;
+use syn_item::item::{Item, Items};
+use syn_item::simple::{
+    ItemConst, ItemExternCrate, ItemMacro, ItemMod, ItemStatic, ItemTraitAlias, ItemType, ItemUse,
+    StaticMutability, WhereClausePlacement,
+};
+use syn_item::traits::ItemTrait;
 
-/// An item is shown as the struct of its kind; what is kept as tokens behind `Verbatim`.
+impl Outlined for File {
+    fn show(&self, out: &mut TreeText) {
+        out.word("File");
+        out.attributes(&self.attrs);
+        for item in &self.items {
+            item.show(out);
+        }
+    }
+}
+
+impl Outlined for Items {
+    fn show(&self, out: &mut TreeText) {
+        out.word("Items");
+        for item in &self.0 {
+            item.show(out);
+        }
+    }
+}
+
 impl Outlined for Item {
     fn show(&self, out: &mut TreeText) {
         match self {
@@ -39,56 +61,16 @@ impl Outlined for Item {
     }
 }
 
-/// Items in a row.
-impl Outlined for Items {
-    fn show(&self, out: &mut TreeText) {
-        show_all(&self.0, out);
-    }
-}
-
-/// Its first line and its frontmatter aren't shown: no parser gives them.
-impl Outlined for File {
-    fn show(&self, out: &mut TreeText) {
-        node("File", &self.attrs, out);
-        show_all(&self.items, out);
-    }
-}
-
-/// Adds what shows each of some values, in their order.
-pub(super) fn show_all<T: Outlined>(values: &Vec<T>, out: &mut TreeText) {
-    for value in values {
-        value.show(out);
-    }
-}
-
-/// Adds values in braces.
-pub(super) fn show_members<T: Outlined>(braces: &Brace, members: &Vec<T>, out: &mut TreeText) {
-    out.token("{", braces.opening);
-    show_all(members, out);
-    out.token("}", braces.closing);
-}
-
-/// Adds bounds with `+` between them.
-pub(super) fn show_bounds(bounds: &Punctuated<TypeParamBound, Plus>, out: &mut TreeText) {
-    for (bound, plus) in bounds.pairs() {
-        bound.show(out);
-        out.mark("+", plus);
-    }
-    if let Some(bound) = bounds.trailing_value() {
-        bound.show(out);
-    }
-}
-
 impl Outlined for ItemConst {
     fn show(&self, out: &mut TreeText) {
-        node("Const", &self.attrs, out);
+        out.attributes(&self.attrs);
         self.vis.show(out);
-        show_word("default", &self.modifiers.defaultness, out);
+        show_modifier(&self.modifiers.defaultness, out);
         out.token("const", self.const_token.span);
         self.ident.show(out);
         self.generics.show(out);
         out.mark(":", &self.colon_token);
-        self.ty.show(out);
+        show_type(&self.ty, out);
         out.mark("=", &self.eq_token);
         self.expr.show(out);
         out.mark(";", &self.semi_token);
@@ -99,47 +81,48 @@ impl Outlined for StaticMutability {
     fn show(&self, out: &mut TreeText) {
         match self {
             StaticMutability::Mut(token) => out.token("mut", token.span),
-            StaticMutability::None => out.word("None"),
+            StaticMutability::None => {}
         }
     }
 }
 
 impl Outlined for ItemStatic {
     fn show(&self, out: &mut TreeText) {
-        node("Static", &self.attrs, out);
+        out.attributes(&self.attrs);
         self.vis.show(out);
         out.token("static", self.static_token.span);
         self.mutability.show(out);
         self.ident.show(out);
         out.mark(":", &self.colon_token);
-        self.ty.show(out);
+        show_type(&self.ty, out);
         out.mark("=", &self.eq_token);
         self.expr.show(out);
         out.mark(";", &self.semi_token);
     }
 }
 
+/// The place of the where clause is shown before `=`.
 impl Outlined for ItemType {
     fn show(&self, out: &mut TreeText) {
-        node("Type", &self.attrs, out);
+        out.attributes(&self.attrs);
         self.vis.show(out);
-        show_word("default", &self.modifiers.defaultness, out);
+        show_modifier(&self.modifiers.defaultness, out);
         out.token("type", self.type_token.span);
         self.ident.show(out);
         self.generics.show(out);
+        out.word(match self.where_clause_placement {
+            WhereClausePlacement::Early => "Early",
+            WhereClausePlacement::Late => "Late",
+        });
         out.mark("=", &self.eq_token);
-        self.ty.show(out);
+        show_type(&self.ty, out);
         out.mark(";", &self.semi_token);
-        match self.where_clause_placement {
-            WhereClausePlacement::Early => out.word("Early"),
-            WhereClausePlacement::Late => out.word("Late"),
-        }
     }
 }
 
 impl Outlined for ItemUse {
     fn show(&self, out: &mut TreeText) {
-        node("Use", &self.attrs, out);
+        out.attributes(&self.attrs);
         self.vis.show(out);
         out.token("use", self.use_token.span);
         show_mark("::", &self.leading_colon, out);
@@ -150,48 +133,68 @@ impl Outlined for ItemUse {
 
 impl Outlined for ItemExternCrate {
     fn show(&self, out: &mut TreeText) {
-        node("ExternCrate", &self.attrs, out);
+        out.attributes(&self.attrs);
         self.vis.show(out);
         out.token("extern", self.extern_token.span);
         out.token("crate", self.crate_token.span);
         self.ident.show(out);
-        if let Some((as_token, rename)) = &self.rename {
-            out.token("as", as_token.span);
-            rename.show(out);
-        }
+        show_rename(&self.rename, out);
         out.mark(";", &self.semi_token);
     }
 }
 
-/// What stands in its braces is shown by its tokens.
+impl Outlined for ItemFn {
+    fn show(&self, out: &mut TreeText) {
+        out.attributes(&self.attrs);
+        self.vis.show(out);
+        show_modifier(&self.modifiers.defaultness, out);
+        self.sig.show(out);
+        self.block.show(out);
+    }
+}
+
+/// The items of a module are shown as the tokens that they are kept as.
 impl Outlined for ItemMod {
     fn show(&self, out: &mut TreeText) {
-        node("Mod", &self.attrs, out);
+        out.attributes(&self.attrs);
         self.vis.show(out);
         show_word("unsafe", &self.unsafety, out);
         out.token("mod", self.mod_token.span);
         self.ident.show(out);
-        if let Some((braces, items)) = &self.content {
-            out.token("{", braces.opening);
+        if let Some((brace_token, items)) = &self.content {
+            out.token("{", brace_token.opening);
             items.show(out);
-            out.token("}", braces.closing);
+            out.token("}", brace_token.closing);
         }
         show_semi(&self.semi, out);
     }
 }
 
+impl Outlined for ItemForeignMod {
+    fn show(&self, out: &mut TreeText) {
+        out.attributes(&self.attrs);
+        show_word("unsafe", &self.unsafety, out);
+        self.abi.show(out);
+        out.token("{", self.brace_token.opening);
+        for member in &self.items {
+            member.show(out);
+        }
+        out.token("}", self.brace_token.closing);
+    }
+}
+
 impl Outlined for ItemMacro {
     fn show(&self, out: &mut TreeText) {
-        node("Macro", &self.attrs, out);
-        self.mac.show(out);
+        node("ItemMacro", &self.attrs, out);
         self.ident.show(out);
+        self.mac.show(out);
         show_semi(&self.semi_token, out);
     }
 }
 
 impl Outlined for ItemTraitAlias {
     fn show(&self, out: &mut TreeText) {
-        node("TraitAlias", &self.attrs, out);
+        out.attributes(&self.attrs);
         self.vis.show(out);
         out.token("trait", self.trait_token.span);
         self.ident.show(out);
@@ -202,55 +205,44 @@ impl Outlined for ItemTraitAlias {
     }
 }
 
-impl Outlined for ItemFn {
-    fn show(&self, out: &mut TreeText) {
-        node("Fn", &self.attrs, out);
-        self.vis.show(out);
-        show_word("default", &self.modifiers.defaultness, out);
-        self.sig.show(out);
-        self.block.show(out);
-    }
-}
-
-impl Outlined for ItemForeignMod {
-    fn show(&self, out: &mut TreeText) {
-        node("ForeignMod", &self.attrs, out);
-        show_word("unsafe", &self.unsafety, out);
-        self.abi.show(out);
-        show_members(&self.brace_token, &self.items, out);
-    }
-}
-
 impl Outlined for ItemTrait {
     fn show(&self, out: &mut TreeText) {
-        node("Trait", &self.attrs, out);
+        out.attributes(&self.attrs);
         self.vis.show(out);
         show_word("const", &self.modifiers.constness, out);
-        show_word("unsafe", &self.unsafety, out);
         show_word("auto", &self.modifiers.auto_token, out);
+        show_word("unsafe", &self.unsafety, out);
         out.token("trait", self.trait_token.span);
         self.ident.show(out);
         self.generics.show(out);
-        show_colon(&self.colon_token, out);
+        show_mark(":", &self.colon_token, out);
         show_bounds(&self.supertraits, out);
-        show_members(&self.brace_token, &self.items, out);
+        out.token("{", self.brace_token.opening);
+        for member in &self.items {
+            member.show(out);
+        }
+        out.token("}", self.brace_token.closing);
     }
 }
 
 impl Outlined for ItemImpl {
     fn show(&self, out: &mut TreeText) {
-        node("Impl", &self.attrs, out);
-        show_word("default", &self.modifiers.defaultness, out);
+        out.attributes(&self.attrs);
+        show_modifier(&self.modifiers.defaultness, out);
         show_word("const", &self.modifiers.constness, out);
+        show_mark("!", &self.modifiers.polarity, out);
         show_word("unsafe", &self.unsafety, out);
         out.token("impl", self.impl_token.span);
         self.generics.show(out);
-        show_mark("!", &self.modifiers.polarity, out);
         if let Some((path, for_token)) = &self.trait_ {
             path.show(out);
             out.token("for", for_token.span);
         }
-        self.self_ty.show(out);
-        show_members(&self.brace_token, &self.items, out);
+        show_type(&self.self_ty, out);
+        out.token("{", self.brace_token.opening);
+        for member in &self.items {
+            member.show(out);
+        }
+        out.token("}", self.brace_token.closing);
     }
 }

@@ -1,37 +1,32 @@
-//! Members of traits, impls and foreign modules.
+//! Members of traits, of impls and of foreign modules.
 
-use super::items::show_bounds;
-use super::parts::{node, show_colon, show_semi, show_word};
+use super::parts::{node, show_bounds, show_mark, show_modifier, show_semi, show_type};
 use crate::outline::{Outlined, TreeText};
-use syn::item::{
-    ForeignItem, ForeignItemFn, ForeignItemMacro, ForeignItemStatic, ForeignItemType, ImplItem,
-    ImplItemConst, ImplItemFn, ImplItemMacro, ImplItemType, TraitItem, TraitItemConst, TraitItemFn,
-    TraitItemMacro, TraitItemType,
+use syn_item::foreign::{
+    ForeignItem, ForeignItemFn, ForeignItemMacro, ForeignItemStatic, ForeignItemType,
 };
-use syn::token::TokenStream;
-
-/// Adds what is kept as its tokens.
-fn show_verbatim(tokens: &TokenStream, out: &mut TreeText) {
-    out.word("Verbatim");
-    tokens.show(out);
-}
+use syn_item::impls::{ImplItem, ImplItemConst, ImplItemFn, ImplItemMacro, ImplItemType};
+use syn_item::traits::{TraitItem, TraitItemConst, TraitItemFn, TraitItemMacro, TraitItemType};
 
 impl Outlined for TraitItem {
     fn show(&self, out: &mut TreeText) {
         match self {
-            TraitItem::Const(item) => item.show(out),
-            TraitItem::Fn(item) => item.show(out),
-            TraitItem::Ty(item) => item.show(out),
-            TraitItem::Macro(item) => item.show(out),
-            TraitItem::Verbatim(tokens) => show_verbatim(tokens, out),
+            TraitItem::Const(member) => member.show(out),
+            TraitItem::Fn(member) => member.show(out),
+            TraitItem::Ty(member) => member.show(out),
+            TraitItem::Macro(member) => member.show(out),
+            TraitItem::Verbatim(tokens) => {
+                out.word("Verbatim");
+                tokens.show(out);
+            }
         }
     }
 }
 
 impl Outlined for TraitItemConst {
     fn show(&self, out: &mut TreeText) {
-        node("Const", &self.attrs, out);
-        show_word("default", &self.modifiers.defaultness, out);
+        out.attributes(&self.attrs);
+        show_modifier(&self.modifiers.defaultness, out);
         out.token("const", self.const_token.span);
         self.ident.show(out);
         self.generics.show(out);
@@ -44,22 +39,25 @@ impl Outlined for TraitItemConst {
 
 impl Outlined for TraitItemFn {
     fn show(&self, out: &mut TreeText) {
-        node("Fn", &self.attrs, out);
-        show_word("default", &self.modifiers.defaultness, out);
+        out.attributes(&self.attrs);
+        show_modifier(&self.modifiers.defaultness, out);
         self.sig.show(out);
-        self.default.show(out);
+        match &self.default {
+            Some(block) => block.show(out),
+            None => {}
+        }
         show_semi(&self.semi_token, out);
     }
 }
 
 impl Outlined for TraitItemType {
     fn show(&self, out: &mut TreeText) {
-        node("Type", &self.attrs, out);
-        show_word("default", &self.modifiers.defaultness, out);
+        out.attributes(&self.attrs);
+        show_modifier(&self.modifiers.defaultness, out);
         out.token("type", self.type_token.span);
         self.ident.show(out);
         self.generics.show(out);
-        show_colon(&self.colon_token, out);
+        show_mark(":", &self.colon_token, out);
         show_bounds(&self.bounds, out);
         if let Some((eq_token, ty)) = &self.default {
             out.mark("=", eq_token);
@@ -71,7 +69,7 @@ impl Outlined for TraitItemType {
 
 impl Outlined for TraitItemMacro {
     fn show(&self, out: &mut TreeText) {
-        node("Macro", &self.attrs, out);
+        node("TraitItemMacro", &self.attrs, out);
         self.mac.show(out);
         show_semi(&self.semi_token, out);
     }
@@ -80,20 +78,23 @@ impl Outlined for TraitItemMacro {
 impl Outlined for ImplItem {
     fn show(&self, out: &mut TreeText) {
         match self {
-            ImplItem::Const(item) => item.show(out),
-            ImplItem::Fn(item) => item.show(out),
-            ImplItem::Ty(item) => item.show(out),
-            ImplItem::Macro(item) => item.show(out),
-            ImplItem::Verbatim(tokens) => show_verbatim(tokens, out),
+            ImplItem::Const(member) => member.show(out),
+            ImplItem::Fn(member) => member.show(out),
+            ImplItem::Ty(member) => member.show(out),
+            ImplItem::Macro(member) => member.show(out),
+            ImplItem::Verbatim(tokens) => {
+                out.word("Verbatim");
+                tokens.show(out);
+            }
         }
     }
 }
 
 impl Outlined for ImplItemConst {
     fn show(&self, out: &mut TreeText) {
-        node("Const", &self.attrs, out);
+        out.attributes(&self.attrs);
         self.vis.show(out);
-        show_word("default", &self.modifiers.defaultness, out);
+        show_modifier(&self.modifiers.defaultness, out);
         out.token("const", self.const_token.span);
         self.ident.show(out);
         self.generics.show(out);
@@ -107,9 +108,9 @@ impl Outlined for ImplItemConst {
 
 impl Outlined for ImplItemFn {
     fn show(&self, out: &mut TreeText) {
-        node("Fn", &self.attrs, out);
+        out.attributes(&self.attrs);
         self.vis.show(out);
-        show_word("default", &self.modifiers.defaultness, out);
+        show_modifier(&self.modifiers.defaultness, out);
         self.sig.show(out);
         self.block.show(out);
     }
@@ -117,9 +118,9 @@ impl Outlined for ImplItemFn {
 
 impl Outlined for ImplItemType {
     fn show(&self, out: &mut TreeText) {
-        node("Type", &self.attrs, out);
+        out.attributes(&self.attrs);
         self.vis.show(out);
-        show_word("default", &self.modifiers.defaultness, out);
+        show_modifier(&self.modifiers.defaultness, out);
         out.token("type", self.type_token.span);
         self.ident.show(out);
         self.generics.show(out);
@@ -131,7 +132,7 @@ impl Outlined for ImplItemType {
 
 impl Outlined for ImplItemMacro {
     fn show(&self, out: &mut TreeText) {
-        node("Macro", &self.attrs, out);
+        node("ImplItemMacro", &self.attrs, out);
         self.mac.show(out);
         show_semi(&self.semi_token, out);
     }
@@ -140,20 +141,23 @@ impl Outlined for ImplItemMacro {
 impl Outlined for ForeignItem {
     fn show(&self, out: &mut TreeText) {
         match self {
-            ForeignItem::Fn(item) => item.show(out),
-            ForeignItem::Static(item) => item.show(out),
-            ForeignItem::Ty(item) => item.show(out),
-            ForeignItem::Macro(item) => item.show(out),
-            ForeignItem::Verbatim(tokens) => show_verbatim(tokens, out),
+            ForeignItem::Fn(member) => member.show(out),
+            ForeignItem::Static(member) => member.show(out),
+            ForeignItem::Ty(member) => member.show(out),
+            ForeignItem::Macro(member) => member.show(out),
+            ForeignItem::Verbatim(tokens) => {
+                out.word("Verbatim");
+                tokens.show(out);
+            }
         }
     }
 }
 
 impl Outlined for ForeignItemFn {
     fn show(&self, out: &mut TreeText) {
-        node("Fn", &self.attrs, out);
+        out.attributes(&self.attrs);
         self.vis.show(out);
-        show_word("default", &self.modifiers.defaultness, out);
+        show_modifier(&self.modifiers.defaultness, out);
         self.sig.show(out);
         out.mark(";", &self.semi_token);
     }
@@ -161,23 +165,23 @@ impl Outlined for ForeignItemFn {
 
 impl Outlined for ForeignItemStatic {
     fn show(&self, out: &mut TreeText) {
-        node("Static", &self.attrs, out);
+        out.attributes(&self.attrs);
         self.vis.show(out);
         self.safety.show(out);
         out.token("static", self.static_token.span);
         self.mutability.show(out);
         self.ident.show(out);
         out.mark(":", &self.colon_token);
-        self.ty.show(out);
+        show_type(&self.ty, out);
         out.mark(";", &self.semi_token);
     }
 }
 
 impl Outlined for ForeignItemType {
     fn show(&self, out: &mut TreeText) {
-        node("Type", &self.attrs, out);
+        out.attributes(&self.attrs);
         self.vis.show(out);
-        show_word("default", &self.modifiers.defaultness, out);
+        show_modifier(&self.modifiers.defaultness, out);
         out.token("type", self.type_token.span);
         self.ident.show(out);
         self.generics.show(out);
@@ -187,7 +191,7 @@ impl Outlined for ForeignItemType {
 
 impl Outlined for ForeignItemMacro {
     fn show(&self, out: &mut TreeText) {
-        node("Macro", &self.attrs, out);
+        node("ForeignItemMacro", &self.attrs, out);
         self.mac.show(out);
         show_semi(&self.semi_token, out);
     }

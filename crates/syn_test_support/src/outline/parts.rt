@@ -1,10 +1,13 @@
-//! What patterns, expressions and statements are made of, and macros.
+//! What patterns, expressions, statements and items are made of, and macros.
 
 use crate::outline::{Outlined, TreeText};
-use syn::Macro;
 use syn::expr::Label;
-use syn::lower::{AngleBracketedGenericArguments, Attribute, Member, Path, QSelf, Type};
-use syn::token::{Colon, Lifetime, Mark, Mut, Semi, Word};
+use syn::lower::{
+    AngleBracketedGenericArguments, Attribute, Member, Path, QSelf, Type, TypeParamBound,
+};
+use syn::punctuated::Punctuated;
+use syn::token::{As, Ident, Lifetime, Mark, Mut, Plus, Semi, Word};
+use syn::{Macro, token};
 
 /// Adds the attributes of a part, and then what it is called. So attributes stand before the word of what has them.
 pub(super) fn node(word: &str, attrs: &Vec<Attribute>, out: &mut TreeText) {
@@ -35,7 +38,7 @@ pub(super) fn show_type(ty: &Type, out: &mut TreeText) {
 }
 
 /// Adds what shows a lifetime.
-pub(super) fn show_lifetime(lifetime: &Lifetime, out: &mut TreeText) {
+fn show_lifetime(lifetime: &Lifetime, out: &mut TreeText) {
     out.token("'", lifetime.apostrophe);
     lifetime.ident.show(out);
 }
@@ -56,6 +59,50 @@ pub(super) fn show_label(label: &Option<Label>, out: &mut TreeText) {
     }
 }
 
+/// Adds a word, if it is there.
+pub(super) fn show_word<K>(text: &str, token: &Option<Word<K>>, out: &mut TreeText) {
+    match token {
+        Some(token) => out.token(text, token.span),
+        None => {}
+    }
+}
+
+/// Adds a mark, if it is there.
+pub(super) fn show_mark<K, const N: usize>(
+    text: &str,
+    token: &Option<Mark<K, N>>,
+    out: &mut TreeText,
+) {
+    match token {
+        Some(token) => out.mark(text, token),
+        None => {}
+    }
+}
+
+/// Adds `default`, if it is there.
+pub(super) fn show_modifier(defaultness: &Option<token::Default>, out: &mut TreeText) {
+    show_word("default", defaultness, out);
+}
+
+/// Adds `as` and a name, if they are there.
+pub(super) fn show_rename(rename: &Option<(As, Ident)>, out: &mut TreeText) {
+    if let Some((as_token, ident)) = rename {
+        out.token("as", as_token.span);
+        ident.show(out);
+    }
+}
+
+/// Adds bounds, each with its `+`.
+pub(super) fn show_bounds(bounds: &Punctuated<TypeParamBound, Plus>, out: &mut TreeText) {
+    for (bound, plus) in bounds.pairs() {
+        bound.show(out);
+        out.mark("+", plus);
+    }
+    if let Some(bound) = bounds.trailing_value() {
+        bound.show(out);
+    }
+}
+
 /// Adds `mut`, if it is there.
 pub(super) fn show_mut(mutability: &Option<Mut>, out: &mut TreeText) {
     match mutability {
@@ -68,31 +115,6 @@ pub(super) fn show_mut(mutability: &Option<Mut>, out: &mut TreeText) {
 pub(super) fn show_semi(semi: &Option<Semi>, out: &mut TreeText) {
     match semi {
         Some(token) => out.mark(";", token),
-        None => {}
-    }
-}
-
-/// Adds `:`, if it is there.
-pub(super) fn show_colon(colon: &Option<Colon>, out: &mut TreeText) {
-    show_mark(":", colon, out);
-}
-
-/// Adds a mark of this text, if it is there.
-pub(super) fn show_mark<K, const N: usize>(
-    text: &str,
-    mark: &Option<Mark<K, N>>,
-    out: &mut TreeText,
-) {
-    match mark {
-        Some(token) => out.mark(text, token),
-        None => {}
-    }
-}
-
-/// Adds a word of this text, if it is there.
-pub(super) fn show_word<K>(text: &str, word: &Option<Word<K>>, out: &mut TreeText) {
-    match word {
-        Some(token) => out.token(text, token.span),
         None => {}
     }
 }

@@ -2,7 +2,7 @@
 
 use super::parts::{node, show_mut, show_path, show_type};
 use crate::outline::{Outlined, TreeText};
-use syn::pat::{Pat, PatIdent, PatWild};
+use syn::pat::{Pat, PatIdent, PatType, PatWild};
 use syn::punctuated::Punctuated;
 use syn::token::Comma;
 
@@ -12,6 +12,15 @@ const DEPTH: usize = 30;
 impl Outlined for Pat {
     fn show(&self, out: &mut TreeText) {
         show_pat(self, DEPTH, out);
+    }
+}
+
+impl Outlined for PatType {
+    fn show(&self, out: &mut TreeText) {
+        node("Ty", &self.attrs, out);
+        show_pat(&self.pat, DEPTH, out);
+        out.mark(":", &self.colon_token);
+        show_type(&self.ty, out);
     }
 }
 

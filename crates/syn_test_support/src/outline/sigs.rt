@@ -1,15 +1,41 @@
-//! Signatures, what stands in them, and trees of a use.
+//! Signatures and bodies of functions.
 
-use super::parts::{node, show_lifetime, show_mark, show_mut, show_word};
+use super::parts::{node, show_mark, show_mut, show_target, show_type, show_word};
 use crate::outline::{Outlined, TreeText};
 use syn::canon::{SafeOrUnsafe, UnsafeOnly};
-use syn::item::{FnArg, Receiver, ReceiverKind, Safety, Signature, UseTree, Variadic};
-use syn::lower::Abi;
-use syn::pat::PatType;
-use syn::token::{Lifetime, Literal};
+use syn::deferred::DeferredBlock;
+use syn_item::sig::{Abi, FnArg, Receiver, ReceiverKind, Safety, Signature, Variadic};
 
-/// So deep trees of a use are shown.
-const DEPTH: usize = 30;
+/// The statements are shown as the tokens that they are kept as.
+impl Outlined for DeferredBlock {
+    fn show(&self, out: &mut TreeText) {
+        out.token("{", self.brace_token.opening);
+        self.stmts.show(out);
+        out.token("}", self.brace_token.closing);
+    }
+}
+
+/// The where clause is shown with the parameters in `< >`.
+impl Outlined for Signature {
+    fn show(&self, out: &mut TreeText) {
+        show_word("const", &self.constness, out);
+        show_word("async", &self.asyncness, out);
+        self.safety.show(out);
+        if let Some(abi) = &self.abi {
+            abi.show(out);
+        }
+        out.token("fn", self.fn_token.span);
+        self.ident.show(out);
+        self.generics.show(out);
+        out.token("(", self.paren_token.opening);
+        out.list(&self.inputs);
+        if let Some(variadic) = &self.variadic {
+            variadic.show(out);
+        }
+        out.token(")", self.paren_token.closing);
+        self.output.show(out);
+    }
+}
 
 impl Outlined for Safety {
     fn show(&self, out: &mut TreeText) {
@@ -33,41 +59,10 @@ impl Outlined for UnsafeOnly {
     }
 }
 
-/// Its text is shown by what it prints.
+/// An ABI is shown by what it prints.
 impl Outlined for Abi {
     fn show(&self, out: &mut TreeText) {
-        out.token("extern", self.extern_token.span);
-        show_name(&self.name, out);
-    }
-}
-
-/// Adds the literal that names an ABI, if there is one.
-fn show_name(name: &Option<Literal>, out: &mut TreeText) {
-    match name {
-        Some(literal) => out.printed("Lit", literal),
-        None => {}
-    }
-}
-
-impl Outlined for Signature {
-    fn show(&self, out: &mut TreeText) {
-        out.word("Signature");
-        show_word("const", &self.constness, out);
-        show_word("async", &self.asyncness, out);
-        self.safety.show(out);
-        if let Some(abi) = &self.abi {
-            abi.show(out);
-        }
-        out.token("fn", self.fn_token.span);
-        self.ident.show(out);
-        self.generics.show(out);
-        out.token("(", self.paren_token.opening);
-        out.list(&self.inputs);
-        if let Some(variadic) = &self.variadic {
-            variadic.show(out);
-        }
-        out.token(")", self.paren_token.closing);
-        self.output.show(out);
+        out.printed("Abi", self);
     }
 }
 
@@ -80,16 +75,7 @@ impl Outlined for FnArg {
     }
 }
 
-impl Outlined for PatType {
-    fn show(&self, out: &mut TreeText) {
-        node("Typed", &self.attrs, out);
-        self.pat.show(out);
-        out.mark(":", &self.colon_token);
-        self.ty.show(out);
-    }
-}
-
-/// Its own `mut` stands before what it is, behind which the parts of that stand.
+/// What stands around `self` is shown behind it.
 impl Outlined for Receiver {
     fn show(&self, out: &mut TreeText) {
         node("Receiver", &self.attrs, out);
@@ -106,23 +92,15 @@ impl Outlined for ReceiverKind {
             ReceiverKind::Reference(and_token, lifetime, mutability) => {
                 out.word("Reference");
                 out.mark("&", and_token);
-                show_some_lifetime(lifetime, out);
+                show_target(lifetime, out);
                 show_mut(mutability, out);
             }
             ReceiverKind::Typed(colon_token, ty) => {
                 out.word("Typed");
                 out.mark(":", colon_token);
-                ty.show(out);
+                show_type(ty, out);
             }
         }
-    }
-}
-
-/// Adds a lifetime, if there is one.
-fn show_some_lifetime(lifetime: &Option<Lifetime>, out: &mut TreeText) {
-    match lifetime {
-        Some(lifetime) => show_lifetime(lifetime, out),
-        None => {}
     }
 }
 
@@ -135,53 +113,5 @@ impl Outlined for Variadic {
         }
         out.mark("...", &self.dots);
         show_mark(",", &self.comma, out);
-    }
-}
-
-impl Outlined for UseTree {
-    fn show(&self, out: &mut TreeText) {
-        show_use(self, DEPTH, out);
-    }
-}
-
-/// Adds what shows a tree of a use: what it is called, and what it holds.
-fn show_use(tree: &UseTree, depth: usize, out: &mut TreeText) {
-    if depth == 0 {
-        out.word("..");
-        return;
-    }
-    match tree {
-        UseTree::Path(path) => {
-            out.word("Path");
-            path.ident.show(out);
-            out.mark("::", &path.colon2_token);
-            show_use(&path.tree, depth - 1, out);
-        }
-        UseTree::Name(name) => {
-            out.word("Name");
-            name.ident.show(out);
-        }
-        UseTree::Rename(rename) => {
-            out.word("Rename");
-            rename.ident.show(out);
-            out.token("as", rename.as_token.span);
-            rename.rename.show(out);
-        }
-        UseTree::Glob(glob) => {
-            out.word("Glob");
-            out.mark("*", &glob.star_token);
-        }
-        UseTree::Group(group) => {
-            out.word("Group");
-            out.token("{", group.brace_token.opening);
-            for (tree, comma) in group.items.pairs() {
-                show_use(tree, depth - 1, out);
-                out.mark(",", comma);
-            }
-            if let Some(tree) = group.items.trailing_value() {
-                show_use(tree, depth - 1, out);
-            }
-            out.token("}", group.brace_token.closing);
-        }
     }
 }
