@@ -188,19 +188,10 @@ fn refused_texts(rt: HostRuntime) {
     assert_refusals::<ItemFn>(&rt, alloc, refusals::ITEM_FN);
     assert_refusals::<Item>(&rt, alloc, refusals::ITEM);
     assert_refusals::<ItemUse>(&rt, alloc, refusals::ITEM_USE);
+    assert_refusals::<ItemImpl>(&rt, alloc, refusals::ITEM_IMPL);
     assert_refusals::<ImplItem>(&rt, alloc, refusals::IMPL_ITEM);
     assert_refusals::<TraitItem>(&rt, alloc, refusals::TRAIT_ITEM);
     assert_refusals::<ItemConst>(&rt, alloc, refusals::ITEM_CONST);
     assert_refusals::<File>(&rt, alloc, refusals::FILE);
     assert_refusals::<Stmt>(&rt, alloc, refusals::STMT);
-}
-
-/// A negative impl of no trait, and one of what is no trait's path, wherever they are refused.
-#[test]
-fn refused_impls(rt: HostRuntime) {
-    let alloc = rt.alloc();
-    assert!(rt; refused::<Item>(alloc, "impl !A {}").is_ok());
-    for text in ["impl !A {}", "impl &A for B {}", "const impl &A for B {}"] {
-        assert!(rt; refused::<ItemImpl>(alloc, text).is_ok(), "of {text:?}");
-    }
 }

@@ -99,9 +99,9 @@ pub const READ: &[(&str, &str)] = &[
 
 /// What is refused, with the byte where.
 pub const REFUSED: &[(&str, usize)] = &[
-    ("impl !A {}", 8),
+    ("impl !A {}", 5),
     ("impl ![A] for B {}", 6),
-    ("impl [A] for B {}", 9),
+    ("impl [A] for B {}", 5),
     ("impl dyn A {}", 5),
     ("impl (in a) trait B {}", 6),
     ("impl <> {}", 8),
@@ -127,7 +127,7 @@ pub const REFUSED: &[(&str, usize)] = &[
     ("impl Ax", 7),
     ("impl {}", 5),
     ("impl A!{} ", 6),
-    ("impl !AAq {}", 10),
+    ("impl !AAq {}", 5),
     ("impl <= A {}", 6),
     ("impl A { ; }", 9),
     ("impl A {} {}", 10),
@@ -141,10 +141,10 @@ pub const REFUSED: &[(&str, usize)] = &[
     ("impl<T1;> _B {}", 7),
     ("impl<T::A> B {}", 11),
     ("impl ! for Bx {}", 7),
-    ("impl &A for B {}", 8),
+    ("impl &A for B {}", 5),
     ("impl<T:::A> B {}", 8),
     ("impl ! for BBq {}", 7),
-    ("impl () for _B {}", 8),
+    ("impl () for _B {}", 5),
     ("impl<self> BBq {}", 11),
-    ("impl\n(A1) for\n_B {}", 10),
+    ("impl\n(A1) for\n_B {}", 5),
 ];

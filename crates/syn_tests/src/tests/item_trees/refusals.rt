@@ -25,11 +25,18 @@ pub const ITEM: &[Refusal] = &[
     ("", "0: expected identifier"),
     ("struct S {", "9: unbalanced group"),
     ("struct", "6: expected identifier"),
+    ("impl !A {}", "5: inherent impls cannot be negative"),
 ];
 
 pub const ITEM_USE: &[Refusal] = &[
     ("use {::a, b};", "12: unexpected token"),
     ("use a as 1;", "9: expected identifier or underscore"),
+];
+
+pub const ITEM_IMPL: &[Refusal] = &[
+    ("impl !A {}", "5: inherent impls cannot be negative"),
+    ("impl &A for B {}", "5: expected trait path"),
+    ("const impl &A for B {}", "11: expected trait path"),
 ];
 
 pub const IMPL_ITEM: &[Refusal] = &[("type X<T> where T: 'static = T;", "27: expected `;`")];
