@@ -7,13 +7,13 @@ use syn::data::Field;
 use syn::deferred::{
     DeferredBlock, DeferredConstant, DeferredExpr, DeferredItem, read_deferred_rest,
 };
+use syn::item::{Item, Receiver, Safety, Signature};
 use syn::lower::{Attribute, Path, Type};
 use syn::parse::{Parse, ParseBuffer};
 use syn::stmt::{Block, Stmt};
 use syn::token::{Span, TokenStream};
 use syn::{Error, Expr, Pat, Result, ToTokens, TryClone};
-use syn_item::item::Item;
-use syn_item::sig::{Receiver, Safety, Signature, foreign_signature};
+use syn_item::sig::foreign_signature;
 use syn_pat::parsing::typed_pattern;
 use syn_test_support::outline::Outlined;
 use syn_tokens::syntactic::compare::Compared;

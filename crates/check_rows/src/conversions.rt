@@ -7,20 +7,12 @@ use crate::question::{Heading, TreeQuestion};
 use crate::row::Row;
 use std::alloc::Global;
 use syn::derive::DeriveInput;
-use syn::item::{ItemEnum, ItemStruct, ItemUnion};
-use syn_item::foreign::{
-    ForeignItem, ForeignItemFn, ForeignItemMacro, ForeignItemStatic, ForeignItemType,
-    ItemForeignMod,
-};
-use syn_item::function::ItemFn;
-use syn_item::impls::{ImplItem, ImplItemConst, ImplItemFn, ImplItemMacro, ImplItemType, ItemImpl};
-use syn_item::item::Item;
-use syn_item::sig::{FnArg, Receiver};
-use syn_item::simple::{
-    ItemConst, ItemExternCrate, ItemMacro, ItemMod, ItemStatic, ItemTraitAlias, ItemType, ItemUse,
-};
-use syn_item::traits::{
-    ItemTrait, TraitItem, TraitItemConst, TraitItemFn, TraitItemMacro, TraitItemType,
+use syn::item::{
+    FnArg, ForeignItem, ForeignItemFn, ForeignItemMacro, ForeignItemStatic, ForeignItemType,
+    ImplItem, ImplItemConst, ImplItemFn, ImplItemMacro, ImplItemType, Item, ItemConst, ItemEnum,
+    ItemExternCrate, ItemFn, ItemForeignMod, ItemImpl, ItemMacro, ItemMod, ItemStatic, ItemStruct,
+    ItemTrait, ItemTraitAlias, ItemType, ItemUnion, ItemUse, Receiver, TraitItem, TraitItemConst,
+    TraitItemFn, TraitItemMacro, TraitItemType,
 };
 
 /// Items; else what `of_more_items_made` says.

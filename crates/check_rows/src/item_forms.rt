@@ -6,24 +6,18 @@ use crate::question::{FormQuestion, Heading};
 use crate::row::Row;
 use std::alloc::Global;
 use syn::canon::{SafeOrUnsafe, UnsafeOnly};
-use syn::lower::{LifetimeParam, Path, ReturnType, Type, TypeParamBound, TypePath, WherePredicate};
+use syn::file::File;
+use syn::item::{
+    FnArg, ForeignItem, ForeignItemFn, ForeignItemMacro, ForeignItemStatic, ForeignItemType,
+    ImplItem, ImplItemConst, ImplItemFn, ImplItemMacro, ImplItemType, Item, ItemConst,
+    ItemExternCrate, ItemFn, ItemForeignMod, ItemImpl, ItemMacro, ItemMod, ItemStatic, ItemTrait,
+    ItemTraitAlias, ItemType, ItemUse, Receiver, Signature, TraitItem, TraitItemConst, TraitItemFn,
+    TraitItemMacro, TraitItemType, UseTree,
+};
+use syn::lower::{
+    Abi, LifetimeParam, Path, ReturnType, Type, TypeParamBound, TypePath, WherePredicate,
+};
 use syn::{Macro, Pat};
-use syn_item::file::File;
-use syn_item::foreign::{
-    ForeignItem, ForeignItemFn, ForeignItemMacro, ForeignItemStatic, ForeignItemType,
-    ItemForeignMod,
-};
-use syn_item::function::ItemFn;
-use syn_item::impls::{ImplItem, ImplItemConst, ImplItemFn, ImplItemMacro, ImplItemType, ItemImpl};
-use syn_item::item::Item;
-use syn_item::sig::{Abi, FnArg, Receiver, Signature};
-use syn_item::simple::{
-    ItemConst, ItemExternCrate, ItemMacro, ItemMod, ItemStatic, ItemTraitAlias, ItemType, ItemUse,
-};
-use syn_item::traits::{
-    ItemTrait, TraitItem, TraitItemConst, TraitItemFn, TraitItemMacro, TraitItemType,
-};
-use syn_item::use_tree::UseTree;
 
 /// Items and files; else what `member_form_as` says.
 pub(crate) fn item_form_as(

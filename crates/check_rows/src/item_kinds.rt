@@ -11,23 +11,15 @@ use crate::question::{Heading, TreeQuestion};
 use crate::row::Row;
 use std::alloc::Global;
 use syn::deferred::{DeferredBlock, DeferredItem};
-use syn_item::file::File;
-use syn_item::foreign::{
-    ForeignItem, ForeignItemFn, ForeignItemMacro, ForeignItemStatic, ForeignItemType,
-    ItemForeignMod,
+use syn::file::File;
+use syn::item::{
+    FnArg, ForeignItem, ForeignItemFn, ForeignItemMacro, ForeignItemStatic, ForeignItemType,
+    ImplItem, ImplItemConst, ImplItemFn, ImplItemMacro, ImplItemType, Item, ItemConst,
+    ItemExternCrate, ItemFn, ItemForeignMod, ItemImpl, ItemMacro, ItemMod, ItemStatic, ItemTrait,
+    ItemTraitAlias, ItemType, ItemUse, Receiver, Signature, StaticMutability, TraitItem,
+    TraitItemConst, TraitItemFn, TraitItemMacro, TraitItemType, UseTree,
 };
-use syn_item::function::ItemFn;
-use syn_item::impls::{ImplItem, ImplItemConst, ImplItemFn, ImplItemMacro, ImplItemType, ItemImpl};
-use syn_item::item::Item;
-use syn_item::sig::{Abi, FnArg, Receiver, Signature};
-use syn_item::simple::{
-    ItemConst, ItemExternCrate, ItemMacro, ItemMod, ItemStatic, ItemTraitAlias, ItemType, ItemUse,
-    StaticMutability,
-};
-use syn_item::traits::{
-    ItemTrait, TraitItem, TraitItemConst, TraitItemFn, TraitItemMacro, TraitItemType,
-};
-use syn_item::use_tree::UseTree;
+use syn::lower::Abi;
 
 /// Items and files; else what `of_members` says.
 pub(crate) fn of_whole_items(

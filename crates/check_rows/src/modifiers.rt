@@ -5,12 +5,9 @@ use crate::failure::Failure;
 use crate::question::Heading;
 use std::alloc::{AllocError, Global};
 use std::fmt::Write as _;
+use syn::item::{ItemConst, ItemFn, ItemImpl, ItemTrait, ItemType};
 use syn::parse::Parse;
 use syn::{Error, Result};
-use syn_item::function::ItemFn;
-use syn_item::impls::ItemImpl;
-use syn_item::simple::{ItemConst, ItemType};
-use syn_item::traits::ItemTrait;
 use syn_test_support::parsed;
 
 /// The faults of the modifiers of the tree that the text is as the kind of this word, which stands in the heading.

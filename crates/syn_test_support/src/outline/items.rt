@@ -5,16 +5,12 @@ use super::parts::{
     node, show_bounds, show_mark, show_modifier, show_rename, show_semi, show_type, show_word,
 };
 use crate::outline::{Outlined, TreeText};
-use syn_item::file::File;
-use syn_item::foreign::ItemForeignMod;
-use syn_item::function::ItemFn;
-use syn_item::impls::ItemImpl;
-use syn_item::item::{Item, Items};
-use syn_item::simple::{
-    ItemConst, ItemExternCrate, ItemMacro, ItemMod, ItemStatic, ItemTraitAlias, ItemType, ItemUse,
-    StaticMutability, WhereClausePlacement,
+use syn::file::File;
+use syn::item::{
+    Item, ItemConst, ItemExternCrate, ItemFn, ItemForeignMod, ItemImpl, ItemMacro, ItemMod,
+    ItemStatic, ItemTrait, ItemTraitAlias, ItemType, ItemUse, Items, StaticMutability,
+    WhereClausePlacement,
 };
-use syn_item::traits::ItemTrait;
 
 impl Outlined for File {
     fn show(&self, out: &mut TreeText) {

@@ -2,11 +2,11 @@
 
 use super::parts::{node, show_bounds, show_mark, show_modifier, show_semi, show_type};
 use crate::outline::{Outlined, TreeText};
-use syn_item::foreign::{
-    ForeignItem, ForeignItemFn, ForeignItemMacro, ForeignItemStatic, ForeignItemType,
+use syn::item::{
+    ForeignItem, ForeignItemFn, ForeignItemMacro, ForeignItemStatic, ForeignItemType, ImplItem,
+    ImplItemConst, ImplItemFn, ImplItemMacro, ImplItemType, TraitItem, TraitItemConst, TraitItemFn,
+    TraitItemMacro, TraitItemType,
 };
-use syn_item::impls::{ImplItem, ImplItemConst, ImplItemFn, ImplItemMacro, ImplItemType};
-use syn_item::traits::{TraitItem, TraitItemConst, TraitItemFn, TraitItemMacro, TraitItemType};
 
 impl Outlined for TraitItem {
     fn show(&self, out: &mut TreeText) {

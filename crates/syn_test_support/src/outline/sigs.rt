@@ -4,7 +4,8 @@ use super::parts::{node, show_mark, show_mut, show_target, show_type, show_word}
 use crate::outline::{Outlined, TreeText};
 use syn::canon::{SafeOrUnsafe, UnsafeOnly};
 use syn::deferred::DeferredBlock;
-use syn_item::sig::{Abi, FnArg, Receiver, ReceiverKind, Safety, Signature, Variadic};
+use syn::item::{FnArg, Receiver, ReceiverKind, Safety, Signature, Variadic};
+use syn::lower::Abi;
 
 /// The statements are shown as the tokens that they are kept as.
 impl Outlined for DeferredBlock {

@@ -1,9 +1,9 @@
 //! Trees of uses.
 
 use crate::outline::{Outlined, TreeText};
+use syn::item::UseTree;
 use syn::punctuated::Punctuated;
 use syn::token::Comma;
-use syn_item::use_tree::UseTree;
 
 /// So deep trees are shown.
 const DEPTH: usize = 30;

@@ -4,11 +4,9 @@ use std::alloc::Global;
 use std::process::Abort;
 use syn::canon::Stmts;
 use syn::deferred::{DeferredBlock, DeferredItem, DeferredItems, DeferredStatements};
+use syn::item::{Item, ItemFn, ItemMod, Items};
 use syn::stmt::{Block, Stmt};
 use syn::{Result, ToTokens};
-use syn_item::function::ItemFn;
-use syn_item::item::{Item, Items};
-use syn_item::simple::ItemMod;
 use syn_test_support::{fault, print_shown};
 
 const MODULE: &str =
