@@ -78,14 +78,23 @@ SMALLER_LISTS = "proofs::Smaller::lists"
 SMALLER = {"TypePath": ["crate::proofs::Smaller::qself_smaller", "crate::proofs::Smaller::path_smaller"]}
 
 # what the proofs of a type want whose view is its fields in a form of its own: of its print, its copy and its comparison (by its crate
-# too, where several have a type of this name)
+# too, where several have a type of this name); `whole` is of a comparison, and says of its attributes too
 FORMS = "crate::proofs::Forms"
+MEMBERS = "crate::proofs::SameMembers"
+PARTS = "crate::proofs::SameParts"
+UNPRINTED = "crate::proofs::Unprinted"
 PATTERNS = "crate::proofs::Patterns"
 BODY = {"smaller": ["crate::specs::Falls::inner_size"]}
 LEMMAS = {
     **dict.fromkeys(("ExprBlock", "ExprForLoop", "ExprLoop", "ExprUnsafe", "ExprWhile"), BODY),
-    **dict.fromkeys(("ForeignItem", "ImplItem", "TraitItem"), {"print": ["crate::proofs::Macros::print_among_members"]}),
-    **dict.fromkeys(("ForeignItemMacro", "ImplItemMacro", "TraitItemMacro"), {"print": ["crate::proofs::Macros::print_ended_macro"]}),
+    **dict.fromkeys(
+        ("ForeignItem", "ImplItem", "TraitItem"),
+        {"print": ["crate::proofs::Macros::print_among_members"], "compare": [f"{MEMBERS}::same_among_members"]},
+    ),
+    **dict.fromkeys(
+        ("ForeignItemMacro", "ImplItemMacro", "TraitItemMacro"),
+        {"print": ["crate::proofs::Macros::print_ended_macro"], "whole": ["crate::proofs::SameMacros::same_member_macro"]},
+    ),
     "ExprArray": {"print": ["crate::proofs::Lists::print_array"], "compare": ["crate::proofs::Lists::same_array"], "smaller": ["crate::proofs::Lists::in_array"]},
     "ExprBreak": {"compare": ["syn_grammar::proofs::Same::and_true"]},
     "ExprField": {"print": [f"{FORMS}::print_member"], "compare": [f"{FORMS}::same_member"]},
@@ -97,21 +106,37 @@ LEMMAS = {
         "smaller": [f"{FORMS}::arguments_smaller"],
     },
     "ExprParen": {"compare": ["syn_grammar::proofs::Same::and_true"]},
-    "FnArg": {"print": ["crate::proofs::Arguments::print_receiver_argument", "crate::proofs::Arguments::print_typed_argument"]},
-    "ItemUse": {"print": ["crate::proofs::Uses::print_used"]},
+    "FnArg": {
+        "print": ["crate::proofs::Arguments::print_receiver_argument", "crate::proofs::Arguments::print_typed_argument"],
+        "compare": ["crate::proofs::SameSignatures::same_argument"],
+    },
+    **dict.fromkeys(("ForeignItemFn", "ForeignItemType"), {"whole": [f"{PARTS}::same_modified"]}),
+    "ImplItemConst": {"print": [f"{UNPRINTED}::print_generics_aside"], "whole": [f"{MEMBERS}::same_impl_constant"]},
+    "ItemConst": {"print": [f"{UNPRINTED}::print_generics_aside"], "whole": [f"{PARTS}::same_constant"]},
+    "ItemFn": {"whole": [f"{PARTS}::same_function"]},
+    "ItemMacro": {"whole": ["crate::proofs::SameMacros::same_item_macro"]},
+    "ItemUse": {"print": ["crate::proofs::Uses::print_used"], "whole": [f"{PARTS}::same_use"]},
     "Local": {"print": ["syn_pat::proofs::Patterns::print_local"]},
     "PatIdent": {"print": [f"{PATTERNS}::print_bound"], "compare": [f"{PATTERNS}::same_bound"]},
     "PatParen": {"compare": ["syn_grammar::proofs::Same::and_true"]},
     "PatType": {"print": [f"{PATTERNS}::print_behind"], "compare": [f"{PATTERNS}::same_typed"], "smaller": [f"{PATTERNS}::behind_smaller"]},
     "PatWild": {"print": [f"{PATTERNS}::print_behind"], "compare": [f"{PATTERNS}::same_wild"]},
-    "TraitItemType": {"print": ["syn_lower::proofs::GenericPrints::print_bounds"], "compare": ["syn_lower::proofs::GenericsCompared::same_bounds"]},
-    "syn_item::Item": {"print": ["crate::proofs::Macros::print_among_items"]},
+    "Receiver": {"whole": ["crate::proofs::SameSignatures::same_receiver"]},
+    "Signature": {"compare": ["crate::proofs::SameSignatures::same_parameters"]},
+    "TraitItemConst": {"print": [f"{UNPRINTED}::print_generics_aside"], "whole": [f"{MEMBERS}::same_trait_constant"]},
+    "TraitItemFn": {"whole": [f"{MEMBERS}::same_trait_function"]},
+    "TraitItemType": {"print": ["syn_lower::proofs::GenericPrints::print_bounds"], "whole": [f"{MEMBERS}::same_trait_type"]},
+    "syn_item::Item": {"print": ["crate::proofs::Macros::print_among_items"], "compare": [f"{MEMBERS}::same_among_items"]},
 }
+
+
+def lemmas_of(t):
+    return LEMMAS.get(f"{t.crate}::{t.name}", LEMMAS.get(t.name, {})) if t.crate != LOWEST else {}
 
 
 def lemmas(source, t, verb, body):
     """What the proof of such a body is handed."""
-    of = LEMMAS.get(f"{t.crate}::{t.name}", LEMMAS.get(t.name, {})) if t.crate != LOWEST else {}
+    of = lemmas_of(t)
     found = of.get(verb, []) + (of.get("smaller", []) if t.is_nested else [])
     if verb != "print" and t.is_nested and t.crate == LOWEST:
         found = SMALLER.get(t.name, []) + found
@@ -431,6 +456,8 @@ def compare_body(source, t, uses):
 
 def compared_lemmas(source, t, body):
     """What the proof of such a comparison is handed."""
+    if "whole" in lemmas_of(t):
+        return lemmas_of(t)["whole"]
     attributes = [f"{source.root()}::proofs::Attributes::same_attributes"] if t.has_attributes() else []
     if has_body(t):
         between = [kind for field, kind in t.fields if not BODY_TYPES.fullmatch(kind) and kind != ATTRIBUTES and is_compared(source, t, kind)]

@@ -128,22 +128,28 @@ later_step a m = go (sees at_receiver m)
     go true = refl
     go false = other_is a m
 
+first_turn : (b : Bool) (x y : Out) → b ≡ true → branch b x y ≡ wrap Left x
+first_turn b x y e = ap (λ c. branch c x y) e
+
+second_turn : (b : Bool) (x y : Out) → b ≡ false → branch b x y ≡ wrap Right y
+second_turn b x y e = ap (λ c. branch c x y) e
+
 step : (first : Bool) (ts : Stream) → sees ended ts ≡ false → inputs_by first ts ≡ after (read_parameter first ts) parameters_behind
 unfolding read_parameter
-step true ts h = inputs_is ts ∙ ap (λ b. wrap Node (wrap (shape parameters) (branch b (Some (Nothing, ts)) (and_then (parse_rule attributes ts) _)))) h ∙ go (parse_rule attributes ts)
+step true ts h = inputs_is ts ∙ ap (λ o. wrap Node (wrap (shape parameters) o)) (second_turn _ _ _ h) ∙ go (parse_rule attributes ts)
   where
     go : (o : Out) → wrap Node (wrap (shape parameters) (wrap Right (and_then o (λ m. branch (sees at_receiver m) (and_then (parse_rule receiver_rest m) (parse_form others)) (parse_rule input_rest m))))) ≡ after (after o (next_parameter true)) parameters_behind
     go None = refl
     go (Some p) = first_step p.0 p.1
-step false ts h = later_inputs_is ts ∙ ap (λ b. wrap Node (wrap (shape parameters) (branch b (Some (Nothing, ts)) (and_then (parse_rule attributes ts) _)))) h ∙ go (parse_rule attributes ts)
+step false ts h = later_inputs_is ts ∙ ap (λ o. wrap Node (wrap (shape parameters) o)) (second_turn _ _ _ h) ∙ go (parse_rule attributes ts)
   where
     go : (o : Out) → wrap Node (wrap (shape parameters) (wrap Right (and_then o (λ m. branch (sees at_receiver m) None (parse_rule input_rest m))))) ≡ after (after o (next_parameter false)) parameters_behind
     go None = refl
     go (Some p) = later_step p.0 p.1
 
 at_end : (first : Bool) (ts : Stream) → sees ended ts ≡ true → inputs_by first ts ≡ Some (Node (Shaped parameters (Both no_members (Right Nothing))), ts)
-at_end true ts h = inputs_is ts ∙ ap (λ b. wrap Node (wrap (shape parameters) (branch b (Some (Nothing, ts)) _))) h
-at_end false ts h = later_inputs_is ts ∙ ap (λ b. wrap Node (wrap (shape parameters) (branch b (Some (Nothing, ts)) _))) h
+at_end true ts h = inputs_is ts ∙ ap (λ o. wrap Node (wrap (shape parameters) o)) (first_turn _ _ _ h)
+at_end false ts h = later_inputs_is ts ∙ ap (λ o. wrap Node (wrap (shape parameters) o)) (first_turn _ _ _ h)
 
 -- IN A LIST, as far as it was read
 
@@ -169,34 +175,34 @@ comma_stands (x ∷ l) = ap (λ s. Node (Right (Both (syntax_of_FnArg x.0) (Left
 
 module _ (l : Pairs) (ts : Stream) (goes_on : sees ended ts ≡ false) where
   -- one more, and a comma behind it
-  pub one_more : (x : FnArg-m.the_data) (c : Comma) (m r : Stream) → read_parameter (is_first l None) ts ≡ Some (Left (syntax_of_FnArg x), m) → sees at_comma m ≡ true → take_mark comma m ≡ Some (comma_syntax c, r) →
-      wrap (before_parameters l) (inputs_by (is_first l None) ts) ≡ wrap (before_parameters (l ++ (x, c) ∷ [])) (inputs_by false r)
+  pub one_more : (x : FnArg-m.the_data) (c : Comma) (m r : Stream) → read_parameter (is_first {B = FnArg-m.the_data} l None) ts ≡ Some (Left (syntax_of_FnArg x), m) → sees at_comma m ≡ true → take_mark comma m ≡ Some (comma_syntax c, r) →
+      wrap (before_parameters l) (inputs_by (is_first {B = FnArg-m.the_data} l None) ts) ≡ wrap (before_parameters (l ++ (x, c) ∷ [])) (inputs_by false r)
   one_more x c m r e h k =
-      ap (wrap (before_parameters l)) (step (is_first l None) ts goes_on ∙ ap (λ o. after o parameters_behind) e ∙ ap (λ b. pick b (after (take_mark comma m) _) _) h ∙ ap (λ o. after o (λ sign n. wrap (λ t. Node (more_members parameters (syntax_of_FnArg x) sign t)) (parse_rule later_inputs n))) k)
+      ap (wrap (before_parameters l)) (step (is_first {B = FnArg-m.the_data} l None) ts goes_on ∙ ap (λ o. after o parameters_behind) e ∙ ap (λ b. pick b (after (take_mark comma m) _) _) h ∙ ap (λ o. after o (λ sign n. wrap (λ t. Node (more_members parameters (syntax_of_FnArg x) sign t)) (parse_rule later_inputs n))) k)
       ∙ wrap_wrap (before_parameters l) (λ t. Node (more_members parameters (syntax_of_FnArg x) (comma_syntax c) t)) (parse_rule later_inputs r)
       ∙ wrap_same _ _ (λ s. sym (front_grows l x c s)) (parse_rule later_inputs r)
 
   -- the last one, without a comma
-  pub last_one : (x : FnArg-m.the_data) (m : Stream) → read_parameter (is_first l None) ts ≡ Some (Left (syntax_of_FnArg x), m) → sees at_comma m ≡ false →
-      wrap (before_parameters l) (inputs_by (is_first l None) ts) ≡ Some (parameters_of (listed l (Some x)) (Right Nothing), m)
+  pub last_one : (x : FnArg-m.the_data) (m : Stream) → read_parameter (is_first {B = FnArg-m.the_data} l None) ts ≡ Some (Left (syntax_of_FnArg x), m) → sees at_comma m ≡ false →
+      wrap (before_parameters l) (inputs_by (is_first {B = FnArg-m.the_data} l None) ts) ≡ Some (parameters_of (listed l (Some x)) (Right Nothing), m)
   last_one x m e h =
-      ap (wrap (before_parameters l)) (step (is_first l None) ts goes_on ∙ ap (λ o. after o parameters_behind) e ∙ ap (λ b. pick b (after (take_mark comma m) _) _) h)
+      ap (wrap (before_parameters l)) (step (is_first {B = FnArg-m.the_data} l None) ts goes_on ∙ ap (λ o. after o parameters_behind) e ∙ ap (λ b. pick b (after (take_mark comma m) _) _) h)
       ∙ ap (λ s. Some (s, m)) (all_before l (Some x) (Right Nothing))
 
   -- a variadic one
-  pub variadic_one : (v : Syntax) (m : Stream) → read_parameter (is_first l None) ts ≡ Some (Right v, m) →
-      wrap (before_parameters l) (inputs_by (is_first l None) ts) ≡ Some (parameters_of (listed l None) (Left v), m)
+  pub variadic_one : (v : Syntax) (m : Stream) → read_parameter (is_first {B = FnArg-m.the_data} l None) ts ≡ Some (Right v, m) →
+      wrap (before_parameters l) (inputs_by (is_first {B = FnArg-m.the_data} l None) ts) ≡ Some (parameters_of (listed l None) (Left v), m)
   variadic_one v m e =
-      ap (wrap (before_parameters l)) (step (is_first l None) ts goes_on ∙ ap (λ o. after o parameters_behind) e)
+      ap (wrap (before_parameters l)) (step (is_first {B = FnArg-m.the_data} l None) ts goes_on ∙ ap (λ o. after o parameters_behind) e)
       ∙ ap (λ s. Some (s, m)) (all_before l None (Left v) ∙ ap (λ s. Node (Shaped parameters (Both s (Left v)))) (sym (comma_stands l)))
 
   -- none
-  pub none_more : read_parameter (is_first l None) ts ≡ None → wrap (before_parameters l) (inputs_by (is_first l None) ts) ≡ None
-  none_more e = ap (wrap (before_parameters l)) (step (is_first l None) ts goes_on ∙ ap (λ o. after o parameters_behind) e)
+  pub none_more : read_parameter (is_first {B = FnArg-m.the_data} l None) ts ≡ None → wrap (before_parameters l) (inputs_by (is_first {B = FnArg-m.the_data} l None) ts) ≡ None
+  none_more e = ap (wrap (before_parameters l)) (step (is_first {B = FnArg-m.the_data} l None) ts goes_on ∙ ap (λ o. after o parameters_behind) e)
 
 -- the end
-pub all_read : (l : Pairs) (ts : Stream) → sees ended ts ≡ true → wrap (before_parameters l) (inputs_by (is_first l None) ts) ≡ Some (parameters_of (listed l None) (Right Nothing), ts)
-all_read l ts h = ap (wrap (before_parameters l)) (at_end (is_first l None) ts h) ∙ ap (λ s. Some (s, ts)) (all_before l None (Right Nothing))
+pub all_read : (l : Pairs) (ts : Stream) → sees ended ts ≡ true → wrap (before_parameters l) (inputs_by (is_first {B = FnArg-m.the_data} l None) ts) ≡ Some (parameters_of (listed l None) (Right Nothing), ts)
+all_read l ts h = ap (wrap (before_parameters l)) (at_end (is_first {B = FnArg-m.the_data} l None) ts h) ∙ ap (λ s. Some (s, ts)) (all_before l None (Right Nothing))
 
 -- behind a comma none is the first
 pub later : (l : Pairs) (x : FnArg-m.the_data) (c : Comma) → is_first {B = FnArg-m.the_data} (l ++ (x, c) ∷ []) None ≡ false

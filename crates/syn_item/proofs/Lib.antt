@@ -10,7 +10,12 @@ pub mod MemberLists
 pub mod Members
 pub mod Parameters
 pub mod Receivers
+pub mod SameMacros
+pub mod SameMembers
+pub mod SameParts
+pub mod SameSignatures
 pub mod Standing
 pub mod Strings
 pub mod Supplied
+pub mod Unprinted
 pub mod Uses

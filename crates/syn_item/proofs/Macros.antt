@@ -23,7 +23,8 @@ pub print_ended_group : (o : Option Semi) (s : Syntax) → print (ended_group (m
 print_ended_group o (Left s) = print_ended_group o s
 print_ended_group o (Right s) = print_ended_group o s
 print_ended_group (Some semi) s = refl
-print_ended_group None s = sym (append_end (print s))
+print_ended_group None (Raw d o c i) = sym (append_end (print (Raw d o c i)))
+print_ended_group None s = refl
 
 -- a macro and the `;` behind it
 pub print_ended_macro : (o : Option Semi) (s : Syntax) → print (ended_macro (maybe semi_syntax o) s) ≡ print s ⧺ print (maybe semi_syntax o)

@@ -1,22 +1,25 @@
 -- Receivers, and parameters alone.
-use Rattle.std.proofs.Common.{◌≡◌, Bool, true, false, List, [], ◌∷◌, Some, None, refl, ap, ◌∙◌}
-use Rattle.std.specs.Prelude.{Option}
+use Rattle.std.proofs.Common.{◌≡◌, Bool, true, false, List, [], ◌∷◌, ◌++◌, Some, None, refl, ap, ◌∙◌}
+use Rattle.std.specs.Prelude.{Option, slice_get}
 use Rattle.syn_grammar.specs.Words.{w_self}
-use Rattle.syn_grammar.specs.Tokens.{Stream, Before_less, pick}
+use Rattle.syn_grammar.specs.Tokens.{Delimiter, Span, Stream, Before_less, pick}
 use Rattle.syn_grammar.specs.Rules.{argument, attributes, no_attributes, pattern, receiver, receiver_rest, type}
-use Rattle.syn_grammar.specs.Grammar.{Syntax, Nothing, Both, Left, Right, Node, Unshown, Grammar, ◌&◌, when◌then◌else◌, empty, rule, supplied, word}
+use Rattle.syn_grammar.specs.Grammar.{Syntax, Nothing, Both, Left, Right, Node, Group, Unshown, Grammar, ◌&◌, when◌then◌else◌, empty, rule, supplied, word}
 use Rattle.syn_grammar.specs.Forms.{never, plainly}
 use Rattle.syn_grammar.specs.Table.{at_colons, at_pound, at_receiver}
 use Rattle.syn_grammar.specs.Take.{Out, sees, take_token}
 use Rattle.syn_grammar.specs.Run.{and_then, branch, parse_form, parse_rule, wrap}
 use Rattle.syn_grammar.proofs.Each.{argument_is, no_attributes_is, receiver_is}
 use Rattle.syn_tokens.specs.Kinds.{Comma, comma_syntax}
+use Rattle.syn_tokens.specs.Leaves.{maybe}
 use Rattle.syn_tokens.specs.Listing.{list_of}
+use Rattle.syn_tokens.specs.Lists.{Sequence, firsts, listed, values}
+use Rattle.syn_grammar.specs.Promises.{itself}
 use Rattle.syn_lower.specs.Attributes.{none_listed}
 use Rattle.syn_lower.specs.Parameters.{after}
 use Rattle.syn_pat.specs.Patterns.{behind_attributes}
 use Rattle.syn_item.specs.SignatureForms.{argument_behind, kind_form, named_pattern, own_self_form, typed_as, typed_parameter, with_attributes}
-use Rattle.syn_item.specs.Signatures.{comma_behind, first_receiver, receiver_argument, receiver_of, syntax_of_FnArg, typed_argument}
+use Rattle.syn_item.specs.Signatures.{comma_behind, first_receiver, parameters_of, receiver_argument, receiver_as, receiver_in, receiver_of, syntax_of_FnArg, typed_argument}
 use Rattle.syn_item.specs.declared.sig.FnArg.TheVariants as FnArg-m
 use Rattle.syn_item.proofs.Supplied.{supplied_is, with_name}
 
@@ -95,34 +98,42 @@ abbrev Pairs : Type 0
 Pairs = List (FnArg-m.the_data × Comma)
 
 receiver_told : (s : Syntax) → receiver_of (receiver_argument s) ≡ Some s
-receiver_told (Node (Both attrs receiver)) = refl
+receiver_told (Node (Both attrs r)) = refl
 receiver_told s = refl
 
 typed_told : (s : Syntax) → receiver_of (typed_argument s) ≡ None
 typed_told (Both pat (Left (Both colon ty))) = refl
+typed_told (Both (Node (Right (Unshown Nothing))) (Both pat (Left (Both colon ty)))) = refl
 typed_told (Both attrs (Both pat (Left (Both colon ty)))) = refl
 typed_told s = refl
 
 -- a comma behind the last one changes nothing of it
-pub comma_aside : (s : Syntax) → first_receiver (comma_behind s) ≡ first_receiver s
+comma_aside : (s : Syntax) → first_receiver (comma_behind s) ≡ first_receiver s
 comma_aside (Node (Right (Both x (Right Nothing)))) = refl
 comma_aside (Node (Right (Both x (Left (Both sign l))))) = refl
 comma_aside s = refl
 
--- the first of a list
-abbrev pub first_of_list : Pairs → Option FnArg-m.the_data → Option FnArg-m.the_data
-first_of_list (x ∷ l) last = Some x.0
-first_of_list [] last = last
+abbrev pub first_as : Option FnArg-m.the_data → Option Syntax
+first_as (Some x) = receiver_as x
+first_as None = None
 
-abbrev pub as_receiver : Option FnArg-m.the_data → Option Syntax
-as_receiver (Some (FnArg-m.Receiver s)) = Some s
-as_receiver _ = None
-
-of_argument : (x : FnArg-m.the_data) → receiver_of (syntax_of_FnArg x) ≡ as_receiver (Some x)
+of_argument : (x : FnArg-m.the_data) → receiver_of (syntax_of_FnArg x) ≡ receiver_as x
 of_argument (FnArg-m.Receiver s) = receiver_told s
 of_argument (FnArg-m.Typed s) = typed_told s
 
-pub receiver_listed : (l : Pairs) (last : Option FnArg-m.the_data) → first_receiver (list_of syntax_of_FnArg comma_syntax l last) ≡ as_receiver (first_of_list l last)
+abbrev inputs_syntax : Pairs → Option FnArg-m.the_data → Syntax
+inputs_syntax = list_of syntax_of_FnArg comma_syntax
+
+receiver_listed : (l : Pairs) (last : Option FnArg-m.the_data) → first_receiver (inputs_syntax l last) ≡ first_as (slice_get (firsts l ++ listed last) 0)
 receiver_listed (x ∷ l) last = of_argument x.0
 receiver_listed [] (Some x) = of_argument x
 receiver_listed [] None = refl
+
+-- in a signature, whatever stands around its parameters
+module _ (constness asyncness safety abi sign ident generics more : Syntax) (d : Delimiter) (o c : Span) where
+  abbrev around : Syntax → Syntax
+  around s = Node (Both constness (Both asyncness (Both safety (Both abi (Node (Both sign (Both ident (Both generics (Both (Group d o c s) more)))))))))
+
+  pub receiver_found : (l : Sequence FnArg-m.the_data Comma) (v : Option Syntax) → receiver_in (around (parameters_of (inputs_syntax l.pairs l.last) (maybe itself v))) ≡ first_as (slice_get (values l) 0)
+  receiver_found l (Some v) = comma_aside (inputs_syntax l.pairs l.last) ∙ receiver_listed l.pairs l.last
+  receiver_found l None = receiver_listed l.pairs l.last

@@ -12,6 +12,9 @@ use Rattle.syn_grammar.proofs.FirstSets.{nullable}
 use Rattle.syn_grammar.proofs.Said.{start_of}
 use Rattle.syn_grammar.proofs.Run.{parse_rule_is, parse_rule_less, runs_shrinks, Less}
 use Rattle.syn_grammar.proofs.Sets.{and_left}
+use Rattle.syn_parse.specs.Nexts.{StandsNext}
+use Rattle.syn_tokens.specs.Spans.{at}
+use Rattle.syn_tokens.specs.declared.span.Span.{Span as TokenSpan}
 use Rattle.syn_lower.specs.Parameters.{after}
 use Rattle.syn_lower.specs.Parts.{first, second}
 use Rattle.syn_recognize.proofs.PathLooks.{no_name}
@@ -29,6 +32,13 @@ name_stands end h = absurd (true≢false (sym h))
 name_stands (leaf x sp r) h = (sp, refl)
 name_stands (punct c j sp r) h = absurd (true≢false (sym (and_left (sees at_name (punct c j sp r)) _ h) ∙ no_name c j sp r))
 name_stands (group d o c i r) h = absurd (true≢false (sym h))
+
+pub name_spanned : (ts : Stream) (s : TokenSpan) → sees (at_unnamed Before_less) ts ≡ true → StandsNext ts s → leaf_span ts ≡ Some (at s)
+unfolding sees lookahead_at
+name_spanned end s h k = absurd (true≢false (sym h))
+name_spanned (leaf x sp r) s h k = ap (λ z. Some z) (sym k)
+name_spanned (punct c j sp r) s h k = absurd (true≢false (sym (and_left (sees at_name (punct c j sp r)) _ h) ∙ no_name c j sp r))
+name_spanned (group d o c i r) s h k = absurd (true≢false (sym h))
 
 -- a name before what stands behind it
 abbrev pub with_name : Syntax → Syntax → Syntax

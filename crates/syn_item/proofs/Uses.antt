@@ -1,9 +1,10 @@
 -- The tree of a use, printed and read.
 use Rattle.std.proofs.Common.{◌≡◌, Bool, true, false, refl, sym, ap, ap₂, ◌∙◌, subst}
 use Rattle.std.specs.Prelude.{Option, Some, None}
-use Rattle.syn_grammar.specs.Tokens.{Stream, Brace, ◌⧺◌, group, end, no}
+use Rattle.syn_grammar.specs.Tokens.{Stream, Brace, ◌⧺◌, at_mark, ended, group, end, no}
+use Rattle.syn_grammar.specs.Words.{comma}
 use Rattle.syn_grammar.specs.Rules.{root_mark, rooted_trees, use_tree, use_trees}
-use Rattle.syn_grammar.specs.Grammar.{Syntax, Nothing, Mark, Both, Left, Right, Node, Group, Such, Test, has_no, has_part, print}
+use Rattle.syn_grammar.specs.Grammar.{Syntax, Nothing, Mark, Both, Left, Right, Node, Group, Such, Test, has_no, has_part, mark, print, rule}
 use Rattle.syn_grammar.specs.Table.{table, at_brace, at_star}
 use Rattle.syn_grammar.specs.Take.{Opened, Out, is_end, only, sees, take_group}
 use Rattle.syn_grammar.specs.Run.{branch, close, parse_form, parse_rule, such_as, within, wrap}
@@ -11,11 +12,17 @@ use Rattle.syn_grammar.specs.UseGroups.{rooted}
 use Rattle.syn_grammar.proofs.Each.{rooted_trees_is, use_tree_is, use_trees_is}
 use Rattle.syn_grammar.proofs.PlanSteps.{seen_apart}
 use Rattle.syn_grammar.proofs.UseGroups.{use_groups}
+use Rattle.syn_parse.specs.Form.{by, of}
+use Rattle.syn_parse.specs.Listing.{IsList}
 use Rattle.syn_parse.proofs.Listing.{wrap_wrap}
 use Rattle.syn_tokens.specs.Kinds.{PathSep, path_sep_syntax}
 use Rattle.syn_tokens.specs.Leaves.{maybe}
 use Rattle.syn_item.specs.UseForms.{read_braced}
 use Rattle.syn_item.specs.Uses.{used}
+
+-- trees with commas between them
+pub use_trees_list : IsList use_trees (of (rule use_tree)) (by ended) (by (at_mark comma)) (of (mark false comma))
+use_trees_list = record { is = use_trees_is }
 
 -- trees in braces print alike, by whichever rule they are read
 print_rooted : (s : Syntax) → print (rooted s) ≡ print s
@@ -87,12 +94,16 @@ module _ (g : Opened) where
           by_mark true h = ap by_rooted f ∙ rooted_refused q.0 q.1 h ∙ ap by_trees (sym e)
           by_mark false h = absurd (some_none _ (sym ((use_groups g.content q.0 q.1).1 f h).0 ∙ e))
 
+first_turn : (b : Bool) (x y : Out) → b ≡ true → branch b x y ≡ wrap Left x
+first_turn b x y e = ap (λ c. branch c x y) e
+
+second_turn : (b : Bool) (x y : Out) → b ≡ false → branch b x y ≡ wrap Right y
+second_turn b x y e = ap (λ c. branch c x y) e
+
 -- a tree where braces stand next
 tree_in_braces : (ts : Stream) → sees at_brace ts ≡ true → parse_rule use_tree ts ≡ wrap Node (wrap Right (wrap Left (within Brace (take_group Brace ts) (parse_rule use_trees))))
 tree_in_braces ts h =
-    use_tree_is ts
-    ∙ ap (λ b. wrap Node (branch b _ (branch (sees at_brace ts) (within Brace (take_group Brace ts) (parse_rule use_trees)) _))) (seen_apart at_brace at_star ts refl h)
-    ∙ ap (λ b. wrap Node (wrap Right (branch b (within Brace (take_group Brace ts) (parse_rule use_trees)) _))) h
+    use_tree_is ts ∙ ap (wrap Node) (second_turn _ _ _ (seen_apart at_brace at_star ts refl h) ∙ ap (wrap Right) (first_turn _ _ _ h))
 
 -- an answer that is a group of a rule's answer
 abbrev IsGroup : Out → Type 0
@@ -126,3 +137,4 @@ braced_trees ts h = ap (wrap Left) (go (take_group Brace ts)) ∙ wrap_wrap Left
     told : (o : Out) → IsGroup o → wrap (λ s. Left (Such (rooted_group s))) o ≡ wrap as_used (wrap Node (wrap Right (wrap Left o)))
     told None h = refl
     told (Some (Group Brace o c (Node l), r)) h = refl
+    told (Some (s, r)) h = absurd h

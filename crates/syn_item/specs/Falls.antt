@@ -4,7 +4,7 @@ use Rattle.std.proofs.Common.{arith}
 use Rattle.syn_tokens.specs.Kinds.{comma_syntax}
 use Rattle.syn_lower.specs.Sizes.{tree_size, list_falls}
 use Rattle.syn_item.specs.Uses.{syntax_of_UseTree, view_UseGroup, view_UsePath}
-use Rattle.syn_item.specs.declared.use_tree.UsePath.TheDeep.{deep-UseTree, deep-UsePath, deep-UseGroup}
+use Rattle.syn_item.specs.declared.use_tree.UseGroup.TheDeep.{deep-UseTree, deep-UsePath, deep-UseGroup}
 use Rattle.syn_item.specs.declared.use_tree.UseGroup.TheInside as UseGroup-in
 use Rattle.syn_item.specs.declared.use_tree.UsePath.TheInside as UsePath-in
 use Rattle.syn_item.specs.declared.use_tree.UseTree.TheVariants as UseTree-m

@@ -3,7 +3,7 @@ use Rattle.std.specs.Prelude.{Some, None}
 use Rattle.syn_grammar.specs.Words.{semicolon}
 use Rattle.syn_grammar.specs.Take.{Parser, take_mark}
 use Rattle.syn_grammar.specs.Run.{wrap}
-use Rattle.syn_grammar.specs.Grammar.{Syntax, Both, Left, Right, Node}
+use Rattle.syn_grammar.specs.Grammar.{Syntax, Both, Left, Right, Node, Raw}
 use Rattle.syn_tokens.specs.Kinds.{semi_syntax}
 use Rattle.syn_tokens.specs.Leaves.{maybe, syntax_of_ident}
 use Rattle.syn_lower.specs.Attributes.{attributes_syntax}
@@ -12,12 +12,13 @@ use Rattle.syn_item.specs.declared.impls.ImplItemMacro.TheInside as ImplItemMacr
 use Rattle.syn_item.specs.declared.simple.ItemMacro.TheInside as ItemMacro-in
 use Rattle.syn_item.specs.declared.traits.TraitItemMacro.TheInside as TraitItemMacro-in
 
--- a macro's group, whichever delimiters it has, with `;` behind it or without it
+-- a macro's group, whichever delimiters it has, with `;` behind it or without it (what is no group is told from one with `;` behind it)
 abbrev pub ended_group : Syntax → Syntax → Syntax
 ended_group semi_token (Left s) = Left (ended_group semi_token s)
 ended_group semi_token (Right s) = Right (ended_group semi_token s)
 ended_group (Left semi) group = Both group semi
-ended_group s group = group
+ended_group s (Raw d o c i) = Raw d o c i
+ended_group s group = Both group s
 
 -- a macro as an item, with a name or without one
 abbrev pub named_macro : Syntax → Syntax → Syntax → Syntax

@@ -3,7 +3,7 @@ use Rattle.std.specs.Prelude.{Option, Some, None}
 use Rattle.syn_grammar.specs.Words.{comma}
 use Rattle.syn_grammar.specs.Tokens.{Paren, Stream, end}
 use Rattle.syn_grammar.specs.Shape.{parameters, untagged}
-use Rattle.syn_grammar.specs.Grammar.{Syntax, Nothing, Both, Left, Right, Node, Shaped, Added, Group, added, spell}
+use Rattle.syn_grammar.specs.Grammar.{Syntax, Nothing, Both, Left, Right, Node, Shaped, Added, Group, Unshown, added, spell}
 use Rattle.syn_grammar.specs.Promises.{itself}
 use Rattle.syn_tokens.specs.InOrder.{pair_of}
 use Rattle.syn_tokens.specs.Kinds.{and_syntax, async_syntax, colon_syntax, comma_syntax, const_syntax, dot_dot_dot_syntax, fn_syntax, mut_syntax, safe_syntax, self_value_syntax, unsafe_syntax}
@@ -53,9 +53,10 @@ abbrev pub receiver_argument : Syntax → Syntax
 receiver_argument (Node (Both attrs receiver)) = Node (Both attrs (Left receiver))
 receiver_argument s = Left s
 
--- a pattern with its type as a parameter
+-- a pattern with its type as a parameter (such a pattern has no attributes where none stand before it, and not an empty list of them)
 abbrev pub typed_argument : Syntax → Syntax
 typed_argument (Both pat (Left (Both colon ty))) = Node (Both none_listed (Right (Both pat (Both colon ty))))
+typed_argument (Both (Node (Right (Unshown Nothing))) (Both pat (Left (Both colon ty)))) = Right (Both none_listed (Both pat (Left (Both colon ty))))
 typed_argument (Both attrs (Both pat (Left (Both colon ty)))) = Node (Both attrs (Right (Both pat (Both colon ty))))
 typed_argument s = Right s
 
@@ -92,6 +93,11 @@ view_Signature a =
     (Node (Both (fn_syntax a.fn_token) (Both (syntax_of_ident a.ident) (Both (first a.generics)
     (Both (group_syntax Paren a.paren_token (parameters_of (list_of syntax_of_FnArg comma_syntax a.inputs.pairs a.inputs.last) (maybe itself a.variadic)))
     (Both (syntax_of_ReturnType a.output) (clause_of a.generics)))))))))))
+
+-- the receiver that a parameter is, if it is one
+abbrev pub receiver_as : FnArg-m.the_data → Option Syntax
+receiver_as (FnArg-m.Receiver receiver) = Some receiver
+receiver_as (FnArg-m.Typed typed) = None
 
 -- this parameter, where it is a receiver
 abbrev pub receiver_of : Syntax → Option Syntax

@@ -1,6 +1,5 @@
 //! Signatures of functions, and what stands in them.
-ghost use Rattle.std.specs.Prelude.{◌≡◌, OnOk};
-ghost use Rattle.std.specs.Option.{option_copied};
+ghost use Rattle.std.specs.Prelude.{◌≡◌, MatchOption, None, OnOk, Some};
 ghost use Rattle.syn_grammar.specs.Grammar.{print};
 ghost use Rattle.syn_grammar.specs.Promises.{itself};
 ghost use Rattle.syn_grammar.specs.Tokens as grammar;
@@ -9,7 +8,7 @@ ghost use Rattle.syn_tokens.specs.Kinds.{comma_syntax, mut_syntax, self_value_sy
 ghost use Rattle.syn_tokens.specs.Leaves.{maybe};
 ghost use Rattle.syn_tokens.specs.Listing.{list_of};
 ghost use Rattle.syn_lower.specs.Parts.{group_syntax};
-ghost use Rattle.syn_item.specs.Signatures.{comma_behind, last_comma, parameters_of, received, receiver_in, syntax_of_FnArg, syntax_of_ReceiverKind};
+ghost use Rattle.syn_item.specs.Signatures.{comma_behind, last_comma, parameters_of, received, receiver_as, receiver_in, syntax_of_FnArg, syntax_of_ReceiverKind};
 
 mod parameters;
 mod parsing;
@@ -110,15 +109,24 @@ pub struct Variadic {
 
 impl Signature {
     /// What the method is called on: the first parameter, where it is a receiver.
-    #[tactic(auto, using(crate::proofs::Receivers::comma_aside, crate::proofs::Receivers::receiver_listed))]
+    #[tactic(auto, using(crate::proofs::Receivers::receiver_found))]
     pub fn receiver(&self) -> Option<&Receiver>
-        ensures { option_copied result ≡ receiver_in self.now }
+        ensures { MatchOption result (receiver_in self.now ≡ None) (λ receiver. receiver_in self.now ≡ Some receiver.now) }
     {
         match self.inputs.first() {
-            Some(FnArg::Receiver(receiver)) => Some(receiver),
-            Some(FnArg::Typed(_)) => None,
+            Some(arg) => as_receiver(arg),
             None => None,
         }
+    }
+}
+
+/// The receiver that a parameter is, if it is one.
+fn as_receiver(arg: &FnArg) -> Option<&Receiver>
+    ensures { MatchOption result (receiver_as arg.now ≡ None) (λ receiver. receiver_as arg.now ≡ Some receiver.now) }
+{
+    match arg {
+        FnArg::Receiver(receiver) => Some(receiver),
+        FnArg::Typed(_) => None,
     }
 }
 

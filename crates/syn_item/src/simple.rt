@@ -193,7 +193,7 @@ fn print_aliased(
 
 /// Modifiers are not printed. The where clause stands where its placement says.
 impl Print for ItemType {
-    #[tactic(auto, using(syn_tokens::proofs::Prints::prints))]
+    #[tactic(auto, using(syn_tokens::proofs::Prints::prints, crate::proofs::Unprinted::print_place_aside))]
     fn print_in(&self, out: &mut StreamBuilder) -> Result<(), AllocError> {
         print_outer(&self.attrs, out)?;
         self.vis.print_in(out)?;
@@ -213,7 +213,7 @@ impl Print for ItemType {
 
 /// The place of the where clause is compared also where there is none.
 impl Compared for ItemType {
-    #[tactic(auto, using(syn_lower::proofs::Attributes::same_attributes))]
+    #[tactic(auto, using(crate::proofs::SameParts::same_alias))]
     fn is_same(&self, other: &ItemType) -> bool {
         self.attrs.is_same(&other.attrs)
             && self.vis.is_same(&other.vis)
@@ -329,6 +329,7 @@ fn same_content(
 }
 
 impl Compared for ItemMod {
+    #[tactic(auto, using(crate::proofs::SameParts::same_module))]
     fn is_same(&self, other: &ItemMod) -> bool {
         self.attrs.is_same(&other.attrs)
             && self.vis.is_same(&other.vis)

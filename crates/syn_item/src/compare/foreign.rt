@@ -43,6 +43,7 @@ impl Eq for ItemForeignMod {
 }
 
 impl Compared for ForeignItem {
+    #[tactic(auto, using(crate::proofs::SameMembers::same_among_members))]
     fn is_same(&self, other: &ForeignItem) -> bool {
         match (self, other) {
             (ForeignItem::Fn(a), ForeignItem::Fn(b)) => a.is_same(b),
@@ -76,7 +77,7 @@ impl Eq for ForeignItem {
 }
 
 impl Compared for ForeignItemFn {
-    #[tactic(auto, using(syn_lower::proofs::Attributes::same_attributes))]
+    #[tactic(auto, using(crate::proofs::SameParts::same_modified))]
     fn is_same(&self, other: &ForeignItemFn) -> bool {
         self.attrs.is_same(&other.attrs)
             && self.vis.is_same(&other.vis)
@@ -142,7 +143,7 @@ impl Eq for ForeignItemStatic {
 }
 
 impl Compared for ForeignItemType {
-    #[tactic(auto, using(syn_lower::proofs::Attributes::same_attributes))]
+    #[tactic(auto, using(crate::proofs::SameParts::same_modified))]
     fn is_same(&self, other: &ForeignItemType) -> bool {
         self.attrs.is_same(&other.attrs)
             && self.vis.is_same(&other.vis)
@@ -176,7 +177,7 @@ impl Eq for ForeignItemType {
 }
 
 impl Compared for ForeignItemMacro {
-    #[tactic(auto, using(syn_lower::proofs::Attributes::same_attributes))]
+    #[tactic(auto, using(crate::proofs::SameMacros::same_member_macro))]
     fn is_same(&self, other: &ForeignItemMacro) -> bool {
         self.attrs.is_same(&other.attrs)
             && self.mac.is_same(&other.mac)

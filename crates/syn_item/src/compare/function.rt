@@ -9,7 +9,7 @@ use crate::function::ItemFn;
 use syn_tokens::syntactic::compare::Compared;
 
 impl Compared for ItemFn {
-    #[tactic(auto, using(syn_lower::proofs::Bodies::same_behind_three))]
+    #[tactic(auto, using(crate::proofs::SameParts::same_function))]
     fn is_same(&self, other: &ItemFn) -> bool {
         self.attrs.is_same(&other.attrs)
             && self.vis.is_same(&other.vis)

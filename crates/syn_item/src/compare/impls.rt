@@ -30,6 +30,7 @@ impl Eq for ItemImpl {
 }
 
 impl Compared for ImplItem {
+    #[tactic(auto, using(crate::proofs::SameMembers::same_among_members))]
     fn is_same(&self, other: &ImplItem) -> bool {
         match (self, other) {
             (ImplItem::Const(a), ImplItem::Const(b)) => a.is_same(b),
@@ -63,7 +64,7 @@ impl Eq for ImplItem {
 }
 
 impl Compared for ImplItemConst {
-    #[tactic(auto, using(syn_lower::proofs::Attributes::same_attributes))]
+    #[tactic(auto, using(crate::proofs::SameMembers::same_impl_constant))]
     fn is_same(&self, other: &ImplItemConst) -> bool {
         self.attrs.is_same(&other.attrs)
             && self.vis.is_same(&other.vis)
@@ -167,7 +168,7 @@ impl Eq for ImplItemType {
 }
 
 impl Compared for ImplItemMacro {
-    #[tactic(auto, using(syn_lower::proofs::Attributes::same_attributes))]
+    #[tactic(auto, using(crate::proofs::SameMacros::same_member_macro))]
     fn is_same(&self, other: &ImplItemMacro) -> bool {
         self.attrs.is_same(&other.attrs)
             && self.mac.is_same(&other.mac)

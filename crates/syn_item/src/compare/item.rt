@@ -9,6 +9,7 @@ use crate::item::Item;
 use syn_tokens::syntactic::compare::Compared;
 
 impl Compared for Item {
+    #[tactic(auto, using(crate::proofs::SameMembers::same_among_items))]
     fn is_same(&self, other: &Item) -> bool {
         match (self, other) {
             (Item::Const(a), Item::Const(b)) => a.is_same(b),

@@ -10,6 +10,7 @@ use crate::sig::{Abi, FnArg, Receiver, ReceiverKind, Safety, Signature, Variadic
 use syn_tokens::syntactic::compare::Compared;
 
 impl Compared for Signature {
+    #[tactic(auto, using(crate::proofs::SameSignatures::same_parameters))]
     fn is_same(&self, other: &Signature) -> bool {
         self.constness.is_same(&other.constness)
             && self.asyncness.is_same(&other.asyncness)
@@ -103,6 +104,7 @@ impl Eq for Abi {
 }
 
 impl Compared for FnArg {
+    #[tactic(auto, using(crate::proofs::SameSignatures::same_argument))]
     fn is_same(&self, other: &FnArg) -> bool {
         match (self, other) {
             (FnArg::Receiver(a), FnArg::Receiver(b)) => a.is_same(b),
@@ -133,7 +135,7 @@ impl Eq for FnArg {
 }
 
 impl Compared for Receiver {
-    #[tactic(auto, using(syn_lower::proofs::Attributes::same_attributes))]
+    #[tactic(auto, using(crate::proofs::SameSignatures::same_receiver))]
     fn is_same(&self, other: &Receiver) -> bool {
         self.attrs.is_same(&other.attrs)
             && self.mutability.is_same(&other.mutability)

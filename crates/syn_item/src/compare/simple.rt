@@ -14,7 +14,7 @@ use crate::simple::{
 use syn_tokens::syntactic::compare::Compared;
 
 impl Compared for ItemConst {
-    #[tactic(auto, using(syn_lower::proofs::Attributes::same_attributes))]
+    #[tactic(auto, using(crate::proofs::SameParts::same_constant))]
     fn is_same(&self, other: &ItemConst) -> bool {
         self.attrs.is_same(&other.attrs)
             && self.vis.is_same(&other.vis)
@@ -167,7 +167,7 @@ impl Eq for WhereClausePlacement {
 }
 
 impl Compared for ItemUse {
-    #[tactic(auto, using(syn_lower::proofs::Attributes::same_attributes))]
+    #[tactic(auto, using(crate::proofs::SameParts::same_use))]
     fn is_same(&self, other: &ItemUse) -> bool {
         self.attrs.is_same(&other.attrs)
             && self.vis.is_same(&other.vis)
@@ -252,7 +252,7 @@ impl Eq for ItemMod {
 }
 
 impl Compared for ItemMacro {
-    #[tactic(auto, using(syn_lower::proofs::Attributes::same_attributes))]
+    #[tactic(auto, using(crate::proofs::SameMacros::same_item_macro))]
     fn is_same(&self, other: &ItemMacro) -> bool {
         self.attrs.is_same(&other.attrs)
             && self.ident.is_same(&other.ident)

@@ -32,6 +32,7 @@ impl Eq for ItemTrait {
 }
 
 impl Compared for TraitItem {
+    #[tactic(auto, using(crate::proofs::SameMembers::same_among_members))]
     fn is_same(&self, other: &TraitItem) -> bool {
         match (self, other) {
             (TraitItem::Const(a), TraitItem::Const(b)) => a.is_same(b),
@@ -65,7 +66,7 @@ impl Eq for TraitItem {
 }
 
 impl Compared for TraitItemConst {
-    #[tactic(auto, using(syn_lower::proofs::Attributes::same_attributes))]
+    #[tactic(auto, using(crate::proofs::SameMembers::same_trait_constant))]
     fn is_same(&self, other: &TraitItemConst) -> bool {
         self.attrs.is_same(&other.attrs)
             && self.modifiers.is_same(&other.modifiers)
@@ -100,7 +101,7 @@ impl Eq for TraitItemConst {
 }
 
 impl Compared for TraitItemFn {
-    #[tactic(auto, using(syn_lower::proofs::Attributes::same_attributes))]
+    #[tactic(auto, using(crate::proofs::SameMembers::same_trait_function))]
     fn is_same(&self, other: &TraitItemFn) -> bool {
         self.attrs.is_same(&other.attrs)
             && self.modifiers.is_same(&other.modifiers)
@@ -131,7 +132,7 @@ impl Eq for TraitItemFn {
 }
 
 impl Compared for TraitItemType {
-    #[tactic(auto, using(syn_lower::proofs::Attributes::same_attributes, syn_lower::proofs::GenericsCompared::same_bounds))]
+    #[tactic(auto, using(crate::proofs::SameMembers::same_trait_type))]
     fn is_same(&self, other: &TraitItemType) -> bool {
         self.attrs.is_same(&other.attrs)
             && self.modifiers.is_same(&other.modifiers)
@@ -167,7 +168,7 @@ impl Eq for TraitItemType {
 }
 
 impl Compared for TraitItemMacro {
-    #[tactic(auto, using(syn_lower::proofs::Attributes::same_attributes))]
+    #[tactic(auto, using(crate::proofs::SameMacros::same_member_macro))]
     fn is_same(&self, other: &TraitItemMacro) -> bool {
         self.attrs.is_same(&other.attrs)
             && self.mac.is_same(&other.mac)

@@ -27,6 +27,7 @@ impl Print for ImplItem {
 impl ToTokens for ImplItem {}
 
 impl Print for ImplItemConst {
+    #[tactic(auto, using(syn_tokens::proofs::Prints::prints, crate::proofs::Unprinted::print_generics_aside))]
     fn print_in(&self, out: &mut StreamBuilder) -> Result<(), AllocError> {
         print_outer(&self.attrs, out)?;
         self.vis.print_in(out)?;

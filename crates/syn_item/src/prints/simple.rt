@@ -13,6 +13,7 @@ use syn_tokens::print::{Print, ToTokens, print_list};
 use syn_tokens::stream::builder::StreamBuilder;
 
 impl Print for ItemConst {
+    #[tactic(auto, using(syn_tokens::proofs::Prints::prints, crate::proofs::Unprinted::print_generics_aside))]
     fn print_in(&self, out: &mut StreamBuilder) -> Result<(), AllocError> {
         print_outer(&self.attrs, out)?;
         self.vis.print_in(out)?;

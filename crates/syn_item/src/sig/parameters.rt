@@ -170,7 +170,7 @@ fn behind_pattern(
 }
 
 /// `...`, and perhaps a comma, and nothing behind them.
-#[tactic(auto, using(syn_grammar::proofs::Each::variadic_is), unfolding(syn_grammar::specs::Take::is_end))]
+#[tactic(auto, using(syn_grammar::proofs::Each::variadic_is))]
 fn variadic(
     attrs: Vec<Attribute>,
     pat: Option<(Box<Pat>, Colon)>,
@@ -181,7 +181,9 @@ fn variadic(
 {
     let dots = input.read()?;
     let comma = input.read()?;
-    input.read_end()?;
+    if !input.is_empty() {
+        return Err(input.refusal("unexpected token"));
+    }
     Ok(Variadic {
         attrs,
         pat,
@@ -191,7 +193,7 @@ fn variadic(
 }
 
 /// A pattern and a colon. Before a name that `<` follows, which begins a type, both are supplied, where this type begins.
-#[tactic(auto, unfolding(crate::specs::SignatureForms::named_pattern))]
+#[tactic(auto, using(crate::proofs::Supplied::name_spanned), unfolding(crate::specs::SignatureForms::named_pattern))]
 fn pattern(input: &mut ParseBuffer<'_>) -> Parsed<(Box<Pat>, Colon)>
     ensures reads { Computes IsSyntax (pair_of (λ b. syntax_of_Pat b.value) colon_syntax) (named_pattern input.old) result input.new }
     ensures kept { Kept input.old result input.new }
@@ -204,7 +206,7 @@ fn pattern(input: &mut ParseBuffer<'_>) -> Parsed<(Box<Pat>, Colon)>
 }
 
 /// `_`, where the next token stands.
-#[tactic(auto, unfolding(syn_lower::specs::Attributes::outer_listed))]
+#[tactic(auto, using(crate::proofs::Supplied::name_spanned), unfolding(syn_lower::specs::Attributes::outer_listed))]
 fn wild(input: &ParseBuffer<'_>) -> Parsed<Box<Pat>>
     requires next { sees (at_unnamed Before_less) input.now ≡ true }
     ensures { OrMemory IsSyntax result (λ p. syntax_of_Pat p.value ≡ wild_at (leaf_span input.now)) }

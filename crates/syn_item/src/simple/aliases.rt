@@ -1,9 +1,9 @@
 //! Parsers of type aliases and trait aliases.
-ghost use Rattle.std.specs.Prelude.{◌≡◌, codes};
+ghost use Rattle.std.specs.Prelude.{◌≡◌, IfOk, codes};
 ghost use Rattle.syn_grammar.specs.Tokens.{pick};
 ghost use Rattle.syn_grammar.specs.Rules as rules;
 ghost use Rattle.syn_grammar.specs.Table as table;
-ghost use Rattle.syn_grammar.specs.Grammar.{Both};
+ghost use Rattle.syn_grammar.specs.Grammar.{Both, Nothing, Unshown};
 ghost use Rattle.syn_grammar.specs.Run.{wrap};
 ghost use Rattle.syn_parse.specs.Form.{by};
 ghost use Rattle.syn_tokens.specs.Kinds.{plus_syntax};
@@ -14,6 +14,7 @@ ghost use Rattle.syn_lower.specs.Parsing.{of, rule, list_of, meaning_of_rule, pa
 ghost use Rattle.syn_tree.specs.Derive.{item_of};
 ghost use Rattle.syn_tree.specs.Restriction.{syntax_of_Visibility};
 ghost use Rattle.syn_item.specs.ItemForms.{aliased_form, aliased_syntax, bounds_end_form, bounds_end_syntax, place_by, type_form};
+ghost use Rattle.syn_item.specs.Simple.{place_aside, syntax_of_WhereClausePlacement};
 
 use crate::simple::{ItemTraitAlias, ItemType, WhereClausePlacement};
 use syn_lower::attr::outer_attributes;
@@ -91,9 +92,10 @@ struct AliasParts {
 }
 
 /// `=` and a type, with a where clause before them or behind them. Where none stands, its place is before them.
-#[tactic(auto, using(crate::proofs::Aliases::alias_read, syn_lower::proofs::WhereClauses::none_clause))]
+#[tactic(auto, using(crate::proofs::Aliases::alias_placed, crate::proofs::Aliases::alias_refused, crate::proofs::Aliases::place_left))]
 fn aliased(input: &mut ParseBuffer<'_>) -> Parsed<AliasParts>
     ensures reads { Computes IsSyntax aliased_syntax (parse_form aliased_form input.old) result input.new }
+    ensures place { IfOk result (λ a. place_aside (syntax_of_WhereClausePlacement a.placement) (where_part a.where_clause) ≡ Unshown Nothing) }
     ensures moved { Moved input.old result input.new }
 {
     let is_early = input.peek::<Where>();

@@ -81,6 +81,7 @@ pub(crate) fn use_item(
 }
 
 /// Trees in braces; or a tree with `::` before it or without it.
+#[tactic(auto, unfolding(crate::specs::UseForms::read_braced))]
 fn used(input: &mut ParseBuffer<'_>) -> Parsed<(Option<PathSep>, UseTree)>
     ensures reads { Computes IsSyntax used_syntax (parse_form used_form input.old) result input.new }
     ensures moved { Moved input.old result input.new }
