@@ -92,5 +92,5 @@ member_marks_syntax m = Both (attributes_syntax m.attrs.items) (Both (syntax_of_
 
 -- a type of what stands before its word, of its head, and of what stands behind its generics
 abbrev pub type_rest_of : Syntax → Syntax → Syntax → Syntax
-type_rest_of (Both a (Both v d)) (Both k (Both n g)) rest = Node (Both a (Both v (Both d (Both k (Both n (Both g rest))))))
+type_rest_of (Both a (Both v d)) (Both k (Both n g)) rest = Both a (Both v (Both d (Both k (Both n (Both g rest)))))
 type_rest_of m h rest = rest

@@ -7,8 +7,10 @@ pub mod ImplForms
 pub mod Impls
 pub mod ItemForms
 pub mod ItemStages
+pub mod ItemTurns
 pub mod Items
 pub mod Macros
+pub mod NextWords
 pub mod Parts
 pub mod Pieces
 pub mod Plain

@@ -1,10 +1,9 @@
 -- HOW TRAITS AND THEIR MEMBERS ARE READ: forms of their parts, and what the parts stand for together.
 use Rattle.syn_grammar.specs.Words.{w_auto, w_trait, semicolon}
 use Rattle.syn_grammar.specs.Rules.{generics, supertraits, trait_items, where_clause, body}
-use Rattle.syn_grammar.specs.Grammar.{Grammar, Syntax, Nothing, Both, Node, ◌&◌, name, word, rule, unshown, when◌then◌else◌}
+use Rattle.syn_grammar.specs.Grammar.{Grammar, Syntax, Both, Node, ◌&◌, name, word, rule, unshown, when◌then◌else◌}
 use Rattle.syn_grammar.specs.Forms.{plainly, punctuation}
 use Rattle.syn_grammar.specs.Table.{at_semicolon, optional_item_word}
-use Rattle.syn_grammar.specs.ItemPlan.{absent}
 use Rattle.syn_tokens.specs.Idents.{IdentValue}
 use Rattle.syn_tokens.specs.Kinds.{Trait, auto_syntax, const_syntax, trait_syntax, unsafe_syntax}
 use Rattle.syn_tokens.specs.Leaves.{maybe, syntax_of_ident}
@@ -39,8 +38,8 @@ behind_head h s =
 
 -- behind `unsafe`
 abbrev pub behind_marks : TraitMarks → Syntax → Syntax
-behind_marks m (Both o rest) = trait_of m o rest
-behind_marks m s = trait_of m s Nothing
+behind_marks m s =
+    item_of (attributes_syntax m.attrs.items) (syntax_of_Visibility m.vis) (Both (maybe const_syntax m.constness) (Node (Both (maybe unsafe_syntax m.unsafety) s)))
 
 abbrev pub unmarked_form : Grammar
 unmarked_form = optional_item_word w_auto & plainly (word w_trait) & plainly name & rule generics & trait_end_form
@@ -48,11 +47,6 @@ unmarked_form = optional_item_word w_auto & plainly (word w_trait) & plainly nam
 -- `;` or a body
 abbrev pub function_end_form : Grammar
 function_end_form = when at_semicolon then punctuation semicolon else unshown & rule body
-
--- a trait or an alias up to its generics, as a trait of which nothing stands behind them
-abbrev pub named_head : Syntax → Syntax → Syntax → Syntax → Syntax
-named_head a v c (Both k (Both n g)) = item_of a v (Both c (Node (Both absent (Both absent (Both k (Both n (Both g Nothing)))))))
-named_head a v c s = s
 
 -- an alias behind its generics, of `=`, bounds, a where clause and `;`
 abbrev pub alias_of : TraitHead → Syntax → Syntax

@@ -66,6 +66,7 @@ impl TryClone for File {
 }
 
 /// Whether both texts are the same, or neither is there.
+#[tactic(auto, using(syn_grammar::proofs::Same::bytes_same_text))]
 fn is_same_text(text: &Option<String>, other: &Option<String>) -> bool
     ensures { result ≡ same_syntax (maybe unshown_text text.now) (maybe unshown_text other.now) }
 {

@@ -10,7 +10,7 @@ mod parsing;
 
 use crate::parts::{print_braced, print_pair};
 use crate::sig::Signature;
-pub(crate) use parsing::{ImplMarks, impl_end, impl_generics, impl_or_kept, implemented};
+pub(crate) use parsing::{ImplMarks, ImplTypes, impl_end, impl_generics, impl_or_kept};
 use std::alloc::{AllocError, Global};
 use syn_lower::attr::print_before_body;
 use syn_lower::{Attribute, Generics, Path, Type};

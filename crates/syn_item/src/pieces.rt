@@ -124,7 +124,6 @@ impl Peek for SupertraitsEnd {
 }
 
 /// The bounds of a type, up to what ends them.
-#[tactic(auto, using(crate::proofs::BoundLists::type_bounds_list))]
 fn type_bounds(input: &mut ParseBuffer<'_>) -> Parsed<Punctuated<TypeParamBound, Plus>>
     ensures reads { Computes IsSyntax (λ l. solid (list_of syntax_of_TypeParamBound plus_syntax l.pairs l.last)) (parse_rule rules.type_bounds input.old) result input.new }
     ensures kept { Kept input.old result input.new }
@@ -133,7 +132,6 @@ fn type_bounds(input: &mut ParseBuffer<'_>) -> Parsed<Punctuated<TypeParamBound,
 }
 
 /// The bounds of a trait, up to what ends them.
-#[tactic(auto, using(crate::proofs::BoundLists::supertraits_list))]
 fn supertraits(input: &mut ParseBuffer<'_>) -> Parsed<Punctuated<TypeParamBound, Plus>>
     ensures reads { Computes IsSyntax (λ l. solid (list_of syntax_of_TypeParamBound plus_syntax l.pairs l.last)) (parse_rule rules.supertraits input.old) result input.new }
     ensures kept { Kept input.old result input.new }

@@ -3,24 +3,28 @@ ghost use Rattle.std.specs.Prelude.{◌≡◌};
 ghost use Rattle.syn_grammar.specs.Rules as rules;
 ghost use Rattle.syn_grammar.specs.Grammar.{Both};
 ghost use Rattle.syn_grammar.specs.Plan.{run_plan};
+ghost use Rattle.syn_grammar.specs.Promises.{OrMemory};
 ghost use Rattle.syn_grammar.specs.Run.{wrap};
-ghost use Rattle.syn_grammar.specs.Tokens.{Stream};
+ghost use Rattle.syn_grammar.specs.Take.{sees};
+ghost use Rattle.syn_grammar.specs.Tokens.{Stream, at_empty_group, at_word, or};
+ghost use Rattle.syn_grammar.specs.Words.{w_pub};
 ghost use Rattle.syn_lower.specs.Attributes.{attributes_syntax};
 ghost use Rattle.syn_lower.specs.Parsing.{of, rule, meaning_of_rule, parse_rule, Computes, Moved, itself, IsSyntax};
 ghost use Rattle.syn_tokens.specs.Kinds.{semi_syntax};
 ghost use Rattle.syn_tree.specs.Restriction.{syntax_of_Visibility};
 ghost use Rattle.syn_item.specs.Foreign.{syntax_of_ForeignItem};
 ghost use Rattle.syn_item.specs.ForeignForms.{bare_static_syntax};
+ghost use Rattle.syn_item.specs.NextWords.{foreign_function_next, static_next};
 ghost use Rattle.syn_item.specs.Planned.{Follows};
 ghost use Rattle.syn_item.specs.Stages.{foreign_function_or_kept, foreign_item_plan_behind, foreign_static_or_kept, foreign_type_or_kept};
 
 use super::{ForeignItem, ForeignItemFn, ForeignItemMacro, ForeignItemStatic, ForeignItemType};
-use crate::pieces::{kept_tokens, member_macro, type_head};
+use crate::pieces::{kept_tokens, member_macro};
 use crate::sig::{Safety, foreign_signature, safe_or_unsafe};
 use crate::simple::StaticMutability;
 use syn_lower::attr::outer_attributes;
 use syn_lower::where_clause::where_clause;
-use syn_lower::{Attribute, Type};
+use syn_lower::{Attribute, Generics, Type};
 use syn_parse::buffer::ParseBuffer;
 use syn_parse::read::Read;
 use syn_parse::read::refusal::Parsed;
@@ -42,7 +46,7 @@ impl Read for ForeignItem {
 
     ghost meaning = { meaning_of_rule rules.foreign_item };
 
-    #[tactic(auto, using(syn_grammar::proofs::MemberPlans::foreign_item_plan_is, crate::proofs::Kept::kept_whole), unfolding(syn_grammar::specs::MemberPlans::foreign_item_plan))]
+    #[tactic(auto, using(crate::proofs::WholeReads::foreign_attributes_refused, crate::proofs::WholeReads::foreign_refused, crate::proofs::WholeReads::foreign_read, crate::proofs::WholeReads::foreign_moved, crate::proofs::WholeReads::foreign_kept, crate::proofs::WholeReads::foreign_kept_moved))]
     fn read(input: &mut ParseBuffer<'_>) -> Parsed<ForeignItem> {
         let start = input.fork();
         let attrs = outer_attributes(input)?;
@@ -55,14 +59,14 @@ impl Read for ForeignItem {
 }
 
 /// A foreign member, behind its attributes; `None` where it is kept as its tokens.
-#[tactic(auto, using(crate::proofs::Kept::only_kept), unfolding(crate::specs::Stages::foreign_item_plan_behind, syn_grammar::specs::MemberPlans::foreign_member_plan, syn_grammar::specs::MemberPlans::safety_plan, syn_grammar::specs::MemberPlans::foreign_macro_plan))]
+#[tactic(auto, using(crate::proofs::ForeignMembers::visibility_refused, crate::proofs::ForeignMembers::type_follows, crate::proofs::ForeignMembers::static_follows, crate::proofs::ForeignMembers::function_follows, crate::proofs::ForeignMembers::marked_refused, crate::proofs::ForeignMembers::self_refused, crate::proofs::ForeignMembers::macro_read, crate::proofs::ForeignMembers::macro_refused))]
 fn foreign_item_behind(
     attrs: Vec<Attribute>,
     input: &mut ParseBuffer<'_>,
 ) -> Parsed<Option<ForeignItem>>
     ensures follows { (ts : Stream) → Follows IsSyntax syntax_of_ForeignItem rules.kept_foreign_item ts (run_plan (foreign_item_plan_behind (attributes_syntax attrs.items)) rules.kept_foreign_item ts input.old) result input.new }
 {
-    let is_marked = input.peek::<Pub>() || at_empty_group(input);
+    let is_marked = at_visibility(input);
     let vis = input.read()?;
     if input.peek::<token::Type>() {
         return foreign_type(attrs, vis, input);
@@ -73,14 +77,26 @@ fn foreign_item_behind(
     if at_foreign_function(is_marked, input)? {
         return foreign_function(attrs, vis, input);
     }
-    if is_marked || input.peek::<SelfType>() {
+    if is_marked {
+        return Err(input.refusal("unexpected token"));
+    }
+    if input.peek::<SelfType>() {
         return Err(input.refusal("unexpected token"));
     }
     Ok(Some(ForeignItem::Macro(foreign_macro(attrs, input)?)))
 }
 
+/// Whether a visibility stands next, written or not.
+fn at_visibility(input: &ParseBuffer<'_>) -> bool
+    ensures { result ≡ or (sees (at_word w_pub) input.now) (sees at_empty_group input.now) }
+{
+    input.peek::<Pub>() || at_empty_group(input)
+}
+
 /// Whether `static` stands next, or behind `safe` or `unsafe`.
-fn at_static(input: &ParseBuffer<'_>) -> bool {
+fn at_static(input: &ParseBuffer<'_>) -> bool
+    ensures { result ≡ static_next input.now }
+{
     if input.peek::<Safe>() || input.peek::<Unsafe>() {
         input.peek2::<Static>()
     } else {
@@ -89,7 +105,9 @@ fn at_static(input: &ParseBuffer<'_>) -> bool {
 }
 
 /// Whether a word of a foreign signature stands next. Where no visibility stands before it (`is_marked`), `safe` may also begin a path.
-fn at_foreign_function(is_marked: bool, input: &ParseBuffer<'_>) -> Parsed<bool> {
+fn at_foreign_function(is_marked: bool, input: &ParseBuffer<'_>) -> Parsed<bool>
+    ensures { OrMemory IsSyntax result (λ answer. answer ≡ foreign_function_next is_marked input.now) }
+{
     if input.peek::<Safe>() {
         return Ok(is_marked || !(is_before_macro(input)? || is_before_colons(input)));
     }
@@ -103,7 +121,7 @@ fn at_foreign_function(is_marked: bool, input: &ParseBuffer<'_>) -> Parsed<bool>
 }
 
 /// A foreign function, behind its visibility; `None` where it is kept as its tokens: with a body.
-#[tactic(auto, using(crate::proofs::Kept::only_kept), unfolding(syn_grammar::specs::MemberPlans::foreign_function_end))]
+#[tactic(auto, using(crate::proofs::ForeignPlans::function_kept), unfolding(syn_grammar::specs::MemberPlans::foreign_function_end))]
 fn foreign_function(
     attrs: Vec<Attribute>,
     vis: Visibility,
@@ -125,7 +143,6 @@ fn foreign_function(
 }
 
 /// A foreign static, behind its visibility; `None` where it is kept as its tokens: with a value.
-#[tactic(auto, using(crate::proofs::Kept::only_kept), unfolding(syn_grammar::specs::MemberPlans::foreign_static_plan, syn_grammar::specs::ItemPlan::kept_end))]
 fn foreign_static(
     attrs: Vec<Attribute>,
     vis: Visibility,
@@ -142,7 +159,7 @@ fn foreign_static(
 }
 
 /// A foreign type, behind its visibility; `None` where it is kept as its tokens: with a colon or with `=`.
-#[tactic(auto, using(crate::proofs::Kept::only_kept), unfolding(syn_grammar::specs::MemberPlans::foreign_type_plan, syn_grammar::specs::ItemPlan::kept_end))]
+#[tactic(auto, unfolding(syn_grammar::specs::MemberPlans::foreign_type_plan))]
 fn foreign_type(
     attrs: Vec<Attribute>,
     vis: Visibility,
@@ -150,7 +167,9 @@ fn foreign_type(
 ) -> Parsed<Option<ForeignItem>>
     ensures follows { (ts : Stream) → Follows IsSyntax syntax_of_ForeignItem rules.kept_foreign_item ts (run_plan (foreign_type_or_kept (attributes_syntax attrs.items) (syntax_of_Visibility vis)) rules.kept_foreign_item ts input.old) result input.new }
 {
-    let (type_token, ident, generics) = type_head(input)?;
+    let type_token = input.read()?;
+    let ident = input.read()?;
+    let generics = Generics::read_params(input)?;
     if input.peek::<Colon>() {
         return Ok(None);
     }
@@ -158,6 +177,7 @@ fn foreign_type(
     if !input.peek::<Semi>() {
         return Ok(None);
     }
+    let semi_token = input.read()?;
     Ok(Some(ForeignItem::Ty(ForeignItemType {
         attrs,
         vis,
@@ -165,7 +185,7 @@ fn foreign_type(
         type_token,
         ident,
         generics: generics.with_where(where_clause),
-        semi_token: input.read()?,
+        semi_token,
     })))
 }
 
@@ -262,7 +282,9 @@ impl Read for ForeignItemType {
     fn read(input: &mut ParseBuffer<'_>) -> Parsed<ForeignItemType> {
         let attrs = outer_attributes(input)?;
         let vis = input.read()?;
-        let (type_token, ident, generics) = type_head(input)?;
+        let type_token = input.read()?;
+        let ident = input.read()?;
+        let generics = Generics::read_params(input)?;
         let where_clause = where_clause(input)?;
         Ok(ForeignItemType {
             attrs,

@@ -4,15 +4,17 @@ ghost use Rattle.syn_grammar.specs.Rules as rules;
 ghost use Rattle.syn_grammar.specs.Grammar.{Both};
 ghost use Rattle.syn_grammar.specs.MemberPlans as plan;
 ghost use Rattle.syn_grammar.specs.Plan.{run_plan};
+ghost use Rattle.syn_grammar.specs.Promises.{OrMemory};
 ghost use Rattle.syn_grammar.specs.Run.{wrap};
 ghost use Rattle.syn_grammar.specs.Tokens.{Stream};
 ghost use Rattle.syn_lower.specs.Attributes.{all_attributes_syntax, attributes_syntax};
-ghost use Rattle.syn_lower.specs.Parsing.{of, rule, meaning_of_rule, parse_rule, parse_form, Computes, Moved, itself, IsSyntax};
+ghost use Rattle.syn_lower.specs.Parsing.{of, rule, meaning_of_rule, parse_rule, parse_form, Computes, Moved, Kept, itself, IsSyntax};
 ghost use Rattle.syn_tokens.specs.Kinds.{default_syntax};
 ghost use Rattle.syn_tokens.specs.Leaves.{maybe};
 ghost use Rattle.syn_tree.specs.Restriction.{syntax_of_Visibility};
 ghost use Rattle.syn_item.specs.ImplForms.{const_head_form, const_head_syntax, member_marks_form, member_marks_syntax, type_head_syntax, type_rest_form, type_rest_of};
 ghost use Rattle.syn_item.specs.Impls.{syntax_of_ImplItem};
+ghost use Rattle.syn_item.specs.NextWords.{constant_next, impl_macro_next};
 ghost use Rattle.syn_item.specs.Planned.{Follows};
 ghost use Rattle.syn_item.specs.Stages.{impl_const_or_kept, impl_item_plan_behind};
 
@@ -46,6 +48,7 @@ struct MemberMarks {
 /// Attributes, a visibility and perhaps `default`.
 fn member_marks(input: &mut ParseBuffer<'_>) -> Parsed<MemberMarks>
     ensures reads { Computes IsSyntax member_marks_syntax (parse_form member_marks_form input.old) result input.new }
+    ensures kept { Kept input.old result input.new }
 {
     Ok(MemberMarks {
         attrs: outer_attributes(input)?,
@@ -61,7 +64,7 @@ impl Read for ImplItem {
 
     ghost meaning = { meaning_of_rule rules.impl_item };
 
-    #[tactic(auto, using(syn_grammar::proofs::MemberPlans::impl_item_plan_is, crate::proofs::Kept::kept_whole), unfolding(syn_grammar::specs::MemberPlans::impl_item_plan))]
+    #[tactic(auto, using(crate::proofs::WholeReads::impl_attributes_refused, crate::proofs::WholeReads::impl_refused, crate::proofs::WholeReads::impl_read, crate::proofs::WholeReads::impl_moved, crate::proofs::WholeReads::impl_kept, crate::proofs::WholeReads::impl_kept_moved))]
     fn read(input: &mut ParseBuffer<'_>) -> Parsed<ImplItem> {
         let start = input.fork();
         let attrs = outer_attributes(input)?;
@@ -74,7 +77,7 @@ impl Read for ImplItem {
 }
 
 /// A member of an impl, behind its attributes; `None` where it is kept as its tokens.
-#[tactic(auto, using(crate::proofs::Kept::only_kept), unfolding(crate::specs::Stages::impl_item_plan_behind))]
+#[tactic(auto, using(crate::proofs::ImplPlans::member_follows, crate::proofs::ImplPlans::visibility_refused, crate::proofs::ImplPlans::default_refused, crate::proofs::ImplPlans::path_refused, crate::proofs::ImplPlans::macro_read, crate::proofs::ImplPlans::macro_refused))]
 fn impl_item_behind(attrs: Vec<Attribute>, input: &mut ParseBuffer<'_>) -> Parsed<Option<ImplItem>>
     requires outer { all_attributes_syntax attrs.items ≡ attributes_syntax attrs.items }
     ensures follows { (ts : Stream) → Follows IsSyntax syntax_of_ImplItem rules.kept_impl_item ts (run_plan (impl_item_plan_behind (attributes_syntax attrs.items)) rules.kept_impl_item ts input.old) result input.new }
@@ -95,7 +98,9 @@ fn impl_item_behind(attrs: Vec<Attribute>, input: &mut ParseBuffer<'_>) -> Parse
 
 /// Whether a member of an impl is a macro: where it begins neither with a visibility nor with `default`, but for a macro of that name, and
 /// no word of another member stands next.
-fn at_impl_macro(input: &ParseBuffer<'_>) -> Parsed<bool> {
+fn at_impl_macro(input: &ParseBuffer<'_>) -> Parsed<bool>
+    ensures { OrMemory IsSyntax result (λ answer. answer ≡ impl_macro_next input.now) }
+{
     if input.peek::<Pub>() || at_empty_group(input) {
         return Ok(false);
     }
@@ -106,7 +111,7 @@ fn at_impl_macro(input: &ParseBuffer<'_>) -> Parsed<bool> {
 }
 
 /// A member of an impl that is no macro, behind its `default`; `None` where it is kept as its tokens.
-#[tactic(auto, using(crate::proofs::Kept::only_kept), unfolding(syn_grammar::specs::MemberPlans::impl_member_plan, syn_grammar::specs::MemberPlans::impl_const_or_function, syn_grammar::specs::MemberPlans::impl_function_end, syn_grammar::specs::ItemPlan::kept_end))]
+#[tactic(auto, using(crate::proofs::ImplPlans::type_follows, crate::proofs::ImplPlans::const_follows, crate::proofs::ImplPlans::signature_refused, crate::proofs::ImplPlans::function_kept, crate::proofs::ImplPlans::body_goes, crate::proofs::ImplPlans::body_refused))]
 fn impl_member(marks: MemberMarks, input: &mut ParseBuffer<'_>) -> Parsed<Option<ImplItem>>
     requires outer { all_attributes_syntax marks.attrs.items ≡ attributes_syntax marks.attrs.items }
     ensures follows { (ts : Stream) → Follows IsSyntax syntax_of_ImplItem rules.kept_impl_item ts (run_plan (plan.impl_member_plan (attributes_syntax marks.attrs.items) (syntax_of_Visibility marks.vis) (maybe default_syntax marks.defaultness)) rules.kept_impl_item ts input.old) result input.new }
@@ -114,7 +119,7 @@ fn impl_member(marks: MemberMarks, input: &mut ParseBuffer<'_>) -> Parsed<Option
     if input.peek::<token::Type>() {
         return impl_type(marks, input);
     }
-    if input.peek::<Const>() && !at_function(input) {
+    if at_constant(input) {
         return impl_const(marks, input);
     }
     let sig = input.read()?;
@@ -133,8 +138,15 @@ fn impl_member(marks: MemberMarks, input: &mut ParseBuffer<'_>) -> Parsed<Option
     })))
 }
 
+/// Whether `const` stands next, and no signature begins with it.
+fn at_constant(input: &ParseBuffer<'_>) -> bool
+    ensures { result ≡ constant_next input.now }
+{
+    input.peek::<Const>() && !at_function(input)
+}
+
 /// A type of an impl, behind its `default`; `None` where it is kept as its tokens: without `=` behind its generics.
-#[tactic(auto, using(crate::proofs::Kept::only_kept), unfolding(syn_grammar::specs::MemberPlans::impl_type_plan, syn_grammar::specs::ItemPlan::kept_end))]
+#[tactic(auto, using(crate::proofs::ImplPlans::head_refused, crate::proofs::ImplPlans::type_kept, crate::proofs::ImplPlans::rest_read, crate::proofs::ImplPlans::rest_refused))]
 fn impl_type(marks: MemberMarks, input: &mut ParseBuffer<'_>) -> Parsed<Option<ImplItem>>
     ensures follows { (ts : Stream) → Follows IsSyntax syntax_of_ImplItem rules.kept_impl_item ts (run_plan (plan.impl_type_plan (attributes_syntax marks.attrs.items) (syntax_of_Visibility marks.vis) (maybe default_syntax marks.defaultness)) rules.kept_impl_item ts input.old) result input.new }
 {
@@ -147,11 +159,12 @@ fn impl_type(marks: MemberMarks, input: &mut ParseBuffer<'_>) -> Parsed<Option<I
 
 /// A constant of an impl, behind its `default`; `None` where it is kept as its tokens: with generics, without a value or with a where
 /// clause.
-#[tactic(auto, using(crate::proofs::Kept::only_kept), unfolding(syn_grammar::specs::MemberPlans::impl_const_plan, syn_grammar::specs::ItemPlan::kept_end))]
+#[tactic(auto, using(crate::proofs::ImplPlans::generics_kept, crate::proofs::ImplPlans::value_kept, crate::proofs::ImplPlans::clause_kept), unfolding(syn_grammar::specs::MemberPlans::impl_const_plan))]
 fn impl_const(marks: MemberMarks, input: &mut ParseBuffer<'_>) -> Parsed<Option<ImplItem>>
     ensures follows { (ts : Stream) → Follows IsSyntax syntax_of_ImplItem rules.kept_impl_item ts (run_plan (impl_const_or_kept (attributes_syntax marks.attrs.items) (syntax_of_Visibility marks.vis) (maybe default_syntax marks.defaultness)) rules.kept_impl_item ts input.old) result input.new }
 {
-    let (const_token, ident) = const_head(input)?;
+    let const_token = input.read()?;
+    let ident = name_or::<OrUnderscore>(input)?;
     if input.peek::<Lt>() {
         return Ok(None);
     }

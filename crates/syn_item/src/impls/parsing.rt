@@ -14,7 +14,8 @@ ghost use Rattle.syn_lower.specs.Parsing.{of, rule, meaning_of_rule, parse_rule,
 ghost use Rattle.syn_lower.specs.Parts.{first};
 ghost use Rattle.syn_parse.specs.Form.{by};
 ghost use Rattle.syn_item.specs.ImplForms.{ReadsBefore, bang_then, behind_impl_form, impl_generics_form, impl_of, path_then, types_before, types_then};
-ghost use Rattle.syn_item.specs.Impls.{kept_list, syntax_of_ItemImpl};
+ghost use Rattle.syn_item.specs.Impls.{kept_list};
+ghost use Rattle.syn_item.specs.NextWords.{odd_negative};
 ghost use Rattle.syn_item.specs.Planned.{Follows};
 ghost use Rattle.syn_item.specs.Stages.{impl_types_behind};
 
@@ -83,6 +84,7 @@ fn impl_definition_rest(attrs: Vec<Attribute>, input: &mut ParseBuffer<'_>) -> P
 }
 
 /// An impl, behind its word.
+#[tactic(auto, using(crate::proofs::FirstTypes::generics_refused, crate::proofs::FirstTypes::types_refused, crate::proofs::FirstTypes::whole_read))]
 fn behind_impl(marks: ImplMarks, input: &mut ParseBuffer<'_>) -> Parsed<ItemImpl>
     requires outer { all_attributes_syntax marks.attrs.items ≡ attributes_syntax marks.attrs.items }
     ensures reads { Computes IsSyntax itself (wrap (impl_of marks) (parse_form behind_impl_form input.old)) result input.new }
@@ -113,7 +115,6 @@ fn told(is_odd: bool, first: Span, span: Span, text: &'static str) -> Refusal
 }
 
 /// Generics, where they stand next and no type does.
-#[tactic(auto, using(syn_grammar::proofs::Each::generics_is))]
 pub(crate) fn impl_generics(input: &mut ParseBuffer<'_>) -> Parsed<Generics>
     ensures reads { Computes IsSyntax (λ g. kept_list (first g)) (parse_form impl_generics_form input.old) result input.new }
     ensures kept { Kept input.old result input.new }
@@ -144,7 +145,8 @@ impl Peek for ModulePath {
 }
 
 /// `!` alone; `!`, a path, `for` and a type; a path with `for` and a type or alone; or a type that is no plain path.
-pub(crate) fn implemented(input: &mut ParseBuffer<'_>) -> Parsed<ImplTypes>
+#[tactic(auto, using(crate::proofs::OtherTypes::bang_before, crate::proofs::OtherTypes::path_before, crate::proofs::OtherTypes::other_refused, crate::proofs::OtherTypes::other_read))]
+fn implemented(input: &mut ParseBuffer<'_>) -> Parsed<ImplTypes>
     ensures reads { ReadsBefore IsSyntax types_before (λ f. types_then f input.old) result input.new }
     ensures moved { Moved input.old result input.new }
 {
@@ -162,6 +164,7 @@ pub(crate) fn implemented(input: &mut ParseBuffer<'_>) -> Parsed<ImplTypes>
 }
 
 /// `!`, and before braces nothing else, as a self type; else a path, `for` and a self type.
+#[tactic(auto, using(crate::proofs::FirstTypes::bang_refused, crate::proofs::FirstTypes::never_read, crate::proofs::FirstTypes::negative_path_refused, crate::proofs::FirstTypes::negative_for_refused, crate::proofs::FirstTypes::negative_type_refused, crate::proofs::FirstTypes::negative_read))]
 fn behind_bang(input: &mut ParseBuffer<'_>) -> Parsed<ImplTypes>
     ensures reads { ReadsBefore IsSyntax types_before (λ f. wrap Left (bang_then f input.old)) result input.new }
     ensures moved { Moved input.old result input.new }
@@ -175,10 +178,13 @@ fn behind_bang(input: &mut ParseBuffer<'_>) -> Parsed<ImplTypes>
             self_ty: Box::new(input.alloc(), never)?,
         });
     }
+    let path = input.read()?;
+    let for_token = for_behind_bang(bang_token, input)?;
+    let self_ty = input.read()?;
     Ok(ImplTypes {
         polarity: Some(bang_token),
-        trait_: Some((input.read()?, for_behind_bang(bang_token, input)?)),
-        self_ty: input.read()?,
+        trait_: Some((path, for_token)),
+        self_ty,
     })
 }
 
@@ -198,23 +204,27 @@ fn for_behind_bang(bang_token: Not, input: &mut ParseBuffer<'_>) -> Parsed<For>
 }
 
 /// A path as a trait's, with `for` and a self type behind it; or as the self type.
+#[tactic(auto, using(crate::proofs::FirstTypes::path_refused, crate::proofs::FirstTypes::plain_read, crate::proofs::FirstTypes::trait_for_refused, crate::proofs::FirstTypes::trait_type_refused, crate::proofs::FirstTypes::trait_read))]
 fn behind_path(input: &mut ParseBuffer<'_>) -> Parsed<ImplTypes>
     ensures reads { ReadsBefore IsSyntax types_before (λ f. wrap Right (wrap Left (path_then f input.old))) result input.new }
     ensures moved { Moved input.old result input.new }
 {
     let path = input.read()?;
-    if input.peek::<For>() {
+    if !input.peek::<For>() {
+        let ty = Type::Path(TypePath { qself: None, path });
+        let boxed = Box::new(input.alloc(), ty)?;
         return Ok(ImplTypes {
             polarity: None,
-            trait_: Some((path, input.read()?)),
-            self_ty: input.read()?,
+            trait_: None,
+            self_ty: boxed,
         });
     }
-    let ty = Type::Path(TypePath { qself: None, path });
+    let for_token = input.read()?;
+    let self_ty = input.read()?;
     Ok(ImplTypes {
         polarity: None,
-        trait_: None,
-        self_ty: Box::new(input.alloc(), ty)?,
+        trait_: Some((path, for_token)),
+        self_ty,
     })
 }
 
@@ -250,14 +260,14 @@ pub(crate) fn impl_end(
 }
 
 /// An impl among items, behind its generics; `None` where it is kept as its tokens: with a first type that is no plain path before `for`.
-#[tactic(auto, using(crate::proofs::Kept::only_kept), unfolding(syn_grammar::specs::ItemPlan::impl_types, syn_grammar::specs::ItemPlan::kept_impl))]
+#[tactic(auto, using(crate::proofs::ItemImpls::odd_kept, crate::proofs::ItemImpls::first_refused, crate::proofs::ItemImpls::for_kept, crate::proofs::ItemImpls::impl_read, crate::proofs::ItemImpls::end_refused))]
 pub(crate) fn impl_or_kept(
     marks: ImplMarks,
     generics: Generics,
     input: &mut ParseBuffer<'_>,
 ) -> Parsed<Option<ItemImpl>>
     requires outer { all_attributes_syntax marks.attrs.items ≡ attributes_syntax marks.attrs.items }
-    ensures follows { (ts : Stream) → Follows IsSyntax (λ item. Node (Case rules.impl_definition (syntax_of_ItemImpl item))) rules.kept_item ts (run_plan (impl_types_behind marks (first generics)) rules.kept_item ts input.old) result input.new }
+    ensures follows { (ts : Stream) → Follows IsSyntax (λ item. Node (Case rules.impl_definition item)) rules.kept_item ts (run_plan (impl_types_behind marks (first generics)) rules.kept_item ts input.old) result input.new }
 {
     if at_odd_negative(input) {
         return Ok(None);
@@ -270,6 +280,8 @@ pub(crate) fn impl_or_kept(
 }
 
 /// Whether `!` stands next, with neither braces nor a path in module style behind it.
-fn at_odd_negative(input: &ParseBuffer<'_>) -> bool {
+fn at_odd_negative(input: &ParseBuffer<'_>) -> bool
+    ensures { result ≡ odd_negative input.now }
+{
     input.peek::<Not>() && !input.peek2::<Brace>() && !input.peek2::<ModulePath>()
 }

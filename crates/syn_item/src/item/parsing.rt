@@ -2,11 +2,15 @@
 ghost use Rattle.std.specs.Prelude.{◌≡◌};
 ghost use Rattle.syn_grammar.specs.ItemPlan as plan;
 ghost use Rattle.syn_grammar.specs.Plan.{run_plan};
+ghost use Rattle.syn_grammar.specs.Promises.{OrMemory};
 ghost use Rattle.syn_grammar.specs.Rules as rules;
-ghost use Rattle.syn_grammar.specs.Tokens.{Stream};
+ghost use Rattle.syn_grammar.specs.Take.{sees};
+ghost use Rattle.syn_grammar.specs.Tokens.{Stream, at_word, ◌or_else◌};
+ghost use Rattle.syn_grammar.specs.Words.{w_async, w_fn};
 ghost use Rattle.syn_lower.specs.Attributes.{all_attributes_syntax, attributes_syntax};
 ghost use Rattle.syn_lower.specs.Parsing.{of, rule, meaning_of_rule, IsSyntax};
-ghost use Rattle.syn_item.specs.ItemStages.{behind_place, other_kinds_plan, other_plan_of};
+ghost use Rattle.syn_item.specs.ItemStages.{behind_place, other_kinds_plan, other_plan_of, place_of as place_in_grammar};
+ghost use Rattle.syn_item.specs.ItemTurns.{default_next, no_visibility, place_next};
 ghost use Rattle.syn_item.specs.Items.{syntax_of_Item};
 ghost use Rattle.syn_item.specs.Planned.{Follows};
 
@@ -59,7 +63,9 @@ struct Begun {
 
 impl Begun {
     /// Whether no visibility stands before it.
-    fn is_plain(&self) -> bool {
+    fn is_plain(&self) -> bool
+        ensures { result ≡ no_visibility (place_in_grammar self.now.place) }
+    {
         match self.place {
             Place::Public => false,
             Place::Unwritten => false,
@@ -87,7 +93,7 @@ impl Read for Item {
 
     ghost meaning = { meaning_of_rule rules.item };
 
-    #[tactic(auto, using(syn_grammar::proofs::ItemPlan::item_plan_is, crate::proofs::Kept::kept_whole), unfolding(syn_grammar::specs::ItemPlan::item_plan))]
+    #[tactic(auto, using(crate::proofs::WholeReads::item_attributes_refused, crate::proofs::WholeReads::item_refused, crate::proofs::WholeReads::item_read, crate::proofs::WholeReads::item_moved, crate::proofs::WholeReads::item_kept, crate::proofs::WholeReads::item_kept_moved))]
     fn read(input: &mut ParseBuffer<'_>) -> Parsed<Item> {
         let start = input.fork();
         let attrs = outer_attributes(input)?;
@@ -100,7 +106,7 @@ impl Read for Item {
 }
 
 /// An item, behind its attributes; `None` where it is kept as its tokens.
-#[tactic(auto, using(crate::proofs::Kept::only_kept), unfolding(syn_grammar::specs::ItemPlan::item_behind))]
+#[tactic(auto, using(crate::proofs::ItemPlans::visibility_refused, crate::proofs::ItemPlans::place_follows))]
 fn item_behind(attrs: Vec<Attribute>, input: &mut ParseBuffer<'_>) -> Parsed<Option<Item>>
     requires outer { all_attributes_syntax attrs.items ≡ attributes_syntax attrs.items }
     ensures follows { (ts : Stream) → Follows IsSyntax syntax_of_Item rules.kept_item ts (run_plan (plan.item_behind (attributes_syntax attrs.items)) rules.kept_item ts input.old) result input.new }
@@ -111,7 +117,9 @@ fn item_behind(attrs: Vec<Attribute>, input: &mut ParseBuffer<'_>) -> Parsed<Opt
 }
 
 /// Where what stands next stands.
-fn place_of(input: &ParseBuffer<'_>) -> Place {
+fn place_of(input: &ParseBuffer<'_>) -> Place
+    ensures { place_in_grammar result ≡ place_next input.now }
+{
     if input.peek::<Pub>() {
         Place::Public
     } else if at_empty_group(input) {
@@ -122,7 +130,7 @@ fn place_of(input: &ParseBuffer<'_>) -> Place {
 }
 
 /// An item, behind its visibility; `None` where it is kept as its tokens.
-#[tactic(auto, using(crate::proofs::Kept::only_kept), unfolding(syn_grammar::specs::ItemPlan::behind_visibility, syn_grammar::specs::ItemPlan::struct_plan, syn_grammar::specs::ItemPlan::enum_plan, syn_grammar::specs::ItemPlan::union_plan, syn_grammar::specs::ItemPlan::module_plan))]
+#[tactic(auto, using(crate::proofs::ItemPlans::struct_read, crate::proofs::ItemPlans::struct_refused, crate::proofs::ItemPlans::enum_read, crate::proofs::ItemPlans::enum_refused, crate::proofs::ItemPlans::union_read, crate::proofs::ItemPlans::union_refused, crate::proofs::ItemPlans::type_follows, crate::proofs::ItemPlans::static_follows, crate::proofs::ItemPlans::use_follows, crate::proofs::ItemPlans::mod_read, crate::proofs::ItemPlans::mod_refused, crate::proofs::ItemPlans::others_follow))]
 fn behind_visibility(begun: Begun, input: &mut ParseBuffer<'_>) -> Parsed<Option<Item>>
     requires outer { all_attributes_syntax begun.attrs.items ≡ attributes_syntax begun.attrs.items }
     ensures follows { (ts : Stream) → Follows IsSyntax syntax_of_Item rules.kept_item ts (run_plan (behind_place begun) rules.kept_item ts input.old) result input.new }
@@ -156,7 +164,7 @@ fn behind_visibility(begun: Begun, input: &mut ParseBuffer<'_>) -> Parsed<Option
 }
 
 /// The same, where none of these words stands next.
-#[tactic(auto, using(crate::proofs::Kept::only_kept), unfolding(syn_grammar::specs::ItemPlan::definition_plan))]
+#[tactic(auto, using(crate::proofs::ItemPlans::trait_follows, crate::proofs::ItemPlans::auto_follows, crate::proofs::ItemPlans::definition_kept, crate::proofs::ItemPlans::function_follows, crate::proofs::ItemPlans::extern_follows, crate::proofs::ItemPlans::unsafe_follows, crate::proofs::ItemPlans::const_follows, crate::proofs::ItemPlans::impl_follows, crate::proofs::ItemPlans::rest_follows))]
 fn other_kinds(begun: Begun, input: &mut ParseBuffer<'_>) -> Parsed<Option<Item>>
     requires outer { all_attributes_syntax begun.attrs.items ≡ attributes_syntax begun.attrs.items }
     ensures follows { (ts : Stream) → Follows IsSyntax syntax_of_Item rules.kept_item ts (run_plan (other_kinds_plan begun) rules.kept_item ts input.old) result input.new }
@@ -170,7 +178,7 @@ fn other_kinds(begun: Begun, input: &mut ParseBuffer<'_>) -> Parsed<Option<Item>
     if input.peek::<token::Macro>() {
         return Ok(None);
     }
-    if input.peek::<Fn>() || input.peek::<Async>() {
+    if at_function_word(input) {
         return function_or_kept(begun, input);
     }
     if input.peek::<Extern>() {
@@ -188,8 +196,26 @@ fn other_kinds(begun: Begun, input: &mut ParseBuffer<'_>) -> Parsed<Option<Item>
     without_keyword(begun, input)
 }
 
+/// Whether `fn` or `async` stands next.
+#[tactic(auto, using(syn_grammar::proofs::Looks::sees_or))]
+fn at_function_word(input: &ParseBuffer<'_>) -> bool
+    ensures { result ≡ sees (at_word w_fn or_else at_word w_async) input.now }
+{
+    input.peek::<Fn>() || input.peek::<Async>()
+}
+
+/// Whether `default` stands next, and no macro of that name. Refused only where memory is.
+fn at_default_impl(input: &ParseBuffer<'_>) -> Parsed<bool>
+    ensures { OrMemory IsSyntax result (λ answer. answer ≡ default_next input.now) }
+{
+    if !input.peek::<Default>() {
+        return Ok(false);
+    }
+    Ok(!is_before_macro(input)?)
+}
+
 /// What else may stand, where no visibility was read: an impl behind `default`, or a macro.
-#[tactic(auto, using(crate::proofs::Kept::only_kept), unfolding(syn_grammar::specs::ItemPlan::other_plan, syn_grammar::specs::ItemPlan::macro_plan))]
+#[tactic(auto, using(crate::proofs::ItemPlans::visible_refused, crate::proofs::ItemPlans::default_follows, crate::proofs::ItemPlans::macro_read, crate::proofs::ItemPlans::macro_refused))]
 fn without_keyword(begun: Begun, input: &mut ParseBuffer<'_>) -> Parsed<Option<Item>>
     requires outer { all_attributes_syntax begun.attrs.items ≡ attributes_syntax begun.attrs.items }
     ensures follows { (ts : Stream) → Follows IsSyntax syntax_of_Item rules.kept_item ts (run_plan (other_plan_of begun) rules.kept_item ts input.old) result input.new }
@@ -197,7 +223,7 @@ fn without_keyword(begun: Begun, input: &mut ParseBuffer<'_>) -> Parsed<Option<I
     if !begun.is_plain() {
         return Err(input.refusal("unexpected token"));
     }
-    if input.peek::<Default>() && !is_before_macro(input)? {
+    if at_default_impl(input)? {
         return default_impl(begun, input);
     }
     let item = macro_as_item_rest(begun.attrs, input)?;

@@ -12,6 +12,7 @@ ghost use Rattle.syn_tokens.specs.Kinds.{const_syntax, semi_syntax};
 ghost use Rattle.syn_tokens.specs.Leaves.{maybe};
 ghost use Rattle.syn_tree.specs.Derive.{item_of};
 ghost use Rattle.syn_tree.specs.Restriction.{syntax_of_Visibility};
+ghost use Rattle.syn_item.specs.NextWords.{marked_next};
 ghost use Rattle.syn_item.specs.Planned.{Follows};
 ghost use Rattle.syn_item.specs.Simple.{attributes_by_content};
 ghost use Rattle.syn_item.specs.Stages.{trait_const_or_kept, trait_item_plan_behind};
@@ -173,7 +174,7 @@ impl Read for TraitItem {
 
     ghost meaning = { meaning_of_rule rules.trait_item };
 
-    #[tactic(auto, using(syn_grammar::proofs::MemberPlans::trait_item_plan_is, crate::proofs::Kept::kept_whole), unfolding(syn_grammar::specs::MemberPlans::trait_item_plan))]
+    #[tactic(auto, using(crate::proofs::WholeReads::trait_attributes_refused, crate::proofs::WholeReads::trait_refused, crate::proofs::WholeReads::trait_read, crate::proofs::WholeReads::trait_moved, crate::proofs::WholeReads::trait_kept, crate::proofs::WholeReads::trait_kept_moved))]
     fn read(input: &mut ParseBuffer<'_>) -> Parsed<TraitItem> {
         let start = input.fork();
         let attrs = outer_attributes(input)?;
@@ -186,7 +187,7 @@ impl Read for TraitItem {
 }
 
 /// A member of a trait, behind its attributes; `None` where it is kept as its tokens.
-#[tactic(auto, using(crate::proofs::Kept::only_kept), unfolding(crate::specs::Stages::trait_item_plan_behind))]
+#[tactic(auto, using(crate::proofs::TraitPlans::marked_kept, crate::proofs::TraitPlans::type_read, crate::proofs::TraitPlans::type_refused, crate::proofs::TraitPlans::function_read, crate::proofs::TraitPlans::function_refused, crate::proofs::TraitPlans::const_follows, crate::proofs::TraitPlans::self_refused, crate::proofs::TraitPlans::macro_read, crate::proofs::TraitPlans::macro_refused))]
 fn trait_item_behind(
     attrs: Vec<Attribute>,
     input: &mut ParseBuffer<'_>,
@@ -194,7 +195,7 @@ fn trait_item_behind(
     requires outer { all_attributes_syntax attrs.items ≡ attributes_syntax attrs.items }
     ensures follows { (ts : Stream) → Follows IsSyntax syntax_of_TraitItem rules.kept_trait_item ts (run_plan (trait_item_plan_behind (attributes_syntax attrs.items)) rules.kept_trait_item ts input.old) result input.new }
 {
-    if input.peek::<Pub>() || at_empty_group(input) || input.peek::<Default>() {
+    if at_marked(input) {
         return Ok(None);
     }
     if input.peek::<token::Type>() {
@@ -212,8 +213,15 @@ fn trait_item_behind(
     Ok(Some(TraitItem::Macro(trait_macro(attrs, input)?)))
 }
 
+/// Whether a visibility or `default` stands next.
+fn at_marked(input: &ParseBuffer<'_>) -> bool
+    ensures { result ≡ marked_next input.now }
+{
+    input.peek::<Pub>() || at_empty_group(input) || input.peek::<Default>()
+}
+
 /// A constant of a trait, behind its attributes; `None` where it is kept as its tokens: with generics or with a where clause.
-#[tactic(auto, using(crate::proofs::Kept::only_kept), unfolding(syn_grammar::specs::MemberPlans::trait_const_plan, syn_grammar::specs::ItemPlan::kept_end))]
+#[tactic(auto, using(crate::proofs::TraitPlans::generics_kept, crate::proofs::TraitPlans::clause_kept), unfolding(syn_grammar::specs::MemberPlans::trait_const_plan))]
 fn trait_const(attrs: Vec<Attribute>, input: &mut ParseBuffer<'_>) -> Parsed<Option<TraitItem>>
     ensures follows { (ts : Stream) → Follows IsSyntax syntax_of_TraitItem rules.kept_trait_item ts (run_plan (trait_const_or_kept (attributes_syntax attrs.items)) rules.kept_trait_item ts input.old) result input.new }
 {

@@ -1,17 +1,23 @@
 //! Items that begin with a word that a signature may begin with: functions, and what else begins with `const`, `unsafe` or `extern`.
 ghost use Rattle.std.specs.Prelude.{◌≡◌};
+ghost use Rattle.syn_grammar.specs.Grammar.{◌&◌, Both};
 ghost use Rattle.syn_grammar.specs.ItemPlan as plan;
 ghost use Rattle.syn_grammar.specs.Plan.{run_plan};
 ghost use Rattle.syn_grammar.specs.Promises.{OrMemory};
 ghost use Rattle.syn_grammar.specs.Rules as rules;
-ghost use Rattle.syn_grammar.specs.Tokens.{Stream};
+ghost use Rattle.syn_grammar.specs.Table.{at_extern, optional_item_word};
+ghost use Rattle.syn_grammar.specs.Take.{sees};
+ghost use Rattle.syn_grammar.specs.Tokens.{Stream, and, at_word, or};
+ghost use Rattle.syn_grammar.specs.Words.{w_async, w_auto, w_const, w_fn, w_impl, w_trait, w_unsafe};
 ghost use Rattle.syn_lower.specs.Attributes.{all_attributes_syntax, attributes_syntax};
-ghost use Rattle.syn_lower.specs.Parsing.{IsSyntax};
+ghost use Rattle.syn_lower.specs.Parsing.{rule, parse_form, Computes, IsSyntax};
+ghost use Rattle.syn_parse.specs.Peeks.{past};
 ghost use Rattle.syn_tokens.specs.Kinds.{const_syntax, unsafe_syntax};
 ghost use Rattle.syn_tokens.specs.Leaves.{maybe};
 ghost use Rattle.syn_tree.specs.Restriction.{syntax_of_Visibility};
 ghost use Rattle.syn_item.specs.Items.{syntax_of_Item};
-ghost use Rattle.syn_item.specs.ItemStages.{const_or_kept_plan, const_stage, extern_stage, function_stage, module_next, module_or_function_stage, place_of, unsafe_stage};
+ghost use Rattle.syn_item.specs.ItemStages.{const_stage, extern_stage, function_stage, module_or_function_stage, place_of, unsafe_stage};
+ghost use Rattle.syn_item.specs.ItemTurns.{const_or_kept_turn, module_next, no_visibility};
 ghost use Rattle.syn_item.specs.Planned.{Follows};
 
 use super::impls::impl_behind;
@@ -25,14 +31,14 @@ use crate::sig::Abi;
 use crate::simple::{ItemConst, extern_crate, module};
 use syn_lower::Generics;
 use syn_parse::buffer::ParseBuffer;
-use syn_parse::read::refusal::Parsed;
+use syn_parse::read::refusal::{Parsed, Refusal};
 use syn_tokens::token::{
     Async, Auto, Brace, Const, Crate, Eq, Extern, Fn, Impl, Lt, Mod, Semi, Trait, Unsafe,
 };
 use syn_tree::item::ConstModifiers;
 
 /// A function; `None` where it is kept as its tokens: without a body.
-#[tactic(auto, using(crate::proofs::Kept::only_kept), unfolding(syn_grammar::specs::ItemPlan::function_end, syn_grammar::specs::ItemPlan::kept_end))]
+#[tactic(auto, using(crate::proofs::ItemPlans::signature_refused, crate::proofs::ItemPlans::bodiless_kept, crate::proofs::ItemPlans::function_read, crate::proofs::ItemPlans::function_refused))]
 pub(super) fn function_or_kept(begun: Begun, input: &mut ParseBuffer<'_>) -> Parsed<Option<Item>>
     requires outer { all_attributes_syntax begun.attrs.items ≡ attributes_syntax begun.attrs.items }
     ensures follows { (ts : Stream) → Follows IsSyntax syntax_of_Item rules.kept_item ts (run_plan (function_stage begun) rules.kept_item ts input.old) result input.new }
@@ -46,9 +52,10 @@ pub(super) fn function_or_kept(begun: Begun, input: &mut ParseBuffer<'_>) -> Par
 }
 
 /// What begins with `extern`: an extern crate; without a visibility a foreign module; or a function.
-#[tactic(auto, using(crate::proofs::Kept::only_kept), unfolding(syn_grammar::specs::ItemPlan::extern_crate_plan, syn_grammar::specs::ItemPlan::extern_plan))]
+#[tactic(auto, using(crate::proofs::ItemWords::crate_read, crate::proofs::ItemWords::crate_refused, crate::proofs::ItemWords::no_crate_follows))]
 pub(super) fn behind_extern(begun: Begun, input: &mut ParseBuffer<'_>) -> Parsed<Option<Item>>
     requires outer { all_attributes_syntax begun.attrs.items ≡ attributes_syntax begun.attrs.items }
+    requires next { sees at_extern input.old ≡ true }
     ensures follows { (ts : Stream) → Follows IsSyntax syntax_of_Item rules.kept_item ts (run_plan (extern_stage begun) rules.kept_item ts input.old) result input.new }
 {
     if input.peek2::<Crate>() {
@@ -59,9 +66,10 @@ pub(super) fn behind_extern(begun: Begun, input: &mut ParseBuffer<'_>) -> Parsed
 }
 
 /// What begins with `unsafe`: a module, a trait, without a visibility an impl or a foreign module, or a function.
-#[tactic(auto, using(crate::proofs::Kept::only_kept), unfolding(syn_grammar::specs::ItemPlan::unsafe_plan, syn_grammar::specs::ItemPlan::module_plan))]
+#[tactic(auto, using(crate::proofs::ItemWords::mod_read, crate::proofs::ItemWords::mod_refused, crate::proofs::ItemWords::trait_follows, crate::proofs::ItemWords::impl_follows, crate::proofs::ItemWords::rest_follows))]
 pub(super) fn behind_unsafe(begun: Begun, input: &mut ParseBuffer<'_>) -> Parsed<Option<Item>>
     requires outer { all_attributes_syntax begun.attrs.items ≡ attributes_syntax begun.attrs.items }
+    requires next { sees (at_word w_unsafe) input.old ≡ true }
     ensures follows { (ts : Stream) → Follows IsSyntax syntax_of_Item rules.kept_item ts (run_plan (unsafe_stage begun) rules.kept_item ts input.old) result input.new }
 {
     if input.peek2::<Mod>() {
@@ -69,28 +77,53 @@ pub(super) fn behind_unsafe(begun: Begun, input: &mut ParseBuffer<'_>) -> Parsed
         let item = module(begun.attrs, begun.vis, unsafety, input)?;
         return Ok(Some(Item::Mod(item)));
     }
-    if input.peek2::<Trait>() || input.peek2::<Auto>() {
+    if is_before_trait(input) {
         let unsafety = input.read()?;
         return trait_behind(begun, None, unsafety, input);
     }
-    if begun.is_plain() && input.peek2::<Impl>() {
+    if is_before_impl(&begun, input) {
         let unsafety = input.read()?;
         return impl_behind(begun, None, unsafety, input);
     }
     module_or_function(begun, input)
 }
 
+/// Whether `trait` or `auto` stands past the next tree.
+fn is_before_trait(input: &ParseBuffer<'_>) -> bool
+    ensures { result ≡ or (sees (at_word w_trait) (past input.now)) (sees (at_word w_auto) (past input.now)) }
+{
+    input.peek2::<Trait>() || input.peek2::<Auto>()
+}
+
+/// Whether no visibility was read, and `impl` stands past the next tree.
+fn is_before_impl(begun: &Begun, input: &ParseBuffer<'_>) -> bool
+    ensures { result ≡ and (no_visibility (place_of begun.now.place)) (sees (at_word w_impl) (past input.now)) }
+{
+    begun.is_plain() && input.peek2::<Impl>()
+}
+
 /// A foreign module where no visibility was read and braces stand behind the ABI; else a function.
-#[tactic(auto, using(syn_grammar::proofs::Each::signature_is), unfolding(syn_grammar::specs::ItemPlan::extern_plan, syn_grammar::specs::ItemPlan::unsafe_plan, syn_grammar::specs::ItemPlan::signature_end))]
+#[tactic(auto, using(crate::proofs::ForeignOrFunction::module_read, crate::proofs::ForeignOrFunction::module_refused, crate::proofs::ForeignOrFunction::function_follows))]
 fn module_or_function(begun: Begun, input: &mut ParseBuffer<'_>) -> Parsed<Option<Item>>
     requires outer { all_attributes_syntax begun.attrs.items ≡ attributes_syntax begun.attrs.items }
+    requires next { or (sees at_extern input.old) (sees (at_word w_unsafe) input.old) ≡ true }
     ensures follows { (ts : Stream) → Follows IsSyntax syntax_of_Item rules.kept_item ts (run_plan (module_or_function_stage begun) rules.kept_item ts input.old) result input.new }
 {
-    if begun.is_plain() && at_foreign_module(input)? {
+    if is_foreign_module(&begun, input)? {
         let item = foreign_module_rest(begun.attrs, input)?;
         return Ok(Some(Item::ForeignMod(item)));
     }
     function_or_kept(begun, input)
+}
+
+/// Whether no visibility was read, and a foreign module stands next. Refused only where memory is.
+fn is_foreign_module(begun: &Begun, input: &ParseBuffer<'_>) -> Parsed<bool>
+    ensures { OrMemory IsSyntax result (λ answer. answer ≡ and (no_visibility (place_of begun.now.place)) (module_next input.now)) }
+{
+    if !begun.is_plain() {
+        return Ok(false);
+    }
+    at_foreign_module(input)
 }
 
 /// Whether a foreign module stands next: perhaps `unsafe`, an ABI, and braces. Refused only where memory is.
@@ -98,15 +131,25 @@ fn at_foreign_module(input: &ParseBuffer<'_>) -> Parsed<bool>
     ensures { OrMemory IsSyntax result (λ answer. answer ≡ module_next input.now) }
 {
     let mut ahead = input.fork();
-    let _unsafety: Option<Unsafe> = ahead.read()?;
-    let abi: Option<Abi> = ahead.read()?;
-    Ok(abi.is_some() && ahead.peek::<Brace>())
+    match marked_abi(&mut ahead) {
+        Ok(_) => Ok(ahead.peek::<Brace>()),
+        Err(Refusal::Memory) => Err(Refusal::Memory),
+        Err(Refusal::Syntax { .. }) => Ok(false),
+    }
+}
+
+/// Perhaps `unsafe`, and an ABI.
+fn marked_abi(input: &mut ParseBuffer<'_>) -> Parsed<(Option<Unsafe>, Abi)>
+    ensures { Computes IsSyntax (λ p. Both (maybe unsafe_syntax p.0) p.1) (parse_form (optional_item_word w_unsafe & rule rules.abi) input.old) result input.new }
+{
+    Ok((input.read()?, input.read()?))
 }
 
 /// What begins with `const`: a trait, an impl, a function or a constant.
-#[tactic(auto, using(crate::proofs::Kept::only_kept), unfolding(syn_grammar::specs::ItemPlan::behind_const))]
+#[tactic(auto, using(crate::proofs::ConstPlans::trait_follows, crate::proofs::ConstPlans::auto_follows, crate::proofs::ConstPlans::impl_follows, crate::proofs::ConstPlans::function_follows, crate::proofs::ConstPlans::const_follows))]
 pub(super) fn behind_const(begun: Begun, input: &mut ParseBuffer<'_>) -> Parsed<Option<Item>>
     requires outer { all_attributes_syntax begun.attrs.items ≡ attributes_syntax begun.attrs.items }
+    requires next { sees (at_word w_const) input.old ≡ true }
     ensures follows { (ts : Stream) → Follows IsSyntax syntax_of_Item rules.kept_item ts (run_plan (const_stage begun) rules.kept_item ts input.old) result input.new }
 {
     if input.peek2::<Unsafe>() {
@@ -116,7 +159,7 @@ pub(super) fn behind_const(begun: Begun, input: &mut ParseBuffer<'_>) -> Parsed<
         let const_token = input.read()?;
         return const_trait(begun, const_token, input);
     }
-    if input.peek2::<Auto>() && input.peek3::<Trait>() {
+    if is_before_auto(input) {
         let constness = input.read()?;
         return trait_behind(begun, constness, None, input);
     }
@@ -124,19 +167,41 @@ pub(super) fn behind_const(begun: Begun, input: &mut ParseBuffer<'_>) -> Parsed<
         let constness = input.read()?;
         return const_impl(begun, constness, None, input);
     }
-    if input.peek2::<Async>() || input.peek2::<Extern>() || input.peek2::<Fn>() {
+    if is_before_function(input) {
         return function_or_kept(begun, input);
     }
     const_or_kept(begun, input)
 }
 
+/// Whether `auto` and `trait` stand past the next tree.
+fn is_before_auto(input: &ParseBuffer<'_>) -> bool
+    ensures { result ≡ and (sees (at_word w_auto) (past input.now)) (sees (at_word w_trait) (past (past input.now))) }
+{
+    input.peek2::<Auto>() && input.peek3::<Trait>()
+}
+
+/// Whether a word that goes on a signature stands past the next tree: `async`, `extern` or `fn`.
+fn is_before_function(input: &ParseBuffer<'_>) -> bool
+    ensures { result ≡ or (sees (at_word w_async) (past input.now)) (or (sees at_extern (past input.now)) (sees (at_word w_fn) (past input.now))) }
+{
+    input.peek2::<Async>() || input.peek2::<Extern>() || input.peek2::<Fn>()
+}
+
+/// Whether `trait` or `auto` stands past the next two trees.
+fn is_before_unsafe_trait(input: &ParseBuffer<'_>) -> bool
+    ensures { result ≡ or (sees (at_word w_trait) (past (past input.now))) (sees (at_word w_auto) (past (past input.now))) }
+{
+    input.peek3::<Trait>() || input.peek3::<Auto>()
+}
+
 /// What begins with `const unsafe`: a trait, an impl or a function.
-#[tactic(auto, using(crate::proofs::Kept::only_kept), unfolding(syn_grammar::specs::ItemPlan::behind_const, syn_grammar::specs::ItemPlan::abi_and_signature))]
+#[tactic(auto, using(crate::proofs::ConstPlans::unsafe_trait_follows, crate::proofs::ConstPlans::unsafe_impl_follows, crate::proofs::ConstPlans::unsafe_function_follows))]
 fn behind_const_unsafe(begun: Begun, input: &mut ParseBuffer<'_>) -> Parsed<Option<Item>>
     requires outer { all_attributes_syntax begun.attrs.items ≡ attributes_syntax begun.attrs.items }
+    requires next { and (sees (at_word w_const) input.old) (sees (at_word w_unsafe) (past input.old)) ≡ true }
     ensures follows { (ts : Stream) → Follows IsSyntax syntax_of_Item rules.kept_item ts (run_plan (const_stage begun) rules.kept_item ts input.old) result input.new }
 {
-    if input.peek3::<Trait>() || input.peek3::<Auto>() {
+    if is_before_unsafe_trait(input) {
         let constness = input.read()?;
         let unsafety = input.read()?;
         return trait_behind(begun, constness, unsafety, input);
@@ -151,7 +216,7 @@ fn behind_const_unsafe(begun: Begun, input: &mut ParseBuffer<'_>) -> Parsed<Opti
 
 /// An impl behind its `const`, and perhaps `unsafe`; `None` where it is kept as its tokens, as behind `pub`. Behind an invisible group that
 /// stands for no visibility there is none.
-#[tactic(auto, using(crate::proofs::Kept::only_kept), unfolding(syn_grammar::specs::ItemPlan::const_impl_plan, syn_grammar::specs::ItemPlan::visible_impl))]
+#[tactic(auto, using(crate::proofs::ConstPlans::public_kept, crate::proofs::ConstPlans::unwritten_refused, crate::proofs::ConstPlans::plain_follows))]
 fn const_impl(
     begun: Begun,
     constness: Option<Const>,
@@ -169,9 +234,9 @@ fn const_impl(
 }
 
 /// A constant; `None` where it is kept as its tokens: with generics, with a where clause or without a value.
-#[tactic(auto, using(crate::proofs::Kept::only_kept), unfolding(syn_grammar::specs::ItemPlan::const_plan, syn_grammar::specs::ItemPlan::kept_end))]
+#[tactic(auto, using(crate::proofs::ItemPlans::generics_kept, crate::proofs::ItemPlans::value_kept, crate::proofs::ItemPlans::clause_kept), unfolding(syn_grammar::specs::ItemPlan::const_plan))]
 fn const_or_kept(begun: Begun, input: &mut ParseBuffer<'_>) -> Parsed<Option<Item>>
-    ensures follows { (ts : Stream) → Follows IsSyntax syntax_of_Item rules.kept_item ts (run_plan (const_or_kept_plan (attributes_syntax begun.attrs.items) (syntax_of_Visibility begun.vis)) rules.kept_item ts input.old) result input.new }
+    ensures follows { (ts : Stream) → Follows IsSyntax syntax_of_Item rules.kept_item ts (run_plan (const_or_kept_turn (attributes_syntax begun.attrs.items) (syntax_of_Visibility begun.vis)) rules.kept_item ts input.old) result input.new }
 {
     let const_token = input.read()?;
     let ident = name_or::<OrUnderscore>(input)?;

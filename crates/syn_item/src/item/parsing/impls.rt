@@ -3,17 +3,20 @@ ghost use Rattle.std.specs.Prelude.{◌≡◌};
 ghost use Rattle.syn_grammar.specs.ItemPlan as plan;
 ghost use Rattle.syn_grammar.specs.Plan.{run_plan};
 ghost use Rattle.syn_grammar.specs.Rules as rules;
-ghost use Rattle.syn_grammar.specs.Tokens.{Stream};
+ghost use Rattle.syn_grammar.specs.Table.{at_brace, at_where};
+ghost use Rattle.syn_grammar.specs.Take.{sees};
+ghost use Rattle.syn_grammar.specs.Tokens.{Stream, ◌or_else◌};
 ghost use Rattle.syn_lower.specs.Attributes.{all_attributes_syntax, attributes_syntax};
 ghost use Rattle.syn_lower.specs.Parsing.{IsSyntax};
 ghost use Rattle.syn_tokens.specs.Kinds.{const_syntax, unsafe_syntax};
 ghost use Rattle.syn_tokens.specs.Leaves.{maybe};
 ghost use Rattle.syn_item.specs.Items.{syntax_of_Item};
-ghost use Rattle.syn_item.specs.ItemStages.{bare_impl_plan_of, default_impl_plan, impl_behind_marks, lone_word_plan};
+ghost use Rattle.syn_item.specs.ItemStages.{bare_impl_plan_of, impl_behind_marks, lone_word_plan};
+ghost use Rattle.syn_item.specs.ItemTurns.{default_impl_turn, default_next};
 ghost use Rattle.syn_item.specs.Planned.{Follows};
 
 use super::Begun;
-use crate::impls::{ImplMarks, impl_end, impl_generics, impl_or_kept, implemented};
+use crate::impls::{ImplMarks, ImplTypes, impl_end, impl_generics, impl_or_kept};
 use crate::item::Item;
 use syn_lower::Generics;
 use syn_parse::buffer::ParseBuffer;
@@ -22,7 +25,7 @@ use syn_recognize::item_looks::{at_in_restriction, at_lone_word};
 use syn_tokens::token::{Brace, Const, For, Unsafe, Where};
 
 /// An impl behind its `const` and `unsafe`, each of them or not; `None` where it is kept as its tokens: of what is no plain path for a type.
-#[tactic(auto, using(crate::proofs::Kept::only_kept), unfolding(syn_grammar::specs::ItemPlan::impl_plan))]
+#[tactic(auto, using(crate::proofs::ItemImpls::word_refused, crate::proofs::ItemImpls::word_follows))]
 pub(super) fn impl_behind(
     begun: Begun,
     constness: Option<Const>,
@@ -43,10 +46,11 @@ pub(super) fn impl_behind(
 }
 
 /// An impl that begins with `default`.
-#[tactic(auto, using(crate::proofs::Kept::only_kept), unfolding(syn_grammar::specs::ItemPlan::impl_plan))]
+#[tactic(auto, using(crate::proofs::ItemImpls::default_refused, crate::proofs::ItemImpls::const_refused, crate::proofs::ItemImpls::unsafe_refused, crate::proofs::ItemImpls::impl_refused, crate::proofs::ItemImpls::default_follows))]
 pub(super) fn default_impl(begun: Begun, input: &mut ParseBuffer<'_>) -> Parsed<Option<Item>>
     requires outer { all_attributes_syntax begun.attrs.items ≡ attributes_syntax begun.attrs.items }
-    ensures follows { (ts : Stream) → Follows IsSyntax syntax_of_Item rules.kept_item ts (run_plan (default_impl_plan (attributes_syntax begun.attrs.items)) rules.kept_item ts input.old) result input.new }
+    requires next { default_next input.old ≡ true }
+    ensures follows { (ts : Stream) → Follows IsSyntax syntax_of_Item rules.kept_item ts (run_plan (default_impl_turn (attributes_syntax begun.attrs.items)) rules.kept_item ts input.old) result input.new }
 {
     let marks = ImplMarks {
         attrs: begun.attrs,
@@ -59,7 +63,7 @@ pub(super) fn default_impl(begun: Begun, input: &mut ParseBuffer<'_>) -> Parsed<
 }
 
 /// An impl, behind its word; `None` where it is kept as its tokens.
-#[tactic(auto, using(syn_grammar::proofs::Each::generics_is), unfolding(syn_grammar::specs::ItemPlan::impl_generics))]
+#[tactic(auto, using(crate::proofs::ItemImpls::list_refused, crate::proofs::ItemImpls::types_refused, crate::proofs::ItemImpls::types_read, crate::proofs::ItemImpls::types_kept))]
 fn behind_marks(marks: ImplMarks, input: &mut ParseBuffer<'_>) -> Parsed<Option<Item>>
     requires outer { all_attributes_syntax marks.attrs.items ≡ attributes_syntax marks.attrs.items }
     ensures follows { (ts : Stream) → Follows IsSyntax syntax_of_Item rules.kept_item ts (run_plan (impl_behind_marks marks) rules.kept_item ts input.old) result input.new }
@@ -72,7 +76,7 @@ fn behind_marks(marks: ImplMarks, input: &mut ParseBuffer<'_>) -> Parsed<Option<
 }
 
 /// What begins with `impl`: an impl, or, kept as its tokens, a trait behind a restriction in parentheses. Behind a visibility it is no impl.
-#[tactic(auto, using(crate::proofs::Kept::only_kept), unfolding(syn_grammar::specs::ItemPlan::bare_impl_plan, syn_grammar::specs::ItemPlan::restricted_end))]
+#[tactic(auto, using(crate::proofs::ItemImpls::visible_kept, crate::proofs::ItemImpls::bare_refused, crate::proofs::ItemImpls::restriction_kept, crate::proofs::ItemImpls::lone_follows, crate::proofs::ItemImpls::generics_follow))]
 pub(super) fn bare_impl(begun: Begun, input: &mut ParseBuffer<'_>) -> Parsed<Option<Item>>
     requires outer { all_attributes_syntax begun.attrs.items ≡ attributes_syntax begun.attrs.items }
     ensures follows { (ts : Stream) → Follows IsSyntax syntax_of_Item rules.kept_item ts (run_plan (bare_impl_plan_of begun) rules.kept_item ts input.old) result input.new }
@@ -97,19 +101,33 @@ pub(super) fn bare_impl(begun: Begun, input: &mut ParseBuffer<'_>) -> Parsed<Opt
 }
 
 /// An impl of a type in parentheses that hold one word; `None` where these are a trait's restriction, or stand before `for`.
-#[tactic(auto, using(crate::proofs::Kept::only_kept), unfolding(syn_grammar::specs::ItemPlan::kept_impl, syn_grammar::specs::ItemPlan::restricted_end))]
+#[tactic(auto, using(crate::proofs::ItemImpls::lone_refused, crate::proofs::ItemImpls::lone_for_kept, crate::proofs::ItemImpls::lone_restriction_kept, crate::proofs::ItemImpls::lone_read, crate::proofs::ItemImpls::lone_end_refused))]
 fn impl_of_parentheses(marks: ImplMarks, input: &mut ParseBuffer<'_>) -> Parsed<Option<Item>>
     requires outer { all_attributes_syntax marks.attrs.items ≡ attributes_syntax marks.attrs.items }
+    requires next { sees plan.at_lone_word input.old ≡ true }
     ensures follows { (ts : Stream) → Follows IsSyntax syntax_of_Item rules.kept_item ts (run_plan (lone_word_plan marks) rules.kept_item ts input.old) result input.new }
 {
-    let types = implemented(input)?;
+    let self_ty = input.read()?;
     if input.peek::<For>() {
         return Ok(None);
     }
-    if !input.peek::<Where>() && !input.peek::<Brace>() {
+    if !at_impl_end(input) {
         return Ok(None);
     }
     let generics = Generics::empty(input.alloc());
+    let types = ImplTypes {
+        polarity: None,
+        trait_: None,
+        self_ty,
+    };
     let item = impl_end(marks, generics, types, input)?;
     Ok(Some(Item::Impl(item)))
+}
+
+/// Whether what ends an impl stands next: `where`, or braces.
+#[tactic(auto, using(syn_grammar::proofs::Looks::sees_or))]
+fn at_impl_end(input: &ParseBuffer<'_>) -> bool
+    ensures { result ≡ sees (at_where or_else at_brace) input.now }
+{
+    input.peek::<Where>() || input.peek::<Brace>()
 }

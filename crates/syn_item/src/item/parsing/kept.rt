@@ -5,11 +5,14 @@ ghost use Rattle.syn_grammar.specs.Plan.{run_plan};
 ghost use Rattle.syn_grammar.specs.Promises.{OrMemory};
 ghost use Rattle.syn_grammar.specs.Rules as rules;
 ghost use Rattle.syn_grammar.specs.Run.{parse_rule};
-ghost use Rattle.syn_grammar.specs.Tokens.{Stream};
+ghost use Rattle.syn_grammar.specs.Take.{sees};
+ghost use Rattle.syn_grammar.specs.Tokens.{Stream, at_word};
+ghost use Rattle.syn_grammar.specs.Words.{w_use};
 ghost use Rattle.syn_lower.specs.Attributes.{attributes_syntax};
 ghost use Rattle.syn_lower.specs.Parsing.{IsSyntax};
 ghost use Rattle.syn_tree.specs.Restriction.{syntax_of_Visibility};
 ghost use Rattle.syn_item.specs.Items.{syntax_of_Item};
+ghost use Rattle.syn_item.specs.NextWords.{IsRootedGroup};
 ghost use Rattle.syn_item.specs.Planned.{Follows, IsRead};
 
 use super::Begun;
@@ -63,7 +66,7 @@ pub(super) fn type_or_kept(begun: Begun, input: &mut ParseBuffer<'_>) -> Parsed<
 }
 
 /// A static; `None` where it is kept as its tokens: without a type, or without a value.
-#[tactic(auto, using(crate::proofs::Kept::only_kept), unfolding(syn_grammar::specs::ItemPlan::static_plan, syn_grammar::specs::ItemPlan::kept_end))]
+#[tactic(auto, using(crate::proofs::ItemPlans::untyped_kept, crate::proofs::ItemPlans::unvalued_kept), unfolding(syn_grammar::specs::ItemPlan::static_plan))]
 pub(super) fn static_or_kept(begun: Begun, input: &mut ParseBuffer<'_>) -> Parsed<Option<Item>>
     ensures follows { (ts : Stream) → Follows IsSyntax syntax_of_Item rules.kept_item ts (run_plan (plan.static_plan (attributes_syntax begun.attrs.items) (syntax_of_Visibility begun.vis)) rules.kept_item ts input.old) result input.new }
 {
@@ -96,15 +99,29 @@ pub(super) fn static_or_kept(begun: Begun, input: &mut ParseBuffer<'_>) -> Parse
 }
 
 /// A use; `None` where it is kept as its tokens: of trees in braces of which one has `::` before it.
-#[tactic(auto, using(crate::proofs::Kept::only_kept), unfolding(syn_grammar::specs::ItemPlan::use_plan, syn_grammar::specs::ItemPlan::kept_end))]
+#[tactic(auto, using(crate::proofs::UsePlans::rooted_kept, crate::proofs::UsePlans::use_read, crate::proofs::UsePlans::use_refused))]
 pub(super) fn use_or_kept(begun: Begun, input: &mut ParseBuffer<'_>) -> Parsed<Option<Item>>
+    requires next { sees (at_word w_use) input.old ≡ true }
     ensures follows { (ts : Stream) → Follows IsSyntax syntax_of_Item rules.kept_item ts (run_plan (plan.use_plan (attributes_syntax begun.attrs.items) (syntax_of_Visibility begun.vis)) rules.kept_item ts input.old) result input.new }
 {
-    if input.peek2::<Brace>() && !is_use(input)? {
+    if is_rooted_group(input)? {
         return Ok(None);
     }
     let item = use_item(begun.attrs, begun.vis, input)?;
     Ok(Some(Item::Use(item)))
+}
+
+/// Whether the braces of a use stand past the next tree, and it isn't read. Refused only where memory is.
+fn is_rooted_group(input: &ParseBuffer<'_>) -> Parsed<bool>
+    ensures { OrMemory IsSyntax result (λ answer. IsRootedGroup answer input.now) }
+{
+    if !input.peek2::<Brace>() {
+        return Ok(false);
+    }
+    if is_use(input)? {
+        return Ok(false);
+    }
+    Ok(true)
 }
 
 /// Whether a use stands next that isn't kept as its tokens. It is read by the recognizer, which makes no tree. Refused only where memory

@@ -1,6 +1,6 @@
 //! Traits and trait aliases among items.
-ghost use Rattle.std.specs.Prelude.{◌≡◌, IfOk};
-ghost use Rattle.syn_grammar.specs.Grammar.{Left, Nothing};
+ghost use Rattle.std.specs.Prelude.{◌≡◌};
+ghost use Rattle.syn_grammar.specs.Grammar.{Left};
 ghost use Rattle.syn_grammar.specs.Run.{wrap};
 ghost use Rattle.syn_grammar.specs.ItemPlan as plan;
 ghost use Rattle.syn_grammar.specs.Plan.{run_plan};
@@ -14,7 +14,7 @@ ghost use Rattle.syn_tree.specs.Restriction.{syntax_of_Visibility};
 ghost use Rattle.syn_item.specs.ItemForms.{bounds_end_form};
 ghost use Rattle.syn_item.specs.Items.{syntax_of_Item};
 ghost use Rattle.syn_item.specs.Planned.{Follows};
-ghost use Rattle.syn_item.specs.TraitForms.{alias_of, behind_head, named_form, named_head};
+ghost use Rattle.syn_item.specs.TraitForms.{alias_of};
 
 use super::Begun;
 use crate::item::Item;
@@ -25,7 +25,7 @@ use syn_parse::read::refusal::Parsed;
 use syn_tokens::token::{Const, Eq, Unsafe};
 
 /// A trait behind its `const` and `unsafe`, each of them or not.
-#[tactic(auto, using(syn_grammar::proofs::Each::bare_trait_is), unfolding(syn_grammar::specs::ItemPlan::trait_plan, syn_grammar::specs::ItemPlan::trait_end))]
+#[tactic(auto, using(crate::proofs::ItemTraits::trait_read, crate::proofs::ItemTraits::trait_refused))]
 pub(super) fn trait_behind(
     begun: Begun,
     constness: Option<Const>,
@@ -46,12 +46,25 @@ pub(super) fn trait_behind(
 }
 
 /// A trait or a trait alias, which begins with `trait`.
-#[tactic(auto, using(crate::proofs::Kept::only_kept), unfolding(syn_grammar::specs::ItemPlan::trait_or_alias, syn_grammar::specs::ItemPlan::trait_end))]
+#[tactic(auto, using(crate::proofs::ItemTraits::head_refused, crate::proofs::ItemTraits::alias_read, crate::proofs::ItemTraits::alias_refused, crate::proofs::ItemTraits::named_read, crate::proofs::ItemTraits::named_refused))]
 pub(super) fn trait_or_alias(begun: Begun, input: &mut ParseBuffer<'_>) -> Parsed<Option<Item>>
     requires outer { all_attributes_syntax begun.attrs.items ≡ attributes_syntax begun.attrs.items }
     ensures follows { (ts : Stream) → Follows IsSyntax syntax_of_Item rules.kept_item ts (run_plan (plan.trait_or_alias (attributes_syntax begun.attrs.items) (syntax_of_Visibility begun.vis)) rules.kept_item ts input.old) result input.new }
 {
-    let head = trait_head(begun, None, input)?;
+    let (trait_token, ident, generics) = named_trait(input)?;
+    let marks = TraitMarks {
+        attrs: begun.attrs,
+        vis: begun.vis,
+        constness: None,
+        unsafety: None,
+    };
+    let head = TraitHead {
+        marks,
+        auto_token: None,
+        trait_token,
+        ident,
+        generics,
+    };
     if input.peek::<Eq>() {
         let item = trait_alias(head, input)?;
         return Ok(Some(Item::TraitAlias(item)));
@@ -61,7 +74,7 @@ pub(super) fn trait_or_alias(begun: Begun, input: &mut ParseBuffer<'_>) -> Parse
 }
 
 /// The same behind `const`; `None` where it is kept as its tokens: as an alias.
-#[tactic(auto, using(crate::proofs::Kept::only_kept), unfolding(syn_grammar::specs::ItemPlan::const_trait_or_alias, syn_grammar::specs::ItemPlan::trait_end, syn_grammar::specs::ItemPlan::kept_end))]
+#[tactic(auto, using(crate::proofs::ItemTraits::const_head_refused, crate::proofs::ItemTraits::alias_kept, crate::proofs::ItemTraits::const_read, crate::proofs::ItemTraits::const_refused))]
 pub(super) fn const_trait(
     begun: Begun,
     const_token: Const,
@@ -70,38 +83,25 @@ pub(super) fn const_trait(
     requires outer { all_attributes_syntax begun.attrs.items ≡ attributes_syntax begun.attrs.items }
     ensures follows { (ts : Stream) → Follows IsSyntax syntax_of_Item rules.kept_item ts (run_plan (plan.const_trait_or_alias (attributes_syntax begun.attrs.items) (syntax_of_Visibility begun.vis) (Left (const_syntax const_token))) rules.kept_item ts input.old) result input.new }
 {
-    let head = trait_head(begun, Some(const_token), input)?;
+    let (trait_token, ident, generics) = named_trait(input)?;
+    let marks = TraitMarks {
+        attrs: begun.attrs,
+        vis: begun.vis,
+        constness: Some(const_token),
+        unsafety: None,
+    };
+    let head = TraitHead {
+        marks,
+        auto_token: None,
+        trait_token,
+        ident,
+        generics,
+    };
     if input.peek::<Eq>() {
         return Ok(None);
     }
     let item = trait_end(head, input)?;
     Ok(Some(Item::Trait(item)))
-}
-
-/// A trait or an alias up to its generics.
-fn trait_head(
-    begun: Begun,
-    constness: Option<Const>,
-    input: &mut ParseBuffer<'_>,
-) -> Parsed<TraitHead>
-    requires outer { all_attributes_syntax begun.attrs.items ≡ attributes_syntax begun.attrs.items }
-    ensures reads { Computes IsSyntax (λ h. behind_head h Nothing) (wrap (λ s. named_head (attributes_syntax begun.attrs.items) (syntax_of_Visibility begun.vis) (maybe const_syntax constness) s) (parse_form named_form input.old)) result input.new }
-    ensures outer { IfOk result (λ h. all_attributes_syntax h.marks.attrs.items ≡ attributes_syntax h.marks.attrs.items) }
-    ensures moved { Moved input.old result input.new }
-{
-    let (trait_token, ident, generics) = named_trait(input)?;
-    Ok(TraitHead {
-        marks: TraitMarks {
-            attrs: begun.attrs,
-            vis: begun.vis,
-            constness,
-            unsafety: None,
-        },
-        auto_token: None,
-        trait_token,
-        ident,
-        generics,
-    })
 }
 
 /// A trait alias, behind its generics.
