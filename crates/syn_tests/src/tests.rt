@@ -14,6 +14,7 @@ mod handmade_items;
 mod handmade_types;
 mod item_conversions;
 mod item_trees;
+mod items_behind;
 mod literals;
 mod members;
 mod modifiers;
