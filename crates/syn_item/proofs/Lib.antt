@@ -31,7 +31,6 @@ pub mod SameMacros
 pub mod SameMembers
 pub mod SameParts
 pub mod SameSignatures
-pub mod SolidLists
 pub mod Standing
 pub mod Strings
 pub mod Supplied

@@ -6,7 +6,7 @@ use Rattle.syn_parse.specs.Form.{of}
 use Rattle.syn_parse.specs.Refusals.{IsSyntax}
 use Rattle.syn_tokens.specs.Kinds.{plus_syntax}
 use Rattle.syn_lower.specs.Bounds.{syntax_of_TypeParamBound}
-use Rattle.syn_item.proofs.SolidLists.{answers_solid}
+use Rattle.syn_lower.proofs.Solid.{answers_solid}
 use Rattle.syn_item.proofs.BoundLists.{type_bounds_list}
 use Rattle.syn_item.proofs.pieces.type_bounds.Goals as goal
 
