@@ -623,9 +623,15 @@ def print_enum(source, t):
     return f"        match self {{\n{arms}        }}\n"
 
 
+# From so many parts on, a print of an item is proved part by part: with the parts in any order the search has no end.
+MANY = 6
+
+
 def print_tactic(source, t, body):
     """What the proof of a print is handed beside what all of them are."""
     groups, more = ".open(out)" in body, lemmas(source, t, "print", body)
+    if body.count("?;") >= MANY and t.crate == "syn_item":
+        return tactic(["crate::proofs::LongPrints::in_order"] + more)
     steps = [f"syn_tokens::proofs::Prints::{'groups' if groups else 'prints'}"] if groups or more else []
     return tactic(steps + more)
 

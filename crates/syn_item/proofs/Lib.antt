@@ -18,6 +18,7 @@ pub mod ItemPlans
 pub mod ItemTraits
 pub mod ItemWords
 pub mod Kept
+pub mod LongPrints
 pub mod Macros
 pub mod MemberFunctions
 pub mod MemberLists

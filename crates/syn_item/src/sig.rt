@@ -195,7 +195,7 @@ fn print_inputs(
 
 /// Between parameters and a variadic one a comma is printed though there is none. The where clause stands behind the return type.
 impl Print for Signature {
-    #[tactic(auto, using(syn_tokens::proofs::Prints::prints))]
+    #[tactic(auto, using(crate::proofs::LongPrints::in_order))]
     fn print_in(&self, out: &mut StreamBuilder) -> Result<(), AllocError> {
         self.constness.print_in(out)?;
         self.asyncness.print_in(out)?;

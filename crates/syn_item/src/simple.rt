@@ -193,7 +193,7 @@ fn print_aliased(
 
 /// Modifiers are not printed. The where clause stands where its placement says.
 impl Print for ItemType {
-    #[tactic(auto, using(syn_tokens::proofs::Prints::prints, crate::proofs::Unprinted::print_place_aside))]
+    #[tactic(auto, using(crate::proofs::LongPrints::in_order, crate::proofs::Unprinted::print_place_aside))]
     fn print_in(&self, out: &mut StreamBuilder) -> Result<(), AllocError> {
         print_outer(&self.attrs, out)?;
         self.vis.print_in(out)?;

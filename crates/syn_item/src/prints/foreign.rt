@@ -50,6 +50,7 @@ impl Print for ForeignItemFn {
 impl ToTokens for ForeignItemFn {}
 
 impl Print for ForeignItemStatic {
+    #[tactic(auto, using(crate::proofs::LongPrints::in_order))]
     fn print_in(&self, out: &mut StreamBuilder) -> Result<(), AllocError> {
         print_outer(&self.attrs, out)?;
         self.vis.print_in(out)?;
@@ -66,6 +67,7 @@ impl Print for ForeignItemStatic {
 impl ToTokens for ForeignItemStatic {}
 
 impl Print for ForeignItemType {
+    #[tactic(auto, using(crate::proofs::LongPrints::in_order))]
     fn print_in(&self, out: &mut StreamBuilder) -> Result<(), AllocError> {
         print_outer(&self.attrs, out)?;
         self.vis.print_in(out)?;

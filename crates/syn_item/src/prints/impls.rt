@@ -27,7 +27,7 @@ impl Print for ImplItem {
 impl ToTokens for ImplItem {}
 
 impl Print for ImplItemConst {
-    #[tactic(auto, using(syn_tokens::proofs::Prints::prints, crate::proofs::Unprinted::print_generics_aside))]
+    #[tactic(auto, using(crate::proofs::LongPrints::in_order, crate::proofs::Unprinted::print_generics_aside))]
     fn print_in(&self, out: &mut StreamBuilder) -> Result<(), AllocError> {
         print_outer(&self.attrs, out)?;
         self.vis.print_in(out)?;
@@ -57,6 +57,7 @@ impl Print for ImplItemFn {
 impl ToTokens for ImplItemFn {}
 
 impl Print for ImplItemType {
+    #[tactic(auto, using(crate::proofs::LongPrints::in_order))]
     fn print_in(&self, out: &mut StreamBuilder) -> Result<(), AllocError> {
         print_outer(&self.attrs, out)?;
         self.vis.print_in(out)?;

@@ -13,7 +13,7 @@ use syn_tokens::print::{Print, ToTokens, print_list};
 use syn_tokens::stream::builder::StreamBuilder;
 
 impl Print for ItemConst {
-    #[tactic(auto, using(syn_tokens::proofs::Prints::prints, crate::proofs::Unprinted::print_generics_aside))]
+    #[tactic(auto, using(crate::proofs::LongPrints::in_order, crate::proofs::Unprinted::print_generics_aside))]
     fn print_in(&self, out: &mut StreamBuilder) -> Result<(), AllocError> {
         print_outer(&self.attrs, out)?;
         self.vis.print_in(out)?;
@@ -30,6 +30,7 @@ impl Print for ItemConst {
 impl ToTokens for ItemConst {}
 
 impl Print for ItemStatic {
+    #[tactic(auto, using(crate::proofs::LongPrints::in_order))]
     fn print_in(&self, out: &mut StreamBuilder) -> Result<(), AllocError> {
         print_outer(&self.attrs, out)?;
         self.vis.print_in(out)?;
@@ -74,6 +75,7 @@ impl Print for ItemUse {
 impl ToTokens for ItemUse {}
 
 impl Print for ItemExternCrate {
+    #[tactic(auto, using(crate::proofs::LongPrints::in_order))]
     fn print_in(&self, out: &mut StreamBuilder) -> Result<(), AllocError> {
         print_outer(&self.attrs, out)?;
         self.vis.print_in(out)?;
@@ -92,6 +94,7 @@ impl ToTokens for ItemMod {}
 impl ToTokens for ItemMacro {}
 
 impl Print for ItemTraitAlias {
+    #[tactic(auto, using(crate::proofs::LongPrints::in_order))]
     fn print_in(&self, out: &mut StreamBuilder) -> Result<(), AllocError> {
         print_outer(&self.attrs, out)?;
         self.vis.print_in(out)?;

@@ -30,7 +30,7 @@ impl Print for TraitItem {
 impl ToTokens for TraitItem {}
 
 impl Print for TraitItemConst {
-    #[tactic(auto, using(syn_tokens::proofs::Prints::prints, crate::proofs::Unprinted::print_generics_aside))]
+    #[tactic(auto, using(crate::proofs::LongPrints::in_order, crate::proofs::Unprinted::print_generics_aside))]
     fn print_in(&self, out: &mut StreamBuilder) -> Result<(), AllocError> {
         print_outer(&self.attrs, out)?;
         self.const_token.print_in(out)?;
@@ -47,7 +47,7 @@ impl ToTokens for TraitItemConst {}
 impl ToTokens for TraitItemFn {}
 
 impl Print for TraitItemType {
-    #[tactic(auto, using(syn_tokens::proofs::Prints::prints, syn_lower::proofs::GenericPrints::print_bounds))]
+    #[tactic(auto, using(crate::proofs::LongPrints::in_order, syn_lower::proofs::GenericPrints::print_bounds))]
     fn print_in(&self, out: &mut StreamBuilder) -> Result<(), AllocError> {
         print_outer(&self.attrs, out)?;
         self.type_token.print_in(out)?;
