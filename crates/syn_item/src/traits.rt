@@ -112,7 +112,7 @@ pub struct TraitItemMacro {
 
 /// `unsafe` is printed before `auto`. Without bounds the colon isn't printed.
 impl Print for ItemTrait {
-    #[tactic(auto, using(syn_tokens::proofs::Prints::prints, syn_lower::proofs::GenericPrints::print_bounds))]
+    #[tactic(auto, using(crate::proofs::LongPrints::in_order, syn_lower::proofs::GenericPrints::print_bounds))]
     fn print_in(&self, out: &mut StreamBuilder) -> Result<(), AllocError> {
         print_before_body(&self.attrs, out)?;
         self.vis.print_in(out)?;
