@@ -13,7 +13,6 @@ mod handmade_generics;
 mod handmade_items;
 mod handmade_types;
 mod item_conversions;
-mod item_trees;
 mod items_behind;
 mod literals;
 mod members;
