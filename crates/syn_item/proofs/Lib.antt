@@ -36,6 +36,7 @@ pub mod Standing
 pub mod Strings
 pub mod Supplied
 pub mod TraitPlans
+pub mod TypePlans
 pub mod Unprinted
 pub mod UsePlans
 pub mod Uses

@@ -47,6 +47,14 @@ aliased_form = such one_where (rule where_clause & punctuation equals & rule typ
 abbrev pub type_form : Grammar
 type_form = unshown & plainly (word w_type) & plainly name & rule generics & unshown & aliased_form & punctuation semicolon
 
+-- behind the generics
+abbrev pub alias_end_form : Grammar
+alias_end_form = aliased_form & punctuation semicolon
+
+-- a type alias of its attributes, its visibility, `type`, its name and its generics, and what stands behind these
+abbrev pub alias_syntax : Syntax → Syntax → Syntax → Syntax → Syntax → Syntax → Syntax
+alias_syntax attrs vis token ident params s = item_of attrs vis (Both (Unshown Nothing) (Both token (Both ident (Both params (Both (Unshown Nothing) s)))))
+
 abbrev pub aliased_syntax : AliasParts → Syntax
 aliased_syntax a = aliased (syntax_of_WhereClausePlacement a.placement) (where_part a.where_clause) (eq_syntax a.eq_token) (syntax_of_Type a.ty.value)
 

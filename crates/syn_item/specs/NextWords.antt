@@ -2,10 +2,10 @@
 use Rattle.std.specs.Prelude.{◌≡◌, Bool, true, false, Some, None}
 use Rattle.syn_grammar.specs.Words.{w_async, w_const, w_default, w_fn, w_pub, w_safe, w_static, w_type, w_unsafe}
 use Rattle.syn_grammar.specs.Tokens.{Stream, Before_colons, Before_macro, ahead, and, at_empty_group, at_word, no, or, pick}
-use Rattle.syn_grammar.specs.Table.{at_brace, at_exclamation, at_extern, at_module_path}
+use Rattle.syn_grammar.specs.Table.{at_brace, at_equals, at_exclamation, at_extern, at_module_path}
 use Rattle.syn_grammar.specs.Rules.{use_item_rest}
 use Rattle.syn_grammar.specs.Grammar.{Syntax}
-use Rattle.syn_grammar.specs.Take.{sees}
+use Rattle.syn_grammar.specs.Take.{Out, sees}
 use Rattle.syn_grammar.specs.Run.{parse_rule}
 use Rattle.syn_grammar.specs.MemberPlans.{at_function}
 use Rattle.syn_parse.specs.Peeks.{past}
@@ -50,3 +50,8 @@ odd_negative ts = and (sees at_exclamation ts) (and (no (sees at_brace (past ts)
 abbrev pub IsRootedGroup : Bool → Stream → Type 0
 IsRootedGroup true ts = (sees at_brace (past ts) ≡ true) × (parse_rule use_item_rest ts ≡ None)
 IsRootedGroup false ts = sees at_brace (past ts) ≡ true → (p : Syntax × Stream) × (parse_rule use_item_rest ts ≡ Some p)
+
+-- whether `=` stands behind a where clause that was read; a clause that isn't read is refused where it stands
+abbrev pub equals_ahead : Out → Bool
+equals_ahead None = true
+equals_ahead (Some p) = sees at_equals p.1

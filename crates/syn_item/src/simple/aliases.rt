@@ -6,14 +6,16 @@ ghost use Rattle.syn_grammar.specs.Table as table;
 ghost use Rattle.syn_grammar.specs.Grammar.{Both, Nothing, Unshown};
 ghost use Rattle.syn_grammar.specs.Run.{wrap};
 ghost use Rattle.syn_parse.specs.Form.{by};
-ghost use Rattle.syn_tokens.specs.Kinds.{plus_syntax};
+ghost use Rattle.syn_tokens.specs.Kinds.{plus_syntax, type_syntax};
+ghost use Rattle.syn_tokens.specs.Leaves.{syntax_of_ident};
+ghost use Rattle.syn_lower.specs.Parts.{first};
 ghost use Rattle.syn_lower.specs.Attributes.{attributes_syntax};
 ghost use Rattle.syn_lower.specs.Bounds.{syntax_of_TypeParamBound};
 ghost use Rattle.syn_lower.specs.Generics.{where_part};
 ghost use Rattle.syn_lower.specs.Parsing.{of, rule, list_of, meaning_of_rule, parse_form, parse_rule, Computes, Kept, Moved, itself, IsSyntax};
 ghost use Rattle.syn_tree.specs.Derive.{item_of};
 ghost use Rattle.syn_tree.specs.Restriction.{syntax_of_Visibility};
-ghost use Rattle.syn_item.specs.ItemForms.{aliased_form, aliased_syntax, bounds_end_form, bounds_end_syntax, place_by, type_form};
+ghost use Rattle.syn_item.specs.ItemForms.{alias_end_form, alias_syntax, aliased_form, aliased_syntax, bounds_end_form, bounds_end_syntax, place_by, type_form};
 ghost use Rattle.syn_item.specs.Simple.{place_aside, syntax_of_WhereClausePlacement};
 
 use crate::simple::{ItemTraitAlias, ItemType, WhereClausePlacement};
@@ -24,8 +26,9 @@ use syn_parse::buffer::ParseBuffer;
 use syn_parse::read::lists::punctuated_list;
 use syn_parse::read::refusal::Parsed;
 use syn_parse::read::{Peek, Read};
+use syn_tokens::ident::Ident;
 use syn_tokens::punctuated::Punctuated;
-use syn_tokens::token::{Eq, Plus, Semi, Where};
+use syn_tokens::token::{self, Eq, Plus, Semi, Where};
 use syn_tree::item::TypeModifiers;
 use syn_tree::restriction::Visibility;
 
@@ -82,6 +85,33 @@ pub(crate) fn type_alias(
     })
 }
 
+/// A type alias behind its generics.
+pub(crate) fn type_behind_head(
+    attrs: Vec<Attribute>,
+    vis: Visibility,
+    head: (token::Type, Ident, Generics),
+    input: &mut ParseBuffer<'_>,
+) -> Parsed<ItemType>
+    ensures reads { Computes IsSyntax itself (wrap (alias_syntax (attributes_syntax attrs.items) (syntax_of_Visibility vis) (type_syntax head.0) (syntax_of_ident head.1) (first head.2)) (parse_form alias_end_form input.old)) result input.new }
+    ensures moved { Moved input.old result input.new }
+{
+    let (type_token, ident, generics) = head;
+    let aliased = aliased(input)?;
+    let semi_token = input.read()?;
+    Ok(ItemType {
+        attrs,
+        vis,
+        modifiers: TypeModifiers::default(),
+        type_token,
+        ident,
+        generics: generics.with_where(aliased.where_clause),
+        eq_token: aliased.eq_token,
+        ty: aliased.ty,
+        semi_token,
+        where_clause_placement: aliased.placement,
+    })
+}
+
 /// What a type alias stands for, with its where clause.
 #[derive(Drop)]
 struct AliasParts {
@@ -117,7 +147,7 @@ fn aliased(input: &mut ParseBuffer<'_>) -> Parsed<AliasParts>
 }
 
 /// The clause that stands, and its place.
-pub(crate) fn placed(
+fn placed(
     is_late: bool,
     early: Option<WhereClause>,
     late: Option<WhereClause>,

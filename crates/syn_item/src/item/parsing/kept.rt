@@ -12,57 +12,47 @@ ghost use Rattle.syn_lower.specs.Attributes.{attributes_syntax};
 ghost use Rattle.syn_lower.specs.Parsing.{IsSyntax};
 ghost use Rattle.syn_tree.specs.Restriction.{syntax_of_Visibility};
 ghost use Rattle.syn_item.specs.Items.{syntax_of_Item};
-ghost use Rattle.syn_item.specs.NextWords.{IsRootedGroup};
+ghost use Rattle.syn_item.specs.NextWords.{equals_ahead, IsRootedGroup};
 ghost use Rattle.syn_item.specs.Planned.{Follows, IsRead};
 
 use super::Begun;
 use crate::item::Item;
 use crate::pieces::type_head;
-use crate::simple::{ItemStatic, ItemType, placed};
+use crate::simple::{ItemStatic, type_behind_head};
 use crate::use_tree::use_item;
-use syn_lower::where_clause::where_clause;
 use syn_parse::buffer::ParseBuffer;
 use syn_parse::read::refusal::{Parsed, Refusal};
 use syn_recognize::{Rule, read_by};
-use syn_tokens::token::{Brace, Colon, Eq, Where};
-use syn_tree::item::TypeModifiers;
+use syn_tokens::token::{Brace, Colon, Eq};
 
 /// A type alias; `None` where it is kept as its tokens: with a colon behind its generics, or without `=` behind these and a where clause.
 /// Where a clause stands before the `=` and behind the type, what follows the second one is refused.
-#[tactic(auto, using(crate::proofs::Kept::only_kept), unfolding(syn_grammar::specs::ItemPlan::type_plan, syn_grammar::specs::ItemPlan::kept_end))]
+#[tactic(auto, using(crate::proofs::TypePlans::head_refused, crate::proofs::TypePlans::colon_kept, crate::proofs::TypePlans::no_alias_kept, crate::proofs::TypePlans::alias_refused, crate::proofs::TypePlans::alias_read))]
 pub(super) fn type_or_kept(begun: Begun, input: &mut ParseBuffer<'_>) -> Parsed<Option<Item>>
     ensures follows { (ts : Stream) → Follows IsSyntax syntax_of_Item rules.kept_item ts (run_plan (plan.type_plan (attributes_syntax begun.attrs.items) (syntax_of_Visibility begun.vis)) rules.kept_item ts input.old) result input.new }
 {
-    let (type_token, ident, generics) = type_head(input)?;
+    let head = type_head(input)?;
     if input.peek::<Colon>() {
         return Ok(None);
     }
-    let is_early = input.peek::<Where>();
-    let early = where_clause(input)?;
-    if !input.peek::<Eq>() {
+    if !is_alias(input)? {
         return Ok(None);
     }
-    let eq_token = input.read()?;
-    let ty = input.read()?;
-    let is_late = input.peek::<Where>();
-    let late = where_clause(input)?;
-    if is_early && is_late {
-        return Err(input.refusal("unexpected token"));
+    let item = type_behind_head(begun.attrs, begun.vis, head, input)?;
+    Ok(Some(Item::Ty(item)))
+}
+
+/// Whether `=` stands behind the where clause that stands next, if one does. The clause is read by the recognizer, which makes no tree.
+/// Refused only where memory is.
+fn is_alias(input: &ParseBuffer<'_>) -> Parsed<bool>
+    ensures { OrMemory IsSyntax result (λ answer. answer ≡ equals_ahead (parse_rule rules.where_clause input.now)) }
+{
+    let mut ahead = input.fork();
+    match read_by(Rule::WhereClause, &mut ahead) {
+        Ok(()) => Ok(ahead.peek::<Eq>()),
+        Err(Refusal::Memory) => Err(Refusal::Memory),
+        Err(Refusal::Syntax { .. }) => Ok(true),
     }
-    let (placement, clause) = placed(is_late, early, late);
-    let semi_token = input.read()?;
-    Ok(Some(Item::Ty(ItemType {
-        attrs: begun.attrs,
-        vis: begun.vis,
-        modifiers: TypeModifiers::default(),
-        type_token,
-        ident,
-        generics: generics.with_where(clause),
-        eq_token,
-        ty,
-        semi_token,
-        where_clause_placement: placement,
-    })))
 }
 
 /// A static; `None` where it is kept as its tokens: without a type, or without a value.
