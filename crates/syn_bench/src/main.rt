@@ -3,8 +3,7 @@
 //!     syn_bench ROUNDS         reads a struct from standard input; the nanoseconds of a round: text to tokens, tokens to
 //!                              a tree, the tree to tokens, tokens to text, and letting all of it go
 //!     syn_bench stmts ROUNDS   the same of statements
-//!     syn_bench file ROUNDS    the same of a file, without a tree: its print is written while it is read, and no time is left for a
-//!                              step of its own
+//!     syn_bench file ROUNDS    the same of a file
 //!     syn_bench read ROUNDS    reads any source; of a round: text to tokens, and letting them go
 //!     syn_bench text ROUNDS    reads any source once; of a round: tokens to text, and letting that go
 //!
@@ -19,15 +18,13 @@ use std::alloc::Global;
 use std::process::ExitCode;
 use std::time::{Clock, Duration, Instant};
 use std::{env, io};
-use syn::ToTokens;
 use syn::canon::Stmts;
 use syn::derive::DeriveInput;
 use syn::error::Error;
 use syn::parse::{Parse, parse2};
 use syn::reader::{read_tokens, token_text};
 use syn::token::TokenStream;
-use syn_answers::answers::canonical_by;
-use syn_recognize::Rule;
+use syn::{File, ToTokens};
 
 /// Why a run ends without its answer.
 #[derive(Drop)]
@@ -89,41 +86,6 @@ fn round<T: Parse + ToTokens + Drop, C: Clock>(
     let bytes = written.len();
     let start = Instant::now(clock)?;
     drop(tree);
-    drop(printed);
-    drop(written);
-    let dropped = start.elapsed(clock)?;
-    let times = Times {
-        read,
-        parse,
-        print,
-        text,
-        drop: dropped,
-    };
-    Ok((times, bytes))
-}
-
-/// Takes the source through all steps once, by the rule and without a tree, and tells how many bytes its text has.
-fn round_by<C: Clock>(
-    rule: Rule,
-    clock: &C,
-    alloc: Global,
-    source: &str,
-) -> Result<(Times, usize), Stop> {
-    let start = Instant::now(clock)?;
-    let tokens = read_tokens(alloc, source)?;
-    let read = start.elapsed(clock)?;
-
-    let start = Instant::now(clock)?;
-    let printed = canonical_by(rule, tokens)?;
-    let parse = start.elapsed(clock)?;
-    let print = Instant::now(clock)?.elapsed(clock)?;
-
-    let start = Instant::now(clock)?;
-    let written = token_text(&printed)?;
-    let text = start.elapsed(clock)?;
-
-    let bytes = written.len();
-    let start = Instant::now(clock)?;
     drop(printed);
     drop(written);
     let dropped = start.elapsed(clock)?;
@@ -200,7 +162,7 @@ fn run(rt: &HostRuntime) -> Result<(), Stop> {
     match task {
         Task::Derive => rounds_of::<DeriveInput>(rt, rounds, source.as_str()),
         Task::Stmts => rounds_of::<Stmts>(rt, rounds, source.as_str()),
-        Task::File => rounds_by(Rule::File, rt, rounds, source.as_str()),
+        Task::File => rounds_of::<File>(rt, rounds, source.as_str()),
         Task::Read => read_rounds(rt, rounds, source.as_str()),
         Task::Text => text_rounds(rt, rounds, source.as_str()),
     }
@@ -249,17 +211,6 @@ fn rounds_of<T: Parse + ToTokens + Drop>(
     let mut bytes = 0;
     for _ in 0..rounds {
         let (times, length) = round::<T, HostRuntime>(rt, rt.alloc(), source)?;
-        bytes = length;
-        write_times(rt, &times)?;
-    }
-    println!(rt; "{bytes}")?;
-    Ok(())
-}
-
-fn rounds_by(rule: Rule, rt: &HostRuntime, rounds: u32, source: &str) -> Result<(), Stop> {
-    let mut bytes = 0;
-    for _ in 0..rounds {
-        let (times, length) = round_by(rule, rt, rt.alloc(), source)?;
         bytes = length;
         write_times(rt, &times)?;
     }
