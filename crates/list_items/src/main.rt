@@ -43,7 +43,10 @@ fn run<R: Read + Drop, W: Write + Drop, V: Write + Drop>(
             .and_then(|_| output.flush())
         {
             Ok(()) => 0,
-            Err(_) => 1,
+            Err(_) => {
+                let _ = writeln!(faults, "write failed");
+                1
+            }
         },
         Err(error) => {
             let start = error.span().start;
