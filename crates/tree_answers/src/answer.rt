@@ -13,7 +13,12 @@ use syn_outlines::stream_shown;
 pub(crate) struct Place {
     pub(crate) told: usize,
     pub(crate) stopped: usize,
+    /// What is told is wrong with an impl's trait.
+    pub(crate) is_of_impl: bool,
 }
+
+/// What is told of an impl's trait.
+const OF_IMPLS: [&str; 2] = ["expected trait path", "inherent impls cannot be negative"];
 
 /// What is answered to a question about a text.
 #[derive(PartialEq, Drop)]
@@ -75,14 +80,19 @@ impl Answer {
         Answer::Refused(Place {
             told: start,
             stopped: start,
+            is_of_impl: error
+                .faults()
+                .iter()
+                .any(|fault| OF_IMPLS.contains(&fault.text)),
         })
     }
 
-    /// Whether this answer by trees is the same as that by the rule. Trees may tell of a refusal at either byte.
+    /// Whether this answer by trees is the same as that by the rule. What is wrong with an impl's trait is told at the byte at which
+    /// reading stopped where the impl is kept as its tokens.
     pub(crate) fn is_as_by_rule(&self, by_rule: &Answer) -> bool {
         match (self, by_rule) {
             (Answer::Refused(tree), Answer::Refused(rule)) => {
-                tree.told == rule.told || tree.told == rule.stopped
+                tree.told == rule.told || rule.is_of_impl && tree.told == rule.stopped
             }
             _ => self == by_rule,
         }
