@@ -1,5 +1,5 @@
 -- The parameters of a signature, one after the other.
-use Rattle.std.proofs.Common.{◌≡◌, ◌≢◌, Bool, true, false, List, [], ◌∷◌, ◌++◌, Some, None, refl, sym, ap, ◌∙◌}
+use Rattle.std.proofs.Common.{◌≡◌, ◌≢◌, Bool, true, false, List, [], ◌∷◌, ◌++◌, Some, None, refl, sym, ap, ap₂, ◌∙◌}
 use Rattle.std.specs.Prelude.{Option}
 use Rattle.syn_grammar.specs.Words.{comma}
 use Rattle.syn_grammar.specs.Tokens.{Stream, Before_less, ended, pick}
@@ -182,6 +182,12 @@ module _ (l : Pairs) (ts : Stream) (goes_on : sees ended ts ≡ false) where
       ∙ wrap_wrap (before_parameters l) (λ t. Node (more_members parameters (syntax_of_FnArg x) (comma_syntax c) t)) (parse_rule later_inputs r)
       ∙ wrap_same _ _ (λ s. sym (front_grows l x c s)) (parse_rule later_inputs r)
 
+  -- one, and no comma where it has to stand
+  pub no_comma : (x : FnArg-m.the_data) (m : Stream) → read_parameter (is_first {B = FnArg-m.the_data} l None) ts ≡ Some (Left (syntax_of_FnArg x), m) → sees at_comma m ≡ true → take_mark comma m ≡ None →
+      wrap (before_parameters l) (inputs_by (is_first {B = FnArg-m.the_data} l None) ts) ≡ None
+  no_comma x m e h k =
+      ap (wrap (before_parameters l)) (step (is_first {B = FnArg-m.the_data} l None) ts goes_on ∙ ap (λ o. after o parameters_behind) e ∙ ap (λ b. pick b (after (take_mark comma m) _) _) h ∙ ap (λ o. after o (λ sign n. wrap (λ t. Node (more_members parameters (syntax_of_FnArg x) sign t)) (parse_rule later_inputs n))) k)
+
   -- the last one, without a comma
   pub last_one : (x : FnArg-m.the_data) (m : Stream) → read_parameter (is_first {B = FnArg-m.the_data} l None) ts ≡ Some (Left (syntax_of_FnArg x), m) → sees at_comma m ≡ false →
       wrap (before_parameters l) (inputs_by (is_first {B = FnArg-m.the_data} l None) ts) ≡ Some (parameters_of (listed l (Some x)) (Right Nothing), m)
@@ -208,6 +214,22 @@ all_read l ts h = ap (wrap (before_parameters l)) (at_end (is_first {B = FnArg-m
 pub later : (l : Pairs) (x : FnArg-m.the_data) (c : Comma) → is_first {B = FnArg-m.the_data} (l ++ (x, c) ∷ []) None ≡ false
 later [] x c = refl
 later (y ∷ l) x c = refl
+
+-- with one more pair
+pub grown : (k : Sequence FnArg-m.the_data Comma) (l : Pairs) (x : FnArg-m.the_data) (c : Comma) (r : Stream) → k ≡ record { pairs = l ++ (x, c) ∷ []; last = None } →
+    wrap (before_parameters (l ++ (x, c) ∷ [])) (inputs_by false r) ≡ wrap (before_parameters k.pairs) (inputs_by (is_first k.pairs k.last) r)
+grown k l x c r e =
+    ap (λ b. wrap (before_parameters (l ++ (x, c) ∷ [])) (inputs_by b r)) (sym (later l x c))
+    ∙ sym (ap (λ (n : Sequence FnArg-m.the_data Comma). wrap (before_parameters n.pairs) (inputs_by (is_first n.pairs n.last) r)) e)
+
+-- so far, where the last one has its comma
+pub so_far : (k : Sequence FnArg-m.the_data Comma) (ts : Stream) → k.last ≡ None →
+    wrap (before_parameters k.pairs) (inputs_by (is_first k.pairs k.last) ts) ≡ wrap (before_parameters k.pairs) (inputs_by (is_first {B = FnArg-m.the_data} k.pairs None) ts)
+so_far k ts e = ap (λ (o : Option FnArg-m.the_data). wrap (before_parameters k.pairs) (inputs_by (is_first k.pairs o) ts)) e
+
+-- all of them, in the list that was made
+pub made_of : (k n : Sequence FnArg-m.the_data Comma) (v u : Syntax) (m : Stream) → k ≡ n → v ≡ u → Some (parameters_of (listed n.pairs n.last) u, m) ≡ Some (parameters_of (listed k.pairs k.last) v, m)
+made_of k n v u m e f = sym (ap₂ (λ (s : Sequence FnArg-m.the_data Comma) (t : Syntax). Some (parameters_of (listed s.pairs s.last) t, m)) e f)
 
 -- a parameter is the first where none is listed
 pub none_before : (l : Sequence FnArg-m.the_data Comma) → l ≡ nothing_listed → is_first l.pairs l.last ≡ true

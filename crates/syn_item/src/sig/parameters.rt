@@ -45,7 +45,6 @@ enum OneParameter {
 }
 
 /// Parameters to the end, separated by commas; the last comma may stand or not. A receiver stands first only, and a variadic one last only.
-#[tactic(auto, using(crate::proofs::Inputs::all_read, crate::proofs::Inputs::none_more, crate::proofs::Inputs::last_one, crate::proofs::Inputs::variadic_one))]
 pub(crate) fn parameters(input: &mut ParseBuffer<'_>) -> Parsed<ParameterList>
     ensures reads { Computes IsSyntax (λ p. parameters_of (list_of syntax_of_FnArg comma_syntax p.inputs.pairs p.inputs.last) (maybe itself p.variadic)) (parse_rule rules.inputs input.old) result input.new }
     ensures kept { Kept input.old result input.new }
