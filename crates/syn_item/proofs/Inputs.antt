@@ -173,12 +173,16 @@ comma_stands : (l : Pairs) → comma_behind (listed l None) ≡ listed l None
 comma_stands [] = refl
 comma_stands (x ∷ l) = ap (λ s. Node (Right (Both (syntax_of_FnArg x.0) (Left (Both (comma_syntax x.1) s))))) (comma_stands l)
 
+-- behind a parameter, by whether a comma stands next
+abbrev behind : Syntax → Stream → Bool → Out
+behind x m b = pick b (after (take_mark comma m) (λ sign n. wrap (λ t. Node (more_members parameters x sign t)) (parse_rule later_inputs n))) (Some (Node (one_member parameters x Nothing (Right Nothing)), m))
+
 module _ (l : Pairs) (ts : Stream) (goes_on : sees ended ts ≡ false) where
   -- one more, and a comma behind it
   pub one_more : (x : FnArg-m.the_data) (c : Comma) (m r : Stream) → read_parameter (is_first {B = FnArg-m.the_data} l None) ts ≡ Some (Left (syntax_of_FnArg x), m) → sees at_comma m ≡ true → take_mark comma m ≡ Some (comma_syntax c, r) →
       wrap (before_parameters l) (inputs_by (is_first {B = FnArg-m.the_data} l None) ts) ≡ wrap (before_parameters (l ++ (x, c) ∷ [])) (inputs_by false r)
   one_more x c m r e h k =
-      ap (wrap (before_parameters l)) (step (is_first {B = FnArg-m.the_data} l None) ts goes_on ∙ ap (λ o. after o parameters_behind) e ∙ ap (λ b. pick b (after (take_mark comma m) _) _) h ∙ ap (λ o. after o (λ sign n. wrap (λ t. Node (more_members parameters (syntax_of_FnArg x) sign t)) (parse_rule later_inputs n))) k)
+      ap (wrap (before_parameters l)) (step (is_first {B = FnArg-m.the_data} l None) ts goes_on ∙ ap (λ o. after o parameters_behind) e ∙ ap (behind (syntax_of_FnArg x) m) h ∙ ap (λ o. after o (λ sign n. wrap (λ t. Node (more_members parameters (syntax_of_FnArg x) sign t)) (parse_rule later_inputs n))) k)
       ∙ wrap_wrap (before_parameters l) (λ t. Node (more_members parameters (syntax_of_FnArg x) (comma_syntax c) t)) (parse_rule later_inputs r)
       ∙ wrap_same _ _ (λ s. sym (front_grows l x c s)) (parse_rule later_inputs r)
 
@@ -186,13 +190,13 @@ module _ (l : Pairs) (ts : Stream) (goes_on : sees ended ts ≡ false) where
   pub no_comma : (x : FnArg-m.the_data) (m : Stream) → read_parameter (is_first {B = FnArg-m.the_data} l None) ts ≡ Some (Left (syntax_of_FnArg x), m) → sees at_comma m ≡ true → take_mark comma m ≡ None →
       wrap (before_parameters l) (inputs_by (is_first {B = FnArg-m.the_data} l None) ts) ≡ None
   no_comma x m e h k =
-      ap (wrap (before_parameters l)) (step (is_first {B = FnArg-m.the_data} l None) ts goes_on ∙ ap (λ o. after o parameters_behind) e ∙ ap (λ b. pick b (after (take_mark comma m) _) _) h ∙ ap (λ o. after o (λ sign n. wrap (λ t. Node (more_members parameters (syntax_of_FnArg x) sign t)) (parse_rule later_inputs n))) k)
+      ap (wrap (before_parameters l)) (step (is_first {B = FnArg-m.the_data} l None) ts goes_on ∙ ap (λ o. after o parameters_behind) e ∙ ap (behind (syntax_of_FnArg x) m) h ∙ ap (λ o. after o (λ sign n. wrap (λ t. Node (more_members parameters (syntax_of_FnArg x) sign t)) (parse_rule later_inputs n))) k)
 
   -- the last one, without a comma
   pub last_one : (x : FnArg-m.the_data) (m : Stream) → read_parameter (is_first {B = FnArg-m.the_data} l None) ts ≡ Some (Left (syntax_of_FnArg x), m) → sees at_comma m ≡ false →
       wrap (before_parameters l) (inputs_by (is_first {B = FnArg-m.the_data} l None) ts) ≡ Some (parameters_of (listed l (Some x)) (Right Nothing), m)
   last_one x m e h =
-      ap (wrap (before_parameters l)) (step (is_first {B = FnArg-m.the_data} l None) ts goes_on ∙ ap (λ o. after o parameters_behind) e ∙ ap (λ b. pick b (after (take_mark comma m) _) _) h)
+      ap (wrap (before_parameters l)) (step (is_first {B = FnArg-m.the_data} l None) ts goes_on ∙ ap (λ o. after o parameters_behind) e ∙ ap (behind (syntax_of_FnArg x) m) h)
       ∙ ap (λ s. Some (s, m)) (all_before l (Some x) (Right Nothing))
 
   -- a variadic one
@@ -228,8 +232,11 @@ pub so_far : (k : Sequence FnArg-m.the_data Comma) (ts : Stream) → k.last ≡ 
 so_far k ts e = ap (λ (o : Option FnArg-m.the_data). wrap (before_parameters k.pairs) (inputs_by (is_first k.pairs o) ts)) e
 
 -- all of them, in the list that was made
-pub made_of : (k n : Sequence FnArg-m.the_data Comma) (v u : Syntax) (m : Stream) → k ≡ n → v ≡ u → Some (parameters_of (listed n.pairs n.last) u, m) ≡ Some (parameters_of (listed k.pairs k.last) v, m)
-made_of k n v u m e f = sym (ap₂ (λ (s : Sequence FnArg-m.the_data Comma) (t : Syntax). Some (parameters_of (listed s.pairs s.last) t, m)) e f)
+abbrev in_list : Sequence FnArg-m.the_data Comma → Syntax → Stream → Out
+in_list k v m = Some (parameters_of (listed k.pairs k.last) v, m)
+
+pub made_of : (k n : Sequence FnArg-m.the_data Comma) (v u : Syntax) (m : Stream) → k ≡ n → v ≡ u → in_list n u m ≡ in_list k v m
+made_of k n v u m e f = sym (ap₂ (λ (s : Sequence FnArg-m.the_data Comma) (t : Syntax). in_list s t m) e f)
 
 -- a parameter is the first where none is listed
 pub none_before : (l : Sequence FnArg-m.the_data Comma) → l ≡ nothing_listed → is_first l.pairs l.last ≡ true

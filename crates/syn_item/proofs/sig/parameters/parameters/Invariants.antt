@@ -9,8 +9,8 @@ use Rattle.syn_item.proofs.sig.parameters.parameters.Given as goal
 abbrev pub invariant-parameters : goal.invariant-parameters
 invariant-parameters l =
     (left l.input ≤ left l.initial.input)
-    × ((l.inputs.last ≡ None)
-    × (parse_rule inputs l.initial.input ≡ wrap (before_parameters l.inputs.pairs) (inputs_by (is_first l.inputs.pairs l.inputs.last) l.input)))
+    × (l.inputs.last ≡ None)
+    × (parse_rule inputs l.initial.input ≡ wrap (before_parameters l.inputs.pairs) (inputs_by (is_first l.inputs.pairs l.inputs.last) l.input))
 
 abbrev pub decreases-parameters : goal.decreases-parameters
 decreases-parameters l = left l.input
