@@ -122,7 +122,6 @@ LEMMAS = {
     "PatType": {"print": [f"{PATTERNS}::print_behind"], "compare": [f"{PATTERNS}::same_typed"], "smaller": [f"{PATTERNS}::behind_smaller"]},
     "PatWild": {"print": [f"{PATTERNS}::print_behind"], "compare": [f"{PATTERNS}::same_wild"]},
     "Receiver": {"whole": ["crate::proofs::SameSignatures::same_receiver"]},
-    "Signature": {"compare": ["crate::proofs::SameSignatures::same_parameters"]},
     "TraitItemConst": {"print": [f"{UNPRINTED}::print_generics_aside"], "whole": [f"{MEMBERS}::same_trait_constant"]},
     "TraitItemFn": {"whole": [f"{MEMBERS}::same_trait_function"]},
     "TraitItemType": {"print": ["syn_lower::proofs::GenericPrints::print_bounds"], "whole": [f"{MEMBERS}::same_trait_type"]},

@@ -184,3 +184,12 @@ pub same_parameters : (l m : Pairs) (o q : Option FnArg-m.the_data) (v u : Optio
 same_parameters l m o q v u x =
     ap (λ z. and z x) (told both_parameters of_parameters (both_parameters (with_variadic l o v)) (both_parameters (with_variadic m q u)) (with_variadic l o v) (with_variadic m q u) (plain_parameters l o v) (plain_parameters m q u) (told_parameters l o v) (told_parameters m q u))
     ∙ sym (and_assoc (same_syntax (listed l o) (listed m q)) (same_syntax (maybe itself v) (maybe itself u)) x)
+
+-- ten tests, one behind the other, that don't all hold: whatever the last one says
+pub tenth_apart : (v₁ v₂ v₃ v₄ v₅ v₆ v₇ v₈ v₉ v₁₀ a₁ a₂ a₃ a₄ a₅ a₆ a₇ a₈ a₉ a₁₀ x : Bool) →
+    v₁ ≡ a₁ → v₂ ≡ and v₁ a₂ → v₃ ≡ and v₂ a₃ → v₄ ≡ and v₃ a₄ → v₅ ≡ and v₄ a₅ → v₆ ≡ and v₅ a₆ → v₇ ≡ and v₆ a₇ → v₈ ≡ and v₇ a₈ → v₉ ≡ and v₈ a₉ → v₁₀ ≡ and v₉ a₁₀ → v₁₀ ≡ false →
+    v₁₀ ≡ and a₁ (and a₂ (and a₃ (and a₄ (and a₅ (and a₆ (and a₇ (and a₈ (and a₉ (and a₁₀ x)))))))))
+tenth_apart v₁ v₂ v₃ v₄ v₅ v₆ v₇ v₈ v₉ v₁₀ a₁ a₂ a₃ a₄ a₅ a₆ a₇ a₈ a₉ a₁₀ x e₁ e₂ e₃ e₄ e₅ e₆ e₇ e₈ e₉ e₁₀ h =
+    let all : v₁₀ ≡ and (and (and (and (and (and (and (and (and a₁ a₂) a₃) a₄) a₅) a₆) a₇) a₈) a₉) a₁₀ = rw (e₁₀, e₉, e₈, e₇, e₆, e₅, e₄, e₃, e₂, e₁) refl in
+    let none : false ≡ and (and (and (and (and (and (and (and (and (and a₁ a₂) a₃) a₄) a₅) a₆) a₇) a₈) a₉) a₁₀) x = ap (λ z. and z x) (sym h ∙ all) in
+    simp and_assoc (h ∙ none)

@@ -1,14 +1,14 @@
 //! Signatures of functions, and what stands in them.
 ghost use Rattle.std.specs.Prelude.{◌≡◌, MatchOption, None, OnOk, Some};
-ghost use Rattle.syn_grammar.specs.Grammar.{Both, print};
+ghost use Rattle.syn_grammar.specs.Grammar.{print};
 ghost use Rattle.syn_grammar.specs.Promises.{itself};
 ghost use Rattle.syn_grammar.specs.Tokens as grammar;
 ghost use Rattle.syn_tokens.specs.Building.{added};
-ghost use Rattle.syn_tokens.specs.Kinds.{async_syntax, comma_syntax, const_syntax, fn_syntax, mut_syntax, self_value_syntax};
-ghost use Rattle.syn_tokens.specs.Leaves.{maybe, syntax_of_ident};
+ghost use Rattle.syn_tokens.specs.Kinds.{comma_syntax, mut_syntax, self_value_syntax};
+ghost use Rattle.syn_tokens.specs.Leaves.{maybe};
 ghost use Rattle.syn_tokens.specs.Listing.{list_of};
-ghost use Rattle.syn_lower.specs.Parts.{first, group_syntax};
-ghost use Rattle.syn_item.specs.Signatures.{comma_behind, last_comma, parameters_of, received, receiver_as, receiver_in, syntax_of_FnArg, syntax_of_ReceiverKind, syntax_of_Safety};
+ghost use Rattle.syn_lower.specs.Parts.{group_syntax};
+ghost use Rattle.syn_item.specs.Signatures.{comma_behind, last_comma, parameters_of, received, receiver_as, receiver_in, syntax_of_FnArg, syntax_of_ReceiverKind};
 
 mod parameters;
 mod parsing;
@@ -193,46 +193,16 @@ fn print_inputs(
     paren_token.close(out)
 }
 
-/// What stands before the `fn` of a signature.
-#[tactic(auto, using(syn_tokens::proofs::Prints::prints))]
-fn print_qualifiers(
-    constness: &Option<Const>,
-    asyncness: &Option<Async>,
-    safety: &Safety,
-    abi: &Option<Abi>,
-    out: &mut StreamBuilder,
-) -> Result<(), AllocError>
-    ensures prints { OnOk result (out.new ≡ added out.old (print (Both (maybe const_syntax constness.now) (Both (maybe async_syntax asyncness.now) (Both (syntax_of_Safety safety.now) (maybe itself abi.now)))))) }
-    ensures begins { out.new.before ≡ out.old.before }
-{
-    constness.print_in(out)?;
-    asyncness.print_in(out)?;
-    safety.print_in(out)?;
-    abi.print_in(out)
-}
-
-/// `fn`, a name, and parameters in `< >`.
-#[tactic(auto, using(syn_tokens::proofs::Prints::prints))]
-fn print_name(
-    fn_token: &token::Fn,
-    ident: &Ident,
-    generics: &Generics,
-    out: &mut StreamBuilder,
-) -> Result<(), AllocError>
-    ensures prints { OnOk result (out.new ≡ added out.old (print (Both (fn_syntax fn_token.now) (Both (syntax_of_ident ident.now) (first generics.now))))) }
-    ensures begins { out.new.before ≡ out.old.before }
-{
-    fn_token.print_in(out)?;
-    ident.print_in(out)?;
-    generics.print_params(out)
-}
-
 /// Between parameters and a variadic one a comma is printed though there is none. The where clause stands behind the return type.
 impl Print for Signature {
-    #[tactic(auto, using(crate::proofs::LongPrints::in_order))]
     fn print_in(&self, out: &mut StreamBuilder) -> Result<(), AllocError> {
-        print_qualifiers(&self.constness, &self.asyncness, &self.safety, &self.abi, out)?;
-        print_name(&self.fn_token, &self.ident, &self.generics, out)?;
+        self.constness.print_in(out)?;
+        self.asyncness.print_in(out)?;
+        self.safety.print_in(out)?;
+        self.abi.print_in(out)?;
+        self.fn_token.print_in(out)?;
+        self.ident.print_in(out)?;
+        self.generics.print_params(out)?;
         print_inputs(&self.paren_token, &self.inputs, &self.variadic, out)?;
         self.output.print_in(out)?;
         self.generics.print_where(out)

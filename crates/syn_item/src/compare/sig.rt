@@ -10,7 +10,6 @@ use crate::sig::{Abi, FnArg, Receiver, ReceiverKind, Safety, Signature, Variadic
 use syn_tokens::syntactic::compare::Compared;
 
 impl Compared for Signature {
-    #[tactic(auto, using(crate::proofs::SameSignatures::same_parameters))]
     fn is_same(&self, other: &Signature) -> bool {
         self.constness.is_same(&other.constness)
             && self.asyncness.is_same(&other.asyncness)
