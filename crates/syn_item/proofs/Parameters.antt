@@ -18,9 +18,9 @@ module _ {T P : Type 0} (v : T → Syntax) (w : P → Syntax) where
       ∙ sym (append_append (print (v x.0)) (print (w x.1) ⧺ others) (last_comma o) ∙ ap (λ s. print (v x.0) ⧺ s) (append_append (print (w x.1)) others (last_comma o)))
 
 -- the parts of a signature, one behind the other
-module _ (constness asyncness safety abi sign ident generics inputs output clause : Syntax) where
-  pub signature_printed : (b b₁ b₂ b₃ b₄ b₅ b₆ b₇ b₈ b₉ b₁₀ : Building) →
+module _ (constness asyncness safety abi sign ident generics inputs others : Syntax) where
+  pub signature_printed : (b b₁ b₂ b₃ b₄ b₅ b₆ b₇ b₈ b₉ : Building) →
       b₁ ≡ added b (print constness) → b₂ ≡ added b₁ (print asyncness) → b₃ ≡ added b₂ (print safety) → b₄ ≡ added b₃ (print abi) → b₅ ≡ added b₄ (print sign) →
-      b₆ ≡ added b₅ (print ident) → b₇ ≡ added b₆ (print generics) → b₈ ≡ added b₇ (print inputs) → b₉ ≡ added b₈ (print output) → b₁₀ ≡ added b₉ (print clause) →
-      b₁₀ ≡ added b (print (Node (Both constness (Both asyncness (Both safety (Both abi (Node (Both sign (Both ident (Both generics (Both inputs (Both output clause))))))))))))
-  signature_printed b b₁ b₂ b₃ b₄ b₅ b₆ b₇ b₈ b₉ b₁₀ e₁ e₂ e₃ e₄ e₅ e₆ e₇ e₈ e₉ e₁₀ = rw (e₁₀, e₉, e₈, e₇, e₆, e₅, e₄, e₃, e₂, e₁) (simp (added_more, append_append))
+      b₆ ≡ added b₅ (print ident) → b₇ ≡ added b₆ (print generics) → b₈ ≡ added b₇ (print inputs) → b₉ ≡ added b₈ (print others) →
+      b₉ ≡ added b (print (Node (Both constness (Both asyncness (Both safety (Both abi (Node (Both sign (Both ident (Both generics (Both inputs others)))))))))))
+  signature_printed b b₁ b₂ b₃ b₄ b₅ b₆ b₇ b₈ b₉ e₁ e₂ e₃ e₄ e₅ e₆ e₇ e₈ e₉ = rw (e₉, e₈, e₇, e₆, e₅, e₄, e₃, e₂, e₁) (simp (added_more, append_append))

@@ -1,13 +1,15 @@
 //! Signatures of functions, and what stands in them.
 ghost use Rattle.std.specs.Prelude.{◌≡◌, MatchOption, None, OnOk, Some};
-ghost use Rattle.syn_grammar.specs.Grammar.{print};
+ghost use Rattle.syn_grammar.specs.Grammar.{Both, print};
 ghost use Rattle.syn_grammar.specs.Promises.{itself};
 ghost use Rattle.syn_grammar.specs.Tokens as grammar;
 ghost use Rattle.syn_tokens.specs.Building.{added};
 ghost use Rattle.syn_tokens.specs.Kinds.{comma_syntax, mut_syntax, self_value_syntax};
 ghost use Rattle.syn_tokens.specs.Leaves.{maybe};
 ghost use Rattle.syn_tokens.specs.Listing.{list_of};
+ghost use Rattle.syn_lower.specs.Generics.{clause_of};
 ghost use Rattle.syn_lower.specs.Parts.{group_syntax};
+ghost use Rattle.syn_lower.specs.Paths.{syntax_of_ReturnType};
 ghost use Rattle.syn_item.specs.Signatures.{comma_behind, last_comma, parameters_of, received, receiver_as, receiver_in, syntax_of_FnArg, syntax_of_ReceiverKind};
 
 mod parameters;
@@ -193,6 +195,20 @@ fn print_inputs(
     paren_token.close(out)
 }
 
+/// What stands behind the parameters: a return type and a where clause.
+#[tactic(auto, using(syn_tokens::proofs::Prints::prints))]
+fn print_end(
+    output: &ReturnType,
+    generics: &Generics,
+    out: &mut StreamBuilder,
+) -> Result<(), AllocError>
+    ensures prints { OnOk result (out.new ≡ added out.old (print (Both (syntax_of_ReturnType output.now) (clause_of generics.now)))) }
+    ensures begins { out.new.before ≡ out.old.before }
+{
+    output.print_in(out)?;
+    generics.print_where(out)
+}
+
 /// Between parameters and a variadic one a comma is printed though there is none. The where clause stands behind the return type.
 impl Print for Signature {
     fn print_in(&self, out: &mut StreamBuilder) -> Result<(), AllocError> {
@@ -204,8 +220,7 @@ impl Print for Signature {
         self.ident.print_in(out)?;
         self.generics.print_params(out)?;
         print_inputs(&self.paren_token, &self.inputs, &self.variadic, out)?;
-        self.output.print_in(out)?;
-        self.generics.print_where(out)
+        print_end(&self.output, &self.generics, out)
     }
 }
 
