@@ -22,7 +22,7 @@ returns-in_err-arg-clause-reads c =
     let goes_on : sees ended ts ≡ false = search rules in
     let bare = c.parameters.invariant.1 in
     let refused : read_parameter (is_first l c.parameters.inputs.last) ts ≡ None → parse_rule inputs c.args.input.now ≡ None =
-        (λ e. c.parameters.invariant.2 ∙ so_far c.parameters.inputs ts bare ∙ none_more l ts goes_on (ap (λ (o : Option FnArg-m.the_data). read_parameter (is_first l o) ts) (sym bare) ∙ e)) in
+    (λ e. c.parameters.invariant.2 ∙ so_far c.parameters.inputs ts bare ∙ none_more l ts goes_on (ap (λ (o : Option FnArg-m.the_data). read_parameter (is_first l o) ts) (sym bare) ∙ e)) in
     search (rules, refused)
 
 pub returns-in-Variadic-clause-reads : goal.returns-in-Variadic-clause-reads
@@ -34,7 +34,7 @@ returns-in-Variadic-clause-reads c =
     let bare = c.parameters.invariant.1 in
     let goes_on : sees ended ts ≡ false = search rules in
     let got : read_parameter (is_first {B = FnArg-m.the_data} l None) ts ≡ Some (Right v, m) =
-        ap (λ (o : Option FnArg-m.the_data). read_parameter (is_first l o) ts) (sym bare) ∙ c.in_ok-arg.ensures.reads ∙ ap (λ z. Some (parameter_syntax z, m)) c.in-Variadic.is in
+    ap (λ (o : Option FnArg-m.the_data). read_parameter (is_first l o) ts) (sym bare) ∙ c.in_ok-arg.ensures.reads ∙ ap (λ z. Some (parameter_syntax z, m)) c.in-Variadic.is in
     let made = c.before_variadic.ensures in
     let kept : c.parameters.inputs ≡ record { pairs = l; last = None } = ap (λ (o : Option FnArg-m.the_data). record { pairs = l; last = o }) bare in
     c.parameters.invariant.2 ∙ so_far c.parameters.inputs ts bare ∙ variadic_one l ts goes_on v m got ∙ made_of c.before_variadic.result.inputs (record { pairs = l; last = None }) _ (Left v) m (made.inputs ∙ kept) made.variadic
@@ -48,7 +48,7 @@ returns-then-not-peek-clause-reads c =
     let bare = c.parameters.invariant.1 in
     let goes_on : sees ended ts ≡ false = search rules in
     let got : read_parameter (is_first {B = FnArg-m.the_data} l None) ts ≡ Some (Left (syntax_of_FnArg x), m) =
-        ap (λ (o : Option FnArg-m.the_data). read_parameter (is_first l o) ts) (sym bare) ∙ c.in_ok-arg.ensures.reads ∙ ap (λ z. Some (parameter_syntax z, m)) c.in-Input.is in
+    ap (λ (o : Option FnArg-m.the_data). read_parameter (is_first l o) ts) (sym bare) ∙ c.in_ok-arg.ensures.reads ∙ ap (λ z. Some (parameter_syntax z, m)) c.in-Input.is in
     let none : sees at_comma m ≡ false = search rules in
     let made = c.without_variadic.ensures in
     c.parameters.invariant.2 ∙ so_far c.parameters.inputs ts bare ∙ last_one l ts goes_on x m got none
@@ -63,10 +63,10 @@ returns-in_err-comma-clause-reads c =
     let bare = c.parameters.invariant.1 in
     let goes_on : sees ended ts ≡ false = search rules in
     let got : read_parameter (is_first {B = FnArg-m.the_data} l None) ts ≡ Some (Left (syntax_of_FnArg x), m) =
-        ap (λ (o : Option FnArg-m.the_data). read_parameter (is_first l o) ts) (sym bare) ∙ c.in_ok-arg.ensures.reads ∙ ap (λ z. Some (parameter_syntax z, m)) c.in-Input.is in
+    ap (λ (o : Option FnArg-m.the_data). read_parameter (is_first l o) ts) (sym bare) ∙ c.in_ok-arg.ensures.reads ∙ ap (λ z. Some (parameter_syntax z, m)) c.in-Input.is in
     let next : sees at_comma m ≡ true = search rules in
     let refused : take_mark comma m ≡ None → parse_rule inputs c.args.input.now ≡ None =
-        (λ k. c.parameters.invariant.2 ∙ so_far c.parameters.inputs ts bare ∙ no_comma l ts goes_on x m got next k) in
+    (λ k. c.parameters.invariant.2 ∙ so_far c.parameters.inputs ts bare ∙ no_comma l ts goes_on x m got next k) in
     search (rules, refused)
 
 pub parameters-preserved : goal.parameters-preserved
@@ -82,7 +82,7 @@ parameters-preserved c =
     let lesser : left r < left m = search rules in
     let goes_on : sees ended ts ≡ false = search rules in
     let got : read_parameter (is_first {B = FnArg-m.the_data} l None) ts ≡ Some (Left (syntax_of_FnArg x), m) =
-        ap (λ (o : Option FnArg-m.the_data). read_parameter (is_first l o) ts) (sym bare) ∙ c.in_ok-arg.ensures.reads ∙ ap (λ z. Some (parameter_syntax z, m)) c.in-Input.is in
+    ap (λ (o : Option FnArg-m.the_data). read_parameter (is_first l o) ts) (sym bare) ∙ c.in_ok-arg.ensures.reads ∙ ap (λ z. Some (parameter_syntax z, m)) c.in-Input.is in
     let next : sees at_comma m ≡ true = search rules in
     let sign : take_mark comma m ≡ Some (comma_syntax q, r) = search rules in
     let pushed = c.in_ok-push_pair.ensures.ok in (
