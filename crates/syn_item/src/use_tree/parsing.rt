@@ -28,7 +28,6 @@ use syn_parse::buffer::ParseBuffer;
 use syn_parse::read::lists::punctuated_list;
 use syn_parse::read::refusal::{Parsed, Refusal};
 use syn_parse::read::{End, Read};
-use syn_recognize::{Rule, read_by};
 use syn_tokens::ident::Ident;
 use syn_tokens::punctuated::Punctuated;
 use syn_tokens::token::{As, Brace, Comma, PathSep, Star, kind};
@@ -126,17 +125,46 @@ fn braced(input: &mut ParseBuffer<'_>) -> Parsed<UseTree>
 /// Why trees in braces aren't read as such trees: what stands in the braces; or what stands behind them, where they are read once `::` may
 /// stand before each.
 fn fault_in_braces(input: &mut ParseBuffer<'_>) -> Refusal {
-    match rooted_trees(input) {
+    match rooted_group(input) {
         Ok(()) => input.refusal("unexpected token"),
         Err(refusal) => refusal,
     }
 }
 
-/// Trees in braces, with `::` before them or without it.
-fn rooted_trees(input: &mut ParseBuffer<'_>) -> Parsed<()> {
+/// Trees in braces, with `::` before each or without it.
+fn rooted_group(input: &mut ParseBuffer<'_>) -> Parsed<()> {
     let (_brace_token, mut content) = input.read_group::<kind::Brace>()?;
-    read_by(Rule::RootedTrees, &mut content)?;
-    content.read_end()
+    rooted_trees(&mut content, LEVELS)
+}
+
+/// Such trees with commas between them, up to the end, of which at most so many stand inside each other.
+#[cycle(rooted_trees)]
+fn rooted_trees(input: &mut ParseBuffer<'_>, inside: u32) -> Parsed<()> {
+    let Some(left) = inside.checked_sub(1) else {
+        return Err(Refusal::Memory);
+    };
+    'trees: while !input.is_empty() {
+        if input.peek::<Brace>() {
+            let (_brace_token, mut content) = input.read_group::<kind::Brace>()?;
+            rooted_trees(&mut content, left)?;
+        } else {
+            unbraced_tree(input, left)?;
+        }
+        if !input.peek::<Comma>() {
+            return input.read_end();
+        }
+        let _comma: Comma = input.read()?;
+    }
+    Ok(())
+}
+
+/// A tree that doesn't begin with a brace, with `::` before it or without it.
+fn unbraced_tree(input: &mut ParseBuffer<'_>, inside: u32) -> Parsed<()>
+    ensures moved { Moved input.old result input.new }
+{
+    let _sign: Option<PathSep> = input.read()?;
+    let _tree = nested_tree::<Refusal>(input, (inside, PhantomData))?;
+    Ok(())
 }
 
 /// What reads a tree inside of another.

@@ -31,6 +31,10 @@ pub const ITEM: &[Refusal] = &[
 pub const ITEM_USE: &[Refusal] = &[
     ("use {::a, b};", "12: unexpected token"),
     ("use a as 1;", "9: expected identifier or underscore"),
+    (
+        "use {a, {::b, c as}};",
+        "18: expected identifier or underscore",
+    ),
 ];
 
 pub const ITEM_IMPL: &[Refusal] = &[
