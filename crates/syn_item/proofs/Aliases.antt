@@ -83,7 +83,7 @@ module _ (m0 m1 m2 m3 m : Stream) (w q t x : Syntax) where
   alias_placed iw iq it ix h = alias_read iw iq it ix ∙ go is_early is_late refl refl h
     where
       go : (b c : Bool) → is_early ≡ b → is_late ≡ c → and b c ≡ false →
-          only (or (no b) (no c)) (Some (Such (Both w (Both q (Both t x))), m)) ≡ Some (aliased (syntax_of_WhereClausePlacement (place_by c)) (pick c x w) q t, m)
+          only (or (no b) (no c)) (found (Such (Both w (Both q (Both t x)))) m) ≡ Some (aliased (syntax_of_WhereClausePlacement (place_by c)) (pick c x w) q t, m)
       go true true i j k = absurd (cc k)
       go true false i j k = ap (λ z. Some (Such (Both w (Both q (Both t z))), m)) (none_read m3 x m j ix)
       go false true i j k = ap (λ z. Some (Such (Both z (Both q (Both t x))), m)) (none_read m0 w m1 i iw)
@@ -94,7 +94,7 @@ module _ (m0 m1 m2 m3 m : Stream) (w q t x : Syntax) where
       and is_early is_late ≡ true → parse_form aliased_form m0 ≡ None
   alias_refused iw iq it ix h = alias_read iw iq it ix ∙ go is_early is_late h
     where
-      go : (b c : Bool) → and b c ≡ true → only (or (no b) (no c)) (Some (Such (Both w (Both q (Both t x))), m)) ≡ None
+      go : (b c : Bool) → and b c ≡ true → only (or (no b) (no c)) (found (Such (Both w (Both q (Both t x)))) m) ≡ None
       go true true k = refl
       go true false k = absurd (cc k)
       go false c k = absurd (cc k)

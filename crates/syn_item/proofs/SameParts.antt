@@ -171,20 +171,12 @@ module _ (p q : WhereClausePlacement-m.the_data) (c d e f s t : Syntax) where
   pub same_placed : and places aliases ≡ by_parts
   same_placed = told placed_parts of_placed (placed_parts (parts e s p c)) (placed_parts (parts f t q d)) (parts e s p c) (parts f t q d) (plain_placed e s p c) (plain_placed f t q d) (told_placed e s p c) (told_placed f t q d)
 
-  -- four tests before another one
-  four_and : (a b g h x : Bool) → and (and a (and b (and g h))) x ≡ and a (and b (and g (and h x)))
-  four_and true true true h x = refl
-  four_and true true false h x = refl
-  four_and true false g h x = refl
-  four_and false b g h x = refl
-
-  pub same_alias : (l m : List Attribute) (a b : Optional) (v k i g x : Bool) →
-      and (listed_same l m) (and v (and (modifiers_aside l m a b) (and k (and i (and g (and places (and aliases x)))))))
-      ≡ and (all_same l m) (and v (and (modifiers l m a b) (and k (and i (and g (and (same_syntax (place_of p) (place_of q)) (and (same_syntax c d) (and (same_syntax e f) (and (same_syntax s t) x)))))))))
-  same_alias l m a b v k i g x =
-      same_modified l m a b v (and k (and i (and g (and places (and aliases x)))))
-      ∙ ap (λ z. and (all_same l m) (and v (and (modifiers l m a b) (and k (and i (and g z))))))
-      (and_assoc places aliases x ∙ ap (λ z. and z x) same_placed ∙ four_and (same_syntax (place_of p) (place_of q)) (same_syntax c d) (same_syntax e f) (same_syntax s t) x)
+-- the two tests of an alias, as one
+pub same_alias : (l m : List Attribute) (a b : Optional) (v k i g y z x : Bool) →
+    and (listed_same l m) (and v (and (modifiers_aside l m a b) (and k (and i (and g (and y (and z x))))))) ≡ and (all_same l m) (and v (and (modifiers l m a b) (and k (and i (and g (and (and y z) x))))))
+same_alias l m a b v k i g y z x =
+    same_modified l m a b v (and k (and i (and g (and y (and z x)))))
+    ∙ ap (λ w. and (all_same l m) (and v (and (modifiers l m a b) (and k (and i (and g w)))))) (and_assoc y z x)
 
 -- A MODULE, with items in braces or without
 

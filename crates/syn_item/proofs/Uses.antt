@@ -3,13 +3,13 @@ use Rattle.std.proofs.Common.{◌≡◌, Bool, true, false, refl, sym, ap, ap₂
 use Rattle.std.specs.Prelude.{Option, Some, None}
 use Rattle.syn_grammar.specs.Tokens.{Stream, Brace, ◌⧺◌, at_mark, ended, group, end, no}
 use Rattle.syn_grammar.specs.Words.{comma}
-use Rattle.syn_grammar.specs.Rules.{root_mark, rooted_trees, use_tree, use_trees}
+use Rattle.syn_grammar.specs.Rules.{root_mark, rooted_trees, use_item_rest, use_tree, use_trees, visibility}
 use Rattle.syn_grammar.specs.Grammar.{Syntax, Nothing, Mark, Both, Left, Right, Node, Group, Such, Test, has_no, has_part, mark, print, rule}
 use Rattle.syn_grammar.specs.Table.{table, at_brace, at_star}
 use Rattle.syn_grammar.specs.Take.{Opened, Out, is_end, only, sees, take_group}
-use Rattle.syn_grammar.specs.Run.{branch, close, parse_form, parse_rule, such_as, within, wrap}
+use Rattle.syn_grammar.specs.Run.{and_then, branch, close, parse_form, parse_rule, such_as, within, wrap}
 use Rattle.syn_grammar.specs.UseGroups.{rooted}
-use Rattle.syn_grammar.proofs.Each.{rooted_trees_is, use_tree_is, use_trees_is}
+use Rattle.syn_grammar.proofs.Each.{rooted_trees_is, use_item_rest_is, use_tree_is, use_trees_is}
 use Rattle.syn_grammar.proofs.PlanSteps.{seen_apart}
 use Rattle.syn_grammar.proofs.UseGroups.{use_groups}
 use Rattle.syn_parse.specs.Form.{by, of}
@@ -17,7 +17,8 @@ use Rattle.syn_parse.specs.Listing.{IsList}
 use Rattle.syn_parse.proofs.Listing.{wrap_wrap}
 use Rattle.syn_tokens.specs.Kinds.{PathSep, path_sep_syntax}
 use Rattle.syn_tokens.specs.Leaves.{maybe}
-use Rattle.syn_item.specs.UseForms.{read_braced}
+use Rattle.syn_tree.specs.Derive.{item_of}
+use Rattle.syn_item.specs.UseForms.{glob_form, group_form, read_braced, read_plain, use_form, word_form}
 use Rattle.syn_item.specs.Uses.{used}
 
 -- trees with commas between them
@@ -138,3 +139,38 @@ braced_trees ts h = ap (wrap Left) (go (take_group Brace ts)) ∙ wrap_wrap Left
     told None h = refl
     told (Some (Group Brace o c (Node l), r)) h = refl
     told (Some (s, r)) h = absurd h
+
+-- A TREE WITHOUT `::` BEFORE IT, and not in braces
+pub plain_trees : (ts : Stream) → sees at_brace ts ≡ false → read_plain ts ≡ wrap as_used (parse_rule use_tree ts)
+unfolding read_plain
+plain_trees ts h = go (sees at_star ts) refl
+  where
+    as_plain : Out → Out
+    as_plain o = wrap Right (wrap (Both (Right Nothing)) o)
+
+    starred : (o : Out) → as_plain (wrap Node (wrap Left o)) ≡ wrap as_used (wrap Node (wrap Left o))
+    starred None = refl
+    starred (Some p) = refl
+
+    worded : (o : Out) → as_plain (wrap Node (wrap Right (wrap Right o))) ≡ wrap as_used (wrap Node (wrap Right (wrap Right o)))
+    worded None = refl
+    worded (Some p) = refl
+
+    tree_is : (b : Bool) → sees at_star ts ≡ b → parse_rule use_tree ts ≡ wrap Node (branch b (parse_form glob_form ts) (branch false (parse_form group_form ts) (parse_form word_form ts)))
+    tree_is b e = use_tree_is ts ∙ ap₂ (λ c d. wrap Node (branch c (parse_form glob_form ts) (branch d (parse_form group_form ts) (parse_form word_form ts)))) e h
+
+    go : (b : Bool) → sees at_star ts ≡ b → as_plain (parse_rule use_tree ts) ≡ wrap as_used (parse_rule use_tree ts)
+    go true e = subst (λ o. as_plain o ≡ wrap as_used o) (sym (tree_is true e)) (starred (parse_form glob_form ts))
+    go false e = subst (λ o. as_plain o ≡ wrap as_used o) (sym (tree_is false e)) (worded (parse_form word_form ts))
+
+-- A USE BEHIND ITS ATTRIBUTES
+module _ (a v : Syntax) where
+  behind : (o : Out) → wrap (Both a) (wrap Node (wrap (Both v) o)) ≡ wrap (item_of a v) o
+  behind None = refl
+  behind (Some p) = refl
+
+  pub behind_visibility : (ts m : Stream) → parse_rule visibility ts ≡ Some (v, m) → wrap (Both a) (parse_rule use_item_rest ts) ≡ wrap (item_of a v) (parse_form use_form m)
+  behind_visibility ts m e = ap (wrap (Both a)) (use_item_rest_is ts ∙ ap (λ o. wrap Node (and_then o (parse_form use_form))) e) ∙ behind (parse_form use_form m)
+
+pub visibility_refused : (ts : Stream) → parse_rule visibility ts ≡ None → parse_rule use_item_rest ts ≡ None
+visibility_refused ts e = use_item_rest_is ts ∙ ap (λ o. wrap Node (and_then o (parse_form use_form))) e

@@ -86,6 +86,11 @@ view_ItemType a =
     (Both (place_aside (syntax_of_WhereClausePlacement a.where_clause_placement) (clause_of a.generics))
     (Both (aliased (syntax_of_WhereClausePlacement a.where_clause_placement) (clause_of a.generics) (eq_syntax a.eq_token) (syntax_of_Type a.ty.value)) (semi_syntax a.semi_token)))))))
 
+-- of a type alias: the place of a where clause that isn't there, and what it stands for
+abbrev pub placed_alias : Syntax → Syntax
+placed_alias (Both attrs (Node (Both vis (Both modifiers (Both word (Both ident (Both params (Both place (Both alias semi))))))))) = Both place alias
+placed_alias s = s
+
 abbrev pub syntax_of_ItemType : Syntax → Syntax
 syntax_of_ItemType = Node
 

@@ -3,11 +3,11 @@ use Rattle.std.specs.Prelude.{Option, [], ◌∷◌}
 use Rattle.syn_grammar.specs.Words.{colons, semicolon, star, w_as, w_crate, w_self, w_super, w_try, w_use}
 use Rattle.syn_grammar.specs.Tokens.{Brace, at_word}
 use Rattle.syn_grammar.specs.Rules.{root_mark, rooted_trees, use_tree, use_trees}
-use Rattle.syn_grammar.specs.Grammar.{Syntax, Left, Grammar, empty, has_no, inside, name_or, ◌&◌, when◌then◌else◌, rule, such, word}
+use Rattle.syn_grammar.specs.Grammar.{Syntax, Nothing, Both, Left, Right, Grammar, empty, has_no, inside, name_or, ◌&◌, when◌then◌else◌, rule, such, word}
 use Rattle.syn_grammar.specs.Forms.{plainly, punctuation}
 use Rattle.syn_grammar.specs.Table.{at_brace, at_colons, name_or_underscore}
 use Rattle.syn_grammar.specs.Take.{Parser}
-use Rattle.syn_grammar.specs.Run.{parse_form, wrap}
+use Rattle.syn_grammar.specs.Run.{parse_form, parse_rule, wrap}
 use Rattle.syn_tokens.specs.Kinds.{PathSep, path_sep_syntax}
 use Rattle.syn_tokens.specs.Leaves.{maybe}
 use Rattle.syn_item.specs.Uses.{syntax_of_UseTree, used}
@@ -29,6 +29,10 @@ used_syntax p = used (maybe path_sep_syntax p.0) (syntax_of_UseTree p.1)
 
 unfoldable pub read_braced : Parser
 read_braced ts = wrap Left (parse_form braced_form ts)
+
+-- a tree where neither braces nor `::` stand next
+unfoldable pub read_plain : Parser
+read_plain ts = wrap Right (wrap (Both (Right Nothing)) (parse_rule use_tree ts))
 
 -- behind the visibility
 abbrev pub use_form : Grammar

@@ -9,7 +9,7 @@ ghost use Rattle.syn_lower.specs.Attributes.{attributes_syntax};
 ghost use Rattle.syn_lower.specs.Bodies.{attributes_before_body, attributes_in_body};
 ghost use Rattle.syn_lower.specs.Generics.{clause_of};
 ghost use Rattle.syn_lower.specs.Types.{syntax_of_Type};
-ghost use Rattle.syn_item.specs.Simple.{aliased, attributes_by_content, content_syntax, module_content, syntax_of_WhereClausePlacement};
+ghost use Rattle.syn_item.specs.Simple.{aliased, attributes_by_content, content_syntax, module_content, placed_alias, syntax_of_WhereClausePlacement};
 
 mod aliases;
 mod macro_items;
@@ -221,13 +221,22 @@ impl Compared for ItemType {
             && self.type_token.is_same(&other.type_token)
             && self.ident.is_same(&other.ident)
             && self.generics.has_same_params(&other.generics)
-            && self
-                .where_clause_placement
-                .is_same(&other.where_clause_placement)
+            && self.has_same_alias(other)
+            && self.semi_token.is_same(&other.semi_token)
+    }
+}
+
+impl ItemType {
+    /// Whether both stand for the same type, with the same where clause at the same place.
+    #[tactic(auto, using(crate::proofs::SameParts::same_placed))]
+    fn has_same_alias(&self, other: &ItemType) -> bool
+        ensures { result ≡ same_syntax (placed_alias self.now) (placed_alias other.now) }
+    {
+        self.where_clause_placement
+            .is_same(&other.where_clause_placement)
             && self.generics.has_same_where(&other.generics)
             && self.eq_token.is_same(&other.eq_token)
             && self.ty.is_same(&other.ty)
-            && self.semi_token.is_same(&other.semi_token)
     }
 }
 

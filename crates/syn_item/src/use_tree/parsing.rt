@@ -1,6 +1,6 @@
 //! Parsers of uses and their trees. A tree holds trees: each parser is told what reads one inside, and the knot at the end closes the
 //! circle.
-ghost use Rattle.std.specs.Prelude.{◌≡◌, ◌∷◌, [], IfOk, None, true};
+ghost use Rattle.std.specs.Prelude.{◌≡◌, ◌∷◌, [], None, false, true};
 ghost use Rattle.syn_grammar.specs.Rules as rules;
 ghost use Rattle.syn_grammar.specs.Table as table;
 ghost use Rattle.syn_grammar.specs.Tokens.{Stream};
@@ -14,7 +14,7 @@ ghost use Rattle.syn_lower.specs.Parsing.{of, rule, sees, name_or as name_kind, 
 ghost use Rattle.syn_lower.specs.ParseTies.{Ties};
 ghost use Rattle.syn_tree.specs.Derive.{item_of};
 ghost use Rattle.syn_tree.specs.Restriction.{syntax_of_Visibility};
-ghost use Rattle.syn_item.specs.UseForms.{glob_form, group_form, read_braced, use_form, used_form, used_syntax, word_form};
+ghost use Rattle.syn_item.specs.UseForms.{glob_form, group_form, read_braced, read_plain, use_form, used_form, used_syntax, word_form};
 ghost use Rattle.syn_item.specs.Uses.{syntax_of_UseTree};
 
 use crate::names::{OrUnderscore, OrUseWord, name_or};
@@ -28,7 +28,6 @@ use syn_parse::buffer::ParseBuffer;
 use syn_parse::read::lists::punctuated_list;
 use syn_parse::read::refusal::{Parsed, Refusal};
 use syn_parse::read::{End, Read};
-use syn_recognize::{Rule, read_by};
 use syn_tokens::ident::Ident;
 use syn_tokens::punctuated::Punctuated;
 use syn_tokens::token::{As, Brace, Comma, PathSep, Star, kind};
@@ -50,7 +49,7 @@ impl Read for ItemUse {
 }
 
 /// A use behind its attributes.
-#[tactic(auto, using(syn_grammar::proofs::Each::use_item_rest_is))]
+#[tactic(auto, using(crate::proofs::Uses::visibility_refused))]
 pub(crate) fn use_rest(attrs: Vec<Attribute>, input: &mut ParseBuffer<'_>) -> Parsed<ItemUse>
     ensures reads { Computes IsSyntax itself (wrap (Both (attributes_syntax attrs.items)) (parse_rule rules.use_item_rest input.old)) result input.new }
     ensures moved { Moved input.old result input.new }
@@ -81,16 +80,28 @@ pub(crate) fn use_item(
 }
 
 /// Trees in braces; or a tree with `::` before it or without it.
-#[tactic(auto, unfolding(crate::specs::UseForms::read_braced))]
+#[tactic(auto, unfolding(crate::specs::UseForms::read_braced, crate::specs::UseForms::read_plain))]
 fn used(input: &mut ParseBuffer<'_>) -> Parsed<(Option<PathSep>, UseTree)>
     ensures reads { Computes IsSyntax used_syntax (parse_form used_form input.old) result input.new }
     ensures moved { Moved input.old result input.new }
 {
     if input.peek::<Brace>() {
         Ok((None, braced(input)?))
+    } else if input.peek::<PathSep>() {
+        Ok((Some(input.read()?), input.read()?))
     } else {
-        Ok((input.read()?, input.read()?))
+        Ok((None, plain_tree(input)?))
     }
+}
+
+/// A tree without `::` before it, and not in braces.
+#[tactic(auto, using(crate::proofs::Uses::plain_trees))]
+fn plain_tree(input: &mut ParseBuffer<'_>) -> Parsed<UseTree>
+    requires next { sees table.at_brace input.old ≡ false }
+    ensures reads { Computes IsSyntax (λ t. used_syntax (None, t)) (read_plain input.old) result input.new }
+    ensures moved { Moved input.old result input.new }
+{
+    Ok(input.read()?)
 }
 
 /// Trees in braces behind `use`: none of them has `::` before it.
@@ -107,23 +118,57 @@ fn braced(input: &mut ParseBuffer<'_>) -> Parsed<UseTree>
             Ok(tree)
         }
         Err(Refusal::Memory) => Err(Refusal::Memory),
-        Err(Refusal::Syntax { span: _, text: _ }) => refused_trees(input),
+        Err(Refusal::Syntax { span: _, text: _ }) => Err(fault_in_braces(input)),
     }
 }
 
-/// Refuses trees in braces that aren't read as such trees: in the braces; or behind them, where they are read once `::` may stand before
-/// them.
-fn refused_trees(input: &mut ParseBuffer<'_>) -> Parsed<UseTree>
-    ensures { IfOk result (λ _. ⊥) }
-{
+/// Why trees in braces aren't read as such trees: what stands in the braces; or what stands behind them, where they are read once `::` may
+/// stand before each.
+fn fault_in_braces(input: &mut ParseBuffer<'_>) -> Refusal {
+    match rooted_group(input) {
+        Ok(()) => input.refusal("unexpected token"),
+        Err(refusal) => refusal,
+    }
+}
+
+/// Trees in braces, with `::` before each or without it.
+fn rooted_group(input: &mut ParseBuffer<'_>) -> Parsed<()> {
     let (_brace_token, mut content) = input.read_group::<kind::Brace>()?;
-    read_by(Rule::RootedTrees, &mut content)?;
-    content.read_end()?;
-    Err(input.refusal("unexpected token"))
+    rooted_trees(&mut content, LEVELS)
+}
+
+/// Such trees with commas between them, up to the end, of which at most so many stand inside each other.
+#[cycle(rooted_trees)]
+fn rooted_trees(input: &mut ParseBuffer<'_>, inside: u32) -> Parsed<()> {
+    let Some(left) = inside.checked_sub(1) else {
+        return Err(Refusal::Memory);
+    };
+    'trees: while !input.is_empty() {
+        if input.peek::<Brace>() {
+            let (_brace_token, mut content) = input.read_group::<kind::Brace>()?;
+            rooted_trees(&mut content, left)?;
+        } else {
+            unbraced_tree(input, left)?;
+        }
+        if !input.peek::<Comma>() {
+            return input.read_end();
+        }
+        let _comma: Comma = input.read()?;
+    }
+    Ok(())
+}
+
+/// A tree that doesn't begin with a brace, with `::` before it or without it.
+fn unbraced_tree(input: &mut ParseBuffer<'_>, inside: u32) -> Parsed<()>
+    ensures moved { Moved input.old result input.new }
+{
+    let _sign: Option<PathSep> = input.read()?;
+    let _tree = nested_tree::<Refusal>(input, (inside, PhantomData))?;
+    Ok(())
 }
 
 /// What reads a tree inside of another.
-trait NestedTree {
+pub(crate) trait NestedTree {
     /// The streams at which it may be called.
     ghost may: { Self → Stream → Type 0 };
 
@@ -135,7 +180,7 @@ trait NestedTree {
 
 /// A tree, by the token that it begins with.
 #[tactic(auto, using(syn_grammar::proofs::Each::use_tree_is))]
-fn tree<N: NestedTree>(nested: &N, input: &mut ParseBuffer<'_>) -> Parsed<UseTree>
+pub(crate) fn tree<N: NestedTree>(nested: &N, input: &mut ParseBuffer<'_>) -> Parsed<UseTree>
     requires { MayBelow N.may nested.now input.old }
     ensures parses { Parses IsSyntax syntax_of_UseTree rules.use_tree input.old result input.new }
 {

@@ -195,6 +195,8 @@ fn words(rt: HostRuntime) {
     let rename = "9: expected identifier or underscore";
     assert_words::<ItemUse>(&rt, alloc, "use a as 1;", rename);
     assert_words::<ItemUse>(&rt, alloc, "use {a, ::b};", "12: unexpected token");
+    let renames = "14: expected identifier or underscore";
+    assert_words::<ItemUse>(&rt, alloc, "use {a, ::b as};", renames);
 }
 
 /// A kind of items becomes an item, and a word a tree of a use.

@@ -62,6 +62,8 @@ pub const REFUSED: &[(&str, usize)] = &[
     ("use a::(b);", 7),
     ("use a::::b;", 7),
     ("use {a as};", 9),
+    ("use {a, ::b as};", 14),
+    ("use {{::a, b as}};", 15),
     ("use * as a1;", 6),
     ("use Self::a;", 4),
     ("use a::*::b;", 8),

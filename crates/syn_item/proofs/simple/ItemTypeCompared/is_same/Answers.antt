@@ -2,8 +2,5 @@ use Rattle.std.proofs.Common.{rules}
 use Rattle.syn_item.proofs.SameParts.{same_alias}
 use Rattle.syn_item.proofs.simple.ItemTypeCompared.is_same.Goals as goal
 
-pub returns-then-is_same-8 : goal.returns-then-is_same-8
-returns-then-is_same-8 c = record { same = rw (c.self.view_is, c.other.view_is, same_alias) (search rules) }
-
-pub returns-else-is_same-8 : goal.returns-else-is_same-8
-returns-else-is_same-8 c = record { same = rw (c.self.view_is, c.other.view_is, same_alias) (search rules) }
+pub returns-else-has_same_alias : goal.returns-else-has_same_alias
+returns-else-has_same_alias c = record { same = rw (← c.self.view_is, ← c.other.view_is, same_alias) (search rules) }
