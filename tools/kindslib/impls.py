@@ -114,6 +114,7 @@ LEMMAS = {
     "ImplItemConst": {"print": [f"{UNPRINTED}::print_generics_aside"], "whole": [f"{MEMBERS}::same_impl_constant"]},
     "ItemConst": {"print": [f"{UNPRINTED}::print_generics_aside"], "whole": [f"{PARTS}::same_constant"]},
     "ItemFn": {"whole": [f"{PARTS}::same_function"]},
+    "ItemForeignMod": {"whole": ["crate::proofs::SameRows::same_foreign_module"]},
     "ItemMacro": {"whole": ["crate::proofs::SameMacros::same_item_macro"]},
     "ItemUse": {"print": ["crate::proofs::Uses::print_used"], "whole": [f"{PARTS}::same_use"]},
     "Local": {"print": ["syn_pat::proofs::Patterns::print_local"]},

@@ -79,6 +79,7 @@ fn is_same_text(text: &Option<String>, other: &Option<String>) -> bool
 }
 
 impl Compared for File {
+    #[tactic(auto, using(crate::proofs::SameFiles::same_file))]
     fn is_same(&self, other: &File) -> bool {
         is_same_text(&self.shebang, &other.shebang)
             && self.frontmatter.is_same(&other.frontmatter)
