@@ -55,6 +55,7 @@ fn copy_text(text: &Option<String>, alloc: Global) -> error::Result<Option<Strin
 }
 
 impl TryClone for File {
+    #[tactic(auto, using(crate::proofs::Members::copied_members))]
     fn try_clone(&self, alloc: Global) -> error::Result<File> {
         Ok(File {
             shebang: copy_text(&self.shebang, alloc)?,
