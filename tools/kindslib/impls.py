@@ -81,6 +81,7 @@ SMALLER = {"TypePath": ["crate::proofs::Smaller::qself_smaller", "crate::proofs:
 # too, where several have a type of this name); `whole` is of a comparison, and says of its attributes too
 FORMS = "crate::proofs::Forms"
 MEMBERS = "crate::proofs::SameMembers"
+COPIED_MEMBERS = "crate::proofs::Members::copied_members"
 PARTS = "crate::proofs::SameParts"
 UNPRINTED = "crate::proofs::Unprinted"
 PATTERNS = "crate::proofs::Patterns"
@@ -114,6 +115,8 @@ LEMMAS = {
     "ImplItemConst": {"print": [f"{UNPRINTED}::print_generics_aside"], "whole": [f"{MEMBERS}::same_impl_constant"]},
     "ItemConst": {"print": [f"{UNPRINTED}::print_generics_aside"], "whole": [f"{PARTS}::same_constant"]},
     "ItemFn": {"whole": [f"{PARTS}::same_function"]},
+    "ItemForeignMod": {"copy": [COPIED_MEMBERS], "whole": ["crate::proofs::SameRows::same_foreign_module"]},
+    **dict.fromkeys(("ItemImpl", "ItemTrait"), {"copy": [COPIED_MEMBERS]}),
     "ItemMacro": {"whole": ["crate::proofs::SameMacros::same_item_macro"]},
     "ItemUse": {"print": ["crate::proofs::Uses::print_used"], "whole": [f"{PARTS}::same_use"]},
     "Local": {"print": ["syn_pat::proofs::Patterns::print_local"]},
@@ -347,7 +350,7 @@ def copy_block(source, t):
     result = "error::Result" if source.leads_back(t.file) else "Result"
     uses.append(("syn_tokens", "error") if source.leads_back(t.file) else ("syn_tokens::error", "Result"))
     text = f"""impl TryClone for {t.name} {{
-    fn try_clone(&self, {alloc}: Global) -> {result}<{t.name}> {{
+{tactic(lemmas(source, t, "copy", body))}    fn try_clone(&self, {alloc}: Global) -> {result}<{t.name}> {{
 {body}    }}
 }}
 """

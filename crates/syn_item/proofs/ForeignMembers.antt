@@ -119,7 +119,7 @@ module _ (k : Rule) (ts : Stream) (a v : Syntax) where
       happened k ts (went false ∷ went false ∷ went false ∷ went true ∷ []) (member_plan false) n (h, (y, (seen_apart (at_word w_unsafe) (at_word w_static) n refl i, (i, tt))))
 
   static_at : (b : Bool) (n : Stream) → sees (at_word w_type) n ≡ false → static_next n ≡ true → at b n ≡ run_plan (foreign_static_or_kept a v) k ts n
-  unfolding foreign_member_plan
+  unfolding foreign_member_plan foreign_static_or_kept
   static_at b n y h = go (safe n) refl (unsafe n) refl h
     where
       marked : (s u : Bool) → or s u ≡ true → safe n ≡ s → unsafe n ≡ u → static (past n) ≡ true → run_plan (member_plan b) k ts n ≡ run_plan (foreign_static_or_kept a v) k ts n

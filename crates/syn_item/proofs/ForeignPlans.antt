@@ -33,7 +33,7 @@ module _ (k : Rule) (ts : Stream) (a v : Syntax) (m : Stream) where
   static_end x = turns at_semicolon (reads (punctuation semicolon) λ z. ends (Node (Case foreign_static (Both a (Both v (Both x z)))))) (keeps (reads (punctuation equals) λ q. reads (rule whole_expression) λ e. kept_end))
 
   static_goes : static_run ≡ on k ts static_end (parse_rule bare_foreign_static m)
-  unfolding foreign_static_plan
+  unfolding foreign_static_plan foreign_static_or_kept
   static_goes =
       row_is k ts (rule safe_or_unsafe) (plainly (word w_static) ∷ optional w_mut ∷ plainly name ∷ punctuation colon ∷ rule type ∷ []) (λ s. static_end (Node s)) m
       ∙ go (parse_form (rule safe_or_unsafe & plainly (word w_static) & optional w_mut & plainly name & punctuation colon & rule type) m)

@@ -28,9 +28,11 @@ pub mod OtherTypes
 pub mod Parameters
 pub mod PlanRows
 pub mod Receivers
+pub mod SameFiles
 pub mod SameMacros
 pub mod SameMembers
 pub mod SameParts
+pub mod SameRows
 pub mod SameSignatures
 pub mod Standing
 pub mod Strings

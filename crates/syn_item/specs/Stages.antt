@@ -47,7 +47,7 @@ impl_types_behind m g =
 abbrev pub foreign_type_or_kept : Syntax → Syntax → Plan
 foreign_type_or_kept = foreign_type_plan
 
-abbrev pub foreign_static_or_kept : Syntax → Syntax → Plan
+unfoldable pub foreign_static_or_kept : Syntax → Syntax → Plan
 foreign_static_or_kept a v = reads (rule safe_or_unsafe) (foreign_static_plan a v)
 
 abbrev pub foreign_function_or_kept : Syntax → Syntax → Plan

@@ -55,6 +55,7 @@ fn copy_text(text: &Option<String>, alloc: Global) -> error::Result<Option<Strin
 }
 
 impl TryClone for File {
+    #[tactic(auto, using(crate::proofs::Members::copied_members))]
     fn try_clone(&self, alloc: Global) -> error::Result<File> {
         Ok(File {
             shebang: copy_text(&self.shebang, alloc)?,
@@ -79,6 +80,7 @@ fn is_same_text(text: &Option<String>, other: &Option<String>) -> bool
 }
 
 impl Compared for File {
+    #[tactic(auto, using(crate::proofs::SameFiles::same_file))]
     fn is_same(&self, other: &File) -> bool {
         is_same_text(&self.shebang, &other.shebang)
             && self.frontmatter.is_same(&other.frontmatter)

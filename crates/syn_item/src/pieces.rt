@@ -1,5 +1,5 @@
 //! Parsers of what many items have: members in braces, bounds, values, macros as members; and of what is kept as tokens.
-ghost use Rattle.std.specs.Prelude.{◌≡◌, IfOk, codes};
+ghost use Rattle.std.specs.Prelude.{◌≡◌, ◌<◌, IfOk, codes};
 ghost use Rattle.syn_grammar.specs.Rules as rules;
 ghost use Rattle.syn_grammar.specs.Rules.{Rule as GrammarRule};
 ghost use Rattle.syn_grammar.specs.Table as table;
@@ -43,9 +43,10 @@ use syn_tokens::token::{
     Async, Brace, Colon, Const, Eq, Extern, Fn, Plus, Semi, Unsafe, Where, kind,
 };
 
-/// Members, to the end.
-#[tactic(auto, using(crate::proofs::MemberLists::all_read, crate::proofs::MemberLists::none_more, crate::proofs::MemberLists::one_more))]
+/// Members, to the end. Each reads some token.
+#[tactic(auto, using(crate::proofs::MemberLists::none_more))]
 pub(crate) fn members<T: Read + Drop>(input: &mut ParseBuffer<'_>) -> Parsed<Vec<T>>
+    requires some { 0 < T.takes }
     ensures reads { (k : GrammarRule) → IsMembers k T.form → Computes IsSyntax (λ v. members_of T.syntax v.items) (parse_rule k input.old) result input.new }
     ensures kept { Kept input.old result input.new }
 {
@@ -63,6 +64,7 @@ pub(crate) fn braced<T: Read + Drop>(
     attrs: Vec<Attribute>,
     input: &mut ParseBuffer<'_>,
 ) -> Parsed<(Vec<Attribute>, Brace, Vec<T>)>
+    requires some { 0 < T.takes }
     requires outer { all_attributes_syntax attrs.items ≡ attributes_syntax attrs.items }
     ensures reads { (k : GrammarRule) → IsMembers k T.form → Computes IsSyntax (λ p. braced_syntax T.syntax (p.0.items, p.1, p.2.items)) (parse_form (braced_form k) input.old) result input.new }
     ensures before { IfOk result (λ p. attributes_before_body p.0.items ≡ attributes_syntax attrs.items) }

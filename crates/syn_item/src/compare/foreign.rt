@@ -13,7 +13,7 @@ use crate::foreign::{
 use syn_tokens::syntactic::compare::Compared;
 
 impl Compared for ItemForeignMod {
-    #[tactic(auto, using(syn_lower::proofs::Bodies::same_behind_two))]
+    #[tactic(auto, using(crate::proofs::SameRows::same_foreign_module))]
     fn is_same(&self, other: &ItemForeignMod) -> bool {
         self.attrs.is_same(&other.attrs)
             && self.unsafety.is_same(&other.unsafety)

@@ -1,7 +1,7 @@
 //! Parsers of the members of foreign modules.
 ghost use Rattle.std.specs.Prelude.{◌≡◌};
 ghost use Rattle.syn_grammar.specs.Rules as rules;
-ghost use Rattle.syn_grammar.specs.Grammar.{Both};
+ghost use Rattle.syn_grammar.specs.Grammar.{Both, Nothing, Unshown};
 ghost use Rattle.syn_grammar.specs.Plan.{run_plan};
 ghost use Rattle.syn_grammar.specs.Promises.{OrMemory};
 ghost use Rattle.syn_grammar.specs.Run.{wrap};
@@ -10,7 +10,10 @@ ghost use Rattle.syn_grammar.specs.Tokens.{Stream, at_empty_group, at_word, or};
 ghost use Rattle.syn_grammar.specs.Words.{w_pub};
 ghost use Rattle.syn_lower.specs.Attributes.{attributes_syntax};
 ghost use Rattle.syn_lower.specs.Parsing.{of, rule, meaning_of_rule, parse_rule, Computes, Moved, itself, IsSyntax};
-ghost use Rattle.syn_tokens.specs.Kinds.{semi_syntax};
+ghost use Rattle.syn_tokens.specs.Kinds.{semi_syntax, type_syntax};
+ghost use Rattle.syn_tokens.specs.Leaves.{syntax_of_ident};
+ghost use Rattle.syn_lower.specs.Generics.{where_part};
+ghost use Rattle.syn_lower.specs.Parts.{first};
 ghost use Rattle.syn_tree.specs.Restriction.{syntax_of_Visibility};
 ghost use Rattle.syn_item.specs.Foreign.{syntax_of_ForeignItem};
 ghost use Rattle.syn_item.specs.ForeignForms.{bare_static_syntax};
@@ -19,12 +22,12 @@ ghost use Rattle.syn_item.specs.Planned.{Follows};
 ghost use Rattle.syn_item.specs.Stages.{foreign_function_or_kept, foreign_item_plan_behind, foreign_static_or_kept, foreign_type_or_kept};
 
 use super::{ForeignItem, ForeignItemFn, ForeignItemMacro, ForeignItemStatic, ForeignItemType};
-use crate::pieces::{kept_tokens, member_macro};
+use crate::pieces::{kept_tokens, member_macro, type_head};
 use crate::sig::{Safety, foreign_signature, safe_or_unsafe};
 use crate::simple::StaticMutability;
 use syn_lower::attr::outer_attributes;
 use syn_lower::where_clause::where_clause;
-use syn_lower::{Attribute, Generics, Type};
+use syn_lower::{Attribute, Generics, Type, WhereClause};
 use syn_parse::buffer::ParseBuffer;
 use syn_parse::read::Read;
 use syn_parse::read::refusal::Parsed;
@@ -159,7 +162,6 @@ fn foreign_static(
 }
 
 /// A foreign type, behind its visibility; `None` where it is kept as its tokens: with a colon or with `=`.
-#[tactic(auto, unfolding(syn_grammar::specs::MemberPlans::foreign_type_plan))]
 fn foreign_type(
     attrs: Vec<Attribute>,
     vis: Visibility,
@@ -167,26 +169,38 @@ fn foreign_type(
 ) -> Parsed<Option<ForeignItem>>
     ensures follows { (ts : Stream) → Follows IsSyntax syntax_of_ForeignItem rules.kept_foreign_item ts (run_plan (foreign_type_or_kept (attributes_syntax attrs.items) (syntax_of_Visibility vis)) rules.kept_foreign_item ts input.old) result input.new }
 {
-    let type_token = input.read()?;
-    let ident = input.read()?;
-    let generics = Generics::read_params(input)?;
+    let head = type_head(input)?;
     if input.peek::<Colon>() {
         return Ok(None);
     }
-    let where_clause = where_clause(input)?;
+    let clause = where_clause(input)?;
     if !input.peek::<Semi>() {
         return Ok(None);
     }
     let semi_token = input.read()?;
-    Ok(Some(ForeignItem::Ty(ForeignItemType {
+    Ok(Some(ForeignItem::Ty(whole_type(attrs, vis, head, clause, semi_token))))
+}
+
+/// A foreign type of these parts.
+fn whole_type(
+    attrs: Vec<Attribute>,
+    vis: Visibility,
+    head: (token::Type, Ident, Generics),
+    clause: Option<WhereClause>,
+    semi_token: Semi,
+) -> ForeignItemType
+    ensures { result ≡ Both (attributes_syntax attrs.items) (Both (syntax_of_Visibility vis) (Both (Unshown Nothing) (Both (type_syntax head.0) (Both (syntax_of_ident head.1) (Both (first head.2) (Both (where_part clause) (semi_syntax semi_token))))))) }
+{
+    let (type_token, ident, generics) = head;
+    ForeignItemType {
         attrs,
         vis,
         modifiers: TypeModifiers::default(),
         type_token,
         ident,
-        generics: generics.with_where(where_clause),
+        generics: generics.with_where(clause),
         semi_token,
-    })))
+    }
 }
 
 /// Attributes, a visibility, a foreign signature and `;`.
@@ -285,16 +299,10 @@ impl Read for ForeignItemType {
         let type_token = input.read()?;
         let ident = input.read()?;
         let generics = Generics::read_params(input)?;
-        let where_clause = where_clause(input)?;
-        Ok(ForeignItemType {
-            attrs,
-            vis,
-            modifiers: TypeModifiers::default(),
-            type_token,
-            ident,
-            generics: generics.with_where(where_clause),
-            semi_token: input.read()?,
-        })
+        let clause = where_clause(input)?;
+        let semi_token = input.read()?;
+        let head = (type_token, ident, generics);
+        Ok(whole_type(attrs, vis, head, clause, semi_token))
     }
 }
 
