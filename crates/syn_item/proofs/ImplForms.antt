@@ -12,23 +12,24 @@ use Rattle.syn_tokens.specs.Leaves.{maybe}
 use Rattle.syn_tokens.specs.Listing.{list_of}
 use Rattle.syn_lower.specs.Generics.{as_row, parameters_of, sign_of, syntax_of_GenericParam}
 use Rattle.syn_lower.specs.declared.generics.GenericParam.TheVariants as GenericParam-m
-use Rattle.syn_item.specs.Impls.{for_type, implemented, inherent, kept_list, without_self_type}
+use Rattle.syn_item.specs.Impls.{for_type, implemented, inherent, is_shaped, kept_list, without_self_type}
 
 -- A PART WITHOUT A SELF TYPE
 
 print_without : (s : Syntax) → print (without_self_type s) ≡ print s
-print_without s = go (led_part (renew s))
+print_without s = go (or (is_shaped s) (led_part (renew s)))
   where
     go : (b : Bool) → print (pick b (Shaped untagged s) s) ≡ print s
     go true = refl
     go false = refl
 
 none_within : (s : Syntax) → led_part (renew (without_self_type s)) ≡ false
-none_within s = go (led_part (renew s)) refl
+none_within s = go (is_shaped s) (led_part (renew s)) refl
   where
-    go : (b : Bool) → led_part (renew s) ≡ b → led_part (renew (pick b (Shaped untagged s) s)) ≡ false
-    go true e = refl
-    go false e = e
+    go : (a b : Bool) → led_part (renew s) ≡ b → led_part (renew (pick (or a b) (Shaped untagged s) s)) ≡ false
+    go true b e = refl
+    go false true e = refl
+    go false false e = e
 
 -- BEHIND THE GENERICS
 

@@ -27,10 +27,12 @@ pub mod OtherTypes
 pub mod Parameters
 pub mod PlanRows
 pub mod Receivers
+pub mod SameImpls
 pub mod SameMacros
 pub mod SameMembers
 pub mod SameParts
 pub mod SameSignatures
+pub mod SameTraits
 pub mod Standing
 pub mod Strings
 pub mod Supplied
