@@ -1,16 +1,17 @@
 -- What stands behind the generics of an impl, as it is read, and what stands behind that.
-use Rattle.std.proofs.Common.{◌≡◌, Bool, true, false, [], ◌∷◌, Some, None, refl, sym, ap, subst, ◌∙◌}
-use Rattle.std.specs.Prelude.{Result, Ok, Err}
+use Rattle.std.proofs.Common.{◌≡◌, Bool, true, false, [], ◌∷◌, Some, None, refl, sym, ap, ◌∙◌}
+use Rattle.std.specs.Prelude.{Option, Result, Ok, Err}
 use Rattle.syn_grammar.specs.Words.{exclamation, w_for}
 use Rattle.syn_grammar.specs.Tokens.{Stream}
-use Rattle.syn_grammar.specs.Rules.{for_self_type, impl_body, lifetime_parameter, self_type, type, type_path}
+use Rattle.syn_grammar.specs.Rules.{for_self_type, impl_body, lifetime_parameter, self_type, type, type_path, where_clause}
 use Rattle.syn_grammar.specs.Grammar.{Grammar, Syntax, Nothing, Both, Left, Right, Node, Case, Impl, empty, generics_before, rule, when◌then◌else◌, word}
 use Rattle.syn_grammar.specs.Forms.{plainly, punctuation}
 use Rattle.syn_grammar.specs.Table.{at_brace, at_exclamation, at_for, at_module_path, parameter}
 use Rattle.syn_grammar.specs.Take.{Out, Parser, sees, take_mark, take_token}
 use Rattle.syn_grammar.specs.Run.{and_impl, and_then, branch, first_rule, named, parse_form, parse_rule, wrap}
-use Rattle.syn_grammar.specs.Promises.{Computes, itself}
+use Rattle.syn_grammar.specs.Promises.{Computes}
 use Rattle.syn_grammar.proofs.Each.{for_self_type_is, self_type_is}
+use Rattle.syn_lower.specs.Generics.{where_part}
 use Rattle.syn_item.specs.ImplForms.{ReadsBefore, bang_then, behind_impl_form, impl_generics_form, path_then, types_then}
 use Rattle.syn_item.specs.Impls.{for_type, inherent, without_self_type}
 use Rattle.syn_item.proofs.NoSelfTypes.{left_as_read}
@@ -176,10 +177,23 @@ module _ (mk : Syntax → Syntax) (m : Stream) where
     pub types_refused : ((f : Stream → Out) → types_then f r ≡ None) → whole ≡ None
     types_refused h = ap by_generics list ∙ ap (λ o. wrap mk (wrap (Impl g) o)) (h (parse_rule impl_body))
 
-    pub whole_read : {E : Type 0} (refusal : E → Type 0) (v : Syntax → Syntax) (q : Stream) (x : Result Syntax E) (new : Stream) → ((f : Stream → Out) → types_then f r ≡ wrap v (f q)) →
-        Computes refusal itself (wrap (λ s. mk (Impl g (v s))) (parse_rule impl_body q)) x new → Computes refusal itself whole x new
-    whole_read refusal v q x new h c = subst (λ (o : Out). Computes refusal itself o x new) (sym (ap by_generics list ∙ ap (λ o. wrap mk (wrap (Impl g) o)) (h (parse_rule impl_body)) ∙ go (parse_rule impl_body q))) c
+    whole_is : (v : Syntax → Syntax) (q : Stream) → ((f : Stream → Out) → types_then f r ≡ wrap v (f q)) → whole ≡ wrap (λ s. mk (Impl g (v s))) (parse_rule impl_body q)
+    whole_is v q h = ap by_generics list ∙ ap (λ o. wrap mk (wrap (Impl g) o)) (h (parse_rule impl_body)) ∙ go (parse_rule impl_body q)
       where
         go : (o : Out) → wrap mk (wrap (Impl g) (wrap v o)) ≡ wrap (λ s. mk (Impl g (v s))) o
         go None = refl
         go (Some p) = refl
+
+    pub whole_read : (v : Syntax → Syntax) (q : Stream) (s : Syntax) (new : Stream) → ((f : Stream → Out) → types_then f r ≡ wrap v (f q)) →
+        wrap (λ s. mk (Impl g (v s))) (parse_rule impl_body q) ≡ Some (s, new) → whole ≡ Some (s, new)
+    whole_read v q s new h e = whole_is v q h ∙ e
+
+    pub whole_refused : (v : Syntax → Syntax) (q : Stream) → ((f : Stream → Out) → types_then f r ≡ wrap v (f q)) → wrap (λ s. mk (Impl g (v s))) (parse_rule impl_body q) ≡ None → whole ≡ None
+    whole_refused v q h e = whole_is v q h ∙ e
+
+-- THE WHERE CLAUSE
+
+pub clause_read : {E : Type 0} (refusal : E → Type 0) (m : Stream) (x : Result (Option Syntax) E) (new : Stream) →
+    Computes refusal where_part (parse_rule where_clause m) x new → Computes refusal (λ w. without_self_type (where_part w)) (parse_rule where_clause m) x new
+clause_read refusal m (Ok w) new e = e ∙ ap (λ (z : Syntax). Some (z, new)) (sym (left_as_read (rule where_clause) m new (where_part w) refl e))
+clause_read refusal m (Err x) new e = e

@@ -1,34 +1,42 @@
 -- Impls, printed: what stands behind the generics, and where empty generics are printed.
 use Rattle.std.proofs.Common.{◌≡◌, Bool, true, false, List, [], ◌∷◌, Option, Some, None, refl, sym, subst, ap, ap₂, ◌∙◌, true≢false}
-use Rattle.syn_grammar.specs.Tokens.{Delimiter, Span, ◌⧺◌, end, or, pick, at_generics, stands}
+use Rattle.syn_grammar.specs.Tokens.{Brace, Delimiter, Span, ◌⧺◌, end, or, pick, at_generics, stands}
 use Rattle.syn_grammar.specs.Shape.{untagged}
 use Rattle.syn_grammar.specs.Grammar.{Syntax, Nothing, Both, Left, Right, Node, Vanishing, Group, Impl, Shaped, Order, bare, led, led_part, no_generics, print, renew, show}
 use Rattle.syn_grammar.specs.Promises.{itself}
+use Rattle.syn_grammar.specs.Take.{sees}
 use Rattle.syn_grammar.specs.Run.{last, more, span_of}
 use Rattle.syn_grammar.proofs.Streams.{append_append}
+use Rattle.syn_grammar.proofs.Takes.{sees_stands}
 use Rattle.syn_tokens.specs.InOrder.{pair_of}
 use Rattle.syn_tokens.specs.Kinds.{Comma, For, Gt, Lt, Not, comma_syntax, for_syntax, gt_syntax, lt_syntax, not_syntax}
 use Rattle.syn_tokens.specs.Leaves.{maybe}
 use Rattle.syn_tokens.specs.Listing.{list_of}
-use Rattle.syn_lower.specs.Generics.{as_row, parameters_of, sign_of, syntax_of_GenericParam}
+use Rattle.syn_tokens.specs.Spans.{at}
+use Rattle.syn_lower.specs.Bodies.{attributes_in_body}
+use Rattle.syn_lower.specs.Generics.{as_row, clause_of, parameters_of, sign_of, syntax_of_GenericParam}
 use Rattle.syn_lower.specs.declared.generics.GenericParam.TheVariants as GenericParam-m
-use Rattle.syn_item.specs.Impls.{for_type, implemented, inherent, kept_list, without_self_type}
+use Rattle.syn_lower.specs.Types.{syntax_of_Type}
+use Rattle.syn_item.specs.Impls.{behind_generics, for_type, implemented, inherent, is_shaped, kept_list, syntax_of_ImplItem, view_ItemImpl, without_self_type}
+use Rattle.syn_item.specs.Parts.{members_of}
+use Rattle.syn_item.specs.declared.impls.ItemImpl.TheInside as ItemImpl-in
 
 -- A PART WITHOUT A SELF TYPE
 
 print_without : (s : Syntax) → print (without_self_type s) ≡ print s
-print_without s = go (led_part (renew s))
+print_without s = go (or (is_shaped s) (led_part (renew s)))
   where
     go : (b : Bool) → print (pick b (Shaped untagged s) s) ≡ print s
     go true = refl
     go false = refl
 
 none_within : (s : Syntax) → led_part (renew (without_self_type s)) ≡ false
-none_within s = go (led_part (renew s)) refl
+none_within s = go (is_shaped s) (led_part (renew s)) refl
   where
-    go : (b : Bool) → led_part (renew s) ≡ b → led_part (renew (pick b (Shaped untagged s) s)) ≡ false
-    go true e = refl
-    go false e = e
+    go : (a b : Bool) → led_part (renew s) ≡ b → led_part (renew (pick (or a b) (Shaped untagged s) s)) ≡ false
+    go true b e = refl
+    go false true e = refl
+    go false false e = e
 
 -- BEHIND THE GENERICS
 
@@ -100,6 +108,27 @@ pub led_by : (q : Option Not) (o : Option (Syntax × For)) (ty clause : Syntax) 
 led_by q o ty clause d x y members =
     ap (or (stands at_generics (print (implemented (maybe not_syntax q) (of_trait o) ty (ending clause d x y members)))))
     (led_within q o ty (ending clause d x y members) (ap (λ b. or b false) (none_within clause)))
+
+-- of a value
+module _ (i : ItemImpl-in.Inside) (v : Syntax) (view : view_ItemImpl i ≡ v) where
+  abbrev ty : Syntax
+  ty = syntax_of_Type i.self_ty.value
+
+  led_is : led (renew (behind_generics v)) ≡ or (sees at_generics (print (behind_generics v))) (led_for i.trait_ ty)
+  led_is =
+      subst (λ (z : Syntax). led (renew (behind_generics z)) ≡ or (sees at_generics (print (behind_generics z))) (led_for i.trait_ ty)) view
+      (led_by i.modifiers.polarity i.trait_ ty (clause_of i.generics) Brace (at i.brace_token.opening) (at i.brace_token.closing) (Both (attributes_in_body i.attrs.items) (members_of syntax_of_ImplItem i.items.items))
+      ∙ ap (λ b. or b (led_for i.trait_ ty)) (sym (sees_stands at_generics (print (behind_generics (view_ItemImpl i))))))
+
+  pub led_first : sees at_generics (print (behind_generics v)) ≡ true → true ≡ led (renew (behind_generics v))
+  led_first h = sym (led_is ∙ ap (λ b. or b (led_for i.trait_ ty)) h)
+
+  module _ (not_first : sees at_generics (print (behind_generics v)) ≡ false) where
+    pub led_without : i.trait_ ≡ None → false ≡ led (renew (behind_generics v))
+    led_without h = sym (led_is ∙ ap₂ or not_first (ap (λ o. led_for o ty) h))
+
+    pub led_behind_for : (p : Syntax × For) → i.trait_ ≡ Some p → sees at_generics (print ty) ≡ led (renew (behind_generics v))
+    led_behind_for p h = sees_stands at_generics (print ty) ∙ sym (led_is ∙ ap₂ or not_first (ap (λ o. led_for o ty) h))
 
 -- GENERICS AND WHAT STANDS BEHIND THEM
 

@@ -29,11 +29,13 @@ pub mod Parameters
 pub mod PlanRows
 pub mod Receivers
 pub mod SameFiles
+pub mod SameImpls
 pub mod SameMacros
 pub mod SameMembers
 pub mod SameParts
 pub mod SameRows
 pub mod SameSignatures
+pub mod SameTraits
 pub mod Standing
 pub mod Strings
 pub mod Supplied

@@ -1,5 +1,6 @@
 -- WHAT SYNTAX IMPLS AND THEIR MEMBERS STAND FOR, one level at a time, every field.
-use Rattle.syn_grammar.specs.Tokens.{Brace, pick}
+use Rattle.std.specs.Prelude.{Bool, false, true}
+use Rattle.syn_grammar.specs.Tokens.{Brace, or, pick}
 use Rattle.syn_grammar.specs.Rules.{impl_const, impl_function, impl_macro_as_item, impl_type, kept_impl_item, self_type}
 use Rattle.syn_grammar.specs.Shape.{untagged}
 use Rattle.syn_grammar.specs.Grammar.{Syntax, Nothing, Both, Left, Right, Node, Vanishing, Case, Captured, Shaped, Impl, led_part, renew}
@@ -65,9 +66,13 @@ kept_list (Node (Vanishing b s)) = s
 kept_list s = s
 
 -- A part in which no self type stands, as that is looked for: a path, a type and a where clause hold none. (Of their syntax alone that isn't
--- known.)
+-- known. What looks marked already is marked once more, so that no two parts become the same.)
+abbrev pub is_shaped : Syntax → Bool
+is_shaped (Shaped j s) = true
+is_shaped s = false
+
 abbrev pub without_self_type : Syntax → Syntax
-without_self_type s = pick (led_part (renew s)) (Shaped untagged s) s
+without_self_type s = pick (or (is_shaped s) (led_part (renew s))) (Shaped untagged s) s
 
 -- `for` and the self type
 abbrev pub for_type : Syntax → Syntax → Syntax

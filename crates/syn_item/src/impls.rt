@@ -1,9 +1,11 @@
 //! Impls and their members.
 ghost use Rattle.std.specs.Prelude.{◌≡◌, IfOk, OnOk, []};
 ghost use Rattle.syn_grammar.specs.Grammar.{led, print, renew};
+ghost use Rattle.syn_grammar.specs.Same.{same_syntax};
 ghost use Rattle.syn_tokens.specs.Building.{added};
+ghost use Rattle.syn_lower.specs.Parts.{first};
 ghost use Rattle.syn_lower.specs.Types.{syntax_of_Type};
-ghost use Rattle.syn_item.specs.Impls.{behind_generics, behind_impl};
+ghost use Rattle.syn_item.specs.Impls.{behind_generics, behind_impl, kept_list};
 
 mod members;
 mod parsing;
@@ -131,21 +133,25 @@ fn finished(out: StreamBuilder) -> Result<TokenStream, AllocError>
 }
 
 /// The tokens of what stands behind an impl's generics.
+#[tactic(auto, unfolding(syn_tokens::specs::Building::added))]
 fn tokens_behind_generics(item: &ItemImpl, alloc: Global) -> Result<TokenStream, AllocError>
     ensures { IfOk result (λ stream. stream ≡ print (behind_generics item.now)) }
 {
     let mut out = StreamBuilder::new(alloc);
     print_behind_generics(item, &mut out)?;
-    finished(out)
+    let tokens = finished(out)?;
+    Ok(tokens)
 }
 
 /// The tokens of a type.
+#[tactic(auto, unfolding(syn_tokens::specs::Building::added))]
 fn tokens_of_type(ty: &Type, alloc: Global) -> Result<TokenStream, AllocError>
     ensures { IfOk result (λ stream. stream ≡ print (syntax_of_Type ty.now)) }
 {
     let mut out = StreamBuilder::new(alloc);
     ty.print_in(&mut out)?;
-    finished(out)
+    let tokens = finished(out)?;
+    Ok(tokens)
 }
 
 /// Whether what stands behind an impl's generics, of which these are the tokens, would be read as generics where there are none; or
@@ -198,14 +204,23 @@ impl Print for ItemImpl {
     }
 }
 
+/// Whether both have the same parameters, and `<` and `>` where the other has them.
+fn has_same_list(generics: &Generics, other: &Generics) -> bool
+    ensures { result ≡ same_syntax (kept_list (first generics.now)) (kept_list (first other.now)) }
+{
+    let (_params, _others) = (&generics.params, &other.params);
+    generics.has_same_params(other)
+}
+
 /// What stands behind the generics is compared by what it is together.
 impl Compared for ItemImpl {
+    #[tactic(auto, using(crate::proofs::SameImpls::same_impl))]
     fn is_same(&self, other: &ItemImpl) -> bool {
         self.attrs.is_same(&other.attrs)
             && self.modifiers.is_same(&other.modifiers)
             && self.unsafety.is_same(&other.unsafety)
             && self.impl_token.is_same(&other.impl_token)
-            && self.generics.has_same_params(&other.generics)
+            && has_same_list(&self.generics, &other.generics)
             && self.trait_.is_same(&other.trait_)
             && self.self_ty.is_same(&other.self_ty)
             && self.generics.has_same_where(&other.generics)

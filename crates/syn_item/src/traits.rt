@@ -130,6 +130,7 @@ impl Print for ItemTrait {
 
 /// The where clause stands before the braces.
 impl Compared for ItemTrait {
+    #[tactic(auto, using(crate::proofs::SameTraits::same_trait))]
     fn is_same(&self, other: &ItemTrait) -> bool {
         self.attrs.is_same(&other.attrs)
             && self.vis.is_same(&other.vis)

@@ -11,10 +11,11 @@ ghost use Rattle.syn_grammar.specs.Words.{w_for};
 ghost use Rattle.syn_tokens.specs.Kinds.{for_syntax};
 ghost use Rattle.syn_lower.specs.Attributes.{all_attributes_syntax, attributes_syntax};
 ghost use Rattle.syn_lower.specs.Parsing.{of, rule, meaning_of_rule, parse_rule, parse_form, Computes, Moved, Kept, itself, IsSyntax};
+ghost use Rattle.syn_lower.specs.Generics.{where_part};
 ghost use Rattle.syn_lower.specs.Parts.{first};
 ghost use Rattle.syn_parse.specs.Form.{by};
 ghost use Rattle.syn_item.specs.ImplForms.{ReadsBefore, bang_then, behind_impl_form, impl_generics_form, impl_of, path_then, types_before, types_then};
-ghost use Rattle.syn_item.specs.Impls.{kept_list};
+ghost use Rattle.syn_item.specs.Impls.{kept_list, without_self_type};
 ghost use Rattle.syn_item.specs.NextWords.{odd_negative};
 ghost use Rattle.syn_item.specs.Planned.{Follows};
 ghost use Rattle.syn_item.specs.Stages.{impl_types_behind};
@@ -23,7 +24,7 @@ use super::ItemImpl;
 use crate::pieces::braced;
 use syn_lower::attr::outer_attributes;
 use syn_lower::where_clause::where_clause;
-use syn_lower::{Attribute, Generics, Path, Type, TypeNever, TypePath};
+use syn_lower::{Attribute, Generics, Path, Type, TypeNever, TypePath, WhereClause};
 use syn_parse::buffer::ParseBuffer;
 use syn_parse::read::refusal::{Parsed, Refusal};
 use syn_parse::read::{Peek, Read};
@@ -84,7 +85,7 @@ fn impl_definition_rest(attrs: Vec<Attribute>, input: &mut ParseBuffer<'_>) -> P
 }
 
 /// An impl, behind its word.
-#[tactic(auto, using(crate::proofs::FirstTypes::generics_refused, crate::proofs::FirstTypes::types_refused, crate::proofs::FirstTypes::whole_read))]
+#[tactic(auto, using(crate::proofs::FirstTypes::generics_refused, crate::proofs::FirstTypes::types_refused, crate::proofs::FirstTypes::whole_read, crate::proofs::FirstTypes::whole_refused))]
 fn behind_impl(marks: ImplMarks, input: &mut ParseBuffer<'_>) -> Parsed<ItemImpl>
     requires outer { all_attributes_syntax marks.attrs.items ≡ attributes_syntax marks.attrs.items }
     ensures reads { Computes IsSyntax itself (wrap (impl_of marks) (parse_form behind_impl_form input.old)) result input.new }
@@ -96,22 +97,24 @@ fn behind_impl(marks: ImplMarks, input: &mut ParseBuffer<'_>) -> Parsed<ItemImpl
     let is_odd = types.trait_.is_none() && input.peek::<For>();
     match impl_end(marks, generics, types, input) {
         Ok(item) => Ok(item),
-        Err(Refusal::Memory) => Err(Refusal::Memory),
-        Err(Refusal::Syntax { span, text }) => Err(told(is_odd, first, span, text)),
+        Err(refusal) => Err(told(refusal, is_odd, first)),
     }
 }
 
-/// The fault of an impl: where its first type is no path of a trait, and `for` stands behind it, it is told where that type begins.
-fn told(is_odd: bool, first: Span, span: Span, text: &'static str) -> Refusal
-    ensures syntax { IsSyntax result }
+/// The refusal of an impl: where its first type is no path of a trait, and `for` stands behind it, it is told where that type begins.
+fn told(refusal: Refusal, is_odd: bool, first: Span) -> Refusal
+    ensures { IsSyntax result → IsSyntax refusal }
 {
-    if is_odd {
-        return Refusal::Syntax {
+    if !is_odd {
+        return refusal;
+    }
+    match refusal {
+        Refusal::Memory => Refusal::Memory,
+        Refusal::Syntax { span: _, text: _ } => Refusal::Syntax {
             span: first,
             text: "expected trait path",
-        };
+        },
     }
-    Refusal::Syntax { span, text }
 }
 
 /// Generics, where they stand next and no type does.
@@ -228,6 +231,15 @@ fn behind_path(input: &mut ParseBuffer<'_>) -> Parsed<ImplTypes>
     })
 }
 
+/// The where clause of an impl, if there is one. In it stands no self type.
+#[tactic(auto, using(crate::proofs::FirstTypes::clause_read))]
+fn impl_clause(input: &mut ParseBuffer<'_>) -> Parsed<Option<WhereClause>>
+    ensures reads { Computes IsSyntax (λ w. without_self_type (where_part w)) (parse_rule rules.where_clause input.old) result input.new }
+    ensures kept { Kept input.old result input.new }
+{
+    where_clause(input)
+}
+
 /// An impl, behind its types.
 #[tactic(auto, using(syn_grammar::proofs::Each::impl_body_is, crate::proofs::MemberLists::impl_members))]
 pub(crate) fn impl_end(
@@ -240,7 +252,7 @@ pub(crate) fn impl_end(
     ensures reads { Computes IsSyntax itself (wrap (λ s. impl_of marks (Impl (kept_list (first generics)) (types_before types s))) (parse_rule rules.impl_body input.old)) result input.new }
     ensures moved { Moved input.old result input.new }
 {
-    let where_clause = where_clause(input)?;
+    let where_clause = impl_clause(input)?;
     let (attrs, brace_token, items) = braced(marks.attrs, input)?;
     Ok(ItemImpl {
         attrs,
