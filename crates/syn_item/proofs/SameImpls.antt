@@ -146,7 +146,7 @@ module _ {T : Type 0} (view : T → Syntax) where
       ≡ and (all_same l m) (and (and d (and c (same_syntax (polarity_of q) (polarity_of r)))) (and u (and i (and g (and (same_syntax (of_trait o) (of_trait p)) (and (same_syntax s t) (and (same_syntax e f) (same_syntax (in_order view x) (in_order view y)))))))))
   same_impl l m d c u i g q r o p s t e f a b x y =
       ap (λ z. and (before l m) (and d (and c (and u (and i (and g z)))))) (same_implemented q r o p s t (ending l e a x) (ending m f b y))
-      ∙ ap₂ (λ z w. and (before l m) (and d (and c (and u (and i (and g (and bang (and path (and types (and z (and (inside l m) w)))))))))))  (same_without e f) (same_members view x y)
+      ∙ ap₂ (λ z w. and (before l m) (and d (and c (and u (and i (and g (and bang (and path (and types (and z (and (inside l m) w))))))))))) (same_without e f) (same_members view x y)
       ∙ behind_nine l m d c u i g bang path types (same_syntax e f) (same_syntax (in_order view x) (in_order view y))
       ∙ ap (and (all_same l m)) (moved d c u i g bang (and path (and types (and (same_syntax e f) (same_syntax (in_order view x) (in_order view y))))))
     where
