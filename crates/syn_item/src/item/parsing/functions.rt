@@ -1,5 +1,5 @@
 //! Items that begin with a word that a signature may begin with: functions, and what else begins with `const`, `unsafe` or `extern`.
-ghost use Rattle.std.specs.Prelude.{◌≡◌};
+ghost use Rattle.std.specs.Prelude.{◌≡◌, true};
 ghost use Rattle.syn_grammar.specs.Grammar.{◌&◌, Both};
 ghost use Rattle.syn_grammar.specs.ItemPlan as plan;
 ghost use Rattle.syn_grammar.specs.Plan.{run_plan};
