@@ -4,13 +4,15 @@ ghost use Rattle.syn_grammar.specs.Rules as rules;
 ghost use Rattle.syn_grammar.specs.Table as table;
 ghost use Rattle.syn_grammar.specs.Tokens as grammar;
 ghost use Rattle.syn_grammar.specs.Tokens.{at_word};
-ghost use Rattle.syn_grammar.specs.Grammar.{rule, word as word_kind};
+ghost use Rattle.syn_grammar.specs.Grammar.{Both, Node, rule, word as word_kind};
 ghost use Rattle.syn_grammar.specs.Run.{wrap};
 ghost use Rattle.syn_grammar.specs.Take.{left};
 ghost use Rattle.syn_parse.specs.Form.{by};
 ghost use Rattle.syn_tokens.specs.Faults.{expected};
 ghost use Rattle.syn_grammar.specs.Words.{w_extern};
-ghost use Rattle.syn_tokens.specs.Leaves.{maybe, syntax_of_literal, syntax_of_word};
+ghost use Rattle.syn_tokens.specs.Kinds.{fn_syntax};
+ghost use Rattle.syn_tokens.specs.Leaves.{maybe, syntax_of_ident, syntax_of_literal, syntax_of_word};
+ghost use Rattle.syn_lower.specs.Parts.{first};
 ghost use Rattle.syn_lower.specs.Parsing.{inside, of, meaning_of_rule, parse_form, parse_rule, sees, take_token, Computes, Kept, Moved, Parses, Outcome, itself, IsSyntax, IsSyntaxError};
 ghost use Rattle.syn_item.specs.SignatureForms.{behind_qualifiers, end_form, end_syntax, parameters_syntax, qualifiers_syntax, string_form};
 ghost use Rattle.syn_item.specs.Signatures.{syntax_of_Safety};
@@ -24,8 +26,9 @@ use syn_parse::read::refusal::Parsed;
 use syn_parse::read::{Peek, Read};
 use syn_recognize::item_looks::at_str;
 use syn_tokens::error::Result;
+use syn_tokens::ident::Ident;
 use syn_tokens::literal::Literal;
-use syn_tokens::token::{Async, Const, Extern, Paren, Word, WordKind, kind};
+use syn_tokens::token::{Async, Const, Extern, Fn, Paren, Word, WordKind, kind};
 
 /// What stands before the `fn` of a signature.
 #[derive(Drop)]
@@ -81,12 +84,25 @@ pub(crate) fn signature_rest(
     ensures reads { Computes IsSyntax itself (wrap (behind_qualifiers (qualifiers_syntax qualifiers)) (parse_rule rules.signature_rest input.old)) result input.new }
     ensures moved { Moved input.old result input.new }
 {
-    let fn_token = input.read()?;
-    let ident = input.read()?;
-    let generics = Generics::read_params(input)?;
-    let (paren_token, parameters) = in_parentheses(input)?;
-    let (output, where_clause) = signature_end(input)?;
-    Ok(Signature {
+    let named = (input.read()?, input.read()?, Generics::read_params(input)?);
+    let parameters = in_parentheses(input)?;
+    let end = signature_end(input)?;
+    Ok(signature_of(qualifiers, named, parameters, end))
+}
+
+/// A signature of its parts.
+fn signature_of(
+    qualifiers: Qualifiers,
+    named: (Fn, Ident, Generics),
+    parameters: (Paren, ParameterList),
+    end: (ReturnType, Option<WhereClause>),
+) -> Signature
+    ensures made { result ≡ behind_qualifiers (qualifiers_syntax qualifiers) (Node (Both (fn_syntax named.0) (Both (syntax_of_ident named.1) (Both (first named.2) (Both (parameters_syntax parameters) (end_syntax end)))))) }
+{
+    let (fn_token, ident, generics) = named;
+    let (paren_token, parameters) = parameters;
+    let (output, where_clause) = end;
+    Signature {
         constness: qualifiers.constness,
         asyncness: qualifiers.asyncness,
         safety: qualifiers.safety,
@@ -98,7 +114,7 @@ pub(crate) fn signature_rest(
         inputs: parameters.inputs,
         variadic: parameters.variadic,
         output,
-    })
+    }
 }
 
 /// Parameters in parentheses.
