@@ -102,7 +102,7 @@ led_within (Some m) (Some p) ty rest h = among_for p.0 p.1 ty rest h
 abbrev ending : Syntax → Delimiter → Span → Span → Syntax → Syntax
 ending clause d x y members = Node (Both (without_self_type clause) (Group d x y members))
 
-pub led_by : (q : Option Not) (o : Option (Syntax × For)) (ty clause : Syntax) (d : Delimiter) (x y : Span) (members : Syntax) →
+led_by : (q : Option Not) (o : Option (Syntax × For)) (ty clause : Syntax) (d : Delimiter) (x y : Span) (members : Syntax) →
     led (renew (implemented (maybe not_syntax q) (of_trait o) ty (Node (Both (without_self_type clause) (Group d x y members)))))
     ≡ or (stands at_generics (print (implemented (maybe not_syntax q) (of_trait o) ty (Node (Both (without_self_type clause) (Group d x y members)))))) (led_for o ty)
 led_by q o ty clause d x y members =

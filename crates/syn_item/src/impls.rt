@@ -156,7 +156,7 @@ fn tokens_of_type(ty: &Type, alloc: Global) -> Result<TokenStream, AllocError>
 
 /// Whether what stands behind an impl's generics, of which these are the tokens, would be read as generics where there are none; or
 /// its self type behind `for` would.
-#[tactic(auto, using(crate::proofs::ImplForms::led_by))]
+#[tactic(auto, using(crate::proofs::ImplForms::led_first, crate::proofs::ImplForms::led_without, crate::proofs::ImplForms::led_behind_for))]
 fn is_led(item: &ItemImpl, behind: &TokenStream, alloc: Global) -> Result<bool, AllocError>
     requires { behind.now ≡ print (behind_generics item.now) }
     ensures { IfOk result (λ answer. answer ≡ led (renew (behind_generics item.now))) }
