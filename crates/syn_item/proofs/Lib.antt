@@ -8,7 +8,6 @@ pub mod Followed
 pub mod ForeignMembers
 pub mod ForeignOrFunction
 pub mod ForeignPlans
-pub mod ForeignPrints
 pub mod ImplForms
 pub mod ImplPlans
 pub mod ImplReads

@@ -1,10 +1,11 @@
 -- HOW ITEMS WITHOUT MEMBERS ARE READ, part by part.
-use Rattle.std.specs.Prelude.{Bool, true, false, Option, List, [], ◌∷◌}
+use Rattle.std.specs.Prelude.{◌≡◌, Bool, true, false, Option, Some, None, Result, Ok, Err, List, [], ◌∷◌}
 use Rattle.syn_grammar.specs.Words.{colon, equals, semicolon, w_as, w_const, w_crate, w_extern, w_mod, w_mut, w_self, w_static, w_try, w_type}
-use Rattle.syn_grammar.specs.Tokens.{Brace, at_word}
+use Rattle.syn_grammar.specs.Tokens.{Brace, Stream, and, at_word, no, pick}
 use Rattle.syn_grammar.specs.Rules.{alias_bounds, generics, inner_attributes, items, type, where_clause, whole_expression}
 use Rattle.syn_grammar.specs.Grammar.{Syntax, Nothing, Both, Unshown, Grammar, empty, inside, name, name_or, one_where, ◌&◌, when◌then◌else◌, rule, such, unshown, word}
 use Rattle.syn_grammar.specs.Forms.{optional, plainly, punctuation}
+use Rattle.syn_grammar.specs.Take.{Out, only}
 use Rattle.syn_grammar.specs.Table.{at_macro_name, at_semicolon, item_word, name_or_underscore}
 use Rattle.syn_tokens.specs.Kinds.{eq_syntax, plus_syntax, semi_syntax, Eq, Plus, Semi}
 use Rattle.syn_tokens.specs.Kinds as kinds
@@ -22,6 +23,7 @@ use Rattle.syn_tree.specs.Derive.{item_of}
 use Rattle.syn_item.specs.Simple.{aliased, content_syntax, module_content, syntax_of_WhereClausePlacement}
 use Rattle.syn_item.specs.declared.simple.WhereClausePlacement.TheVariants as WhereClausePlacement-m
 use Rattle.syn_item.specs.declared.simple.aliases.AliasParts.{AliasParts}
+use Rattle.syn_item.specs.declared.simple.aliases.Clauses.{Clauses}
 
 -- FUNCTIONS: of these attributes, this visibility and this signature, by their body
 abbrev pub function_of : Syntax → Syntax → Syntax → Syntax → Syntax
@@ -62,6 +64,19 @@ aliased_syntax a = aliased (syntax_of_WhereClausePlacement a.placement) (where_p
 abbrev pub place_by : Bool → WhereClausePlacement-m.the_data
 place_by true = WhereClausePlacement-m.Late
 place_by false = WhereClausePlacement-m.Early
+
+-- what is told of an alias by whether a clause stands before `=` and behind the type: nothing is read where both do
+abbrev pub told_alias : Bool → Bool → Syntax → Syntax → Syntax → Syntax → Stream → Out
+told_alias is_early is_late w q t x m = only (no (and is_early is_late)) (Some (aliased (syntax_of_WhereClausePlacement (place_by is_late)) (pick is_late x w) q t, m))
+
+-- the same of the clauses, `=` and the type that were read
+abbrev pub of_clauses : Clauses → Stream → Out
+of_clauses c m = told_alias c.is_early c.is_late (where_part c.early) (eq_syntax c.eq_token) (syntax_of_Type c.ty.value) (where_part c.late) m
+
+-- where they are refused, nothing is read
+abbrev pub TellsAlias : {E : Type 0} → (E → Type 0) → Out → Result Clauses E → Stream → Type 0
+TellsAlias refusal out (Ok c) new = out ≡ of_clauses c new
+TellsAlias refusal out (Err e) new = refusal e → out ≡ None
 
 -- TRAIT ALIASES behind their generics
 

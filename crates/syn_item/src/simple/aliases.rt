@@ -15,7 +15,7 @@ ghost use Rattle.syn_lower.specs.Generics.{where_part};
 ghost use Rattle.syn_lower.specs.Parsing.{of, rule, list_of, meaning_of_rule, parse_form, parse_rule, Computes, Kept, Moved, itself, IsSyntax};
 ghost use Rattle.syn_tree.specs.Derive.{item_of};
 ghost use Rattle.syn_tree.specs.Restriction.{syntax_of_Visibility};
-ghost use Rattle.syn_item.specs.ItemForms.{alias_end_form, alias_syntax, aliased_form, aliased_syntax, bounds_end_form, bounds_end_syntax, place_by, type_form};
+ghost use Rattle.syn_item.specs.ItemForms.{alias_end_form, alias_syntax, aliased_form, aliased_syntax, bounds_end_form, bounds_end_syntax, place_by, type_form, TellsAlias};
 ghost use Rattle.syn_item.specs.Simple.{place_aside, syntax_of_WhereClausePlacement};
 
 use crate::simple::{ItemTraitAlias, ItemType, WhereClausePlacement};
@@ -122,10 +122,42 @@ struct AliasParts {
 }
 
 /// `=` and a type, with a where clause before them or behind them. Where none stands, its place is before them.
-#[tactic(auto, using(crate::proofs::Aliases::alias_placed, crate::proofs::Aliases::alias_refused, crate::proofs::Aliases::place_left))]
 fn aliased(input: &mut ParseBuffer<'_>) -> Parsed<AliasParts>
     ensures reads { Computes IsSyntax aliased_syntax (parse_form aliased_form input.old) result input.new }
     ensures place { IfOk result (λ a. place_aside (syntax_of_WhereClausePlacement a.placement) (where_part a.where_clause) ≡ Unshown Nothing) }
+    ensures moved { Moved input.old result input.new }
+{
+    let clauses = clauses(input)?;
+    if clauses.is_early {
+        if clauses.is_late {
+            return Err(input.refusal("unexpected token"));
+        }
+    }
+    let (placement, where_clause) = placed(clauses.is_late, clauses.early, clauses.late);
+    Ok(AliasParts {
+        eq_token: clauses.eq_token,
+        ty: clauses.ty,
+        placement,
+        where_clause,
+    })
+}
+
+/// `=` and a type, and what stands before them and behind them.
+#[derive(Drop)]
+struct Clauses {
+    is_early: bool,
+    early: Option<WhereClause>,
+    eq_token: Eq,
+    ty: Box<Type>,
+    is_late: bool,
+    late: Option<WhereClause>,
+}
+
+/// `=` and a type, with a where clause before them, behind them, or both.
+#[tactic(auto, using(crate::proofs::Aliases::alias_told, crate::proofs::Aliases::place_left))]
+fn clauses(input: &mut ParseBuffer<'_>) -> Parsed<Clauses>
+    ensures told { TellsAlias IsSyntax (parse_form aliased_form input.old) result input.new }
+    ensures place { IfOk result (λ c. place_aside (syntax_of_WhereClausePlacement (place_by c.is_late)) (pick c.is_late (where_part c.late) (where_part c.early)) ≡ Unshown Nothing) }
     ensures moved { Moved input.old result input.new }
 {
     let is_early = input.peek::<Where>();
@@ -134,15 +166,13 @@ fn aliased(input: &mut ParseBuffer<'_>) -> Parsed<AliasParts>
     let ty = input.read()?;
     let is_late = input.peek::<Where>();
     let late = where_clause(input)?;
-    if is_early && is_late {
-        return Err(input.refusal("unexpected token"));
-    }
-    let (placement, where_clause) = placed(is_late, early, late);
-    Ok(AliasParts {
+    Ok(Clauses {
+        is_early,
+        early,
         eq_token,
         ty,
-        placement,
-        where_clause,
+        is_late,
+        late,
     })
 }
 
