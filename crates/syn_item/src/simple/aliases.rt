@@ -127,7 +127,7 @@ fn aliased(input: &mut ParseBuffer<'_>) -> Parsed<AliasParts>
     ensures place { IfOk result (λ a. place_aside (syntax_of_WhereClausePlacement a.placement) (where_part a.where_clause) ≡ Unshown Nothing) }
     ensures moved { Moved input.old result input.new }
 {
-    let clauses = clauses(input)?;
+    let clauses = alias_clauses(input)?;
     if clauses.is_early {
         if clauses.is_late {
             return Err(input.refusal("unexpected token"));
@@ -155,7 +155,7 @@ struct Clauses {
 
 /// `=` and a type, with a where clause before them, behind them, or both.
 #[tactic(auto, using(crate::proofs::Aliases::alias_told, crate::proofs::Aliases::place_left))]
-fn clauses(input: &mut ParseBuffer<'_>) -> Parsed<Clauses>
+fn alias_clauses(input: &mut ParseBuffer<'_>) -> Parsed<Clauses>
     ensures told { TellsAlias IsSyntax (parse_form aliased_form input.old) result input.new }
     ensures place { IfOk result (λ c. place_aside (syntax_of_WhereClausePlacement (place_by c.is_late)) (pick c.is_late (where_part c.late) (where_part c.early)) ≡ Unshown Nothing) }
     ensures moved { Moved input.old result input.new }
