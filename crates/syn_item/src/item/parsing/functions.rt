@@ -234,7 +234,7 @@ fn const_impl(
 }
 
 /// A constant; `None` where it is kept as its tokens: with generics, with a where clause or without a value.
-#[tactic(auto, using(crate::proofs::ItemPlans::generics_kept, crate::proofs::ItemPlans::value_kept, crate::proofs::ItemPlans::clause_kept), unfolding(syn_grammar::specs::ItemPlan::const_plan))]
+#[tactic(auto, unfolding(syn_grammar::specs::ItemPlan::const_plan))]
 fn const_or_kept(begun: Begun, input: &mut ParseBuffer<'_>) -> Parsed<Option<Item>>
     ensures follows { (ts : Stream) → Follows IsSyntax syntax_of_Item rules.kept_item ts (run_plan (const_or_kept_turn (attributes_syntax begun.attrs.items) (syntax_of_Visibility begun.vis)) rules.kept_item ts input.old) result input.new }
 {

@@ -56,7 +56,7 @@ fn is_alias(input: &ParseBuffer<'_>) -> Parsed<bool>
 }
 
 /// A static; `None` where it is kept as its tokens: without a type, or without a value.
-#[tactic(auto, using(crate::proofs::ItemPlans::untyped_kept, crate::proofs::ItemPlans::unvalued_kept), unfolding(syn_grammar::specs::ItemPlan::static_plan))]
+#[tactic(auto, unfolding(syn_grammar::specs::ItemPlan::static_plan))]
 pub(super) fn static_or_kept(begun: Begun, input: &mut ParseBuffer<'_>) -> Parsed<Option<Item>>
     ensures follows { (ts : Stream) → Follows IsSyntax syntax_of_Item rules.kept_item ts (run_plan (plan.static_plan (attributes_syntax begun.attrs.items) (syntax_of_Visibility begun.vis)) rules.kept_item ts input.old) result input.new }
 {
