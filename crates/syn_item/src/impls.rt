@@ -156,15 +156,15 @@ fn tokens_of_type(ty: &Type, alloc: Global) -> Result<TokenStream, AllocError>
 
 /// Whether what stands behind an impl's generics, of which these are the tokens, would be read as generics where there are none; or
 /// its self type behind `for` would.
-#[tactic(auto, using(crate::proofs::ImplForms::led_first, crate::proofs::ImplForms::led_without, crate::proofs::ImplForms::led_behind_for))]
 fn is_led(item: &ItemImpl, behind: &TokenStream, alloc: Global) -> Result<bool, AllocError>
     requires { behind.now ≡ print (behind_generics item.now) }
     ensures { IfOk result (λ answer. answer ≡ led (renew (behind_generics item.now))) }
 {
+    let trait_ = &item.trait_;
     if at_generics(&ParseBuffer::new(behind)) {
         return Ok(true);
     }
-    match &item.trait_ {
+    match trait_ {
         Some((_path, _for_token)) => {
             let self_ty = tokens_of_type(&item.self_ty, alloc)?;
             Ok(at_generics(&ParseBuffer::new(&self_ty)))

@@ -148,7 +148,7 @@ impl Peek for ModulePath {
 }
 
 /// `!` alone; `!`, a path, `for` and a type; a path with `for` and a type or alone; or a type that is no plain path.
-#[tactic(auto, using(crate::proofs::OtherTypes::bang_before, crate::proofs::OtherTypes::path_before, crate::proofs::OtherTypes::other_refused, crate::proofs::OtherTypes::other_read))]
+#[tactic(auto, using(crate::proofs::OtherTypes::bang_before, crate::proofs::OtherTypes::path_before, crate::proofs::OtherTypes::other_refused))]
 fn implemented(input: &mut ParseBuffer<'_>) -> Parsed<ImplTypes>
     ensures reads { ReadsBefore IsSyntax types_before (λ f. types_then f input.old) result input.new }
     ensures moved { Moved input.old result input.new }
@@ -159,10 +159,11 @@ fn implemented(input: &mut ParseBuffer<'_>) -> Parsed<ImplTypes>
     if input.peek::<ModulePath>() {
         return behind_path(input);
     }
+    let self_ty = input.read()?;
     Ok(ImplTypes {
         polarity: None,
         trait_: None,
-        self_ty: input.read()?,
+        self_ty,
     })
 }
 
