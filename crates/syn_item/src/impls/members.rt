@@ -1,5 +1,5 @@
 //! Parsers of the members of impls.
-ghost use Rattle.std.specs.Prelude.{◌≡◌};
+ghost use Rattle.std.specs.Prelude.{◌≡◌, IfOk};
 ghost use Rattle.syn_grammar.specs.Rules as rules;
 ghost use Rattle.syn_grammar.specs.Grammar.{Both};
 ghost use Rattle.syn_grammar.specs.MemberPlans as plan;
@@ -48,6 +48,7 @@ struct MemberMarks {
 /// Attributes, a visibility and perhaps `default`.
 fn member_marks(input: &mut ParseBuffer<'_>) -> Parsed<MemberMarks>
     ensures reads { Computes IsSyntax member_marks_syntax (parse_form member_marks_form input.old) result input.new }
+    ensures outer { IfOk result (λ m. all_attributes_syntax m.attrs.items ≡ attributes_syntax m.attrs.items) }
     ensures kept { Kept input.old result input.new }
 {
     Ok(MemberMarks {
