@@ -84,10 +84,13 @@ pub(crate) fn signature_rest(
     ensures reads { Computes IsSyntax itself (wrap (behind_qualifiers (qualifiers_syntax qualifiers)) (parse_rule rules.signature_rest input.old)) result input.new }
     ensures moved { Moved input.old result input.new }
 {
-    let named = (input.read()?, input.read()?, Generics::read_params(input)?);
+    let fn_token = input.read()?;
+    let ident = input.read()?;
+    let generics = Generics::read_params(input)?;
     let parameters = in_parentheses(input)?;
-    let end = signature_end(input)?;
-    Ok(signature_of(qualifiers, named, parameters, end))
+    let (output, where_clause) = signature_end(input)?;
+    let named = (fn_token, ident, generics);
+    Ok(signature_of(qualifiers, named, parameters, (output, where_clause)))
 }
 
 /// A signature of its parts.
