@@ -626,7 +626,7 @@ def print_enum(source, t):
 
 
 # From so many parts on, a print of an item is proved part by part: with the parts in any order the search has no end.
-MANY = 6
+MANY = 7
 
 
 def print_tactic(source, t, body):

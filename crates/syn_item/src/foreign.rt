@@ -3,13 +3,18 @@
 mod members;
 mod parsing;
 
+use crate::parts::print_clause_end;
 use crate::sig::{Abi, Safety, Signature};
 use crate::simple::StaticMutability;
 pub(crate) use parsing::foreign_module_rest;
+use std::alloc::AllocError;
+use syn_lower::attr::print_outer;
 use syn_lower::{Attribute, Generics, Type};
 use syn_pat::Macro;
 use syn_tokens::ident::Ident;
+use syn_tokens::print::Print;
 use syn_tokens::stream::TokenStream;
+use syn_tokens::stream::builder::StreamBuilder;
 use syn_tokens::token;
 use syn_tokens::token::{Brace, Colon, Semi, Static, Unsafe};
 use syn_tree::item::{FnModifiers, TypeModifiers};
@@ -82,6 +87,19 @@ pub struct ForeignItemMacro {
     pub attrs: Vec<Attribute>,
     pub mac: Macro,
     pub semi_token: Option<Semi>,
+}
+
+/// Modifiers are not printed.
+impl Print for ForeignItemType {
+    #[tactic(auto, using(syn_tokens::proofs::Prints::prints))]
+    fn print_in(&self, out: &mut StreamBuilder) -> Result<(), AllocError> {
+        print_outer(&self.attrs, out)?;
+        self.vis.print_in(out)?;
+        self.type_token.print_in(out)?;
+        self.ident.print_in(out)?;
+        self.generics.print_params(out)?;
+        print_clause_end(&self.generics, &self.semi_token, out)
+    }
 }
 
 // Written by tools/kinds.py from here to the end; edits are lost.

@@ -1,8 +1,10 @@
 //! Impls and their members.
 ghost use Rattle.std.specs.Prelude.{◌≡◌, IfOk, OnOk, []};
-ghost use Rattle.syn_grammar.specs.Grammar.{led, print, renew};
+ghost use Rattle.syn_grammar.specs.Grammar.{Both, led, print, renew};
 ghost use Rattle.syn_grammar.specs.Same.{same_syntax};
 ghost use Rattle.syn_tokens.specs.Building.{added};
+ghost use Rattle.syn_tokens.specs.Kinds.{eq_syntax, semi_syntax};
+ghost use Rattle.syn_lower.specs.Generics.{clause_of};
 ghost use Rattle.syn_lower.specs.Parts.{first};
 ghost use Rattle.syn_lower.specs.Types.{syntax_of_Type};
 ghost use Rattle.syn_item.specs.Impls.{behind_generics, behind_impl, kept_list};
@@ -10,11 +12,11 @@ ghost use Rattle.syn_item.specs.Impls.{behind_generics, behind_impl, kept_list};
 mod members;
 mod parsing;
 
-use crate::parts::{print_braced, print_pair};
+use crate::parts::{print_braced, print_clause_end, print_pair, print_typed_value};
 use crate::sig::Signature;
 pub(crate) use parsing::{ImplMarks, ImplTypes, impl_end, impl_generics, impl_or_kept};
 use std::alloc::{AllocError, Global};
-use syn_lower::attr::print_before_body;
+use syn_lower::attr::{print_before_body, print_outer};
 use syn_lower::{Attribute, Generics, Path, Type};
 use syn_parse::buffer::ParseBuffer;
 use syn_pat::Macro;
@@ -106,6 +108,62 @@ pub struct ImplItemMacro {
     pub attrs: Vec<Attribute>,
     pub mac: Macro,
     pub semi_token: Option<Semi>,
+}
+
+/// Generics are not printed.
+impl Print for ImplItemConst {
+    #[tactic(auto, using(syn_tokens::proofs::Prints::prints, crate::proofs::Unprinted::print_generics_aside))]
+    fn print_in(&self, out: &mut StreamBuilder) -> Result<(), AllocError> {
+        print_outer(&self.attrs, out)?;
+        self.vis.print_in(out)?;
+        self.modifiers.defaultness.print_in(out)?;
+        self.const_token.print_in(out)?;
+        self.ident.print_in(out)?;
+        print_typed_value(
+            &self.colon_token,
+            &self.ty,
+            &self.eq_token,
+            &self.expr,
+            &self.semi_token,
+            out,
+        )
+    }
+}
+
+/// `=`, a type, a where clause and `;`.
+#[tactic(auto, using(syn_tokens::proofs::Prints::prints))]
+fn print_type_end(
+    eq_token: &Eq,
+    ty: &Type,
+    generics: &Generics,
+    semi_token: &Semi,
+    out: &mut StreamBuilder,
+) -> Result<(), AllocError>
+    ensures prints { OnOk result (out.new ≡ added out.old (print (Both (eq_syntax eq_token.now) (Both (syntax_of_Type ty.now) (Both (clause_of generics.now) (semi_syntax semi_token.now)))))) }
+    ensures begins { out.new.before ≡ out.old.before }
+{
+    eq_token.print_in(out)?;
+    ty.print_in(out)?;
+    print_clause_end(generics, semi_token, out)
+}
+
+impl Print for ImplItemType {
+    #[tactic(auto, using(syn_tokens::proofs::Prints::prints))]
+    fn print_in(&self, out: &mut StreamBuilder) -> Result<(), AllocError> {
+        print_outer(&self.attrs, out)?;
+        self.vis.print_in(out)?;
+        self.modifiers.defaultness.print_in(out)?;
+        self.type_token.print_in(out)?;
+        self.ident.print_in(out)?;
+        self.generics.print_params(out)?;
+        print_type_end(
+            &self.eq_token,
+            &self.ty,
+            &self.generics,
+            &self.semi_token,
+            out,
+        )
+    }
 }
 
 /// What stands behind an impl's generics: `!`, a trait's path and `for`, the self type, the where clause and the members.

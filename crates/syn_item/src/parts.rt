@@ -6,18 +6,24 @@ ghost use Rattle.syn_grammar.specs.Grammar.{Both, print};
 ghost use Rattle.syn_grammar.specs.Tokens as grammar;
 ghost use Rattle.syn_tokens.specs.Building.{added};
 ghost use Rattle.syn_tokens.specs.InOrder.{pair_of};
+ghost use Rattle.syn_tokens.specs.Kinds.{colon_syntax, eq_syntax, plus_syntax, semi_syntax};
 ghost use Rattle.syn_tokens.specs.Leaves.{maybe};
+ghost use Rattle.syn_tokens.specs.Listing.{list_of};
 ghost use Rattle.syn_lower.specs.Bodies.{attributes_in_body, body};
+ghost use Rattle.syn_lower.specs.Bounds.{syntax_of_TypeParamBound};
+ghost use Rattle.syn_lower.specs.Generics.{clause_of};
 ghost use Rattle.syn_lower.specs.Parts.{group_syntax};
+ghost use Rattle.syn_lower.specs.Types.{syntax_of_Type};
 ghost use Rattle.syn_item.specs.Parts.{members_of, members_row};
 
 use std::alloc::AllocError;
-use syn_lower::Attribute;
 use syn_lower::attr::print_inner;
-use syn_recognize::deferred::DeferredBlock;
-use syn_tokens::print::Print;
+use syn_lower::{Attribute, Generics, Type, TypeParamBound};
+use syn_recognize::deferred::{DeferredBlock, DeferredExpr};
+use syn_tokens::print::{Print, print_list};
+use syn_tokens::punctuated::Punctuated;
 use syn_tokens::stream::builder::StreamBuilder;
-use syn_tokens::token::Brace;
+use syn_tokens::token::{Brace, Colon, Eq, Plus, Semi};
 
 /// A word or a mark with what belongs to it, or nothing.
 pub fn print_pair<A: Print, B: Print>(
@@ -34,6 +40,54 @@ pub fn print_pair<A: Print, B: Print>(
         }
         None => Ok(()),
     }
+}
+
+/// `:`, a type, `=`, an expression and `;`.
+pub fn print_typed_value(
+    colon_token: &Colon,
+    ty: &Type,
+    eq_token: &Eq,
+    expr: &DeferredExpr,
+    semi_token: &Semi,
+    out: &mut StreamBuilder,
+) -> Result<(), AllocError>
+    ensures prints { OnOk result (out.new ≡ added out.old (print (Both (colon_syntax colon_token.now) (Both (syntax_of_Type ty.now) (Both (eq_syntax eq_token.now) (Both expr.now (semi_syntax semi_token.now))))))) }
+    ensures begins { out.new.before ≡ out.old.before }
+{
+    colon_token.print_in(out)?;
+    ty.print_in(out)?;
+    eq_token.print_in(out)?;
+    expr.print_in(out)?;
+    semi_token.print_in(out)
+}
+
+/// A where clause, if there is one, and `;`.
+pub fn print_clause_end(
+    generics: &Generics,
+    semi_token: &Semi,
+    out: &mut StreamBuilder,
+) -> Result<(), AllocError>
+    ensures prints { OnOk result (out.new ≡ added out.old (print (Both (clause_of generics.now) (semi_syntax semi_token.now)))) }
+    ensures begins { out.new.before ≡ out.old.before }
+{
+    generics.print_where(out)?;
+    semi_token.print_in(out)
+}
+
+/// `=`, bounds, a where clause and `;`.
+pub fn print_bounds_end(
+    eq_token: &Eq,
+    bounds: &Punctuated<TypeParamBound, Plus>,
+    generics: &Generics,
+    semi_token: &Semi,
+    out: &mut StreamBuilder,
+) -> Result<(), AllocError>
+    ensures prints { OnOk result (out.new ≡ added out.old (print (Both (eq_syntax eq_token.now) (Both (list_of syntax_of_TypeParamBound plus_syntax bounds.now.pairs bounds.now.last) (Both (clause_of generics.now) (semi_syntax semi_token.now)))))) }
+    ensures begins { out.new.before ≡ out.old.before }
+{
+    eq_token.print_in(out)?;
+    print_list(bounds, out)?;
+    print_clause_end(generics, semi_token, out)
 }
 
 /// A body, with the inner ones of these attributes in its braces.

@@ -16,6 +16,7 @@ mod macro_items;
 mod modules;
 mod values;
 
+use crate::parts::{print_bounds_end, print_typed_value};
 use crate::use_tree::UseTree;
 pub(crate) use aliases::{
     aliased_bounds, trait_alias, trait_alias_rest, type_alias, type_behind_head, type_rest,
@@ -188,6 +189,62 @@ fn print_aliased(
             ty.print_in(out)?;
             generics.print_where(out)
         }
+    }
+}
+
+/// Modifiers and generics are not printed.
+impl Print for ItemConst {
+    #[tactic(auto, using(syn_tokens::proofs::Prints::prints, crate::proofs::Unprinted::print_generics_aside))]
+    fn print_in(&self, out: &mut StreamBuilder) -> Result<(), AllocError> {
+        print_outer(&self.attrs, out)?;
+        self.vis.print_in(out)?;
+        self.const_token.print_in(out)?;
+        self.ident.print_in(out)?;
+        print_typed_value(
+            &self.colon_token,
+            &self.ty,
+            &self.eq_token,
+            &self.expr,
+            &self.semi_token,
+            out,
+        )
+    }
+}
+
+impl Print for ItemStatic {
+    #[tactic(auto, using(syn_tokens::proofs::Prints::prints))]
+    fn print_in(&self, out: &mut StreamBuilder) -> Result<(), AllocError> {
+        print_outer(&self.attrs, out)?;
+        self.vis.print_in(out)?;
+        self.static_token.print_in(out)?;
+        self.mutability.print_in(out)?;
+        self.ident.print_in(out)?;
+        print_typed_value(
+            &self.colon_token,
+            &self.ty,
+            &self.eq_token,
+            &self.expr,
+            &self.semi_token,
+            out,
+        )
+    }
+}
+
+impl Print for ItemTraitAlias {
+    #[tactic(auto, using(syn_tokens::proofs::Prints::prints))]
+    fn print_in(&self, out: &mut StreamBuilder) -> Result<(), AllocError> {
+        print_outer(&self.attrs, out)?;
+        self.vis.print_in(out)?;
+        self.trait_token.print_in(out)?;
+        self.ident.print_in(out)?;
+        self.generics.print_params(out)?;
+        print_bounds_end(
+            &self.eq_token,
+            &self.bounds,
+            &self.generics,
+            &self.semi_token,
+            out,
+        )
     }
 }
 

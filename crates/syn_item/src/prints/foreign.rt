@@ -66,19 +66,6 @@ impl Print for ForeignItemStatic {
 
 impl ToTokens for ForeignItemStatic {}
 
-impl Print for ForeignItemType {
-    #[tactic(auto, using(crate::proofs::LongPrints::in_order))]
-    fn print_in(&self, out: &mut StreamBuilder) -> Result<(), AllocError> {
-        print_outer(&self.attrs, out)?;
-        self.vis.print_in(out)?;
-        self.type_token.print_in(out)?;
-        self.ident.print_in(out)?;
-        self.generics.print_params(out)?;
-        self.generics.print_where(out)?;
-        self.semi_token.print_in(out)
-    }
-}
-
 impl ToTokens for ForeignItemType {}
 
 impl Print for ForeignItemMacro {

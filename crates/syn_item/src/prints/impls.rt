@@ -26,22 +26,6 @@ impl Print for ImplItem {
 
 impl ToTokens for ImplItem {}
 
-impl Print for ImplItemConst {
-    #[tactic(auto, using(crate::proofs::LongPrints::in_order, crate::proofs::Unprinted::print_generics_aside))]
-    fn print_in(&self, out: &mut StreamBuilder) -> Result<(), AllocError> {
-        print_outer(&self.attrs, out)?;
-        self.vis.print_in(out)?;
-        self.modifiers.defaultness.print_in(out)?;
-        self.const_token.print_in(out)?;
-        self.ident.print_in(out)?;
-        self.colon_token.print_in(out)?;
-        self.ty.print_in(out)?;
-        self.eq_token.print_in(out)?;
-        self.expr.print_in(out)?;
-        self.semi_token.print_in(out)
-    }
-}
-
 impl ToTokens for ImplItemConst {}
 
 impl Print for ImplItemFn {
@@ -55,22 +39,6 @@ impl Print for ImplItemFn {
 }
 
 impl ToTokens for ImplItemFn {}
-
-impl Print for ImplItemType {
-    #[tactic(auto, using(crate::proofs::LongPrints::in_order))]
-    fn print_in(&self, out: &mut StreamBuilder) -> Result<(), AllocError> {
-        print_outer(&self.attrs, out)?;
-        self.vis.print_in(out)?;
-        self.modifiers.defaultness.print_in(out)?;
-        self.type_token.print_in(out)?;
-        self.ident.print_in(out)?;
-        self.generics.print_params(out)?;
-        self.eq_token.print_in(out)?;
-        self.ty.print_in(out)?;
-        self.generics.print_where(out)?;
-        self.semi_token.print_in(out)
-    }
-}
 
 impl ToTokens for ImplItemType {}
 

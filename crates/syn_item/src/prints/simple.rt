@@ -9,41 +9,10 @@ use crate::simple::{
 };
 use std::alloc::AllocError;
 use syn_lower::attr::print_outer;
-use syn_tokens::print::{Print, ToTokens, print_list};
+use syn_tokens::print::{Print, ToTokens};
 use syn_tokens::stream::builder::StreamBuilder;
 
-impl Print for ItemConst {
-    #[tactic(auto, using(crate::proofs::LongPrints::in_order, crate::proofs::Unprinted::print_generics_aside))]
-    fn print_in(&self, out: &mut StreamBuilder) -> Result<(), AllocError> {
-        print_outer(&self.attrs, out)?;
-        self.vis.print_in(out)?;
-        self.const_token.print_in(out)?;
-        self.ident.print_in(out)?;
-        self.colon_token.print_in(out)?;
-        self.ty.print_in(out)?;
-        self.eq_token.print_in(out)?;
-        self.expr.print_in(out)?;
-        self.semi_token.print_in(out)
-    }
-}
-
 impl ToTokens for ItemConst {}
-
-impl Print for ItemStatic {
-    #[tactic(auto, using(crate::proofs::LongPrints::in_order))]
-    fn print_in(&self, out: &mut StreamBuilder) -> Result<(), AllocError> {
-        print_outer(&self.attrs, out)?;
-        self.vis.print_in(out)?;
-        self.static_token.print_in(out)?;
-        self.mutability.print_in(out)?;
-        self.ident.print_in(out)?;
-        self.colon_token.print_in(out)?;
-        self.ty.print_in(out)?;
-        self.eq_token.print_in(out)?;
-        self.expr.print_in(out)?;
-        self.semi_token.print_in(out)
-    }
-}
 
 impl ToTokens for ItemStatic {}
 
@@ -75,7 +44,6 @@ impl Print for ItemUse {
 impl ToTokens for ItemUse {}
 
 impl Print for ItemExternCrate {
-    #[tactic(auto, using(crate::proofs::LongPrints::in_order))]
     fn print_in(&self, out: &mut StreamBuilder) -> Result<(), AllocError> {
         print_outer(&self.attrs, out)?;
         self.vis.print_in(out)?;
@@ -92,20 +60,5 @@ impl ToTokens for ItemExternCrate {}
 impl ToTokens for ItemMod {}
 
 impl ToTokens for ItemMacro {}
-
-impl Print for ItemTraitAlias {
-    #[tactic(auto, using(crate::proofs::LongPrints::in_order))]
-    fn print_in(&self, out: &mut StreamBuilder) -> Result<(), AllocError> {
-        print_outer(&self.attrs, out)?;
-        self.vis.print_in(out)?;
-        self.trait_token.print_in(out)?;
-        self.ident.print_in(out)?;
-        self.generics.print_params(out)?;
-        self.eq_token.print_in(out)?;
-        print_list(&self.bounds, out)?;
-        self.generics.print_where(out)?;
-        self.semi_token.print_in(out)
-    }
-}
 
 impl ToTokens for ItemTraitAlias {}

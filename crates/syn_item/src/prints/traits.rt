@@ -30,7 +30,7 @@ impl Print for TraitItem {
 impl ToTokens for TraitItem {}
 
 impl Print for TraitItemConst {
-    #[tactic(auto, using(crate::proofs::LongPrints::in_order, crate::proofs::Unprinted::print_generics_aside))]
+    #[tactic(auto, using(syn_tokens::proofs::Prints::prints, crate::proofs::Unprinted::print_generics_aside))]
     fn print_in(&self, out: &mut StreamBuilder) -> Result<(), AllocError> {
         print_outer(&self.attrs, out)?;
         self.const_token.print_in(out)?;
