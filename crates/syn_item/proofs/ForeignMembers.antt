@@ -162,7 +162,7 @@ module _ (k : Rule) (ts : Stream) (a v : Syntax) where
   no_const n false true t h i = (seen_apart (at_word w_unsafe) (at_word w_const) n refl i, seen_apart (at_word w_unsafe) (at_word w_async) n refl i)
 
   function_at : (b : Bool) (n : Stream) → sees (at_word w_type) n ≡ false → static_next n ≡ false → foreign_function_next b n ≡ true → at b n ≡ run_plan (foreign_function_or_kept a v) k ts n
-  unfolding foreign_member_plan
+  unfolding foreign_member_plan foreign_function_or_kept
   function_at b n y h w = go (safe n) refl (unsafe n) refl h w
     where
       marked : (s u : Bool) → or s u ≡ true → safe n ≡ s → unsafe n ≡ u → static (past n) ≡ false → (b ≡ false → s ≡ true → (sees (ahead Before_macro) n ≡ false) × (sees (ahead Before_colons) n ≡ false)) → run_plan (member_plan b) k ts n ≡ run_plan (foreign_function_or_kept a v) k ts n

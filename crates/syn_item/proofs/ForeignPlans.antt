@@ -2,7 +2,7 @@
 use Rattle.std.proofs.Common.{◌≡◌, Bool, true, false, List, [], ◌∷◌, Some, None, refl, sym, ap, subst, ◌∙◌, true≢false}
 use Rattle.syn_grammar.specs.Words.{colon, equals, semicolon, w_mut, w_static, w_type, w_where}
 use Rattle.syn_grammar.specs.Tokens.{Stream, at_word}
-use Rattle.syn_grammar.specs.Rules.{Rule, bare_foreign_static, foreign_signature, foreign_static, foreign_type, generics, predicates, safe_or_unsafe, type, where_clause, whole_expression}
+use Rattle.syn_grammar.specs.Rules.{Rule, bare_foreign_static, foreign_function, foreign_signature, foreign_static, foreign_type, generics, predicates, safe_or_unsafe, type, where_clause, whole_expression}
 use Rattle.syn_grammar.specs.Grammar.{Syntax, Nothing, Both, Right, Node, Vanishing, Case, Unshown, ◌&◌, name, rule, word}
 use Rattle.syn_grammar.specs.Forms.{optional, plainly, punctuation}
 use Rattle.syn_grammar.specs.Table.{at_colon, at_semicolon, at_where}
@@ -20,9 +20,26 @@ use Rattle.syn_item.proofs.Followed.{is_kept, is_refused}
 use Rattle.syn_item.proofs.PlanRows.{on, row_is, row_read, row_refused}
 
 -- A FUNCTION: with a body it is kept as tokens
-pub function_kept : (k : Rule) (ts : Stream) (a v s : Syntax) (m r : Stream) → parse_rule foreign_signature m ≡ Some (s, r) → sees at_semicolon r ≡ false → OnlyKept k ts (run_plan (foreign_function_or_kept a v) k ts m)
-unfolding foreign_function_end
-function_kept k ts a v s m r e h = is_kept k ts (took s r ∷ went false ∷ marked ∷ []) (foreign_function_or_kept a v) m (e, (h, tt)) (λ b. refl)
+module _ (k : Rule) (ts : Stream) (a v : Syntax) (m : Stream) where
+  abbrev function_run : Out
+  function_run = run_plan (foreign_function_or_kept a v) k ts m
+
+  pub function_refused : parse_rule foreign_signature m ≡ None → function_run ≡ None
+  unfolding foreign_function_or_kept
+  function_refused e = ap (on k ts (foreign_function_end a v)) e
+
+  module _ (s : Syntax) (r : Stream) (sig : parse_rule foreign_signature m ≡ Some (s, r)) where
+    pub function_kept : sees at_semicolon r ≡ false → OnlyKept k ts function_run
+    unfolding foreign_function_or_kept foreign_function_end
+    function_kept h = is_kept k ts (took s r ∷ went false ∷ marked ∷ []) (foreign_function_or_kept a v) m (sig, (h, tt)) (λ b. refl)
+
+    pub function_end_refused : sees at_semicolon r ≡ true → parse_form (punctuation semicolon) r ≡ None → function_run ≡ None
+    unfolding foreign_function_or_kept foreign_function_end
+    function_end_refused h e = is_refused k ts (took s r ∷ went true ∷ []) (foreign_function_or_kept a v) m (sig, (h, tt)) e
+
+    pub function_read : sees at_semicolon r ≡ true → (z : Syntax) (q : Stream) → parse_form (punctuation semicolon) r ≡ Some (z, q) → function_run ≡ Some (Node (Case foreign_function (Both a (Both v (Both (Unshown Nothing) (Both s z))))), q)
+    unfolding foreign_function_or_kept foreign_function_end
+    function_read h z q e = happened k ts (took s r ∷ went true ∷ took z q ∷ []) (foreign_function_or_kept a v) m (sig, (h, (e, tt)))
 
 -- A STATIC: with a value it is kept as tokens
 module _ (k : Rule) (ts : Stream) (a v : Syntax) (m : Stream) where

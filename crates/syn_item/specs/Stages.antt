@@ -50,5 +50,5 @@ foreign_type_or_kept = foreign_type_plan
 unfoldable pub foreign_static_or_kept : Syntax → Syntax → Plan
 foreign_static_or_kept a v = reads (rule safe_or_unsafe) (foreign_static_plan a v)
 
-abbrev pub foreign_function_or_kept : Syntax → Syntax → Plan
+unfoldable pub foreign_function_or_kept : Syntax → Syntax → Plan
 foreign_function_or_kept a v = reads (rule foreign_signature) (foreign_function_end a v)

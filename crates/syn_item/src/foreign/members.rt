@@ -23,7 +23,7 @@ ghost use Rattle.syn_item.specs.Stages.{foreign_function_or_kept, foreign_item_p
 
 use super::{ForeignItem, ForeignItemFn, ForeignItemMacro, ForeignItemStatic, ForeignItemType};
 use crate::pieces::{kept_tokens, member_macro, type_head};
-use crate::sig::{Safety, foreign_signature, safe_or_unsafe};
+use crate::sig::{Safety, Signature, foreign_signature, safe_or_unsafe};
 use crate::simple::StaticMutability;
 use syn_lower::attr::outer_attributes;
 use syn_lower::where_clause::where_clause;
@@ -124,7 +124,6 @@ fn at_foreign_function(is_marked: bool, input: &ParseBuffer<'_>) -> Parsed<bool>
 }
 
 /// A foreign function, behind its visibility; `None` where it is kept as its tokens: with a body.
-#[tactic(auto, using(crate::proofs::ForeignPlans::function_kept), unfolding(syn_grammar::specs::MemberPlans::foreign_function_end))]
 fn foreign_function(
     attrs: Vec<Attribute>,
     vis: Visibility,
@@ -136,13 +135,26 @@ fn foreign_function(
     if !input.peek::<Semi>() {
         return Ok(None);
     }
-    Ok(Some(ForeignItem::Fn(ForeignItemFn {
+    let semi_token = input.read()?;
+    Ok(Some(ForeignItem::Fn(whole_function(attrs, vis, sig, semi_token))))
+}
+
+/// A foreign function of these parts.
+fn whole_function(
+    attrs: Vec<Attribute>,
+    vis: Visibility,
+    sig: Signature,
+    semi_token: Semi,
+) -> ForeignItemFn
+    ensures { result ≡ Both (attributes_syntax attrs.items) (Both (syntax_of_Visibility vis) (Both (Unshown Nothing) (Both sig (semi_syntax semi_token)))) }
+{
+    ForeignItemFn {
         attrs,
         vis,
         modifiers: FnModifiers::default(),
         sig,
-        semi_token: input.read()?,
-    })))
+        semi_token,
+    }
 }
 
 /// A foreign static, behind its visibility; `None` where it is kept as its tokens: with a value.
