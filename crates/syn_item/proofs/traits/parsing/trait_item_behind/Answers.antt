@@ -1,7 +1,7 @@
 use Rattle.std.proofs.Common.{◌≡◌, true, false, Some, rules}
 use Rattle.syn_grammar.specs.Tokens.{Stream, at_word}
 use Rattle.syn_grammar.specs.Words.{w_const, w_type}
-use Rattle.syn_grammar.specs.Rules.{bare_trait_type, kept_trait_item, trait_type}
+use Rattle.syn_grammar.specs.Rules.{bare_trait_function, bare_trait_type, kept_trait_item, trait_function, trait_type}
 use Rattle.syn_grammar.specs.Grammar.{Both, Case, Node}
 use Rattle.syn_grammar.specs.Plan.{run_plan}
 use Rattle.syn_grammar.specs.Take.{sees}
@@ -12,7 +12,7 @@ use Rattle.syn_item.specs.NextWords.{function_next, marked_next}
 use Rattle.syn_item.specs.Planned.{Follows}
 use Rattle.syn_item.specs.Stages.{trait_item_plan_behind}
 use Rattle.syn_item.specs.Traits.{syntax_of_TraitItem}
-use Rattle.syn_item.proofs.TraitPlans.{const_follows, type_read}
+use Rattle.syn_item.proofs.TraitPlans.{const_follows, function_read, type_read}
 use Rattle.syn_item.proofs.traits.parsing.trait_item_behind.Goals as goal
 
 pub returns-then-peek : goal.returns-then-peek
@@ -25,6 +25,19 @@ returns-then-peek c =
     let here : sees (at_word w_type) m ≡ true = search rules in
     let read : wrap (Both a) (parse_rule bare_trait_type m) ≡ Some (t, r) = search rules in
     let made : (ts : Stream) → run_plan (trait_item_plan_behind a) kept_trait_item ts m ≡ Some (Node (Case trait_type t), r) = λ ts. type_read kept_trait_item ts a m unmarked t r here read in
+    search (rules, made)
+
+pub returns-then-at_function : goal.returns-then-at_function
+returns-then-at_function c =
+    let a = attributes_syntax c.args.attrs.items in
+    let m = c.args.input.now in
+    let t = c.in_ok-trait_function.field-0 in
+    let r = c.trait_function.new.input in
+    let unmarked : marked_next m ≡ false = search rules in
+    let no_type : sees (at_word w_type) m ≡ false = search rules in
+    let here : function_next m ≡ true = search rules in
+    let read : wrap (Both a) (parse_rule bare_trait_function m) ≡ Some (t, r) = search rules in
+    let made : (ts : Stream) → run_plan (trait_item_plan_behind a) kept_trait_item ts m ≡ Some (Node (Case trait_function t), r) = λ ts. function_read kept_trait_item ts a m unmarked no_type t r here read in
     search (rules, made)
 
 pub returns-then-peek-2 : goal.returns-then-peek-2
