@@ -8,11 +8,11 @@ use Rattle.syn_grammar.specs.Grammar.{Grammar, Syntax, Nothing, Both, Node, Case
 use Rattle.syn_grammar.specs.Forms.{asking_punctuation, never, plainly, punctuation}
 use Rattle.syn_grammar.specs.Table.{at_bang, at_colon, at_less, at_no_trait_macro, at_semicolon, name_or_underscore, optional_type, optional_value}
 use Rattle.syn_grammar.specs.Take.{Out, sees}
-use Rattle.syn_grammar.specs.Run.{parse_form, parse_rule, wrap}
+use Rattle.syn_grammar.specs.Run.{and_then, parse_form, parse_rule, wrap}
 use Rattle.syn_grammar.specs.Plan.{Plan, ends, follow, run_plan}
 use Rattle.syn_grammar.specs.ItemPlan.{kept_end}
 use Rattle.syn_grammar.specs.MemberPlans.{at_function, marked_plan, trait_const_plan, trait_function_end, trait_item_plan}
-use Rattle.syn_grammar.proofs.Each.{bare_trait_type_is, member_macro_is}
+use Rattle.syn_grammar.proofs.Each.{bare_trait_function_is, bare_trait_type_is, member_macro_is}
 use Rattle.syn_grammar.proofs.Looks.{sees_or}
 use Rattle.syn_grammar.proofs.Marked.{plans_marked}
 use Rattle.syn_grammar.proofs.PlanSteps.{Event, happened, left_over, marked, took, went}
@@ -21,6 +21,7 @@ use Rattle.syn_item.specs.Macros.{among_members}
 use Rattle.syn_item.specs.NextWords.{function_next, marked_next}
 use Rattle.syn_item.specs.Planned.{Follows, OnlyKept}
 use Rattle.syn_item.specs.Stages.{trait_const_or_kept, trait_item_plan_behind}
+use Rattle.syn_item.specs.TraitForms.{function_end_form}
 use Rattle.syn_item.proofs.Followed.{is_kept, is_refused}
 use Rattle.syn_item.proofs.MemberFunctions.{function_on, other_on, trait_function_goes}
 use Rattle.syn_item.proofs.PlanRows.{of_hidden, of_macro, row_is}
@@ -143,3 +144,15 @@ module _ (k : Rule) (ts : Stream) (a c n : Syntax) (m r q : Stream) (word_read :
   unfolding trait_const_plan kept_end
   clause_kept s t e q1 q2 q3 h i j l o =
       is_kept k ts (took c r ∷ took n q ∷ went false ∷ took s q1 ∷ took t q2 ∷ took e q3 ∷ went false ∷ marked ∷ []) (trait_const_or_kept a) m (word_read, (name_read, (h, (i, (j, (l, (o, tt))))))) (λ w. λ z. refl)
+
+-- A FUNCTION that is refused behind its signature
+
+pub bare_end_refused : (a : Syntax) (m : Stream) (s : Syntax) (r : Stream) → parse_rule signature m ≡ Some (s, r) → wrap (Both a) (parse_form function_end_form r) ≡ None → wrap (Both a) (parse_rule bare_trait_function m) ≡ None
+bare_end_refused a m s r read e =
+    ap (wrap (Both a)) (bare_trait_function_is m)
+    ∙ ap (λ o. wrap (Both a) (wrap Node (wrap (Both (Unshown Nothing)) (and_then o (parse_form function_end_form))))) read
+    ∙ go (parse_form function_end_form r) e
+  where
+    go : (o : Out) → wrap (Both a) o ≡ None → wrap (Both a) (wrap Node (wrap (Both (Unshown Nothing)) (wrap (Both s) o))) ≡ None
+    go None e = refl
+    go (Some p) e = absurd (cc e)

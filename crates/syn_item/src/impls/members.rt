@@ -89,10 +89,12 @@ fn impl_item_behind(attrs: Vec<Attribute>, input: &mut ParseBuffer<'_>) -> Parse
         }
         return Ok(Some(ImplItem::Macro(impl_macro(attrs, input)?)));
     }
+    let vis = input.read()?;
+    let defaultness = input.read()?;
     let marks = MemberMarks {
         attrs,
-        vis: input.read()?,
-        defaultness: input.read()?,
+        vis,
+        defaultness,
     };
     impl_member(marks, input)
 }

@@ -74,12 +74,16 @@ fn impl_definition_rest(attrs: Vec<Attribute>, input: &mut ParseBuffer<'_>) -> P
     ensures reads { Computes IsSyntax itself (wrap (Both (attributes_syntax attrs.items)) (parse_rule rules.impl_definition_rest input.old)) result input.new }
     ensures moved { Moved input.old result input.new }
 {
+    let defaultness = input.read()?;
+    let constness = input.read()?;
+    let unsafety = input.read()?;
+    let impl_token = input.read()?;
     let marks = ImplMarks {
         attrs,
-        defaultness: input.read()?,
-        constness: input.read()?,
-        unsafety: input.read()?,
-        impl_token: input.read()?,
+        defaultness,
+        constness,
+        unsafety,
+        impl_token,
     };
     behind_impl(marks, input)
 }
