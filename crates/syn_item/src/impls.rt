@@ -130,18 +130,19 @@ impl Print for ImplItemConst {
     }
 }
 
-/// `=`, a type, a where clause and `;`.
+/// Generics, `=`, a type, a where clause and `;`.
 #[tactic(auto, using(syn_tokens::proofs::Prints::prints))]
 fn print_type_end(
+    generics: &Generics,
     eq_token: &Eq,
     ty: &Type,
-    generics: &Generics,
     semi_token: &Semi,
     out: &mut StreamBuilder,
 ) -> Result<(), AllocError>
-    ensures prints { OnOk result (out.new ≡ added out.old (print (Both (eq_syntax eq_token.now) (Both (syntax_of_Type ty.now) (Both (clause_of generics.now) (semi_syntax semi_token.now)))))) }
+    ensures prints { OnOk result (out.new ≡ added out.old (print (Both (first generics.now) (Both (eq_syntax eq_token.now) (Both (syntax_of_Type ty.now) (Both (clause_of generics.now) (semi_syntax semi_token.now))))))) }
     ensures begins { out.new.before ≡ out.old.before }
 {
+    generics.print_params(out)?;
     eq_token.print_in(out)?;
     ty.print_in(out)?;
     print_clause_end(generics, semi_token, out)
@@ -155,11 +156,10 @@ impl Print for ImplItemType {
         self.modifiers.defaultness.print_in(out)?;
         self.type_token.print_in(out)?;
         self.ident.print_in(out)?;
-        self.generics.print_params(out)?;
         print_type_end(
+            &self.generics,
             &self.eq_token,
             &self.ty,
-            &self.generics,
             &self.semi_token,
             out,
         )
