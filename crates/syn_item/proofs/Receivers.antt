@@ -1,6 +1,6 @@
 -- Receivers, and parameters alone.
-use Rattle.std.proofs.Common.{◌≡◌, Bool, true, false, List, [], ◌∷◌, ◌++◌, Some, None, refl, ap, ◌∙◌}
-use Rattle.std.specs.Prelude.{Option, slice_get}
+use Rattle.std.proofs.Common.{◌≡◌, Bool, true, false, List, [], ◌∷◌, ◌++◌, Some, None, refl, sym, ap, subst, ◌∙◌}
+use Rattle.std.specs.Prelude.{Option, Result, slice_get}
 use Rattle.syn_grammar.specs.Words.{w_self}
 use Rattle.syn_grammar.specs.Tokens.{Delimiter, Span, Stream, Before_less, pick}
 use Rattle.syn_grammar.specs.Rules.{argument, attributes, no_attributes, pattern, receiver, receiver_rest, type}
@@ -14,9 +14,10 @@ use Rattle.syn_tokens.specs.Kinds.{Comma, comma_syntax}
 use Rattle.syn_tokens.specs.Leaves.{maybe}
 use Rattle.syn_tokens.specs.Listing.{list_of}
 use Rattle.syn_tokens.specs.Lists.{Sequence, firsts, listed, values}
-use Rattle.syn_grammar.specs.Promises.{itself}
-use Rattle.syn_lower.specs.Attributes.{none_listed}
+use Rattle.syn_grammar.specs.Promises.{Computes, itself}
+use Rattle.syn_lower.specs.Attributes.{attributes_syntax, none_listed, outer_listed}
 use Rattle.syn_lower.specs.Parameters.{after}
+use Rattle.syn_lower.specs.declared.attr.Attribute.{Attribute}
 use Rattle.syn_pat.specs.Patterns.{behind_attributes}
 use Rattle.syn_item.specs.SignatureForms.{argument_behind, kind_form, named_pattern, own_self_form, typed_as, typed_parameter, with_attributes}
 use Rattle.syn_item.specs.Signatures.{comma_behind, first_receiver, parameters_of, receiver_argument, receiver_as, receiver_in, receiver_of, syntax_of_FnArg, typed_argument}
@@ -36,6 +37,13 @@ receiver_alone ts h = by_attributes ts ∙ ap (λ b. wrap Node (and_then (wrap N
 
 pub no_receiver : (ts : Stream) → sees at_pound ts ≡ true → parse_rule receiver ts ≡ None
 no_receiver ts h = by_attributes ts ∙ ap (λ b. wrap Node (and_then (wrap Node (branch b None (Some (Unshown Nothing, ts)))) (parse_rule receiver_rest))) h
+
+-- what is promised of it, read behind no attributes
+pub alone_by : {X E : Type 0} (refusal : E → Type 0) (view : X → Syntax) (x : Result X E) (new ts : Stream) (l : List Attribute) → l ≡ [] → sees at_pound ts ≡ false →
+    Computes refusal view (wrap (with_attributes (attributes_syntax l)) (parse_rule receiver_rest ts)) x new → Computes refusal view (parse_rule receiver ts) x new
+unfolding outer_listed
+alone_by refusal view x new ts l e h c =
+    subst (λ (o : Out). Computes refusal view o x new) (sym (receiver_alone ts h ∙ ap (λ (k : List Attribute). wrap (with_attributes (attributes_syntax k)) (parse_rule receiver_rest ts)) (sym e))) c
 
 -- BEHIND `self`: a `::` is refused, and then a colon and a type may stand
 abbrev behind_self : Grammar
