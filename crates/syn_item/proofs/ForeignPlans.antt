@@ -14,6 +14,7 @@ use Rattle.syn_grammar.specs.MemberPlans.{foreign_function_end, foreign_static_p
 use Rattle.syn_grammar.proofs.Each.{bare_foreign_static_is, where_clause_is}
 use Rattle.syn_grammar.proofs.PlanSteps.{Event, happened, left_over, marked, took, went}
 use Rattle.syn_lower.specs.Parts.{first, second}
+use Rattle.syn_item.specs.ForeignForms.{foreign_function_of}
 use Rattle.syn_item.specs.Planned.{OnlyKept}
 use Rattle.syn_item.specs.Stages.{foreign_function_or_kept, foreign_static_or_kept, foreign_type_or_kept}
 use Rattle.syn_item.proofs.Followed.{is_kept, is_refused}
@@ -33,13 +34,19 @@ module _ (k : Rule) (ts : Stream) (a v : Syntax) (m : Stream) where
     unfolding foreign_function_or_kept foreign_function_end
     function_kept h = is_kept k ts (took s r ∷ went false ∷ marked ∷ []) (foreign_function_or_kept a v) m (sig, (h, tt)) (λ b. refl)
 
-    pub function_end_refused : sees at_semicolon r ≡ true → parse_form (punctuation semicolon) r ≡ None → function_run ≡ None
+    function_goes : sees at_semicolon r ≡ true → function_run ≡ wrap (λ t. Node (Case foreign_function t)) (wrap (foreign_function_of a v s) (parse_form (punctuation semicolon) r))
     unfolding foreign_function_or_kept foreign_function_end
-    function_end_refused h e = is_refused k ts (took s r ∷ went true ∷ []) (foreign_function_or_kept a v) m (sig, (h, tt)) e
+    function_goes h = happened k ts (took s r ∷ went true ∷ []) (foreign_function_or_kept a v) m (sig, (h, tt)) ∙ go (parse_form (punctuation semicolon) r)
+      where
+        go : (o : Out) → follow (λ z q. Some (Node (Case foreign_function (foreign_function_of a v s z)), q)) o ≡ wrap (λ t. Node (Case foreign_function t)) (wrap (foreign_function_of a v s) o)
+        go None = refl
+        go (Some p) = refl
 
-    pub function_read : sees at_semicolon r ≡ true → (z : Syntax) (q : Stream) → parse_form (punctuation semicolon) r ≡ Some (z, q) → function_run ≡ Some (Node (Case foreign_function (Both a (Both v (Both (Unshown Nothing) (Both s z))))), q)
-    unfolding foreign_function_or_kept foreign_function_end
-    function_read h z q e = happened k ts (took s r ∷ went true ∷ took z q ∷ []) (foreign_function_or_kept a v) m (sig, (h, (e, tt)))
+    pub function_end_refused : sees at_semicolon r ≡ true → wrap (foreign_function_of a v s) (parse_form (punctuation semicolon) r) ≡ None → function_run ≡ None
+    function_end_refused h e = function_goes h ∙ ap (wrap (λ t. Node (Case foreign_function t))) e
+
+    pub function_read : sees at_semicolon r ≡ true → (t : Syntax) (q : Stream) → wrap (foreign_function_of a v s) (parse_form (punctuation semicolon) r) ≡ Some (t, q) → function_run ≡ Some (Node (Case foreign_function t), q)
+    function_read h t q e = function_goes h ∙ ap (wrap (λ t. Node (Case foreign_function t))) e
 
 -- A STATIC: with a value it is kept as tokens
 module _ (k : Rule) (ts : Stream) (a v : Syntax) (m : Stream) where

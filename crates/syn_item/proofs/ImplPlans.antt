@@ -17,6 +17,7 @@ use Rattle.syn_grammar.proofs.Looks.{sees_or}
 use Rattle.syn_grammar.proofs.PlanSteps.{Event, happened, left_over, marked, took, went}
 use Rattle.syn_parse.specs.Peeks.{past}
 use Rattle.syn_lower.specs.Parts.{first, second}
+use Rattle.syn_item.specs.ImplForms.{impl_function_of}
 use Rattle.syn_item.specs.Macros.{among_members}
 use Rattle.syn_item.specs.NextWords.{constant_next, function_next, impl_macro_next, no_member_word}
 use Rattle.syn_item.specs.Planned.{Follows, OnlyKept}
@@ -89,13 +90,19 @@ module _ (k : Rule) (ts : Stream) (a v d : Syntax) (m : Stream) (no_type : sees 
       unfolding impl_function_end kept_end
       function_kept h = subst (OnlyKept k ts) (sym behind) (is_kept k ts (went true ∷ marked ∷ []) (impl_function_end a v d s) r (h, tt) (λ z. refl))
 
-      pub body_goes : sees at_semicolon r ≡ false → (b : Syntax) (q : Stream) → parse_rule body r ≡ Some (b, q) → run ≡ Some (Node (Case impl_function (Both a (Both v (Both d (Both s b))))), q)
+      body_goes : sees at_semicolon r ≡ false → run ≡ wrap (λ t. Node (Case impl_function t)) (wrap (impl_function_of a v d s) (parse_rule body r))
       unfolding impl_function_end
-      body_goes h b q e = behind ∙ happened k ts (went false ∷ took b q ∷ []) (impl_function_end a v d s) r (h, (e, tt))
+      body_goes h = behind ∙ happened k ts (went false ∷ []) (impl_function_end a v d s) r (h, tt) ∙ go (parse_rule body r)
+        where
+          go : (o : Out) → follow (λ b q. Some (Node (Case impl_function (impl_function_of a v d s b)), q)) o ≡ wrap (λ t. Node (Case impl_function t)) (wrap (impl_function_of a v d s) o)
+          go None = refl
+          go (Some p) = refl
 
-      pub body_refused : sees at_semicolon r ≡ false → parse_rule body r ≡ None → run ≡ None
-      unfolding impl_function_end
-      body_refused h e = behind ∙ is_refused k ts (went false ∷ []) (impl_function_end a v d s) r (h, tt) e
+      pub body_read : sees at_semicolon r ≡ false → (t : Syntax) (q : Stream) → wrap (impl_function_of a v d s) (parse_rule body r) ≡ Some (t, q) → run ≡ Some (Node (Case impl_function t), q)
+      body_read h t q e = body_goes h ∙ ap (wrap (λ t. Node (Case impl_function t))) e
+
+      pub body_refused : sees at_semicolon r ≡ false → wrap (impl_function_of a v d s) (parse_rule body r) ≡ None → run ≡ None
+      body_refused h e = body_goes h ∙ ap (wrap (λ t. Node (Case impl_function t))) e
 
 pub type_follows : (k : Rule) (ts : Stream) (a v d : Syntax) (m : Stream) {X E : Type 0} (refusal : E → Type 0) (view : X → Syntax) (x : Result (Option X) E) (new : Stream) → sees (at_word w_type) m ≡ true →
     Follows refusal view k ts (run_plan (impl_type_plan a v d) k ts m) x new → Follows refusal view k ts (run_plan (impl_member_plan a v d) k ts m) x new

@@ -41,15 +41,15 @@ generics_read refusal ts (Err f) new h e = λ r. generics_here ts h ∙ ap (wrap
 
 -- THREE PARTS that are read together, before others
 
-abbrev before_rest : Syntax → Syntax → Syntax
+abbrev pub before_rest : Syntax → Syntax → Syntax
 before_rest (Both a (Both b c)) rest = Both a (Both b (Both c rest))
 before_rest s rest = rest
 
-abbrev goes_on : (Stream → Out) → TreeAndRest → Out
+abbrev pub goes_on : (Stream → Out) → TreeAndRest → Out
 goes_on rest x = wrap (before_rest x.0) (rest x.1)
 
 module _ (p q rest : Stream → Out) (t : Syntax) (n : Stream) where
-  three_read : (o : Out) → and_then o (λ r. and_then (p r) q) ≡ Some (t, n) → and_then o (λ r. and_then (p r) (λ z. and_then (q z) rest)) ≡ goes_on rest (t, n)
+  pub three_read : (o : Out) → and_then o (λ r. and_then (p r) q) ≡ Some (t, n) → and_then o (λ r. and_then (p r) (λ z. and_then (q z) rest)) ≡ goes_on rest (t, n)
   three_read None e = absurd (cc e)
   three_read (Some x) e = second (p x.1) e
     where

@@ -22,6 +22,7 @@ pub mod LongPrints
 pub mod Macros
 pub mod MemberFunctions
 pub mod MemberLists
+pub mod MemberReads
 pub mod Members
 pub mod NoSelfTypes
 pub mod OtherTypes

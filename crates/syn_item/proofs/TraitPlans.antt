@@ -144,15 +144,3 @@ module _ (k : Rule) (ts : Stream) (a c n : Syntax) (m r q : Stream) (word_read :
   unfolding trait_const_plan kept_end
   clause_kept s t e q1 q2 q3 h i j l o =
       is_kept k ts (took c r ∷ took n q ∷ went false ∷ took s q1 ∷ took t q2 ∷ took e q3 ∷ went false ∷ marked ∷ []) (trait_const_or_kept a) m (word_read, (name_read, (h, (i, (j, (l, (o, tt))))))) (λ w. λ z. refl)
-
--- A FUNCTION that is refused behind its signature
-
-pub bare_end_refused : (a : Syntax) (m : Stream) (s : Syntax) (r : Stream) → parse_rule signature m ≡ Some (s, r) → wrap (Both a) (parse_form function_end_form r) ≡ None → wrap (Both a) (parse_rule bare_trait_function m) ≡ None
-bare_end_refused a m s r read e =
-    ap (wrap (Both a)) (bare_trait_function_is m)
-    ∙ ap (λ o. wrap (Both a) (wrap Node (wrap (Both (Unshown Nothing)) (and_then o (parse_form function_end_form))))) read
-    ∙ go (parse_form function_end_form r) e
-  where
-    go : (o : Out) → wrap (Both a) o ≡ None → wrap (Both a) (wrap Node (wrap (Both (Unshown Nothing)) (wrap (Both s) o))) ≡ None
-    go None e = refl
-    go (Some p) e = absurd (cc e)

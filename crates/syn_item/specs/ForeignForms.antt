@@ -1,5 +1,5 @@
 -- HOW FOREIGN MODULES AND THEIR MEMBERS ARE READ: what their parts stand for together.
-use Rattle.syn_grammar.specs.Grammar.{Syntax, Both, Node}
+use Rattle.syn_grammar.specs.Grammar.{Syntax, Nothing, Both, Node, Unshown}
 use Rattle.syn_tokens.specs.Kinds.{colon_syntax, static_syntax}
 use Rattle.syn_tokens.specs.Leaves.{syntax_of_ident}
 use Rattle.syn_lower.specs.Types.{syntax_of_Type}
@@ -11,3 +11,7 @@ use Rattle.syn_item.specs.declared.foreign.members.BareStatic.{BareStatic}
 abbrev pub bare_static_syntax : BareStatic → Syntax
 bare_static_syntax s =
     Node (Both (syntax_of_Safety s.safety) (Both (static_syntax s.static_token) (Both (syntax_of_StaticMutability s.mutability) (Both (syntax_of_ident s.ident) (Both (colon_syntax s.colon_token) (syntax_of_Type s.ty.value))))))
+
+-- a foreign function of its attributes, its visibility, its signature and its `;`
+abbrev pub foreign_function_of : Syntax → Syntax → Syntax → Syntax → Syntax
+foreign_function_of a v s z = Both a (Both v (Both (Unshown Nothing) (Both s z)))

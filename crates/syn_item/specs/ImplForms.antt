@@ -5,7 +5,7 @@ use Rattle.syn_grammar.specs.Tokens.{Stream, at_generics}
 use Rattle.syn_grammar.specs.Take.{Out, sees}
 use Rattle.syn_grammar.specs.Run.{and_then, branch, parse_form, parse_rule, wrap}
 use Rattle.syn_grammar.specs.Rules.{attributes, for_self_type, generics, impl_body, lifetime_parameter, type, type_path, visibility, where_clause}
-use Rattle.syn_grammar.specs.Grammar.{Grammar, Syntax, Both, Node, ◌&◌, empty, generics_before, name, rule, when◌then◌else◌, word}
+use Rattle.syn_grammar.specs.Grammar.{Grammar, Syntax, Both, Node, ◌&◌, empty, generics_before, name, rule, when◌then◌else◌, word, Nothing, Unshown}
 use Rattle.syn_grammar.specs.Forms.{optional, plainly, punctuation}
 use Rattle.syn_grammar.specs.Table.{at_brace, at_exclamation, at_for, at_module_path, kept_generics, name_or_underscore, parameter}
 use Rattle.syn_tokens.specs.Idents.{IdentValue}
@@ -89,6 +89,15 @@ member_marks_form = rule attributes & rule visibility & optional w_default
 
 abbrev pub member_marks_syntax : MemberMarks → Syntax
 member_marks_syntax m = Both (attributes_syntax m.attrs.items) (Both (syntax_of_Visibility m.vis) (maybe default_syntax m.defaultness))
+
+-- a function of its attributes, its visibility, perhaps `default`, its signature and its body
+abbrev pub impl_function_of : Syntax → Syntax → Syntax → Syntax → Syntax → Syntax
+impl_function_of a v d s b = Both a (Both v (Both d (Both s b)))
+
+-- a constant of what stands before its word, of its head, and of its type and value
+abbrev pub const_rest_of : Syntax → Syntax → Syntax → Syntax
+const_rest_of (Both a (Both v d)) (Both k n) rest = Both a (Both v (Both d (Both k (Both n (Both (Unshown Nothing) rest)))))
+const_rest_of m h rest = rest
 
 -- a type of what stands before its word, of its head, and of what stands behind its generics
 abbrev pub type_rest_of : Syntax → Syntax → Syntax → Syntax

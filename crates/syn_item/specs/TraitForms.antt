@@ -1,7 +1,7 @@
 -- HOW TRAITS AND THEIR MEMBERS ARE READ: forms of their parts, and what the parts stand for together.
 use Rattle.syn_grammar.specs.Words.{w_auto, w_trait, semicolon}
 use Rattle.syn_grammar.specs.Rules.{generics, supertraits, trait_items, where_clause, body}
-use Rattle.syn_grammar.specs.Grammar.{Grammar, Syntax, Both, Node, ◌&◌, name, word, rule, unshown, when◌then◌else◌}
+use Rattle.syn_grammar.specs.Grammar.{Grammar, Syntax, Both, Node, ◌&◌, name, word, rule, unshown, when◌then◌else◌, Nothing, Unshown}
 use Rattle.syn_grammar.specs.Forms.{plainly, punctuation}
 use Rattle.syn_grammar.specs.Table.{at_semicolon, optional_item_word}
 use Rattle.syn_tokens.specs.Idents.{IdentValue}
@@ -47,6 +47,11 @@ unmarked_form = optional_item_word w_auto & plainly (word w_trait) & plainly nam
 -- `;` or a body
 abbrev pub function_end_form : Grammar
 function_end_form = when at_semicolon then punctuation semicolon else unshown & rule body
+
+-- a function of its signature, and of its attributes with what ends it
+abbrev pub trait_function_of : Syntax → Syntax → Syntax
+trait_function_of s (Both a e) = Both a (Node (Both (Unshown Nothing) (Both s e)))
+trait_function_of s e = e
 
 -- an alias behind its generics, of `=`, bounds, a where clause and `;`
 abbrev pub alias_of : TraitHead → Syntax → Syntax

@@ -1,22 +1,23 @@
 //! Parsers of the members of foreign modules.
 ghost use Rattle.std.specs.Prelude.{◌≡◌};
 ghost use Rattle.syn_grammar.specs.Rules as rules;
+ghost use Rattle.syn_grammar.specs.Forms.{punctuation};
 ghost use Rattle.syn_grammar.specs.Grammar.{Both, Nothing, Unshown};
 ghost use Rattle.syn_grammar.specs.Plan.{run_plan};
 ghost use Rattle.syn_grammar.specs.Promises.{OrMemory};
 ghost use Rattle.syn_grammar.specs.Run.{wrap};
 ghost use Rattle.syn_grammar.specs.Take.{sees};
 ghost use Rattle.syn_grammar.specs.Tokens.{Stream, at_empty_group, at_word, or};
-ghost use Rattle.syn_grammar.specs.Words.{w_pub};
+ghost use Rattle.syn_grammar.specs.Words.{semicolon, w_pub};
 ghost use Rattle.syn_lower.specs.Attributes.{attributes_syntax};
-ghost use Rattle.syn_lower.specs.Parsing.{of, rule, meaning_of_rule, parse_rule, Computes, Moved, itself, IsSyntax};
+ghost use Rattle.syn_lower.specs.Parsing.{of, rule, meaning_of_rule, parse_form, parse_rule, Computes, Moved, itself, IsSyntax};
 ghost use Rattle.syn_tokens.specs.Kinds.{semi_syntax, type_syntax};
 ghost use Rattle.syn_tokens.specs.Leaves.{syntax_of_ident};
 ghost use Rattle.syn_lower.specs.Generics.{where_part};
 ghost use Rattle.syn_lower.specs.Parts.{first};
 ghost use Rattle.syn_tree.specs.Restriction.{syntax_of_Visibility};
 ghost use Rattle.syn_item.specs.Foreign.{syntax_of_ForeignItem};
-ghost use Rattle.syn_item.specs.ForeignForms.{bare_static_syntax};
+ghost use Rattle.syn_item.specs.ForeignForms.{bare_static_syntax, foreign_function_of};
 ghost use Rattle.syn_item.specs.NextWords.{foreign_function_next, static_next};
 ghost use Rattle.syn_item.specs.Planned.{Follows};
 ghost use Rattle.syn_item.specs.Stages.{foreign_function_or_kept, foreign_item_plan_behind, foreign_static_or_kept, foreign_type_or_kept};
@@ -135,26 +136,28 @@ fn foreign_function(
     if !input.peek::<Semi>() {
         return Ok(None);
     }
-    let semi_token = input.read()?;
-    Ok(Some(ForeignItem::Fn(whole_function(attrs, vis, sig, semi_token))))
+    let function = behind_foreign_signature(attrs, vis, sig, input)?;
+    Ok(Some(ForeignItem::Fn(function)))
 }
 
-/// A foreign function of these parts.
-fn whole_function(
+/// A foreign function, behind its signature: its `;`.
+fn behind_foreign_signature(
     attrs: Vec<Attribute>,
     vis: Visibility,
     sig: Signature,
-    semi_token: Semi,
-) -> ForeignItemFn
-    ensures { result ≡ Both (attributes_syntax attrs.items) (Both (syntax_of_Visibility vis) (Both (Unshown Nothing) (Both sig (semi_syntax semi_token)))) }
+    input: &mut ParseBuffer<'_>,
+) -> Parsed<ForeignItemFn>
+    ensures reads { Computes IsSyntax itself (wrap (foreign_function_of (attributes_syntax attrs.items) (syntax_of_Visibility vis) sig) (parse_form (punctuation semicolon) input.old)) result input.new }
+    ensures moved { Moved input.old result input.new }
 {
-    ForeignItemFn {
+    let semi_token = input.read()?;
+    Ok(ForeignItemFn {
         attrs,
         vis,
         modifiers: FnModifiers::default(),
         sig,
         semi_token,
-    }
+    })
 }
 
 /// A foreign static, behind its visibility; `None` where it is kept as its tokens: with a value.
@@ -223,13 +226,10 @@ impl Read for ForeignItemFn {
 
     #[tactic(auto, using(syn_grammar::proofs::Each::foreign_function_is))]
     fn read(input: &mut ParseBuffer<'_>) -> Parsed<ForeignItemFn> {
-        Ok(ForeignItemFn {
-            attrs: outer_attributes(input)?,
-            vis: input.read()?,
-            modifiers: FnModifiers::default(),
-            sig: foreign_signature(input)?,
-            semi_token: input.read()?,
-        })
+        let attrs = outer_attributes(input)?;
+        let vis = input.read()?;
+        let sig = foreign_signature(input)?;
+        behind_foreign_signature(attrs, vis, sig, input)
     }
 }
 

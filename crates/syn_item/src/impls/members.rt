@@ -12,8 +12,9 @@ ghost use Rattle.syn_lower.specs.Parsing.{of, rule, meaning_of_rule, parse_rule,
 ghost use Rattle.syn_tokens.specs.Kinds.{default_syntax};
 ghost use Rattle.syn_tokens.specs.Leaves.{maybe};
 ghost use Rattle.syn_tree.specs.Restriction.{syntax_of_Visibility};
-ghost use Rattle.syn_item.specs.ImplForms.{const_head_form, const_head_syntax, member_marks_form, member_marks_syntax, type_head_syntax, type_rest_form, type_rest_of};
+ghost use Rattle.syn_item.specs.ImplForms.{const_head_form, const_head_syntax, const_rest_of, impl_function_of, member_marks_form, member_marks_syntax, type_head_syntax, type_rest_form, type_rest_of};
 ghost use Rattle.syn_item.specs.Impls.{syntax_of_ImplItem};
+ghost use Rattle.syn_item.specs.ItemForms.{value_form};
 ghost use Rattle.syn_item.specs.NextWords.{constant_next, impl_macro_next};
 ghost use Rattle.syn_item.specs.Planned.{Follows};
 ghost use Rattle.syn_item.specs.Stages.{impl_const_or_kept, impl_item_plan_behind};
@@ -22,6 +23,7 @@ use super::{ImplItem, ImplItemConst, ImplItemFn, ImplItemMacro, ImplItemType};
 use crate::bodies::body;
 use crate::names::{OrUnderscore, name_or};
 use crate::pieces::{at_function, kept_tokens, member_macro, type_head};
+use crate::sig::Signature;
 use syn_lower::attr::outer_attributes;
 use syn_lower::where_clause::where_clause;
 use syn_lower::{Attribute, Generics};
@@ -114,7 +116,7 @@ fn at_impl_macro(input: &ParseBuffer<'_>) -> Parsed<bool>
 }
 
 /// A member of an impl that is no macro, behind its `default`; `None` where it is kept as its tokens.
-#[tactic(auto, using(crate::proofs::ImplPlans::type_follows, crate::proofs::ImplPlans::const_follows, crate::proofs::ImplPlans::signature_refused, crate::proofs::ImplPlans::function_kept, crate::proofs::ImplPlans::body_goes, crate::proofs::ImplPlans::body_refused))]
+#[tactic(auto, using(crate::proofs::ImplPlans::type_follows, crate::proofs::ImplPlans::const_follows, crate::proofs::ImplPlans::signature_refused))]
 fn impl_member(marks: MemberMarks, input: &mut ParseBuffer<'_>) -> Parsed<Option<ImplItem>>
     requires outer { all_attributes_syntax marks.attrs.items ≡ attributes_syntax marks.attrs.items }
     ensures follows { (ts : Stream) → Follows IsSyntax syntax_of_ImplItem rules.kept_impl_item ts (run_plan (plan.impl_member_plan (attributes_syntax marks.attrs.items) (syntax_of_Visibility marks.vis) (maybe default_syntax marks.defaultness)) rules.kept_impl_item ts input.old) result input.new }
@@ -129,8 +131,22 @@ fn impl_member(marks: MemberMarks, input: &mut ParseBuffer<'_>) -> Parsed<Option
     if input.peek::<Semi>() {
         return Ok(None);
     }
+    let function = impl_function(marks, sig, input)?;
+    Ok(Some(ImplItem::Fn(function)))
+}
+
+/// A function of an impl, behind its signature: its body.
+fn impl_function(
+    marks: MemberMarks,
+    sig: Signature,
+    input: &mut ParseBuffer<'_>,
+) -> Parsed<ImplItemFn>
+    requires outer { all_attributes_syntax marks.attrs.items ≡ attributes_syntax marks.attrs.items }
+    ensures reads { Computes IsSyntax itself (wrap (impl_function_of (attributes_syntax marks.attrs.items) (syntax_of_Visibility marks.vis) (maybe default_syntax marks.defaultness) sig) (parse_rule rules.body input.old)) result input.new }
+    ensures moved { Moved input.old result input.new }
+{
     let (attrs, block) = body(marks.attrs, input)?;
-    Ok(Some(ImplItem::Fn(ImplItemFn {
+    Ok(ImplItemFn {
         attrs,
         vis: marks.vis,
         modifiers: FnModifiers {
@@ -138,7 +154,7 @@ fn impl_member(marks: MemberMarks, input: &mut ParseBuffer<'_>) -> Parsed<Option
         },
         sig,
         block,
-    })))
+    })
 }
 
 /// Whether `const` stands next, and no signature begins with it.
@@ -215,23 +231,36 @@ impl Read for ImplItemConst {
     #[tactic(auto, using(syn_grammar::proofs::Each::impl_const_is))]
     fn read(input: &mut ParseBuffer<'_>) -> Parsed<ImplItemConst> {
         let marks = member_marks(input)?;
-        let (const_token, ident) = const_head(input)?;
-        Ok(ImplItemConst {
-            attrs: marks.attrs,
-            vis: marks.vis,
-            modifiers: ConstModifiers {
-                defaultness: marks.defaultness,
-            },
-            const_token,
-            ident,
-            generics: Generics::empty(input.alloc()),
-            colon_token: input.read()?,
-            ty: input.read()?,
-            eq_token: input.read()?,
-            expr: input.read()?,
-            semi_token: input.read()?,
-        })
+        let head = const_head(input)?;
+        impl_const_rest(marks, head, input)
     }
+}
+
+/// A constant of an impl, behind its name: `:`, a type, `=`, an expression and `;`.
+fn impl_const_rest(
+    marks: MemberMarks,
+    head: (Const, Ident),
+    input: &mut ParseBuffer<'_>,
+) -> Parsed<ImplItemConst>
+    ensures reads { Computes IsSyntax itself (wrap (const_rest_of (member_marks_syntax marks) (const_head_syntax head)) (parse_form value_form input.old)) result input.new }
+    ensures moved { Moved input.old result input.new }
+{
+    let (const_token, ident) = head;
+    Ok(ImplItemConst {
+        attrs: marks.attrs,
+        vis: marks.vis,
+        modifiers: ConstModifiers {
+            defaultness: marks.defaultness,
+        },
+        const_token,
+        ident,
+        generics: Generics::empty(input.alloc()),
+        colon_token: input.read()?,
+        ty: input.read()?,
+        eq_token: input.read()?,
+        expr: input.read()?,
+        semi_token: input.read()?,
+    })
 }
 
 /// Attributes, a visibility, perhaps `default`, a signature and a body.
@@ -244,16 +273,7 @@ impl Read for ImplItemFn {
     fn read(input: &mut ParseBuffer<'_>) -> Parsed<ImplItemFn> {
         let marks = member_marks(input)?;
         let sig = input.read()?;
-        let (attrs, block) = body(marks.attrs, input)?;
-        Ok(ImplItemFn {
-            attrs,
-            vis: marks.vis,
-            modifiers: FnModifiers {
-                defaultness: marks.defaultness,
-            },
-            sig,
-            block,
-        })
+        impl_function(marks, sig, input)
     }
 }
 

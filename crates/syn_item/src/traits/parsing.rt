@@ -16,7 +16,7 @@ ghost use Rattle.syn_item.specs.NextWords.{marked_next};
 ghost use Rattle.syn_item.specs.Planned.{Follows};
 ghost use Rattle.syn_item.specs.Simple.{attributes_by_content};
 ghost use Rattle.syn_item.specs.Stages.{trait_const_or_kept, trait_item_plan_behind};
-ghost use Rattle.syn_item.specs.TraitForms.{behind_head, behind_marks, function_end_form, named_form, named_syntax, trait_end_form, unmarked_form};
+ghost use Rattle.syn_item.specs.TraitForms.{behind_head, behind_marks, function_end_form, named_form, named_syntax, trait_end_form, trait_function_of, unmarked_form};
 ghost use Rattle.syn_item.specs.Traits.{function_end, syntax_of_TraitItem};
 
 use super::{ItemTrait, TraitItem, TraitItemConst, TraitItemFn, TraitItemMacro, TraitItemType};
@@ -26,6 +26,7 @@ use crate::pieces::{
     at_function, behind_equals, braced, colon_and_supertraits, colon_and_type_bounds, kept_tokens,
     member_macro,
 };
+use crate::sig::Signature;
 use syn_lower::attr::outer_attributes;
 use syn_lower::where_clause::where_clause;
 use syn_lower::{Attribute, Generics};
@@ -292,6 +293,19 @@ fn trait_function(attrs: Vec<Attribute>, input: &mut ParseBuffer<'_>) -> Parsed<
     ensures moved { Moved input.old result input.new }
 {
     let sig = input.read()?;
+    behind_trait_signature(attrs, sig, input)
+}
+
+/// The same, behind its signature.
+fn behind_trait_signature(
+    attrs: Vec<Attribute>,
+    sig: Signature,
+    input: &mut ParseBuffer<'_>,
+) -> Parsed<TraitItemFn>
+    requires outer { all_attributes_syntax attrs.items ≡ attributes_syntax attrs.items }
+    ensures reads { Computes IsSyntax itself (wrap (trait_function_of sig) (wrap (Both (attributes_syntax attrs.items)) (parse_form function_end_form input.old))) result input.new }
+    ensures moved { Moved input.old result input.new }
+{
     let (attrs, default, semi_token) = trait_function_end(attrs, input)?;
     Ok(TraitItemFn {
         attrs,

@@ -1,23 +1,23 @@
-use Rattle.std.proofs.Common.{◌≡◌, true, false, None, Some, rules, sym, ap, ◌∙◌}
+use Rattle.std.proofs.Common.{◌≡◌, true, false, None, Some, rules}
 use Rattle.syn_grammar.specs.Tokens.{Stream, at_word}
 use Rattle.syn_grammar.specs.Words.{w_type}
 use Rattle.syn_grammar.specs.Rules.{body, impl_function, kept_impl_item, signature}
-use Rattle.syn_grammar.specs.Grammar.{Syntax, Both, Case, Node}
+use Rattle.syn_grammar.specs.Grammar.{Case, Node}
 use Rattle.syn_grammar.specs.Table.{at_semicolon}
 use Rattle.syn_grammar.specs.MemberPlans.{impl_member_plan}
 use Rattle.syn_grammar.specs.Plan.{run_plan}
 use Rattle.syn_grammar.specs.Take.{sees}
-use Rattle.syn_grammar.specs.Run.{parse_rule}
+use Rattle.syn_grammar.specs.Run.{parse_rule, wrap}
 use Rattle.syn_tokens.specs.Kinds.{default_syntax}
 use Rattle.syn_tokens.specs.Leaves.{maybe}
 use Rattle.syn_lower.specs.Attributes.{attributes_syntax}
-use Rattle.syn_lower.specs.Bodies.{attributes_before_body, body as body_syntax}
 use Rattle.syn_lower.specs.Parsing.{IsSyntax}
 use Rattle.syn_tree.specs.Restriction.{syntax_of_Visibility}
+use Rattle.syn_item.specs.ImplForms.{impl_function_of}
 use Rattle.syn_item.specs.Impls.{syntax_of_ImplItem}
 use Rattle.syn_item.specs.NextWords.{constant_next}
 use Rattle.syn_item.specs.Planned.{Follows, OnlyKept}
-use Rattle.syn_item.proofs.ImplPlans.{body_goes, body_refused, const_follows, function_kept}
+use Rattle.syn_item.proofs.ImplPlans.{body_read, body_refused, const_follows, function_kept}
 use Rattle.syn_item.proofs.impls.members.impl_member.Goals as goal
 
 pub returns-then-at_constant : goal.returns-then-at_constant
@@ -47,8 +47,8 @@ returns-then-peek-2 c =
     let kept : (ts : Stream) → OnlyKept kept_impl_item ts (run_plan (impl_member_plan a v d) kept_impl_item ts m) = λ ts. function_kept kept_impl_item ts a v d m no_type no_constant s r read here in
     search (rules, kept)
 
-pub returns-in_err-attrs : goal.returns-in_err-attrs
-returns-in_err-attrs c =
+pub returns-in_err-function : goal.returns-in_err-function
+returns-in_err-function c =
     let a = attributes_syntax c.args.marks.attrs.items in
     let v = syntax_of_Visibility c.args.marks.vis in
     let d = maybe default_syntax c.args.marks.defaultness in
@@ -59,7 +59,8 @@ returns-in_err-attrs c =
     let no_constant : constant_next m ≡ false = search rules in
     let read : parse_rule signature m ≡ Some (s, r) = search rules in
     let none : sees at_semicolon r ≡ false = search rules in
-    let refused : (ts : Stream) → parse_rule body r ≡ None → run_plan (impl_member_plan a v d) kept_impl_item ts m ≡ None = λ ts e. body_refused kept_impl_item ts a v d m no_type no_constant s r read none e in
+    let refused : (ts : Stream) → wrap (impl_function_of a v d s) (parse_rule body r) ≡ None → run_plan (impl_member_plan a v d) kept_impl_item ts m ≡ None =
+    λ ts e. body_refused kept_impl_item ts a v d m no_type no_constant s r read none e in
     search (rules, refused)
 
 pub returns : goal.returns
@@ -74,11 +75,8 @@ returns c =
     let no_constant : constant_next m ≡ false = search rules in
     let read : parse_rule signature m ≡ Some (s, r) = search rules in
     let none : sees at_semicolon r ≡ false = search rules in
-    let l = c.in_ok-attrs.attrs.items in
-    let b = body_syntax l c.in_ok-attrs.block in
-    let q = c.body.new.input in
-    let body_read : parse_rule body r ≡ Some (b, q) = search rules in
-    let before : attributes_before_body l ≡ a = search rules in
-    let made : (ts : Stream) → run_plan (impl_member_plan a v d) kept_impl_item ts m ≡ Some (Node (Case impl_function (Both (attributes_before_body l) (Both v (Both d (Both s b))))), q) =
-    λ ts. body_goes kept_impl_item ts a v d m no_type no_constant s r read none b q body_read ∙ ap (λ (z : Syntax). Some (Node (Case impl_function (Both z (Both v (Both d (Both s b))))), q)) (sym before) in
-    search (rules, made)
+    let t = c.in_ok-function.function in
+    let q = c.impl_function.new.input in
+    let made : wrap (impl_function_of a v d s) (parse_rule body r) ≡ Some (t, q) = search rules in
+    let whole : (ts : Stream) → run_plan (impl_member_plan a v d) kept_impl_item ts m ≡ Some (Node (Case impl_function t), q) = λ ts. body_read kept_impl_item ts a v d m no_type no_constant s r read none t q made in
+    search (rules, whole)

@@ -1,18 +1,12 @@
-use Rattle.std.proofs.Common.{◌≡◌, None, Some, rules}
-use Rattle.syn_grammar.specs.Rules.{bare_trait_function, signature}
-use Rattle.syn_grammar.specs.Grammar.{Both}
-use Rattle.syn_grammar.specs.Run.{parse_form, parse_rule, wrap}
+use Rattle.std.proofs.Common.{◌≡◌, Some, rules}
+use Rattle.syn_grammar.specs.Rules.{signature}
+use Rattle.syn_grammar.specs.Run.{parse_rule}
 use Rattle.syn_lower.specs.Attributes.{attributes_syntax}
-use Rattle.syn_item.specs.TraitForms.{function_end_form}
-use Rattle.syn_item.proofs.TraitPlans.{bare_end_refused}
+use Rattle.syn_lower.specs.Parsing.{IsSyntax}
+use Rattle.syn_item.proofs.MemberReads.{bare_read}
 use Rattle.syn_item.proofs.traits.parsing.trait_function.Goals as goal
 
-pub returns-in_err-attrs-clause-reads : goal.returns-in_err-attrs-clause-reads
-returns-in_err-attrs-clause-reads c =
-    let a = attributes_syntax c.args.attrs.items in
-    let m = c.args.input.now in
-    let s = c.in_ok-sig.sig in
-    let r = c.read.new.self in
-    let read : parse_rule signature m ≡ Some (s, r) = search rules in
-    let refused : wrap (Both a) (parse_form function_end_form r) ≡ None → wrap (Both a) (parse_rule bare_trait_function m) ≡ None = bare_end_refused a m s r read in
-    search (rules, refused)
+pub returns-clause-reads : goal.returns-clause-reads
+returns-clause-reads c =
+    let read : parse_rule signature c.args.input.now ≡ Some (c.in_ok-sig.sig, c.read.new.self) = search rules in
+    bare_read IsSyntax (attributes_syntax c.args.attrs.items) c.args.input.now c.in_ok-sig.sig c.read.new.self read c.behind_trait_signature.result c.behind_trait_signature.new.input c.behind_trait_signature.ensures.reads

@@ -32,7 +32,7 @@ returns-in_ok-kept_tokens-in-Ok-None-clause-reads c =
     let outer : parse_rule attributes ts ≡ Some (a, m) = search rules in
     let kept = rw c.in-Ok-None.field-0-is at (c.in-Ok-None.ensures.follows ts) in
     let copied = rw c.fork-start.ensures at c.in_ok-kept_tokens-in-Ok-None.ensures.reads in
-    trait_kept ts a m outer kept c.in_ok-kept_tokens-in-Ok-None.field-0 c.kept_tokens-in-Ok-None.new.input copied
+    trait_kept ts a m outer kept c.in_ok-kept_tokens-in-Ok-None.field-0 c.kept_tokens.new.input copied
 
 pub returns-in_ok-kept_tokens-in-Ok-None-clause-moved : goal.returns-in_ok-kept_tokens-in-Ok-None-clause-moved
 returns-in_ok-kept_tokens-in-Ok-None-clause-moved c =
@@ -42,7 +42,7 @@ returns-in_ok-kept_tokens-in-Ok-None-clause-moved c =
     let outer : parse_rule attributes ts ≡ Some (a, m) = search rules in
     let kept = rw c.in-Ok-None.field-0-is at (c.in-Ok-None.ensures.follows ts) in
     let copied = rw c.fork-start.ensures at c.in_ok-kept_tokens-in-Ok-None.ensures.reads in
-    trait_kept_moved ts a m outer kept c.in_ok-kept_tokens-in-Ok-None.field-0 c.kept_tokens-in-Ok-None.new.input copied
+    trait_kept_moved ts a m outer kept c.in_ok-kept_tokens-in-Ok-None.field-0 c.kept_tokens.new.input copied
 
 pub returns-in-Err-clause-reads : goal.returns-in-Err-clause-reads
 returns-in-Err-clause-reads c =
