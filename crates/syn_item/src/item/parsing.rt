@@ -93,7 +93,7 @@ impl Read for Item {
 
     ghost meaning = { meaning_of_rule rules.item };
 
-    #[tactic(auto, using(crate::proofs::WholeReads::item_attributes_refused, crate::proofs::WholeReads::item_refused, crate::proofs::WholeReads::item_read, crate::proofs::WholeReads::item_moved, crate::proofs::WholeReads::item_kept, crate::proofs::WholeReads::item_kept_moved))]
+    #[tactic(auto, using(crate::proofs::WholeReads::item_attributes_refused))]
     fn read(input: &mut ParseBuffer<'_>) -> Parsed<Item> {
         let start = input.fork();
         let attrs = outer_attributes(input)?;
@@ -106,7 +106,7 @@ impl Read for Item {
 }
 
 /// An item, behind its attributes; `None` where it is kept as its tokens.
-#[tactic(auto, using(crate::proofs::ItemPlans::visibility_refused, crate::proofs::ItemPlans::place_follows))]
+#[tactic(auto, using(crate::proofs::ItemPlans::visibility_refused))]
 fn item_behind(attrs: Vec<Attribute>, input: &mut ParseBuffer<'_>) -> Parsed<Option<Item>>
     requires outer { all_attributes_syntax attrs.items ≡ attributes_syntax attrs.items }
     ensures follows { (ts : Stream) → Follows IsSyntax syntax_of_Item rules.kept_item ts (run_plan (plan.item_behind (attributes_syntax attrs.items)) rules.kept_item ts input.old) result input.new }
@@ -130,7 +130,7 @@ fn place_of(input: &ParseBuffer<'_>) -> Place
 }
 
 /// An item, behind its visibility; `None` where it is kept as its tokens.
-#[tactic(auto, using(crate::proofs::ItemPlans::struct_read, crate::proofs::ItemPlans::struct_refused, crate::proofs::ItemPlans::enum_read, crate::proofs::ItemPlans::enum_refused, crate::proofs::ItemPlans::union_read, crate::proofs::ItemPlans::union_refused, crate::proofs::ItemPlans::type_follows, crate::proofs::ItemPlans::static_follows, crate::proofs::ItemPlans::use_follows, crate::proofs::ItemPlans::mod_read, crate::proofs::ItemPlans::mod_refused, crate::proofs::ItemPlans::others_follow))]
+#[tactic(auto, using(crate::proofs::ItemPlans::struct_refused, crate::proofs::ItemPlans::enum_refused, crate::proofs::ItemPlans::union_refused, crate::proofs::ItemPlans::type_follows, crate::proofs::ItemPlans::static_follows, crate::proofs::ItemPlans::use_follows, crate::proofs::ItemPlans::mod_refused))]
 fn behind_visibility(begun: Begun, input: &mut ParseBuffer<'_>) -> Parsed<Option<Item>>
     requires outer { all_attributes_syntax begun.attrs.items ≡ attributes_syntax begun.attrs.items }
     ensures follows { (ts : Stream) → Follows IsSyntax syntax_of_Item rules.kept_item ts (run_plan (behind_place begun) rules.kept_item ts input.old) result input.new }
@@ -164,7 +164,7 @@ fn behind_visibility(begun: Begun, input: &mut ParseBuffer<'_>) -> Parsed<Option
 }
 
 /// The same, where none of these words stands next.
-#[tactic(auto, using(crate::proofs::ItemPlans::trait_follows, crate::proofs::ItemPlans::auto_follows, crate::proofs::ItemPlans::definition_kept, crate::proofs::ItemPlans::function_follows, crate::proofs::ItemPlans::extern_follows, crate::proofs::ItemPlans::unsafe_follows, crate::proofs::ItemPlans::const_follows, crate::proofs::ItemPlans::impl_follows, crate::proofs::ItemPlans::rest_follows))]
+#[tactic(auto, using(crate::proofs::ItemPlans::trait_follows, crate::proofs::ItemPlans::auto_follows, crate::proofs::ItemPlans::definition_kept, crate::proofs::ItemPlans::impl_follows, crate::proofs::ItemPlans::rest_follows))]
 fn other_kinds(begun: Begun, input: &mut ParseBuffer<'_>) -> Parsed<Option<Item>>
     requires outer { all_attributes_syntax begun.attrs.items ≡ attributes_syntax begun.attrs.items }
     ensures follows { (ts : Stream) → Follows IsSyntax syntax_of_Item rules.kept_item ts (run_plan (other_kinds_plan begun) rules.kept_item ts input.old) result input.new }
@@ -215,7 +215,7 @@ fn at_default_impl(input: &ParseBuffer<'_>) -> Parsed<bool>
 }
 
 /// What else may stand, where no visibility was read: an impl behind `default`, or a macro.
-#[tactic(auto, using(crate::proofs::ItemPlans::visible_refused, crate::proofs::ItemPlans::default_follows, crate::proofs::ItemPlans::macro_read, crate::proofs::ItemPlans::macro_refused))]
+#[tactic(auto, using(crate::proofs::ItemPlans::visible_refused, crate::proofs::ItemPlans::macro_refused))]
 fn without_keyword(begun: Begun, input: &mut ParseBuffer<'_>) -> Parsed<Option<Item>>
     requires outer { all_attributes_syntax begun.attrs.items ≡ attributes_syntax begun.attrs.items }
     ensures follows { (ts : Stream) → Follows IsSyntax syntax_of_Item rules.kept_item ts (run_plan (other_plan_of begun) rules.kept_item ts input.old) result input.new }

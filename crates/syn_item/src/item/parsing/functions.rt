@@ -38,7 +38,7 @@ use syn_tokens::token::{
 use syn_tree::item::ConstModifiers;
 
 /// A function; `None` where it is kept as its tokens: without a body.
-#[tactic(auto, using(crate::proofs::ItemPlans::signature_refused, crate::proofs::ItemPlans::bodiless_kept, crate::proofs::ItemPlans::function_read, crate::proofs::ItemPlans::function_refused))]
+#[tactic(auto, using(crate::proofs::ItemPlans::signature_refused))]
 pub(super) fn function_or_kept(begun: Begun, input: &mut ParseBuffer<'_>) -> Parsed<Option<Item>>
     requires outer { all_attributes_syntax begun.attrs.items ≡ attributes_syntax begun.attrs.items }
     ensures follows { (ts : Stream) → Follows IsSyntax syntax_of_Item rules.kept_item ts (run_plan (function_stage begun) rules.kept_item ts input.old) result input.new }
@@ -52,7 +52,6 @@ pub(super) fn function_or_kept(begun: Begun, input: &mut ParseBuffer<'_>) -> Par
 }
 
 /// What begins with `extern`: an extern crate; without a visibility a foreign module; or a function.
-#[tactic(auto, using(crate::proofs::ItemWords::crate_read, crate::proofs::ItemWords::crate_refused, crate::proofs::ItemWords::no_crate_follows))]
 pub(super) fn behind_extern(begun: Begun, input: &mut ParseBuffer<'_>) -> Parsed<Option<Item>>
     requires outer { all_attributes_syntax begun.attrs.items ≡ attributes_syntax begun.attrs.items }
     requires next { sees at_extern input.old ≡ true }
@@ -66,7 +65,6 @@ pub(super) fn behind_extern(begun: Begun, input: &mut ParseBuffer<'_>) -> Parsed
 }
 
 /// What begins with `unsafe`: a module, a trait, without a visibility an impl or a foreign module, or a function.
-#[tactic(auto, using(crate::proofs::ItemWords::mod_read, crate::proofs::ItemWords::mod_refused, crate::proofs::ItemWords::trait_follows, crate::proofs::ItemWords::impl_follows, crate::proofs::ItemWords::rest_follows))]
 pub(super) fn behind_unsafe(begun: Begun, input: &mut ParseBuffer<'_>) -> Parsed<Option<Item>>
     requires outer { all_attributes_syntax begun.attrs.items ≡ attributes_syntax begun.attrs.items }
     requires next { sees (at_word w_unsafe) input.old ≡ true }
@@ -103,7 +101,6 @@ fn is_before_impl(begun: &Begun, input: &ParseBuffer<'_>) -> bool
 }
 
 /// A foreign module where no visibility was read and braces stand behind the ABI; else a function.
-#[tactic(auto, using(crate::proofs::ForeignOrFunction::module_read, crate::proofs::ForeignOrFunction::module_refused, crate::proofs::ForeignOrFunction::function_follows))]
 fn module_or_function(begun: Begun, input: &mut ParseBuffer<'_>) -> Parsed<Option<Item>>
     requires outer { all_attributes_syntax begun.attrs.items ≡ attributes_syntax begun.attrs.items }
     requires next { or (sees at_extern input.old) (sees (at_word w_unsafe) input.old) ≡ true }
@@ -146,7 +143,6 @@ fn marked_abi(input: &mut ParseBuffer<'_>) -> Parsed<(Option<Unsafe>, Abi)>
 }
 
 /// What begins with `const`: a trait, an impl, a function or a constant.
-#[tactic(auto, using(crate::proofs::ConstPlans::trait_follows, crate::proofs::ConstPlans::auto_follows, crate::proofs::ConstPlans::impl_follows, crate::proofs::ConstPlans::function_follows, crate::proofs::ConstPlans::const_follows))]
 pub(super) fn behind_const(begun: Begun, input: &mut ParseBuffer<'_>) -> Parsed<Option<Item>>
     requires outer { all_attributes_syntax begun.attrs.items ≡ attributes_syntax begun.attrs.items }
     requires next { sees (at_word w_const) input.old ≡ true }
@@ -195,7 +191,6 @@ fn is_before_unsafe_trait(input: &ParseBuffer<'_>) -> bool
 }
 
 /// What begins with `const unsafe`: a trait, an impl or a function.
-#[tactic(auto, using(crate::proofs::ConstPlans::unsafe_trait_follows, crate::proofs::ConstPlans::unsafe_impl_follows, crate::proofs::ConstPlans::unsafe_function_follows))]
 fn behind_const_unsafe(begun: Begun, input: &mut ParseBuffer<'_>) -> Parsed<Option<Item>>
     requires outer { all_attributes_syntax begun.attrs.items ≡ attributes_syntax begun.attrs.items }
     requires next { and (sees (at_word w_const) input.old) (sees (at_word w_unsafe) (past input.old)) ≡ true }

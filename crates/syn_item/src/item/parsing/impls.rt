@@ -25,7 +25,7 @@ use syn_recognize::item_looks::{at_in_restriction, at_lone_word};
 use syn_tokens::token::{Brace, Const, For, Unsafe, Where};
 
 /// An impl behind its `const` and `unsafe`, each of them or not; `None` where it is kept as its tokens: of what is no plain path for a type.
-#[tactic(auto, using(crate::proofs::ItemImpls::word_refused, crate::proofs::ItemImpls::word_follows))]
+#[tactic(auto, using(crate::proofs::ItemImpls::word_refused))]
 pub(super) fn impl_behind(
     begun: Begun,
     constness: Option<Const>,
@@ -46,7 +46,7 @@ pub(super) fn impl_behind(
 }
 
 /// An impl that begins with `default`.
-#[tactic(auto, using(crate::proofs::ItemImpls::default_refused, crate::proofs::ItemImpls::const_refused, crate::proofs::ItemImpls::unsafe_refused, crate::proofs::ItemImpls::impl_refused, crate::proofs::ItemImpls::default_follows))]
+#[tactic(auto, using(crate::proofs::ItemImpls::default_refused, crate::proofs::ItemImpls::const_refused, crate::proofs::ItemImpls::unsafe_refused))]
 pub(super) fn default_impl(begun: Begun, input: &mut ParseBuffer<'_>) -> Parsed<Option<Item>>
     requires outer { all_attributes_syntax begun.attrs.items ≡ attributes_syntax begun.attrs.items }
     requires next { default_next input.old ≡ true }
@@ -63,7 +63,7 @@ pub(super) fn default_impl(begun: Begun, input: &mut ParseBuffer<'_>) -> Parsed<
 }
 
 /// An impl, behind its word; `None` where it is kept as its tokens.
-#[tactic(auto, using(crate::proofs::ItemImpls::list_refused, crate::proofs::ItemImpls::types_refused, crate::proofs::ItemImpls::types_read, crate::proofs::ItemImpls::types_kept))]
+#[tactic(auto, using(crate::proofs::ItemImpls::list_refused))]
 fn behind_marks(marks: ImplMarks, input: &mut ParseBuffer<'_>) -> Parsed<Option<Item>>
     requires outer { all_attributes_syntax marks.attrs.items ≡ attributes_syntax marks.attrs.items }
     ensures follows { (ts : Stream) → Follows IsSyntax syntax_of_Item rules.kept_item ts (run_plan (impl_behind_marks marks) rules.kept_item ts input.old) result input.new }
@@ -76,7 +76,7 @@ fn behind_marks(marks: ImplMarks, input: &mut ParseBuffer<'_>) -> Parsed<Option<
 }
 
 /// What begins with `impl`: an impl, or, kept as its tokens, a trait behind a restriction in parentheses. Behind a visibility it is no impl.
-#[tactic(auto, using(crate::proofs::ItemImpls::visible_kept, crate::proofs::ItemImpls::bare_refused, crate::proofs::ItemImpls::restriction_kept, crate::proofs::ItemImpls::lone_follows, crate::proofs::ItemImpls::generics_follow))]
+#[tactic(auto, using(crate::proofs::ItemImpls::visible_kept, crate::proofs::ItemImpls::bare_refused, crate::proofs::ItemImpls::restriction_kept))]
 pub(super) fn bare_impl(begun: Begun, input: &mut ParseBuffer<'_>) -> Parsed<Option<Item>>
     requires outer { all_attributes_syntax begun.attrs.items ≡ attributes_syntax begun.attrs.items }
     ensures follows { (ts : Stream) → Follows IsSyntax syntax_of_Item rules.kept_item ts (run_plan (bare_impl_plan_of begun) rules.kept_item ts input.old) result input.new }
@@ -101,7 +101,7 @@ pub(super) fn bare_impl(begun: Begun, input: &mut ParseBuffer<'_>) -> Parsed<Opt
 }
 
 /// An impl of a type in parentheses that hold one word; `None` where these are a trait's restriction, or stand before `for`.
-#[tactic(auto, using(crate::proofs::ItemImpls::lone_refused, crate::proofs::ItemImpls::lone_for_kept, crate::proofs::ItemImpls::lone_restriction_kept, crate::proofs::ItemImpls::lone_read, crate::proofs::ItemImpls::lone_end_refused))]
+#[tactic(auto, using(crate::proofs::ItemImpls::lone_refused, crate::proofs::ItemImpls::lone_end_refused))]
 fn impl_of_parentheses(marks: ImplMarks, input: &mut ParseBuffer<'_>) -> Parsed<Option<Item>>
     requires outer { all_attributes_syntax marks.attrs.items ≡ attributes_syntax marks.attrs.items }
     requires next { sees plan.at_lone_word input.old ≡ true }

@@ -27,7 +27,7 @@ use syn_tokens::token::{Brace, Colon, Eq};
 
 /// A type alias; `None` where it is kept as its tokens: with a colon behind its generics, or without `=` behind these and a where clause.
 /// Where a clause stands before the `=` and behind the type, what follows the second one is refused.
-#[tactic(auto, using(crate::proofs::TypePlans::head_refused, crate::proofs::TypePlans::colon_kept, crate::proofs::TypePlans::no_alias_kept, crate::proofs::TypePlans::alias_refused, crate::proofs::TypePlans::alias_read))]
+#[tactic(auto, using(crate::proofs::TypePlans::head_refused, crate::proofs::TypePlans::alias_refused))]
 pub(super) fn type_or_kept(begun: Begun, input: &mut ParseBuffer<'_>) -> Parsed<Option<Item>>
     ensures follows { (ts : Stream) → Follows IsSyntax syntax_of_Item rules.kept_item ts (run_plan (plan.type_plan (attributes_syntax begun.attrs.items) (syntax_of_Visibility begun.vis)) rules.kept_item ts input.old) result input.new }
 {

@@ -25,7 +25,7 @@ use syn_parse::read::refusal::Parsed;
 use syn_tokens::token::{Const, Eq, Unsafe};
 
 /// A trait behind its `const` and `unsafe`, each of them or not.
-#[tactic(auto, using(crate::proofs::ItemTraits::trait_read, crate::proofs::ItemTraits::trait_refused))]
+#[tactic(auto, using(crate::proofs::ItemTraits::trait_refused))]
 pub(super) fn trait_behind(
     begun: Begun,
     constness: Option<Const>,
@@ -46,7 +46,7 @@ pub(super) fn trait_behind(
 }
 
 /// A trait or a trait alias, which begins with `trait`.
-#[tactic(auto, using(crate::proofs::ItemTraits::head_refused, crate::proofs::ItemTraits::alias_read, crate::proofs::ItemTraits::alias_refused, crate::proofs::ItemTraits::named_read, crate::proofs::ItemTraits::named_refused))]
+#[tactic(auto, using(crate::proofs::ItemTraits::head_refused))]
 pub(super) fn trait_or_alias(begun: Begun, input: &mut ParseBuffer<'_>) -> Parsed<Option<Item>>
     requires outer { all_attributes_syntax begun.attrs.items ≡ attributes_syntax begun.attrs.items }
     ensures follows { (ts : Stream) → Follows IsSyntax syntax_of_Item rules.kept_item ts (run_plan (plan.trait_or_alias (attributes_syntax begun.attrs.items) (syntax_of_Visibility begun.vis)) rules.kept_item ts input.old) result input.new }
@@ -74,7 +74,7 @@ pub(super) fn trait_or_alias(begun: Begun, input: &mut ParseBuffer<'_>) -> Parse
 }
 
 /// The same behind `const`; `None` where it is kept as its tokens: as an alias.
-#[tactic(auto, using(crate::proofs::ItemTraits::const_head_refused, crate::proofs::ItemTraits::alias_kept, crate::proofs::ItemTraits::const_read, crate::proofs::ItemTraits::const_refused))]
+#[tactic(auto, using(crate::proofs::ItemTraits::const_head_refused))]
 pub(super) fn const_trait(
     begun: Begun,
     const_token: Const,
