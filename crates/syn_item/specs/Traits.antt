@@ -79,3 +79,13 @@ view_ItemTrait a =
 
 abbrev pub syntax_of_ItemTrait : Syntax → Syntax
 syntax_of_ItemTrait = Node
+
+-- what stands behind `auto`, where that may stand: the word of a trait, its name and the rest
+abbrev pub behind_auto : Syntax → Syntax
+behind_auto (Both attrs (Node (Both vis (Both constness (Node (Both unsafety (Both auto rest))))))) = rest
+behind_auto s = s
+
+-- what stands behind its name
+abbrev pub behind_name : Syntax → Syntax
+behind_name (Both attrs (Node (Both vis (Both constness (Node (Both unsafety (Both auto (Both word (Both ident rest))))))))) = rest
+behind_name s = s

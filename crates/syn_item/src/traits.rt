@@ -8,7 +8,7 @@ ghost use Rattle.syn_tokens.specs.Leaves.{maybe};
 ghost use Rattle.syn_lower.specs.Attributes.{attributes_syntax};
 ghost use Rattle.syn_lower.specs.Bodies.{attributes_before_body, attributes_in_body};
 ghost use Rattle.syn_item.specs.Simple.{attributes_by_content};
-ghost use Rattle.syn_item.specs.Traits.{function_end};
+ghost use Rattle.syn_item.specs.Traits.{behind_auto, behind_name, function_end};
 
 mod parsing;
 
@@ -110,21 +110,39 @@ pub struct TraitItemMacro {
     pub semi_token: Option<Semi>,
 }
 
-/// `unsafe` is printed before `auto`. Without bounds the colon isn't printed.
+/// What stands behind a trait's name. Without bounds the colon isn't printed.
+#[tactic(auto, using(syn_tokens::proofs::Prints::prints))]
+fn print_behind_name(item: &ItemTrait, out: &mut StreamBuilder) -> Result<(), AllocError>
+    ensures prints { OnOk result (out.new ≡ added out.old (print (behind_name item.now))) }
+    ensures begins { out.new.before ≡ out.old.before }
+{
+    item.generics.print_params(out)?;
+    print_bounds(&item.colon_token, &item.supertraits, out)?;
+    item.generics.print_where(out)?;
+    print_braced(&item.brace_token, &item.attrs, &item.items, out)
+}
+
+/// The word of a trait, its name and what stands behind it.
+#[tactic(auto, using(syn_tokens::proofs::Prints::prints))]
+fn print_named(item: &ItemTrait, out: &mut StreamBuilder) -> Result<(), AllocError>
+    ensures prints { OnOk result (out.new ≡ added out.old (print (behind_auto item.now))) }
+    ensures begins { out.new.before ≡ out.old.before }
+{
+    item.trait_token.print_in(out)?;
+    item.ident.print_in(out)?;
+    print_behind_name(item, out)
+}
+
+/// `unsafe` is printed before `auto`.
 impl Print for ItemTrait {
-    #[tactic(auto, using(crate::proofs::LongPrints::in_order, syn_lower::proofs::GenericPrints::print_bounds))]
+    #[tactic(auto, using(syn_tokens::proofs::Prints::prints))]
     fn print_in(&self, out: &mut StreamBuilder) -> Result<(), AllocError> {
         print_before_body(&self.attrs, out)?;
         self.vis.print_in(out)?;
         self.modifiers.constness.print_in(out)?;
         self.unsafety.print_in(out)?;
         self.modifiers.auto_token.print_in(out)?;
-        self.trait_token.print_in(out)?;
-        self.ident.print_in(out)?;
-        self.generics.print_params(out)?;
-        print_bounds(&self.colon_token, &self.supertraits, out)?;
-        self.generics.print_where(out)?;
-        print_braced(&self.brace_token, &self.attrs, &self.items, out)
+        print_named(self, out)
     }
 }
 

@@ -13,6 +13,7 @@ impl From<DeriveInput> for Item {
 
     fn from(input: DeriveInput) -> Item
         ensures same { syntax_of_Item result ≡ input }
+        ensures gives { result ≡ item_in input }
     {
         let DeriveInput {
             attrs,

@@ -23,6 +23,8 @@ use Rattle.syn_item.specs.Planned.{Follows}
 use Rattle.syn_item.proofs.ConstPlans.{unsafe_function_follows, unsafe_impl_follows, unsafe_trait_follows}
 use Rattle.syn_item.proofs.ItemWords.{ReadWord, word_told}
 use Rattle.syn_item.proofs.MemberFunctions.{past_word}
+use Rattle.std.specs.Prelude.{Err}
+use Rattle.syn_item.proofs.Followed.{refused_by}
 use Rattle.syn_item.proofs.item.parsing.functions.behind_const_unsafe.Goals as goal
 
 -- a word that stands next and isn't read where it may be absent is no token
@@ -51,7 +53,8 @@ returns-in_err-unsafety c =
     let r = c.read.new.self in
     let const_read : parse_form (optional_item_word w_const) m ≡ Some (k, r) = search rules in
     let refused : (ts : Stream) → parse_form (optional_item_word w_unsafe) r ≡ None → run_plan (const_turn p a v) kept_item ts m ≡ None = λ ts e. unsafe_refused kept_item ts p a v m next k r const_read e in
-    search (rules, refused)
+    let fault : c.from_residual-in_err-unsafety.result ≡ Err c.in_err-unsafety.field-0.0 = search rules in
+    record { follows = λ ts. refused_by IsSyntax syntax_of_Item kept_item ts (run_plan (const_turn p a v) kept_item ts m) c.from_residual-in_err-unsafety.result c.read-then-is_before_unsafe_trait.new.self c.in_err-unsafety.field-0.0 fault (λ h. refused ts (c.in_err-unsafety.ensures.reads h)) }
 
 pub returns-then-is_before_unsafe_trait : goal.returns-then-is_before_unsafe_trait
 returns-then-is_before_unsafe_trait c =
@@ -64,7 +67,7 @@ returns-then-is_before_unsafe_trait c =
     let r = c.read.new.self in
     let const_read : parse_form (optional_item_word w_const) m ≡ Some (k, r) = search rules in
     let u = maybe unsafe_syntax c.in_ok-unsafety.unsafety in
-    let n = c.read-2.new.self in
+    let n = c.read-then-is_before_unsafe_trait.new.self in
     let unsafe_read : parse_form (optional_item_word w_unsafe) r ≡ Some (u, n) = search rules in
     let here : or (sees (at_word w_trait) (past (past m))) (sees (at_word w_auto) (past (past m))) ≡ true = search rules in
     let follows : (ts : Stream) → Follows IsSyntax syntax_of_Item kept_item ts (run_plan (const_turn p a v) kept_item ts m) c.trait_behind.result c.trait_behind.new.input =
@@ -79,10 +82,11 @@ returns-in_err-unsafety-2 c =
     let p = place_of c.args.begun.place in
     let next : and (sees (at_word w_const) m) (sees (at_word w_unsafe) (past m)) ≡ true = c.requires.next in
     let k = maybe const_syntax c.in_ok-constness-2.constness in
-    let r = c.read-3.new.self in
+    let r = c.read-then-peek3.new.self in
     let const_read : parse_form (optional_item_word w_const) m ≡ Some (k, r) = search rules in
     let refused : (ts : Stream) → parse_form (optional_item_word w_unsafe) r ≡ None → run_plan (const_turn p a v) kept_item ts m ≡ None = λ ts e. unsafe_refused kept_item ts p a v m next k r const_read e in
-    search (rules, refused)
+    let fault : c.from_residual-in_err-unsafety-2.result ≡ Err c.in_err-unsafety-2.field-0.0 = search rules in
+    record { follows = λ ts. refused_by IsSyntax syntax_of_Item kept_item ts (run_plan (const_turn p a v) kept_item ts m) c.from_residual-in_err-unsafety-2.result c.read-then-peek3-2.new.self c.in_err-unsafety-2.field-0.0 fault (λ h. refused ts (c.in_err-unsafety-2.ensures.reads h)) }
 
 pub returns-then-peek3 : goal.returns-then-peek3
 returns-then-peek3 c =
@@ -92,10 +96,10 @@ returns-then-peek3 c =
     let p = place_of c.args.begun.place in
     let next : and (sees (at_word w_const) m) (sees (at_word w_unsafe) (past m)) ≡ true = c.requires.next in
     let k = maybe const_syntax c.in_ok-constness-2.constness in
-    let r = c.read-3.new.self in
+    let r = c.read-then-peek3.new.self in
     let const_read : parse_form (optional_item_word w_const) m ≡ Some (k, r) = search rules in
     let u = maybe unsafe_syntax c.in_ok-unsafety-2.unsafety in
-    let n = c.read-4.new.self in
+    let n = c.read-then-peek3-2.new.self in
     let unsafe_read : parse_form (optional_item_word w_unsafe) r ≡ Some (u, n) = search rules in
     let no_trait : or (sees (at_word w_trait) (past (past m))) (sees (at_word w_auto) (past (past m))) ≡ false = search rules in
     let here : sees (at_word w_impl) (past (past m)) ≡ true = search rules in

@@ -19,6 +19,8 @@ use Rattle.syn_item.specs.ItemStages.{place_of}
 use Rattle.syn_item.specs.ItemTurns.{no_visibility, unsafe_turn}
 use Rattle.syn_item.specs.Planned.{Follows}
 use Rattle.syn_item.proofs.ItemWords.{impl_follows, mod_read, mod_refused, rest_follows, trait_follows}
+use Rattle.std.specs.Prelude.{Err}
+use Rattle.syn_item.proofs.Followed.{refused_by}
 use Rattle.syn_item.proofs.item.parsing.functions.behind_unsafe.Goals as goal
 
 pub returns-in_err-item : goal.returns-in_err-item
@@ -33,7 +35,8 @@ returns-in_err-item c =
     let read : parse_form (optional_item_word w_unsafe) m ≡ Some (u, r) = search rules in
     let here : sees (at_word w_mod) (past m) ≡ true = search rules in
     let refused : (ts : Stream) → wrap (module_of a v u) (parse_form module_form r) ≡ None → run_plan (unsafe_turn p a v) kept_item ts m ≡ None = λ ts e. mod_refused kept_item ts p a v m next u r read here e in
-    search (rules, refused)
+    let fault : c.from_residual-in_err-item.result ≡ Err c.in_err-item.field-0.0 = search rules in
+    record { follows = λ ts. refused_by IsSyntax syntax_of_Item kept_item ts (run_plan (unsafe_turn p a v) kept_item ts m) c.from_residual-in_err-item.result c.module.new.input c.in_err-item.field-0.0 fault (λ h. refused ts (c.in_err-item.ensures.reads h)) }
 
 pub returns-then-peek2 : goal.returns-then-peek2
 returns-then-peek2 c =
@@ -60,7 +63,7 @@ returns-then-is_before_trait c =
     let p = place_of c.args.begun.place in
     let next : sees (at_word w_unsafe) m ≡ true = c.requires.next in
     let u = maybe unsafe_syntax c.in_ok-unsafety-2.unsafety in
-    let r = c.read-2.new.self in
+    let r = c.read-then-is_before_trait.new.self in
     let read : parse_form (optional_item_word w_unsafe) m ≡ Some (u, r) = search rules in
     let no_mod : sees (at_word w_mod) (past m) ≡ false = search rules in
     let here : or (sees (at_word w_trait) (past m)) (sees (at_word w_auto) (past m)) ≡ true = search rules in
@@ -76,7 +79,7 @@ returns-then-is_before_impl c =
     let p = place_of c.args.begun.place in
     let next : sees (at_word w_unsafe) m ≡ true = c.requires.next in
     let u = maybe unsafe_syntax c.in_ok-unsafety-3.unsafety in
-    let r = c.read-3.new.self in
+    let r = c.read-then-is_before_impl.new.self in
     let read : parse_form (optional_item_word w_unsafe) m ≡ Some (u, r) = search rules in
     let no_mod : sees (at_word w_mod) (past m) ≡ false = search rules in
     let no_trait : or (sees (at_word w_trait) (past m)) (sees (at_word w_auto) (past m)) ≡ false = search rules in

@@ -12,6 +12,10 @@ use Rattle.syn_item.specs.ItemForms.{function_of}
 use Rattle.syn_item.specs.ItemTurns.{function_turn}
 use Rattle.syn_item.specs.Planned.{OnlyKept}
 use Rattle.syn_item.proofs.ItemPlans.{bodiless_kept, function_read, function_refused}
+use Rattle.std.specs.Prelude.{Err}
+use Rattle.syn_lower.specs.Parsing.{IsSyntax}
+use Rattle.syn_item.specs.Items.{syntax_of_Item}
+use Rattle.syn_item.proofs.Followed.{refused_by}
 use Rattle.syn_item.proofs.item.parsing.functions.function_or_kept.Goals as goal
 
 pub returns-then-peek : goal.returns-then-peek
@@ -36,7 +40,8 @@ returns-in_err-item c =
     let read : parse_rule signature m ≡ Some (s, r) = search rules in
     let none : sees at_semicolon r ≡ false = search rules in
     let refused : (ts : Stream) → wrap (function_of a v s) (parse_rule body r) ≡ None → run_plan (function_turn a v) kept_item ts m ≡ None = λ ts e. function_refused kept_item ts a v s m r read none e in
-    search (rules, refused)
+    let fault : c.from_residual-in_err-item.result ≡ Err c.in_err-item.field-0.0 = search rules in
+    record { follows = λ ts. refused_by IsSyntax syntax_of_Item kept_item ts (run_plan (function_turn a v) kept_item ts m) c.from_residual-in_err-item.result c.function.new.input c.in_err-item.field-0.0 fault (λ h. refused ts (c.in_err-item.ensures.reads h)) }
 
 pub returns : goal.returns
 returns c =

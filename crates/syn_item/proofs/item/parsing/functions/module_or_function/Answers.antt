@@ -15,6 +15,8 @@ use Rattle.syn_item.specs.ItemStages.{place_of}
 use Rattle.syn_item.specs.ItemTurns.{module_next, module_or_function_turn, no_visibility}
 use Rattle.syn_item.specs.Planned.{Follows}
 use Rattle.syn_item.proofs.ForeignOrFunction.{function_follows, module_read, module_refused}
+use Rattle.std.specs.Prelude.{Err}
+use Rattle.syn_item.proofs.Followed.{refused_by}
 use Rattle.syn_item.proofs.item.parsing.functions.module_or_function.Goals as goal
 
 pub returns-in_err-item : goal.returns-in_err-item
@@ -26,7 +28,8 @@ returns-in_err-item c =
     let next : or (sees at_extern m) (sees (at_word w_unsafe) m) ≡ true = c.requires.next in
     let here : and (no_visibility p) (module_next m) ≡ true = search rules in
     let refused : (ts : Stream) → wrap (Both a) (parse_rule foreign_module_rest m) ≡ None → run_plan (module_or_function_turn p a v) kept_item ts m ≡ None = λ ts e. module_refused kept_item ts p a v m next here e in
-    search (rules, refused)
+    let fault : c.from_residual-in_err-item.result ≡ Err c.in_err-item.field-0.0 = search rules in
+    record { follows = λ ts. refused_by IsSyntax syntax_of_Item kept_item ts (run_plan (module_or_function_turn p a v) kept_item ts m) c.from_residual-in_err-item.result c.foreign_module_rest.new.input c.in_err-item.field-0.0 fault (λ h. refused ts (c.in_err-item.ensures.reads h)) }
 
 pub returns-then-branch : goal.returns-then-branch
 returns-then-branch c =

@@ -15,6 +15,8 @@ use Rattle.syn_item.specs.Items.{syntax_of_Item}
 use Rattle.syn_item.specs.ItemTurns.{default_impl_turn, default_next}
 use Rattle.syn_item.specs.Planned.{Follows}
 use Rattle.syn_item.proofs.ItemImpls.{default_follows, impl_refused}
+use Rattle.std.specs.Prelude.{Err}
+use Rattle.syn_item.proofs.Followed.{refused_by}
 use Rattle.syn_item.proofs.item.parsing.impls.default_impl.Goals as goal
 
 pub returns-in_err-read-4 : goal.returns-in_err-read-4
@@ -33,7 +35,8 @@ returns-in_err-read-4 c =
     let unsafe_read : parse_form (optional_item_word w_unsafe) q ≡ Some (u, n) = search rules in
     let refused : (ts : Stream) → take_token (word w_impl) n ≡ None → run_plan (default_impl_turn a) kept_item ts m ≡ None =
     λ ts e. impl_refused kept_item ts a m here d r default_read k q const_read u n unsafe_read e in
-    search (rules, refused)
+    let fault : c.from_residual-in_err-read-4.result ≡ Err c.in_err-read-4.field-0.0 = search rules in
+    record { follows = λ ts. refused_by IsSyntax syntax_of_Item kept_item ts (run_plan (default_impl_turn a) kept_item ts m) c.from_residual-in_err-read-4.result c.read-4.new.self c.in_err-read-4.field-0.0 fault (λ h. refused ts (c.in_err-read-4.ensures.reads h)) }
 
 pub returns : goal.returns
 returns c =
