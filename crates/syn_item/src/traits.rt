@@ -111,7 +111,7 @@ pub struct TraitItemMacro {
 }
 
 /// What stands behind a trait's name. Without bounds the colon isn't printed.
-#[tactic(auto, using(syn_tokens::proofs::Prints::prints))]
+#[tactic(auto, using(syn_tokens::proofs::Prints::prints, syn_lower::proofs::GenericPrints::print_bounds))]
 fn print_behind_name(item: &ItemTrait, out: &mut StreamBuilder) -> Result<(), AllocError>
     ensures prints { OnOk result (out.new ≡ added out.old (print (behind_name item.now))) }
     ensures begins { out.new.before ≡ out.old.before }

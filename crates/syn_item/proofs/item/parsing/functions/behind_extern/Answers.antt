@@ -30,8 +30,8 @@ returns-in_err-item c =
     let p = place_of c.args.begun.place in
     let here : sees (at_word w_crate) (past m) ≡ true = search rules in
     let refused : (ts : Stream) → wrap (item_of a v) (parse_form crate_form m) ≡ None → run_plan (extern_turn p a v) kept_item ts m ≡ None = λ ts e. crate_refused kept_item ts p a v m here e in
-    let fault : c.from_residual-in_err-item.result ≡ Err c.in_err-item.field-0.0 = search rules in
-    record { follows = λ ts. refused_by IsSyntax syntax_of_Item kept_item ts (run_plan (extern_turn p a v) kept_item ts m) c.from_residual-in_err-item.result c.extern_crate.new.input c.in_err-item.field-0.0 fault (λ h. refused ts (c.in_err-item.ensures.reads h)) }
+    let fault : c.from_residual.result ≡ Err c.in_err-item.field-0.0 = search rules in
+    record { follows = λ ts. refused_by IsSyntax syntax_of_Item kept_item ts (run_plan (extern_turn p a v) kept_item ts m) c.from_residual.result c.extern_crate.new.input c.in_err-item.field-0.0 fault (λ h. refused ts (c.in_err-item.ensures.reads h)) }
 
 pub returns-then-peek2 : goal.returns-then-peek2
 returns-then-peek2 c =
