@@ -16,23 +16,37 @@ pub(crate) fn add_function(
     mut function: ItemFn,
     alloc: Global,
 ) -> syn::Result<()> {
+    add_head(lines, &function, alloc)?;
+    let block = add_body(lines, &function, alloc)?;
+    replace_body(&mut function, block);
+    let text = text_of(&function, alloc)?;
+    writeln!(lines, "without value: {}", text.as_str())?;
+    Ok(())
+}
+
+/// Adds what stands before the body: the name, the attributes and the parameters.
+fn add_head(lines: &mut String, function: &ItemFn, alloc: Global) -> syn::Result<()> {
     writeln!(lines, "fn {}", function.sig.ident.text())?;
     writeln!(lines, "attributes: {}", function.attrs.len())?;
     for input in function.sig.inputs.iter() {
         writeln!(lines, "parameter: {}", text_of(input, alloc)?.as_str())?;
     }
+    Ok(())
+}
+
+/// Adds the statements of the body, and gives it without its value.
+fn add_body(lines: &mut String, function: &ItemFn, alloc: Global) -> syn::Result<DeferredBlock> {
     let mut block: Block = function.block.open()?;
     for stmt in &block.stmts {
         add_statement(lines, stmt, alloc)?;
     }
     take_value(&mut block);
-    function.block = DeferredBlock::new(&block, alloc)?;
-    writeln!(
-        lines,
-        "without value: {}",
-        text_of(&function, alloc)?.as_str()
-    )?;
-    Ok(())
+    DeferredBlock::new(&block, alloc)
+}
+
+/// Puts another body in the place of the function's.
+fn replace_body(function: &mut ItemFn, block: DeferredBlock) {
+    function.block = block;
 }
 
 /// Adds the line of a statement: what it is, where it stands, and its text.
