@@ -168,7 +168,7 @@ def branches(pick, depth, inside):
 
 
 def with_block(pick, depth, inside):
-    """What ends with a block."""
+    """What ends with a block; a label's has a `;`, since syn 1 takes `[..]` or `(..)` behind its block for an index or a call."""
     form = pick.randrange(7)
     if form < 3:
         return branches(pick, depth, inside)
@@ -177,7 +177,7 @@ def with_block(pick, depth, inside):
     label = pick.choice(['', '', "'outer: "])
     head = pick.choice(['', 'loop ', 'while %s ' % condition(pick), 'for %s in %s ' % (pattern(pick, 1), operation(pick, 2)),
                         'for %s in %s ' % (pattern(pick), operand(pick, 1))])
-    return label + head + block(pick, depth, inside)
+    return label + head + block(pick, depth, inside) + (';' if label else '')
 
 
 def statement(pick, depth=3, inside=''):
