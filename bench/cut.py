@@ -1,4 +1,5 @@
-"""Statements cut from Rust's library, for `print stmts`: the bodies of functions, as tokens, so without comments."""
+"""Statements and items cut from Rust's library, for `print stmts` and `print file`: the bodies of functions, and the items of files, as
+tokens, so without comments."""
 import glob
 import os
 import subprocess
@@ -14,39 +15,39 @@ def printed(command, source):
     return b''.join(run.stdout.split()) if run.returncode == 0 else None
 
 
-def outcome(prints, body):
-    """What becomes of a body: it is taken where all print it alike."""
+def outcome(prints, piece):
+    """What becomes of a piece: it is taken where all print it alike."""
     texts = []
     for command in prints:
-        texts.append(printed(command, body))
+        texts.append(printed(command, piece))
         if texts[-1] is None:
             return 'refused'
     return 'taken' if len(set(texts)) == 1 else 'printed otherwise'
 
 
-def bodies(size, prints, peer):
-    """Bodies of the library's functions that all of `prints` print alike, up to this size together; the peer finds them."""
+def pieces(word, size, prints, peer):
+    """The bodies or items of the library that all of `prints` print alike, up to this size together; the peer finds them."""
     taken, length, counts = [], 0, Counter()
     for path in sorted(glob.glob(library() + '/**/*.rs', recursive=True)):
         if length >= size:
             break
         with open(path, 'rb') as file:
-            found = subprocess.run([peer, 'bodies'], stdin=file, stdout=subprocess.PIPE, stderr=subprocess.DEVNULL).stdout
-        for body in filter(None, found.split(b'\n')):
-            word = outcome(prints, body)
-            counts[word] += 1
-            if word == 'taken':
-                taken.append(body)
-                length += len(body) + 1
-    say('bodies of functions of %s: %s; %d bytes are taken'
-        % (library(), ', '.join('%d %s' % (count, word) for word, count in counts.most_common()), length))
+            found = subprocess.run([peer, word], stdin=file, stdout=subprocess.PIPE, stderr=subprocess.DEVNULL).stdout
+        for piece in filter(None, found.split(b'\n')):
+            became = outcome(prints, piece)
+            counts[became] += 1
+            if became == 'taken':
+                taken.append(piece)
+                length += len(piece) + 1
+    say('%s of %s: %s; %d bytes are taken'
+        % (word, library(), ', '.join('%d %s' % (count, became) for became, count in counts.most_common()), length))
     if not taken:
-        sys.exit('bench/%s: no body is printed alike' % os.path.basename(sys.argv[0]))
+        sys.exit('bench/%s: no piece is printed alike' % os.path.basename(sys.argv[0]))
     return taken
 
 
 def source(taken, size):
-    """Bodies, one behind the other, of at least this size; from the first again where there are no more."""
+    """Pieces, one behind the other, of at least this size; from the first again where there are no more."""
     parts, length = [], 0
     while length < size:
         parts.append(taken[len(parts) % len(taken)])

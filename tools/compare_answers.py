@@ -12,8 +12,6 @@ same. The texts are
 - random ones, as many as --count says, by the generator of the other reading beside the repository: derivations of each kind that is
   built at the stage, each followed by itself with a few tokens changed.
 
-Texts of one form, of which it is known that they are refused at different bytes (KNOWN), are left out, and counted.
-
 What isn't beside the repository is left out, and named. The program is run by a trial build, in a copy of the sources, or is
 PROGRAM. The status is 0 where nothing differs, 1 where something does, and 2 where the program didn't end well.
 """
@@ -36,18 +34,15 @@ CONFORMANCE = TOP.parent / "shared/conformance/shared.jsonl"
 ORACLE = TOP.parent / "shared/oracle"
 CRATE = "tree_answers"
 # How much of the grammar is built, where no stage is named.
-STAGE = 4
+STAGE = 15
 # A trial takes at most a MiB of input.
 CHUNK = 1_000_000
 # How long a run may take, its build not counted: ./test has it wait for others.
-SECONDS = 3600
+SECONDS = 9000
 # No random text is longer.
 LONGEST = 4000
 # How many of the answers that differ are shown, of three lines each.
 SHOWN = 20
-# A macro in braces whose path is `crate`, before `.` or `?`: it begins an item, and no statement reads one yet. Trees refuse it where it
-# begins, and recognition at that mark, up to which the rule's form goes; neither contract says where.
-KNOWN = re.compile(r"(?<![:\s])\s*\bcrate\s*!\s*\{.*\}\s*[.?]", re.DOTALL)
 ESCAPES = {"n": "\n", "t": "\t", "s": " ", "\\": "\\", "e": ""}
 COUNT = re.compile(r"(\d+) ([a-z ]+)")
 
@@ -106,9 +101,7 @@ def gathered(options):
     texts += row_texts(ROWS)
     if there(options.oracle / "oracle.py", "random texts"):
         texts += random_texts(options.oracle, options.stage, options.count, options.seed)
-    kept = [text for text in texts if not KNOWN.search(text)]
-    print(f"left out: {len(texts) - len(kept)} texts that are known to be refused at different bytes")
-    return kept
+    return texts
 
 
 def there(path, name):

@@ -47,6 +47,9 @@ EXPRESSION = Place("stmts", "let _ = ", ";")
 STATEMENTS = Place("stmts", "", "")
 STATEMENT = Place("stmt", "", ";")
 PATTERN = Place("stmts", "let ", " = a;")
+ITEM = Place("item", "", "")
+FILE = Place("file", "", "")
+USE = Place("item", "use ", ";")
 
 
 @dataclass(frozen=True)
@@ -174,6 +177,41 @@ FORMS = [
     Form("patterns in parentheses", PATTERN, "(", "a", ")"),
     Form("patterns of tuple structs", PATTERN, "A(", "a", ")"),
     Form("types in patterns", PATTERN, "A::<[u8; { let ", "a", " = a; }]>"),
+    Form("struct literals", EXPRESSION, "S { a: ", "1", " }"),
+    Form("struct literals with attributes", EXPRESSION, "S { #[a] a: b, c: ", "1", " }"),
+    Form("what a struct literal takes the rest of", EXPRESSION, "S { ..", "a", " }"),
+    Form("struct literals in heads", STATEMENTS, "if (S { a: ", "1", " }) {}"),
+    Form("modules", ITEM, "mod m { ", "", " }"),
+    Form("modules with attributes", ITEM, "#[a] mod m { #![b] ", "", " }"),
+    Form("modules in a file", FILE, "use a; mod m { ", "", " } fn f();"),
+    Form("functions", ITEM, "fn f() { ", "", " }"),
+    Form("functions behind attributes", ITEM, "#[a] fn f() { #![b] ", "", " }"),
+    Form("functions in a file", FILE, "fn f() { ", "a", " }"),
+    Form("types of parameters", ITEM, "fn f(a: [u8; { ", "1", " }]) {}"),
+    Form("types of functions that are kept", ITEM, "fn f(a: [u8; { ", "1", " }]);"),
+    Form("nameless parameters", ITEM, "trait T { fn f(A<{ ", "1", " }>); }"),
+    Form("values of constants", ITEM, "const A: u8 = { ", "1", " };"),
+    Form("values of constants that are kept", ITEM, "const A: u8 = { ", "1", " } where A: B;"),
+    Form("constants with generics", ITEM, "const A<T>: u8 = { ", "1", " };"),
+    Form("values of statics", ITEM, "static A: u8 = { ", "1", " };"),
+    Form("types of statics that are kept", ITEM, "static A: [u8; { ", "1", " }];"),
+    Form("type aliases", ITEM, "type A = [u8; { ", "1", " }];"),
+    Form("bounds of types that are kept", ITEM, "type A: B<{ ", "1", " }>;"),
+    Form("traits", ITEM, "trait T { fn f() { ", "", " } }"),
+    Form("constants of traits", ITEM, "trait T { const A: u8 = { ", "1", " }; }"),
+    Form("impls", ITEM, "impl T { fn f() { ", "", " } }"),
+    Form("impls with generics", ITEM, "impl<> <A<{ ", "1", " }>>::B {}"),
+    Form("self types of impls", ITEM, "impl A for B<{ ", "1", " }> {}"),
+    Form("impls with late lifetimes", ITEM, "impl<T, 'a> T { fn f() { ", "", " } }"),
+    Form("constants of impls", ITEM, "impl T { const A: u8 = { ", "1", " }; }"),
+    Form("constants of impls that are kept", ITEM, "impl T { const A<T>: u8 = { ", "1", " }; }"),
+    Form("foreign modules", ITEM, 'extern "C" { static a: [u8; { ', "1", " }]; }"),
+    Form("use trees in braces", USE, "a::{", "b", "}"),
+    Form("use trees in braces alone", USE, "{", "b", "}"),
+    Form("use trees with `::` before them", Place("item", "use {::a, ", "};"), "{", "b", "}"),
+    Form("words of a use", USE, "a::", "b"),
+    Form("items in a row", FILE, "fn f() {} ", ""),
+    Form("definitions by `macro`", ITEM, "macro m { ", "", " }", raw=True),
 ]
 
 # Delimiters that nothing closes.

@@ -1,14 +1,14 @@
 #!/usr/bin/env python3
 """Compares the table of the written grammar with an oracle: an executable reading of what the grammar should be, in Python.
 
-    tools/fuzz_grammar.py --oracle FOLDER [--count N] [--seed N]
+    tools/fuzz_grammar.py --oracle FOLDER [--count N] [--seed N] [--kinds KIND,KIND..]
 
 The repository holds no oracle. Give the folder of one by --oracle, or in the environment variable ORACLE; without it nothing is compared,
 and the status is 2. It must have oracle.py (with KINDS, parse2, parse_prefix, flat, SynErr, the token classes, and a function for each
 part below) and gen.py (random sentences of its own).
 
-The oracle builds the grammar in stages. It is asked as at the one that STAGE names: whole derive inputs, patterns, expressions, and blocks
-and statements without items.
+The oracle builds the grammar in stages. It is asked as at the one that STAGE names, the last: items of all kinds, files, and expressions
+with struct literals.
 
 Random token trees, from sentences of the table and of the oracle's own, unchanged and changed, are read by the table
 (by a reader in Python of specs/Table.antt) and by the oracle. They must agree whether the whole is read, on its print, token by token
@@ -31,13 +31,21 @@ from grammarlib.tokens import DELIMITER_TEXTS, Group, Ident, Literal, Punct, rea
 HERE = Path(__file__).resolve().parent
 CRATE = HERE.parent / 'crates' / 'syn_grammar'
 # how far the oracle builds the grammar
-STAGE = 4
+STAGE = 15
 # the oracle's name of a kind, and the rule that reads it
 KINDS = {
     'derive': 'derive_input', 'visibility': 'visibility', 'fields-unnamed': 'fields_unnamed', 'unnamed-field': 'unnamed_field',
     'fields-named': 'fields_named', 'variant': 'variant', 'named-field': 'named_field', 'item-struct': 'structure',
     'item-enum': 'enumeration', 'item-union': 'union_item', 'type': 'type', 'expr': 'whole_expression', 'block': 'block',
-    'stmt': 'statement', 'stmts': 'statements',
+    'stmt': 'statement', 'stmts': 'statements', 'signature': 'signature', 'fn-arg': 'argument', 'receiver': 'receiver',
+    'item-fn': 'function', 'safe-or-unsafe': 'safe_or_unsafe', 'unsafe-only': 'unsafe_only', 'item': 'item', 'use-tree': 'use_tree',
+    'item-const': 'const_item', 'item-static': 'static_item', 'item-type': 'type_item', 'item-use': 'use_item',
+    'item-extern-crate': 'extern_crate', 'item-mod': 'module_item', 'item-macro': 'macro_item', 'item-trait-alias': 'trait_alias',
+    'trait-item': 'trait_item', 'impl-item': 'impl_item', 'foreign-item': 'foreign_item', 'item-trait': 'trait_definition',
+    'item-impl': 'impl_definition', 'item-foreign-mod': 'foreign_module', 'trait-item-const': 'trait_const',
+    'trait-item-fn': 'trait_function', 'trait-item-type': 'trait_type', 'trait-item-macro': 'trait_macro', 'impl-item-const': 'impl_const',
+    'impl-item-fn': 'impl_function', 'impl-item-type': 'impl_type', 'impl-item-macro': 'impl_macro', 'foreign-item-fn': 'foreign_function',
+    'foreign-item-static': 'foreign_static', 'foreign-item-type': 'foreign_type', 'foreign-item-macro': 'foreign_macro', 'file': 'file',
 }
 # the rules of parts, which the oracle reads by a function and not by a kind
 PARTS = [
@@ -47,12 +55,17 @@ PARTS = [
     'enumeration_rest', 'union_item_rest', 'inner_attributes', 'expression_path', 'expression_words', 'qualified_expression_path',
     'path_as_expression', 'macro_invocation', 'pattern', 'patterns', 'expressions', 'body', 'plain_body', 'primary', 'block_like',
     'if_expression', 'loop_expression', 'postfixes', 'unary', 'casts', 'cast', 'products', 'product', 'sum', 'shift', 'bit_and', 'bit_xor',
-    'bit_or', 'comparison', 'conjunction', 'disjunction', 'operand_rest', 'local',
+    'bit_or', 'comparison', 'conjunction', 'disjunction', 'operand_rest', 'local', 'literal_fields', 'literal_field', 'primary_head',
+    'unary_head', 'cast_head', 'product_head', 'sum_head', 'shift_head', 'bit_and_head', 'bit_xor_head', 'bit_or_head', 'comparison_head',
+    'conjunction_head', 'disjunction_head', 'whole_expression_head', 'inputs', 'abi', 'foreign_signature', 'use_trees', 'alias_bounds',
+    'type_bounds', 'supertraits', 'trait_items', 'impl_items', 'foreign_items', 'items',
 ]
 # parts that the oracle reads to the end of a group alone, or refuses where the table leaves what can't follow: of these no beginnings are
 # compared
 TO_THE_END = ['meta', 'types', 'named_fields', 'unnamed_fields', 'variants', 'patterns', 'expressions', 'casts', 'cast', 'products', 'product',
-              'sum', 'shift', 'bit_and', 'bit_xor', 'bit_or', 'comparison', 'conjunction', 'disjunction', 'operand_rest']
+              'sum', 'shift', 'bit_and', 'bit_xor', 'bit_or', 'comparison', 'conjunction', 'disjunction', 'operand_rest', 'literal_fields',
+              'cast_head', 'product_head', 'sum_head', 'shift_head', 'bit_and_head', 'bit_xor_head', 'bit_or_head', 'comparison_head',
+              'conjunction_head', 'disjunction_head', 'inputs', 'use_trees', 'trait_items', 'impl_items', 'foreign_items', 'items']
 SHOWN = 20
 
 
@@ -94,7 +107,60 @@ def expression_readers(o):
         'products': lambda c: o.p_levels(c, nothing, o.MUL, False), 'product': level(o.MUL), 'sum': level(o.ADD), 'shift': level(o.SHIFT),
         'bit_and': level(o.BAND), 'bit_xor': level(o.BXOR), 'bit_or': level(o.BOR), 'comparison': level(o.CMP), 'conjunction': level(o.ANDAND),
         'disjunction': level(o.OROR), 'local': lambda c: o.p_local(c, []),
-        'operand_rest': lambda c: o.p_levels(c, o.p_cast(c, o.p_postfix(c, nothing)), o.ASSIGN, False)}
+        'operand_rest': lambda c: o.p_levels(c, o.p_cast(c, o.p_postfix(c, nothing)), o.ASSIGN, False),
+        'literal_fields': lambda c: literal_fields_of(o, c), 'literal_field': o.p_field_value, **head_readers(o), **item_readers(o)}
+
+
+def head_readers(o):
+    """The same of expressions in the head of an `if`, a `while` or a `for`."""
+    unary = lambda c: o.p_unary(c, True)
+    cast = lambda c: o.p_cast(c, unary(c))
+    level = lambda lowest: lambda c: o.p_levels(c, cast(c), lowest, True)
+    return {
+        'primary_head': lambda c: o.p_primary(c, True), 'unary_head': unary, 'cast_head': cast, 'product_head': level(o.MUL),
+        'sum_head': level(o.ADD), 'shift_head': level(o.SHIFT), 'bit_and_head': level(o.BAND), 'bit_xor_head': level(o.BXOR),
+        'bit_or_head': level(o.BOR), 'comparison_head': level(o.CMP), 'conjunction_head': level(o.ANDAND), 'disjunction_head': level(o.OROR),
+        'whole_expression_head': lambda c: o.p_expr(c, True)}
+
+
+def item_readers(o):
+    """The same of parts of items."""
+    bounds = lambda end: lambda c: o.p_bounds(c, end)
+    members = lambda read: lambda c: all_of(c, read)
+    return {
+        'inputs': lambda c: inputs_of(o, c), 'abi': lambda c: abi_of(o, c), 'foreign_signature': lambda c: o.p_sig(c, True),
+        'use_trees': lambda c: o.commas(c, o.p_use_tree), 'alias_bounds': bounds(o.end_alias), 'type_bounds': bounds(o.end_type),
+        'supertraits': bounds(o.end_trait), 'trait_items': members(o.p_trait_item), 'impl_items': members(o.p_impl_item),
+        'foreign_items': members(o.p_foreign_item), 'items': members(o.p_item)}
+
+
+def all_of(c, read):
+    """What stands next, one after another, to the end."""
+    found = []
+    while not c.end:
+        found.append(read(c))
+    return found
+
+
+def abi_of(o, c):
+    if not c.word('extern'):
+        raise c.err()
+    return o.p_abi(c)
+
+
+def inputs_of(o, c):
+    """The parameters of a function and its variadic one, as a signature prints them."""
+    inputs, variadic = o.p_args(c)
+    return [inputs, variadic]
+
+
+def literal_fields_of(o, c):
+    """What the braces of a struct literal hold, as it is printed."""
+    braces = [o.Group('{', c.t[c.i:])]
+    o.KEEP.append(braces)
+    literal = o.p_struct_lit(o.Cur(braces, 0), None, None)
+    c.i = c.n
+    return [literal.fields, literal.dot2, literal.rest]
 
 
 def words_of(o, c, style='type'):
@@ -154,6 +220,9 @@ class Oracle:
         import gen
         import oracle
         oracle.STAGE = STAGE
+        # the table looks into invisible groups in three places alone
+        oracle.has_none = lambda trees: False
+        oracle.plain_path = lambda ty: ty if ty.k == 'TypePath' and ty.qself is None else None
         self.o, self.own = oracle, gen
         self.signs = {d: '' if d == 'None' else texts[0] for d, texts in DELIMITER_TEXTS.items()}
         self.delimiters = {sign: d for d, sign in self.signs.items()}
@@ -264,7 +333,7 @@ def compare(options):
     source = Source(options.crate)
     lookaheads = Lookaheads(source)
     oracle = Oracle(options.oracle)
-    kinds = pairs()
+    kinds = [pair for pair in pairs() if not options.kinds or pair[0] in options.kinds.split(',')]
     found = Comparison(Table(Reader(lookaheads, source.table)), oracle)
     for example in parse(HERE / 'examples.txt', source.rules):
         for kind in [k for k, rule in kinds if rule == example.rule]:
@@ -296,6 +365,7 @@ def main():
     parser.add_argument('--oracle', type=Path, default=os.environ.get('ORACLE') and Path(os.environ['ORACLE']))
     parser.add_argument('--count', type=int, default=20000)
     parser.add_argument('--seed', type=int, default=1)
+    parser.add_argument('--kinds', default='', help='of these kinds and parts alone')
     parser.add_argument('--crate', type=Path, default=CRATE)
     options = parser.parse_args()
     if not options.oracle:

@@ -3,6 +3,7 @@
 
     tools/grammar.py            reads crates/syn_grammar/specs/Table.antt, checks it, and writes the other files
     tools/grammar.py --check    writes nothing; fails where a written file isn't what it would write, or where the examples lack something
+    tools/grammar.py --lower    writes tools/untold_borders.txt, of the rules of which fewer borders lack an example than it says
     tools/grammar.py --crate F  the same of the crate in the folder F
 
 Fails, with a complaint for each fault, where the table breaks a test that the laws need (docs/GRAMMAR.md says what each means)."""
@@ -13,7 +14,7 @@ from pathlib import Path
 from grammarlib.antt import Fault
 from grammarlib.antt_text import Writer
 from grammarlib.apart import Apart
-from grammarlib.borders import Borders, read_equivalent
+from grammarlib.borders import Borders, read_equivalent, read_untold, written_untold
 from grammarlib.complaints import EXPLAINED, Tests
 from grammarlib.examples import Theorems, parse
 from grammarlib.lookaheads import Lookaheads
@@ -24,6 +25,7 @@ from grammarlib.write import Files
 
 HERE = Path(__file__).resolve().parent
 SHOWN = 20  # complaints that are printed
+UNTOLD = HERE / 'untold_borders.txt'
 
 
 def checked(source):
@@ -36,12 +38,12 @@ def checked(source):
 
 
 def worked_examples(source):
-    """The files of the worked examples, and what they lack: of each rule one that is read, one that is refused, and its borders."""
+    """The files of the worked examples, what they lack (of each rule one that is read, one that is refused, and its borders), and the borders."""
     lookaheads, examples = Lookaheads(source), parse(HERE / 'examples.txt', source.rules)
     files, bare = Theorems(source, lookaheads).files(examples)
     lacking = [f'`{rule}`: an example that is read, and one that is refused' for rule in bare]
-    equivalent = read_equivalent(HERE / 'equivalent_mutants.txt')
-    return files, lacking + Borders(lookaheads, source.table, examples, equivalent).lacking()
+    borders = Borders(lookaheads, source.table, examples, read_equivalent(HERE / 'equivalent_mutants.txt'), read_untold(UNTOLD))
+    return files, lacking + borders.lacking(), borders
 
 
 def tell_lacking(lacking):
@@ -61,15 +63,15 @@ def complain(complaints):
 
 
 def read_table(crate):
-    """The table, the files that it gives, and what its examples lack. Ends the script where the table is refused."""
+    """The table, the files that it gives, what its examples lack, and its borders. Ends the script where the table is refused."""
     try:
         source = Source(crate)
         files, complaints = checked(source)
         if complaints:
             complain(complaints)
             sys.exit(f'grammar: {len(complaints)} complaints; nothing was written')
-        examples, lacking = worked_examples(source)
-        return source, files | examples, lacking
+        examples, lacking, borders = worked_examples(source)
+        return source, files | examples, lacking, borders
     except Fault as fault:
         sys.exit(f'grammar: {fault}')
 
@@ -84,12 +86,23 @@ def tell_unexplained(source):
             print(f'grammar: docs/GRAMMAR.md doesn\'t tell of the rule `{rule}`', file=sys.stderr)
 
 
+def lower(borders):
+    """Writes the counts of borders without an example that became fewer."""
+    counts = {rule: min(n, borders.counts.get(rule, 0)) for rule, n in borders.untold.items()}
+    UNTOLD.write_text(written_untold(counts))
+    print(f'grammar: {sum(counts.values())} borders without an example, {sum(borders.untold.values())} before')
+
+
 def main():
     parser = argparse.ArgumentParser(description=__doc__, formatter_class=argparse.RawDescriptionHelpFormatter)
     parser.add_argument('--check', action='store_true', help='write nothing, and fail where a file differs or the examples lack something')
     parser.add_argument('--crate', type=Path, default=HERE.parent / 'crates' / 'syn_grammar')
+    parser.add_argument('--lower', action='store_true', help='write the counts of borders without an example that became fewer')
     options = parser.parse_args()
-    source, files, lacking = read_table(options.crate)
+    source, files, lacking, borders = read_table(options.crate)
+    if options.lower:
+        lower(borders)
+        return
     tell_unexplained(source)
     tell_lacking(lacking)
     stale = [p for p, text in files.items() if not (options.crate / p).exists() or (options.crate / p).read_text() != text]
@@ -99,7 +112,7 @@ def main():
             sys.exit('grammar: run tools/grammar.py; these files are not what it writes: ' + ', '.join(stale + others))
         if lacking:
             sys.exit(f'grammar: {len(lacking)} things are lacking in the examples')
-        print(f'grammar: {len(source.rules)} rules, all files as written')
+        print(f'grammar: {len(source.rules)} rules, all files as written; {sum(borders.counts.values())} borders without an example')
         return
     for path in others:
         (options.crate / path).unlink()

@@ -38,8 +38,10 @@ from kindslib.program import canonical, comparisons_of_answers, dispatch, kind_e
 from kindslib.source import LOWEST, Fault, Source
 from kindslib.views import endings, plain_views
 
-# the program's word, the type, the rule that reads it
+# the program's word, the type (None where there is none yet), the rule that reads it
 KINDS = [
+    ("file", None, "file"),
+    ("item", None, "item"),
     ("derive", "DeriveInput", "derive_input"),
     ("visibility", "Visibility", "visibility"),
     ("variant", "Variant", "variant"),
@@ -47,13 +49,35 @@ KINDS = [
     ("unnamed-field", "UnnamedField", "unnamed_field"),
     ("fields-named", "FieldsNamed", "fields_named"),
     ("fields-unnamed", "FieldsUnnamed", "fields_unnamed"),
+    ("signature", None, "signature"),
+    ("fn-arg", None, "argument"),
+    ("receiver", None, "receiver"),
+    ("use-tree", None, "use_tree"),
+    ("trait-item", None, "trait_item"),
+    ("impl-item", None, "impl_item"),
+    ("foreign-item", None, "foreign_item"),
+    ("item-const", None, "const_item"),
     ("item-enum", "ItemEnum", "enumeration"),
+    ("item-extern-crate", None, "extern_crate"),
+    ("item-fn", None, "function"),
+    ("item-foreign-mod", None, "foreign_module"),
+    ("item-impl", None, "impl_definition"),
+    ("item-macro", None, "macro_item"),
+    ("item-mod", None, "module_item"),
+    ("item-static", None, "static_item"),
     ("item-struct", "ItemStruct", "structure"),
+    ("item-trait", None, "trait_definition"),
+    ("item-trait-alias", None, "trait_alias"),
+    ("item-type", None, "type_item"),
     ("item-union", "ItemUnion", "union_item"),
+    ("item-use", None, "use_item"),
     ("block", "Block", "block"),
     ("stmt", "Stmt", "statement"),
     ("stmts", "Stmts", "statements"),
 ]
+
+# those of which there are trees
+TREES = [kind for kind in KINDS if kind[1]]
 
 # lists with one value at least, which end with one
 JOINED = {("Path", "segments")}
@@ -108,11 +132,11 @@ def outputs():
     files.update(comma_lists(source, table))
     files[page] = rows(source, table, page, patterns, operators, expressions)
     trees = Together(patterns, operators, expressions, source)
-    files[CRATES / "syn/src/kinds.rt"] = canonical(trees, KINDS)
+    files[CRATES / "syn/src/kinds.rt"] = canonical(trees, TREES)
     files[CRATES / "syn_canon/src/kind.rt"] = kind_enum(KINDS)
     files[CRATES / "syn_canon/src/by_kind.rt"] = dispatch(KINDS)
     files[CRATES / "syn_canon/specs/Kinds.antt"] = kind_specs(KINDS)
-    files[CRATES / "tree_answers/src/by_kind.rt"] = comparisons_of_answers(trees, KINDS)
+    files[CRATES / "tree_answers/src/by_kind.rt"] = comparisons_of_answers(trees, TREES)
     return files
 
 

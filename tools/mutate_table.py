@@ -7,8 +7,9 @@
     tools/mutate_table.py --find              of each change that nobody finds out, looks for a text that tells it
 
 A change is found out by a worked example of its rule (tools/examples.txt) that the changed table reads otherwise, or by a law that refuses
-the changed table. Changes that alter nothing of what is read and printed are named in tools/equivalent_mutants.txt, with the reason.
-Ends with 1 where a change gets through. Writes no file."""
+the changed table. Changes that alter nothing of what is read and printed are named in tools/equivalent_mutants.txt, with the reason. Of
+some rules not each border has an example yet; how many lack one stands in tools/untold_borders.txt (tools/grammar.py counts them).
+Ends with 1 where a change of another rule gets through. Writes no file."""
 import argparse
 import random
 import sys
@@ -17,7 +18,7 @@ from collections import Counter
 from pathlib import Path
 
 from grammarlib.antt import Fault
-from grammarlib.borders import Borders, read_equivalent
+from grammarlib.borders import Borders, read_equivalent, read_untold
 from grammarlib.examples import parse
 from grammarlib.lookaheads import Lookaheads
 from grammarlib.reader import Reader, Refused
@@ -30,7 +31,8 @@ TRIES = 4000  # texts that --find tries of each change
 
 
 def borders_of(source, examples):
-    return Borders(Lookaheads(source), source.table, parse(examples, source.rules), read_equivalent(HERE / 'equivalent_mutants.txt'))
+    equivalent, untold = read_equivalent(HERE / 'equivalent_mutants.txt'), read_untold(HERE / 'untold_borders.txt')
+    return Borders(Lookaheads(source), source.table, parse(examples, source.rules), equivalent, untold)
 
 
 def fate(borders, mutant):
@@ -39,6 +41,8 @@ def fate(borders, mutant):
         return 'example', told
     if reason := borders.equivalent.get((mutant.rule, mutant.change)):
         return 'alters nothing', reason
+    if borders.untold.get(mutant.rule):
+        return 'without an example', ''
     if code := borders.law(mutant):
         return 'law', code
     return 'GETS THROUGH', ''
@@ -108,7 +112,7 @@ def main():
     for mutant in chosen(borders, options):
         kind, name = fate(borders, mutant)
         fates[kind] += 1
-        through = kind == 'GETS THROUGH'
+        through = kind == 'GETS THROUGH' or (kind == 'without an example' and options.find)
         if through and options.find:
             name = telling_text(borders, mutant, dice) or f'no text of {TRIES} tells it'
         if through or options.all:

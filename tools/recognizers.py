@@ -1,17 +1,19 @@
 #!/usr/bin/env python3
 """Writes the table of the grammar as data of crates/syn_recognize: src/rules.rt, src/rules/*.rt, src/shape.rt, src/words.rt,
-specs/Names.antt, specs/Parts.antt, proofs/Known.antt and proofs/Readable.antt.
+src/plan.rt, specs/Names.antt, specs/Parts.antt, specs/Stages.antt, proofs/Known.antt and proofs/PlannedCourses.antt.
 
 Run it at the top of the repository; what it writes is committed. With --check it writes nothing, and fails where a file
 isn't as it would write it. It formats what it writes by `rt fmt`."""
 
 import argparse
+import re
 import subprocess
 import sys
 import tempfile
 import textwrap
 from pathlib import Path
 
+from grammarlib import plans
 from grammarlib.source import Source
 from tokens import DECLARATIONS, EXPRESSIONS, LONG_MARKS, MARKS, OTHERS
 
@@ -19,12 +21,9 @@ CRATE = Path('crates/syn_recognize')
 GRAMMAR = Path('crates/syn_grammar')
 WRITTEN = 'Written by tools/recognizers.py; edits are lost.'
 
-# The rules that are read by name; those that they lead to are written too.
-ASKED = ['constant', 'whole_expression', 'statements', 'statement', 'block', 'derive_input', 'visibility', 'variant', 'named_field', 'unnamed_field',
-         'fields_named', 'fields_unnamed', 'structure', 'enumeration', 'union_item']
-
-# The rules of which trees can be deferred, and those that these lead to: nothing vanishes in them.
-DEFERRED = ['constant', 'whole_expression', 'statements', 'statement']
+# The rules that are read only by the plan of a union that they are of, or never.
+BY_PLANS = ['kept_item', 'kept_item_rest', 'kept_in_block', 'item_rest', 'kept_trait_item', 'kept_impl_item', 'kept_foreign_item', 'marked_member',
+            'rooted_use', 'crate_macro_item', 'const_trait', 'const_impl', 'odd_const_impl']
 
 # The files of rules: the first rule of each, and what it holds.
 TOPICS = [
@@ -39,45 +38,121 @@ TOPICS = [
     ('blocks', 'block', 'Blocks, and expressions with nothing before or behind them.'),
     ('postfixes', 'postfixes', 'What stands before an expression, and behind it.'),
     ('operators', 'casts', 'Operators, and whole expressions.'),
+    ('heads', 'primary_head', 'Expressions in the heads of `if`, `while` and `for`.'),
     ('statements', 'operand_rest', 'Statements.'),
+    ('signatures', 'no_attributes', 'Signatures and their parameters.'),
+    ('items', 'function', 'Items.'),
+    ('kept_items', 'bodiless_function', 'Items that are kept as tokens.'),
+    ('traits', 'supertraits', 'Traits.'),
+    ('impls', 'self_type', 'Impls.'),
+    ('foreign', 'foreign_module', 'Foreign modules.'),
+    ('trait_members', 'bare_trait_function', 'Members of traits.'),
+    ('impl_members', 'impl_const', 'Members of impls.'),
+    ('foreign_members', 'foreign_signature', 'Members of foreign modules.'),
+    ('files', 'kept_item_rest', 'Any items, and files.'),
 ]
 
-# How many references to forms and looks a static holds at most; what goes beyond is a part, with a static of its own. Rattle's own compiler
-# refuses a type of 585 parts and takes one of 540 ("too much code for the backend's tables"), and a static is one with the parts of all forms
-# and looks in it: some 40 a form.
-LARGEST = 11
+# How large a static is at most; what goes beyond is a part, with a static of its own. Rattle's own compiler refuses a type of 585 parts and
+# takes one of 540 ("too much code for the backend's tables"), and a static is one with the parts of all forms, plans and looks in it.
+LARGEST = 520
+PARTS = {'Form': 47, 'Plan': 25, 'Look': 8}
 
 # Rules whose refusals have words of their own: where a form is never read, and where a mark is lacking.
-REFUSING = {'after_expression': 'MissingEnd', 'unnamed_field': 'DefaultValue', 'primary': 'BreakValue'}
+REFUSING = {'after_expression': 'MissingEnd', 'unnamed_field': 'DefaultValue', 'primary': 'BreakValue', 'primary_head': 'BreakValue'}
 LACKING = {'statement': (';', 'MissingSemi'), 'statement_end': (';', 'MissingSemi')}
+
+# What a statement alone is, where its end is said to be lacking too.
+UNENDED = ('&', ('rule', ('whole_expression',)), ('mark', False, ';'))
 
 # Tokens and marks of rules at which a form that is left out may stand: src/left_out.rt says which.
 PLACES = {
-    ('expression_words', 'NameOrPathStart'): 'Expression', ('type_words', 'NameOrPathStart'): 'Type', ('pattern', 'Name'): 'Pattern',
+    ('expression_words', 'NameOrPathStart'): 'Expression', ('type_words', 'NameOrPathStart'): 'Type', ('more_type_words', 'NameOrPathStart'): 'Type', ('pattern', 'Name'): 'Pattern',
     ('member', 'Name'): 'Member', ('loop_expression', 'Word(Word::In)'): 'Behind', ('local', 'Semi'): 'Behind',
 }
 
 # Lists without which a part isn't printed, by their rules; what stands before each is told by src/fading.rt.
-FADING = {'lifetimes': 'Lifetimes', 'parameter_bounds': 'Bounds', 'predicates': 'Predicates'}
+FADING = {'lifetimes': 'Lifetimes', 'parameter_bounds': 'Bounds', 'predicates': 'Predicates', 'supertraits': 'Supertraits', 'type_bounds': 'TypeBounds'}
 
 # Lists in `< >`, by their first members.
 ORDERED = {('lifetime',): 'Arguments', ('rule', ('lifetime_parameter',)): 'Parameters'}
 
-# Unions that begin alike: src/unions.rt has a form that reads each without trying one rule after another.
-UNIONS = {'derive_input': 'DeriveInput'}
+# Rules of parameters whose name may be left out; what stands behind the name is told by src/supplied.rt.
+NAMELESS = {'argument': 'Argument', 'input_rest': 'Input'}
+
+# Rules with a union, which is read by a plan (grammarlib/plans.py): by the specifications' plan, or by one of these.
+PLANS = {'item': 'item_plan', 'trait_item': 'trait_item_plan', 'impl_item': 'impl_item_plan', 'foreign_item': 'foreign_item_plan', 'crate_macro': 'crate_macro_plan',
+         'derive_input': 'derive_input_plan', 'statements': 'statements_list', 'statement': 'statement_alone', 'use_item_rest': 'use_alone', 'type_item_rest': 'type_alone',
+         'impl_definition_rest': 'impl_alone'}
+MORE_PLANS = '''
+impl_generics a d c u k =
+    lists (impl_types a d c u k absent)
+impl_types a d c u k g =
+    turns at_exclamation (reads (punctuation exclamation) λ x.
+    turns at_brace (reads (rule impl_body) λ b. ends x)
+    (turns at_module_path (reads (rule type_path) λ t. self (reads (rule impl_body) λ b. ends x))
+    (keeps (reads (rule type) λ t. reads (rule for_self_type) λ f. reads (rule impl_body) λ b. done))))
+    (turns at_module_path (reads (rule type_path) λ t. turns at_for (self (reads (rule impl_body) λ b. ends x)) (reads (rule impl_body) λ b. ends x))
+    (reads (rule type) λ t.
+    turns at_for kept_impl
+    (reads (rule impl_body) λ b. ends x)))
+plain_types d c u k g =
+    turns at_exclamation (reads (punctuation exclamation) λ x.
+    turns at_brace (reads (rule impl_body) λ b. ends x)
+    (reads (rule type_path) λ t. self (reads (rule impl_body) λ b. ends x)))
+    (turns at_module_path (reads (rule type_path) λ t. turns at_for (self (reads (rule impl_body) λ b. ends x)) (reads (rule impl_body) λ b. ends x))
+    (reads (rule type) λ t. reads (rule impl_body) λ b. ends x))
+impl_alone =
+    reads (optional_item_word w_default) λ d. reads (optional_item_word w_const) λ c. reads (optional_item_word w_unsafe) λ u. reads (plainly (word w_impl)) λ k. lists (plain_types d c u k absent)
+type_plan a v =
+    reads (plainly (word w_type)) λ k. reads (plainly name) λ n. reads (rule generics) λ g.
+    turns at_colon (keeps (reads (punctuation colon) λ c. reads (rule type_bounds) λ b. reads type_and_clause λ e. kept_end))
+    (turns at_where (apart (rule where_clause) λ w. turns at_equals (equal_and_one a) (keeps kept_end))
+    (turns at_equals (equal_and_more a)
+    (keeps kept_end)))
+type_alone =
+    reads (rule visibility) λ v. reads (plainly (word w_type)) λ k. reads (plainly name) λ n. reads (rule generics) λ g.
+    turns at_where (apart (rule where_clause) λ w. equal_and_one v)
+    (equal_and_more v)
+equal_and_one v =
+    apart (punctuation equals) λ q. apart (rule type) λ t. turns at_where (apart (rule where_clause) λ x. fails) (reads (punctuation semicolon) λ z. ends z)
+equal_and_more v =
+    apart (punctuation equals) λ q. apart (rule type) λ t. apart (rule where_clause) λ x. reads (punctuation semicolon) λ z. ends z
+statements_list =
+    reads (rule attributes) λ a. turns at_item (then (item_behind a) (rule statements)) (reads (rule statement_rest) λ s. ends s)
+statement_alone =
+    reads (rule attributes) λ a. turns at_item (item_behind a) (reads other_statement λ s. ends s)
+'''
 
 # What is a part of its rule, however large it is, since others speak of it.
-CUT = [('structure_rest', ('second',)), ('enumeration_rest', ('second',)), ('union_item_rest', ('second',)), ('generics', ('first', 'second')), ('member', ('second',))]
+CUT = [('generics', ('first', 'second')), ('member', ('second',)), ('type_words', ('second',)), ('more_type_words', ('second',)), ('expression_words', ('second',))]
 
 # Looks that no part of a look is data of: a function tells each.
 TOLD = ['at_any_literal', 'at_lifetime', 'at_inner_attribute', 'at_arguments', 'at_association', 'at_turbofish', 'at_path_word',
         'at_pattern_path', 'at_macro', 'at_brace_macro', 'at_lone_crate', 'at_crate_macro', 'at_bang', 'at_postfix_mark',
-        'at_block_like', 'at_whole_expression', 'at_unfinished', 'at_restriction', 'at_nameless_fields', 'at_parameter_end', 'at_predicate_end']
+        'at_block_like', 'at_whole_expression', 'at_unfinished', 'at_restriction', 'at_nameless_fields', 'at_parameter_end', 'at_predicate_end', 'at_item', 'at_receiver', 'at_no_macro_item']
+
+# Other looks that a function tells.
+ALSO_TOLD = {
+    ('and_also', ('at_mark', '<'), ('ahead', ('Before_parameter',))): 'Generics',
+    ('at_literal', ('Str',)): 'StrLiteral', ('ahead', ('Before_colons',)): 'BeforeColons', ('ahead', ('Before_macro',)): 'BeforeMacro',
+    ('and_also', ('at_word', 'union'), ('ahead', ('Begins_item',))): 'MarkedUnion', ('and_also', ('at_word', 'auto'), ('ahead', ('Begins_item',))): 'MarkedAuto',
+    ('and_also', ('at_group', ('Paren',)), ('ahead', ('Begins_in',))): 'InRestriction', ('and_also', ('at_group', ('Paren',)), ('ahead', ('Lone_word',))): 'LoneWord',
+}
 
 TOKENS = {
     ('name',): 'Name', ('index',): 'Index', ('name_or', ('self', 'Self', 'super', 'crate')): 'PathWord',
-    ('name_or', ('Self',)): 'NameOrSelfType', ('name_or', ('self', 'super', 'crate')): 'NameOrPathStart',
+    ('name_or', ('self', 'super', 'crate', 'try')): 'UseWord', ('name_or', ('_',)): 'NameOrUnderscore', ('name_or', ('self',)): 'NameOrSelf', ('name_or', ('try',)): 'NameOrTry',
+    ('literal_of', (('Str',),)): 'Str', ('name_or', ('Self',)): 'NameOrSelfType', ('name_or', ('self', 'super', 'crate')): 'NameOrPathStart',
 }
+
+
+def size(text):
+    """The parts of the type of a static of this text."""
+    return sum(parts * text.count(f'&{name}::') for name, parts in PARTS.items()) + PARTS[text.split('::')[0]]
+
+
+def snake(name):
+    return re.sub(r'(?<=[a-z])(\d+)$', r'_\1', name[0].lower() + name[1:])
 
 
 def camel(name):
@@ -102,15 +177,11 @@ class Writer:
         self.words, self.marks, self.shapes, self.variants = set(), set(), set(), set()
         self.uses, self.parts = set(), []
         self.rule = None
+        self.plans = plans.Plans(self.source, MORE_PLANS)
+        self.stages, self.stage_names = [], {}
 
-    def rules(self, asked=ASKED):
-        found, asked = set(), list(asked)
-        while asked:
-            rule = asked.pop()
-            if rule not in found:
-                found.add(rule)
-                asked += rules_in(self.source.table[rule])
-        return [k for k in self.source.rules if k in found]
+    def rules(self):
+        return [k for k in self.source.rules if k not in BY_PLANS]
 
     def named(self, kind, *parts):
         self.uses.add(kind)
@@ -130,6 +201,8 @@ class Writer:
     def look(self, it):
         if it in self.told:
             return self.named('Look', camel(self.told[it][3:]))
+        if it in ALSO_TOLD:
+            return self.named('Look', ALSO_TOLD[it])
         name, *rest = it
         if name == 'at_literal' and rest[0] == ('Int',):
             return self.named('Look', 'Integer')
@@ -145,7 +218,7 @@ class Writer:
     def token(self, kind):
         if kind[0] == 'word':
             return self.named('Token', f'Word({self.word(kind[1])})')
-        if kind[0] == 'literal_of':
+        if kind[0] == 'literal_of' and kind not in TOKENS:
             assert len(kind[1]) == 7, kind
             return self.named('Token', 'Literal')
         return self.named('Token', TOKENS[kind])
@@ -170,11 +243,11 @@ class Writer:
         return self.made('ByBraces(', [(one[2], (*way, 'first', 'second')), (other[2], (*way, 'second', 'second'))])
 
     def made(self, head, parts):
-        """A form, by its head and the forms that it refers to, each with its way from the rule's. The heaviest is cut off while there are
-        too many references."""
+        """A form, by its head and the forms that it refers to, each with its way from the rule's. The heaviest is cut off while it is too
+        large."""
         texts = [self.form(form, way) for form, way in parts]
-        while head.count('&') + sum(1 + text.count('&') for text in texts) > LARGEST:
-            heaviest = max(range(len(texts)), key=lambda i: texts[i].count('&'))
+        while size('Form::' + head) + sum(size(text) for text in texts) > (LARGEST if self.rule != 'planned' else LARGEST - 3 * PARTS['Plan']):
+            heaviest = max(range(len(texts)), key=lambda i: size(texts[i]))
             if '&' not in texts[heaviest]:
                 raise ValueError(f'a look of {self.rule} refers to too many others: a function has to tell it')
             texts[heaviest] = self.cut(texts[heaviest], parts[heaviest][1])
@@ -192,6 +265,8 @@ class Writer:
         return self.form(self.source.table[rule], ())
 
     def form(self, it, way):
+        if way == () and self.rule in PLANS and self.rule != 'statements' or it[0] == 'either' and self.rule == 'statements':
+            return self.named('Form', f'Planned({self.named("Planned", camel(self.rule))})')
         text = self.whole(it, way)
         return self.cut(text, way) if (self.rule, way) in CUT else text
 
@@ -213,7 +288,8 @@ class Writer:
         if name == 'one_of' and not rest[0]:
             return self.named('Form', f'Never({self.named("Fault", REFUSING.get(self.rule, "Unexpected"))})')
         if name == 'one_of':
-            return self.named('Form', f'Union({self.named("Union", UNIONS[self.rule])})')
+            (rule,), = rest[0]
+            return self.named('Form', f'Only({self.named("Rule", camel(rule))})')
         if name == 'vanishing' and not rest[0]:
             if rest[2][0] == 'ordered':
                 self.form(rest[2][2], (*way, 'first', 'second'))
@@ -225,6 +301,11 @@ class Writer:
         if name == 'ordered':
             return self.named('Form', f'Ordered({self.named("List", ORDERED[rest[0]])})')
         first, second = (*way, 'first'), (*way, 'second')
+        if it == UNENDED and self.rule == 'planned':
+            return self.named('Form', f'Then(&{self.form(rest[0], first)}, &{self.named("Form", "MarkElse")}({self.mark(";")}, {self.named("Fault", "MissingSemi")}))')
+        if name == 'supplied':
+            assert rest[:2] == [('Before_less',), ('rule', ('pattern',))], rest
+            return self.named('Form', f'Supplied({self.named("Nameless", NAMELESS[self.rule])})')
         parts = {
             'token': lambda: self.placed('Token', self.token(rest[1])),
             'mark': lambda: self.placed('Mark', self.mark(rest[1])),
@@ -248,7 +329,8 @@ class Writer:
         for (name, _, sentence), start, end in zip(TOPICS, starts, starts[1:]):
             yield name, sentence, [k for k in self.source.rules[start:end] if k in rules]
 
-    MODULES = {'Fault': 'crate::fault', 'Fading': 'crate::fading', 'List': 'crate::list', 'Place': 'crate::left_out', 'Union': 'crate::unions', 'Delimiter': 'syn_tokens::delimiter', 'Form': 'crate::form', 'Look': 'crate::look', 'Rule': 'crate::rules', 'Part': 'crate::rules', 'Shape': 'crate::shape',
+    MODULES = {'Fault': 'crate::fault', 'Fading': 'crate::fading', 'List': 'crate::list', 'Nameless': 'crate::supplied', 'Place': 'crate::left_out', 'Planned': 'crate::plan', 'Stage': 'crate::plan', 'Delimiter': 'syn_tokens::delimiter',
+               'Form': 'crate::form', 'Look': 'crate::look', 'Rule': 'crate::rules', 'Part': 'crate::rules', 'Shape': 'crate::shape',
                'Variant': 'crate::shape', 'Token': 'crate::token', 'Word': 'crate::words', 'Mark': 'crate::words'}
 
     def imports(self):
@@ -281,43 +363,257 @@ class Writer:
         topics = list(self.topics())
         for name, sentence, rules in topics:
             out[f'src/rules/{name}.rt'] = self.topic(sentence, rules)
+        out['src/plan.rt'] = self.plan_file()
         out['src/rules.rt'] = self.rules_file(topics)
         out['src/shape.rt'] = self.shape_file()
         out['src/words.rt'] = self.words_file()
+        out['specs/Stages.antt'] = self.stages_file()
+        out['proofs/PlannedCourses.antt'] = self.planned_file()
         out['specs/Names.antt'] = self.names_file(topics)
         out['specs/Parts.antt'] = self.parts_file()
         out['proofs/Known.antt'] = self.known_file()
-        out['proofs/Readable.antt'] = self.readable_file([k for _, _, rules in topics for k in rules], self.rules(DEFERRED))
         return {name: '\n'.join(lines) for name, lines in out.items()}
 
     def rules_file(self, topics):
         return [
             f'//! {WRITTEN}', '//!', '//! The rules of the grammar as data.', 'ghost use Rattle.std.specs.Prelude.{◌≡◌};',
             'ghost use Rattle.syn_grammar.specs.Run.{parse_form};', 'ghost use Rattle.syn_grammar.specs.Table.{table};',
-            'ghost use Rattle.syn_recognize.specs.Forms.{grammar_of};', 'ghost use Rattle.syn_recognize.specs.Names.{rule_of, settled};',
+            'ghost use Rattle.syn_recognize.specs.Forms.{grammar_of};', 'ghost use Rattle.syn_recognize.specs.Names.{rule_of};',
             'ghost use Rattle.syn_recognize.specs.Parts.{part_form};', '',
             'use crate::form::Form;', '', *[f'mod {name};' for name in sorted(name for name, _, _ in topics)], '',
             '/// A rule of the grammar.', '#[derive(Clone, Copy)]', 'pub enum Rule {', *[f'    {camel(k)},' for _, _, rules in topics for k in rules], '}', '',
             '/// The form of the rule.', "pub(crate) fn form_of(rule: Rule) -> &'static Form",
             '    ensures { parse_form (grammar_of result.now) ≡ parse_form (table (rule_of rule)) }', '{', '    match rule {',
             *[f'        Rule::{camel(k)} => &{name}::{k.upper()},' for name, _, rules in topics for k in rules], '    }', '}', '',
-            '/// Whether nothing vanishes in what the rule reads, and only lifetimes stand first in lists: where none stand there, it is printed as it is shown.',
-            'pub(crate) fn is_settled(rule: Rule) -> bool', '    ensures { result ≡ settled rule }', '{', '    match rule {',
-            *[f'        Rule::{camel(k)} => {"true" if k in self.rules(DEFERRED) else "false"},' for _, _, rules in topics for k in rules], '    }', '}', '',
             "/// A part of a rule's form that has a static of its own: Rattle's own compiler takes no larger ones.", '#[derive(Clone, Copy)]',
             'pub enum Part {', *[f'    {name},' for name, *_ in self.parts], '}', '',
             '/// The form of the part.', "pub(crate) fn form_of_part(part: Part) -> &'static Form",
             '    ensures { parse_form (grammar_of result.now) ≡ parse_form (part_form part) }', '{', '    match part {',
-            *[f'        Part::{part} => &{name}::{self.constant(part)},' for name, _, rules in topics for part, k, _, _ in self.parts if k in rules], '    }', '}', '']
+            *[f'        Part::{part} => &{name}::{self.constant(part)},' for name, _, rules in topics for part, k, _, _ in self.parts if k in rules],
+            *[f'        Part::{part} => &crate::plan::{self.constant(part)},' for part, _, _, _ in self.plan_parts], '    }', '}', '']
+
+    def plan(self, it):
+        """A plan as data: of a stage, or what stands in one."""
+        kind, *rest = it
+        if kind in ('rest', 'kept'):
+            return f'Plan::{camel(kind)}(&{self.piece(rest[0])})'
+        if kind == 'reads':
+            piece = self.piece(rest[0])
+            return f'Plan::Reads(&{piece}, &{self.inner(rest[1], size(piece))})'
+        if kind == 'turns':
+            look = self.look(rest[0])
+            one = self.inner(rest[1], size(look))
+            return f'Plan::Turns({look}, &{one}, &{self.inner(rest[2], size(look) + size(one))})'
+        if kind == 'rooted':
+            one = self.inner(rest[0])
+            return f'Plan::Rooted(&{one}, &{self.inner(rest[1], size(one))})'
+        if kind == 'then':
+            piece = self.piece(rest[1])
+            return f'Plan::Then(&{self.inner(rest[0], size(piece))}, &{piece})'
+        if kind == 'lists':
+            return f'Plan::Lists(&{self.inner(("led", rest[0]))})'
+        return f'Plan::{ {"led": "Led", "self": "SelfType"}[kind]}(&{self.inner(rest[0])})'
+
+    def piece(self, form):
+        """A form in a plan; a large one is cut into parts, each a rule of its own."""
+        self.rule = 'planned'
+        return self.form(form, ('planned', form))
+
+    def inner(self, it, beside=0):
+        """A plan in another: a stage of its own where it stands twice, or where it is too large for what stands beside it."""
+        text = self.plan(it) if it not in self.stage_names else ''
+        if text and self.uses_of[it] == 1 and text.count('&') <= 5 and size(text) + beside + PARTS['Plan'] <= LARGEST:
+            return text
+        if it not in self.stage_names:
+            self.stage_names[it] = f'Stage{len(self.stages) + 1}'
+            self.stages.append((self.stage_names[it], it, text))
+        return f'Plan::Go(Stage::{self.stage_names[it]})'
+
+    def count(self, it):
+        self.uses_of[it] = self.uses_of.get(it, 0) + 1
+        if self.uses_of[it] == 1:
+            for part in it[1:]:
+                if isinstance(part, tuple) and part and part[0] in ('rest', 'kept', 'reads', 'turns', 'rooted', 'then', 'lists', 'led', 'self'):
+                    self.count(('led', part) if it[0] == 'lists' else part)
+
+    def plan_file(self):
+        self.uses, self.uses_of = {'Form'}, {}
+        courses = {k: plans.course(self.plans.plan(name)) for k, name in PLANS.items()}
+        for it in courses.values():
+            self.count(it)
+        before = len(self.parts)
+        begins = [(k, self.plan(it)) for k, it in courses.items()]
+        self.plan_parts = self.parts[before:]
+        self.uses -= {'Stage', 'Planned'}
+        return [f'//! {WRITTEN}', '//!', '//! The plans of unions as data.', 'ghost use Rattle.std.specs.Prelude.{◌≡◌};', 'ghost use Rattle.syn_recognize.specs.Stages.{stage_course, planned_course};', 'ghost use Rattle.syn_recognize.specs.Courses.{course_of};', '', *self.imports(), '',
+                '/// A plan: one reading of a union, without a trial.', '#[derive(Clone, Copy)]', 'pub enum Plan {',
+                '    /// The plan of this stage.', '    Go(Stage),', '    /// Reads a form, and goes on.', "    Reads(&'static Form, &'static Plan),",
+                '    /// Goes on by what stands next.', "    Turns(Look, &'static Plan, &'static Plan),", '    /// Reads trees of a use in braces, and goes on by whether one has `::` before it.', "    Rooted(&'static Plan, &'static Plan),",
+                '    /// A plan, and behind it a form.', "    Then(&'static Plan, &'static Form),", '    /// It is of a kind: what is left of it.', "    Rest(&'static Form),",
+                '    /// It is kept as tokens: what is left of it.', "    Kept(&'static Form),", '    /// Reads the generics of an impl, and goes on.', "    Lists(&'static Plan),",
+                '    /// Notes whether what stands next would be read as generics.', "    Led(&'static Plan),", '    /// Reads `for` and the self type of an impl.', "    SelfType(&'static Plan),", '}', '',
+                '/// A form that is read by a plan.', '#[derive(Clone, Copy)]', 'pub enum Planned {', *[f'    {camel(k)},' for k in PLANS], '}', '',
+                '/// A stage of a plan.', '#[derive(Clone, Copy)]', 'pub enum Stage {', *[f'    {name},' for name, _, _ in self.stages], '}', '',
+                *[f'pub(crate) static {self.constant(name)}: Form = {text};' for name, _, _, text in self.plan_parts],
+                *[f'static {k.upper()}: Plan = {text};' for k, text in begins],
+                *[f'static {name.upper()}: Plan = {text};' for name, _, text in self.stages], '',
+                '/// How the plan begins.', "pub(crate) fn begin_of(planned: Planned) -> &'static Plan", '    ensures { course_of result.now ≡ planned_course planned }', '{', '    match planned {',
+                *[f'        Planned::{camel(k)} => &{k.upper()},' for k in PLANS], '    }', '}', '',
+                '/// The plan of the stage.', "pub(crate) fn plan_of(stage: Stage) -> &'static Plan", '    ensures { course_of result.now ≡ stage_course stage }', '{', '    match stage {',
+                *[f'        Stage::{name} => &{name.upper()},' for name, _, _ in self.stages], '    }', '}', '']
+
+    def course(self, it):
+        """A course in the specifications' words; its stages by their names."""
+        kind, *rest = it
+        inner = lambda x: snake(self.stage_names[x]) if x in self.stage_names else f'({self.course(x)})'
+        if kind in ('rest', 'kept'):
+            return f'{kind} {self.antt(rest[0])}'
+        if kind == 'reads':
+            return f'reads {self.antt(rest[0])} {inner(rest[1])}'
+        if kind == 'turns':
+            return f'turns {self.antt_look(rest[0])} {inner(rest[1])} {inner(rest[2])}'
+        if kind == 'rooted':
+            return f'rooted {inner(rest[0])} {inner(rest[1])}'
+        if kind == 'then':
+            return f'followed {inner(rest[0])} {self.antt(rest[1])}'
+        if kind == 'lists':
+            return f'lists {inner(("led", rest[0]))}'
+        return f'{ {"led": "led", "self": "self_type"}[kind]} {inner(rest[0])}'
+
+    def planned_file(self):
+        """That the courses of these unions go as their plans."""
+        lines, called = [], set()
+        for k in ('item', 'trait_item', 'impl_item', 'foreign_item', 'derive_input', 'crate_macro', 'use_item_rest', 'type_item_rest', 'impl_definition_rest'):
+            goes = {}
+            for way in ('true', 'false'):
+                own = plans.Plans(self.source)
+                own.reader, plans.Prover.count = plans.Prover, 0
+                goes[way] = plans.Proofs(way).of(own.call(PLANS[k], [], {}), 'm')
+                own.called |= {'item': {'impl_generics', 'impl_types'}, 'impl_definition_rest': {'plain_types'}}.get(k, set())
+                called |= own.called
+            opened = ' '.join(sorted(own.called))
+            course = f'(planned_course Planned-m.{camel(k)})'
+            lines += ['', f'pub {k}_goes : (a : Bool) (m : Stream) → Goes a {course} {PLANS[k]} end m', 'unfolding ' + opened,
+                      *[f'{k}_goes {way} m = {goes[way]}' for way in ('true', 'false')]]
+        where = lambda file: [n for n in sorted(called) if re.search(rf'^unfoldable pub {n} :', (GRAMMAR / 'specs' / f'{file}.antt').read_text(), re.M)]
+        text = '\n'.join(lines)
+        used = lambda names: ', '.join(x for x in names if re.search(rf'(?<![\w.]){x}(?!\w)', text))
+        return [f'-- {WRITTEN}', '-- The courses of unions go as their plans.', 'use Rattle.std.proofs.Common.{Bool, true, false, [], ◌∷◌, refl}',
+                'use Rattle.syn_grammar.specs.Tokens.{Stream, end}', 'use Rattle.syn_grammar.specs.Rules.{' + used(['impl_definition', 'type_item', 'use_item']) + '}',
+                'use Rattle.syn_grammar.specs.Grammar.{' + used(['Left', 'Right', 'Node', 'Both', 'Such']) + '}', 'use Rattle.syn_grammar.specs.Values.{untag}',
+                'use Rattle.syn_grammar.specs.ItemPlan.{' + ', '.join([*where('ItemPlan'), used(['parts', 'absent', 'hidden', 'inherited', 'item_of', 'public', 'plain', 'unwritten'])]) + '}',
+                *[f'use Rattle.syn_grammar.specs.{file}.{{{", ".join(where(file))}}}' for file in ('MemberPlans', 'StatementPlans', 'SmallPlans', 'AlonePlans')],
+                'use Rattle.syn_recognize.specs.Stages.{planned_course}', 'use Rattle.syn_recognize.specs.declared.plan.Planned.TheVariants as Planned-m',
+                'use Rattle.syn_recognize.proofs.CourseProofs.{Goes, none, piece, untagged, both, text_behind}', 'use Rattle.syn_recognize.proofs.ImplCourses.{item_impl_meets, alone_impl_meets, lone_text}',
+                'use Rattle.syn_recognize.proofs.SmallCourses.{rooted_meets, clause_meets, alone_clause_meets}', *lines, '']
+
+    def stages_file(self):
+        at = 'Rattle.syn_recognize.specs.declared'
+        looks = sorted(k for k in self.source.looks)
+        words = sorted(set(self.texts.values()))
+        courses = {k: plans.course(self.plans.plan(name)) for k, name in PLANS.items()}
+        defined = [(f'Stage-m.{name}', self.course(it)) for name, it, _ in self.stages]
+        begins = [(f'Planned-m.{camel(k)}', self.course(it)) for k, it in courses.items()]
+        text = '\n'.join(x for _, x in defined + begins)
+        used = lambda names: [x for x in names if re.search(rf'(?<![\w.]){re.escape(x)}(?![\w])', text)]
+        tokens = used(['Paren', 'Brace', 'Bracket', 'None', 'Str', 'Before_colons', 'Before_macro', 'Begins_item', 'Begins_in', 'Lone_word', 'ended', 'at_name', 'at_word', 'at_mark', 'at_group',
+                       'at_literal', 'at_empty_group', 'ahead', 'at_generics', 'at_lifetime', 'at_path_word', 'at_parameter', 'at_path_rest'])
+        table = [x for x in used(looks) if x not in tokens]
+        return [f'-- {WRITTEN}', '-- THE COURSES OF PLANS, and the forms of which they are.', 'use Rattle.std.specs.Prelude.{true, false, [], ◌∷◌}',
+                'use Rattle.syn_grammar.specs.Words.{' + ', '.join(used(words)) + '}', 'use Rattle.syn_grammar.specs.Tokens.{' + ', '.join(tokens) + ', ◌or_else◌, ◌and_also◌, ◌but_not◌}',
+                'use Rattle.syn_grammar.specs.Table.{table, ' + ', '.join(table) + '}', 'use Rattle.syn_grammar.specs.Rules as rules', 'use Rattle.syn_grammar.specs.Shape as shapes',
+                'use Rattle.syn_grammar.specs.Grammar.{' + ', '.join(used(['name', 'word', 'name_or', 'literal_of', 'any_literal', 'index'])) + ', Grammar, empty, token, mark, ◌&◌, when◌then◌else◌, inside, raw, rule, one_of, shaped, vanishing, ordered}',
+                'use Rattle.syn_recognize.specs.Within.{first, second}', 'use Rattle.syn_recognize.specs.Ordered.{first_form, other_form}',
+                'use Rattle.syn_recognize.specs.Course.{Course, reads, turns, rooted, followed, rest, kept, lists, led, self_type}',
+                f'use {at}.list.List.TheVariants as List-m', f'use {at}.plan.Stage.{{Stage}}', f'use {at}.plan.Stage.TheVariants as Stage-m',
+                f'use {at}.plan.Planned.{{Planned}}', f'use {at}.plan.Planned.TheVariants as Planned-m', '',
+                *[line for name, it, _ in self.stages for line in (f'abbrev pub {snake(name)} : Course', f'{snake(name)} = {self.course(it)}', '')],
+                'abbrev pub stage_course : Stage → Course', *[f'stage_course Stage-m.{name} = {snake(name)}' for name, _, _ in self.stages], '',
+                'abbrev pub planned_course : Planned → Course', *[f'planned_course {name} = {x}' for name, x in begins], '',
+                '-- the form that is read by a plan', 'abbrev pub planned_form : Planned → Grammar',
+                *[f'planned_form Planned-m.{camel(k)} = ' + ('first (second (first (second (table rules.statements))))' if k == 'statements' else f'table rules.{k}') for k in PLANS], '']
+
+    # FORMS IN THE SPECIFICATIONS' WORDS
+
+    def text_at(self, way):
+        form = way[1]
+        for step in way[2:]:
+            place = {'&': 1, 'when': 2}.get(form[0], {'inside': 2, 'shaped': 2, 'vanishing': 3, 'captured': 1, 'supplied': 2}.get(form[0]))
+            form = form[place + (step == 'second')]
+        return self.antt(form)
+
+    def antt(self, it):
+        """A form as the specifications write it."""
+        name, *rest = it
+        text = lambda x: self.texts[x]
+        if name == '&':
+            return f'({self.antt(rest[0])} & {self.antt(rest[1])})'
+        if name == 'when':
+            return f'(when {self.antt_look(rest[0])} then {self.antt(rest[1])} else {self.antt(rest[2])})'
+        if name == 'token':
+            return f'(token [] ({self.antt_kind(rest[1])}))'
+        if name == 'mark':
+            return f'(mark false {text(rest[1])})'
+        if name == 'rule':
+            return f'(rule rules.{rest[0][0]})'
+        if name == 'inside':
+            return f'(inside {rest[0][0]} {self.antt(rest[1])})'
+        if name == 'raw':
+            return f'(raw {rest[0][0]})'
+        if name == 'vanishing':
+            return f'(vanishing {str(rest[0]).lower()} {self.antt_look(rest[1])} {self.antt(rest[2])})'
+        if name == 'one_of':
+            return '(one_of (' + ' ∷ '.join([f'rules.{k}' for k, in rest[0]] + ['[]']) + '))'
+        if name == 'shaped':
+            shape = ' '.join(x if isinstance(x, str) else f'shapes.{x[0]}' for x in rest[0])
+            return f'(shaped (shapes.{shape}) {self.antt(rest[1])})'
+        if name == 'empty':
+            return 'empty'
+        if name == 'ordered' and ORDERED[rest[0]] == 'Parameters':
+            return '(ordered (first_form List-m.Parameters) (other_form List-m.Parameters))'
+        raise ValueError(f'no words for {it}')
+
+    def antt_kind(self, it):
+        if it[0] == 'word':
+            return f'word {self.texts[it[1]]}'
+        if it[0] in ('name_or', 'literal_of'):
+            return f'{it[0]} (' + ' ∷ '.join([self.texts[x] if isinstance(x, str) else x[0] for x in it[1]] + ['[]']) + ')'
+        return it[0]
+
+    def antt_look(self, it):
+        name, *rest = it
+        for known, value in self.source.looks.items():
+            if value == it:
+                return known
+        if name in ('or_else', 'and_also', 'but_not'):
+            return f'({self.antt_look(rest[0])} {name} {self.antt_look(rest[1])})'
+        if name in ('at_word', 'at_mark'):
+            return f'({name} {self.texts[rest[0]]})'
+        if name in ('ahead', 'at_group', 'at_literal'):
+            return f'({name} {rest[0][0]})'
+        return name
+
+    def parts_imports(self):
+        text = '\n'.join(self.text_at(way) for _, _, way, _ in self.plan_parts)
+        used = lambda names: [x for x in names if re.search(rf'(?<![\w.]){re.escape(x)}(?![\w])', text)]
+        tokens = used(['Paren', 'Brace', 'Bracket', 'None', 'Str', 'Before_colons', 'Before_macro', 'Begins_item', 'Begins_in', 'Lone_word', 'ended', 'at_name', 'at_word', 'at_mark', 'at_group',
+                       'at_literal', 'at_empty_group', 'ahead', 'at_generics', 'at_lifetime', 'at_path_word', 'at_parameter', 'at_path_rest'])
+        table = [x for x in used(sorted(self.source.looks)) if x not in tokens]
+        return ['use Rattle.std.specs.Prelude.{true, false, [], ◌∷◌}', 'use Rattle.syn_grammar.specs.Words.{' + ', '.join(used(sorted(set(self.texts.values())))) + '}',
+                'use Rattle.syn_grammar.specs.Tokens.{' + ', '.join(tokens + ['◌or_else◌', '◌and_also◌', '◌but_not◌']) + '}',
+                'use Rattle.syn_grammar.specs.Rules as rules', 'use Rattle.syn_grammar.specs.Shape as shapes', 'use Rattle.syn_grammar.specs.Table.{' + ', '.join(['table', *table]) + '}',
+                'use Rattle.syn_grammar.specs.Grammar.{' + ', '.join(used(['name', 'word', 'name_or', 'literal_of', 'any_literal', 'index']) + ['Grammar', 'empty', 'token', 'mark', '◌&◌', 'when◌then◌else◌', 'inside', 'raw', 'rule', 'one_of', 'shaped', 'vanishing', 'ordered']) + '}',
+                'use Rattle.syn_recognize.specs.Within.{first, second}', 'use Rattle.syn_recognize.specs.Ordered.{first_form, other_form}',
+                'use Rattle.syn_recognize.specs.declared.list.List.TheVariants as List-m']
 
     def parts_file(self):
         at = 'Rattle.syn_recognize.specs.declared.rules.Part'
         return [
             f'-- {WRITTEN}', '-- THE PARTS OF RULES THAT HAVE STATICS OF THEIR OWN: where each stands in its rule.',
-            'use Rattle.syn_grammar.specs.Rules as rules', 'use Rattle.syn_grammar.specs.Grammar.{Grammar}', 'use Rattle.syn_grammar.specs.Table.{table}',
-            'use Rattle.syn_recognize.specs.Within.{first, second}', f'use {at}.{{Part}}', f'use {at}.TheVariants as Part-m', '',
+            *self.parts_imports(), f'use {at}.{{Part}}', f'use {at}.TheVariants as Part-m', '',
             'abbrev pub part_form : Part → Grammar',
-            *[f'part_form Part-m.{name} = ' + ''.join(f'{step} (' for step in reversed(way)) + f'table rules.{k}' + ')' * len(way) for name, k, way, _ in self.parts], '']
+            *[f'part_form Part-m.{name} = ' + ''.join(f'{step} (' for step in reversed(way)) + f'table rules.{k}' + ')' * len(way) for name, k, way, _ in self.parts if k != 'planned'],
+            *[f'part_form Part-m.{name} = {self.text_at(way)}' for name, _, way, _ in self.plan_parts], '']
 
     def shape_variants(self):
         names = sorted(it if isinstance(it, str) else it[0] for it in self.shapes)
@@ -380,9 +676,9 @@ class Writer:
         told = sorted(TOLD, key=lambda name: name in ('at_lifetime', 'at_path_word'))
         variants = sorted(self.variants)
         return [
-            f'-- {WRITTEN}', '-- WHAT WORDS, MARKS, LOOKS, SHAPES AND RULES AS DATA STAND FOR.', 'use Rattle.std.specs.Prelude.{Bool, true, false}',
-            'use Rattle.syn_grammar.specs.Words.{Text, ' + ', '.join(name for _, name in texts + marks) + '}',
-            'use Rattle.syn_grammar.specs.Tokens.{Int, Look, ended, at_name, at_word, at_mark, at_group, at_literal, at_empty_group, ◌or_else◌, ◌but_not◌, at_lifetime, at_path_word}',
+            f'-- {WRITTEN}', '-- WHAT WORDS, MARKS, LOOKS, SHAPES AND RULES AS DATA STAND FOR.', 'use Rattle.syn_grammar.specs.Words.{Text, ' + ', '.join(name for _, name in texts + marks) + '}',
+            'use Rattle.syn_grammar.specs.Words.{w_union, w_auto}', 'use Rattle.syn_grammar.specs.ItemPlan.{at_in_restriction, at_lone_word}',
+            'use Rattle.syn_grammar.specs.Tokens.{Int, Str, Before_colons, Before_macro, Begins_item, Look, ended, at_name, at_word, at_mark, at_group, at_literal, at_empty_group, ahead, ◌or_else◌, ◌and_also◌, ◌but_not◌, at_lifetime, at_path_word, at_generics}',
             'use Rattle.syn_grammar.specs.Table.{' + ', '.join(told[:-2]) + '}',
             'use Rattle.syn_grammar.specs.Rules as rules', 'use Rattle.syn_grammar.specs.Rules.{Rule}',
             'use Rattle.syn_grammar.specs.Shape as shapes', 'use Rattle.syn_grammar.specs.Shape.{Shape, Variant}',
@@ -394,22 +690,14 @@ class Writer:
             'abbrev pub look_of : look.Look → Look', 'look_of Look-m.Ended = ended', 'look_of Look-m.Name = at_name', 'look_of (Look-m.Word w) = at_word (word_text w)',
             'look_of (Look-m.Mark m) = at_mark (mark_text m)', 'look_of (Look-m.Group d) = at_group (delimiter_of d)',
             "look_of (Look-m.Or' p c q d) = look_of c or_else look_of d", "look_of (Look-m.But' p c q d) = look_of c but_not look_of d",
-            'look_of Look-m.Integer = at_literal Int', 'look_of Look-m.EmptyGroup = at_empty_group', *[f'look_of Look-m.{camel(name[3:])} = {name}' for name in TOLD], '',
+            'look_of Look-m.Integer = at_literal Int', 'look_of Look-m.EmptyGroup = at_empty_group', *[f'look_of Look-m.{camel(name[3:])} = {name}' for name in TOLD],
+            'look_of Look-m.Generics = at_generics', 'look_of Look-m.StrLiteral = at_literal Str', 'look_of Look-m.BeforeColons = ahead Before_colons', 'look_of Look-m.BeforeMacro = ahead Before_macro',
+            'look_of Look-m.MarkedUnion = at_word w_union and_also ahead Begins_item', 'look_of Look-m.MarkedAuto = at_word w_auto and_also ahead Begins_item',
+            'look_of Look-m.InRestriction = at_in_restriction', 'look_of Look-m.LoneWord = at_lone_word', '',
             'abbrev pub variant_of : variant.Variant → Variant', *[f'variant_of Variant-m.{name} = shapes.{name}' for name in variants], '',
             'abbrev pub shape_of : shape.Shape → Shape',
             *[f'shape_of (Shape-m.{camel(name)} v) = shapes.{name} (variant_of v)' if of else f'shape_of Shape-m.{camel(name)} = shapes.{name}' for name, of in self.shape_variants()], '',
-            'abbrev pub rule_of : rule.Rule → Rule', *[f'rule_of Rule-m.{camel(k)} = rules.{k}' for _, _, rules in topics for k in rules], '',
-            '-- nothing vanishes in what the rule reads', 'abbrev pub settled : rule.Rule → Bool', *[f'settled Rule-m.{camel(k)} = {"true" if k in self.rules(DEFERRED) else "false"}' for _, _, rules in topics for k in rules], '']
-
-    def readable_file(self, rules, settled):
-        at = 'Rattle.syn_recognize.specs.declared.rules.Rule'
-        return [
-            f'-- {WRITTEN}', '-- The rules in which nothing vanishes.', 'use Rattle.std.proofs.Common.{◌≡◌, true, List, [], ◌∷◌, refl}',
-            'use Rattle.syn_grammar.specs.Rules as rules', 'use Rattle.syn_grammar.specs.Grammar.{among}', 'use Rattle.syn_recognize.specs.Names.{rule_of, settled}',
-            f'use {at} as rule', f'use {at}.TheVariants as Rule-m', '',
-            'abbrev pub readable : List rules.Rule', 'readable =', *[f'    rules.{k} ∷' for k in rules if k in settled], '    []', '',
-            'pub is_readable : (k : rule.Rule) → settled k ≡ true → among (rule_of k) readable ≡ true',
-            *[f'is_readable Rule-m.{camel(k)} e = ' + ('refl' if k in settled else 'absurd (cc e)') for k in rules], '']
+            'abbrev pub rule_of : rule.Rule → Rule', *[f'rule_of Rule-m.{camel(k)} = rules.{k}' for _, _, rules in topics for k in rules], '']
 
 
 def write(files, folder):

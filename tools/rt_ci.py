@@ -38,7 +38,7 @@ from pathlib import Path
 
 TOP = Path(__file__).resolve().parent.parent
 # The crates that only test or measure.
-BESIDE = ("syn_outlines", "syn_tokens_tests", "syn_reader_tests", "syn_test_support", "syn_tests", "check_rows", "tree_answers", "syn_bench")
+BESIDE = ("syn_outlines", "syn_tokens_tests", "syn_reader_tests", "syn_answers_tests", "syn_test_support", "syn_tests", "check_rows", "tree_answers", "syn_bench")
 
 # What the proof of a crate took, in seconds of processor: the tasks are ordered by it, and those of other crates by their lines, which
 # are about as many, but for what owns trees. It needn't be exact.
@@ -77,6 +77,8 @@ NICE, NICER = 10, 19
 # How many jobs a check gets at most, and at least, where so many are left; and how many there are in all, for each processor: a check
 # is one process at its beginning and at its end.
 MOST_JOBS, LEAST_JOBS, JOBS = 8, 2, 2.5
+# A crate whose check one job does sooner: each copy of it opens the grammar's tables anew, which takes longer than what is shared out.
+ALONE = ("syn_recognize",)
 # How much of what rt reckons for a check with one job was ever taken, and how much of it each further job takes.
 TAKEN, TAKEN_BY_A_JOB = 0.6, 0.1
 
@@ -97,7 +99,7 @@ class Task:
 
     def most_jobs(self, processors):
         """Edits are tried one after another."""
-        return 1 if self.key[1] == "edits" else min(processors, MOST_JOBS)
+        return 1 if self.key[1] == "edits" or self.key[0] in ALONE else min(processors, MOST_JOBS)
 
 
 def chained(given):

@@ -25,7 +25,7 @@ import sys
 from pathlib import Path
 
 # How long a run may take, its build not counted: ./test has it wait for others.
-SECONDS = 3600
+SECONDS = 9000
 CRATES = Path(__file__).resolve().parent.parent / "crates"
 # the crate whose tests tell a want of memory from other errors
 TESTS = "syn_tests"

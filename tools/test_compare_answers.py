@@ -152,13 +152,6 @@ class Script(Compare):
         self.assertRegex(said, r"left out: the conformance cases; \S+ isn't there\nleft out: random texts; \S+ isn't there\n")
         self.assertTrue(said.endswith("\n2 texts, 0 unread, 0 differ\n"), said)
 
-    def test_what_is_known_to_differ_is_left_out(self):
-        texts = ["#[a] crate ! {!}\n.a", "crate!{!}?;", "crate!{} a", "crate!().a", "a!{}.a", "a ::\ncrate!{}.a"]
-        cases = self.write("cases", "".join(json.dumps({"stdin": text, "stage": 1, "until": None}) + "\n" for text in texts))
-        status, said = self.status("--conformance", str(cases))
-        self.assertIn("left out: 2 texts that are known to be refused", said)
-        self.assertIn("\n6 texts, ", said)
-
     def test_a_difference(self):
         cases = self.write("cases", json.dumps({"stdin": "a!", "stage": 1, "until": None}) + "\n")
         status, said = self.status("--conformance", str(cases))

@@ -235,7 +235,7 @@ class Kinds(unittest.TestCase):
             rows(source, table, page)
 
     def test_a_generic_function_is_named_as_what_reads_a_rule(self):
-        reading = "fn thing<T: Peek>(input: &mut ParseBuffer<'_>) -> Parsed<()>\n    ensures reads { parse_rule rules.thing }\n{\n}\n"
+        reading = "fn thing<T: Peek>(input: &mut ParseBuffer<'_>) -> Parsed<()>\n    ensures reads { parse_rule rules.thing input.old }\n{\n}\n"
         source = self.crate(TYPES + reading)
         table, page = self.top / "Table.antt", self.top / "PAGE.md"
         table.write_text(TABLE)
@@ -286,7 +286,7 @@ table entry =
 
     def test_a_function_is_named_for_what_its_own_contract_or_proof_says(self):
         short = "fn short() -> bool {\n    true\n}\n\n"
-        reading = "fn thing(input: &mut ParseBuffer<'_>) -> Parsed<()>\n    ensures reads { parse_rule rules.thing }\n{\n}\n\n"
+        reading = "fn thing(input: &mut ParseBuffer<'_>) -> Parsed<()>\n    ensures reads { parse_rule rules.thing input.old }\n{\n}\n\n"
         opening = "#[tactic(auto, using(Each::things_is))]\nfn opening(input: &mut ParseBuffer<'_>) {\n}\n"
         source = self.crate(TYPES + short + reading + opening)
         table, page = self.top / "Table.antt", self.top / "PAGE.md"

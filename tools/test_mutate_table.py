@@ -9,7 +9,7 @@ from pathlib import Path
 
 from grammar import checked
 from grammarlib.antt import Fault
-from grammarlib.borders import Borders, read_equivalent
+from grammarlib.borders import Borders, read_equivalent, read_untold, written_untold
 from grammarlib.examples import Theorems, parse
 from grammarlib.lookaheads import Lookaheads
 from grammarlib.mutants import Mutants
@@ -49,7 +49,8 @@ class Mutations(unittest.TestCase):
     def borders(self, equivalent=None):
         source = Source(self.folder)
         examples = parse(HERE / 'examples.txt', source.rules)
-        return Borders(Lookaheads(source), source.table, examples, equivalent or read_equivalent(HERE / 'equivalent_mutants.txt'))
+        untold = read_untold(HERE / 'untold_borders.txt')
+        return Borders(Lookaheads(source), source.table, examples, equivalent or read_equivalent(HERE / 'equivalent_mutants.txt'), untold)
 
     def test_no_change_gets_through(self):
         self.assertEqual(self.borders().lacking(), [])
@@ -89,6 +90,22 @@ class Mutations(unittest.TestCase):
         self.assertEqual(sum('the name may be any identifier' in line for line in lacking), 1)
         self.assertEqual(sum('the name may also be a literal' in line for line in lacking), 1)
         self.assertEqual(sum('the name may not be `union`' in line for line in lacking), 2)
+
+    def test_borders_without_an_example(self):
+        borders = self.borders()
+        rule, may = max(borders.untold.items(), key=lambda it: it[1])
+        borders.lacking([rule])
+        self.assertLessEqual(borders.counts[rule], may)
+        borders.untold[rule] = borders.counts[rule] - 1
+        self.assertIn(f'`{rule}`: {borders.counts[rule]} borders have no example, and {borders.counts[rule] - 1} may', borders.lacking([rule])[0])
+
+    def test_counts_of_borders(self):
+        path = self.folder / 'counts.txt'
+        path.write_text(written_untold({'a': 2, 'b': 0, 'c': 11}))
+        self.assertEqual(read_untold(path), {'a': 2, 'c': 11})
+        path.write_text('a 1\na 2\n')
+        with self.assertRaises(Fault):
+            read_untold(path)
 
     def test_each_change_has_words_of_its_own(self):
         source = Source(CRATE)

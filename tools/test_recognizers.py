@@ -8,7 +8,7 @@ import tempfile
 import unittest
 from pathlib import Path
 
-from recognizers import ASKED, CRATE, CUT, DEFERRED, LARGEST, PLACES, Writer, camel, rules_in
+from recognizers import BY_PLANS, CRATE, CUT, LARGEST, PLACES, PLANS, Writer, camel, rules_in, size
 
 HERE = Path(__file__).resolve().parent
 TOP = HERE.parent
@@ -17,6 +17,12 @@ TOP = HERE.parent
 def check(folder):
     found = subprocess.run([sys.executable, HERE / 'recognizers.py', '--check'], cwd=folder, capture_output=True, text=True)
     return found.returncode, found.stderr
+
+
+def forms_of(plan):
+    """The forms that a plan reads."""
+    own = [plan[1]] if plan[0] == 'reads' else [plan[2]] if plan[0] == 'then' else []
+    return own + [form for part in plan[1:] if isinstance(part, tuple) and part and isinstance(part[0], str) for form in forms_of(part)]
 
 
 class Recognizers(unittest.TestCase):
@@ -34,10 +40,16 @@ class Recognizers(unittest.TestCase):
 
     def test_all_rules_that_are_led_to_are_data(self):
         rules = self.writer.rules()
-        self.assertLessEqual({*ASKED}, {*rules})
+        self.assertEqual({*rules, *BY_PLANS}, {*self.writer.source.rules})
         for rule in rules:
-            self.assertLessEqual({*rules_in(self.writer.source.table[rule])}, {*rules}, rule)
-        self.assertNotIn('derive_input', self.writer.rules(DEFERRED))
+            if rule not in PLANS:
+                self.assertLessEqual({*rules_in(self.writer.source.table[rule])}, {*rules}, rule)
+
+    def test_plans_read_what_is_data(self):
+        forms = [form for name in PLANS.values() for form in forms_of(self.writer.plans.plan(name))]
+        self.assertGreater(len(forms), 100)
+        for form in forms:
+            self.assertLessEqual({*rules_in(form)}, {*self.writer.rules()}, form)
 
     def test_rules_stand_in_the_order_of_the_table(self):
         rules = self.writer.rules()
@@ -61,19 +73,20 @@ class Recognizers(unittest.TestCase):
 
     def statics(self):
         """The form of each static that is written, by its name."""
-        texts = [file.read_text() for file in (TOP / CRATE / 'src/rules').glob('*.rt')]
+        texts = [file.read_text() for file in [*(TOP / CRATE / 'src/rules').glob('*.rt'), TOP / CRATE / 'src/plan.rt']]
         return dict(found for text in texts for found in re.findall(r'static (\w+): Form = (.*?);\n', text, re.DOTALL))
 
     def test_no_static_is_large(self):
-        sizes = [form.count('&') for form in self.statics().values()]
-        self.assertGreater(len(sizes), len(self.writer.rules()))
-        self.assertLessEqual(max(sizes), LARGEST)
+        self.assertGreater(len(self.statics()), len(self.writer.rules()))
+        texts = [file.read_text() for file in (TOP / CRATE / 'src').rglob('*.rt')]
+        sizes = {name: size(form) for text in texts for name, form in re.findall(r'static (\w+): (?:Form|Plan) = (.*?);\n', text, re.DOTALL)}
+        self.assertEqual({name: it for name, it in sizes.items() if it > LARGEST}, {})
 
     def test_each_part_stands_in_one_form(self):
         forms = ' '.join(self.statics().values())
         named = re.findall(r'Part::(\w+)', forms)
         self.assertEqual(len(named), len(set(named)))
-        elsewhere = re.findall(r'Part::(\w+)', ''.join((TOP / CRATE / 'src' / name).read_text() for name in ('list.rt', 'unions.rt')))
+        elsewhere = re.findall(r'Part::(\w+)', ''.join((TOP / CRATE / 'src' / name).read_text() for name in ('list.rt', 'plan.rt')))
         self.assertEqual(len(self.statics()), len(self.writer.rules()) + len({*named, *elsewhere}))
 
     def test_parts_that_others_speak_of_have_statics(self):
@@ -91,19 +104,11 @@ class Recognizers(unittest.TestCase):
             forms = ' '.join(form for name, form in statics.items() if re.fullmatch(rf'{rule.upper()}(_\d+)?', name))
             self.assertRegex(forms, rf'At\(\w+::{re.escape(it)}, Place::{place}\)', rule)
 
-    def test_rules_that_settle_have_no_form_that_vanishes(self):
-        statics = self.statics()
-        for rule in self.writer.rules(DEFERRED):
-            for name, form in statics.items():
-                if re.fullmatch(rf'{rule.upper()}(_\d+)?', name):
-                    for kind in ('Generics', 'Fading', 'Hidden', 'Captured', 'List::Parameters'):
-                        self.assertNotIn(f'Form::{kind}', form, name)
-
     def test_a_look_that_is_too_large_is_refused(self):
         writer = Writer()
         writer.rule = 'type'
         with self.assertRaisesRegex(ValueError, 'a look of type refers to too many others'):
-            writer.made('When(' + '&' * LARGEST, [(('empty',), ()), (('empty',), ())])
+            writer.made('When(' + '&Look::' * LARGEST, [(('empty',), ()), (('empty',), ())])
 
     def told_of_change(self, name, old, new):
         """What the script says of a copy in which this text of a file is changed."""

@@ -97,6 +97,12 @@ class Tasks(unittest.TestCase):
         calls.run(processors=64)
         self.assertEqual(calls.jobs, {"a": 8})
 
+    def test_what_one_job_does_sooner_gets_one(self):
+        calls = Calls()
+        calls.add(rt_ci.ALONE[0], lines=9)
+        calls.run()
+        self.assertEqual(calls.jobs, {rt_ci.ALONE[0]: 1})
+
     def test_edits_get_one_job(self):
         calls = Calls()
         calls.add("a", kind="edits", lines=9)

@@ -83,10 +83,10 @@ class Case(unittest.TestCase):
 
 class Words(Case):
     def test_wrong_words_are_answered_at_once(self):
-        for words in ((), ("",), ("print",), ("print", "item"), ("derive", "print"), ("print", "derive", "derive"), ("print ", "derive"), ("list",), ("--prove", "x"), ("print", "--help"), ("print", "[a-z]*")):
+        for words in ((), ("",), ("print",), ("print", "items"), ("derive", "print"), ("print", "derive", "derive"), ("print ", "derive"), ("list", "file"), ("--prove", "x"), ("print", "--help"), ("print", "[a-z]*")):
             ran = self.run_with(*words)
             self.assertEqual((ran.returncode, ran.stdout, ran.stderr), (2, b"", USAGE), words)
-        self.assertEqual(self.run_with("list", how=">&- 2>&-").returncode, 2)
+        self.assertEqual(self.run_with("lists", how=">&- 2>&-").returncode, 2)
         self.assertEqual(self.calls(), [])
 
     def test_help_names_each_word_of_the_source(self):
@@ -97,7 +97,7 @@ class Words(Case):
         found = re.findall(r'"(\S+)" => Some\((?:Kind|Command)::', source)
         self.assertGreater(len(found), 3)
         for word in found:
-            self.assertRegex(told.splitlines()[-1], rf"[ |]{word}[ .]|{word}\|")
+            self.assertRegex(told.splitlines()[-1], rf"[ |]{word}[ .|]")
         for option in ("./run WORD..", "./run --prove", "./run --help"):
             self.assertIn(option, told)
 

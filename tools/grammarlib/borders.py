@@ -1,7 +1,8 @@
 """The borders of a rule: each change of its form (mutants.py) must be told by a worked example of that rule.
 
 An example tells a change where the changed table reads it otherwise than the example says. Changes that alter nothing of what is
-read and printed are named, with the reason, in tools/equivalent_mutants.txt.
+read and printed are named, with the reason, in tools/equivalent_mutants.txt. How many borders of a rule have no example yet stands in
+tools/untold_borders.txt; they may only become fewer.
 """
 from .antt import Fault
 from .antt_text import Writer
@@ -27,6 +28,26 @@ def read_equivalent(path):
             raise Fault(f'{path.name}, line {number}: it stands twice')
         found[tuple(parts[:2])] = parts[2]
     return found
+
+
+def read_untold(path):
+    """How many borders of each rule may lack an example."""
+    found = {}
+    for number, line in enumerate(path.read_text().split('\n') if path.exists() else [], 1):
+        if not line.strip() or line.startswith('#'):
+            continue
+        parts = line.split()
+        if len(parts) != 2 or not parts[1].isdigit() or parts[0] in found:
+            raise Fault(f'{path.name}, line {number}: a line is `rule count`, each rule once')
+        found[parts[0]] = int(parts[1])
+    return found
+
+
+def written_untold(counts):
+    """The file of such counts."""
+    lines = ['# How many borders of a rule no example tells yet (tools/examples.txt). They may only become fewer: tools/grammar.py --check fails',
+             '# where a rule has more. tools/grammar.py --lower writes those that became fewer.']
+    return '\n'.join(lines + [f'{rule} {n}' for rule, n in counts.items() if n]) + '\n'
 
 
 class WrongReader(Reader):
@@ -60,8 +81,9 @@ class Prepared:
 
 
 class Borders:
-    def __init__(self, lookaheads, table, examples, equivalent):
-        self.lookaheads, self.table, self.equivalent = lookaheads, table, equivalent
+    def __init__(self, lookaheads, table, examples, equivalent, untold=None):
+        self.lookaheads, self.table, self.equivalent, self.untold = lookaheads, table, equivalent, untold or {}
+        self.counts = {}  # how many borders of each rule have no example, once they were looked for
         self.mutants = Mutants(lookaheads, table)
         self.examples = {rule: [Prepared(e) for e in examples if e.rule == rule] for rule in table}
 
@@ -82,15 +104,26 @@ class Borders:
         return found[0].code if found else None
 
     def lacking(self, rules=None):
-        """What tools/examples.txt and the list of equivalent changes lack of these rules, else of all, one line each."""
+        """What tools/examples.txt and the list of equivalent changes lack of these rules, else of all, one line each. Of a rule that may
+        lack examples of some borders none is told, where it lacks no more."""
         lines, known, rules = [], set(), rules or list(self.table)
         for rule in rules:
+            bare = []
             for mutant in self.mutants.of(rule):
                 known.add((rule, mutant.change))
                 listed, told = (rule, mutant.change) in self.equivalent, self.told(mutant)
                 if listed and told:
                     lines.append(f'`{rule}`: the change "{mutant.change}" is listed as one that alters nothing, but the example `{told}` tells it')
                 elif not listed and not told:
-                    lines.append(f'`{rule}`: no example tells the table from one in which {mutant.change}')
+                    bare.append(f'`{rule}`: no example tells the table from one in which {mutant.change}')
+            self.counts[rule] = len(bare)
+            lines += self.too_many(rule, bare)
         return lines + [f'`{rule}`: "{change}" is listed as a change that alters nothing, but is no change of this rule'
                         for rule, change in self.equivalent if rule in rules and (rule, change) not in known]
+
+    def too_many(self, rule, bare):
+        """The lines, where they are more than the rule may have."""
+        may = self.untold.get(rule, 0)
+        if len(bare) <= may:
+            return []
+        return ([f'`{rule}`: {len(bare)} borders have no example, and {may} may (tools/untold_borders.txt)'] if may else []) + bare

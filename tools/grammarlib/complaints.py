@@ -129,7 +129,17 @@ class Tests:
         asked = told or mentions_fact(look)
         self.fine(form[2], rule, asked)
         self.fine(form[3], rule, asked)
-        self.kept(rule, look, self.summaries.summary(form[2], asked), self.summaries.summary(form[3], asked))
+        yes = Summary() if self.sure_list(look, form[2]) else self.summaries.summary(form[2], asked)
+        self.kept(rule, look, yes, self.summaries.summary(form[3], asked))
+
+    def sure_list(self, look, form):
+        """Each print of a list in `< >` meets the look, since each of its members begins a parameter."""
+        return (form[0] == 'ordered' and self.begin_parameters(form[1:3])
+                and self.lookaheads.answers(look, (('Punctuation', '<'), [('Before_parameter',)])))
+
+    def begin_parameters(self, members):
+        edges = unique(self.lookaheads.mark_first_set(',') + self.lookaheads.mark_first_set('>'))
+        return all(self.summaries.sure(self.lookaheads.at_parameter, edges, member) for member in members)
 
     def fine_vanishing(self, form, rule, told):
         look = form[2]
@@ -178,10 +188,8 @@ class Tests:
     def fine_generics_before(self, form, rule, told):
         x, y, behind = form[1:]
         self.fine(('ordered', x, y), rule, False)
-        edges = unique(self.lookaheads.mark_first_set(',') + self.lookaheads.mark_first_set('>'))
-        for member in (x, y):
-            if not self.summaries.sure(self.lookaheads.at_parameter, edges, member):
-                self.report('LEAD', rule, 'a member may not begin a parameter in the print')
+        if not self.begin_parameters((x, y)):
+            self.report('LEAD', rule, 'a member may not begin a parameter in the print')
         self.fine(behind, rule, False)
         summary = self.summaries.summary(behind)
         if not self.starts.closes(behind) or self.starts.nullable(behind) or summary.nullable or summary.gone:

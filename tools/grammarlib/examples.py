@@ -20,6 +20,8 @@ from .tokens import Group, Ident, Literal, Punct, read_text, stream
 from .write import MARK
 
 UNFOLD = 'left is_end lookahead_at sees take_token take_lifetime take_mark take_group before rows_for rows run parse_rule'
+SUPPLIED = UNFOLD.replace('before', 'before first_span')  # where something may be supplied before a token
+BLOCKS = {'block', 'body', 'plain_body', 'statements', 'statement'}  # what these read may hold any other rule
 
 
 SUBJECT = re.compile(r'subject ([A-Z]\w*): (.+)$')
@@ -65,10 +67,39 @@ def parse(path, rules):
     return found
 
 
+def parts(form):
+    """A form and all that stand in it."""
+    if isinstance(form, tuple) and form:
+        if isinstance(form[0], str):
+            yield form
+        for part in form:
+            yield from parts(part)
+
+
+def named(form):
+    """The rules that the form itself names."""
+    return [form[1][0]] if form[0] == 'rule' else [rule[0] for rule in form[1]] if form[0] == 'one_of' else []
+
+
 class Theorems:
     def __init__(self, source, lookaheads):
         self.source, self.writer = source, Writer(source)
         self.reader = Reader(lookaheads, source.table)
+        self.supplying = {rule for rule in source.rules if self.may_supply(rule)}
+
+    def may_supply(self, rule):
+        """The rule leads to a form that is supplied, not through a block."""
+        seen, asked = set(), [rule]
+        while asked:
+            rule = asked.pop()
+            if rule in seen:
+                continue
+            seen.add(rule)
+            found = list(parts(self.source.table[rule]))
+            if any(form[0] == 'supplied' for form in found):
+                return True
+            asked += [k for form in found for k in named(form) if k not in BLOCKS]
+        return False
 
     def span(self, span, plain):
         return 'call_site' if plain else f'(at {span[0]} {span[1]})'
@@ -117,14 +148,16 @@ class Theorems:
             claim = f'DerivesAs {example.rule}\n    ({self.stream(trees)})\n    ({printed})\n    ({self.stream(rest)})'
             proof = f'computed {example.rule} _ _ _ refl'
             comment += f' prints `{example.printed}`' + (f' and leaves `{example.rest}`' if example.rest else '')
-        return f'{comment}\n{example.name} : {claim}\nunfolding {UNFOLD}\n{example.name} = {proof}\n'
+        opened = SUPPLIED if example.rule in self.supplying or example.rule in ('statement', 'statements') and 'fn ' in example.text else UNFOLD
+        return f'{comment}\n{example.name} : {claim}\nunfolding {opened}\n{example.name} = {proof}\n'
 
     def files(self, examples):
         """The file of each subject, and the rules without an example that is read and one that is refused."""
         wrong = [e.name for e in examples if not self.agree(e)]
         if wrong:
             raise Fault('examples.txt: the table reads these otherwise: ' + ', '.join(wrong))
-        lacking = [k for k in self.source.rules if not any(e.rule == k and e.printed is not None for e in examples)
+        reads = {k for k in self.source.rules if self.source.table[k] != ('one_of', ())}
+        lacking = [k for k in self.source.rules if (k in reads and not any(e.rule == k and e.printed is not None for e in examples))
                    or not any(e.rule == k and e.printed is None for e in examples)]
         subjects = dict.fromkeys(e.subject for e in examples)
         return {f'proofs/ExamplesOf{name}.antt': self.file(words, [e for e in examples if e.subject == (name, words)])

@@ -1,8 +1,11 @@
 """Of which rules what is shown (all tokens in their order) is read again: the tests of proofs/Shows.antt.
 
-The full form of a form reads the same, and prints all that it read but what is never printed. Its test is that of any form, by the summaries
-of the table, so what is shown of a rule is read where the rule's full form passes, and those of all rules that it names.
+The full form of a form reads the same, and prints all that it read but what is never printed. Its test is that of any form, by summaries of
+the full forms, so what is shown of a rule is read where the rule's full form passes, and those of all rules that it names.
 """
+import copy
+
+from .complaints import Tests
 from .starts import opt_generics
 
 PARTS = {'&': (1, 2), 'when': (2, 3), 'vanishing': (3,), 'inside': (2,), 'either': (1, 2), 'such': (2,), 'shaped': (2,), 'captured': (1,),
@@ -35,28 +38,25 @@ def full(lookaheads, form):
     return form
 
 
-def covers(summary, other):
-    lists = ('stays', 'moves', 'gone', 'ends', 'halts', 'shuns')
-    return all(set(getattr(other, n)) <= set(getattr(summary, n)) for n in lists) and summary.nullable >= other.nullable
+def with_forms(starts, table):
+    """The same beginnings and ends of rules, over these forms of theirs."""
+    other = copy.copy(starts)
+    other.table = table
+    return other
 
 
-def is_read_again(tests, rule):
-    """The full form of the rule prints what the rule's summaries say, and passes the tests."""
-    form, said, found = full(tests.lookaheads, tests.table[rule]), tests.summaries.said, tests.found
-    tests.found = []
-    for told in (False, True):
-        if (rule, told) in said:
-            tests.fine(form, rule, told)
-    good = not tests.found and all(covers(said[rule, told], tests.summaries.summary(form, told)) for told in (False, True) if (rule, told) in said)
-    tests.found = found
-    return good
+class Shown:
+    """The rules of which what is shown is read (`rules`: they pass, and so do all that they name), and the tests of all rules with the full
+    forms of those."""
 
-
-def reads_shown(tests):
-    """The rules of which what is shown is read: they pass, and so do all that they name."""
-    good = {rule for rule in tests.table if is_read_again(tests, rule)}
-    while True:
-        fewer = {rule for rule in good if named(tests.table[rule]) <= good}
-        if fewer == good:
-            return good
-        good = fewer
+    def __init__(self, tests):
+        table, lookaheads = tests.table, tests.lookaheads
+        self.rules = set(table)
+        while True:
+            forms = {rule: full(lookaheads, form) if rule in self.rules else form for rule, form in table.items()}
+            self.tests = Tests(with_forms(tests.starts, forms), tests.show)
+            failed = {complaint.rule for complaint in self.tests.complaints()} & self.rules
+            fewer = {rule for rule in self.rules - failed if named(table[rule]) <= self.rules - failed}
+            if fewer == self.rules:
+                return
+            self.rules = fewer

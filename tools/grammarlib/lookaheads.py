@@ -155,7 +155,7 @@ class Lookaheads:
         terminal = self.join(character, lookahead[0]) if joint else ('Punctuation', character)
         if len(terminal[1]) == 1:
             return terminal, self.facts_for(self.asked(('Punctuation', character)), lookahead)
-        if len(terminal[1]) == 2:
+        if len(terminal[1]) == 2 and character == ':':
             return terminal, lookahead[1] if lookahead[0][0] == 'Punctuation' and len(lookahead[0][1]) == 1 else []
         return terminal, []
 

@@ -146,8 +146,15 @@ class Summaries:
         quiet = not any(lookaheads.asked(('Punctuation', c)) for c in text)
         tells = len(text) == 1 or (len(text) == 2 and terminal == ('Punctuation', text) and all(lookaheads.deaf(text[-1], c) for c, _ in last))
         steady = quiet or (asking and tells)
-        return Summary([terminal] if steady else [], [(f, terminal, ()) for f in lookaheads.mark_first_set(text) if f != terminal or not steady],
+        return Summary([terminal] if steady else [],
+                     [(f, terminal, self.told_of(asking, text, f, last)) for f in lookaheads.mark_first_set(text) if f != terminal or not steady],
                      ends=[c for c, _ in last] if asking else [])
+
+    def told_of(self, asking, text, terminal, last):
+        """Facts that a mark of one character tells neither where a longer mark is seen in the source nor in the print."""
+        longer = len(text) == 1 and len(terminal[1]) > 1 and text != ':'
+        still = asking and longer and all(self.lookaheads.deaf(text, c) for c, _ in last)
+        return tuple(n for _, n in last) if still else ()
 
     def pair_summary(self, form, told):
         first = self.summary(form[1], told)
@@ -244,5 +251,7 @@ class Summaries:
         if kind == 'when':
             asked = told or mentions_fact(form[1])
             return self.sure(look, after, form[2], asked) and self.sure(look, after, form[3], asked)
+        if kind == 'either':
+            return self.sure(look, after, form[1], told) and self.sure(look, after, form[2], told)
         summary = self.summary(form, told)
         return all(lookaheads.must(look, f) for f in summary.prints()) and not (summary.nullable or summary.gone)

@@ -3,7 +3,7 @@ import re
 
 from .antt_text import COMMON, CRATE, PRELUDE, Writer, argument, exports, use_lines
 from .cut import Cuts
-from .full import reads_shown
+from .full import Shown
 from .lookaheads import ENDED
 from .ranks import HIGHEST
 from .summaries import Summary
@@ -22,7 +22,8 @@ class Files:
     def __init__(self, source, starts, tests, rank):
         self.source, self.starts, self.said, self.rank = source, starts, tests.summaries.said, rank
         self.writer = Writer(source)
-        self.rules, self.shown, self.cuts = source.rules, reads_shown(tests), Cuts(starts)
+        shown = Shown(tests)
+        self.rules, self.shown, self.shown_said, self.cuts = source.rules, shown.rules, shown.tests.summaries.said, Cuts(starts)
 
     def all(self):
         return {
@@ -69,17 +70,17 @@ class Files:
 
     def cut_off(self, rule):
         """What is shown of it is read before the same rest, and that rest may be cut off."""
-        return not self.said[rule, False].shuns and rule in self.cuts.cut and rule in self.cuts.spaced
+        return not self.shown_said[rule, False].shuns and rule in self.cuts.cut and rule in self.cuts.spaced
 
     def stands_alone(self, rule):
         """It asks nothing of what follows it that the end might answer otherwise, or that may be cut off."""
-        summary, may = self.said[rule, False], self.starts.lookaheads.may
+        summary, may = self.shown_said[rule, False], self.starts.lookaheads.may
         asks_nothing = not summary.ends and not any(may(look, ENDED) for look in summary.halts + summary.shuns)
         return rule in self.shown and (asks_nothing or self.cut_off(rule))
 
     def stands_before(self, rule, mark):
         """What it asks of what follows it, the end answers as this mark does, or that may be cut off."""
-        summary, lookaheads = self.said[rule, False], self.starts.lookaheads
+        summary, lookaheads = self.shown_said[rule, False], self.starts.lookaheads
         same = lambda a: (all(lookaheads.agree(look, a, ENDED, ()) for look in summary.ends)
                           and all(lookaheads.stays_off(look, a, ENDED, ()) for look in summary.halts))
         asks_alike = all(map(same, lookaheads.mark_first_set(mark))) and not any(lookaheads.may(look, ENDED) for look in summary.shuns)
@@ -124,11 +125,11 @@ class Files:
         facts = argument(self.writer.list(n[0] for n in told))
         return f'move {argument(self.writer.terminal(a))} {argument(self.writer.terminal(b))} {facts}'
 
-    def summary_line(self, rule, told):
-        summary, w = self.said.get((rule, told)) or Summary(), self.writer
+    def summary_line(self, name, said, rule, told):
+        summary, w = said.get((rule, told)) or Summary(), self.writer
         fields = {'stays': w.terminals(summary.stays), 'moves': w.list(map(self.move, summary.moves)), 'nullable': truth(summary.nullable),
                   'gone': w.terminals(summary.gone), 'ends': w.looks(summary.ends), 'halts': w.looks(summary.halts), 'shuns': w.looks(summary.shuns)}
-        return f'summary_of {truth(told)} {rule} = record {{ ' + '; '.join(f'{k} = {v}' for k, v in fields.items()) + ' }'
+        return f'{name} {truth(told)} {rule} = record {{ ' + '; '.join(f'{k} = {v}' for k, v in fields.items()) + ' }'
 
     def block(self, about, signature, line):
         """A definition with one line a rule."""
@@ -152,7 +153,12 @@ class Files:
             self.block('somebody asks for the facts of its lookahead',
                        'abbrev pub heard_of : Rule → Bool', lambda k: f'heard_of {k} = {truth((k, True) in self.said)}'),
             self.twice('how its print may differ from what it read',
-                       'abbrev pub summary_of : Bool → Rule → Summary', self.summary_line),
+                       'abbrev pub summary_of : Bool → Rule → Summary', lambda k, told: self.summary_line('summary_of', self.said, k, told)),
+            self.block('the same of its full form, where what is shown of it is read',
+                       'abbrev pub shown_heard_of : Rule → Bool', lambda k: f'shown_heard_of {k} = {truth((k, True) in self.shown_said)}'),
+            self.twice('how what is shown of it may differ from what it read',
+                       'abbrev pub shown_summary_of : Bool → Rule → Summary',
+                       lambda k, told: self.summary_line('shown_summary_of', self.shown_said, k, told)),
         ]
 
     def said_proofs(self):

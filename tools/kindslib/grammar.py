@@ -18,7 +18,7 @@ def by_hand(source, others):
 
 
 def readers(source, lists, others):
-    """By each rule, the types that are read by it; or else the functions that promise it, the public ones if there are any, and the
+    """By each rule, the types that are read by it; or else the functions that promise it of what is left to read, the public ones if there are any, and the
     levels of operators; or else the functions whose proof opens its equation."""
     types, opened = {}, {}
     functions = {rule: [(False, f"`{rule}` of `{source.crate.name}/comma_lists.rt`")] for rule in lists}
@@ -32,7 +32,7 @@ def readers(source, lists, others):
             attributes, indent, public, function, signature = match.groups()
             owner = re.findall(r"^impl(?: \w+ for)? (\w+) \{", text[: match.start()], re.M)[-1:] if indent else []
             name = f"`{'::'.join(owner + [function])}` of `{file}`"
-            for rule in dict.fromkeys(re.findall(r"rules\.(\w+)", signature)):
+            for rule in dict.fromkeys(re.findall(r"rules\.(\w+)\)* input\.", signature)):
                 functions.setdefault(rule, []).append((bool(public), name))
             for rule in dict.fromkeys(re.findall(r"Each::(\w+)_is\b", attributes)):
                 opened.setdefault(rule, []).append(name)

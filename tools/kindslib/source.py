@@ -43,9 +43,9 @@ class Type:
     def has_no_values(self):
         return self.is_enum and not self.variants
 
-    def holds_something(self):
-        """Whether it has fields, or a variant that holds something."""
-        return bool(self.fields) or any(payload for _, payload in self.variants)
+    def holds_something(self, nothing=lambda payload: False):
+        """Whether it has fields, or a variant that holds something else than nothing."""
+        return bool(self.fields) or any(payload and not nothing(payload) for _, payload in self.variants)
 
     def has_attributes(self):
         return any(kind == ATTRIBUTES for _, kind in self.fields)
@@ -91,10 +91,15 @@ class Source:
                 return file
         return None
 
+    def is_choice(self, kind):
+        """Whether it is an enum of names alone, which stands for no syntax."""
+        t = self.types.get(kind)
+        return bool(t and t.is_enum and t.variants and not t.holds_something() and not self.spec_of(f"syntax_of_{kind}"))
+
     def printed(self):
-        """The crate's types that stand for syntax: all that hold something, and the others that have a `syntax_of_X`."""
+        """The crate's types that stand for syntax: all that hold something but such choices, and the others that have a `syntax_of_X`."""
         own = [t for t in self.types.values() if t.crate == self.crate.name]
-        return [t for t in own if t.holds_something() or self.spec_of(f"syntax_of_{t.name}")]
+        return [t for t in own if t.holds_something(self.is_choice) or self.spec_of(f"syntax_of_{t.name}")]
 
     def owner(self, t):
         """The source of the crate in which a type stands."""

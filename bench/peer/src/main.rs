@@ -1,14 +1,17 @@
-//! The work of `print derive` and `print stmts`, done by syn 1 and proc-macro2: what the benchmark compares with.
+//! The work of `print derive`, `print stmts` and `print file`, done by syn 1 and proc-macro2: what the benchmark compares with.
 //!
 //!     peer print              reads a struct from standard input and writes its tokens as text
 //!     peer steps ROUNDS       writes the nanoseconds of each step, a line a round, to standard error
 //!     peer print stmts        the same as `print`, of statements
 //!     peer steps stmts ROUNDS the same as `steps`, of statements
+//!     peer print file         the same as `print`, of a file
+//!     peer steps file ROUNDS  the same as `steps`, of a file
 //!     peer bodies             reads a file of Rust and writes the body of each function, a line each
+//!     peer items              reads a file of Rust and writes each of its items, a line each
 //!     peer read ROUNDS        the same as `steps` of reading any source, by proc-macro2 alone: read, drop
 //!     peer text ROUNDS        the same of writing the tokens of any source as text: text, drop
 //!
-//! The words for statements are there with the feature `statements`. The columns of a line are those of `syn_bench`: read,
+//! The words for statements, files and their parts are there with the feature `statements`. The columns of a line are those of `syn_bench`: read,
 //! parse, print, text, drop; and so is what stands on standard output at the end.
 
 #[cfg(feature = "statements")]
@@ -103,8 +106,8 @@ fn text_rounds(source: &str, rounds: usize) -> Result<String, Box<dyn Error>> {
     Ok(tokens.to_string())
 }
 
-const USAGE: &str =
-    "usage: peer print [stmts], peer steps [stmts] ROUNDS, peer bodies, or peer read|text ROUNDS";
+const USAGE: &str = "usage: peer print [stmts|file], peer steps [stmts|file] ROUNDS, peer bodies|items, \
+                     or peer read|text ROUNDS";
 
 fn main() -> Result<(), Box<dyn Error>> {
     let words: Vec<String> = std::env::args().skip(1).collect();
@@ -119,7 +122,13 @@ fn main() -> Result<(), Box<dyn Error>> {
             rounds::<statements::Stmts>(&source()?, times.parse()?)?.to_string()
         }
         #[cfg(feature = "statements")]
+        ["print", "file"] => print::<syn::File>(&source()?)?,
+        #[cfg(feature = "statements")]
+        ["steps", "file", times] => rounds::<syn::File>(&source()?, times.parse()?)?.to_string(),
+        #[cfg(feature = "statements")]
         ["bodies"] => statements::bodies(&source()?)?.join("\n"),
+        #[cfg(feature = "statements")]
+        ["items"] => statements::items(&source()?)?.join("\n"),
         ["read", times] => read_rounds(&source()?, times.parse()?)?.to_string(),
         ["text", times] => text_rounds(&source()?, times.parse()?)?,
         _ => return Err(USAGE.into()),

@@ -1,4 +1,4 @@
-//! Statements, and where they are taken from.
+//! Statements, and where they and items are taken from.
 
 use proc_macro2::TokenStream;
 use quote::{ToTokens, TokenStreamExt};
@@ -56,4 +56,12 @@ pub fn bodies(source: &str) -> syn::Result<Vec<String>> {
     bodies.visit_file(&syn::parse_file(source)?);
     bodies.0.retain(|body| !body.contains('\n'));
     Ok(bodies.0)
+}
+
+/// Each item of a file. Those with a string of several lines are left out.
+pub fn items(source: &str) -> syn::Result<Vec<String>> {
+    let items = syn::parse_file(source)?.items;
+    let mut texts: Vec<String> = items.iter().map(|item| item.to_token_stream().to_string()).collect();
+    texts.retain(|text| !text.contains('\n'));
+    Ok(texts)
 }

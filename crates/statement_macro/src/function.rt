@@ -1,33 +1,24 @@
-//! Functions of statements alone, and how they are read.
+//! Functions whose blocks are kept as their tokens, and how they are read.
 ghost use Rattle.std.specs.Prelude.{◌≡◌, OnErr};
 ghost use Rattle.syn_grammar.specs.Promises.{Computes, Moved};
 ghost use Rattle.syn_parse.specs.Form.{parse};
 ghost use Rattle.syn_tokens.specs.Faults.{IsSyntaxError};
-ghost use Rattle.statement_macro.specs.Functions.{body_form, body_syntax, function_form, function_syntax};
+ghost use Rattle.statement_macro.specs.Functions.{function_form, function_syntax};
 
+use syn::deferred::DeferredBlock;
 use syn::parse::ParseBuffer;
-use syn::stmt::{Block, Stmt};
-use syn::token::{self, Brace};
-use syn::{Attribute, Ident, Result};
+use syn::{Attribute, Ident, Result, token};
 
-/// `#[a] fn p { #![b] let x = 1; x }`
+/// `#[a] fn p { let x = 1; x }`. The statements are read, and known to be some, but no tree of them is built until the block is opened.
 #[derive(Drop)]
 pub struct Function {
     pub attrs: Vec<Attribute>,
     pub fn_token: token::Fn,
     pub name: Ident,
-    pub body: Body,
+    pub block: DeferredBlock,
 }
 
-/// Inner attributes and statements, in braces.
-#[derive(Drop)]
-pub struct Body {
-    pub brace_token: Brace,
-    pub attrs: Vec<Attribute>,
-    pub stmts: Vec<Stmt>,
-}
-
-/// Parses outer attributes, the word `fn`, a name, and in braces inner attributes and statements.
+/// Parses outer attributes, the word `fn`, a name, and statements in braces.
 ///
 /// Where something else stands there, it is refused with a fault at the token that can't stand there. After any error the buffer
 /// stands where it stood.
@@ -51,23 +42,6 @@ fn whole_function(input: &mut ParseBuffer<'_>) -> Result<Function>
         attrs: Attribute::parse_outer(input)?,
         fn_token: input.parse()?,
         name: input.parse()?,
-        body: braced_body(input)?,
-    })
-}
-
-/// Inner attributes and statements, in braces.
-#[tactic(auto, unfolding(syn_grammar::specs::Take::is_end))]
-fn braced_body(input: &mut ParseBuffer<'_>) -> Result<Body>
-    ensures reads { Computes IsSyntaxError body_syntax (parse body_form input.old) result input.new }
-    ensures moved { Moved input.old result input.new }
-{
-    let (brace_token, mut content) = input.braced()?;
-    let attrs = Attribute::parse_inner(&mut content)?;
-    let stmts = Block::parse_within(&mut content)?;
-    content.finish()?;
-    Ok(Body {
-        brace_token,
-        attrs,
-        stmts,
+        block: input.parse()?,
     })
 }

@@ -1,25 +1,36 @@
 //! The lines that are written of a function.
 
+use crate::block::take_value;
 use crate::function::Function;
 use std::alloc::Global;
 use std::fmt::Write as _;
+use syn::deferred::DeferredBlock;
 use syn::reader::token_text;
-use syn::stmt::Stmt;
+use syn::stmt::{Block, Stmt};
 use syn::token::{TokenStream, TokenTreeRef};
 use syn::{Span, ToTokens};
 
-/// Adds a line with the name, one with the numbers of attributes, and one for each statement.
+/// Adds a line with the name, one with the number of attributes, one for each statement, and one with the block without its value.
 pub(crate) fn add_function(
     lines: &mut String,
     function: &Function,
     alloc: Global,
 ) -> syn::Result<()> {
     writeln!(lines, "fn {}", function.name.text())?;
-    let (outer, inner) = (function.attrs.len(), function.body.attrs.len());
-    writeln!(lines, "attributes: {outer} outer, {inner} inner")?;
-    for stmt in &function.body.stmts {
+    writeln!(lines, "attributes: {}", function.attrs.len())?;
+    let mut block: Block = function.block.open()?;
+    for stmt in &block.stmts {
         add_statement(lines, stmt, alloc)?;
     }
+    take_value(&mut block);
+    add_block(lines, &DeferredBlock::new(&block, alloc)?, alloc)
+}
+
+/// Adds the line of a block that was changed.
+fn add_block(lines: &mut String, block: &DeferredBlock, alloc: Global) -> syn::Result<()> {
+    let mut tokens = TokenStream::new(alloc);
+    block.to_tokens(&mut tokens)?;
+    writeln!(lines, "without value: {}", token_text(&tokens)?.as_str())?;
     Ok(())
 }
 
@@ -44,6 +55,7 @@ fn kind_of(stmt: &Stmt) -> &'static str {
         Stmt::Local(_) => "local",
         Stmt::Expr(_, Some(_)) => "expression with `;`",
         Stmt::Expr(_, None) => "expression",
+        Stmt::Item(_) => "item",
         Stmt::Macro(_) => "macro",
     }
 }

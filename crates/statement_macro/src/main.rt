@@ -1,15 +1,16 @@
-//! What an attribute macro of one's own reads: a function of statements alone, `#[a] fn p { #![b] let x = 1; x }`, from standard
-//! input.
+//! What an attribute macro of one's own reads: a function of statements alone, `#[a] fn p { let x = 1; x }`, from standard input. Its
+//! block is kept as tokens, opened, changed, and kept as tokens again.
 //!
-//! It writes a line with the name, one with the numbers of attributes before it and in its braces, and one for each statement:
-//! what it is, from which byte to which it stands, and its text. The status is 0; 1 where the text is refused or can't be read or
-//! written, with a line on standard error.
+//! It writes a line with the name, one with the number of attributes, one for each statement (what it is, from which byte to which it
+//! stands, and its text), and one with the block without its value: `;` stands behind a last expression that had none. The status is 0;
+//! 1 where the text is refused or can't be read or written, with a line on standard error.
 #![tactic(auto)]
 
+mod block;
 mod function;
 mod list;
 
-pub use crate::function::{Body, Function, parse_function};
+pub use crate::function::{Function, parse_function};
 use crate::list::add_function;
 use std::alloc::Global;
 use std::fmt::Write as _;

@@ -70,8 +70,8 @@ pub mod lower {
 pub use syn_expr::expr::{
     Expr, ExprArray, ExprAssign, ExprBinary, ExprBlock, ExprBreak, ExprCall, ExprCast,
     ExprContinue, ExprField, ExprForLoop, ExprGroup, ExprIf, ExprIndex, ExprLit, ExprLoop,
-    ExprMacro, ExprMethodCall, ExprParen, ExprPath, ExprReference, ExprRepeat, ExprReturn, ExprTry,
-    ExprTuple, ExprUnary, ExprUnsafe, ExprWhile, Label,
+    ExprMacro, ExprMethodCall, ExprParen, ExprPath, ExprReference, ExprRepeat, ExprReturn,
+    ExprStruct, ExprTry, ExprTuple, ExprUnary, ExprUnsafe, ExprWhile, FieldValue, Label,
 };
 pub use syn_expr::op::{BinOp, UnOp};
 pub use syn_expr::stmt::{Block, Local, LocalInit, LocalModifiers, Stmt, StmtMacro};
@@ -83,7 +83,7 @@ pub mod expr {
         Expr, ExprArray, ExprAssign, ExprBinary, ExprBlock, ExprBreak, ExprCall, ExprCast,
         ExprContinue, ExprField, ExprForLoop, ExprGroup, ExprIf, ExprIndex, ExprLit, ExprLoop,
         ExprMacro, ExprMethodCall, ExprParen, ExprPath, ExprReference, ExprRepeat, ExprReturn,
-        ExprTry, ExprTuple, ExprUnary, ExprUnsafe, ExprWhile, Label,
+        ExprStruct, ExprTry, ExprTuple, ExprUnary, ExprUnsafe, ExprWhile, FieldValue, Label,
     };
 }
 
@@ -112,7 +112,8 @@ pub mod stmt {
 /// Parts of trees that are kept as their tokens until they are opened.
 pub mod deferred {
     pub use syn_recognize::deferred::{
-        Deferred, DeferredConstant, DeferredExpr, TreeOf, read_deferred, read_deferred_rest,
+        BlockOf, Deferred, DeferredBlock, DeferredConstant, DeferredExpr, DeferredItem,
+        DeferredItems, DeferredStatements, TreeOf, read_deferred, read_deferred_rest,
     };
 }
 

@@ -1,24 +1,27 @@
 -- The laws of the grammar, of what was read and printed of a whole stream.
-use Rattle.std.proofs.Common.{◌≡◌, true, Some, None, sym, subst, ap, ◌∙◌, inl, inr}
+use Rattle.std.proofs.Common.{◌≡◌, true, false, Some, None, sym, subst, ap, ◌∙◌, inl, inr}
 use Rattle.std.specs.Prelude.{Bool, IsTrue, ◌↔◌, List, Result, Ok, Err}
 use Rattle.std.specs.Result.{IsErrAnd}
 use Rattle.syn_grammar.specs.Tokens.{Stream, end, plain, visible}
 use Rattle.syn_grammar.specs.Rules.{Rule}
-use Rattle.syn_grammar.specs.Grammar.{Syntax, print, normal}
+use Rattle.syn_grammar.specs.Grammar.{Syntax, DerivesPrefix, rule, print, normal}
+use Rattle.syn_grammar.specs.Before.{before}
+use Rattle.syn_grammar.specs.Grows.{is_part, lift, unmoved}
 use Rattle.syn_grammar.specs.Laws.{Derives}
 use Rattle.syn_grammar.specs.Take.{only}
 use Rattle.syn_grammar.specs.Run.{parse_rule, value_of}
 use Rattle.syn_grammar.specs.Promises.{Refused}
 use Rattle.syn_grammar.proofs.Means.{means, parse_rule_found}
 use Rattle.syn_grammar.proofs.Takes.{end_found}
-use Rattle.syn_grammar.proofs.Proved.{print_is_read, print_is_visible, normal_prints, same_form}
+use Rattle.syn_grammar.proofs.Proved.{one_tree, print_is_read, print_is_visible, normal_prints, same_form}
+use Rattle.syn_grammar.proofs.StillProved.{lift_keeps, still_derives}
 use Rattle.syn_grammar.proofs.PrintedValues.{print_value}
 use Rattle.syn_recognize.specs.DeferredTokens.{whole_only}
 use Rattle.syn_tokens.specs.Faults.{FaultValue, IsSyntaxError}
 use Rattle.syn_parse.specs.Refusals.{IsSyntax, IsRefusedAs}
 use Rattle.syn_parse.specs.declared.read.refusal.Refusal.{Refusal}
 use Rattle.syn_parse.proofs.Refused.{refused_by_syntax}
-use Rattle.syn_answers.specs.Canonical.{IsCanonical, IsSameForm, CanonicalOutcome, SameFormOutcome, WholeOutcome}
+use Rattle.syn_answers.specs.Canonical.{IsCanonical, IsSameForm, CanonicalOutcome, SameFormOutcome, StillCanonical, WholeOutcome}
 use Rattle.syn_answers.specs.Whole.{IsWhole, IsWholePrint}
 
 -- trees of equal normal forms print alike
@@ -26,10 +29,10 @@ alike : (s t : Syntax) → normal s ≡ normal t → plain (print s) ≡ plain (
 alike s t e = sym (normal_prints s) ∙ ap print e ∙ normal_prints t
 
 -- the tree whose print it is
-abbrev Printed : Rule → Stream → Stream → Type 0
+abbrev pub Printed : Rule → Stream → Stream → Type 0
 Printed k ts p = (t : Syntax) × Derives k ts t × (p ≡ print t)
 
-tree_of : (k : Rule) (ts p : Stream) → IsWholePrint k ts p → Printed k ts p
+pub tree_of : (k : Rule) (ts p : Stream) → IsWholePrint k ts p → Printed k ts p
 tree_of k ts p (s, e, q) = let (t, d, v) = (means k ts s end).0 e in (t, d, q ∙ ap print (sym v) ∙ print_value t)
 
 pub derived_of : (k : Rule) (ts : Stream) → IsWhole k ts → (tree : Syntax) × Derives k ts tree
@@ -49,6 +52,12 @@ canonical_of k ts p h v =
       same_normal = i;
       prints_again = alike u t i ∙ ap plain (sym q);
     }
+
+pub still_of : (k : Rule) (ts p : Stream) → IsWholePrint k ts p → (s : Syntax) → is_part k ≡ false → DerivesPrefix before (rule k) s ts end → (p ≡ print (lift s)) × (unmoved s ≡ true → p ≡ print s)
+still_of k ts p h s i b =
+    let (t, d, q) = tree_of k ts p h in
+    let r : p ≡ print (lift s) = q ∙ ap print ((one_tree k ts t (lift s) end end d (still_derives k ts s i b)).0) in
+    (r, λ u. r ∙ ap print (lift_keeps s u))
 
 pub refused_of : (k : Rule) (ts : Stream) → whole_only (parse_rule k ts) ≡ None → Refused k ts
 refused_of k ts e s a = absurd (cc (sym e ∙ ap whole_only (parse_rule_found k ts s end a) ∙ ap (λ b. only b (Some (value_of s, end))) end_found))
@@ -74,6 +83,10 @@ same_form_of k a b p q x h i y =
 pub canonical_err : (k : Rule) (ts : Stream) (r : Result Stream (List FaultValue)) (e : Refusal) → IsErrAnd r (λ f. IsRefusedAs e f) → (IsSyntax e → whole_only (parse_rule k ts) ≡ None) → CanonicalOutcome IsSyntaxError k ts r
 canonical_err k ts (Ok p) e h n = absurd h
 canonical_err k ts (Err f) e h n = λ v s. refused_of k ts (n (refused_by_syntax e f h s))
+
+pub still_err : (k : Rule) (ts : Stream) (r : Result Stream (List FaultValue)) (e : Refusal) → IsErrAnd r (λ f. IsRefusedAs e f) → (IsSyntax e → whole_only (parse_rule k ts) ≡ None) → StillCanonical IsSyntaxError k ts r
+still_err k ts (Ok p) e h n = absurd h
+still_err k ts (Err f) e h n = λ s i b g. refused_of k ts (n (refused_by_syntax e f h g)) (lift s) (still_derives k ts s i b)
 
 pub derived_err : (k : Rule) (ts : Stream) (r : Result (Unit {0}) (List FaultValue)) (e : Refusal) → IsErrAnd r (λ f. IsRefusedAs e f) → (IsSyntax e → whole_only (parse_rule k ts) ≡ None) → WholeOutcome IsSyntaxError k ts r
 derived_err k ts (Ok p) e h n = absurd h

@@ -1,8 +1,10 @@
 -- WHAT `canonical` AND `same_form` PROMISE, of any error type with its refusals.
-use Rattle.std.specs.Prelude.{◌≡◌, ◌↔◌, ◌⊎◌, Bool, true, IsTrue, Result, Ok, Err}
-use Rattle.syn_grammar.specs.Tokens.{Stream, plain, visible}
+use Rattle.std.specs.Prelude.{◌≡◌, ◌↔◌, ◌⊎◌, Bool, true, false, IsTrue, Result, Ok, Err}
+use Rattle.syn_grammar.specs.Tokens.{Stream, end, plain, visible}
 use Rattle.syn_grammar.specs.Rules.{Rule}
-use Rattle.syn_grammar.specs.Grammar.{Syntax, print, normal}
+use Rattle.syn_grammar.specs.Grammar.{Syntax, DerivesPrefix, rule, print, normal}
+use Rattle.syn_grammar.specs.Before.{before}
+use Rattle.syn_grammar.specs.Grows.{is_part, lift, unmoved}
 use Rattle.syn_grammar.specs.Laws.{Derives}
 use Rattle.syn_grammar.specs.Promises.{Refused}
 
@@ -20,6 +22,16 @@ pub record IsCanonical (k : Rule) (ts p : Stream) : Type 0 where
 abbrev pub CanonicalOutcome : {E : Type 0} → (E → Type 0) → Rule → Stream → Result Stream E → Type 0
 CanonicalOutcome refusal k ts (Ok p) = visible ts ≡ true → IsCanonical k ts p
 CanonicalOutcome refusal k ts (Err e) = visible ts ≡ true → refusal e → Refused k ts
+
+-- s is what the grammar before derived: what is read now is s with its traits and impls with `const` as these kinds of items, and it is s
+-- where it has none
+abbrev pub StillPrinted : {E : Type 0} → (E → Type 0) → Syntax → Result Stream E → Type 0
+StillPrinted refusal s (Ok p) = (p ≡ print (lift s)) × (unmoved s ≡ true → p ≡ print s)
+StillPrinted refusal s (Err e) = refusal e → ⊥
+
+-- what the grammar before derived is read still
+abbrev pub StillCanonical : {E : Type 0} → (E → Type 0) → Rule → Stream → Result Stream E → Type 0
+StillCanonical refusal k ts answer = (s : Syntax) → is_part k ≡ false → DerivesPrefix before (rule k) s ts end → StillPrinted refusal s answer
 
 -- trees are derived from both, and the answer is true exactly where their normal forms are equal, which is exactly where
 -- their prints are equal, spans aside

@@ -1,2 +1,4 @@
 pub mod Canonical
+pub mod Joining
+pub mod Listing
 pub mod Whole

@@ -1,10 +1,13 @@
 //! Canonical prints, and whether two streams have the same, by the rules of the grammar.
-ghost use Rattle.syn_answers.specs.Canonical.{CanonicalOutcome, SameFormOutcome, WholeOutcome};
+ghost use Rattle.syn_answers.specs.Canonical.{CanonicalOutcome, SameFormOutcome, StillCanonical, WholeOutcome};
+ghost use Rattle.syn_answers.specs.Joining.{JoinOutcome};
 ghost use Rattle.syn_answers.specs.Whole.{WholePrint, WholeRead};
 ghost use Rattle.syn_parse.specs.Refusals.{IsSyntax};
 ghost use Rattle.syn_recognize.specs.Names.{rule_of};
 ghost use Rattle.syn_tokens.specs.Faults.{IsSyntaxError};
 
+use crate::faults::told;
+use std::alloc::Global;
 use syn_parse::buffer::ParseBuffer;
 use syn_parse::read::refusal::Parsed;
 use syn_recognize::{Rule, printed_by, read_by};
@@ -12,7 +15,7 @@ use syn_tokens::error::Result;
 use syn_tokens::stream::TokenStream;
 
 /// What the rule reads of the whole stream, as it is printed.
-fn printed_whole(rule: Rule, tokens: &TokenStream) -> Parsed<TokenStream>
+fn printed_to_end(rule: Rule, tokens: &TokenStream) -> Parsed<TokenStream>
     ensures { WholePrint IsSyntax (rule_of rule) tokens.now result }
 {
     let mut input = ParseBuffer::new(tokens);
@@ -21,8 +24,18 @@ fn printed_whole(rule: Rule, tokens: &TokenStream) -> Parsed<TokenStream>
     Ok(printed)
 }
 
+/// What the rule reads of the whole stream, as it is printed, with the faults that more than a token tells.
+fn printed_whole(rule: Rule, tokens: &TokenStream) -> Parsed<TokenStream>
+    ensures { WholePrint IsSyntax (rule_of rule) tokens.now result }
+{
+    match printed_to_end(rule, tokens) {
+        Ok(printed) => Ok(printed),
+        Err(refusal) => Err(told(refusal, rule, tokens)),
+    }
+}
+
 /// Whether the rule reads the whole stream. Nothing is kept of it.
-fn read_whole(rule: Rule, tokens: &TokenStream) -> Parsed<()>
+fn read_to_end(rule: Rule, tokens: &TokenStream) -> Parsed<()>
     ensures { WholeRead IsSyntax (rule_of rule) tokens.now result }
 {
     let mut input = ParseBuffer::new(tokens);
@@ -31,14 +44,28 @@ fn read_whole(rule: Rule, tokens: &TokenStream) -> Parsed<()>
     Ok(())
 }
 
+/// Whether the rule reads the whole stream, with the faults that more than a token tells.
+fn read_whole(rule: Rule, tokens: &TokenStream) -> Parsed<()>
+    ensures { WholeRead IsSyntax (rule_of rule) tokens.now result }
+{
+    match read_to_end(rule, tokens) {
+        Ok(()) => Ok(()),
+        Err(refusal) => Err(told(refusal, rule, tokens)),
+    }
+}
+
 /// The canonical print of what the tokens spell: the print of the tree that the rule derives of the whole stream.
 ///
 /// It is refused where the rule derives none: with a fault at a token that can't stand there, or at the first token that is
 /// left over; else only where memory is. The stream is used up, whatever the answer. It takes no stack, however deep the
 /// stream is nested.
+///
+/// What the grammar before traits and impls with `const` became kinds of items reads is read still (`still_derives`), and where none
+/// stands in it, its print is as it was (`lift_keeps`).
 #[tactic(auto, using(crate::proofs::Canons::canonical_of))]
 pub fn canonical_by(rule: Rule, tokens: TokenStream) -> Result<TokenStream>
     ensures canonical { CanonicalOutcome IsSyntaxError (rule_of rule) tokens result }
+    ensures grown { StillCanonical IsSyntaxError (rule_of rule) tokens result }
 {
     Ok(printed_whole(rule, &tokens)?)
 }
@@ -64,4 +91,20 @@ pub fn same_form_by(rule: Rule, left: TokenStream, right: TokenStream) -> Result
     let left_print = printed_whole(rule, &left)?;
     let right_print = printed_whole(rule, &right)?;
     Ok(left_print == right_print)
+}
+
+/// The items that these pieces spell, one in each, as one file: the canonical print of each piece, one behind the other. No pieces
+/// give no tokens.
+///
+/// It is refused where some piece spells no item, or where memory is refused.
+#[tactic(auto, using(crate::proofs::Joining::begins, crate::proofs::Joining::goes_on, crate::proofs::Joining::ends))]
+pub fn join_items(alloc: Global, pieces: &[TokenStream]) -> Result<TokenStream>
+    ensures joined { JoinOutcome IsSyntaxError pieces.now result }
+{
+    let mut joined = TokenStream::new(alloc);
+    'pieces: for piece in pieces {
+        let printed = printed_whole(Rule::Item, piece)?;
+        joined.append(printed)?;
+    }
+    Ok(joined)
 }

@@ -1,8 +1,10 @@
-//! Times the steps of `syn_canon print derive` and `print stmts`, each by itself, and the reading of any source.
+//! Times the steps of `print derive`, `print stmts` and `print file`, each by itself, and the reading of any source.
 //!
 //!     syn_bench ROUNDS         reads a struct from standard input; the nanoseconds of a round: text to tokens, tokens to
 //!                              a tree, the tree to tokens, tokens to text, and letting all of it go
 //!     syn_bench stmts ROUNDS   the same of statements
+//!     syn_bench file ROUNDS    the same of a file, without a tree: its print is written while it is read, and no time is left for a
+//!                              step of its own
 //!     syn_bench read ROUNDS    reads any source; of a round: text to tokens, and letting them go
 //!     syn_bench text ROUNDS    reads any source once; of a round: tokens to text, and letting that go
 //!
@@ -24,6 +26,8 @@ use syn::error::Error;
 use syn::parse::{Parse, parse2};
 use syn::reader::{read_tokens, token_text};
 use syn::token::TokenStream;
+use syn_answers::answers::canonical_by;
+use syn_recognize::Rule;
 
 /// Why a run ends without its answer.
 #[derive(Drop)]
@@ -98,6 +102,41 @@ fn round<T: Parse + ToTokens + Drop, C: Clock>(
     Ok((times, bytes))
 }
 
+/// Takes the source through all steps once, by the rule and without a tree, and tells how many bytes its text has.
+fn round_by<C: Clock>(
+    rule: Rule,
+    clock: &C,
+    alloc: Global,
+    source: &str,
+) -> Result<(Times, usize), Stop> {
+    let start = Instant::now(clock)?;
+    let tokens = read_tokens(alloc, source)?;
+    let read = start.elapsed(clock)?;
+
+    let start = Instant::now(clock)?;
+    let printed = canonical_by(rule, tokens)?;
+    let parse = start.elapsed(clock)?;
+    let print = Instant::now(clock)?.elapsed(clock)?;
+
+    let start = Instant::now(clock)?;
+    let written = token_text(&printed)?;
+    let text = start.elapsed(clock)?;
+
+    let bytes = written.len();
+    let start = Instant::now(clock)?;
+    drop(printed);
+    drop(written);
+    let dropped = start.elapsed(clock)?;
+    let times = Times {
+        read,
+        parse,
+        print,
+        text,
+        drop: dropped,
+    };
+    Ok((times, bytes))
+}
+
 /// Reads the source once: how long it took, how long letting the tokens go, and how many trees there were.
 fn read_round<C: Clock>(
     clock: &C,
@@ -130,6 +169,7 @@ fn text_round<C: Clock>(clock: &C, tokens: &TokenStream) -> Result<(Duration, Du
 enum Task {
     Derive,
     Stmts,
+    File,
     Read,
     Text,
 }
@@ -143,6 +183,7 @@ fn command(rt: &HostRuntime) -> Result<(Task, u32), Stop> {
     let (task, count) = match (first.as_str(), words.next()) {
         (_, None) => (Task::Derive, first),
         ("stmts", Some(count)) => (Task::Stmts, count),
+        ("file", Some(count)) => (Task::File, count),
         ("read", Some(count)) => (Task::Read, count),
         ("text", Some(count)) => (Task::Text, count),
         _ => return Err(Stop::Usage),
@@ -159,6 +200,7 @@ fn run(rt: &HostRuntime) -> Result<(), Stop> {
     match task {
         Task::Derive => rounds_of::<DeriveInput>(rt, rounds, source.as_str()),
         Task::Stmts => rounds_of::<Stmts>(rt, rounds, source.as_str()),
+        Task::File => rounds_by(Rule::File, rt, rounds, source.as_str()),
         Task::Read => read_rounds(rt, rounds, source.as_str()),
         Task::Text => text_rounds(rt, rounds, source.as_str()),
     }
@@ -186,6 +228,19 @@ fn text_rounds(rt: &HostRuntime, rounds: u32, source: &str) -> Result<(), Stop> 
     Ok(())
 }
 
+/// Writes the line of a round.
+fn write_times(rt: &HostRuntime, times: &Times) -> Result<(), Stop> {
+    eprintln!(rt;
+        "{} {} {} {} {}",
+        times.read.as_nanos(),
+        times.parse.as_nanos(),
+        times.print.as_nanos(),
+        times.text.as_nanos(),
+        times.drop.as_nanos()
+    )?;
+    Ok(())
+}
+
 fn rounds_of<T: Parse + ToTokens + Drop>(
     rt: &HostRuntime,
     rounds: u32,
@@ -195,14 +250,18 @@ fn rounds_of<T: Parse + ToTokens + Drop>(
     for _ in 0..rounds {
         let (times, length) = round::<T, HostRuntime>(rt, rt.alloc(), source)?;
         bytes = length;
-        eprintln!(rt;
-            "{} {} {} {} {}",
-            times.read.as_nanos(),
-            times.parse.as_nanos(),
-            times.print.as_nanos(),
-            times.text.as_nanos(),
-            times.drop.as_nanos()
-        )?;
+        write_times(rt, &times)?;
+    }
+    println!(rt; "{bytes}")?;
+    Ok(())
+}
+
+fn rounds_by(rule: Rule, rt: &HostRuntime, rounds: u32, source: &str) -> Result<(), Stop> {
+    let mut bytes = 0;
+    for _ in 0..rounds {
+        let (times, length) = round_by(rule, rt, rt.alloc(), source)?;
+        bytes = length;
+        write_times(rt, &times)?;
     }
     println!(rt; "{bytes}")?;
     Ok(())
@@ -212,7 +271,7 @@ fn main(rt: HostRuntime) -> ExitCode {
     match run(&rt) {
         Ok(()) => ExitCode::from(0),
         Err(Stop::Usage) => {
-            let _ = eprintln!(rt; "usage: syn_bench [stmts|read|text] ROUNDS");
+            let _ = eprintln!(rt; "usage: syn_bench [stmts|file|read|text] ROUNDS");
             ExitCode::from(2)
         }
         Err(Stop::Refused(error)) => {

@@ -4,7 +4,7 @@ use Rattle.std.specs.Str.{IsUtf8}
 use Rattle.std.specs.Io.KnownBytes.{Appends}
 use Rattle.std.specs.declared.alloc.Global.{Global}
 use Rattle.syn_grammar.specs.Tokens.{Stream}
-use Rattle.syn_grammar.specs.Rules.{Rule}
+use Rattle.syn_grammar.specs.Rules.{Rule, file}
 use Rattle.syn_grammar.specs.Grammar.{Syntax}
 use Rattle.syn_grammar.specs.Laws.{Derives}
 use Rattle.syn_grammar.specs.Promises as grammar
@@ -13,10 +13,11 @@ use Rattle.syn_reader.specs.Spelling.{Spells, IsFaultWithin}
 use Rattle.syn_reader.specs.Texts.{text_of}
 use Rattle.syn_answers.specs.Canonical.{IsCanonical}
 use Rattle.syn_canon.specs.declared.command.Command.{Command}
-use Rattle.syn_canon.specs.declared.command.Command.TheVariants.{Print, Check}
+use Rattle.syn_canon.specs.declared.command.Command.TheVariants.{Print, Check, List as Listing}
 use Rattle.syn_canon.specs.declared.failure.Failure.{Failure}
 use Rattle.syn_canon.specs.declared.failure.Failure.TheVariants.{Usage, ReadFailed, NotUtf8, Refused, WriteFailed, OutOfMemory}
 use Rattle.syn_canon.specs.Kinds.{rule_of}
+use Rattle.syn_canon.specs.Lines.{IsListed}
 use Rattle.syn_canon.specs.Words.{IsCommand, NoCommand}
 use Rattle.syn_canon.specs.Statuses.{status_of, line_of}
 
@@ -26,6 +27,7 @@ use Rattle.syn_canon.specs.Statuses.{status_of, line_of}
 abbrev pub rule_for : Command → Rule
 rule_for (Print kind) = rule_of kind
 rule_for (Check kind) = rule_of kind
+rule_for Listing = file
 
 -- the rule derives a tree from the whole stream
 abbrev pub IsDerived : Rule → Stream → Type 0
@@ -37,10 +39,11 @@ IsDerived rule stream = (tree : Syntax) × Derives rule stream tree
 abbrev pub IsPrinted : Rule → Stream → List ℕ → Type 0
 IsPrinted rule stream answer = (printed : Stream) × IsCanonical rule stream printed × (answer ≡ text_of printed ++ codes "\n")
 
--- what a command writes of a stream; `check` writes `ok` and a newline, where a tree is derived
+-- what a command writes of a stream; `check` writes `ok` and a newline, where a tree is derived; `list` writes a line for each item of a file
 abbrev pub IsWritten : Command → Stream → List ℕ → Type 0
 IsWritten (Print kind) stream answer = IsPrinted (rule_of kind) stream answer
 IsWritten (Check kind) stream answer = IsDerived (rule_of kind) stream × (answer ≡ codes "ok\n")
+IsWritten Listing stream answer = IsListed stream answer
 
 -- the text is all that the reader had to give, where it is known what that is
 abbrev pub IsRead : Option (List ℕ) → List ℕ → Type 0

@@ -1,4 +1,5 @@
 pub mod Kinds
 pub mod Words
+pub mod Lines
 pub mod Statuses
 pub mod Answers

@@ -12,6 +12,7 @@ use crate::by_kind::rule_by;
 use crate::command::Command;
 use crate::failure::Failure;
 use crate::kind::Kind;
+use crate::listing::list;
 use std::alloc::Global;
 use std::io::Read;
 use syn_answers::answers::{canonical_by, derived_by};
@@ -42,6 +43,7 @@ pub(crate) fn answer<R: Read>(
             check(kind, tokens)?;
             Ok(String::from_str(alloc, "ok\n")?)
         }
+        Command::List => list(alloc, &tokens),
     }
 }
 

@@ -4,13 +4,15 @@ ghost use Rattle.syn_canon.specs.Words.{IsCommand, NoCommand};
 
 use crate::kind::Kind;
 
-/// What is to be done with a text of some kind.
+/// What is to be done with a text.
 #[derive(Clone, Copy, Debug, PartialEq, Eq)]
 pub(crate) enum Command {
     /// To print it in its canonical form.
     Print(Kind),
     /// To say whether it is of the kind.
     Check(Kind),
+    /// To list the items of a file.
+    List,
 }
 
 impl Command {
@@ -19,6 +21,10 @@ impl Command {
         ensures { MatchOption result (NoCommand words.now) (IsCommand words.now) }
     {
         match words {
+            [task] => match task.as_str() {
+                "list" => Some(Command::List),
+                _ => None,
+            },
             [task, kind] => {
                 let kind = Kind::from_word(kind.as_str())?;
                 match task.as_str() {

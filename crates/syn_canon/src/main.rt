@@ -1,5 +1,5 @@
-//! Prints token text in its canonical form: `syn_canon print KIND` or `syn_canon check KIND`, with the text on standard
-//! input.
+//! Prints token text in its canonical form, or lists the items of a file: `syn_canon print KIND`, `syn_canon check KIND` or
+//! `syn_canon list`, with the text on standard input.
 #![tactic(auto)]
 
 ghost use Rattle.std.specs.Prelude.{◌≡◌, ◌≢◌, ◌≤◌, ◌↔◌, ◌⊎◌, [], ◌++◌, true, codes, Err, OnOk, IfErr};
@@ -14,6 +14,7 @@ mod by_kind;
 mod command;
 mod failure;
 mod kind;
+mod listing;
 pub mod output;
 
 use crate::answer::answer;

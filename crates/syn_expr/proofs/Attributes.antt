@@ -6,7 +6,7 @@ use Rattle.syn_grammar.specs.Values.{attributes_before, no_attributes as values_
 use Rattle.syn_tokens.specs.InOrder.{in_order}
 use Rattle.syn_lower.specs.Attributes.{all_attributes_syntax, all_listed, attributes_syntax, every, is_inner, is_outer, none_listed, outer_listed, shown_before, syntax_of_Attribute}
 use Rattle.syn_lower.specs.declared.attr.Attribute.{Attribute}
-use Rattle.syn_expr_parse.specs.Bodies.{attributes_before_body, attributes_in_body, listed_before, listed_inside, outer_first}
+use Rattle.syn_lower.specs.Bodies.{attributes_before_body, attributes_in_body, listed_before, listed_inside, outer_first}
 use Rattle.syn_expr_parse.specs.Unary.{all_shown}
 
 abbrev all : List Attribute → Syntax

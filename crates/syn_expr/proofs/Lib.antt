@@ -1,6 +1,6 @@
 pub mod Attributes
-pub mod Bodies
 pub mod Else
+pub mod Fields
 pub mod Forms
 pub mod Lists
 pub mod Moving

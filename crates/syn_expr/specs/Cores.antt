@@ -27,6 +27,7 @@ core_view (Expr-m.Path e) = refl
 core_view (Expr-m.Reference e) = refl
 core_view (Expr-m.Repeat e) = refl
 core_view (Expr-m.Return e) = refl
+core_view (Expr-m.Struct e) = refl
 core_view (Expr-m.Try e) = refl
 core_view (Expr-m.Tuple e) = refl
 core_view (Expr-m.Unary e) = refl

@@ -2,22 +2,23 @@
 -- An expression is its variant, its attributes and its fields (`Shaped (expr variant) (Both attributes fields)`). An operand behind a sign, an
 -- operator or a word stands in its rule's node; one before it doesn't.
 use Rattle.std.specs.Prelude.{Bool, true, false, List, [], Option, Some, None}
-use Rattle.syn_grammar.specs.Tokens.{Paren, Bracket, call_site}
+use Rattle.syn_grammar.specs.Tokens.{Paren, Brace, Bracket, call_site}
 use Rattle.syn_grammar.specs.Tokens as grammar
-use Rattle.syn_grammar.specs.Shape.{Variant, Array, Assign, Binary, Block, Break, Call, Cast, Continue, Field, ForLoop, Grouped, If, Index, Lit, Loop, Macro, MethodCall, Parens, Path, Reference, Repeat, Return, Try, Tuple, Unary, Unsafe, Verbatim, While, expr, said, choice}
+use Rattle.syn_grammar.specs.Shape.{Variant, Array, Assign, Binary, Block, Break, Call, Cast, Continue, Field, ForLoop, Grouped, If, Index, Lit, Loop, Macro, MethodCall, Parens, Path, Reference, Repeat, Return, Struct, Try, Tuple, Unary, Unsafe, Verbatim, While, expr, said, choice}
 use Rattle.syn_grammar.specs.Grammar.{Syntax, Nothing, Both, Left, Right, Node, Group, Shaped, Captured, Unshown}
 use Rattle.syn_grammar.specs.Promises.{itself}
 use Rattle.syn_tokens.specs.Leaves.{maybe, syntax_of_ident}
-use Rattle.syn_tokens.specs.Kinds.{and_syntax, as_syntax, break_syntax, colon_syntax, comma_syntax, continue_syntax, dot_syntax, else_syntax, eq_syntax, for_syntax, if_syntax, in_syntax, loop_syntax, mut_syntax, question_syntax, return_syntax, semi_syntax, unsafe_syntax, while_syntax}
+use Rattle.syn_tokens.specs.Kinds.{and_syntax, as_syntax, break_syntax, colon_syntax, comma_syntax, continue_syntax, dot_syntax, dot_dot_syntax, else_syntax, eq_syntax, for_syntax, if_syntax, in_syntax, loop_syntax, mut_syntax, question_syntax, return_syntax, semi_syntax, unsafe_syntax, while_syntax}
 use Rattle.syn_tokens.specs.Listing.{list_of}
 use Rattle.syn_lower.specs.Attributes.{attributes_syntax, none_listed}
 use Rattle.syn_lower.specs.Literals.{syntax_of_Lit}
 use Rattle.syn_lower.specs.Members.{syntax_of_Member}
 use Rattle.syn_lower.specs.Parts.{first, group_syntax, second}
 use Rattle.syn_lower.specs.Types.{syntax_of_lifetime, syntax_of_Type, tuple_elements}
-use Rattle.syn_expr_parse.specs.Bodies.{attributes_before_body, body}
+use Rattle.syn_lower.specs.Bodies.{attributes_before_body, body}
 use Rattle.syn_expr_parse.specs.Operators.{syntax_of_BinOp, syntax_of_UnOp}
 pub use Rattle.syn_expr_parse.specs.Parts.{array_elements, behind_else, block_behind_else, field_member, in_braces, method_arguments, token_of}
+use Rattle.syn_expr_parse.specs.StructLiterals.{field_of, literal_of_parts}
 use Rattle.syn_pat.specs.Patterns.{path_of, syntax_of_Pat}
 use Rattle.syn_expr.specs.declared.expr.Expr.TheVariants as Expr-m
 use Rattle.syn_expr.specs.declared.expr.blocks.ExprBlock.TheInside as ExprBlock-in
@@ -48,6 +49,8 @@ use Rattle.syn_expr.specs.declared.expr.primary.ExprLit.TheInside as ExprLit-in
 use Rattle.syn_expr.specs.declared.expr.primary.ExprMacro.TheInside as ExprMacro-in
 use Rattle.syn_expr.specs.declared.expr.primary.ExprPath.TheInside as ExprPath-in
 use Rattle.syn_expr.specs.declared.expr.primary.ExprReturn.TheInside as ExprReturn-in
+use Rattle.syn_expr.specs.declared.expr.structs.ExprStruct.TheInside as ExprStruct-in
+use Rattle.syn_expr.specs.declared.expr.structs.FieldValue.TheInside as FieldValue-in
 
 abbrev pub syntax_of_Expr : Expr-m.the_data → Syntax
 syntax_of_Expr (Expr-m.Array e) = Shaped (expr Array) e
@@ -72,6 +75,7 @@ syntax_of_Expr (Expr-m.Path e) = Shaped (expr Path) e
 syntax_of_Expr (Expr-m.Reference e) = Shaped (expr Reference) e
 syntax_of_Expr (Expr-m.Repeat e) = Shaped (expr Repeat) e
 syntax_of_Expr (Expr-m.Return e) = Shaped (expr Return) e
+syntax_of_Expr (Expr-m.Struct e) = Shaped (expr Struct) e
 syntax_of_Expr (Expr-m.Try e) = Shaped (expr Try) e
 syntax_of_Expr (Expr-m.Tuple e) = Shaped (expr Tuple) e
 syntax_of_Expr (Expr-m.Unary e) = Shaped (expr Unary) e
@@ -157,6 +161,17 @@ view_ExprPath a = Both (attributes_syntax a.attrs.items) (path_of a.qself a.path
 
 abbrev pub view_ExprReturn : ExprReturn-in.Inside → Syntax
 view_ExprReturn a = Both (attributes_syntax a.attrs.items) (Both (return_syntax a.return_token) (maybe (λ e. whole e.value) a.expr))
+
+-- STRUCT LITERALS
+
+abbrev pub view_FieldValue : FieldValue-in.Inside → Syntax
+view_FieldValue a = field_of (attributes_syntax a.attrs.items) (syntax_of_Member a.member) (maybe colon_syntax a.colon_token) (syntax_of_Expr a.expr)
+
+abbrev pub view_ExprStruct : ExprStruct-in.Inside → Syntax
+view_ExprStruct a =
+    Both (attributes_syntax a.attrs.items)
+    (Both (path_of a.qself a.path)
+    (group_syntax Brace a.brace_token (literal_of_parts (list_of itself comma_syntax a.fields.pairs a.fields.last) (maybe dot_dot_syntax a.dot2_token) (maybe (λ e. whole e.value) a.rest))))
 
 -- BODIES
 

@@ -6,17 +6,20 @@ use Rattle.syn_grammar.specs.Grammar.{Syntax, Nothing, Both, Left, Right, Node, 
 use Rattle.syn_grammar.specs.Tokens.{Paren}
 use Rattle.syn_grammar.specs.Shape.{Block, If, expr}
 use Rattle.syn_grammar.specs.Promises.{itself}
-use Rattle.syn_tokens.specs.Kinds.{colon_syntax, comma_syntax, else_syntax, semi_syntax}
-use Rattle.syn_tokens.specs.Leaves.{maybe}
+use Rattle.syn_tokens.specs.Kinds.{Colon, colon_syntax, comma_syntax, else_syntax, semi_syntax}
+use Rattle.syn_tokens.specs.Leaves.{maybe, syntax_of_ident}
 use Rattle.syn_tokens.specs.Listing.{list_of}
 use Rattle.syn_lower.specs.Sizes.{tree_size, above, above_falls, split, weight, split_last, weight_last, maybe_falls, list_falls}
 use Rattle.syn_lower.specs.Attributes.{attributes_syntax}
+use Rattle.syn_lower.specs.Members.{syntax_of_Member}
 use Rattle.syn_lower.specs.Parts.{group_syntax}
+use Rattle.syn_lower.specs.declared.member.Member.TheVariants as Member-m
 use Rattle.syn_lower.specs.Types.{syntax_of_Type, tuple_elements}
-use Rattle.syn_expr.specs.Bodies.{attributes_in_body, body, with_inner}
-use Rattle.syn_expr.specs.Expressions.{array_elements, behind_else, block_behind_else, method_arguments, syntax_of_Expr, whole, view_ExprArray, view_ExprAssign, view_ExprBinary, view_ExprBlock, view_ExprCall, view_ExprCast, view_ExprField, view_ExprForLoop, view_ExprGroup, view_ExprIf, view_ExprIndex, view_ExprLoop, view_ExprMethodCall, view_ExprParen, view_ExprReference, view_ExprRepeat, view_ExprReturn, view_ExprTry, view_ExprTuple, view_ExprUnary, view_ExprUnsafe, view_ExprWhile}
+use Rattle.syn_expr_parse.specs.StructLiterals.{field_of, hidden}
+use Rattle.syn_lower.specs.Bodies.{attributes_in_body, body, with_inner}
+use Rattle.syn_expr.specs.Expressions.{array_elements, behind_else, block_behind_else, method_arguments, syntax_of_Expr, whole, view_ExprArray, view_ExprAssign, view_ExprBinary, view_ExprBlock, view_ExprCall, view_ExprCast, view_ExprField, view_ExprForLoop, view_ExprGroup, view_ExprIf, view_ExprIndex, view_ExprLoop, view_ExprMethodCall, view_ExprParen, view_ExprReference, view_ExprRepeat, view_ExprReturn, view_ExprStruct, view_FieldValue, view_ExprTry, view_ExprTuple, view_ExprUnary, view_ExprUnsafe, view_ExprWhile}
 use Rattle.syn_expr.specs.Statements.{diverging, statements_syntax, statement_of, view_Block, view_Local, view_LocalInit}
-use Rattle.syn_expr.specs.declared.expr.blocks.ExprBlock.TheDeep.{deep-Expr, deep-ExprArray, deep-ExprAssign, deep-ExprBinary, deep-ExprBlock, deep-ExprCall, deep-ExprCast, deep-ExprField, deep-ExprForLoop, deep-ExprGroup, deep-ExprIf, deep-ExprIndex, deep-ExprLoop, deep-ExprMethodCall, deep-ExprParen, deep-ExprReference, deep-ExprRepeat, deep-ExprReturn, deep-ExprTry, deep-ExprTuple, deep-ExprUnary, deep-ExprUnsafe, deep-ExprWhile, deep-Block, deep-Stmt, deep-Local, deep-LocalInit}
+use Rattle.syn_expr.specs.declared.expr.blocks.ExprBlock.TheDeep.{deep-Expr, deep-ExprStruct, deep-FieldValue, deep-ExprArray, deep-ExprAssign, deep-ExprBinary, deep-ExprBlock, deep-ExprCall, deep-ExprCast, deep-ExprField, deep-ExprForLoop, deep-ExprGroup, deep-ExprIf, deep-ExprIndex, deep-ExprLoop, deep-ExprMethodCall, deep-ExprParen, deep-ExprReference, deep-ExprRepeat, deep-ExprReturn, deep-ExprTry, deep-ExprTuple, deep-ExprUnary, deep-ExprUnsafe, deep-ExprWhile, deep-Block, deep-Stmt, deep-Local, deep-LocalInit}
 use Rattle.syn_expr.specs.declared.expr.Expr.TheVariants as Expr-m
 use Rattle.syn_expr.specs.declared.expr.blocks.ExprBlock.TheInside as ExprBlock-in
 use Rattle.syn_expr.specs.declared.expr.blocks.ExprForLoop.TheInside as ExprForLoop-in
@@ -40,6 +43,8 @@ use Rattle.syn_expr.specs.declared.expr.postfix.ExprIndex.TheInside as ExprIndex
 use Rattle.syn_expr.specs.declared.expr.postfix.ExprMethodCall.TheInside as ExprMethodCall-in
 use Rattle.syn_expr.specs.declared.expr.postfix.ExprTry.TheInside as ExprTry-in
 use Rattle.syn_expr.specs.declared.expr.primary.ExprReturn.TheInside as ExprReturn-in
+use Rattle.syn_expr.specs.declared.expr.structs.ExprStruct.TheInside as ExprStruct-in
+use Rattle.syn_expr.specs.declared.expr.structs.FieldValue.TheInside as FieldValue-in
 use Rattle.syn_expr.specs.declared.stmt.Block.TheInside as Block-in
 use Rattle.syn_expr.specs.declared.stmt.Local.TheInside as Local-in
 use Rattle.syn_expr.specs.declared.stmt.LocalInit.TheInside as LocalInit-in
@@ -86,6 +91,7 @@ falls_Expr (Expr-m.Path e) = omega arith
 falls_Expr (Expr-m.Reference e) = omega arith
 falls_Expr (Expr-m.Repeat e) = omega arith
 falls_Expr (Expr-m.Return e) = omega arith
+falls_Expr (Expr-m.Struct e) = omega arith
 falls_Expr (Expr-m.Try e) = omega arith
 falls_Expr (Expr-m.Tuple e) = omega arith
 falls_Expr (Expr-m.Unary e) = omega arith
@@ -150,6 +156,52 @@ falls_ExprTuple a = omega (arith, tuple_falls whole deep-Expr whole_falls comma_
 pub falls_ExprReturn : (a : ExprReturn-in.Inside) → deep-ExprReturn a ≤ tree_size (view_ExprReturn a)
 falls_ExprReturn a = omega (arith, maybe_falls (λ e. whole e.value) (λ e. deep-Expr e.value) (λ e. whole_falls e.value) a.expr)
 
+-- STRUCT LITERALS: a value that isn't shown is a path, which holds no expression
+
+hidden_falls : (n : Syntax) (e : Expr-m.the_data) → deep-Expr e ≤ tree_size (hidden n (syntax_of_Expr e)) + 1
+hidden_falls n (Expr-m.Array e) = omega (arith, falls_Expr (Expr-m.Array e))
+hidden_falls n (Expr-m.Assign e) = omega (arith, falls_Expr (Expr-m.Assign e))
+hidden_falls n (Expr-m.Binary e) = omega (arith, falls_Expr (Expr-m.Binary e))
+hidden_falls n (Expr-m.Block e) = omega (arith, falls_Expr (Expr-m.Block e))
+hidden_falls n (Expr-m.Break e) = omega (arith, falls_Expr (Expr-m.Break e))
+hidden_falls n (Expr-m.Call e) = omega (arith, falls_Expr (Expr-m.Call e))
+hidden_falls n (Expr-m.Cast e) = omega (arith, falls_Expr (Expr-m.Cast e))
+hidden_falls n (Expr-m.Continue e) = omega (arith, falls_Expr (Expr-m.Continue e))
+hidden_falls n (Expr-m.Field e) = omega (arith, falls_Expr (Expr-m.Field e))
+hidden_falls n (Expr-m.ForLoop e) = omega (arith, falls_Expr (Expr-m.ForLoop e))
+hidden_falls n (Expr-m.Group e) = omega (arith, falls_Expr (Expr-m.Group e))
+hidden_falls n (Expr-m.If e) = omega (arith, falls_Expr (Expr-m.If e))
+hidden_falls n (Expr-m.Index e) = omega (arith, falls_Expr (Expr-m.Index e))
+hidden_falls n (Expr-m.Lit e) = omega (arith, falls_Expr (Expr-m.Lit e))
+hidden_falls n (Expr-m.Loop e) = omega (arith, falls_Expr (Expr-m.Loop e))
+hidden_falls n (Expr-m.Macro e) = omega (arith, falls_Expr (Expr-m.Macro e))
+hidden_falls n (Expr-m.MethodCall e) = omega (arith, falls_Expr (Expr-m.MethodCall e))
+hidden_falls n (Expr-m.Paren e) = omega (arith, falls_Expr (Expr-m.Paren e))
+hidden_falls n (Expr-m.Path e) = omega arith
+hidden_falls n (Expr-m.Reference e) = omega (arith, falls_Expr (Expr-m.Reference e))
+hidden_falls n (Expr-m.Repeat e) = omega (arith, falls_Expr (Expr-m.Repeat e))
+hidden_falls n (Expr-m.Return e) = omega (arith, falls_Expr (Expr-m.Return e))
+hidden_falls n (Expr-m.Struct e) = omega (arith, falls_Expr (Expr-m.Struct e))
+hidden_falls n (Expr-m.Try e) = omega (arith, falls_Expr (Expr-m.Try e))
+hidden_falls n (Expr-m.Tuple e) = omega (arith, falls_Expr (Expr-m.Tuple e))
+hidden_falls n (Expr-m.Unary e) = omega (arith, falls_Expr (Expr-m.Unary e))
+hidden_falls n (Expr-m.Unsafe e) = omega (arith, falls_Expr (Expr-m.Unsafe e))
+hidden_falls n (Expr-m.Verbatim e) = omega (arith, falls_Expr (Expr-m.Verbatim e))
+hidden_falls n (Expr-m.While e) = omega (arith, falls_Expr (Expr-m.While e))
+
+pub falls_FieldValue : (a : FieldValue-in.Inside) → deep-FieldValue a ≤ tree_size (view_FieldValue a)
+falls_FieldValue a = go a.member a.colon_token
+  where
+    go : (m : Member-m.the_data) (c : Option Colon) → deep-FieldValue a ≤ tree_size (field_of (attributes_syntax a.attrs.items) (syntax_of_Member m) (maybe colon_syntax c) (syntax_of_Expr a.expr))
+    go (Member-m.Named i) (Some c) = omega (arith, falls_Expr a.expr)
+    go (Member-m.Named i) None = omega (arith, hidden_falls (syntax_of_ident i) a.expr)
+    go (Member-m.Unnamed i) (Some c) = omega (arith, falls_Expr a.expr)
+    go (Member-m.Unnamed i) None = omega (arith, falls_Expr a.expr)
+
+pub falls_ExprStruct : (a : ExprStruct-in.Inside) → deep-ExprStruct a ≤ tree_size (view_ExprStruct a)
+falls_ExprStruct a =
+    omega (arith, list_falls itself above above_falls comma_syntax a.fields.pairs a.fields.last, maybe_falls (λ e. whole e.value) (λ e. deep-Expr e.value) (λ e. whole_falls e.value) a.rest)
+
 -- BODIES
 
 pub inner_size : (inner block : Syntax) → tree_size block ≤ tree_size (with_inner inner block)
@@ -191,6 +243,7 @@ falls_ExprIf a =
 
 pub falls_Stmt : (x : Stmt-m.the_data) → deep-Stmt x ≤ tree_size (statement_of x) + 1
 falls_Stmt (Stmt-m.Local s) = omega arith
+falls_Stmt (Stmt-m.Item i) = omega arith
 falls_Stmt (Stmt-m.Expr e semi) = omega (arith, falls_Expr e)
 falls_Stmt (Stmt-m.Macro s) = omega arith
 

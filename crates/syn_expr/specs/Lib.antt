@@ -1,6 +1,6 @@
-pub mod Bodies
 pub mod Cores
 pub mod Expressions
 pub mod Falls
+pub mod Fields
 pub mod Prints
 pub mod Statements

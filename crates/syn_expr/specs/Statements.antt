@@ -1,7 +1,7 @@
 -- WHAT SYNTAX BLOCKS AND STATEMENTS STAND FOR, one level at a time, every field.
-use Rattle.std.specs.Prelude.{List, [], ◌∷◌}
+use Rattle.std.specs.Prelude.{Bool, true, false, List, [], ◌∷◌}
 use Rattle.syn_grammar.specs.Tokens.{Brace}
-use Rattle.syn_grammar.specs.Shape.{a_local, listed, said, said_macro, untagged}
+use Rattle.syn_grammar.specs.Shape.{Macro, expr, a_local, an_item, listed, said, said_macro, untagged}
 use Rattle.syn_grammar.specs.Grammar.{Syntax, Nothing, Both, Left, Right, Node, Such, Shaped}
 use Rattle.syn_grammar.specs.Promises.{itself}
 use Rattle.syn_tokens.specs.Leaves.{maybe}
@@ -22,6 +22,7 @@ use Rattle.syn_expr.specs.declared.stmt.StmtMacro.TheInside as StmtMacro-in
 
 abbrev pub statement_of : Stmt-m.the_data → Syntax
 statement_of (Stmt-m.Local s) = Shaped a_local s
+statement_of (Stmt-m.Item i) = Shaped an_item i
 statement_of (Stmt-m.Expr e semi) = Shaped said (Both (syntax_of_Expr e) (maybe semi_syntax semi))
 statement_of (Stmt-m.Macro s) = Shaped said_macro s
 
@@ -47,6 +48,16 @@ view_Local a =
 abbrev pub view_LocalInit : LocalInit-in.Inside → Syntax
 view_LocalInit a =
     Both (eq_syntax a.eq_token) (Shaped untagged (Both (Such (whole a.expr.value)) (diverging (maybe (λ p. Both (else_syntax p.0) (block_behind_else (syntax_of_Expr p.1.value))) a.diverge))))
+
+-- the expression that the value of a local is
+abbrev pub value_of_local : Syntax → Syntax
+value_of_local (Both m (Shaped untagged (Both (Such (Node e)) d))) = e
+value_of_local s = s
+
+-- whether an expression is a macro
+abbrev pub is_macro : Syntax → Bool
+is_macro (Shaped (expr Macro) s) = true
+is_macro s = false
 
 abbrev pub view_StmtMacro : StmtMacro-in.Inside → Syntax
 view_StmtMacro a = Both (Both (attributes_syntax a.attrs.items) a.mac) (maybe semi_syntax a.semi_token)

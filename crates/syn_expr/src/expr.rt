@@ -6,12 +6,14 @@ mod operators;
 mod postfix;
 mod primary;
 mod statement;
+mod structs;
 
 pub use blocks::{ExprBlock, ExprForLoop, ExprIf, ExprLoop, ExprUnsafe, ExprWhile, Label};
 pub use groups::{ExprArray, ExprGroup, ExprParen, ExprRepeat, ExprTuple};
 pub use operators::{ExprAssign, ExprBinary, ExprCast, ExprReference, ExprUnary};
 pub use postfix::{ExprCall, ExprField, ExprIndex, ExprMethodCall, ExprTry};
 pub use primary::{ExprBreak, ExprContinue, ExprLit, ExprMacro, ExprPath, ExprReturn};
+pub use structs::{ExprStruct, FieldValue};
 use syn_tokens::punctuated::Punctuated;
 use syn_tokens::stream::TokenStream;
 
@@ -62,6 +64,8 @@ pub enum Expr {
     Repeat(ExprRepeat),
     /// `return`, `return a`
     Return(ExprReturn),
+    /// `A { b: c, d }`, `A { ..e }`
+    Struct(ExprStruct),
     /// `a?`
     Try(ExprTry),
     /// `()`, `(a, b)`
@@ -129,6 +133,18 @@ impl Drop for Expr {
             Expr::Reference(_value) => (),
             Expr::Repeat(_value) => (),
             Expr::Return(_value) => (),
+            Expr::Struct(value) => {
+                let ExprStruct {
+                    attrs: _attrs,
+                    qself: _qself,
+                    path: _path,
+                    brace_token: _,
+                    fields,
+                    dot2_token: _,
+                    rest: _rest,
+                } = value;
+                let_go(fields)
+            }
             Expr::Try(_value) => (),
             Expr::Tuple(value) => {
                 let ExprTuple {

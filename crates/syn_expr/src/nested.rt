@@ -3,4 +3,5 @@
 
 pub mod compare;
 pub mod copy;
+mod fields;
 pub mod print;

@@ -12,15 +12,16 @@ use crate::trees::ExprTrees;
 use crate::{Block, Expr, Stmt};
 use std::marker::PhantomData;
 use syn_expr_parse::parsing::{
-    Inside, Knot, Rung, block, constant, expression, statement, statements,
+    Inside, Knot, Rung, Spot, block, constant, expression, statement, statements,
 };
 use syn_expr_parse::trees::Trees;
 use syn_lower::carrier::Carrier;
 use syn_parse::buffer::ParseBuffer;
 use syn_parse::read::Read;
 use syn_parse::read::refusal::{Parsed, Refusal};
-use syn_recognize::deferred::TreeOf;
+use syn_recognize::deferred::{BlockOf, TreeOf};
 use syn_tokens::error::Result;
+use syn_tokens::token::Brace;
 
 /// How many expressions and blocks may stand inside each other. The stack is memory too, and is refused for what is deeper.
 const LEVELS: u32 = 50;
@@ -80,19 +81,31 @@ impl Read for Expr {
 
     #[tactic(auto, using(crate::specs::Cores::core_view))]
     fn read(input: &mut ParseBuffer<'_>) -> Parsed<Expr> {
-        Ok(ExprTrees::unboxed(nested_expr::<Refusal>(Rung::Whole, input, (LEVELS, PhantomData))?))
+        Ok(ExprTrees::unboxed(nested_expr::<Refusal>(
+            Rung::Whole(Spot::Anywhere),
+            input,
+            (LEVELS, PhantomData),
+        )?))
     }
 }
 
 /// Expressions may be deferred.
 impl TreeOf<0> for Expr {
+    ghost whole = { whole };
+
     fn read_tree(input: &mut ParseBuffer<'_>) -> Parsed<Expr> {
-        Ok(ExprTrees::unboxed(nested_expr::<Refusal>(Rung::Whole, input, (LEVELS, PhantomData))?))
+        Ok(ExprTrees::unboxed(nested_expr::<Refusal>(
+            Rung::Whole(Spot::Anywhere),
+            input,
+            (LEVELS, PhantomData),
+        )?))
     }
 }
 
 /// Constants are deferred as such, and opened as expressions.
 impl TreeOf<1> for Expr {
+    ghost whole = { whole };
+
     #[tactic(auto, using(crate::specs::Cores::core_view))]
     fn read_tree(input: &mut ParseBuffer<'_>) -> Parsed<Expr> {
         let knot = Knot {
@@ -122,13 +135,20 @@ impl Read for Block {
     }
 }
 
+/// Blocks may be deferred.
+impl BlockOf for Block {
+    fn read_statements(brace_token: Brace, input: &mut ParseBuffer<'_>) -> Parsed<Block> {
+        let stmts = Block::read_within(input)?;
+        Ok(Block { brace_token, stmts })
+    }
+}
+
 /// A statement alone.
 impl Read for Stmt {
     ghost form = { of (rule rules.statement) };
 
     ghost meaning = { meaning_of_rule rules.statement };
 
-    #[tactic(auto, using(syn_grammar::proofs::Each::statement_is))]
     fn read(input: &mut ParseBuffer<'_>) -> Parsed<Stmt> {
         let knot = Knot {
             expr: nested_expr::<Refusal>,

@@ -10,6 +10,7 @@ use crate::nested::print::{PrintNested, PrintOf, print_diverging, print_statemen
 use std::alloc::{AllocError, Global};
 use syn_lower::Attribute;
 use syn_pat::{Macro, Pat};
+use syn_recognize::deferred::DeferredItem;
 use syn_tokens::error;
 use syn_tokens::print::Print;
 use syn_tokens::stream::builder::StreamBuilder;
@@ -30,6 +31,8 @@ pub struct Block {
 pub enum Stmt {
     /// `let a = b;`
     Local(Local),
+    /// An item, kept as its tokens.
+    Item(DeferredItem),
     /// An expression, with `;` behind it or without it.
     Expr(Expr, Option<Semi>),
     /// `m! { a }`, `m!(a);`
@@ -120,6 +123,7 @@ impl PrintNested<Expr> for Stmt {
                 nested.print_one(expr, out)?;
                 semi.print_in(out)
             }
+            Stmt::Item(item) => item.print_in(out),
             Stmt::Macro(value) => value.print_in(out),
         }
     }
@@ -132,6 +136,7 @@ impl CompareNested<Expr> for Stmt {
             (Stmt::Expr(a, semi), Stmt::Expr(b, other_semi)) => {
                 nested.is_same_one(a, b) && semi.is_same(other_semi)
             }
+            (Stmt::Item(a), Stmt::Item(b)) => a.is_same(b),
             (Stmt::Macro(a), Stmt::Macro(b)) => a.is_same(b),
             _ => false,
         }
@@ -143,6 +148,7 @@ impl CopyNested<Expr> for Stmt {
         match self {
             Stmt::Local(value) => Ok(Stmt::Local(value.copy_nested(nested, alloc)?)),
             Stmt::Expr(expr, semi) => Ok(Stmt::Expr(nested.copy_one(expr, alloc)?, *semi)),
+            Stmt::Item(item) => Ok(Stmt::Item(copied(item, alloc)?)),
             Stmt::Macro(value) => Ok(Stmt::Macro(copied(value, alloc)?)),
         }
     }

@@ -3,10 +3,10 @@ ghost use Rattle.std.specs.Prelude.{◌≡◌, true};
 ghost use Rattle.syn_grammar.specs.Tokens as grammar;
 ghost use Rattle.syn_grammar.specs.Tokens.{end};
 ghost use Rattle.syn_grammar.specs.Grammar.{Both, Captured, Left, Node, Nothing, Right, Shaped, Such};
-ghost use Rattle.syn_grammar.specs.Shape.{Array, Assign, Binary, Block as Blocks, Break as Breaking, Call, Cast, Continue as Continuing, Field, ForLoop, Grouped, If as Choosing, Index, Lit as Literals, Loop as Looping, Macro as Macros, MethodCall, Parens, Path as Paths, Reference, Repeat, Return as Returning, Try, Tuple, Unary, Unsafe as Unsafes, Verbatim, While as Whiles, a_local, expr as expr_shape, said, untagged};
+ghost use Rattle.syn_grammar.specs.Shape.{Array, Assign, Binary, Block as Blocks, Break as Breaking, Call, Cast, Continue as Continuing, Field, ForLoop, Grouped, If as Choosing, Index, Lit as Literals, Loop as Looping, Macro as Macros, MethodCall, Parens, Path as Paths, Reference, Repeat, Return as Returning, Try, Tuple, Unary, Unsafe as Unsafes, Verbatim, While as Whiles, a_local, an_item, expr as expr_shape, said, untagged};
 ghost use Rattle.syn_grammar.specs.Values.{moved as moved_syntax, new, sentence as sentence_syntax, with_attributes as with_attributes_syntax};
 ghost use Rattle.syn_grammar.specs.Promises.{OrMemory, itself};
-ghost use Rattle.syn_tokens.specs.Kinds.{and_syntax, as_syntax, break_syntax, comma_syntax, continue_syntax, dot_syntax, else_syntax, eq_syntax, for_syntax, if_syntax, in_syntax, let_syntax, loop_syntax, mut_syntax, question_syntax, return_syntax, semi_syntax, unsafe_syntax, while_syntax};
+ghost use Rattle.syn_tokens.specs.Kinds.{and_syntax, as_syntax, break_syntax, colon_syntax, comma_syntax, continue_syntax, dot_syntax, dot_dot_syntax, else_syntax, eq_syntax, for_syntax, if_syntax, in_syntax, let_syntax, loop_syntax, mut_syntax, question_syntax, return_syntax, semi_syntax, unsafe_syntax, while_syntax};
 ghost use Rattle.syn_tokens.specs.Leaves.{maybe, syntax_of_ident};
 ghost use Rattle.syn_tokens.specs.Listing.{list_of};
 ghost use Rattle.syn_parse.specs.Refusals.{IsSyntax};
@@ -16,13 +16,15 @@ ghost use Rattle.syn_lower.specs.Types.{syntax_of_Type, syntax_of_lifetime, tupl
 ghost use Rattle.syn_lower.specs.Literals.{syntax_of_Lit};
 ghost use Rattle.syn_lower.specs.Members.{syntax_of_Member};
 ghost use Rattle.syn_pat.specs.Patterns.{local_pattern, path_of, syntax_of_Pat};
-ghost use Rattle.syn_expr_parse.specs.Bodies.{attributes_before_body, body as body_syntax};
+ghost use Rattle.syn_lower.specs.Bodies.{attributes_before_body, body as body_syntax};
 ghost use Rattle.syn_expr_parse.specs.Operators.{syntax_of_BinOp, syntax_of_UnOp};
 ghost use Rattle.syn_expr_parse.specs.Parts.{array_elements, behind_else, block_behind_else, diverging, field_member, label_syntax, method_arguments, statements_of, token_of};
+ghost use Rattle.syn_expr_parse.specs.Primary.{in_literal};
 ghost use Rattle.syn_expr_parse.specs.Spines.{spine_shown};
+ghost use Rattle.syn_expr_parse.specs.StructLiterals.{field_of, literal_of_parts, lone_field};
 ghost use Rattle.syn_expr_parse.specs.Unary.{own_shown};
 ghost use Rattle.syn_expr.specs.Expressions.{syntax_of_Expr};
-ghost use Rattle.syn_expr.specs.Statements.{statement_of};
+ghost use Rattle.syn_expr.specs.Statements.{statement_of, value_of_local};
 ghost use Rattle.syn_expr.specs.Cores.{core_view};
 
 mod attributes;
@@ -33,24 +35,25 @@ use crate::Expr;
 use crate::expr::{
     ExprArray, ExprAssign, ExprBinary, ExprBlock, ExprBreak, ExprCall, ExprCast, ExprContinue,
     ExprField, ExprForLoop, ExprGroup, ExprIf, ExprIndex, ExprLit, ExprLoop, ExprMacro,
-    ExprMethodCall, ExprParen, ExprPath, ExprReference, ExprRepeat, ExprReturn, ExprTry, ExprTuple,
-    ExprUnary, ExprUnsafe, ExprWhile,
+    ExprMethodCall, ExprParen, ExprPath, ExprReference, ExprRepeat, ExprReturn, ExprStruct,
+    ExprTry, ExprTuple, ExprUnary, ExprUnsafe, ExprWhile, FieldValue,
 };
 use crate::op::{BinOp, UnOp};
 use crate::stmt::{Block, Local, LocalInit, LocalModifiers, Stmt};
-use parts::{boxed, labelled, out_of_box, sentence};
+use parts::{boxed, labelled, named, out_of_box};
 use std::alloc::Global;
 use syn_expr_parse::trees::Trees;
 use syn_lower::{AngleBracketedGenericArguments, Attribute, Lit, Member, Path, QSelf, Type};
 use syn_parse::read::refusal::Parsed;
 use syn_pat::{Macro, Pat};
+use syn_recognize::deferred::DeferredItem;
 use syn_tokens::ident::Ident;
 use syn_tokens::lifetime::Lifetime;
 use syn_tokens::punctuated::Punctuated;
 use syn_tokens::stream::TokenStream;
 use syn_tokens::token::{
-    And, As, Brace, Bracket, Break, Colon, Comma, Continue, Dot, Else, Eq, For, Group, If, In, Let,
-    Loop, Mut, Paren, Question, Return, Semi, Unsafe, While,
+    And, As, Brace, Bracket, Break, Colon, Comma, Continue, Dot, DotDot, Else, Eq, For, Group, If,
+    In, Let, Loop, Mut, Paren, Question, Return, Semi, Unsafe, While,
 };
 
 /// The trees of this crate.
@@ -65,6 +68,10 @@ impl Trees for ExprTrees {
 
     type LocalInit = LocalInit;
 
+    type Held = LocalInit;
+
+    type FieldValue = FieldValue;
+
     ghost expr_syntax = { syntax_of_Expr };
 
     ghost block_syntax = { itself };
@@ -72,6 +79,10 @@ impl Trees for ExprTrees {
     ghost stmt_syntax = { statement_of };
 
     ghost init_syntax = { itself };
+
+    ghost held_syntax = { value_of_local };
+
+    ghost field_syntax = { itself };
 
     ghost core_is = { core_view };
 
@@ -479,6 +490,61 @@ impl Trees for ExprTrees {
     }
 
     #[tactic(auto, using(crate::proofs::Attributes::no_attributes))]
+    fn expr_struct(
+        qself: Option<QSelf>,
+        path: Path,
+        brace_token: Brace,
+        fields: Punctuated<FieldValue, Comma>,
+        dot2_token: Option<DotDot>,
+        rest: Option<Box<Expr>>,
+        alloc: Global,
+    ) -> Parsed<Box<Expr>>
+        ensures { OrMemory IsSyntax result (λ x. syntax_of_Expr x.value ≡ in_literal (path_of qself path) (group_syntax grammar.Brace brace_token (literal_of_parts (list_of itself comma_syntax fields.pairs fields.last) (maybe dot_dot_syntax dot2_token) (maybe (λ e. Node (syntax_of_Expr e.value)) rest)))) }
+    {
+        boxed(
+            Expr::Struct(ExprStruct {
+                attrs: Vec::new(alloc),
+                qself,
+                path,
+                brace_token,
+                fields,
+                dot2_token,
+                rest,
+            }),
+            alloc,
+        )
+    }
+
+    fn field_value(
+        attrs: Vec<Attribute>,
+        member: Member,
+        colon_token: Colon,
+        expr: Box<Expr>,
+    ) -> FieldValue
+        ensures { result ≡ field_of (attributes_syntax attrs.items) (syntax_of_Member member) (Left (colon_syntax colon_token)) (syntax_of_Expr expr.value) }
+    {
+        FieldValue {
+            attrs,
+            member,
+            colon_token: Some(colon_token),
+            expr: out_of_box(expr),
+        }
+    }
+
+    #[tactic(auto, using(crate::proofs::Fields::named_hidden))]
+    fn lone_field(attrs: Vec<Attribute>, name: Ident, alloc: Global) -> Parsed<FieldValue>
+        ensures { OrMemory IsSyntax result (λ f. f ≡ lone_field (attributes_syntax attrs.items) (syntax_of_ident name)) }
+    {
+        let expr = named(&name, alloc)?;
+        Ok(FieldValue {
+            attrs,
+            member: Member::Named(name),
+            colon_token: None,
+            expr,
+        })
+    }
+
+    #[tactic(auto, using(crate::proofs::Attributes::no_attributes))]
     fn expr_try(expr: Box<Expr>, question_token: Question, alloc: Global) -> Parsed<Box<Expr>>
         ensures { OrMemory IsSyntax result (λ x. syntax_of_Expr x.value ≡ new Try (Both (syntax_of_Expr expr.value) (question_syntax question_token))) }
     {
@@ -594,16 +660,28 @@ impl Trees for ExprTrees {
         Block { brace_token, stmts }
     }
 
-    fn stmt(braces: bool, expr: Box<Expr>, semi: Option<Semi>) -> Stmt
-        ensures { statement_of result ≡ sentence_syntax braces (syntax_of_Expr expr.value) (maybe semi_syntax semi) }
+    fn held(expr: Box<Expr>) -> LocalInit
+        ensures { value_of_local result ≡ syntax_of_Expr expr.value }
     {
-        sentence(braces, out_of_box(expr), semi)
+        LocalInit::holding(expr)
+    }
+
+    fn stmt(braces: bool, expr: LocalInit, semi: Option<Semi>) -> Stmt
+        ensures { statement_of result ≡ sentence_syntax braces (value_of_local expr) (maybe semi_syntax semi) }
+    {
+        expr.into_stmt(braces, semi)
     }
 
     fn semi_alone(semi: Semi, alloc: Global) -> Stmt
         ensures { statement_of result ≡ Shaped said (Both (Shaped (expr_shape Verbatim) (Captured Nothing end)) (Left (semi_syntax semi))) }
     {
         Stmt::Expr(Expr::Verbatim(TokenStream::new(alloc)), Some(semi))
+    }
+
+    fn item(item: DeferredItem) -> Stmt
+        ensures { statement_of result ≡ Shaped an_item item }
+    {
+        Stmt::Item(item)
     }
 
     fn local_init(eq_token: Eq, expr: Box<Expr>, diverge: Option<(Else, Box<Expr>)>) -> LocalInit

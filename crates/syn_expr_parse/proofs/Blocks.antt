@@ -16,7 +16,7 @@ use Rattle.syn_grammar.proofs.Each.{if_expression_is, loop_expression_is}
 use Rattle.syn_tokens.specs.InOrder.{in_order}
 use Rattle.syn_lower.specs.Attributes.{every, inner_attributes_syntax, inner_listed, is_inner, is_outer, none_listed, outer_listed, shown_before, syntax_of_Attribute}
 use Rattle.syn_lower.specs.declared.attr.Attribute.{Attribute}
-use Rattle.syn_expr_parse.specs.Bodies.{attributes_before_body, attributes_in_body, listed_before, listed_inside, outer_first}
+use Rattle.syn_lower.specs.Bodies.{attributes_before_body, attributes_in_body, listed_before, listed_inside, outer_first}
 use Rattle.syn_expr_parse.specs.Parts.{behind_else}
 use Rattle.syn_expr_parse.specs.BlockForms.{if_form, labelled_as, loop_form, while_form, for_form}
 

@@ -3,16 +3,18 @@ use Rattle.std.proofs.Common.{◌≡◌, Bool, true, false, List, [], ◌∷◌,
 use Rattle.syn_grammar.specs.Words.{w_as, equals}
 use Rattle.syn_grammar.specs.Tokens.{Stream, pick, no, at_word}
 use Rattle.syn_grammar.specs.Shape.{Assign, Cast, operator}
-use Rattle.syn_grammar.specs.Rules.{Rule, type, unary, casts, cast, bit_or, compared, comparison, disjunction, assigned, whole_expression, operand_rest}
+use Rattle.syn_grammar.specs.Rules.{Rule, type, unary, unary_head, casts, cast, cast_head, bit_or, bit_or_head, compared, comparison, disjunction, disjunction_head, assigned, assigned_head, whole_expression, whole_expression_head, operand_rest}
 use Rattle.syn_grammar.specs.Grammar.{word, Syntax, Nothing, Both, Node, Shaped}
 use Rattle.syn_grammar.specs.Table.{at_equals_operator, at_unfinished}
 use Rattle.syn_grammar.specs.Take.{Out, Parser, only, sees, take_mark, take_token}
 use Rattle.syn_grammar.specs.Values.{core, onto, chained}
 use Rattle.syn_grammar.specs.Run.{wrap, and_then, branch, parse_rule, parse_form}
 use Rattle.syn_grammar.proofs.Shapes.{IsShaped, core_shaped, onto_shaped}
-use Rattle.syn_grammar.proofs.Each.{casts_is, cast_is, compared_is, comparison_is, assigned_is, whole_expression_is, operand_rest_is}
-use Rattle.syn_expr_parse.specs.Levels.{assignment_operators, comparison_operators, once_form, first_operator, going_once, chained_out, cast_out, assign_out, unfinished_out, whole_out, then_core, rest_out, rest_rules, rest_form}
-use Rattle.syn_expr_parse.specs.LevelSteps.{through_node, from_left, from_right, onto_both, one, one_more, once_step, level_is}
+use Rattle.syn_grammar.proofs.Each.{casts_is, cast_is, cast_head_is, compared_is, compared_head_is, comparison_is, comparison_head_is, assigned_is, assigned_head_is, whole_expression_is, whole_expression_head_is, operand_rest_is}
+use Rattle.syn_expr_parse.specs.Spots.{Spot, within}
+use Rattle.syn_expr_parse.specs.declared.parsing.nested.Spot.TheVariants as Spot-m
+use Rattle.syn_expr_parse.specs.Levels.{assignment_operators, comparison_operators, once_form, first_operator, going_once, chained_out, cast_out, assign_out, assigned_form, unfinished_out, whole_out, whole_form, then_core, rest_out, rest_rules, rest_form, IsLevel}
+use Rattle.syn_expr_parse.specs.LevelSteps.{through_node, from_left, from_right, onto_both, one, one_more, once_step, level_is, level_at}
 
 -- CASTS
 pub casts_step : (a : Syntax) (ts : Stream) → wrap (onto a) (parse_rule casts ts) ≡ pick (sees (at_word w_as) ts) (cast_out a (take_token (word w_as) ts)) (Some (a, ts))
@@ -26,34 +28,42 @@ casts_step a ts = ap (wrap (onto a)) (casts_is ts) ∙ through_node a _ ∙ go (
     go true t = from_left a _ ∙ read t
     go false t = refl
 
-pub cast_are : (ts : Stream) → parse_rule cast ts ≡ chained_out (parse_rule unary ts) (parse_rule casts)
-cast_are = level_is unary casts cast cast_is
+pub cast_are : (p : Spot) (ts : Stream) → parse_rule (within p cast) ts ≡ chained_out (parse_rule (within p unary) ts) (parse_rule casts)
+cast_are Spot-m.Anywhere = level_is unary casts cast cast_is
+cast_are Spot-m.Head = level_is unary_head casts cast_head cast_head_is
 
 -- COMPARISONS
-pub compared_step : (a : Syntax) (ts : Stream) → wrap (onto a) (parse_rule compared ts) ≡ going_once a ts (first_operator comparison_operators ts) (parse_rule bit_or)
-compared_step a ts = ap (wrap (onto a)) (compared_is ts) ∙ through_node a _ ∙ once_step bit_or a comparison_operators ts
+pub compared_step : (p : Spot) (a : Syntax) (ts : Stream) → wrap (onto a) (parse_rule (within p compared) ts) ≡ going_once a ts (first_operator comparison_operators ts) (parse_rule (within p bit_or))
+compared_step Spot-m.Anywhere a ts = ap (wrap (onto a)) (compared_is ts) ∙ through_node a _ ∙ once_step bit_or a comparison_operators ts
+compared_step Spot-m.Head a ts = ap (wrap (onto a)) (compared_head_is ts) ∙ through_node a _ ∙ once_step bit_or_head a comparison_operators ts
 
-pub comparison_are : (ts : Stream) → parse_rule comparison ts ≡ chained_out (parse_rule bit_or ts) (parse_rule compared)
-comparison_are = level_is bit_or compared comparison comparison_is
+pub comparison_are : IsLevel bit_or compared comparison
+comparison_are = level_at bit_or compared comparison comparison_is comparison_head_is
 
 -- ASSIGNMENTS
-pub assigned_step : (a : Syntax) (ts : Stream) → wrap (onto a) (parse_rule assigned ts)
-    ≡ pick (sees at_equals_operator ts) (assign_out a (take_mark equals ts)) (going_once a ts (first_operator assignment_operators ts) (parse_rule whole_expression))
-assigned_step a ts =
-    ap (wrap (onto a)) (assigned_is ts) ∙ through_node a _ ∙ go (sees at_equals_operator ts) (take_mark equals ts) (parse_form (once_form assignment_operators whole_expression) ts)
-    ∙ ap (pick (sees at_equals_operator ts) (assign_out a (take_mark equals ts))) (once_step whole_expression a assignment_operators ts)
+-- with a value of this rule
+assigned_by : (k : Rule) (a : Syntax) (ts : Stream) → wrap (onto a) (parse_form (assigned_form k) ts)
+    ≡ pick (sees at_equals_operator ts) (assign_out k a (take_mark equals ts)) (going_once a ts (first_operator assignment_operators ts) (parse_rule k))
+assigned_by k a ts =
+    go (sees at_equals_operator ts) (take_mark equals ts) (parse_form (once_form assignment_operators k) ts)
+    ∙ ap (pick (sees at_equals_operator ts) (assign_out k a (take_mark equals ts))) (once_step k a assignment_operators ts)
   where
-    read : (t : Out) → wrap (onto a) (wrap (Shaped (operator Assign)) (and_then t (parse_rule whole_expression))) ≡ assign_out a t
+    read : (t : Out) → wrap (onto a) (wrap (Shaped (operator Assign)) (and_then t (parse_rule k))) ≡ assign_out k a t
     read None = refl
-    read (Some p) = one Assign a p.0 (parse_rule whole_expression p.1)
+    read (Some p) = one Assign a p.0 (parse_rule k p.1)
 
-    go : (b : Bool) (t o : Out) → wrap (onto a) (branch b (wrap (Shaped (operator Assign)) (and_then t (parse_rule whole_expression))) o) ≡ pick b (assign_out a t) (wrap (onto a) o)
+    go : (b : Bool) (t o : Out) → wrap (onto a) (branch b (wrap (Shaped (operator Assign)) (and_then t (parse_rule k))) o) ≡ pick b (assign_out k a t) (wrap (onto a) o)
     go true t o = from_left a _ ∙ read t
     go false t o = from_right a o
 
+pub assigned_step : (p : Spot) (a : Syntax) (ts : Stream) → wrap (onto a) (parse_rule (within p assigned) ts)
+    ≡ pick (sees at_equals_operator ts) (assign_out (within p whole_expression) a (take_mark equals ts)) (going_once a ts (first_operator assignment_operators ts) (parse_rule (within p whole_expression)))
+assigned_step Spot-m.Anywhere a ts = ap (wrap (onto a)) (assigned_is ts) ∙ through_node a _ ∙ assigned_by whole_expression a ts
+assigned_step Spot-m.Head a ts = ap (wrap (onto a)) (assigned_head_is ts) ∙ through_node a _ ∙ assigned_by whole_expression_head a ts
+
 -- WHOLE EXPRESSIONS
-pub whole_are : (ts : Stream) → parse_rule whole_expression ts ≡ whole_out (parse_rule disjunction ts)
-whole_are ts = whole_expression_is ts ∙ go (parse_rule disjunction ts)
+whole_by : (d k : Rule) (ts : Stream) → wrap Node (parse_form (whole_form d k) ts) ≡ whole_out k (parse_rule d ts)
+whole_by d k ts = go (parse_rule d ts)
   where
     ending : Parser
     ending ts = branch (sees at_unfinished ts) None (Some (Nothing, ts))
@@ -66,9 +76,13 @@ whole_are ts = whole_expression_is ts ∙ go (parse_rule disjunction ts)
     behind s None = refl
     behind s (Some p) = ended s p.0 p.1 (sees at_unfinished p.1)
 
-    go : (o : Out) → wrap Node (wrap chained (and_then o (λ ts. and_then (parse_rule assigned ts) ending))) ≡ whole_out o
+    go : (o : Out) → wrap Node (wrap chained (and_then o (λ ts. and_then (parse_rule k ts) ending))) ≡ whole_out k o
     go None = refl
-    go (Some p) = behind p.0 (parse_rule assigned p.1)
+    go (Some p) = behind p.0 (parse_rule k p.1)
+
+pub whole_are : (p : Spot) (ts : Stream) → parse_rule (within p whole_expression) ts ≡ whole_out (within p assigned) (parse_rule (within p disjunction) ts)
+whole_are Spot-m.Anywhere ts = whole_expression_is ts ∙ whole_by disjunction assigned ts
+whole_are Spot-m.Head ts = whole_expression_head_is ts ∙ whole_by disjunction_head assigned_head ts
 
 -- WHAT GOES ON BEHIND AN OPERAND
 

@@ -1,4 +1,6 @@
 pub mod Blocks
+pub mod CrateMacros
+pub mod CratePaths
 pub mod Groups
 pub mod LevelLooks
 pub mod Levels
@@ -8,5 +10,7 @@ pub mod Operators
 pub mod Postfixes
 pub mod Primary
 pub mod Spines
+pub mod StatementEnds
 pub mod StatementLists
+pub mod StructLiterals
 pub mod Unary

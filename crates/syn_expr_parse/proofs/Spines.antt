@@ -2,7 +2,7 @@
 use Rattle.std.proofs.Common.{◌≡◌, ℕ, zero, suc, Bool, true, false, Some, None, refl, sym, ap, ◌∙◌, subst, true≢false}
 use Rattle.syn_grammar.specs.Words.{pound, w_true, w_false, w_if, w_unsafe, w_return, w_break, w_continue}
 use Rattle.syn_grammar.specs.Tokens.{Stream, Paren, Bracket, at_word, at_lifetime}
-use Rattle.syn_grammar.specs.Rules.{attributes, meta, bit_and, bit_ands, bit_or, bit_ors, bit_xor, bit_xors, block_like, cast, casts, compared, comparison, conjunction, conjunctions, disjunction, disjunctions, if_expression, loop_expression, operand_rest, postfixes, primary, product, products, shift, shifts, sum, sums, unary, whole_expression}
+use Rattle.syn_grammar.specs.Rules.{attributes, meta, bit_and, bit_ands, bit_or, bit_ors, bit_xor, bit_xors, block_like, cast, casts, compared, comparison, conjunction, conjunctions, disjunction, disjunctions, if_expression, loop_expression, operand_rest, path_as_expression, postfixes, primary, product, products, shift, shifts, sum, sums, unary, whole_expression}
 use Rattle.syn_grammar.specs.Shape.{Variant, Shape, Binary, Assign, Cast, Path, Lit, Macro, Grouped, If, Unsafe, Block, Loop, While, ForLoop, Return, Break, Continue, Unary, Reference, expr, bracketed, behind_it, operator, dotted, fields, choice, chain, leading, labelled}
 use Rattle.syn_grammar.specs.Grammar.{Syntax, Nothing, Both, Left, Right, Node, Group, Unshown, Shaped, Grammar, lifetime, empty, ◌&◌, when◌then◌else◌, inside, rule}
 use Rattle.syn_grammar.specs.Forms.{asking_punctuation, punctuation}
@@ -13,6 +13,7 @@ use Rattle.syn_grammar.specs.Values.{attributes_before, core, literal_of, member
 use Rattle.syn_grammar.specs.Run.{wrap, and_then, branch, run, runs, parse_rule, parse_form}
 use Rattle.syn_grammar.proofs.Each as each
 use Rattle.syn_grammar.proofs.Shapes.{core_shaped, is_shaped}
+use Rattle.syn_expr_parse.specs.Primary.{braces_form}
 use Rattle.syn_expr_parse.specs.Unary.{all_shown, own_shown}
 use Rattle.syn_expr_parse.specs.Spines.{spine_shown}
 
@@ -199,6 +200,15 @@ block_like_spine ts = subst Spined (sym (each.block_like_is ts))
     (by_node _ (by_choice _ (by_branch (sees (at_word w_if) ts) _ _ (if_spine ts) (by_branch (sees (at_word w_unsafe) ts) _ _ (by_new Unsafe (λ s. refl) _)
     (by_label (parse_form (when at_lifetime then lifetime & punctuation colon else empty) ts) _ (λ m. label_branch (sees at_brace m) _ _ (label_new Block (λ s. refl) _) (loop_spine m)))))))
 
+-- a path, with braces behind it or without
+by_path : (o : Out) (q : Parser) → Spined (wrap (shape chain) (and_then (wrap (new Path) o) q))
+by_path None q = record { is = refl }
+by_path (Some p) q = go (q p.1)
+  where
+    go : (z : Out) → Spined (wrap (shape chain) (wrap (Both (new Path p.0)) z))
+    go None = record { is = refl }
+    go (Some y) = record { is = ap spine_shown (core_of_shape chain (Both (new Path p.0) y.0)) ∙ onto_spine (new Path p.0) y.0 refl }
+
 primary_spine : (ts : Stream) → Spined (parse_rule primary ts)
 primary_spine ts = subst Spined (sym (each.primary_is ts))
     (by_node _ (by_choice _ (by_branch (sees (at_word w_true) ts) _ _ (by_new Lit (λ s. refl) _) (by_branch (sees (at_word w_false) ts) _ _ (by_new Lit (λ s. refl) _)
@@ -206,7 +216,7 @@ primary_spine ts = subst Spined (sym (each.primary_is ts))
     (by_branch (sees at_paren ts) _ _ (by_bracketed _) (by_branch (sees at_bracket ts) _ _ (by_bracketed _)
     (by_branch (sees at_invisible ts) _ _ (by_new Grouped (λ s. refl) _) (by_branch (sees at_block_like ts) _ _ (block_like_spine ts)
     (by_branch (sees (at_word w_return) ts) _ _ (by_new Return (λ s. refl) _) (by_branch (sees (at_word w_break) ts) _ _ (by_new Break (λ s. refl) _)
-    (by_branch (sees (at_word w_continue) ts) _ _ (by_new Continue (λ s. refl) _) (by_new Path (λ s. refl) _))))))))))))))
+    (by_branch (sees (at_word w_continue) ts) _ _ (by_new Continue (λ s. refl) _) (by_path (parse_rule path_as_expression ts) (parse_form braces_form)))))))))))))))
 
 by_operand : (ts : Stream) → Spined (wrap (shape chain) (and_then (parse_rule primary ts) (parse_rule postfixes)))
 by_operand ts = go (parse_rule primary ts) (primary_spine ts)

@@ -1,138 +1,117 @@
 -- Statements are read one at a time: what one step reads of a list, and of a statement alone.
-use Rattle.std.proofs.Common.{◌≡◌, Bool, true, false, Some, None, refl, sym, ap, ◌∙◌}
+use Rattle.std.proofs.Common.{◌≡◌, Bool, true, false, Some, None, refl, sym, ap, subst, ◌∙◌}
 use Rattle.syn_grammar.specs.Words.{semicolon}
-use Rattle.syn_grammar.specs.Tokens.{Stream, pick, ended, at_word}
+use Rattle.syn_grammar.specs.Tokens.{Stream, and, or, pick, ended, at_word}
 use Rattle.syn_grammar.specs.Words.{w_let}
-use Rattle.syn_grammar.specs.Rules.{after_block, after_expression, attributes, block_like, local, macro_invocation, operand_rest, statement_end, statement_rest, statements, whole_expression}
-use Rattle.syn_grammar.specs.Shape.{Macro, a_local, said, said_macro}
+use Rattle.syn_grammar.specs.Rules.{after_block, after_expression, attributes, block_like, crate_macro, item, kept_item, local, macro_invocation, operand_rest, statement, statement_end, statement_rest, statements, whole_expression}
+use Rattle.syn_grammar.specs.Shape.{Macro, a_local, an_item, attributed, said, said_macro}
 use Rattle.syn_grammar.specs.Grammar.{Syntax, Nothing, Mark, Both, Left, Right, Node, Shaped}
-use Rattle.syn_grammar.specs.Table.{table, at_block_like, at_brace_macro, at_crate_macro, at_lone_crate, at_postfix_mark, at_semicolon}
-use Rattle.syn_grammar.specs.Take.{Out, Chars, only, sees, take_mark, take_chars, taken, marked}
-use Rattle.syn_grammar.specs.Values.{alone, core, going_on, in_list, moved, new, onto, sentence, separated, stated}
+use Rattle.syn_grammar.specs.Table.{table, at_block_like, at_brace_macro, at_crate_macro, at_item, at_postfix_mark, at_semicolon}
+use Rattle.syn_grammar.specs.Take.{Out, Parser, Chars, only, sees, take_mark, take_chars, taken, marked}
+use Rattle.syn_grammar.specs.Values.{alone, core, going_on, moved, new, onto, sentence, separated, stated}
 use Rattle.syn_grammar.specs.Run.{wrap, and_then, branch, parse_rule, parse_form}
 use Rattle.syn_grammar.proofs.Each.{after_block_is, after_expression_is, statement_end_is, statement_rest_is, statements_is}
+use Rattle.syn_grammar.specs.Plan.{follow, by_test, run_plan}
+use Rattle.syn_grammar.specs.ItemPlan.{item_behind}
+use Rattle.syn_grammar.specs.ItemStatements.{item_listed}
+use Rattle.syn_grammar.specs.ItemStatements as listed_item
+use Rattle.syn_grammar.specs.StatementPlans.{of_other, other_listed, other_statement}
 use Rattle.syn_grammar.proofs.Looks.{sees_mark}
-use Rattle.syn_expr_parse.specs.StatementForms.{alone_form, statement_form, then_by, ending, behind_block, unless_postfix, expression_statement, behind_attributes, statement_by, lone_semicolon, next_statement, before_others}
-
--- `;` is taken where it stands next
-semicolon_seen : (ts : Stream) → pick (sees at_semicolon ts) (wrap Left (take_mark semicolon ts)) None ≡ wrap Left (take_mark semicolon ts)
-semicolon_seen ts = rw (sees_mark semicolon refl ts) (go (take_mark semicolon ts))
-  where
-    go : (o : Out) → pick (taken o) (wrap Left o) None ≡ wrap Left o
-    go None = refl
-    go (Some p) = refl
+use Rattle.syn_grammar.proofs.Run.{parse_rule_is}
+use Rattle.syn_grammar.proofs.Shapes.{is_shaped}
+use Rattle.syn_grammar.proofs.ItemStatements.{item_statements}
+use Rattle.syn_grammar.proofs.StatementPlans.{statement_plan_is, statements_plan_is}
+use Rattle.syn_expr_parse.specs.StatementForms.{then_by, ending, behind_block, unless_postfix, expression_statement, macro_statement, crate_macro_statement, goes_on, crate_item, item_statement, by_item, behind_attributes, statement_by, lone_semicolon, next_statement, before_others}
+use Rattle.syn_expr_parse.proofs.CrateMacros.{crate_alone}
+use Rattle.syn_expr_parse.proofs.StatementEnds.{block_end, made, made_branch, with_semicolon}
 
 -- A STATEMENT ALONE
 
 module _ (a : Syntax) where
-  -- as its value is built
-  abbrev made : Out → Out
-  made o = wrap stated (wrap (Both a) o)
-
-  made_branch : (b : Bool) (x y u v : Out) → made x ≡ u → made y ≡ v → made (branch b x y) ≡ pick b u v
-  made_branch true None y u v h k = h
-  made_branch true (Some p) y u v h k = h
-  made_branch false x None u v h k = k
-  made_branch false x (Some p) u v h k = k
-
-  -- an expression and `;`
-  with_semicolon : (b : Bool) (e : Syntax) (m : Stream) → wrap (alone b a e) (take_mark semicolon m) ≡ ending false b a e m
-  unfolding take_mark
-  with_semicolon b e m = go (take_chars semicolon m) ∙ ap (wrap (λ s. sentence b (moved a e) s)) (sym (semicolon_seen m))
+  of_block : (s : Syntax) (m : Stream) → made a (wrap (Shaped said) (wrap (Both s) (parse_rule statement_end m))) ≡ behind_block false false a (core s) m
+  of_block s m = ap (λ o. made a (wrap (Shaped said) (wrap (Both s) o))) (statement_end_is m) ∙ go (parse_form (table statement_end) m) ∙ block_end a false (core s) m
     where
-      go : (o : Chars) → wrap (alone b a e) (marked o) ≡ wrap (λ s. sentence b (moved a e) s) (wrap Left (marked o))
+      go : (o : Out) → made a (wrap (Shaped said) (wrap (Both s) (wrap Node o))) ≡ wrap (alone false a (core s)) o
       go None = refl
       go (Some p) = refl
 
-  going : (b : Bool) (e : Syntax) (o : Out) → wrap (alone b a e) (wrap Right (wrap Left (and_then o (take_mark semicolon)))) ≡ then_by (wrap (onto e) o) (λ x. ending false b a x)
-  going b e None = refl
-  going b e (Some p) = further (take_mark semicolon p.1) ∙ with_semicolon b (onto e p.0) p.1
+  of_macro : (s : Syntax) (m : Stream) → made a (wrap (Shaped said_macro) (wrap (Both (new Macro s)) (parse_rule statement_end m))) ≡ behind_block false true a (new Macro s) m
+  of_macro s m = ap (λ o. made a (wrap (Shaped said_macro) (wrap (Both (new Macro s)) o))) (statement_end_is m) ∙ go (parse_form (table statement_end) m) ∙ block_end a true (new Macro s) m
     where
-      further : (z : Out) → wrap (alone b a e) (wrap Right (wrap Left (wrap (Both p.0) z))) ≡ wrap (alone b a (onto e p.0)) z
-      further None = refl
-      further (Some y) = refl
-
-  block_end : (b : Bool) (e : Syntax) (m : Stream) → wrap (alone b a e) (parse_form (table statement_end) m) ≡ behind_block false b a e m
-  block_end b e m = go (sees at_semicolon m) (sees at_postfix_mark m) (take_mark semicolon m)
-    where
-      first : (o : Out) → wrap (alone b a e) (wrap Left o) ≡ wrap (λ s. sentence b (moved a e) (Left s)) o
-      first None = refl
-      first (Some p) = refl
-
-      go : (c d : Bool) (o : Out) → wrap (alone b a e) (branch c o (branch d (and_then (parse_rule operand_rest m) (take_mark semicolon)) (Some (Nothing, m))))
-          ≡ pick c (wrap (λ s. sentence b (moved a e) (Left s)) o) (pick d (then_by (wrap (onto e) (parse_rule operand_rest m)) (λ x. ending false b a x)) (Some (sentence b (moved a e) (Right Nothing), m)))
-      go true d o = first o
-      go false true o = going b e (parse_rule operand_rest m)
-      go false false o = refl
-
-  of_block : (s : Syntax) (m : Stream) → made (wrap (Shaped said) (wrap (Both s) (parse_rule statement_end m))) ≡ behind_block false false a (core s) m
-  of_block s m = ap (λ o. made (wrap (Shaped said) (wrap (Both s) o))) (statement_end_is m) ∙ go (parse_form (table statement_end) m) ∙ block_end false (core s) m
-    where
-      go : (o : Out) → made (wrap (Shaped said) (wrap (Both s) (wrap Node o))) ≡ wrap (alone false a (core s)) o
+      go : (o : Out) → made a (wrap (Shaped said_macro) (wrap (Both (new Macro s)) (wrap Node o))) ≡ wrap (alone true a (new Macro s)) o
       go None = refl
       go (Some p) = refl
 
-  of_macro : (s : Syntax) (m : Stream) → made (wrap (Shaped said_macro) (wrap (Both (new Macro s)) (parse_rule statement_end m))) ≡ behind_block false true a (new Macro s) m
-  of_macro s m = ap (λ o. made (wrap (Shaped said_macro) (wrap (Both (new Macro s)) o))) (statement_end_is m) ∙ go (parse_form (table statement_end) m) ∙ block_end true (new Macro s) m
+  of_expression : (s : Syntax) (m : Stream) → made a (wrap (Shaped said) (wrap (Both s) (take_mark semicolon m))) ≡ ending false false a (core s) m
+  of_expression s m = go (take_mark semicolon m) ∙ with_semicolon a false (core s) m
     where
-      go : (o : Out) → made (wrap (Shaped said_macro) (wrap (Both (new Macro s)) (wrap Node o))) ≡ wrap (alone true a (new Macro s)) o
+      go : (o : Out) → made a (wrap (Shaped said) (wrap (Both s) o)) ≡ wrap (alone false a (core s)) o
       go None = refl
       go (Some p) = refl
 
-  of_crate_macro : (s : Syntax) (m : Stream) → made (wrap (Shaped said_macro) (wrap (Both (new Macro s)) (branch (sees at_postfix_mark m) None (parse_rule statement_end m)))) ≡ unless_postfix false a (new Macro s) m
-  of_crate_macro s m =
-      ap (λ o. made (wrap (Shaped said_macro) (wrap (Both (new Macro s)) (branch (sees at_postfix_mark m) None o)))) (statement_end_is m)
-      ∙ go (sees at_postfix_mark m) (parse_form (table statement_end) m)
-      ∙ ap (pick (sees at_postfix_mark m) None) (block_end true (new Macro s) m)
-    where
-      go : (c : Bool) (o : Out) → made (wrap (Shaped said_macro) (wrap (Both (new Macro s)) (branch c None (wrap Node o)))) ≡ pick c None (wrap (alone true a (new Macro s)) o)
-      go true o = refl
-      go false None = refl
-      go false (Some p) = refl
-
-  of_expression : (s : Syntax) (m : Stream) → made (wrap (Shaped said) (wrap (Both s) (take_mark semicolon m))) ≡ ending false false a (core s) m
-  of_expression s m = go (take_mark semicolon m) ∙ with_semicolon false (core s) m
-    where
-      go : (o : Out) → made (wrap (Shaped said) (wrap (Both s) o)) ≡ wrap (alone false a (core s)) o
-      go None = refl
-      go (Some p) = refl
-
-  of_local : (o : Out) → made (wrap (Shaped a_local) o) ≡ wrap (Shaped a_local) (wrap (Both a) o)
+  of_local : (o : Out) → made a (wrap (Shaped a_local) o) ≡ wrap (Shaped a_local) (wrap (Both a) o)
   of_local None = refl
   of_local (Some p) = refl
 
   -- each behind what it begins with
-  macro_first : (o : Out) → made (wrap (Shaped said_macro) (and_then (wrap (new Macro) o) (parse_rule statement_end))) ≡ then_by (wrap (new Macro) o) (behind_block false true a)
+  macro_first : (o : Out) → made a (wrap (Shaped said_macro) (and_then (wrap (new Macro) o) (parse_rule statement_end))) ≡ then_by (wrap (new Macro) o) (behind_block false true a)
   macro_first None = refl
   macro_first (Some p) = of_macro p.0 p.1
 
-  crate_macro_first : (o : Out) → made (wrap (Shaped said_macro) (and_then (wrap (new Macro) o) (λ m. branch (sees at_postfix_mark m) None (parse_rule statement_end m)))) ≡ then_by (wrap (new Macro) o) (unless_postfix false a)
-  crate_macro_first None = refl
-  crate_macro_first (Some p) = of_crate_macro p.0 p.1
-
-  block_first : (o : Out) → made (wrap (Shaped said) (and_then o (parse_rule statement_end))) ≡ then_by (wrap core o) (behind_block false false a)
+  block_first : (o : Out) → made a (wrap (Shaped said) (and_then o (parse_rule statement_end))) ≡ then_by (wrap core o) (behind_block false false a)
   block_first None = refl
   block_first (Some p) = of_block p.0 p.1
 
-  expression_first : (o : Out) → made (wrap (Shaped said) (and_then o (take_mark semicolon))) ≡ then_by (wrap core o) (ending false false a)
+  expression_first : (o : Out) → made a (wrap (Shaped said) (and_then o (take_mark semicolon))) ≡ then_by (wrap core o) (ending false false a)
   expression_first None = refl
   expression_first (Some p) = of_expression p.0 p.1
 
-  behind : (m : Stream) → made (parse_form alone_form m) ≡ behind_attributes false a m
+  behind : (m : Stream) → made a (parse_form other_statement m)
+      ≡ pick (sees at_crate_macro m) (made a (parse_rule crate_macro m)) (pick (sees at_brace_macro m) (macro_statement false a m)
+      (pick (sees (at_word w_let) m) (wrap (Shaped a_local) (wrap (Both a) (parse_rule local m))) (expression_statement false a m)))
   behind m =
-      made_branch (sees at_crate_macro m) _ _ _ _ (crate_macro_first (parse_rule macro_invocation m))
-      (made_branch (sees at_brace_macro m) _ _ _ _ (macro_first (parse_rule macro_invocation m))
-      (made_branch (sees (at_word w_let) m) _ _ _ _ (of_local (parse_rule local m))
-      (made_branch (sees at_lone_crate m) _ _ _ _ refl
-      (made_branch (sees at_block_like m) _ _ _ _ (block_first (parse_rule block_like m)) (expression_first (parse_rule whole_expression m))))))
+      made_branch a (sees at_crate_macro m) _ _ _ _ refl
+      (made_branch a (sees at_brace_macro m) _ _ _ _ (macro_first (parse_rule macro_invocation m))
+      (made_branch a (sees (at_word w_let) m) _ _ _ _ (of_local (parse_rule local m))
+      (made_branch a (sees at_block_like m) _ _ _ _ (block_first (parse_rule block_like m)) (expression_first (parse_rule whole_expression m)))))
 
-pub statement_alone : (ts : Stream) → parse_form statement_form ts ≡ statement_by false ts
+-- a value of its own
+core_stated : (a : Syntax) (o : Out) → wrap (of_other a) o ≡ wrap Node (made a o)
+core_stated a None = refl
+core_stated a (Some p) = let (j, t, e) = is_shaped attributed (Both a p.0) in ap (λ s. Some (Node s, p.1)) (ap core e ∙ sym e)
+
+module _ (ts m : Stream) (a : Syntax) (outer : parse_rule attributes ts ≡ Some (a, m)) where
+  -- where no item stands next
+  other : (u v : Bool) → sees at_crate_macro m ≡ u → goes_on (parse_rule macro_invocation m) ≡ v →
+      pick (sees at_crate_macro m) (made a (parse_rule crate_macro m)) (pick (sees at_brace_macro m) (macro_statement false a m)
+      (pick (sees (at_word w_let) m) (wrap (Shaped a_local) (wrap (Both a) (parse_rule local m))) (expression_statement false a m)))
+      ≡ pick (and u v) (item_statement ts) (behind_attributes false a m)
+  other false v h k = rw h refl
+  other true v h k = rw h (crate_alone ts m a outer h ∙ ap (λ b. pick b (item_statement ts) (crate_macro_statement false a m)) k)
+
+  by_look : (b : Bool) → sees at_item m ≡ b → parse_rule statement ts ≡ wrap Node (by_item false ts a m)
+  by_look true h = (item_statements ts m a outer h).0 ∙ go (parse_rule item ts) ∙ ap (λ b. wrap Node (pick (or b (crate_item false m)) (item_statement ts) (behind_attributes false a m))) (sym h)
+    where
+      go : (o : Out) → wrap listed_item.item_statement o ≡ wrap Node (wrap (Shaped an_item) o)
+      go None = refl
+      go (Some p) = refl
+  by_look false h =
+      let way : Syntax → Parser = λ a m. by_test (sees at_item m) (wrap listed_item.item_statement (run_plan (item_behind a) kept_item ts m)) (wrap (of_other a) (parse_form other_statement m)) in
+      statement_plan_is ts ∙ ap (follow way) outer
+      ∙ ap (λ b. by_test b (wrap listed_item.item_statement (run_plan (item_behind a) kept_item ts m)) (wrap (of_other a) (parse_form other_statement m))) h
+      ∙ core_stated a (parse_form other_statement m)
+      ∙ ap (wrap Node) (behind a m ∙ other (sees at_crate_macro m) (goes_on (parse_rule macro_invocation m)) refl refl)
+      ∙ ap (λ b. wrap Node (pick (or b (crate_item false m)) (item_statement ts) (behind_attributes false a m))) (sym h)
+
+pub statement_alone : (ts : Stream) → parse_rule statement ts ≡ wrap Node (statement_by false ts)
 unfolding statement_by
-statement_alone ts = go (parse_rule attributes ts)
+statement_alone ts = go (parse_rule attributes ts) refl
   where
-    go : (o : Out) → wrap stated (and_then o (parse_form alone_form)) ≡ then_by o (behind_attributes false)
-    go None = refl
-    go (Some p) = behind p.0 p.1
+    go : (o : Out) → parse_rule attributes ts ≡ o → parse_rule statement ts ≡ wrap Node (then_by o (by_item false ts))
+    go None h =
+        let way : Syntax → Parser = λ a m. by_test (sees at_item m) (wrap listed_item.item_statement (run_plan (item_behind a) kept_item ts m)) (wrap (of_other a) (parse_form other_statement m)) in
+        statement_plan_is ts ∙ ap (follow way) h
+    go (Some p) h = by_look ts p.1 p.0 h (sees at_item p.1) refl
 
 -- A LIST
 
@@ -142,9 +121,6 @@ statements_ended ts h = statements_is ts ∙ rw h refl
 -- the statements behind one
 abbrev pub more : Syntax → Stream → Out
 more s m = wrap (before_others s) (parse_rule statements m)
-
-abbrev as_list : Out → Out
-as_list o = wrap Node (wrap Right (wrap core (wrap Right (wrap in_list o))))
 
 -- what is read behind a semicolon, or behind nothing
 module _ (b : Bool) (a : Syntax) where
@@ -194,9 +170,13 @@ module _ (b : Bool) (a : Syntax) where
       go false true = going_first e (parse_rule operand_rest m)
       go false false = last (parse_rule statements m)
 
-module _ (a : Syntax) where
+-- attributes stand in their rule's node
+module _ (outer : Syntax) where
+  abbrev a : Syntax
+  a = Node outer
+
   abbrev built : Out → Out
-  built o = as_list (wrap (Both a) o)
+  built o = wrap (other_listed a) o
 
   built_branch : (b : Bool) (x y u v : Out) → built x ≡ then_by u more → built y ≡ then_by v more → built (branch b x y) ≡ then_by (pick b u v) more
   built_branch true None y u v h k = h
@@ -270,8 +250,7 @@ module _ (a : Syntax) where
       built_branch (sees at_crate_macro m) _ _ _ _ (list_crate_macro_first (parse_rule macro_invocation m))
       (built_branch (sees at_brace_macro m) _ _ _ _ (list_macro_first (parse_rule macro_invocation m))
       (built_branch (sees (at_word w_let) m) _ _ _ _ (list_of_local (parse_rule local m))
-      (built_branch (sees at_lone_crate m) _ _ _ _ refl
-      (built_branch (sees at_block_like m) _ _ _ _ (list_block_first (parse_rule block_like m)) (list_expression_first (parse_rule whole_expression m))))))
+      (built_branch (sees at_block_like m) _ _ _ _ (list_block_first (parse_rule block_like m)) (list_expression_first (parse_rule whole_expression m)))))
 
   rest_is : (m : Stream) → built (parse_rule statement_rest m) ≡ then_by (behind_attributes true a m) more
   rest_is m = ap built (statement_rest_is m) ∙ go (parse_form (table statement_rest) m) ∙ rest_behind m
@@ -280,9 +259,41 @@ module _ (a : Syntax) where
       go None = refl
       go (Some p) = refl
 
+-- what a rule reads stands in its node
+is_node : (o : Out) (a : Syntax) (m : Stream) → wrap Node o ≡ Some (a, m) → (x : Syntax) × (a ≡ Node x)
+is_node (Some p) a m e = let i : ◌≡◌ {A = Syntax × Stream} (Node p.0, p.1) (a, m) = cc e in (p.0, sym (ap (λ z. z.0) i))
+is_node None a m e = absurd (cc e)
+
+-- an item, and the statements behind it
+item_first : (o : Out) → wrap item_listed (and_then o (parse_rule statements)) ≡ then_by (wrap (Shaped an_item) o) more
+item_first None = refl
+item_first (Some p) = go (parse_rule statements p.1)
+  where
+    go : (z : Out) → wrap item_listed (wrap (Both p.0) z) ≡ wrap (before_others (Shaped an_item p.0)) z
+    go None = refl
+    go (Some y) = refl
+
+module _ (ts : Stream) (h : sees ended ts ≡ false) where
+  abbrev way : Syntax → Parser
+  way a m = by_test (sees at_item m) (wrap item_listed (and_then (run_plan (item_behind a) kept_item ts m) (parse_rule statements))) (wrap (other_listed a) (parse_rule statement_rest m))
+
+  list_by_look : (m : Stream) (a : Syntax) (c : sees at_semicolon ts ≡ false) → parse_rule attributes ts ≡ Some (a, m) → (b : Bool) → sees at_item m ≡ b → parse_rule statements ts ≡ then_by (by_item true ts a m) more
+  list_by_look m a c outer true k =
+      (item_statements ts m a outer k).1 h c ∙ item_first (parse_rule item ts) ∙ ap (λ b. then_by (pick (or b false) (item_statement ts) (behind_attributes true a m)) more) (sym k)
+  list_by_look m a c outer false k =
+      let (x, n) = is_node (parse_form (table attributes) ts) a m (sym (parse_rule_is attributes ts) ∙ outer) in
+      statements_plan_is ts h c ∙ ap (follow way) outer
+      ∙ ap (λ b. by_test b (wrap item_listed (and_then (run_plan (item_behind a) kept_item ts m) (parse_rule statements))) (wrap (other_listed a) (parse_rule statement_rest m))) k
+      ∙ subst (λ z. wrap (other_listed z) (parse_rule statement_rest m) ≡ then_by (behind_attributes true z m) more) (sym n) (rest_is x m)
+      ∙ ap (λ b. then_by (pick (or b false) (item_statement ts) (behind_attributes true a m)) more) (sym k)
+
+  list_by_attributes : (c : sees at_semicolon ts ≡ false) (o : Out) → parse_rule attributes ts ≡ o → parse_rule statements ts ≡ then_by (then_by o (by_item true ts)) more
+  list_by_attributes c None k = statements_plan_is ts h c ∙ ap (follow way) k
+  list_by_attributes c (Some p) k = list_by_look p.1 p.0 c k (sees at_item p.1) refl
+
 pub statements_more : (ts : Stream) → sees ended ts ≡ false → parse_rule statements ts ≡ then_by (next_statement ts) more
 unfolding next_statement statement_by take_mark
-statements_more ts h = statements_is ts ∙ rw h (go (sees at_semicolon ts) (take_chars semicolon ts) (parse_rule attributes ts))
+statements_more ts h = go (sees at_semicolon ts) refl
   where
     after : (m : Chars) → wrap Node (wrap Right (wrap core (wrap Left (wrap separated (and_then (marked m) (parse_rule statements)))))) ≡ then_by (wrap lone_semicolon (marked m)) more
     after None = refl
@@ -292,13 +303,9 @@ statements_more ts h = statements_is ts ∙ rw h (go (sees at_semicolon ts) (tak
         further None = refl
         further (Some y) = refl
 
-    attributes_first : (o : Out) → as_list (and_then o (parse_rule statement_rest)) ≡ then_by (then_by o (behind_attributes true)) more
-    attributes_first None = refl
-    attributes_first (Some p) = rest_is p.0 p.1
-
-    go : (c : Bool) (o : Chars) (z : Out) → wrap Node (wrap Right (wrap core (branch c (wrap separated (and_then (marked o) (parse_rule statements))) (wrap in_list (and_then z (parse_rule statement_rest)))))) ≡ then_by (pick c (wrap lone_semicolon (marked o)) (then_by z (behind_attributes true))) more
-    go true o z = after o
-    go false o z = attributes_first z
+    go : (c : Bool) → sees at_semicolon ts ≡ c → parse_rule statements ts ≡ then_by (pick c (wrap lone_semicolon (take_mark semicolon ts)) (then_by (parse_rule attributes ts) (by_item true ts))) more
+    go true e = statements_is ts ∙ rw h (rw e (after (take_chars semicolon ts)))
+    go false e = list_by_attributes ts h e (parse_rule attributes ts) refl
 
 -- a block with what goes on it
 pub block_goes_on : (in_list b : Bool) (a e : Syntax) (ts : Stream) (x : Syntax) (m : Stream) → sees at_semicolon ts ≡ false → sees at_postfix_mark ts ≡ true → wrap (onto e) (parse_rule operand_rest ts) ≡ Some (x, m) →

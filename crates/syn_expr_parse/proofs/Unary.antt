@@ -2,17 +2,20 @@
 use Rattle.std.proofs.Common.{◌≡◌, Bool, true, false, Some, None, refl, sym, ap, subst, ◌∙◌}
 use Rattle.syn_grammar.specs.Words.{colon, w_break, w_continue, w_false, w_if, w_return, w_true, w_unsafe, minus, exclamation, star}
 use Rattle.syn_grammar.specs.Tokens.{Stream, pick, at_lifetime, at_word}
-use Rattle.syn_grammar.specs.Shape.{Variant, Block, Break, Continue, Grouped, If, Lit, Macro, Path, Reference, Return, Unary, Unsafe, expr, behind_it, operand, operator, dotted, fields, bracketed, labelled, choice}
-use Rattle.syn_grammar.specs.Rules.{attributes, block_like, body, if_expression, loop_expression, postfixes, primary, unary}
+use Rattle.syn_grammar.specs.Shape.{Variant, Block, Break, Continue, Grouped, If, Lit, Macro, Path, Reference, Return, Unary, Unsafe, expr, behind_it, operand, operator, dotted, fields, bracketed, labelled, choice, chain}
+use Rattle.syn_grammar.specs.Rules.{attributes, block_like, body, if_expression, loop_expression, path_as_expression, postfixes, primary, unary}
 use Rattle.syn_grammar.specs.Grammar.{Syntax, Nothing, Both, Left, Right, Node, Unshown, Shaped, Grammar, empty, lifetime, ◌&◌, when◌then◌else◌, rule, shaped}
 use Rattle.syn_grammar.specs.Forms.{punctuation}
 use Rattle.syn_grammar.specs.Table.{at_ampersand, at_any_literal, at_block_like, at_brace, at_bracket, at_exclamation, at_invisible, at_macro, at_minus, at_paren, at_star}
 use Rattle.syn_grammar.specs.Take.{Out, Parser, sees}
 use Rattle.syn_grammar.specs.Values.{chained, core, led, literal_of, new, onto, shape, with_attributes, with_label}
 use Rattle.syn_grammar.specs.Run.{and_then, branch, parse_form, parse_rule, wrap}
-use Rattle.syn_grammar.proofs.Each.{block_like_is, if_expression_is, primary_is, unary_is}
+use Rattle.syn_grammar.proofs.Each.{block_like_is, if_expression_is, primary_is, primary_head_is, unary_is, unary_head_is}
 use Rattle.syn_grammar.proofs.Shapes.{core_shaped, onto_shaped}
-use Rattle.syn_expr_parse.specs.Unary.{attributed_of, bare_unary, operand_of, own_shown, reference_form, signed_form}
+use Rattle.syn_expr_parse.specs.Spots.{Spot, within}
+use Rattle.syn_expr_parse.specs.Primary.{before_paths, braces_form}
+use Rattle.syn_expr_parse.specs.Unary.{attributed_of, bare_unary, operand_of, own_shown, reference_form, signed_form, unary_form}
+use Rattle.syn_expr_parse.specs.declared.parsing.nested.Spot.TheVariants as Spot-m
 
 -- WHAT IS READ
 
@@ -45,12 +48,16 @@ attributed (Some a) q r h = go (q a.1) ∙ ap (wrap (with_attributes a.0)) (h a.
     go None = refl
     go (Some y) = refl
 
-pub unary_are : (ts : Stream) → parse_rule unary ts ≡ wrap Node (attributed_of (parse_rule attributes ts) bare_unary)
-unary_are ts =
-    unary_is ts ∙ ap (wrap Node) (attributed (parse_rule attributes ts) _ bare_unary (λ m.
-    core_branch (sees at_minus m) _ _ _ _ (core_new Unary (parse_form (signed_form minus) m)) (core_branch (sees at_exclamation m) _ _ _ _ (core_new Unary (parse_form (signed_form exclamation) m))
-    (core_branch (sees at_star m) _ _ _ _ (core_new Unary (parse_form (signed_form star) m)) (core_branch (sees at_ampersand m) _ _ _ _ (core_new Reference (parse_form reference_form m))
-    (core_operand (parse_rule primary m) (parse_rule postfixes)))))))
+unary_by : (p : Spot) (ts : Stream) → wrap Node (parse_form (unary_form p) ts) ≡ wrap Node (attributed_of (parse_rule attributes ts) (bare_unary p))
+unary_by p ts =
+    ap (wrap Node) (attributed (parse_rule attributes ts) _ (bare_unary p) (λ m.
+    core_branch (sees at_minus m) _ _ _ _ (core_new Unary (parse_form (signed_form p minus) m)) (core_branch (sees at_exclamation m) _ _ _ _ (core_new Unary (parse_form (signed_form p exclamation) m))
+    (core_branch (sees at_star m) _ _ _ _ (core_new Unary (parse_form (signed_form p star) m)) (core_branch (sees at_ampersand m) _ _ _ _ (core_new Reference (parse_form (reference_form p) m))
+    (core_operand (parse_rule (within p primary) m) (parse_rule postfixes)))))))
+
+pub unary_are : (p : Spot) (ts : Stream) → parse_rule (within p unary) ts ≡ wrap Node (attributed_of (parse_rule attributes ts) (bare_unary p))
+unary_are Spot-m.Anywhere ts = unary_is ts ∙ unary_by Spot-m.Anywhere ts
+unary_are Spot-m.Head ts = unary_head_is ts ∙ unary_by Spot-m.Head ts
 
 -- ATTRIBUTES ARE SHOWN
 
@@ -112,16 +119,6 @@ block_like_shows ts =
     subst CoreShown (sym (block_like_is ts))
     (shows_node _ (shows_choice _ (shows_branch (sees (at_word w_if) ts) _ _ (if_shows ts) (shows_branch (sees (at_word w_unsafe) ts) _ _ (shows_new Unsafe _) (shows_labelled (parse_form label_form ts) (parse_form behind_label_form))))))
 
-primary_shows : (ts : Stream) → CoreShown (parse_rule primary ts)
-primary_shows ts =
-    subst CoreShown (sym (primary_is ts))
-    (shows_node _ (shows_choice _ (shows_branch (sees (at_word w_true) ts) _ _ (shows_new Lit _) (shows_branch (sees (at_word w_false) ts) _ _ (shows_new Lit _)
-    (shows_branch (sees at_any_literal ts) _ _ (shows_new Lit _) (shows_branch (sees at_macro ts) _ _ (shows_new Macro _)
-    (shows_branch (sees at_paren ts) _ _ (shows_bracketed _) (shows_branch (sees at_bracket ts) _ _ (shows_bracketed _)
-    (shows_branch (sees at_invisible ts) _ _ (shows_new Grouped _) (shows_branch (sees at_block_like ts) _ _ (block_like_shows ts)
-    (shows_branch (sees (at_word w_return) ts) _ _ (shows_new Return _) (shows_branch (sees (at_word w_break) ts) _ _ (shows_new Break _)
-    (shows_branch (sees (at_word w_continue) ts) _ _ (shows_new Continue _) (shows_new Path _))))))))))))))
-
 literal_shows : (a p : Syntax) → own_shown a ≡ true → own_shown (literal_of a p) ≡ true
 literal_shows (Shaped (expr Path) (Both a s)) p e = e
 literal_shows s p e = refl
@@ -138,6 +135,28 @@ onto_shows a (Shaped (operator v) p) e = refl
 onto_shows a (Shaped dotted p) e = refl
 onto_shows a (Shaped fields p) e = literal_shows a p e
 onto_shows a l e = refl
+
+-- a path, with braces behind it or without
+shows_path : (o : Out) (q : Parser) → CoreShown (wrap (shape chain) (and_then (wrap (new Path) o) q))
+shows_path None q = record { is = refl }
+shows_path (Some p) q = go (q p.1)
+  where
+    go : (z : Out) → CoreShown (wrap (shape chain) (wrap (Both (new Path p.0)) z))
+    go None = record { is = refl }
+    go (Some y) = record { is = ap own_shown (core_chain (new Path p.0) y.0) ∙ onto_shows (new Path p.0) y.0 refl }
+
+primary_by : (p : Spot) (ts : Stream) (o : Out) → CoreShown o → CoreShown (wrap Node (wrap (shape choice) (before_paths p ts o)))
+primary_by p ts o h =
+    shows_node _ (shows_choice _ (shows_branch (sees (at_word w_true) ts) _ _ (shows_new Lit _) (shows_branch (sees (at_word w_false) ts) _ _ (shows_new Lit _)
+    (shows_branch (sees at_any_literal ts) _ _ (shows_new Lit _) (shows_branch (sees at_macro ts) _ _ (shows_new Macro _)
+    (shows_branch (sees at_paren ts) _ _ (shows_bracketed _) (shows_branch (sees at_bracket ts) _ _ (shows_bracketed _)
+    (shows_branch (sees at_invisible ts) _ _ (shows_new Grouped _) (shows_branch (sees at_block_like ts) _ _ (block_like_shows ts)
+    (shows_branch (sees (at_word w_return) ts) _ _ (shows_new Return _) (shows_branch (sees (at_word w_break) ts) _ _ (shows_new Break _)
+    (shows_branch (sees (at_word w_continue) ts) _ _ (shows_new Continue _) h))))))))))))
+
+primary_shows : (p : Spot) (ts : Stream) → CoreShown (parse_rule (within p primary) ts)
+primary_shows Spot-m.Anywhere ts = subst CoreShown (sym (primary_is ts)) (primary_by Spot-m.Anywhere ts _ (shows_path (parse_rule path_as_expression ts) (parse_form braces_form)))
+primary_shows Spot-m.Head ts = subst CoreShown (sym (primary_head_is ts)) (primary_by Spot-m.Head ts _ (shows_new Path _))
 
 abbrev shows : Out → Bool
 shows (Some p) = own_shown p.0
@@ -162,10 +181,10 @@ operand_shows (Some p) q e = go (q p.1)
     go None = record { is = refl }
     go (Some y) = record { is = onto_shows (core p.0) y.0 e.is }
 
-bare_shows : (ts : Stream) → Shown (bare_unary ts)
-bare_shows ts =
+bare_shows : (p : Spot) (ts : Stream) → Shown (bare_unary p ts)
+bare_shows p ts =
     pick_shows (sees at_minus ts) _ _ (new_shows Unary _) (pick_shows (sees at_exclamation ts) _ _ (new_shows Unary _) (pick_shows (sees at_star ts) _ _ (new_shows Unary _)
-    (pick_shows (sees at_ampersand ts) _ _ (new_shows Reference _) (operand_shows (parse_rule primary ts) (parse_rule postfixes) (primary_shows ts)))))
+    (pick_shows (sees at_ampersand ts) _ _ (new_shows Reference _) (operand_shows (parse_rule (within p primary) ts) (parse_rule postfixes) (primary_shows p ts)))))
 
-pub unary_shown : (ts : Stream) (s : Syntax) (r : Stream) → bare_unary ts ≡ Some (s, r) → own_shown s ≡ true
-unary_shown ts s r e = ap shows (sym e) ∙ (bare_shows ts).is
+pub unary_shown : (p : Spot) (ts : Stream) (s : Syntax) (r : Stream) → bare_unary p ts ≡ Some (s, r) → own_shown s ≡ true
+unary_shown p ts s r e = ap shows (sym e) ∙ (bare_shows p ts).is

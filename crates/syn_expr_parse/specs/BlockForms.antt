@@ -1,7 +1,7 @@
 -- THE PARTS OF BLOCKS, LOOPS AND `if`, as they are read.
 use Rattle.syn_grammar.specs.Words.{w_else, w_for, w_if, w_in, w_loop, w_unsafe, w_while, colon}
 use Rattle.syn_grammar.specs.Tokens.{at_word, at_lifetime}
-use Rattle.syn_grammar.specs.Rules.{block, body, if_expression, loop_expression, pattern, whole_expression}
+use Rattle.syn_grammar.specs.Rules.{block, body, if_expression, loop_expression, pattern, whole_expression_head}
 use Rattle.syn_grammar.specs.Shape.{Variant, Block, operand, labelled}
 use Rattle.syn_grammar.specs.Grammar.{Syntax, Both, Grammar, empty, lifetime, ◌&◌, when◌then◌else◌, rule, shaped, word}
 use Rattle.syn_grammar.specs.Forms.{plainly, punctuation}
@@ -25,10 +25,10 @@ abbrev pub loop_form : Grammar
 loop_form = plainly (word w_loop) & rule body
 
 abbrev pub while_form : Grammar
-while_form = plainly (word w_while) & rule whole_expression & rule body
+while_form = plainly (word w_while) & rule whole_expression_head & rule body
 
 abbrev pub for_form : Grammar
-for_form = plainly (word w_for) & rule pattern & plainly (word w_in) & rule whole_expression & rule body
+for_form = plainly (word w_for) & rule pattern & plainly (word w_in) & rule whole_expression_head & rule body
 
 -- a block or another `if`
 abbrev pub else_branch_form : Grammar
@@ -38,4 +38,4 @@ abbrev pub otherwise_form : Grammar
 otherwise_form = when at_word w_else then plainly (word w_else) & else_branch_form else empty
 
 abbrev pub if_form : Grammar
-if_form = plainly (word w_if) & rule whole_expression & rule block & otherwise_form
+if_form = plainly (word w_if) & rule whole_expression_head & rule block & otherwise_form

@@ -8,7 +8,9 @@ use Rattle.syn_grammar.specs.Grammar.{Syntax, Both, Left, Right, Node, Shaped, s
 use Rattle.syn_grammar.specs.Take.{Out, Parser, sees, take_mark}
 use Rattle.syn_grammar.specs.Values.{core, onto, chained}
 use Rattle.syn_grammar.specs.Run.{wrap, and_then, branch, parse_rule, parse_form}
-use Rattle.syn_expr_parse.specs.Levels.{Operator, chain_form, once_form, first_operator, joined, then_more, going, going_once, chained_out}
+use Rattle.syn_expr_parse.specs.Spots.{head_of}
+use Rattle.syn_expr_parse.specs.Levels.{Operator, chain_form, once_form, first_operator, joined, then_more, going, going_once, chained_out, IsLevel, Steps}
+use Rattle.syn_expr_parse.specs.declared.parsing.nested.Spot.TheVariants as Spot-m
 
 -- a rule's Node is nothing to a chain
 pub through_node : (a : Syntax) (o : Out) → wrap (onto a) (wrap Node o) ≡ wrap (onto a) o
@@ -84,3 +86,15 @@ level (Some p) q = go (q p.1)
 pub level_is : (k more whole : Rule) → ((ts : Stream) → parse_rule whole ts ≡ wrap Node (parse_form (shaped chain (rule k & rule more)) ts)) →
     (ts : Stream) → parse_rule whole ts ≡ chained_out (parse_rule k ts) (parse_rule more)
 level_is k more whole h ts = h ts ∙ level (parse_rule k ts) (parse_rule more)
+
+-- AT ANY SPOT, by the equations of the two rules
+
+pub steps_at : (l : List Operator) (k more : Rule) → ((ts : Stream) → parse_rule more ts ≡ wrap Node (parse_form (chain_form l k more) ts)) →
+    ((ts : Stream) → parse_rule (head_of more) ts ≡ wrap Node (parse_form (chain_form l (head_of k) (head_of more)) ts)) → Steps l k more
+steps_at l k more h i Spot-m.Anywhere = chain_step l k more h
+steps_at l k more h i Spot-m.Head = chain_step l (head_of k) (head_of more) i
+
+pub level_at : (k more whole : Rule) → ((ts : Stream) → parse_rule whole ts ≡ wrap Node (parse_form (shaped chain (rule k & rule more)) ts)) →
+    ((ts : Stream) → parse_rule (head_of whole) ts ≡ wrap Node (parse_form (shaped chain (rule (head_of k) & rule (head_of more))) ts)) → IsLevel k more whole
+level_at k more whole h i Spot-m.Anywhere = level_is k more whole h
+level_at k more whole h i Spot-m.Head = level_is (head_of k) (head_of more) (head_of whole) i

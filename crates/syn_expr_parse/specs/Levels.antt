@@ -1,15 +1,16 @@
 -- LEVELS OF OPERATORS: what a level's chain is read by, and what it makes of the expression that stands before it.
 use Rattle.std.specs.Prelude.{◌≡◌, ◌<◌, List, [], ◌∷◌, ◌++◌, Option, Some, None, Result, Ok, Err}
-use Rattle.syn_grammar.specs.Words.{Text, star, slash, percent, plus, minus, less_less, greater_greater, ampersand, caret, bar, equal_equal, not_equals, less, greater, less_equals, greater_equals, and_and, or_or, plus_equals, minus_equals, star_equals, slash_equals, percent_equals, caret_equals, ampersand_equals, bar_equals, less_less_equals, greater_greater_equals}
+use Rattle.syn_grammar.specs.Words.{Text, star, slash, percent, plus, minus, less_less, greater_greater, ampersand, caret, bar, equal_equal, not_equals, less, greater, less_equals, greater_equals, and_and, or_or, plus_equals, minus_equals, star_equals, slash_equals, percent_equals, caret_equals, ampersand_equals, bar_equals, less_less_equals, greater_greater_equals, equals}
 use Rattle.syn_grammar.specs.Tokens.{Stream, no, pick, Look, at_mark}
-use Rattle.syn_grammar.specs.Shape.{Variant, Assign, Binary, Cast, operator}
+use Rattle.syn_grammar.specs.Shape.{Variant, Assign, Binary, Cast, operator, chain}
 use Rattle.syn_grammar.specs.Rules.{Rule, type, postfixes, casts, products, sums, shifts, bit_ands, bit_xors, bit_ors, compared, conjunctions, disjunctions, assigned, whole_expression}
 use Rattle.syn_grammar.specs.Grammar.{Syntax, Both, Node, Grammar, empty, ◌&◌, when◌then◌else◌, rule, shaped}
-use Rattle.syn_grammar.specs.Forms.{punctuation}
-use Rattle.syn_grammar.specs.Table.{at_star_operator, at_slash_operator, at_percent_operator, at_plus_operator, at_minus_operator, at_less_less_operator, at_greater_greater_operator, at_ampersand_operator, at_caret_operator, at_bar_operator, at_less_operator, at_greater_operator, at_unfinished}
+use Rattle.syn_grammar.specs.Forms.{never, punctuation}
+use Rattle.syn_grammar.specs.Table.{at_star_operator, at_slash_operator, at_percent_operator, at_plus_operator, at_minus_operator, at_less_less_operator, at_greater_greater_operator, at_ampersand_operator, at_caret_operator, at_bar_operator, at_less_operator, at_greater_operator, at_equals_operator, at_unfinished}
 use Rattle.syn_grammar.specs.Take.{Out, Parser, only, sees, take_mark, left}
 use Rattle.syn_grammar.specs.Values.{core, onto, new}
 use Rattle.syn_grammar.specs.Run.{wrap, parse_rule}
+use Rattle.syn_expr_parse.specs.Spots.{Spot, within}
 
 -- an operator: what has to stand next, and the mark that is read there
 abbrev pub Operator : Type 0
@@ -113,20 +114,27 @@ abbrev pub cast_out : Syntax → Out → Out
 cast_out a (Some o) = then_more (joined Cast a o.0 (parse_rule type o.1)) (parse_rule casts)
 cast_out a None = None
 
--- `=` and what is read behind it
-abbrev pub assign_out : Syntax → Out → Out
-assign_out a (Some o) = joined Assign a o.0 (parse_rule whole_expression o.1)
-assign_out a None = None
+-- what is assigned, by this rule, and a whole expression, by those of its parts
+abbrev pub assigned_form : Rule → Grammar
+assigned_form k = when at_equals_operator then shaped (operator Assign) (punctuation equals & rule k) else once_form assignment_operators k
+
+abbrev pub whole_form : Rule → Rule → Grammar
+whole_form d k = shaped chain (rule d & rule k & (when at_unfinished then never else empty))
+
+-- `=` and what is read behind it, by this rule
+abbrev pub assign_out : Rule → Syntax → Out → Out
+assign_out k a (Some o) = joined Assign a o.0 (parse_rule k o.1)
+assign_out k a None = None
 
 -- behind a whole expression no postfix and no comparison stands
 abbrev pub unfinished_out : Out → Out
 unfinished_out (Some p) = only (no (sees at_unfinished p.1)) (Some (Node p.0, p.1))
 unfinished_out None = None
 
--- of a disjunction
-abbrev pub whole_out : Out → Out
-whole_out (Some p) = unfinished_out (wrap (onto (core p.0)) (parse_rule assigned p.1))
-whole_out None = None
+-- of a disjunction, and what is assigned to it, by this rule
+abbrev pub whole_out : Rule → Out → Out
+whole_out k (Some p) = unfinished_out (wrap (onto (core p.0)) (parse_rule k p.1))
+whole_out k None = None
 
 -- BEHIND AN OPERAND: one chain after another
 
@@ -145,3 +153,14 @@ then_core None f = None
 abbrev pub rest_out : Rule → List Rule → Syntax → Parser
 rest_out k [] a ts = wrap (onto a) (parse_rule k ts)
 rest_out k (n ∷ l) a ts = then_core (wrap (onto a) (parse_rule k ts)) (rest_out n l)
+
+-- AT ANY SPOT
+
+-- what a chain makes of the expression before it, one operator at a time
+abbrev pub Steps : List Operator → Rule → Rule → Type 0
+Steps l operand more =
+    (p : Spot) (a : Syntax) (ts : Stream) → wrap (onto a) (parse_rule (within p more) ts) ≡ going a ts (first_operator l ts) (parse_rule (within p operand)) (parse_rule (within p more))
+
+-- a level is an operand and its chain
+abbrev pub IsLevel : Rule → Rule → Rule → Type 0
+IsLevel operand more whole = (p : Spot) (ts : Stream) → parse_rule (within p whole) ts ≡ chained_out (parse_rule (within p operand) ts) (parse_rule (within p more))

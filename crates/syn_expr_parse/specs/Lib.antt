@@ -1,6 +1,5 @@
 pub mod Arrays
 pub mod BlockForms
-pub mod Bodies
 pub mod LevelSteps
 pub mod Levels
 pub mod Listed
@@ -11,5 +10,8 @@ pub mod Parts
 pub mod Postfixes
 pub mod Primary
 pub mod Spines
+pub mod Spots
 pub mod StatementForms
+pub mod StructLiterals
+pub mod Then
 pub mod Unary

@@ -1,20 +1,16 @@
 -- STATEMENTS ONE AT A TIME, as they are read.
 use Rattle.std.specs.Prelude.{Bool, true, false, Some, None}
 use Rattle.syn_grammar.specs.Words.{equals, semicolon, w_else, w_let}
-use Rattle.syn_grammar.specs.Tokens.{end, and, no, pick, ended, at_word}
-use Rattle.syn_grammar.specs.Rules.{attributes, block_like, local, macro_invocation, operand_rest, statement_end, whole_expression}
-use Rattle.syn_grammar.specs.Shape.{Macro, Verbatim, expr, operand, a_local, attributed, listed, said, said_macro, untagged}
+use Rattle.syn_grammar.specs.Tokens.{Stream, end, and, no, or, pick, ended, at_word}
+use Rattle.syn_grammar.specs.Rules.{attributes, block_like, item, local, macro_invocation, operand_rest, whole_expression}
+use Rattle.syn_grammar.specs.Shape.{Macro, Verbatim, expr, a_local, an_item, listed, said, untagged}
 use Rattle.syn_grammar.specs.Grammar.{Syntax, Nothing, Both, Left, Right, Node, Such, Shaped, Captured, Grammar, empty, ◌&◌, when◌then◌else◌, either, rule, shaped, such, word, trailing_brace, no_trailing_brace, ends_brace}
-use Rattle.syn_grammar.specs.Forms.{never, plainly, punctuation}
-use Rattle.syn_grammar.specs.Table.{at_block_like, at_brace_macro, at_crate_macro, at_equals, at_lone_crate, at_postfix_mark, at_semicolon, else_block, no_else}
+use Rattle.syn_grammar.specs.Forms.{plainly, punctuation}
+use Rattle.syn_grammar.specs.Table.{at_block_like, at_brace_macro, at_crate_macro, at_equals, at_item, at_postfix_mark, at_semicolon, else_block, no_else}
 use Rattle.syn_grammar.specs.Take.{Out, Parser, only, sees, take_mark}
 use Rattle.syn_grammar.specs.Values.{core, moved, new, onto, sentence}
 use Rattle.syn_grammar.specs.Run.{wrap, parse_rule, parse_form}
-
--- with what was read so far
-abbrev pub then_by : Out → (Syntax → Parser) → Out
-then_by (Some p) q = q p.0 p.1
-then_by None q = None
+pub use Rattle.syn_expr_parse.specs.Then.{then_by}
 
 -- what ends an expression: `;`, or in a list (true) the end
 abbrev pub no_semicolon : Bool → Parser
@@ -50,16 +46,36 @@ expression_statement in_list a ts =
     pick (sees at_block_like ts) (then_by (wrap core (parse_rule block_like ts)) (behind_block in_list false a))
     (then_by (wrap core (parse_rule whole_expression ts)) (ending in_list false a))
 
--- a statement behind its attributes
+-- a statement that is no item, behind its attributes
 abbrev pub behind_attributes : Bool → Syntax → Parser
 behind_attributes in_list a ts =
     pick (sees at_crate_macro ts) (crate_macro_statement in_list a ts)
     (pick (sees at_brace_macro ts) (macro_statement in_list a ts)
-    (pick (sees (at_word w_let) ts) (wrap (Shaped a_local) (wrap (Both a) (parse_rule local ts)))
-    (pick (sees at_lone_crate ts) None (expression_statement in_list a ts))))
+    (pick (sees (at_word w_let) ts) (wrap (Shaped a_local) (wrap (Both a) (parse_rule local ts))) (expression_statement in_list a ts)))
+
+-- what goes on an expression stands behind what was read
+abbrev pub goes_on : Out → Bool
+goes_on (Some p) = sees at_postfix_mark p.1
+goes_on None = false
+
+-- alone, a macro of `crate` in braces with this behind it is an item
+abbrev pub crate_item : Bool → Stream → Bool
+crate_item true ts = false
+crate_item false ts = and (sees at_crate_macro ts) (goes_on (parse_rule macro_invocation ts))
+
+abbrev pub item_next : Bool → Stream → Bool
+item_next in_list ts = or (sees at_item ts) (crate_item in_list ts)
+
+-- an item, with its attributes
+abbrev pub item_statement : Parser
+item_statement ts = wrap (Shaped an_item) (parse_rule item ts)
+
+-- a statement that begins here, by what stands behind its attributes
+abbrev pub by_item : Bool → Stream → Syntax → Parser
+by_item in_list start a ts = pick (item_next in_list ts) (item_statement start) (behind_attributes in_list a ts)
 
 unfoldable pub statement_by : Bool → Parser
-statement_by in_list ts = then_by (parse_rule attributes ts) (behind_attributes in_list)
+statement_by in_list ts = then_by (parse_rule attributes ts) (by_item in_list ts)
 
 -- `;` alone
 abbrev pub lone_semicolon : Syntax → Syntax
@@ -95,17 +111,3 @@ valued sign e o = wrap (λ d. Both sign (Shaped untagged (Both (Such e) d))) o
 
 unfoldable pub local_value : Syntax → Parser
 local_value sign ts = then_by (parse_rule whole_expression ts) (λ e m. valued sign e (diverges (ends_brace e) m))
-
--- a statement alone, behind its attributes
-abbrev pub alone_form : Grammar
-alone_form =
-    when at_crate_macro then shaped said_macro (shaped (operand Macro) (rule macro_invocation) & (when at_postfix_mark then never else rule statement_end))
-    else when at_brace_macro then shaped said_macro (shaped (operand Macro) (rule macro_invocation) & rule statement_end)
-    else when at_word w_let then shaped a_local (rule local)
-    else when at_lone_crate then never
-    else when at_block_like then shaped said (rule block_like & rule statement_end)
-    else shaped said (rule whole_expression & punctuation semicolon)
-
--- the form of the rule `statement`
-abbrev pub statement_form : Grammar
-statement_form = shaped attributed (rule attributes & alone_form)

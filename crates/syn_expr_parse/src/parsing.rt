@@ -4,6 +4,7 @@ mod blocks;
 mod groups;
 mod knot;
 mod levels;
+mod literals;
 mod nested;
 mod postfix;
 mod primary;
@@ -14,7 +15,7 @@ mod unary;
 
 pub use blocks::block;
 pub use knot::{Inside, Knot};
-pub use nested::{Block, Expr, LocalInit, Nested, Rung, Stmt};
+pub use nested::{Block, Expr, FieldValue, LocalInit, Nested, Rung, Spot, Stmt};
 pub use primary::constant;
 pub use recursion::expression;
 pub use stmts::{statement, statements};

@@ -3,10 +3,10 @@ ghost use Rattle.std.specs.Prelude.{◌≡◌, true};
 ghost use Rattle.syn_grammar.specs.Tokens as grammar;
 ghost use Rattle.syn_grammar.specs.Tokens.{end};
 ghost use Rattle.syn_grammar.specs.Grammar.{Both, Captured, Left, Node, Nothing, Right, Shaped, Such};
-ghost use Rattle.syn_grammar.specs.Shape.{Array, Assign, Binary, Block as Blocks, Break as Breaking, Call, Cast, Continue as Continuing, Field, ForLoop, Grouped, If as Choosing, Index, Lit as Literals, Loop as Looping, Macro as Macros, MethodCall, Parens, Path as Paths, Reference, Repeat, Return as Returning, Try, Tuple, Unary, Unsafe as Unsafes, Verbatim, While as Whiles, a_local, expr as expr_shape, said, untagged};
+ghost use Rattle.syn_grammar.specs.Shape.{Array, Assign, Binary, Block as Blocks, Break as Breaking, Call, Cast, Continue as Continuing, Field, ForLoop, Grouped, If as Choosing, Index, Lit as Literals, Loop as Looping, Macro as Macros, MethodCall, Parens, Path as Paths, Reference, Repeat, Return as Returning, Try, Tuple, Unary, Unsafe as Unsafes, Verbatim, While as Whiles, a_local, an_item, expr as expr_shape, said, untagged};
 ghost use Rattle.syn_grammar.specs.Values.{moved as moved_syntax, new, sentence as sentence_syntax, with_attributes as with_attributes_syntax};
 ghost use Rattle.syn_grammar.specs.Promises.{OrMemory};
-ghost use Rattle.syn_tokens.specs.Kinds.{and_syntax, as_syntax, break_syntax, comma_syntax, continue_syntax, dot_syntax, else_syntax, eq_syntax, for_syntax, if_syntax, in_syntax, let_syntax, loop_syntax, mut_syntax, question_syntax, return_syntax, semi_syntax, unsafe_syntax, while_syntax};
+ghost use Rattle.syn_tokens.specs.Kinds.{and_syntax, as_syntax, break_syntax, colon_syntax, comma_syntax, continue_syntax, dot_syntax, dot_dot_syntax, else_syntax, eq_syntax, for_syntax, if_syntax, in_syntax, let_syntax, loop_syntax, mut_syntax, question_syntax, return_syntax, semi_syntax, unsafe_syntax, while_syntax};
 ghost use Rattle.syn_tokens.specs.Leaves.{maybe, syntax_of_ident};
 ghost use Rattle.syn_tokens.specs.Listing.{list_of};
 ghost use Rattle.syn_parse.specs.Refusals.{IsSyntax};
@@ -16,10 +16,12 @@ ghost use Rattle.syn_lower.specs.Types.{syntax_of_Type, syntax_of_lifetime, tupl
 ghost use Rattle.syn_lower.specs.Literals.{syntax_of_Lit};
 ghost use Rattle.syn_lower.specs.Members.{syntax_of_Member};
 ghost use Rattle.syn_pat.specs.Patterns.{local_pattern, path_of, syntax_of_Pat};
-ghost use Rattle.syn_expr_parse.specs.Bodies.{attributes_before_body, body as body_syntax};
+ghost use Rattle.syn_lower.specs.Bodies.{attributes_before_body, body as body_syntax};
 ghost use Rattle.syn_expr_parse.specs.Operators.{syntax_of_BinOp, syntax_of_UnOp};
 ghost use Rattle.syn_expr_parse.specs.Parts.{array_elements, behind_else, block_behind_else, diverging, field_member, label_syntax, method_arguments, statements_of, token_of};
+ghost use Rattle.syn_expr_parse.specs.Primary.{in_literal};
 ghost use Rattle.syn_expr_parse.specs.Spines.{spine_shown};
+ghost use Rattle.syn_expr_parse.specs.StructLiterals.{field_of, literal_of_parts, lone_field};
 ghost use Rattle.syn_expr_parse.specs.Unary.{own_shown};
 
 use crate::op::{BinOp, UnOp};
@@ -27,12 +29,13 @@ use std::alloc::Global;
 use syn_lower::{AngleBracketedGenericArguments, Attribute, Lit, Member, Path, QSelf, Type};
 use syn_parse::read::refusal::Parsed;
 use syn_pat::{Macro, Pat};
+use syn_recognize::deferred::DeferredItem;
 use syn_tokens::ident::Ident;
 use syn_tokens::lifetime::Lifetime;
 use syn_tokens::punctuated::Punctuated;
 use syn_tokens::token::{
-    And, As, Brace, Bracket, Break, Colon, Comma, Continue, Dot, Else, Eq, For, Group, If, In, Let,
-    Loop, Mut, Paren, Question, Return, Semi, Unsafe, While,
+    And, As, Brace, Bracket, Break, Colon, Comma, Continue, Dot, DotDot, Else, Eq, For, Group, If,
+    In, Let, Loop, Mut, Paren, Question, Return, Semi, Unsafe, While,
 };
 
 /// The trees of expressions, blocks and statements. Each function that may want memory is refused only where that is.
@@ -53,6 +56,12 @@ pub trait Trees {
     /// `=` and the value of a local.
     type LocalInit: Drop;
 
+    /// Expressions of which a statement is made.
+    type Held: Drop;
+
+    /// Fields of struct literals.
+    type FieldValue: Drop;
+
     /// What an expression stands for, without its rule's node.
     ghost expr_syntax: { Self.Expr → Syntax };
 
@@ -62,6 +71,11 @@ pub trait Trees {
     ghost stmt_syntax: { Self.Stmt → Syntax };
 
     ghost init_syntax: { Self.LocalInit → Syntax };
+
+    /// What the expression stands for of which a statement is made.
+    ghost held_syntax: { Self.Held → Syntax };
+
+    ghost field_syntax: { Self.FieldValue → Syntax };
 
     /// What an expression stands for is a value of its own.
     ghost core_is: { (e : Self.Expr) → core (Self.expr_syntax e) ≡ Self.expr_syntax e };
@@ -253,6 +267,31 @@ pub trait Trees {
     ) -> Parsed<Box<Self::Expr>>
         ensures { OrMemory IsSyntax result (λ x. Self.expr_syntax x.value ≡ new Returning (Both (return_syntax return_token) (maybe (λ e. Node (Self.expr_syntax e.value)) expr))) };
 
+    /// A struct literal: a path, and fields in braces, perhaps with `..` and an expression.
+    fn expr_struct(
+        qself: Option<QSelf>,
+        path: Path,
+        brace_token: Brace,
+        fields: Punctuated<Self::FieldValue, Comma>,
+        dot2_token: Option<DotDot>,
+        rest: Option<Box<Self::Expr>>,
+        alloc: Global,
+    ) -> Parsed<Box<Self::Expr>>
+        ensures { OrMemory IsSyntax result (λ x. Self.expr_syntax x.value ≡ in_literal (path_of qself path) (group_syntax grammar.Brace brace_token (literal_of_parts (list_of Self.field_syntax comma_syntax fields.pairs fields.last) (maybe dot_dot_syntax dot2_token) (maybe (λ e. Node (Self.expr_syntax e.value)) rest)))) };
+
+    /// A field of a struct literal, with its value.
+    fn field_value(
+        attrs: Vec<Attribute>,
+        member: Member,
+        colon_token: Colon,
+        expr: Box<Self::Expr>,
+    ) -> Self::FieldValue
+        ensures { Self.field_syntax result ≡ field_of (attributes_syntax attrs.items) (syntax_of_Member member) (Left (colon_syntax colon_token)) (Self.expr_syntax expr.value) };
+
+    /// A field of a struct literal whose value is the variable of its name.
+    fn lone_field(attrs: Vec<Attribute>, name: Ident, alloc: Global) -> Parsed<Self::FieldValue>
+        ensures { OrMemory IsSyntax result (λ f. Self.field_syntax f ≡ lone_field (attributes_syntax attrs.items) (syntax_of_ident name)) };
+
     /// `?` behind an expression.
     fn expr_try(
         expr: Box<Self::Expr>,
@@ -313,13 +352,21 @@ pub trait Trees {
     fn block(brace_token: Brace, stmts: Vec<Self::Stmt>) -> Self::Block
         ensures { Self.block_syntax result ≡ Node (group_syntax grammar.Brace brace_token (statements_of Self.stmt_syntax stmts.items)) };
 
+    /// An expression, held to make a statement of it.
+    fn held(expr: Box<Self::Expr>) -> Self::Held
+        ensures { Self.held_syntax result ≡ Self.expr_syntax expr.value };
+
     /// An expression as a statement. A macro with `;` is a macro's statement, and so is one in braces (`braces`).
-    fn stmt(braces: bool, expr: Box<Self::Expr>, semi: Option<Semi>) -> Self::Stmt
-        ensures { Self.stmt_syntax result ≡ sentence_syntax braces (Self.expr_syntax expr.value) (maybe semi_syntax semi) };
+    fn stmt(braces: bool, expr: Self::Held, semi: Option<Semi>) -> Self::Stmt
+        ensures { Self.stmt_syntax result ≡ sentence_syntax braces (Self.held_syntax expr) (maybe semi_syntax semi) };
 
     /// `;` alone.
     fn semi_alone(semi: Semi, alloc: Global) -> Self::Stmt
         ensures { Self.stmt_syntax result ≡ Shaped said (Both (Shaped (expr_shape Verbatim) (Captured Nothing end)) (Left (semi_syntax semi))) };
+
+    /// An item.
+    fn item(item: DeferredItem) -> Self::Stmt
+        ensures { Self.stmt_syntax result ≡ Shaped an_item item };
 
     /// `=`, a value, and perhaps `else` with a block.
     fn local_init(

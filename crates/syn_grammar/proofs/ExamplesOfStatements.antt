@@ -5,7 +5,7 @@ use Rattle.syn_grammar.specs.Words.{w_underscore, w_break, w_continue, w_crate, 
 use Rattle.syn_grammar.specs.Tokens.{call_site, Paren, Brace, Bracket, Str, ByteStr, Byte, Char, Int, ident, literal, end, leaf, punct, group}
 use Rattle.syn_grammar.specs.Rules.{block, body, plain_body, no_inner_attributes, block_like, if_expression, loop_expression, statements, statement_rest, after_block, after_expression, statement, statement_end, local}
 use Rattle.syn_grammar.specs.Grammar.{rule}
-use Rattle.syn_grammar.specs.Take.{left, is_end, lookahead_at, sees, take_token, take_lifetime, take_mark, take_group, before}
+use Rattle.syn_grammar.specs.Take.{left, is_end, lookahead_at, sees, take_token, take_lifetime, take_mark, take_group, before, first_span}
 use Rattle.syn_grammar.specs.Run.{rows_for, rows, run, parse_rule}
 use Rattle.syn_grammar.specs.Promises.{NotDerived}
 use Rattle.syn_grammar.proofs.Shown.{at, DerivesAs, computed, not_read}
@@ -611,7 +611,7 @@ stmts_n1 : DerivesAs statements
     (leaf (literal Int (49 ∷ [])) (at 0 1) end)
     (leaf (literal Int (49 ∷ [])) call_site end)
     (end)
-unfolding left is_end lookahead_at sees take_token take_lifetime take_mark take_group before rows_for rows run parse_rule
+unfolding left is_end lookahead_at sees take_token take_lifetime take_mark take_group before first_span rows_for rows run parse_rule
 stmts_n1 = computed statements _ _ _ refl
 
 -- `;` prints `;`
@@ -619,7 +619,7 @@ stmts_semi : DerivesAs statements
     (punct 59 false (at 0 1) end)
     (punct 59 false call_site end)
     (end)
-unfolding left is_end lookahead_at sees take_token take_lifetime take_mark take_group before rows_for rows run parse_rule
+unfolding left is_end lookahead_at sees take_token take_lifetime take_mark take_group before first_span rows_for rows run parse_rule
 stmts_semi = computed statements _ _ _ refl
 
 -- `;;` prints `; ;`
@@ -627,7 +627,7 @@ stmts_semi_semi : DerivesAs statements
     (punct 59 true (at 0 1) (punct 59 false (at 1 2) end))
     (punct 59 false call_site (punct 59 false call_site end))
     (end)
-unfolding left is_end lookahead_at sees take_token take_lifetime take_mark take_group before rows_for rows run parse_rule
+unfolding left is_end lookahead_at sees take_token take_lifetime take_mark take_group before first_span rows_for rows run parse_rule
 stmts_semi_semi = computed statements _ _ _ refl
 
 -- `#[a] let b;` prints `# [a] let b ;`
@@ -635,13 +635,13 @@ stmts_pound_in_bracket_a_let_b_semi : DerivesAs statements
     (punct 35 false (at 0 1) (group Bracket (at 1 2) (at 3 4) (leaf (ident (97 ∷ [])) (at 2 3) end) (leaf (ident w_let) (at 5 8) (leaf (ident (98 ∷ [])) (at 9 10) (punct 59 false (at 10 11) end)))))
     (punct 35 false call_site (group Bracket call_site call_site (leaf (ident (97 ∷ [])) call_site end) (leaf (ident w_let) call_site (leaf (ident (98 ∷ [])) call_site (punct 59 false call_site end)))))
     (end)
-unfolding left is_end lookahead_at sees take_token take_lifetime take_mark take_group before rows_for rows run parse_rule
+unfolding left is_end lookahead_at sees take_token take_lifetime take_mark take_group before first_span rows_for rows run parse_rule
 stmts_pound_in_bracket_a_let_b_semi = computed statements _ _ _ refl
 
 -- `, a`: nothing is read
 stmts_comma_a : NotDerived (rule statements)
     (punct 44 false (at 0 1) (leaf (ident (97 ∷ [])) (at 2 3) end))
-unfolding left is_end lookahead_at sees take_token take_lifetime take_mark take_group before rows_for rows run parse_rule
+unfolding left is_end lookahead_at sees take_token take_lifetime take_mark take_group before first_span rows_for rows run parse_rule
 stmts_comma_a = not_read statements _ refl
 
 -- no tokens: nothing is read
@@ -702,11 +702,13 @@ stmt_rest_crate_bang_braces_question : NotDerived (rule statement_rest)
 unfolding left is_end lookahead_at sees take_token take_lifetime take_mark take_group before rows_for rows run parse_rule
 stmt_rest_crate_bang_braces_question = not_read statement_rest _ refl
 
--- `crate!()`: nothing is read
-stmt_rest_crate_bang_parens : NotDerived (rule statement_rest)
+-- `crate!()` prints `crate ! ()`
+stmt_rest_crate_bang_parens : DerivesAs statement_rest
     (leaf (ident w_crate) (at 0 5) (punct 33 false (at 5 6) (group Paren (at 6 7) (at 7 8) end end)))
+    (leaf (ident w_crate) call_site (punct 33 false call_site (group Paren call_site call_site end end)))
+    (end)
 unfolding left is_end lookahead_at sees take_token take_lifetime take_mark take_group before rows_for rows run parse_rule
-stmt_rest_crate_bang_parens = not_read statement_rest _ refl
+stmt_rest_crate_bang_parens = computed statement_rest _ _ _ refl
 
 -- `a!{}?` prints `a ! {} ?`
 stmt_rest_a_bang_braces_question : DerivesAs statement_rest
@@ -997,7 +999,7 @@ stmt_pound_in_bracket_a_braces : DerivesAs statement
     (punct 35 false (at 0 1) (group Bracket (at 1 2) (at 3 4) (leaf (ident (97 ∷ [])) (at 2 3) end) (group Brace (at 5 6) (at 6 7) end end)))
     (punct 35 false call_site (group Bracket call_site call_site (leaf (ident (97 ∷ [])) call_site end) (group Brace call_site call_site end end)))
     (end)
-unfolding left is_end lookahead_at sees take_token take_lifetime take_mark take_group before rows_for rows run parse_rule
+unfolding left is_end lookahead_at sees take_token take_lifetime take_mark take_group before first_span rows_for rows run parse_rule
 stmt_pound_in_bracket_a_braces = computed statement _ _ _ refl
 
 -- `a ! {} #.` prints `a ! {}` and leaves `#.`
@@ -1005,7 +1007,7 @@ stmt_a_bang_braces_pound_dot : DerivesAs statement
     (leaf (ident (97 ∷ [])) (at 0 1) (punct 33 false (at 2 3) (group Brace (at 4 5) (at 5 6) end (punct 35 true (at 7 8) (punct 46 false (at 8 9) end)))))
     (leaf (ident (97 ∷ [])) call_site (punct 33 false call_site (group Brace call_site call_site end end)))
     (punct 35 true (at 7 8) (punct 46 false (at 8 9) end))
-unfolding left is_end lookahead_at sees take_token take_lifetime take_mark take_group before rows_for rows run parse_rule
+unfolding left is_end lookahead_at sees take_token take_lifetime take_mark take_group before first_span rows_for rows run parse_rule
 stmt_a_bang_braces_pound_dot = computed statement _ _ _ refl
 
 -- `crate!{}` prints `crate ! {}`
@@ -1013,7 +1015,7 @@ stmt_crate_bang_braces : DerivesAs statement
     (leaf (ident w_crate) (at 0 5) (punct 33 false (at 5 6) (group Brace (at 6 7) (at 7 8) end end)))
     (leaf (ident w_crate) call_site (punct 33 false call_site (group Brace call_site call_site end end)))
     (end)
-unfolding left is_end lookahead_at sees take_token take_lifetime take_mark take_group before rows_for rows run parse_rule
+unfolding left is_end lookahead_at sees take_token take_lifetime take_mark take_group before first_span rows_for rows run parse_rule
 stmt_crate_bang_braces = computed statement _ _ _ refl
 
 -- `crate!{} a` prints `crate ! {}` and leaves `a`
@@ -1021,7 +1023,7 @@ stmt_crate_bang_braces_a : DerivesAs statement
     (leaf (ident w_crate) (at 0 5) (punct 33 false (at 5 6) (group Brace (at 6 7) (at 7 8) end (leaf (ident (97 ∷ [])) (at 9 10) end))))
     (leaf (ident w_crate) call_site (punct 33 false call_site (group Brace call_site call_site end end)))
     (leaf (ident (97 ∷ [])) (at 9 10) end)
-unfolding left is_end lookahead_at sees take_token take_lifetime take_mark take_group before rows_for rows run parse_rule
+unfolding left is_end lookahead_at sees take_token take_lifetime take_mark take_group before first_span rows_for rows run parse_rule
 stmt_crate_bang_braces_a = computed statement _ _ _ refl
 
 -- `crate!{};;` prints `crate ! {} ;` and leaves `;`
@@ -1029,7 +1031,7 @@ stmt_crate_bang_braces_semi_semi : DerivesAs statement
     (leaf (ident w_crate) (at 0 5) (punct 33 false (at 5 6) (group Brace (at 6 7) (at 7 8) end (punct 59 true (at 8 9) (punct 59 false (at 9 10) end)))))
     (leaf (ident w_crate) call_site (punct 33 false call_site (group Brace call_site call_site end (punct 59 false call_site end))))
     (punct 59 false (at 9 10) end)
-unfolding left is_end lookahead_at sees take_token take_lifetime take_mark take_group before rows_for rows run parse_rule
+unfolding left is_end lookahead_at sees take_token take_lifetime take_mark take_group before first_span rows_for rows run parse_rule
 stmt_crate_bang_braces_semi_semi = computed statement _ _ _ refl
 
 -- `a!{} b` prints `a ! {}` and leaves `b`
@@ -1037,7 +1039,7 @@ stmt_a_bang_braces_b : DerivesAs statement
     (leaf (ident (97 ∷ [])) (at 0 1) (punct 33 false (at 1 2) (group Brace (at 2 3) (at 3 4) end (leaf (ident (98 ∷ [])) (at 5 6) end))))
     (leaf (ident (97 ∷ [])) call_site (punct 33 false call_site (group Brace call_site call_site end end)))
     (leaf (ident (98 ∷ [])) (at 5 6) end)
-unfolding left is_end lookahead_at sees take_token take_lifetime take_mark take_group before rows_for rows run parse_rule
+unfolding left is_end lookahead_at sees take_token take_lifetime take_mark take_group before first_span rows_for rows run parse_rule
 stmt_a_bang_braces_b = computed statement _ _ _ refl
 
 -- `a!{};;` prints `a ! {} ;` and leaves `;`
@@ -1045,7 +1047,7 @@ stmt_a_bang_braces_semi_semi : DerivesAs statement
     (leaf (ident (97 ∷ [])) (at 0 1) (punct 33 false (at 1 2) (group Brace (at 2 3) (at 3 4) end (punct 59 true (at 4 5) (punct 59 false (at 5 6) end)))))
     (leaf (ident (97 ∷ [])) call_site (punct 33 false call_site (group Brace call_site call_site end (punct 59 false call_site end))))
     (punct 59 false (at 5 6) end)
-unfolding left is_end lookahead_at sees take_token take_lifetime take_mark take_group before rows_for rows run parse_rule
+unfolding left is_end lookahead_at sees take_token take_lifetime take_mark take_group before first_span rows_for rows run parse_rule
 stmt_a_bang_braces_semi_semi = computed statement _ _ _ refl
 
 -- `let a; let b;` prints `let a ;` and leaves `let b ;`
@@ -1053,7 +1055,7 @@ stmt_let_a_semi_let_b_semi : DerivesAs statement
     (leaf (ident w_let) (at 0 3) (leaf (ident (97 ∷ [])) (at 4 5) (punct 59 false (at 5 6) (leaf (ident w_let) (at 7 10) (leaf (ident (98 ∷ [])) (at 11 12) (punct 59 false (at 12 13) end))))))
     (leaf (ident w_let) call_site (leaf (ident (97 ∷ [])) call_site (punct 59 false call_site end)))
     (leaf (ident w_let) (at 7 10) (leaf (ident (98 ∷ [])) (at 11 12) (punct 59 false (at 12 13) end)))
-unfolding left is_end lookahead_at sees take_token take_lifetime take_mark take_group before rows_for rows run parse_rule
+unfolding left is_end lookahead_at sees take_token take_lifetime take_mark take_group before first_span rows_for rows run parse_rule
 stmt_let_a_semi_let_b_semi = computed statement _ _ _ refl
 
 -- `{} {}` prints `{}` and leaves `{}`
@@ -1061,7 +1063,7 @@ stmt_braces_braces : DerivesAs statement
     (group Brace (at 0 1) (at 1 2) end (group Brace (at 3 4) (at 4 5) end end))
     (group Brace call_site call_site end end)
     (group Brace (at 3 4) (at 4 5) end end)
-unfolding left is_end lookahead_at sees take_token take_lifetime take_mark take_group before rows_for rows run parse_rule
+unfolding left is_end lookahead_at sees take_token take_lifetime take_mark take_group before first_span rows_for rows run parse_rule
 stmt_braces_braces = computed statement _ _ _ refl
 
 -- `{};;` prints `{} ;` and leaves `;`
@@ -1069,7 +1071,7 @@ stmt_braces_semi_semi : DerivesAs statement
     (group Brace (at 0 1) (at 1 2) end (punct 59 true (at 2 3) (punct 59 false (at 3 4) end)))
     (group Brace call_site call_site end (punct 59 false call_site end))
     (punct 59 false (at 3 4) end)
-unfolding left is_end lookahead_at sees take_token take_lifetime take_mark take_group before rows_for rows run parse_rule
+unfolding left is_end lookahead_at sees take_token take_lifetime take_mark take_group before first_span rows_for rows run parse_rule
 stmt_braces_semi_semi = computed statement _ _ _ refl
 
 -- `a; b` prints `a ;` and leaves `b`
@@ -1077,19 +1079,21 @@ stmt_a_semi_b : DerivesAs statement
     (leaf (ident (97 ∷ [])) (at 0 1) (punct 59 false (at 1 2) (leaf (ident (98 ∷ [])) (at 3 4) end)))
     (leaf (ident (97 ∷ [])) call_site (punct 59 false call_site end))
     (leaf (ident (98 ∷ [])) (at 3 4) end)
-unfolding left is_end lookahead_at sees take_token take_lifetime take_mark take_group before rows_for rows run parse_rule
+unfolding left is_end lookahead_at sees take_token take_lifetime take_mark take_group before first_span rows_for rows run parse_rule
 stmt_a_semi_b = computed statement _ _ _ refl
 
--- `a {} ;`: nothing is read
-stmt_a_braces_semi : NotDerived (rule statement)
+-- `a {} ;` prints `a { } ;`
+stmt_a_braces_semi : DerivesAs statement
     (leaf (ident (97 ∷ [])) (at 0 1) (group Brace (at 2 3) (at 3 4) end (punct 59 false (at 5 6) end)))
-unfolding left is_end lookahead_at sees take_token take_lifetime take_mark take_group before rows_for rows run parse_rule
-stmt_a_braces_semi = not_read statement _ refl
+    (leaf (ident (97 ∷ [])) call_site (group Brace call_site call_site end (punct 59 false call_site end)))
+    (end)
+unfolding left is_end lookahead_at sees take_token take_lifetime take_mark take_group before first_span rows_for rows run parse_rule
+stmt_a_braces_semi = computed statement _ _ _ refl
 
 -- `;a;`: nothing is read
 stmt_semi_a_semi : NotDerived (rule statement)
     (punct 59 false (at 0 1) (leaf (ident (97 ∷ [])) (at 1 2) (punct 59 false (at 2 3) end)))
-unfolding left is_end lookahead_at sees take_token take_lifetime take_mark take_group before rows_for rows run parse_rule
+unfolding left is_end lookahead_at sees take_token take_lifetime take_mark take_group before first_span rows_for rows run parse_rule
 stmt_semi_a_semi = not_read statement _ refl
 
 -- `a;;` prints `a ;` and leaves `;`
@@ -1097,19 +1101,21 @@ stmt_a_semi_semi : DerivesAs statement
     (leaf (ident (97 ∷ [])) (at 0 1) (punct 59 true (at 1 2) (punct 59 false (at 2 3) end)))
     (leaf (ident (97 ∷ [])) call_site (punct 59 false call_site end))
     (punct 59 false (at 2 3) end)
-unfolding left is_end lookahead_at sees take_token take_lifetime take_mark take_group before rows_for rows run parse_rule
+unfolding left is_end lookahead_at sees take_token take_lifetime take_mark take_group before first_span rows_for rows run parse_rule
 stmt_a_semi_semi = computed statement _ _ _ refl
 
--- `crate!{}?;`: nothing is read
-stmt_crate_bang_braces_question_semi : NotDerived (rule statement)
+-- `crate!{}?;` prints `crate ! {}` and leaves `?;`
+stmt_crate_bang_braces_question_semi : DerivesAs statement
     (leaf (ident w_crate) (at 0 5) (punct 33 false (at 5 6) (group Brace (at 6 7) (at 7 8) end (punct 63 true (at 8 9) (punct 59 false (at 9 10) end)))))
-unfolding left is_end lookahead_at sees take_token take_lifetime take_mark take_group before rows_for rows run parse_rule
-stmt_crate_bang_braces_question_semi = not_read statement _ refl
+    (leaf (ident w_crate) call_site (punct 33 false call_site (group Brace call_site call_site end end)))
+    (punct 63 true (at 8 9) (punct 59 false (at 9 10) end))
+unfolding left is_end lookahead_at sees take_token take_lifetime take_mark take_group before first_span rows_for rows run parse_rule
+stmt_crate_bang_braces_question_semi = computed statement _ _ _ refl
 
 -- `crate!()`: nothing is read
 stmt_crate_bang_parens : NotDerived (rule statement)
     (leaf (ident w_crate) (at 0 5) (punct 33 false (at 5 6) (group Paren (at 6 7) (at 7 8) end end)))
-unfolding left is_end lookahead_at sees take_token take_lifetime take_mark take_group before rows_for rows run parse_rule
+unfolding left is_end lookahead_at sees take_token take_lifetime take_mark take_group before first_span rows_for rows run parse_rule
 stmt_crate_bang_parens = not_read statement _ refl
 
 -- `a!{}?; b` prints `a ! {} ? ;` and leaves `b`
@@ -1117,7 +1123,7 @@ stmt_a_bang_braces_question_semi_b : DerivesAs statement
     (leaf (ident (97 ∷ [])) (at 0 1) (punct 33 false (at 1 2) (group Brace (at 2 3) (at 3 4) end (punct 63 true (at 4 5) (punct 59 false (at 5 6) (leaf (ident (98 ∷ [])) (at 7 8) end))))))
     (leaf (ident (97 ∷ [])) call_site (punct 33 false call_site (group Brace call_site call_site end (punct 63 false call_site (punct 59 false call_site end)))))
     (leaf (ident (98 ∷ [])) (at 7 8) end)
-unfolding left is_end lookahead_at sees take_token take_lifetime take_mark take_group before rows_for rows run parse_rule
+unfolding left is_end lookahead_at sees take_token take_lifetime take_mark take_group before first_span rows_for rows run parse_rule
 stmt_a_bang_braces_question_semi_b = computed statement _ _ _ refl
 
 -- `crate::a!{}.b;` prints `crate :: a ! {} . b ;`
@@ -1125,21 +1131,23 @@ stmt_crate_colons_a_bang_braces_dot_b_semi : DerivesAs statement
     (leaf (ident w_crate) (at 0 5) (punct 58 true (at 5 6) (punct 58 false (at 6 7) (leaf (ident (97 ∷ [])) (at 7 8) (punct 33 false (at 8 9) (group Brace (at 9 10) (at 10 11) end (punct 46 false (at 11 12) (leaf (ident (98 ∷ [])) (at 12 13) (punct 59 false (at 13 14) end)))))))))
     (leaf (ident w_crate) call_site (punct 58 true call_site (punct 58 false call_site (leaf (ident (97 ∷ [])) call_site (punct 33 false call_site (group Brace call_site call_site end (punct 46 false call_site (leaf (ident (98 ∷ [])) call_site (punct 59 false call_site end)))))))))
     (end)
-unfolding left is_end lookahead_at sees take_token take_lifetime take_mark take_group before rows_for rows run parse_rule
+unfolding left is_end lookahead_at sees take_token take_lifetime take_mark take_group before first_span rows_for rows run parse_rule
 stmt_crate_colons_a_bang_braces_dot_b_semi = computed statement _ _ _ refl
 
--- `crate!{}.a;`: nothing is read
-stmt_crate_bang_braces_dot_a_semi : NotDerived (rule statement)
+-- `crate!{}.a;` prints `crate ! {}` and leaves `.a;`
+stmt_crate_bang_braces_dot_a_semi : DerivesAs statement
     (leaf (ident w_crate) (at 0 5) (punct 33 false (at 5 6) (group Brace (at 6 7) (at 7 8) end (punct 46 false (at 8 9) (leaf (ident (97 ∷ [])) (at 9 10) (punct 59 false (at 10 11) end))))))
-unfolding left is_end lookahead_at sees take_token take_lifetime take_mark take_group before rows_for rows run parse_rule
-stmt_crate_bang_braces_dot_a_semi = not_read statement _ refl
+    (leaf (ident w_crate) call_site (punct 33 false call_site (group Brace call_site call_site end end)))
+    (punct 46 false (at 8 9) (leaf (ident (97 ∷ [])) (at 9 10) (punct 59 false (at 10 11) end)))
+unfolding left is_end lookahead_at sees take_token take_lifetime take_mark take_group before first_span rows_for rows run parse_rule
+stmt_crate_bang_braces_dot_a_semi = computed statement _ _ _ refl
 
 -- `! {super} ;` prints `! {super} ;`
 stmt_bang_in_brace_super_semi : DerivesAs statement
     (punct 33 false (at 0 1) (group Brace (at 2 3) (at 8 9) (leaf (ident w_super) (at 3 8) end) (punct 59 false (at 10 11) end)))
     (punct 33 false call_site (group Brace call_site call_site (leaf (ident w_super) call_site end) (punct 59 false call_site end)))
     (end)
-unfolding left is_end lookahead_at sees take_token take_lifetime take_mark take_group before rows_for rows run parse_rule
+unfolding left is_end lookahead_at sees take_token take_lifetime take_mark take_group before first_span rows_for rows run parse_rule
 stmt_bang_in_brace_super_semi = computed statement _ _ _ refl
 
 -- `::a!{}` prints `:: a ! {}`
@@ -1147,7 +1155,7 @@ stmt_colons_a_bang_braces : DerivesAs statement
     (punct 58 true (at 0 1) (punct 58 false (at 1 2) (leaf (ident (97 ∷ [])) (at 2 3) (punct 33 false (at 3 4) (group Brace (at 4 5) (at 5 6) end end)))))
     (punct 58 true call_site (punct 58 false call_site (leaf (ident (97 ∷ [])) call_site (punct 33 false call_site (group Brace call_site call_site end end)))))
     (end)
-unfolding left is_end lookahead_at sees take_token take_lifetime take_mark take_group before rows_for rows run parse_rule
+unfolding left is_end lookahead_at sees take_token take_lifetime take_mark take_group before first_span rows_for rows run parse_rule
 stmt_colons_a_bang_braces = computed statement _ _ _ refl
 
 -- `Self!{}` prints `Self ! {}`
@@ -1155,7 +1163,7 @@ stmt_Self_bang_braces : DerivesAs statement
     (leaf (ident w_Self_type) (at 0 4) (punct 33 false (at 4 5) (group Brace (at 5 6) (at 6 7) end end)))
     (leaf (ident w_Self_type) call_site (punct 33 false call_site (group Brace call_site call_site end end)))
     (end)
-unfolding left is_end lookahead_at sees take_token take_lifetime take_mark take_group before rows_for rows run parse_rule
+unfolding left is_end lookahead_at sees take_token take_lifetime take_mark take_group before first_span rows_for rows run parse_rule
 stmt_Self_bang_braces = computed statement _ _ _ refl
 
 -- `self!{}` prints `self ! {}`
@@ -1163,7 +1171,7 @@ stmt_self_bang_braces : DerivesAs statement
     (leaf (ident w_self) (at 0 4) (punct 33 false (at 4 5) (group Brace (at 5 6) (at 6 7) end end)))
     (leaf (ident w_self) call_site (punct 33 false call_site (group Brace call_site call_site end end)))
     (end)
-unfolding left is_end lookahead_at sees take_token take_lifetime take_mark take_group before rows_for rows run parse_rule
+unfolding left is_end lookahead_at sees take_token take_lifetime take_mark take_group before first_span rows_for rows run parse_rule
 stmt_self_bang_braces = computed statement _ _ _ refl
 
 -- `super!{}` prints `super ! {}`
@@ -1171,7 +1179,7 @@ stmt_super_bang_braces : DerivesAs statement
     (leaf (ident w_super) (at 0 5) (punct 33 false (at 5 6) (group Brace (at 6 7) (at 7 8) end end)))
     (leaf (ident w_super) call_site (punct 33 false call_site (group Brace call_site call_site end end)))
     (end)
-unfolding left is_end lookahead_at sees take_token take_lifetime take_mark take_group before rows_for rows run parse_rule
+unfolding left is_end lookahead_at sees take_token take_lifetime take_mark take_group before first_span rows_for rows run parse_rule
 stmt_super_bang_braces = computed statement _ _ _ refl
 
 -- `crate::a!{}` prints `crate :: a ! {}`
@@ -1179,13 +1187,13 @@ stmt_crate_colons_a_bang_braces : DerivesAs statement
     (leaf (ident w_crate) (at 0 5) (punct 58 true (at 5 6) (punct 58 false (at 6 7) (leaf (ident (97 ∷ [])) (at 7 8) (punct 33 false (at 8 9) (group Brace (at 9 10) (at 10 11) end end))))))
     (leaf (ident w_crate) call_site (punct 58 true call_site (punct 58 false call_site (leaf (ident (97 ∷ [])) call_site (punct 33 false call_site (group Brace call_site call_site end end))))))
     (end)
-unfolding left is_end lookahead_at sees take_token take_lifetime take_mark take_group before rows_for rows run parse_rule
+unfolding left is_end lookahead_at sees take_token take_lifetime take_mark take_group before first_span rows_for rows run parse_rule
 stmt_crate_colons_a_bang_braces = computed statement _ _ _ refl
 
 -- `crate;`: nothing is read
 stmt_crate_semi : NotDerived (rule statement)
     (leaf (ident w_crate) (at 0 5) (punct 59 false (at 5 6) end))
-unfolding left is_end lookahead_at sees take_token take_lifetime take_mark take_group before rows_for rows run parse_rule
+unfolding left is_end lookahead_at sees take_token take_lifetime take_mark take_group before first_span rows_for rows run parse_rule
 stmt_crate_semi = not_read statement _ refl
 
 -- `crate::a;` prints `crate :: a ;`
@@ -1193,7 +1201,7 @@ stmt_crate_colons_a_semi : DerivesAs statement
     (leaf (ident w_crate) (at 0 5) (punct 58 true (at 5 6) (punct 58 false (at 6 7) (leaf (ident (97 ∷ [])) (at 7 8) (punct 59 false (at 8 9) end)))))
     (leaf (ident w_crate) call_site (punct 58 true call_site (punct 58 false call_site (leaf (ident (97 ∷ [])) call_site (punct 59 false call_site end)))))
     (end)
-unfolding left is_end lookahead_at sees take_token take_lifetime take_mark take_group before rows_for rows run parse_rule
+unfolding left is_end lookahead_at sees take_token take_lifetime take_mark take_group before first_span rows_for rows run parse_rule
 stmt_crate_colons_a_semi = computed statement _ _ _ refl
 
 -- `loop {}` prints `loop {}`
@@ -1201,7 +1209,7 @@ stmt_loop_braces : DerivesAs statement
     (leaf (ident w_loop) (at 0 4) (group Brace (at 5 6) (at 6 7) end end))
     (leaf (ident w_loop) call_site (group Brace call_site call_site end end))
     (end)
-unfolding left is_end lookahead_at sees take_token take_lifetime take_mark take_group before rows_for rows run parse_rule
+unfolding left is_end lookahead_at sees take_token take_lifetime take_mark take_group before first_span rows_for rows run parse_rule
 stmt_loop_braces = computed statement _ _ _ refl
 
 -- `(a);` prints `(a) ;`
@@ -1209,7 +1217,7 @@ stmt_in_paren_a_semi : DerivesAs statement
     (group Paren (at 0 1) (at 2 3) (leaf (ident (97 ∷ [])) (at 1 2) end) (punct 59 false (at 3 4) end))
     (group Paren call_site call_site (leaf (ident (97 ∷ [])) call_site end) (punct 59 false call_site end))
     (end)
-unfolding left is_end lookahead_at sees take_token take_lifetime take_mark take_group before rows_for rows run parse_rule
+unfolding left is_end lookahead_at sees take_token take_lifetime take_mark take_group before first_span rows_for rows run parse_rule
 stmt_in_paren_a_semi = computed statement _ _ _ refl
 
 -- `[a];` prints `[a] ;`
@@ -1217,7 +1225,7 @@ stmt_in_bracket_a_semi : DerivesAs statement
     (group Bracket (at 0 1) (at 2 3) (leaf (ident (97 ∷ [])) (at 1 2) end) (punct 59 false (at 3 4) end))
     (group Bracket call_site call_site (leaf (ident (97 ∷ [])) call_site end) (punct 59 false call_site end))
     (end)
-unfolding left is_end lookahead_at sees take_token take_lifetime take_mark take_group before rows_for rows run parse_rule
+unfolding left is_end lookahead_at sees take_token take_lifetime take_mark take_group before first_span rows_for rows run parse_rule
 stmt_in_bracket_a_semi = computed statement _ _ _ refl
 
 -- `if a {} b` prints `if a {}` and leaves `b`
@@ -1225,7 +1233,7 @@ stmt_if_a_braces_b : DerivesAs statement
     (leaf (ident w_if) (at 0 2) (leaf (ident (97 ∷ [])) (at 3 4) (group Brace (at 5 6) (at 6 7) end (leaf (ident (98 ∷ [])) (at 8 9) end))))
     (leaf (ident w_if) call_site (leaf (ident (97 ∷ [])) call_site (group Brace call_site call_site end end)))
     (leaf (ident (98 ∷ [])) (at 8 9) end)
-unfolding left is_end lookahead_at sees take_token take_lifetime take_mark take_group before rows_for rows run parse_rule
+unfolding left is_end lookahead_at sees take_token take_lifetime take_mark take_group before first_span rows_for rows run parse_rule
 stmt_if_a_braces_b = computed statement _ _ _ refl
 
 -- `while a {}` prints `while a {}`
@@ -1233,7 +1241,7 @@ stmt_while_a_braces : DerivesAs statement
     (leaf (ident w_while) (at 0 5) (leaf (ident (97 ∷ [])) (at 6 7) (group Brace (at 8 9) (at 9 10) end end)))
     (leaf (ident w_while) call_site (leaf (ident (97 ∷ [])) call_site (group Brace call_site call_site end end)))
     (end)
-unfolding left is_end lookahead_at sees take_token take_lifetime take_mark take_group before rows_for rows run parse_rule
+unfolding left is_end lookahead_at sees take_token take_lifetime take_mark take_group before first_span rows_for rows run parse_rule
 stmt_while_a_braces = computed statement _ _ _ refl
 
 -- `for a in b {}` prints `for a in b {}`
@@ -1241,7 +1249,7 @@ stmt_for_a_in_b_braces : DerivesAs statement
     (leaf (ident w_for) (at 0 3) (leaf (ident (97 ∷ [])) (at 4 5) (leaf (ident w_in) (at 6 8) (leaf (ident (98 ∷ [])) (at 9 10) (group Brace (at 11 12) (at 12 13) end end)))))
     (leaf (ident w_for) call_site (leaf (ident (97 ∷ [])) call_site (leaf (ident w_in) call_site (leaf (ident (98 ∷ [])) call_site (group Brace call_site call_site end end)))))
     (end)
-unfolding left is_end lookahead_at sees take_token take_lifetime take_mark take_group before rows_for rows run parse_rule
+unfolding left is_end lookahead_at sees take_token take_lifetime take_mark take_group before first_span rows_for rows run parse_rule
 stmt_for_a_in_b_braces = computed statement _ _ _ refl
 
 -- `unsafe {}` prints `unsafe {}`
@@ -1249,7 +1257,7 @@ stmt_unsafe_braces : DerivesAs statement
     (leaf (ident w_unsafe) (at 0 6) (group Brace (at 7 8) (at 8 9) end end))
     (leaf (ident w_unsafe) call_site (group Brace call_site call_site end end))
     (end)
-unfolding left is_end lookahead_at sees take_token take_lifetime take_mark take_group before rows_for rows run parse_rule
+unfolding left is_end lookahead_at sees take_token take_lifetime take_mark take_group before first_span rows_for rows run parse_rule
 stmt_unsafe_braces = computed statement _ _ _ refl
 
 -- `a = b;` prints `a = b ;`
@@ -1257,13 +1265,13 @@ stmt_a_eq_b_semi : DerivesAs statement
     (leaf (ident (97 ∷ [])) (at 0 1) (punct 61 false (at 2 3) (leaf (ident (98 ∷ [])) (at 4 5) (punct 59 false (at 5 6) end))))
     (leaf (ident (97 ∷ [])) call_site (punct 61 false call_site (leaf (ident (98 ∷ [])) call_site (punct 59 false call_site end))))
     (end)
-unfolding left is_end lookahead_at sees take_token take_lifetime take_mark take_group before rows_for rows run parse_rule
+unfolding left is_end lookahead_at sees take_token take_lifetime take_mark take_group before first_span rows_for rows run parse_rule
 stmt_a_eq_b_semi = computed statement _ _ _ refl
 
 -- `a,`: nothing is read
 stmt_a_comma : NotDerived (rule statement)
     (leaf (ident (97 ∷ [])) (at 0 1) (punct 44 false (at 1 2) end))
-unfolding left is_end lookahead_at sees take_token take_lifetime take_mark take_group before rows_for rows run parse_rule
+unfolding left is_end lookahead_at sees take_token take_lifetime take_mark take_group before first_span rows_for rows run parse_rule
 stmt_a_comma = not_read statement _ refl
 
 -- `crate!{}..b` prints `crate ! {}` and leaves `..b`
@@ -1271,7 +1279,7 @@ stmt_crate_bang_braces_dots_b : DerivesAs statement
     (leaf (ident w_crate) (at 0 5) (punct 33 false (at 5 6) (group Brace (at 6 7) (at 7 8) end (punct 46 true (at 8 9) (punct 46 false (at 9 10) (leaf (ident (98 ∷ [])) (at 10 11) end))))))
     (leaf (ident w_crate) call_site (punct 33 false call_site (group Brace call_site call_site end end)))
     (punct 46 true (at 8 9) (punct 46 false (at 9 10) (leaf (ident (98 ∷ [])) (at 10 11) end)))
-unfolding left is_end lookahead_at sees take_token take_lifetime take_mark take_group before rows_for rows run parse_rule
+unfolding left is_end lookahead_at sees take_token take_lifetime take_mark take_group before first_span rows_for rows run parse_rule
 stmt_crate_bang_braces_dots_b = computed statement _ _ _ refl
 
 -- `a!{}..b` prints `a ! {}` and leaves `..b`
@@ -1279,7 +1287,7 @@ stmt_a_bang_braces_dots_b : DerivesAs statement
     (leaf (ident (97 ∷ [])) (at 0 1) (punct 33 false (at 1 2) (group Brace (at 2 3) (at 3 4) end (punct 46 true (at 4 5) (punct 46 false (at 5 6) (leaf (ident (98 ∷ [])) (at 6 7) end))))))
     (leaf (ident (97 ∷ [])) call_site (punct 33 false call_site (group Brace call_site call_site end end)))
     (punct 46 true (at 4 5) (punct 46 false (at 5 6) (leaf (ident (98 ∷ [])) (at 6 7) end)))
-unfolding left is_end lookahead_at sees take_token take_lifetime take_mark take_group before rows_for rows run parse_rule
+unfolding left is_end lookahead_at sees take_token take_lifetime take_mark take_group before first_span rows_for rows run parse_rule
 stmt_a_bang_braces_dots_b = computed statement _ _ _ refl
 
 -- `;;` prints `;` and leaves `;`

@@ -1,5 +1,5 @@
 -- Where the rest behind a stream is cut off: each token keeps its terminal, and most facts, where they were false, stay false.
-use Rattle.std.proofs.Common.{◌≡◌, ℕ, ◌≤◌, Bool, true, false, List, [], ◌∷◌, refl, sym, ap, ap₂, ◌∙◌, true≢false, ◌⊎◌, inl, inr, arith}
+use Rattle.std.proofs.Common.{◌≡◌, ℕ, ◌≤◌, Bool, true, false, List, [], ◌∷◌, nat_eq, refl, sym, ap, ap₂, ◌∙◌, true≢false, ◌⊎◌, inl, inr, arith}
 use Rattle.syn_grammar.specs.Words.{w_crate, w_self, w_super, w_Self_type, w_mut, w_static, w_async, w_const, w_unsafe, w_union, w_auto, w_default, exclamation, colon, pound, less, contextual}
 use Rattle.syn_grammar.specs.Tokens.{Span, Stream, end, leaf, punct, group, ◌⧺◌, or, and, no, pick, one_of_texts, same_text, Terminal, Ended, Name, Word, Punctuation, Literal, Delimited, Lookahead, Fact, Before_equals, Before_end, Before_colons, Before_paren, Before_less, Before_bang, Before_own_self, Before_parameter, Not_item, same_fact, has_fact, Look, ended, at_name, at_word, at_mark, at_literal, at_group, at_empty_group, ahead, ◌or_else◌, ◌and_also◌, ◌but_not◌, answers, is_ended, is_name, is_word, starts_mark, is_literal, is_group, is_empty_group, Asked, facts_for, asked, leaf_terminal, join, char_terminal, lone_facts, punctuation_facts, lookahead}
 use Rattle.syn_grammar.specs.Grammar.{spell, some_tree}
@@ -191,7 +191,11 @@ behind_fades a b n (inr (e, k)) v h = lone_fade b.terminal a.facts b.facts n (k 
 
 mark_fades : (c : ℕ) (f : Terminal) (a b : Lookahead) (n : Fact) → Faded a b → fades n ≡ true → has_fact n (punctuation_facts c f a) ≡ false → has_fact n (punctuation_facts c f b) ≡ false
 mark_fades c (Punctuation (x ∷ [])) a b n q v h = facts_fade (asked (Punctuation (c ∷ []))) a b n (asked_fades (Punctuation (c ∷ []))) q v h
-mark_fades c (Punctuation (x ∷ y ∷ [])) a b n q v h = behind_fades a b n q v h
+mark_fades c (Punctuation (x ∷ y ∷ [])) a b n q v h = go (nat_eq c 58) h
+  where
+    go : (u : Bool) → has_fact n (pick u (lone_facts a.terminal a.facts) []) ≡ false → has_fact n (pick u (lone_facts b.terminal b.facts) []) ≡ false
+    go true h = behind_fades a b n q v h
+    go false h = refl
 mark_fades c _ a b n q v h = refl
 
 pub faded : (x r : Stream) → unjoined x ≡ true → Faded (lookahead (x ⧺ r)) (lookahead x)
@@ -306,7 +310,11 @@ near_behind (punct c j sp m) r n u h v =
 near_front : (c : ℕ) (f : Terminal) (a b : Lookahead) (n : Fact) → a.terminal ≡ b.terminal → has_fact n (lone_facts a.terminal a.facts) ≡ has_fact n (lone_facts b.terminal b.facts) → near n ≡ true →
     has_fact n (punctuation_facts c f a) ≡ has_fact n (punctuation_facts c f b)
 near_front c (Punctuation (x ∷ [])) a b n e k v = near_facts (asked (Punctuation (c ∷ []))) a b n (asked_near (Punctuation (c ∷ []))) e v
-near_front c (Punctuation (x ∷ y ∷ [])) a b n e k v = k
+near_front c (Punctuation (x ∷ y ∷ [])) a b n e k v = go (nat_eq c 58)
+  where
+    go : (u : Bool) → has_fact n (pick u (lone_facts a.terminal a.facts) []) ≡ has_fact n (pick u (lone_facts b.terminal b.facts) [])
+    go true = k
+    go false = refl
 near_front c _ a b n e k v = refl
 
 near_stays : (x r : Stream) (n : Fact) → unjoined x ≡ true → 3 ≤ size x → near n ≡ true → has_fact n (lookahead (x ⧺ r)).facts ≡ has_fact n (lookahead x).facts

@@ -50,7 +50,7 @@ same_choice (literal_of a) (literal_of b) = same_kinds a b
 same_choice index index = true
 same_choice _ _ = false
 
-same_choice_eq : (k l : Kind) → same_choice k l ≡ true → k ≡ l
+pub same_choice_eq : (k l : Kind) → same_choice k l ≡ true → k ≡ l
 same_choice_eq name name e = refl
 same_choice_eq identifier identifier e = refl
 same_choice_eq (word a) (word b) e = ap word (same_text_eq a b e)
@@ -77,7 +77,7 @@ same_test (has_no k) (has_no l) = same_rule k l
 same_test one_where one_where = true
 same_test _ _ = false
 
-same_test_eq : (p q : Test) → same_test p q ≡ true → p ≡ q
+pub same_test_eq : (p q : Test) → same_test p q ≡ true → p ≡ q
 same_test_eq trailing_brace trailing_brace e = refl
 same_test_eq no_trailing_brace no_trailing_brace e = refl
 same_test_eq (has k) (has l) e = ap has (same_rule_eq k l e)

@@ -32,15 +32,30 @@ pub mod Turns
 pub mod PrintedValues
 pub mod Shown
 pub mod ExamplesOfAttributes
+mod ExamplesOfAllItems
+mod ExamplesOfDefinitionBorders
 mod ExamplesOfExpressions
 mod ExamplesOfFields
+mod ExamplesOfFunctions
 mod ExamplesOfGenerics
+mod ExamplesOfHeadBorders
+mod ExamplesOfHeads
+mod ExamplesOfImplBorders
 mod ExamplesOfItems
+mod ExamplesOfKeptBorders
+mod ExamplesOfLiterals
+mod ExamplesOfMemberBorders
 mod ExamplesOfOperators
 mod ExamplesOfPaths
 mod ExamplesOfPatterns
+mod ExamplesOfPlaceBorders
+mod ExamplesOfSignatureBorders
+mod ExamplesOfSmallItems
 mod ExamplesOfStatements
+mod ExamplesOfTraits
 mod ExamplesOfTypes
+mod ExamplesOfUseBorders
+mod ExamplesOfValueBorders
 pub mod Shapes
 mod WorkedValues
 pub mod Same
@@ -50,3 +65,26 @@ pub mod Fades
 pub mod Cut
 pub mod Full
 pub mod Shows
+pub mod Grows
+pub mod StillProved
+pub mod ItemStatements
+pub mod UseGroups
+pub mod Known
+pub mod Threads
+pub mod PlanShows
+pub mod Starts
+pub mod LoneWord
+pub mod ItemPlan
+pub mod MemberPlans
+pub mod Marked
+pub mod StatementPlans
+pub mod PlanSteps
+pub mod SmallPlans
+pub mod AlonePlans
+pub mod Spared
+pub mod ToldByTokens
+pub mod Leads
+pub mod EntryPoints
+pub mod Listed
+pub mod ListedItems
+pub mod Joined

@@ -4,10 +4,10 @@ use Rattle.std.proofs.lemmas.Bool.{eqb-true, eq-eqb}
 use Rattle.syn_grammar.specs.Words.{Text, lifetime_mark, long_marks}
 use Rattle.syn_grammar.specs.Tokens.{Span, Stream, or, and, no, pick, Terminal, Ended, Name, Word, Punctuation, Literal, Delimited, Lookahead, lookahead_with, Fact, same_fact, fact_number, has_fact, same_terminal, mem, Look, ended, at_name, at_word, at_mark, at_literal, at_group, at_empty_group, ahead, ◌or_else◌, ◌and_also◌, ◌but_not◌, answers, Asked, facts_for, asked, longest, begins_text, before_identifier, join, char_terminal, lone_facts, punctuation_facts, punctuation_lookahead, lookahead}
 use Rattle.syn_grammar.specs.Grammar.{chars, spell, Spelled}
-use Rattle.syn_grammar.proofs.Sets.{or_left, or_split, and_left, and_right, true_or_false, mem_here, those, mem_those, same_terminal_eq, same_fact_eq, or_right}
+use Rattle.syn_grammar.proofs.Sets.{or_left, or_split, and_left, and_right, true_or_false, no_true, those, mem_those, same_terminal_eq, same_fact_eq, or_right}
 use Rattle.syn_grammar.proofs.Streams.{quiet, silent_fact}
 use Rattle.syn_grammar.proofs.FirstSets.{mark_first_set, mark_head}
-use Rattle.syn_grammar.proofs.Again.{move, each_ahead, mem2, cross, mem2_cross, diagonal, mem2_diagonal, Agree, agree_left, agree_right, ahead_looks, fact_agrees}
+use Rattle.syn_grammar.proofs.Again.{Move, move, same_move, each_ahead, mem2, mem2_here, diagonal, mem2_diagonal, Agree, agree_left, agree_right, ahead_looks, fact_agrees}
 use Rattle.syn_grammar.proofs.Summaries.{Summary, HasLookaheads, alike, altered, passed, vanished}
 
 -- the terminal of a printed mark
@@ -48,7 +48,11 @@ quiet_mark (c ∷ l) = and (quiet (Punctuation (c ∷ []))) (quiet_mark l)
 
 still_facts : (c : ℕ) (g : Terminal) (f : Lookahead) → quiet (Punctuation (c ∷ [])) ≡ true → lone_facts f.terminal f.facts ≡ [] → punctuation_facts c g f ≡ []
 still_facts c (Punctuation (x ∷ [])) f q e = silent_fact (asked (Punctuation (c ∷ []))) f q
-still_facts c (Punctuation (x ∷ y ∷ [])) f q e = e
+still_facts c (Punctuation (x ∷ y ∷ [])) f q e = go (nat_eq c 58)
+  where
+    go : (v : Bool) → pick v (lone_facts f.terminal f.facts) [] ≡ []
+    go true = e
+    go false = refl
 still_facts c _ f q e = refl
 
 lone_empty : (g : Terminal) → lone_facts g [] ≡ []
@@ -157,7 +161,7 @@ all_deaf y [] = true
 all_deaf y (p ∷ l) = and (deaf y p.0) (all_deaf y l)
 
 -- of what is asked nothing holds of a mark, or the character before it stays alone
-heard_or_none : (y : ℕ) (a : Asked) (x : Text) (l : List Fact) → all_deaf y a ≡ true → (facts_for a (lookahead_with (Punctuation x) l) ≡ []) ⊎ (longest long_marks (y ∷ x) (y ∷ []) ≡ y ∷ [])
+pub heard_or_none : (y : ℕ) (a : Asked) (x : Text) (l : List Fact) → all_deaf y a ≡ true → (facts_for a (lookahead_with (Punctuation x) l) ≡ []) ⊎ (longest long_marks (y ∷ x) (y ∷ []) ≡ y ∷ [])
 heard_or_none y [] x l e = inl refl
 heard_or_none y (p ∷ a) x l e = go (answers p.0 (lookahead_with (Punctuation x) l)) refl (heard_or_none y a x l (and_right (deaf y p.0) _ e))
   where
@@ -187,7 +191,8 @@ told_facts (x ∷ []) ts r f h q e A =
 told_facts (x ∷ y ∷ []) ts r f h q e A =
     let w : mark_terminal (x.0 ∷ y.0 ∷ []) ≡ Punctuation (x.0 ∷ y.0 ∷ []) = same_terminal_eq (mark_terminal (x.0 ∷ y.0 ∷ [])) (Punctuation (x.0 ∷ y.0 ∷ [])) (and_left (same_terminal (mark_terminal (x.0 ∷ y.0 ∷ [])) (Punctuation (x.0 ∷ y.0 ∷ []))) _ q) in
     let d : join x.0 (lookahead h.0).terminal ≡ Punctuation (x.0 ∷ y.0 ∷ []) = ap (λ t. (lookahead t).terminal) (sym h.1) ∙ e ∙ w in
-    ap (λ t. (lookahead t).facts) h.1 ∙ ap (λ g. punctuation_facts x.0 g (lookahead h.0)) d ∙ ap (λ g. lone_facts g.terminal g.facts) (ap lookahead h.2.1) ∙ go h.2.0 (lookahead r) A
+    ap (λ t. (lookahead t).facts) h.1 ∙ ap (λ g. punctuation_facts x.0 g (lookahead h.0)) d
+    ∙ ap (λ z. pick (nat_eq x.0 58) z []) (ap (λ g. lone_facts g.terminal g.facts) (ap lookahead h.2.1) ∙ go h.2.0 (lookahead r) A)
     ∙ sym (ap (λ g. punctuation_facts x.0 g (punctuation_lookahead y.0 false f)) w)
   where
     same_facts_for : (g : Lookahead) → Agree (ahead_looks (asked (Punctuation (y.0 ∷ [])))) g f → facts_for (asked (Punctuation (y.0 ∷ []))) g ≡ facts_for (asked (Punctuation (y.0 ∷ []))) f
@@ -298,11 +303,102 @@ token_lookahead k l f x y ra rb e A = go (true_or_false (tells_all k f)) (asked_
 abbrev pub others : Terminal → List Terminal → List Terminal
 others f l = those (λ x. no (same_terminal x f)) l
 
+-- ---- where a longer mark is seen in the source, a mark of one character tells nothing there, nor in the print
+abbrev pub longer : Terminal → Bool
+longer (Punctuation (x ∷ y ∷ m)) = true
+longer _ = false
+
+abbrev pub facts_of : Asked → List Fact
+facts_of [] = []
+facts_of (p ∷ l) = p.1 ∷ facts_of l
+
+-- what is told alike where this terminal is seen
+abbrev pub longer_told : Bool → Text → Terminal → List Fact
+longer_told b (c ∷ []) f = pick (and b (and (longer f) (and (no (nat_eq c 58)) (all_deaf c (asked (Punctuation (c ∷ []))))))) (facts_of (asked (Punctuation (c ∷ [])))) []
+longer_told b _ f = []
+
+long_facts : (c : ℕ) (t : Terminal) (g : Lookahead) → longer t ≡ true → nat_eq c 58 ≡ false → punctuation_facts c t g ≡ []
+long_facts c (Punctuation (x ∷ y ∷ [])) g e q = ap (λ v. pick v (lone_facts g.terminal g.facts) []) q
+long_facts c (Punctuation (x ∷ y ∷ z ∷ m)) g e q = refl
+long_facts c (Punctuation []) g e q = refl
+long_facts c (Punctuation (x ∷ [])) g e q = absurd (true≢false (sym e))
+long_facts c _ g e q = refl
+
+-- what a character asks isn't met by what makes a longer mark of it
+longer_still : (c : ℕ) (g : Lookahead) → all_deaf c (asked (Punctuation (c ∷ []))) ≡ true → longer (join c g.terminal) ≡ true → facts_for (asked (Punctuation (c ∷ []))) g ≡ []
+longer_still c g w e = at g.terminal refl
+  where
+    identifier : longer (before_identifier c) ≡ true → facts_for (asked (Punctuation (c ∷ []))) g ≡ []
+    identifier e = of_character (nat_eq c 39) refl e
+      where
+        of_character : (v : Bool) → nat_eq c 39 ≡ v → longer (Punctuation (pick v lifetime_mark (c ∷ []))) ≡ true → facts_for (asked (Punctuation (c ∷ []))) g ≡ []
+        of_character true i e = ap (λ d. facts_for (asked (Punctuation (d ∷ []))) g) (eqb-true c 39 i)
+        of_character false i e = absurd (true≢false (sym e))
+
+    at : (a : Terminal) → g.terminal ≡ a → facts_for (asked (Punctuation (c ∷ []))) g ≡ []
+    at (Punctuation l) i = of_mark (heard_or_none c (asked (Punctuation (c ∷ []))) l g.facts w)
+      where
+        of_mark : (facts_for (asked (Punctuation (c ∷ []))) (lookahead_with (Punctuation l) g.facts) ≡ []) ⊎ (longest long_marks (c ∷ l) (c ∷ []) ≡ c ∷ []) → facts_for (asked (Punctuation (c ∷ []))) g ≡ []
+        of_mark (inl k) = ap (facts_for (asked (Punctuation (c ∷ [])))) (ap (λ v. lookahead_with v g.facts) i) ∙ k
+        of_mark (inr k) = absurd (true≢false (sym e ∙ ap (λ v. longer (join c v)) i ∙ ap (λ v. longer (Punctuation v)) k))
+    at Ended i = absurd (true≢false (sym e ∙ ap (λ v. longer (join c v)) i))
+    at Name i = identifier (sym (ap (λ v. longer (join c v)) i) ∙ e)
+    at (Word l) i = identifier (sym (ap (λ v. longer (join c v)) i) ∙ e)
+    at (Literal k) i = absurd (true≢false (sym e ∙ ap (λ v. longer (join c v)) i))
+    at (Delimited d v) i = absurd (true≢false (sym e ∙ ap (λ v. longer (join c v)) i))
+
+each_alike : (k : List Fact) (a b : Lookahead) → a.facts ≡ b.facts → Agree (each_ahead k) a b
+each_alike [] a b e = tt
+each_alike (n ∷ k) a b e = (ap (has_fact n) e, each_alike k a b e)
+
+longer_agree : (b : Bool) (xs : List (ℕ × Span)) (ts r : Stream) (f : Lookahead) → Spelled xs ts r → Agree (pick b (ahead_looks (last_asked (chars xs))) []) (lookahead r) f →
+    Agree (each_ahead (longer_told b (chars xs) (lookahead ts).terminal)) (lookahead ts) (mark_lookahead (chars xs) f)
+longer_agree b [] ts r f h A = elim h [ ]
+longer_agree b (x ∷ []) ts r f h A = go (and b (and (longer (lookahead ts).terminal) rest)) refl
+  where
+    c : ℕ
+    c = x.0
+
+    rest : Bool
+    rest = and (no (nat_eq c 58)) (all_deaf c (asked (Punctuation (c ∷ []))))
+
+    seen : (j : Bool) → longer (char_terminal c j (lookahead r).terminal) ≡ true → rest ≡ true → Agree (ahead_looks (asked (Punctuation (c ∷ [])))) (lookahead r) f →
+        punctuation_facts c (char_terminal c j (lookahead r).terminal) (lookahead r) ≡ facts_for (asked (Punctuation (c ∷ []))) f
+    seen false e w B = absurd (true≢false (sym e))
+    seen true e w B =
+        long_facts c (join c (lookahead r).terminal) (lookahead r) e (no_true (nat_eq c 58) (and_left (no (nat_eq c 58)) _ w))
+        ∙ sym (longer_still c (lookahead r) (and_right (no (nat_eq c 58)) _ w) e) ∙ fact_agrees (asked (Punctuation (c ∷ []))) (lookahead r) f B
+
+    told : and b (and (longer (lookahead ts).terminal) rest) ≡ true → (lookahead ts).facts ≡ facts_for (asked (Punctuation (c ∷ []))) f
+    told e =
+        let w = and_right b _ e in
+        let l : longer (char_terminal c h.0 (lookahead r).terminal) ≡ true = ap (λ t. longer (lookahead t).terminal) (sym h.1) ∙ and_left (longer (lookahead ts).terminal) _ w in
+        ap (λ t. (lookahead t).facts) h.1
+        ∙ seen h.0 l (and_right (longer (lookahead ts).terminal) _ w) (subst (λ v. Agree (pick v (ahead_looks (asked (Punctuation (c ∷ [])))) []) (lookahead r) f) (and_left b _ e) A)
+
+    go : (v : Bool) → and b (and (longer (lookahead ts).terminal) rest) ≡ v → Agree (each_ahead (longer_told b (c ∷ []) (lookahead ts).terminal)) (lookahead ts) (punctuation_lookahead c false f)
+    go true e = each_alike (longer_told b (c ∷ []) (lookahead ts).terminal) (lookahead ts) (punctuation_lookahead c false f) (told e)
+    go false e = subst (λ v. Agree (each_ahead (pick v (facts_of (asked (Punctuation (c ∷ [])))) [])) (lookahead ts) (punctuation_lookahead c false f)) (sym e) tt
+longer_agree b (x ∷ y ∷ l) ts r f h A = tt
+
+-- these terminals before this one, each with what is told alike
+abbrev pub told_moves : (Terminal → List Fact) → List Terminal → Terminal → List Move
+told_moves t [] x = []
+told_moves t (f ∷ l) x = move f x (t f) ∷ told_moves t l x
+
+told_in : (t : Terminal → List Fact) (f x : Terminal) (l : List Terminal) → mem f l ≡ true → mem2 (move f x (t f)) (told_moves t l x) ≡ true
+told_in t f x [] e = absurd (true≢false (sym e))
+told_in t f x (y ∷ l) e = go (or_split (same_terminal f y) (mem f l) e) (told_in t f x l)
+  where
+    go : (same_terminal f y ≡ true) ⊎ (mem f l ≡ true) → (mem f l ≡ true → mem2 (move f x (t f)) (told_moves t l x) ≡ true) → mem2 (move f x (t f)) (told_moves t (y ∷ l) x) ≡ true
+    go (inl q) ih = subst (λ z. mem2 (move f x (t f)) (move z x (t z) ∷ told_moves t l x) ≡ true) (same_terminal_eq f y q) (mem2_here (move f x (t f)) (told_moves t l x))
+    go (inr q) ih = or_right (same_move (move f x (t f)) (move y x (t y))) _ (ih q)
+
 -- true: what follows the mark may be asked of its lookahead
 abbrev pub mark_summary : Bool → Text → List Look → Summary
 mark_summary b cs A = let s = or (quiet_mark cs) (and b (told_mark cs)) in record {
   stays = pick s (mark_terminal cs ∷ []) [];
-  moves = cross (pick s (others (mark_terminal cs) (mark_first_set cs)) (mark_first_set cs)) (mark_terminal cs ∷ []);
+  moves = told_moves (longer_told b cs) (pick s (others (mark_terminal cs) (mark_first_set cs)) (mark_first_set cs)) (mark_terminal cs);
   nullable = false;
   gone = [];
   ends = pick b (ahead_looks (last_asked cs)) [] ++ A;
@@ -339,14 +435,20 @@ marks_lookahead b A xs ts r r' ra rb d B = subst (λ z. HasLookaheads (mark_summ
     head : mem (lookahead ts).terminal (mark_first_set cs) ≡ true
     head = mark_head xs ts r d
 
-    crossed : (l : List Terminal) → mem (lookahead ts).terminal l ≡ true → mem2 (move (lookahead ts).terminal printed.terminal []) (cross l (mark_terminal cs ∷ [])) ≡ true
-    crossed l h = mem2_cross (lookahead ts).terminal printed.terminal l (mark_terminal cs ∷ []) h (ap (λ z. mem z (mark_terminal cs ∷ [])) terminal ∙ mem_here (mark_terminal cs) [])
+    k : List Fact
+    k = longer_told b cs (lookahead ts).terminal
+
+    crossed : (l : List Terminal) → mem (lookahead ts).terminal l ≡ true → mem2 (move (lookahead ts).terminal printed.terminal k) (told_moves (longer_told b cs) l (mark_terminal cs)) ≡ true
+    crossed l h = subst (λ z. mem2 (move (lookahead ts).terminal z k) (told_moves (longer_told b cs) l (mark_terminal cs)) ≡ true) (sym terminal) (told_in (longer_told b cs) (lookahead ts).terminal (mark_terminal cs) l h)
+
+    agreed : Agree (each_ahead k) (lookahead ts) printed
+    agreed = longer_agree b xs ts r (lookahead r') d B
 
     go : (v : Bool) → or (quiet_mark cs) (and b (told_mark cs)) ≡ v → (same_terminal (lookahead ts).terminal (mark_terminal cs) ≡ true) ⊎ (same_terminal (lookahead ts).terminal (mark_terminal cs) ≡ false) →
         HasLookaheads (mark_summary b cs A) (lookahead ts) printed ra rb
     go true w (inl q) = alike (subst (λ v. mem (lookahead ts).terminal (pick v (mark_terminal cs ∷ []) []) ≡ true) (sym w) (or_left (same_terminal (lookahead ts).terminal (mark_terminal cs)) false q)) (mark_alike b xs ts r (lookahead r') d w (same_terminal_eq (lookahead ts).terminal (mark_terminal cs) q) B)
-    go true w (inr q) = altered [] (subst (λ v. mem2 (move (lookahead ts).terminal printed.terminal []) (cross (pick v (others (mark_terminal cs) (mark_first_set cs)) (mark_first_set cs)) (mark_terminal cs ∷ [])) ≡ true) (sym w) (crossed (others (mark_terminal cs) (mark_first_set cs)) (mem_those (lookahead ts).terminal (λ x. no (same_terminal x (mark_terminal cs))) (mark_first_set cs) (ap no q) head))) tt
-    go false w q = altered [] (subst (λ v. mem2 (move (lookahead ts).terminal printed.terminal []) (cross (pick v (others (mark_terminal cs) (mark_first_set cs)) (mark_first_set cs)) (mark_terminal cs ∷ [])) ≡ true) (sym w) (crossed (mark_first_set cs) head)) tt
+    go true w (inr q) = altered k (subst (λ v. mem2 (move (lookahead ts).terminal printed.terminal k) (told_moves (longer_told b cs) (pick v (others (mark_terminal cs) (mark_first_set cs)) (mark_first_set cs)) (mark_terminal cs)) ≡ true) (sym w) (crossed (others (mark_terminal cs) (mark_first_set cs)) (mem_those (lookahead ts).terminal (λ x. no (same_terminal x (mark_terminal cs))) (mark_first_set cs) (ap no q) head))) agreed
+    go false w q = altered k (subst (λ v. mem2 (move (lookahead ts).terminal printed.terminal k) (told_moves (longer_told b cs) (pick v (others (mark_terminal cs) (mark_first_set cs)) (mark_first_set cs)) (mark_terminal cs)) ≡ true) (sym w) (crossed (mark_first_set cs) head)) agreed
 
 pub marked : (b : Bool) (cs : Text) (A : List Look) (xs : List (ℕ × Span)) (ts r r' : Stream) (ra rb : Lookahead) → chars xs ≡ cs → Spelled xs ts r → Agree (pick b (ahead_looks (last_asked cs)) []) (lookahead r) (lookahead r') →
     HasLookaheads (mark_summary b cs A) (lookahead ts) (lookahead (spell xs r')) ra rb

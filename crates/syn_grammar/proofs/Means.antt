@@ -57,7 +57,7 @@ has_value k (Such s) = has_value k s
 has_value k (Shaped j s) = ap (has_part k) (is_shaped j (value_of s)).2
 has_value k _ = refl
 
-no_where_value : (s : Syntax) → no_where (value_of s) ≡ no_where s
+pub no_where_value : (s : Syntax) → no_where (value_of s) ≡ no_where s
 no_where_value (Both s t) = ap₂ and (no_where_value s) (no_where_value t)
 no_where_value (Left s) = no_where_value s
 no_where_value (Right s) = no_where_value s

@@ -113,3 +113,6 @@ bleach_renew _ = refl
 
 pub print_value : (s : Syntax) → print (value_of s) ≡ print s
 print_value s = ap show (bleach_renew s) ∙ bleach_show (renew s)
+
+pub led_part_value : (s : Syntax) → led_part (renew (value_of s)) ≡ led_part (renew s)
+led_part_value s = ap led_part (bleach_renew s) ∙ bleach_led_part (renew s)

@@ -6,7 +6,7 @@ use Rattle.syn_grammar.specs.Table.{table}
 use Rattle.syn_grammar.specs.Laws.{OneTree, SpansDecideNothing, PrintIsRead, NormalPrints, NormalIsIdempotent, NormalForgetsSpans, SameForm, EndsByItself, PrintIsVisible}
 use Rattle.syn_grammar.proofs.Visible.{visible_print}
 use Rattle.syn_grammar.proofs.Extend.{alone}
-use Rattle.syn_grammar.specs.Rules.{Rule, derive_input}
+use Rattle.syn_grammar.specs.Rules.{Rule, derive_input, item, trait_item, impl_item, foreign_item}
 use Rattle.syn_grammar.proofs.Plain.{print_normal, normal_normal, normal_plain, normal_renew}
 use Rattle.syn_grammar.proofs.Spans.{respan, like_of_eq, Like}
 use Rattle.syn_grammar.proofs.Unique.{unique}
@@ -59,6 +59,18 @@ ends_by_itself k w a r s d =
 
 pub derive_input_ends : EndsByItself derive_input
 derive_input_ends = ends_by_itself derive_input refl
+
+pub item_ends : EndsByItself item
+item_ends = ends_by_itself item refl
+
+pub trait_item_ends : EndsByItself trait_item
+trait_item_ends = ends_by_itself trait_item refl
+
+pub impl_item_ends : EndsByItself impl_item
+impl_item_ends = ends_by_itself impl_item refl
+
+pub foreign_item_ends : EndsByItself foreign_item
+foreign_item_ends = ends_by_itself foreign_item refl
 
 pub print_is_visible : PrintIsVisible
 print_is_visible k ts s v d = visible_print table (rule k) s ts end d v

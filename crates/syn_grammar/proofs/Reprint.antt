@@ -13,7 +13,7 @@ use Rattle.syn_grammar.proofs.FirstSets.{Start, nullable, first_set, mark_first_
 use Rattle.syn_grammar.proofs.Extend.{closes, alone}
 use Rattle.syn_grammar.proofs.NeverFollow.{never_follow, IsOff, ended_off}
 use Rattle.syn_grammar.proofs.Again.{move, mem2_right, mem2_cross, clear, agree_same, agree_left, off_right, ahead_looks}
-use Rattle.syn_grammar.proofs.Summaries.{Summary, seq_summary, when_summary, empty_summary, vanishing_summary, either_summary, one_summary, seam, kept, filled, HasLookaheads, alike, altered, passed, covers, seq_lookahead, seam_sound, Ready, ready, at_end, ready_left, ready_right, ready_then, ready_else, ready_second, ready_vanishing, cover_lookahead, cover_ready, when_left, when_right, vanishing_gone, vanishing_stays, either_left, either_right, one_lookahead, one_ready, prints}
+use Rattle.syn_grammar.proofs.Summaries.{Summary, seq_summary, when_summary, empty_summary, vanishing_summary, either_summary, one_summary, seam, kept, filled, HasLookaheads, alike, altered, passed, covers, seq_lookahead, seam_sound, Ready, ready, at_end, ready_left, ready_right, ready_then, ready_else, ready_second, ready_vanishing, cover_lookahead, cover_ready, when_left, when_right, kept_off, when_sure, vanishing_gone, vanishing_stays, either_left, either_right, one_lookahead, one_ready, prints}
 use Rattle.syn_grammar.proofs.Marks.{mark_terminal, mark_lookahead, lookahead_spell, spell_spelled, last_asked, token_summary, token_lookahead, mark_summary, marked, inner_summary, inner_lookahead}
 use Rattle.syn_grammar.proofs.Surely.{surely, surely_sound}
 use Rattle.syn_grammar.proofs.Parts.{group_summary, edges, in_row, ready_at_edge, not_ended, wild_out, wild_lookahead, colon_summary, supplied_colon, supplied_summary, supplied_fine, named_lookahead, mentions, heeds, listens, lead_summary, solid, solid_lookahead, sure_first, printed_behind, inside_summary, inside_lookahead}
@@ -50,8 +50,18 @@ module _ (said : Bool → Rule → Summary) (heard : Rule → Bool) (starts : Ru
   abbrev sure : Bool → Look → List Terminal → Grammar → Bool
   sure a c A (g & h) = or (token_sure c (prints (summary (heeds a (summary a g)) h) ++ A) g) (and (every (must c) (prints (summary a g))) (or (solid (summary a g)) (sure (heeds a (summary a g)) c A h)))
   sure a c A (when d then g else h) = and (sure (or a (mentions d)) c A g) (sure (or a (mentions d)) c A h)
+  sure a c A (either g h) = and (sure a c A g) (sure a c A h)
   sure a c A (rule k) = and (every (must c) (prints (said a k))) (solid (said a k))
   sure a c A _ = false
+
+  -- the print of a list in `< >` meets the look, since each of its members begins a parameter
+  abbrev sure_list : Look → Grammar → Bool
+  sure_list c (ordered x y) = and (and (sure false at_parameter edges x) (sure false at_parameter edges y)) (answers c (lookahead_with (Punctuation less) (Before_parameter ∷ [])))
+  sure_list c _ = false
+
+  -- a `when` turns in the print as it did in the source
+  abbrev turns : Bool → Look → Grammar → Summary → Bool
+  turns a c g q = kept c (pick (sure_list c g) empty_summary (summary (or a (mentions c)) g)) q
 
   abbrev all_heard : List Rule → Bool
   all_heard [] = true
@@ -60,8 +70,8 @@ module _ (said : Bool → Rule → Summary) (heard : Rule → Bool) (starts : Ru
   -- each condition of the form holds in its print
   abbrev pub fine : Bool → Grammar → Bool
   fine a (g & h) = and (fine a g) (and (fine (heeds a (summary a g)) h) (seam (never_follow starts [] g) (summary a g) (summary (heeds a (summary a g)) h)))
-  fine a (when c then g else h) = and (fine (or a (mentions c)) g) (and (fine (or a (mentions c)) h) (kept c (summary (or a (mentions c)) g) (summary (or a (mentions c)) h)))
-  fine a (vanishing b c g) = and (fine (or a (mentions c)) g) (kept c (summary (or a (mentions c)) g) empty_summary)
+  fine a (when c then g else h) = and (fine (or a (mentions c)) g) (and (fine (or a (mentions c)) h) (turns a c g (summary (or a (mentions c)) h)))
+  fine a (vanishing b c g) = and (fine (or a (mentions c)) g) (turns a c g empty_summary)
   fine a (inside d g) = and (fine (listens d) g) (clear (summary (listens d) g).shuns Ended)
   fine a (either g h) = and (fine a g) (fine a h)
   fine a (one_of ks) = or (no a) (all_heard ks)
@@ -167,6 +177,18 @@ module _ (said : Bool → Rule → Summary) (heard : Rule → Bool) (starts : Ru
         let behind_less : (show l ⧺ spell ys end) ⧺ u ≡ show l ⧺ spell ys u = append_append (show l) (spell ys end) u ∙ ap (λ z. show l ⧺ z) (append_spell ys end u) in
         let t : stands at_list ((show l ⧺ spell ys end) ⧺ u) ≡ true = ap (stands at_list) behind_less ∙ sures_lookahead l (spell ys u) w (ap (λ z. z.terminal) last) in
         (ap (λ k. answers at_generics (punctuation_lookahead k false (lookahead ((show l ⧺ spell ys end) ⧺ u)))) c ∙ ap (λ v. answers at_generics (lookahead_with (Punctuation less) (pick v (Before_parameter ∷ []) []))) t, ap (λ k. Punctuation (k ∷ [])) c)
+
+    -- the lookahead of such a list
+    led_exactly : (g h : Grammar) (xs : List (ℕ × Span)) (l : Syntax) (ys : List (ℕ × Span)) (u : Stream) → Sures l →
+        DerivesPrefix table (ordered g h) (Order xs l ys) (show (Order xs l ys) ⧺ u) u → lookahead (show (Order xs l ys) ⧺ u) ≡ lookahead_with (Punctuation less) (Before_parameter ∷ [])
+    led_exactly g h [] l ys u w (z, e, d, i, a, e', d') = elim d [ ]
+    led_exactly g h (p ∷ p' ∷ xs) l ys u w (z, e, d, i, a, e', d') = cc (e)
+    led_exactly g h (p ∷ []) l ys u w (z, e, d, i, a, e', d') =
+        let c : p.0 ≡ 60 = cc (e) in
+        let last : lookahead (spell ys u) ≡ mark_lookahead greater (lookahead u) = lookahead_spell ys u ∙ ap (λ z. mark_lookahead z (lookahead u)) e' in
+        let behind_less : (show l ⧺ spell ys end) ⧺ u ≡ show l ⧺ spell ys u = append_append (show l) (spell ys end) u ∙ ap (λ z. show l ⧺ z) (append_spell ys end u) in
+        let t : stands at_list ((show l ⧺ spell ys end) ⧺ u) ≡ true = ap (stands at_list) behind_less ∙ sures_lookahead l (spell ys u) w (ap (λ z. z.terminal) last) in
+        ap (λ k. punctuation_lookahead k false (lookahead ((show l ⧺ spell ys end) ⧺ u))) c ∙ ap (λ v. lookahead_with (Punctuation less) (pick v (Before_parameter ∷ []) [])) t
 
     sure_choice : (k : Bool) (g h : Grammar) → and (sure false at_parameter edges g) (sure false at_parameter edges h) ≡ true → sure false at_parameter edges (choose k g h) ≡ true
     sure_choice true g h w = and_left (sure false at_parameter edges g) _ w
@@ -279,14 +301,23 @@ module _ (said : Bool → Rule → Summary) (heard : Rule → Bool) (starts : Ru
           let p = summary u g in
           let q = summary u h in
           let x = again u g s ts r r' (and_left (fine u g) _ w) a (ready_then c p q (lookahead r) (lookahead r') R) in
-          let k = when_left c p q (lookahead ts) (lookahead (print s ⧺ r')) (lookahead r) (lookahead r') (and_right (fine u h) _ (and_right (fine u g) _ w)) e x.1 R in
-          ((k.0, x.0), k.1)
+          go (sure_list c g) refl (and_right (fine u h) _ (and_right (fine u g) _ w)) x (λ v. list_sure c g s ts r r' u v (and_left (fine u g) _ w) a x.0)
+        where
+          go : (v : Bool) → sure_list c g ≡ v → kept c (pick (sure_list c g) empty_summary (summary (or j (mentions c)) g)) (summary (or j (mentions c)) h) ≡ true → Again (or j (mentions c)) g s ts r r' →
+              (sure_list c g ≡ true → (stands c (print s ⧺ r') ≡ true) × (no (filled (summary (or j (mentions c)) g).gone) ≡ true)) →
+              DerivesPrefix table (when c then g else h) (Left (renew s)) (print s ⧺ r') r' × HasLookaheads (summary j (when c then g else h)) (lookahead ts) (lookahead (print s ⧺ r')) (lookahead r) (lookahead r')
+          go false i w x f =
+              let p = summary (or j (mentions c)) g in
+              let q = summary (or j (mentions c)) h in
+              let k = when_left c p q (lookahead ts) (lookahead (print s ⧺ r')) (lookahead r) (lookahead r') (subst (λ v. kept c (pick v empty_summary p) q ≡ true) i w) e x.1 R in
+              ((k.0, x.0), k.1)
+          go true i w x f = (((f i).0, x.0), when_sure c (summary (or j (mentions c)) g) (summary (or j (mentions c)) h) (lookahead ts) (lookahead (print s ⧺ r')) (lookahead r) (lookahead r') (f i).1 e x.1)
       again j (when c then g else h) (Right s) ts r r' w (e, a) R =
           let u = or j (mentions c) in
           let p = summary u g in
           let q = summary u h in
           let x = again u h s ts r r' (and_left (fine u h) _ (and_right (fine u g) _ w)) a (ready_else c p q (lookahead r) (lookahead r') R) in
-          let k = when_right c p q (lookahead ts) (lookahead (print s ⧺ r')) (lookahead r) (lookahead r') (and_right (fine u h) _ (and_right (fine u g) _ w)) e x.1 R in
+          let k = when_right c p q (lookahead ts) (lookahead (print s ⧺ r')) (lookahead r) (lookahead r') (kept_off c (pick (sure_list c g) empty_summary p) q (and_right (fine u h) _ (and_right (fine u g) _ w))) e x.1 R in
           ((k.0, x.0), k.1)
       again j (vanishing b c g) (Vanishing b' s) ts r r' w (e, a) R =
           let u = or j (mentions c) in
@@ -408,6 +439,16 @@ module _ (said : Bool → Rule → Summary) (heard : Rule → Bool) (starts : Ru
       again j (generics_before x y h) (Impl _ s) ts r r' w (m, a, b) R = elim a [ ]
       again j _ _ ts r r' w h R = elim h [ ]
 
+      list_sure : (c : Look) (g : Grammar) (s : Syntax) (ts r r' : Stream) (j : Bool) → sure_list c g ≡ true → fine j g ≡ true → DerivesPrefix table g s ts r → DerivesPrefix table g (renew s) (print s ⧺ r') r' →
+          (stands c (print s ⧺ r') ≡ true) × (no (filled (summary j g).gone) ≡ true)
+      list_sure c (ordered x y) (Order xs l ys) ts r r' j v w (m, e, d, m', a, e', d') b =
+          let q = and (sure false at_parameter edges x) (sure false at_parameter edges y) in
+          let there = mem_right (lookahead m').terminal (mark_first_set comma) (mark_first_set greater) (ap (λ z. mem (lookahead m').terminal (mark_first_set z)) (sym e') ∙ mark_head ys m' r d') in
+          let good = sures_sort (renew l) (sures x y l m m' (ap₂ and w (and_left q _ v)) a there) in
+          (ap (answers c) (led_exactly x y xs (sort (renew l)) ys r' good b) ∙ and_right q _ v, refl)
+      list_sure c (ordered x y) _ ts r r' j v w a b = elim a [ ]
+      list_sure c _ s ts r r' j v w a b = absurd (true≢false (sym v))
+
       printed_sure : (j : Bool) (c : Look) (A : List Terminal) (g : Grammar) (s : Syntax) (ts r r' : Stream) → fine j g ≡ true → sure j c A g ≡ true → DerivesPrefix table g s ts r → Ready (summary j g) (lookahead r) (lookahead r') →
           mem (lookahead r').terminal A ≡ true → stands c (print s ⧺ r') ≡ true
       printed_sure j c A (g & h) (Both s t) ts r r' w v (m, a, b) R e =
@@ -443,6 +484,8 @@ module _ (said : Bool → Rule → Summary) (heard : Rule → Bool) (starts : Ru
       printed_sure j c A (when d then g else h) (Right s) ts r r' w v (i, a) R e =
           let u = or j (mentions d) in
           printed_sure u c A h s ts r r' (and_left (fine u h) _ (and_right (fine u g) _ w)) (and_right (sure u c A g) _ v) a (ready_else d (summary u g) (summary u h) (lookahead r) (lookahead r') R) e
+      printed_sure j c A (either g h) (Left s) ts r r' w v a R e = printed_sure j c A g s ts r r' (and_left (fine j g) _ w) (and_left (sure j c A g) _ v) a (ready_left (summary j g) (summary j h) (lookahead r) (lookahead r') R) e
+      printed_sure j c A (either g h) (Right s) ts r r' w v a R e = printed_sure j c A h s ts r r' (and_right (fine j g) _ w) (and_right (sure j c A g) _ v) a (ready_right (summary j g) (summary j h) (lookahead r) (lookahead r') R) e
       printed_sure j c A (rule k) (Node s) ts r r' w v a R e =
           let l = law j k w in
           let x = again j (table k) s ts r r' l.1 a (cover_ready (said j k) (summary j (table k)) l.0 (lookahead r) (lookahead r') R) in
@@ -453,6 +496,7 @@ module _ (said : Bool → Rule → Summary) (heard : Rule → Bool) (starts : Ru
           go (inr q) = absurd (true≢false (sym (and_right (every (must c) (prints (said j k))) _ v) ∙ q.0))
       printed_sure j c A (g & h) _ ts r r' w v a R e = elim a [ ]
       printed_sure j c A (when d then g else h) _ ts r r' w v a R e = elim a [ ]
+      printed_sure j c A (either g h) _ ts r r' w v a R e = elim a [ ]
       printed_sure j c A (rule k) _ ts r r' w v a R e = elim a [ ]
       printed_sure j c A _ s ts r r' w v a R e = absurd (true≢false (sym v))
 

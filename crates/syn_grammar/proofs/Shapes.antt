@@ -1,9 +1,10 @@
 -- What is summed over a tree's parts in their order doesn't see how values are built.
 use Rattle.std.proofs.Common.{◌≡◌, ℕ, Bool, true, false, List, refl, sym, ap, ap₂, ◌∙◌}
 use Rattle.syn_grammar.specs.Tokens.{Span, Stream, end, ◌⧺◌, and, pick, Paren, Bracket}
-use Rattle.syn_grammar.specs.Shape.{Variant, Path, Struct, Binary, Assign, Cast, Verbatim, Macro, Shape, expr, operand, bracketed, behind_it, operator, dotted, fields, choice, chain, leading, labelled, attributed, listed, lone, said, said_macro, a_local, an_item, untagged}
+use Rattle.syn_grammar.specs.Rules.{Rule, kept_item}
+use Rattle.syn_grammar.specs.Shape.{Variant, Path, Struct, Binary, Assign, Cast, Verbatim, Macro, Shape, expr, operand, bracketed, behind_it, operator, dotted, fields, choice, chain, leading, labelled, attributed, listed, lone, said, said_macro, a_local, an_item, untagged, parameters, based, single}
 use Rattle.syn_grammar.specs.Grammar.{Syntax, Nothing, Mark, Both, Left, Right, Node, Case, Such, Group, Raw, Captured, Shaped, Unshown, More, vacant, ends_brace, show, sort, behind, renew}
-use Rattle.syn_grammar.specs.Values.{no_attributes, new, core, variant_of, member_variant, literal_of, onto, chained, attributes_before, with_attributes, led, with_label, label, moved, sentence, alone, state, stated, no_statements, listing, going_on, go_on, in_list, separated, untag, shape}
+use Rattle.syn_grammar.specs.Values.{no_attributes, new, core, variant_of, member_variant, literal_of, onto, chained, attributes_before, with_attributes, led, with_label, label, moved, with_outer, kept_whole, whole_item, sentence, alone, state, stated, no_statements, listing, going_on, go_on, in_list, separated, untag, no_members, one_member, more_members, member, ellipsis_of, behind_colon, typed, parameter_of, parameters_of, no_base, literal_fields_of, shape}
 use Rattle.syn_grammar.proofs.Streams.{append_end, append_append}
 
 pub record IsSum (M : Type 0) (op : M → M → M) (m : Syntax → M) : Type 0 where
@@ -16,6 +17,7 @@ pub record IsSum (M : Type 0) (op : M → M → M) (m : Syntax → M) : Type 0 w
   pub then_none : (s : Syntax) → op (m s) (m Nothing) ≡ m s
   pub none_then : (s : Syntax) → op (m Nothing) (m s) ≡ m s
   pub regrouped : (s t u : Syntax) → op (op (m s) (m t)) (m u) ≡ op (m s) (op (m t) (m u))
+  pub named : (k : Rule) (s : Syntax) → m (Case k s) ≡ m s
   pub no_tokens : (xs : List (ℕ × Span)) → op (m (Captured Nothing end)) (m (Mark xs)) ≡ m (Mark xs)
 
 module _ {M : Type 0} {op : M → M → M} {m : Syntax → M} (law : IsSum M op m) where
@@ -90,6 +92,16 @@ module _ {M : Type 0} {op : M → M → M} {m : Syntax → M} (law : IsSum M op 
   moved_sum a (Shaped (expr Cast) (Both (Node (Right (Unshown Nothing))) (Both l p))) = under_sum Cast a l (moved a l) p (moved_sum a l)
   moved_sum a s = with_attributes_sum a s
 
+  with_outer_sum : (a s : Syntax) → m (with_outer a s) ≡ m (Both a s)
+  with_outer_sum a (Node (Case k s)) =
+      law.node (Case (whole_item k) (Both a (Node s))) ∙ law.named (whole_item k) (Both a (Node s))
+      ∙ pair a a (Node s) (Node (Case k s)) refl (law.node s ∙ sym (law.node (Case k s) ∙ law.named k s))
+  with_outer_sum a s = refl
+
+  kept_whole_sum : (s : Syntax) → m (kept_whole s) ≡ m s
+  kept_whole_sum (Node (Captured s i)) = law.node (Case kept_item (Captured s i)) ∙ law.named kept_item (Captured s i) ∙ sym (law.node (Captured s i))
+  kept_whole_sum s = refl
+
   sentence_sum : (b : Bool) (e k : Syntax) → m (sentence b e k) ≡ m (Both e k)
   sentence_sum b (Shaped (expr Macro) s) (Left k) = law.shaped said_macro (Both s (Left k)) ∙ pair s (Shaped (expr Macro) s) (Left k) (Left k) (sym (law.shaped (expr Macro) s)) refl
   sentence_sum true (Shaped (expr Macro) s) k = law.shaped said_macro (Both s k) ∙ pair s (Shaped (expr Macro) s) k k (sym (law.shaped (expr Macro) s)) refl
@@ -143,7 +155,10 @@ module _ {M : Type 0} {op : M → M → M} {m : Syntax → M} (law : IsSum M op 
   state_sum a (Shaped said (Both e t)) = alone_sum false a (core e) t ∙ tagged said a e t
   state_sum a (Shaped said_macro (Both e t)) = alone_sum true a (core e) t ∙ tagged said_macro a e t
   state_sum a (Shaped a_local s) = inward a_local a s
-  state_sum a (Shaped an_item s) = inward an_item a s
+  state_sum a (Shaped an_item (Both s (Left Nothing))) =
+      law.shaped an_item (with_outer a s) ∙ with_outer_sum a s
+      ∙ pair a a s (Shaped an_item (Both s (Left Nothing))) refl (sym (law.shaped an_item (Both s (Left Nothing)) ∙ none_after s (Left Nothing) (law.left Nothing)))
+  state_sum a (Shaped an_item s) = law.shaped an_item (with_outer a s) ∙ with_outer_sum a s ∙ pair a a s (Shaped an_item s) refl (sym (law.shaped an_item s))
   state_sum a s = law.shaped attributed (Both a s)
 
   cell_sum : (j : Shape) (a s l : Syntax) → m (listing (Shaped j (Both a s)) l) ≡ m (Both a (Shaped j (Both s l)))
@@ -155,7 +170,9 @@ module _ {M : Type 0} {op : M → M → M} {m : Syntax → M} (law : IsSum M op 
   go_on_sum a (Shaped said (Both e t)) = going_on_sum false a (core e) t ∙ tagged said a e t
   go_on_sum a (Shaped said_macro (Both e t)) = going_on_sum true a (core e) t ∙ tagged said_macro a e t
   go_on_sum a (Shaped a_local (Both s l)) = cell_sum a_local a s l
-  go_on_sum a (Shaped an_item (Both s l)) = cell_sum an_item a s l
+  go_on_sum a (Shaped an_item (Both s l)) =
+      law.shaped listed (Both (Shaped an_item (with_outer a s)) l) ∙ pair (Shaped an_item (with_outer a s)) (Both a s) l l (law.shaped an_item (with_outer a s) ∙ with_outer_sum a s) refl
+      ∙ regroup a s l ∙ pair a a (Both s l) (Shaped an_item (Both s l)) refl (sym (law.shaped an_item (Both s l)))
   go_on_sum a s = law.shaped attributed (Both a s)
 
   cored : (a s : Syntax) → m (Both a (core s)) ≡ m (Both a s)
@@ -178,6 +195,9 @@ module _ {M : Type 0} {op : M → M → M} {m : Syntax → M} (law : IsSum M op 
   stated_sum s = law.shaped attributed s
 
   in_list_sum : (s : Syntax) → m (in_list s) ≡ m s
+  in_list_sum (Left s) = in_list_sum s ∙ sym (law.left s)
+  in_list_sum (Right s) = in_list_sum s ∙ sym (law.right s)
+  in_list_sum (Both (Shaped an_item s) l) = law.shaped listed (Both (Shaped an_item s) l)
   in_list_sum (Both a s) = go_on_sum a (core s) ∙ cored a s
   in_list_sum s = law.shaped listed s
 
@@ -194,6 +214,77 @@ module _ {M : Type 0} {op : M → M → M} {m : Syntax → M} (law : IsSum M op 
   untag_sum (Right s) = law.shaped untagged s ∙ sym (law.right s)
   untag_sum s = law.shaped untagged s
 
+  -- lists with something behind them
+  no_members_sum : m no_members ≡ m Nothing
+  no_members_sum = law.node (Left Nothing) ∙ law.left Nothing
+
+  more_members_sum : (j : Shape) (x comma s : Syntax) → m (more_members j x comma s) ≡ m (Both x (Both comma s))
+  more_members_sum j x comma (Node (Shaped k (Both l b))) =
+      let n = Right (Both x (Left (Both comma l))) in
+      law.shaped j (Both (Node n) b)
+      ∙ pair (Node n) (Both x (Both comma l)) b b (law.node n ∙ law.right (Both x (Left (Both comma l))) ∙ pair x x (Left (Both comma l)) (Both comma l) refl (law.left (Both comma l))) refl
+      ∙ regroup x (Both comma l) b
+      ∙ pair x x (Both (Both comma l) b) (Both comma (Node (Shaped k (Both l b)))) refl
+      (regroup comma l b ∙ pair comma comma (Both l b) (Node (Shaped k (Both l b))) refl (sym (law.node (Shaped k (Both l b)) ∙ law.shaped k (Both l b))))
+  more_members_sum j x comma s = law.shaped j (Both x (Both comma s))
+
+  one_member_sum : (j : Shape) (x n b : Syntax) → m (one_member j x n b) ≡ m (Both (Both x n) b)
+  one_member_sum j x n b =
+      law.shaped j (Both (Node (Right (Both x (Right n)))) b)
+      ∙ pair (Node (Right (Both x (Right n)))) (Both x n) b b (law.node (Right (Both x (Right n))) ∙ law.right (Both x (Right n)) ∙ pair x x (Right n) n refl (law.right n)) refl
+
+  member_sum : (j : Shape) (b x e : Syntax) → m b ≡ m Nothing → m (member j b x e) ≡ m (Both x e)
+  member_sum j b x (Left (Both comma l)) h = more_members_sum j x comma l ∙ pair x x (Both comma l) (Left (Both comma l)) refl (sym (law.left (Both comma l)))
+  member_sum j b x (Right n) h = one_member_sum j x n b ∙ none_after (Both x n) b h ∙ pair x x n (Right n) refl (sym (law.right n))
+  member_sum j b x s h = law.shaped j (Both x s)
+
+  ellipsis_sum : (a p v : Syntax) → m (ellipsis_of a p v) ≡ m (Both a (Both p v))
+  ellipsis_sum a p v =
+      law.shaped parameters (Both no_members (Left (Both a (Both p v)))) ∙ none_before no_members (Left (Both a (Both p v))) no_members_sum ∙ law.left (Both a (Both p v))
+
+  behind_colon_sum : (a p c s : Syntax) → m (behind_colon a p c s) ≡ m (Both a (Both p (Both c s)))
+  behind_colon_sum a p c (Left v) =
+      ellipsis_sum a (Left (Both p c)) v
+      ∙ pair a a (Both (Left (Both p c)) v) (Both p (Both c (Left v))) refl
+      (pair (Left (Both p c)) (Both p c) v v (law.left (Both p c)) refl ∙ regroup p c v ∙ pair p p (Both c v) (Both c (Left v)) refl (pair c c v (Left v) refl (sym (law.left v))))
+  behind_colon_sum a p c (Right (Both t e)) =
+      let x = Node (Both a (Right (Both p (Both c t)))) in
+      member_sum parameters (Right Nothing) x e (law.right Nothing)
+      ∙ pair x (Both a (Both p (Both c t))) e e (law.node (Both a (Right (Both p (Both c t)))) ∙ pair a a (Right (Both p (Both c t))) (Both p (Both c t)) refl (law.right (Both p (Both c t)))) refl
+      ∙ regroup a (Both p (Both c t)) e
+      ∙ pair a a (Both (Both p (Both c t)) e) (Both p (Both c (Right (Both t e)))) refl
+      (regroup p (Both c t) e ∙ pair p p (Both (Both c t) e) (Both c (Right (Both t e))) refl (regroup c t e ∙ pair c c (Both t e) (Right (Both t e)) refl (sym (law.right (Both t e)))))
+  behind_colon_sum a p c s = law.shaped parameters (Both a (Both p (Both c s)))
+
+  typed_sum : (a s : Syntax) → m (typed a s) ≡ m (Both a s)
+  typed_sum a (Left v) = ellipsis_sum a (Right Nothing) v ∙ pair a a (Both (Right Nothing) v) (Left v) refl (none_before (Right Nothing) v (law.right Nothing) ∙ sym (law.left v))
+  typed_sum a (Right (Both p (Both c s))) = behind_colon_sum a p c s ∙ pair a a (Both p (Both c s)) (Right (Both p (Both c s))) refl (sym (law.right (Both p (Both c s))))
+  typed_sum a s = law.shaped parameters (Both a s)
+
+  parameter_sum : (a s : Syntax) → m (parameter_of a s) ≡ m (Both a s)
+  parameter_sum a (Left (Both r e)) =
+      member_sum parameters (Right Nothing) (Node (Both a (Left r))) e (law.right Nothing)
+      ∙ pair (Node (Both a (Left r))) (Both a r) e e (law.node (Both a (Left r)) ∙ pair a a (Left r) r refl (law.left r)) refl
+      ∙ regroup a r e ∙ pair a a (Both r e) (Left (Both r e)) refl (sym (law.left (Both r e)))
+  parameter_sum a (Right (Node s)) = typed_sum a s ∙ pair a a s (Right (Node s)) refl (sym (law.right (Node s) ∙ law.node s))
+  parameter_sum a s = law.shaped parameters (Both a s)
+
+  parameters_sum : (s : Syntax) → m (parameters_of s) ≡ m s
+  parameters_sum (Left n) = law.shaped parameters (Both (Node (Left n)) (Right Nothing)) ∙ none_after (Node (Left n)) (Right Nothing) (law.right Nothing) ∙ law.node (Left n)
+  parameters_sum (Right (Both a s)) = parameter_sum a s ∙ sym (law.right (Both a s))
+  parameters_sum s = law.shaped parameters s
+
+  no_base_sum : m no_base ≡ m Nothing
+  no_base_sum = none_before (Right Nothing) (Right Nothing) (law.right Nothing) ∙ law.right Nothing
+
+  literal_fields_sum : (s : Syntax) → m (literal_fields_of s) ≡ m s
+  literal_fields_sum (Left n) = law.shaped based (Both (Node (Left n)) no_base) ∙ none_after (Node (Left n)) no_base no_base_sum ∙ law.node (Left n)
+  literal_fields_sum (Right (Left (Both d e))) =
+      law.shaped based (Both no_members (Both (Left d) (Left e))) ∙ none_before no_members (Both (Left d) (Left e)) no_members_sum
+      ∙ pair (Left d) d (Left e) e (law.left d) (law.left e) ∙ sym (law.right (Left (Both d e)) ∙ law.left (Both d e))
+  literal_fields_sum (Right (Right (Both f e))) = member_sum based no_base f e no_base_sum ∙ sym (law.right (Right (Both f e)) ∙ law.right (Both f e))
+  literal_fields_sum s = law.shaped based s
+
   pub sum_shape : (j : Shape) (s : Syntax) → m (shape j s) ≡ m s
   sum_shape (operand v) s = new_sum v s
   sum_shape bracketed s = new_sum (variant_of s) s
@@ -205,6 +296,10 @@ module _ {M : Type 0} {op : M → M → M} {m : Syntax → M} (law : IsSum M op 
   sum_shape listed s = in_list_sum s
   sum_shape lone s = separated_sum s
   sum_shape untagged s = untag_sum s
+  sum_shape an_item s = law.shaped an_item (kept_whole s) ∙ kept_whole_sum s
+  sum_shape parameters s = parameters_sum s
+  sum_shape based s = literal_fields_sum s
+  sum_shape single s = core_sum s
   sum_shape j s = law.shaped j s
 
 -- tokens
@@ -219,6 +314,7 @@ show_sum = record {
   then_none = λ s. append_end (show s);
   none_then = λ s. refl;
   regrouped = λ s t u. append_append (show s) (show t) (show u);
+  named = λ k s. refl;
   no_tokens = λ xs. refl;
 }
 
@@ -257,6 +353,7 @@ ends_sum = record {
   then_none = λ s. ap (λ v. (v, ends_brace s)) (and_true (vacant s));
   none_then = λ s. ap (λ v. (vacant s, v)) (none (vacant s) (ends_brace s) (vacant_ends s));
   regrouped = λ s t u. group (vacant s) (vacant t) (vacant u) (ends_brace s) (ends_brace t) (ends_brace u);
+  named = λ k s. refl;
   no_tokens = λ xs. refl;
 }
   where
@@ -335,6 +432,14 @@ moved_renew a (Shaped (expr Assign) (Both (Node (Right (Unshown Nothing))) (Both
 moved_renew a (Shaped (expr Cast) (Both (Node (Right (Unshown Nothing))) (Both l p))) = ap (λ z. new Cast (Both z (renew p))) (moved_renew a l)
 moved_renew a s = with_attributes_renew a s
 
+with_outer_renew : (a s : Syntax) → renew (with_outer a s) ≡ with_outer (renew a) (renew s)
+with_outer_renew a (Node (Case k s)) = refl
+with_outer_renew a _ = refl
+
+kept_whole_renew : (s : Syntax) → renew (kept_whole s) ≡ kept_whole (renew s)
+kept_whole_renew (Node (Captured s i)) = refl
+kept_whole_renew _ = refl
+
 sentence_renew : (b : Bool) (e k : Syntax) → renew (sentence b e k) ≡ sentence b (renew e) (renew k)
 sentence_renew b (Shaped (expr Macro) s) (Left k) = refl
 sentence_renew true (Shaped (expr Macro) s) k = refl
@@ -364,14 +469,58 @@ going_on_renew b a e t = ap (λ z. listing z no_statements) (moved_sentence b a 
 state_renew : (a s : Syntax) → renew (state a s) ≡ state (renew a) (renew s)
 state_renew a (Shaped said (Both e t)) = alone_renew false a (core e) t ∙ ap (λ z. alone false (renew a) z (renew t)) (renew_core e)
 state_renew a (Shaped said_macro (Both e t)) = alone_renew true a (core e) t ∙ ap (λ z. alone true (renew a) z (renew t)) (renew_core e)
+state_renew a (Shaped an_item (Both s (Left Nothing))) = ap (Shaped an_item) (with_outer_renew a s)
+state_renew a (Shaped an_item s) = ap (Shaped an_item) (with_outer_renew a s)
 state_renew a _ = refl
 
 go_on_renew : (a s : Syntax) → renew (go_on a s) ≡ go_on (renew a) (renew s)
 go_on_renew a (Shaped said (Both e t)) = going_on_renew false a (core e) t ∙ ap (λ z. going_on false (renew a) z (renew t)) (renew_core e)
 go_on_renew a (Shaped said_macro (Both e t)) = going_on_renew true a (core e) t ∙ ap (λ z. going_on true (renew a) z (renew t)) (renew_core e)
 go_on_renew a (Shaped a_local (Both s l)) = refl
-go_on_renew a (Shaped an_item (Both s l)) = refl
+go_on_renew a (Shaped an_item (Both s l)) = ap (λ z. listing (Shaped an_item z) (renew l)) (with_outer_renew a s)
 go_on_renew a _ = refl
+
+in_list_renew : (s : Syntax) → renew (in_list s) ≡ in_list (renew s)
+in_list_renew (Left s) = in_list_renew s
+in_list_renew (Right s) = in_list_renew s
+in_list_renew (Both (Shaped an_item s) l) = refl
+in_list_renew (Both a s) = go_on_renew a (core s) ∙ ap (go_on (renew a)) (renew_core s)
+in_list_renew _ = refl
+
+more_members_renew : (j : Shape) (x comma s : Syntax) → renew (more_members j x comma s) ≡ more_members j (renew x) (renew comma) (renew s)
+more_members_renew j x comma (Node (Shaped k (Both l b))) = refl
+more_members_renew j x comma _ = refl
+
+members_renew : (j : Shape) (b x e : Syntax) → renew (member j b x e) ≡ member j (renew b) (renew x) (renew e)
+members_renew j b x (Left (Both comma l)) = more_members_renew j x comma l
+members_renew j b x (Right n) = refl
+members_renew j b x _ = refl
+
+behind_colon_renew : (a p c s : Syntax) → renew (behind_colon a p c s) ≡ behind_colon (renew a) (renew p) (renew c) (renew s)
+behind_colon_renew a p c (Left v) = refl
+behind_colon_renew a p c (Right (Both t e)) = members_renew parameters (Right Nothing) (Node (Both a (Right (Both p (Both c t))))) e
+behind_colon_renew a p c _ = refl
+
+typed_renew : (a s : Syntax) → renew (typed a s) ≡ typed (renew a) (renew s)
+typed_renew a (Left v) = refl
+typed_renew a (Right (Both p (Both c s))) = behind_colon_renew a p c s
+typed_renew a _ = refl
+
+parameter_renew : (a s : Syntax) → renew (parameter_of a s) ≡ parameter_of (renew a) (renew s)
+parameter_renew a (Left (Both r e)) = members_renew parameters (Right Nothing) (Node (Both a (Left r))) e
+parameter_renew a (Right (Node s)) = typed_renew a s
+parameter_renew a _ = refl
+
+parameters_renew : (s : Syntax) → renew (parameters_of s) ≡ parameters_of (renew s)
+parameters_renew (Left n) = refl
+parameters_renew (Right (Both a s)) = parameter_renew a s
+parameters_renew _ = refl
+
+literal_fields_renew : (s : Syntax) → renew (literal_fields_of s) ≡ literal_fields_of (renew s)
+literal_fields_renew (Left n) = refl
+literal_fields_renew (Right (Left (Both d e))) = refl
+literal_fields_renew (Right (Right (Both f e))) = members_renew based no_base f e
+literal_fields_renew _ = refl
 
 pub renew_shape : (j : Shape) (s : Syntax) → renew (shape j s) ≡ shape j (renew s)
 renew_shape bracketed s = ap (λ v. new v (renew s)) (sym (variant_renew s))
@@ -380,11 +529,15 @@ renew_shape chain (Both s l) = onto_renew (core s) l ∙ ap (λ z. onto z (renew
 renew_shape leading (Both a s) = with_attributes_renew a (core s) ∙ ap (with_attributes (renew a)) (renew_core s)
 renew_shape labelled (Both a s) = with_label_renew a (core s) ∙ ap (with_label (renew a)) (renew_core s)
 renew_shape attributed (Both a s) = state_renew a (core s) ∙ ap (state (renew a)) (renew_core s)
-renew_shape listed (Both a s) = go_on_renew a (core s) ∙ ap (go_on (renew a)) (renew_core s)
+renew_shape listed s = in_list_renew s
 renew_shape lone (Both (Mark xs) l) = refl
 renew_shape lone (Both _ l) = refl
 renew_shape untagged (Left s) = refl
 renew_shape untagged (Right s) = refl
+renew_shape an_item s = ap (Shaped an_item) (kept_whole_renew s)
+renew_shape parameters s = parameters_renew s
+renew_shape based s = literal_fields_renew s
+renew_shape single s = renew_core s
 renew_shape _ _ = refl
 
 -- ---- a shape's value is a shape
@@ -449,6 +602,7 @@ state_shaped : (a s : Syntax) → IsShaped (state a s)
 state_shaped a (Shaped said (Both e t)) = alone_shaped false a (core e) t
 state_shaped a (Shaped said_macro (Both e t)) = alone_shaped true a (core e) t
 state_shaped a (Shaped a_local s) = (_, _, refl)
+state_shaped a (Shaped an_item (Both s (Left Nothing))) = (_, _, refl)
 state_shaped a (Shaped an_item s) = (_, _, refl)
 state_shaped a s = (attributed, Both a s, refl)
 
@@ -458,6 +612,48 @@ go_on_shaped a (Shaped said_macro (Both e t)) = going_on_shaped true a (core e) 
 go_on_shaped a (Shaped a_local (Both s l)) = (_, _, refl)
 go_on_shaped a (Shaped an_item (Both s l)) = (_, _, refl)
 go_on_shaped a s = (attributed, Both a s, refl)
+
+in_list_shaped : (s : Syntax) → IsShaped (in_list s)
+in_list_shaped (Left s) = in_list_shaped s
+in_list_shaped (Right s) = in_list_shaped s
+in_list_shaped (Both (Shaped an_item s) l) = (_, _, refl)
+in_list_shaped (Both a s) = go_on_shaped a (core s)
+in_list_shaped s = (listed, s, refl)
+
+more_members_shaped : (j : Shape) (x comma s : Syntax) → IsShaped (more_members j x comma s)
+more_members_shaped j x comma (Node (Shaped k (Both l b))) = (_, _, refl)
+more_members_shaped j x comma s = (j, Both x (Both comma s), refl)
+
+member_shaped : (j : Shape) (b x e : Syntax) → IsShaped (member j b x e)
+member_shaped j b x (Left (Both comma l)) = more_members_shaped j x comma l
+member_shaped j b x (Right n) = (_, _, refl)
+member_shaped j b x s = (j, Both x s, refl)
+
+behind_colon_shaped : (a p c s : Syntax) → IsShaped (behind_colon a p c s)
+behind_colon_shaped a p c (Left v) = (_, _, refl)
+behind_colon_shaped a p c (Right (Both t e)) = member_shaped parameters (Right Nothing) (Node (Both a (Right (Both p (Both c t))))) e
+behind_colon_shaped a p c s = (parameters, Both a (Both p (Both c s)), refl)
+
+typed_shaped : (a s : Syntax) → IsShaped (typed a s)
+typed_shaped a (Left v) = (_, _, refl)
+typed_shaped a (Right (Both p (Both c s))) = behind_colon_shaped a p c s
+typed_shaped a s = (parameters, Both a s, refl)
+
+parameter_shaped : (a s : Syntax) → IsShaped (parameter_of a s)
+parameter_shaped a (Left (Both r e)) = member_shaped parameters (Right Nothing) (Node (Both a (Left r))) e
+parameter_shaped a (Right (Node s)) = typed_shaped a s
+parameter_shaped a s = (parameters, Both a s, refl)
+
+parameters_shaped : (s : Syntax) → IsShaped (parameters_of s)
+parameters_shaped (Left n) = (_, _, refl)
+parameters_shaped (Right (Both a s)) = parameter_shaped a s
+parameters_shaped s = (parameters, s, refl)
+
+literal_fields_shaped : (s : Syntax) → IsShaped (literal_fields_of s)
+literal_fields_shaped (Left n) = (_, _, refl)
+literal_fields_shaped (Right (Left (Both d e))) = (_, _, refl)
+literal_fields_shaped (Right (Right (Both f e))) = member_shaped based no_base f e
+literal_fields_shaped s = (based, s, refl)
 
 pub is_shaped : (j : Shape) (s : Syntax) → IsShaped (shape j s)
 is_shaped (operand v) s = (_, _, refl)
@@ -471,15 +667,29 @@ is_shaped labelled (Both a s) = with_label_shaped a (core s)
 is_shaped labelled s = (labelled, s, refl)
 is_shaped attributed (Both a s) = state_shaped a (core s)
 is_shaped attributed s = (attributed, s, refl)
-is_shaped listed (Both a s) = go_on_shaped a (core s)
-is_shaped listed s = (listed, s, refl)
+is_shaped listed s = in_list_shaped s
 is_shaped lone (Both (Mark xs) l) = (_, _, refl)
 is_shaped lone s = (lone, s, refl)
 is_shaped untagged (Left s) = (untagged, s, refl)
 is_shaped untagged (Right s) = (untagged, s, refl)
 is_shaped untagged s = (untagged, s, refl)
+is_shaped an_item s = (an_item, kept_whole s, refl)
+is_shaped parameters s = parameters_shaped s
+is_shaped based s = literal_fields_shaped s
+is_shaped single s = core_shaped s
 is_shaped j s = (j, s, refl)
 
 -- no row's sorting looks into it
 pub shape_apart : (j : Shape) (s : Syntax) → (sort (shape j s) ≡ shape j s) × ((t : Syntax) (sp : Span) → behind t sp (shape j s) ≡ More false t sp (shape j s))
 shape_apart j s = let (i, u, e) = is_shaped j s in (ap sort e ∙ sym e, λ t sp. ap (behind t sp) e ∙ ap (More false t sp) (sym e))
+
+-- one of two is shown and printed as it is, without saying which
+pub untag_shown : (s : Syntax) → show (untag s) ≡ show s
+untag_shown (Left s) = refl
+untag_shown (Right s) = refl
+untag_shown _ = refl
+
+pub untag_printed : (s : Syntax) → show (renew (untag s)) ≡ show (renew s)
+untag_printed (Left s) = refl
+untag_printed (Right s) = refl
+untag_printed _ = refl

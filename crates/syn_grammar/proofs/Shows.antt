@@ -18,7 +18,7 @@ use Rattle.syn_grammar.proofs.Again.{move, sub_looks, clear, clear_sound, Agree,
 use Rattle.syn_grammar.proofs.Summaries.{Summary, keeps, covers, Ready, ready, at_end}
 use Rattle.syn_grammar.proofs.Extend.{closes}
 use Rattle.syn_grammar.proofs.Reprint.{summary, fine, IsSummary, again}
-use Rattle.syn_grammar.proofs.Said.{start_of, summary_of, heard_of, closed_of, cut_of, spaced_of, ends_hold}
+use Rattle.syn_grammar.proofs.Said.{start_of, shown_summary_of, shown_heard_of, closed_of, cut_of, spaced_of}
 use Rattle.syn_grammar.proofs.Takes.{mark_told}
 use Rattle.syn_grammar.proofs.Looks.{known_mark, sees_mark}
 use Rattle.syn_grammar.proofs.Means.{parse_rule_told, parse_rule_found}
@@ -42,28 +42,31 @@ full_closed : (k : Rule) → closed_of k ≡ true → closes closed_of (full_tab
 full_closed k = by_implied (closed_of k) _ (of_every_rule (λ k. implies (closed_of k) (closes closed_of (full_table k))) refl refl k)
 
 abbrev summed_up : Bool → Rule → Bool
-summed_up a k = implies (or (no a) (heard_of k)) (and (covers (summary_of a k) (summary summary_of heard_of start_of closed_of a (full_table k))) (fine summary_of heard_of start_of closed_of a (full_table k)))
+summed_up a k = implies (or (no a) (shown_heard_of k)) (and (covers (shown_summary_of a k) (summary shown_summary_of shown_heard_of start_of closed_of a (full_table k))) (fine shown_summary_of shown_heard_of start_of closed_of a (full_table k)))
 
 both_of : (a b : Bool) → and a b ≡ true → (a ≡ true) × (b ≡ true)
 both_of a b e = (and_left a b e, and_right a b e)
 
-full_summaries : IsSummary summary_of heard_of start_of closed_of full_table
-full_summaries false k h = both_of (covers (summary_of false k) _) _ (by_implied true _ (of_every_rule (summed_up false) refl refl k) refl)
-full_summaries true k h = both_of (covers (summary_of true k) _) _ (by_implied (heard_of k) _ (of_every_rule (summed_up true) refl refl k) h)
+full_summaries : IsSummary shown_summary_of shown_heard_of start_of closed_of full_table
+full_summaries false k h = both_of (covers (shown_summary_of false k) _) _ (by_implied true _ (of_every_rule (summed_up false) refl refl k) refl)
+full_summaries true k h = both_of (covers (shown_summary_of true k) _) _ (by_implied (shown_heard_of k) _ (of_every_rule (summed_up true) refl refl k) h)
+
+full_ends : (k : Rule) → clear (shown_summary_of false k).shuns Ended ≡ true
+full_ends k = of_every_rule (λ k. clear (shown_summary_of false k).shuns Ended) refl refl k
 
 shown_hold : (k : Rule) → reads_shown k ≡ true → shown_well (table k) ≡ true
 shown_hold k = by_implied (reads_shown k) _ (of_every_rule (λ k. implies (reads_shown k) (shown_well (table k))) refl refl k)
 
 -- ---- before a lookahead that changes nothing, what is shown is derived, as a tree of the same value
-shown_again : (k : Rule) (s : Syntax) (ts r r' : Stream) → reads_shown k ≡ true → DerivesPrefix table (rule k) s ts r → Ready (summary_of false k) (lookahead r) (lookahead r') →
+shown_again : (k : Rule) (s : Syntax) (ts r r' : Stream) → reads_shown k ≡ true → DerivesPrefix table (rule k) s ts r → Ready (shown_summary_of false k) (lookahead r) (lookahead r') →
     (u : Syntax) × DerivesPrefix table (rule k) u (show (value_of s) ⧺ r') r' × (value_of u ≡ value_of s)
 shown_again k s ts r r' w d R =
-    let x = again summary_of heard_of start_of closed_of full_table full_summaries full_starts full_never_follow full_closed false (rule k) (full_tree s) ts r r' refl (full_read shown_hold (rule k) s ts r w d) R in
+    let x = again shown_summary_of shown_heard_of start_of closed_of full_table full_summaries full_starts full_never_follow full_closed false (rule k) (full_tree s) ts r r' refl (full_read shown_hold (rule k) s ts r w d) R in
     let y = subst (λ z. DerivesPrefix full_table (rule k) (renew (full_tree s)) (z ⧺ r') r') (show_full s) x.0 in
     full_back shown_hold (rule k) s ts r (show (value_of s) ⧺ r') r' w d y
 
 -- so it is computed at the end, where that changes nothing
-shown_alone : (k : Rule) (ts : Stream) (s : Syntax) (r : Stream) → reads_shown k ≡ true → parse_rule k ts ≡ Some (s, r) → Ready (summary_of false k) (lookahead r) (lookahead end) → parse_rule k (show s) ≡ Some (s, end)
+shown_alone : (k : Rule) (ts : Stream) (s : Syntax) (r : Stream) → reads_shown k ≡ true → parse_rule k ts ≡ Some (s, r) → Ready (shown_summary_of false k) (lookahead r) (lookahead end) → parse_rule k (show s) ≡ Some (s, end)
 shown_alone k ts s r w e R =
     let (t, a, h) = parse_rule_told k ts (s, r) e in
     let (u, d, i) = shown_again k t ts r end w a R in
@@ -71,7 +74,7 @@ shown_alone k ts s r w e R =
     parse_rule_found k (show s) u end b ∙ ap (λ z. Some (z, end)) (i ∙ h)
 
 pub show_is_read : ShowIsRead
-show_is_read k w ts s e = shown_alone k ts s end w e (at_end (summary_of false k) (ends_hold k))
+show_is_read k w ts s e = shown_alone k ts s end w e (at_end (shown_summary_of false k) (full_ends k))
 
 -- ---- before the end, whatever stood behind
 abbrev no_looks : List Look → Bool
@@ -99,7 +102,7 @@ none_off [] a e = tt
 none_off (c ∷ A) a e = absurd (true≢false (sym e))
 
 abbrev cut_off : Rule → Bool
-cut_off k = and (no_looks (summary_of false k).shuns) (and (cut_of k) (spaced_of k))
+cut_off k = and (no_looks (shown_summary_of false k).shuns) (and (cut_of k) (spaced_of k))
 
 ready_there : (p : Summary) (a : Lookahead) → no_looks p.shuns ≡ true → Ready p a a
 ready_there p a w = ready p a a (agree_same p.ends a a refl) (stay_off_same p.halts a a refl) (none_off p.shuns a w)
@@ -107,23 +110,23 @@ ready_there p a w = ready p a a (agree_same p.ends a a refl) (stay_off_same p.ha
 shown_cut : (k : Rule) (ts : Stream) (s : Syntax) (r : Stream) → reads_shown k ≡ true → cut_off k ≡ true → parse_rule k ts ≡ Some (s, r) → parse_rule k (show s) ≡ Some (s, end)
 shown_cut k ts s r w v e =
     let (t, a, h) = parse_rule_told k ts (s, r) e in
-    let v' = and_right (no_looks (summary_of false k).shuns) _ v in
-    let (u, d, i) = shown_again k t ts r r w a (ready_there (summary_of false k) (lookahead r) (and_left (no_looks (summary_of false k).shuns) _ v)) in
+    let v' = and_right (no_looks (shown_summary_of false k).shuns) _ v in
+    let (u, d, i) = shown_again k t ts r r w a (ready_there (shown_summary_of false k) (lookahead r) (and_left (no_looks (shown_summary_of false k).shuns) _ v)) in
     let c = cut (rule k) u (show (value_of t)) end r (or_right (closed_of k) (cut_of k) (and_left (cut_of k) _ v')) (shown_unjoined (rule k) t ts r (and_right (cut_of k) _ v') a) d in
     let b : DerivesPrefix table (rule k) u (show s) end = subst (λ z. DerivesPrefix table (rule k) u z end) (ap show h) c in
     parse_rule_found k (show s) u end b ∙ ap (λ z. Some (z, end)) (i ∙ h)
 
 abbrev stands_well : Rule → Bool
-stands_well k = and (reads_shown k) (or (cut_well (summary_of false k)) (cut_off k))
+stands_well k = and (reads_shown k) (or (cut_well (shown_summary_of false k)) (cut_off k))
 
 cut_holds : (k : Rule) → stands_alone k ≡ true → stands_well k ≡ true
 cut_holds k = by_implied (stands_alone k) _ (of_every_rule (λ k. implies (stands_alone k) (stands_well k)) refl refl k)
 
 pub show_stands_alone : ShowStandsAlone
-show_stands_alone k w ts s r e = go (or_split (cut_well (summary_of false k)) _ (and_right (reads_shown k) _ (cut_holds k w)))
+show_stands_alone k w ts s r e = go (or_split (cut_well (shown_summary_of false k)) _ (and_right (reads_shown k) _ (cut_holds k w)))
   where
-    go : (cut_well (summary_of false k) ≡ true) ⊎ (cut_off k ≡ true) → parse_rule k (show s) ≡ Some (s, end)
-    go (inl v) = shown_alone k ts s r (and_left (reads_shown k) _ (cut_holds k w)) e (ready_at_end (summary_of false k) (lookahead r) v)
+    go : (cut_well (shown_summary_of false k) ≡ true) ⊎ (cut_off k ≡ true) → parse_rule k (show s) ≡ Some (s, end)
+    go (inl v) = shown_alone k ts s r (and_left (reads_shown k) _ (cut_holds k w)) e (ready_at_end (shown_summary_of false k) (lookahead r) v)
     go (inr v) = shown_cut k ts s r (and_left (reads_shown k) _ (cut_holds k w)) v e
 
 -- ---- and before a mark
@@ -132,7 +135,7 @@ abbrev ends_as : Summary → Text → Bool
 ends_as p m = and (known_mark m) (every (λ f. keeps p (move f Ended [])) (mark_first_set m))
 
 abbrev shown_before : Rule → Text → Bool
-shown_before k m = and (reads_shown k) (or (ends_as (summary_of false k) m) (cut_off k))
+shown_before k m = and (reads_shown k) (or (ends_as (shown_summary_of false k) m) (cut_off k))
 
 ready_before : (p : Summary) (m : Text) (a : Lookahead) → ends_as p m ≡ true → mem a.terminal (mark_first_set m) ≡ true → Ready p a (lookahead end)
 ready_before p m a w e =
@@ -169,10 +172,10 @@ marks_hold k = of_every_rule (λ k. every_text (shown_before k) (stands_before k
 pub show_stands_before : ShowStandsBefore
 show_stands_before k m w ts s r e f =
     let u = text_at (shown_before k) m (stands_before k) (marks_hold k) w in
-    go (and_left (reads_shown k) _ u) (or_split (ends_as (summary_of false k) m) _ (and_right (reads_shown k) _ u))
+    go (and_left (reads_shown k) _ u) (or_split (ends_as (shown_summary_of false k) m) _ (and_right (reads_shown k) _ u))
   where
-    go : reads_shown k ≡ true → (ends_as (summary_of false k) m ≡ true) ⊎ (cut_off k ≡ true) → parse_rule k (show s) ≡ Some (s, end)
-    go u (inl v) = shown_alone k ts s r u e (ready_before (summary_of false k) m (lookahead r) v (mark_stands m r (and_left (known_mark m) _ v) f))
+    go : reads_shown k ≡ true → (ends_as (shown_summary_of false k) m ≡ true) ⊎ (cut_off k ≡ true) → parse_rule k (show s) ≡ Some (s, end)
+    go u (inl v) = shown_alone k ts s r u e (ready_before (shown_summary_of false k) m (lookahead r) v (mark_stands m r (and_left (known_mark m) _ v) f))
     go u (inr v) = shown_cut k ts s r u v e
 
 pub same_show : SameShow

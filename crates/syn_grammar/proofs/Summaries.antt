@@ -109,6 +109,10 @@ seam off p q = and (every2 (λ m. or (excluded off m.source) (keeps p m)) q.move
 abbrev pub kept : Look → Summary → Summary → Bool
 kept c p q = and (every2 (stays_on c) (keep2 c p.moves)) (and (every2 (stays_off c) (leave2 c q.moves)) (no (filled (keep c p.gone))))
 
+-- of what doesn't meet the condition
+pub kept_off : (c : Look) (p q : Summary) → kept c p q ≡ true → every2 (stays_off c) (leave2 c q.moves) ≡ true
+kept_off c p q k = and_left (every2 (stays_off c) (leave2 c q.moves)) _ (and_right (every2 (stays_on c) (keep2 c p.moves)) _ k)
+
 -- the lookahead a of the source and b of the print, where ra and rb stand behind
 pub data HasLookaheads (p : Summary) (a b ra rb : Lookahead) : Type 0 where
   alike : mem a.terminal p.stays ≡ true → a ≡ b → HasLookaheads p a b ra rb
@@ -215,13 +219,22 @@ when_left c p q a b ra rb k h (passed v e f) R =
 when_left c p q a b ra rb k h (vanished v f) R =
     absurd (true≢false (sym (filled_mem a.terminal (keep c p.gone) (mem_keep a c p.gone h v)) ∙ no_true (filled (keep c p.gone)) (and_right (every2 (stays_off c) (leave2 c q.moves)) _ (and_right (every2 (stays_on c) (keep2 c p.moves)) _ k))))
 
-pub when_right : (c : Look) (p q : Summary) (a b ra rb : Lookahead) → kept c p q ≡ true → answers c a ≡ false → HasLookaheads q a b ra rb → Ready (when_summary c p q) ra rb →
+-- where the first form's print surely meets the look
+pub when_sure : (c : Look) (p q : Summary) (a b ra rb : Lookahead) → no (filled p.gone) ≡ true → answers c a ≡ true → HasLookaheads p a b ra rb → HasLookaheads (when_summary c p q) a b ra rb
+when_sure c p q a b ra rb k h (alike e f) = alike (mem_left a.terminal (keep c p.stays) _ (mem_keep a c p.stays h e)) f
+when_sure c p q a b ra rb k h (altered t e l) =
+    let m = move a.terminal b.terminal t in
+    altered t (mem2_left m (keep2 c p.moves) _ (mem2_those m (may c) p.moves (may_of c a h) e)) l
+when_sure c p q a b ra rb k h (passed v e f) = passed (or_left p.nullable q.nullable v) e f
+when_sure c p q a b ra rb k h (vanished v f) = absurd (true≢false (sym (filled_mem a.terminal p.gone v) ∙ no_true (filled p.gone) k))
+
+pub when_right : (c : Look) (p q : Summary) (a b ra rb : Lookahead) → every2 (stays_off c) (leave2 c q.moves) ≡ true → answers c a ≡ false → HasLookaheads q a b ra rb → Ready (when_summary c p q) ra rb →
     (answers c b ≡ false) × HasLookaheads (when_summary c p q) a b ra rb
 when_right c p q a b ra rb k h (alike e f) R = (ap (answers c) (sym f) ∙ h, alike (mem_right a.terminal (keep c p.stays) _ (mem_leave a c q.stays h e)) f)
 when_right c p q a b ra rb k h (altered t e l) R =
     let m = move a.terminal b.terminal t in
     let i = mem2_those m (λ f. no (must c f)) q.moves (must_not_of c a h) e in (
-      off_sound a b t l c (every2_at (stays_off c) m (leave2 c q.moves) (and_left (every2 (stays_off c) (leave2 c q.moves)) _ (and_right (every2 (stays_on c) (keep2 c p.moves)) _ k)) i) h,
+      off_sound a b t l c (every2_at (stays_off c) m (leave2 c q.moves) k i) h,
       altered t (mem2_right m (keep2 c p.moves) _ i) l,
     )
 when_right c p q a b ra rb k h (passed v e f) R =

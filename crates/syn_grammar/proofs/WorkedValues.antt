@@ -1,12 +1,12 @@
 -- Worked values: what a Rust value holds of what was read, where it is built in another way than it stands. The checker computes each.
 use Rattle.std.proofs.Common.{◌≡◌, ℕ, ◌+◌, true, false, [], ◌∷◌, Some, refl}
-use Rattle.syn_grammar.specs.Words.{w_crate, w_loop}
+use Rattle.syn_grammar.specs.Words.{w_crate, w_fn, w_loop, w_self, w_struct}
 use Rattle.syn_grammar.specs.Tokens.{Paren, Brace, Bracket, Int, ident, literal, Stream, end, leaf, punct, group}
-use Rattle.syn_grammar.specs.Rules.{Rule, product, block_like, primary, unary, whole_expression, statement, statements}
-use Rattle.syn_grammar.specs.Shape.{Variant, Array, Assign, Binary, Block, Field, Lit, Loop, MethodCall, Parens, Path, Repeat, Tuple, Unary, expr, said, said_macro, untagged}
-use Rattle.syn_grammar.specs.Grammar.{Syntax, Nothing, Token, Mark, Both, Left, Right, Node, Shaped}
+use Rattle.syn_grammar.specs.Rules.{Rule, product, block_like, primary, literal_fields, unary, whole_expression, statement, statements, argument, inputs, item, kept_item, structure}
+use Rattle.syn_grammar.specs.Shape.{Variant, Array, Assign, Binary, Block, Field, Lit, Loop, MethodCall, Parens, Path, Repeat, Struct, Tuple, Unary, expr, said, said_macro, an_item, untagged, parameters, based}
+use Rattle.syn_grammar.specs.Grammar.{Syntax, Nothing, Token, Mark, Both, Left, Right, Node, Case, Captured, Shaped}
 use Rattle.syn_grammar.specs.Values.{no_attributes, new, no_statements, listing}
-use Rattle.syn_grammar.specs.Take.{left, is_end, lookahead_at, sees, take_token, take_lifetime, take_mark, take_group, before}
+use Rattle.syn_grammar.specs.Take.{left, is_end, lookahead_at, sees, take_token, take_lifetime, take_mark, take_group, before, first_span}
 use Rattle.syn_grammar.specs.Run.{rows_for, rows, run, parse_rule}
 use Rattle.syn_grammar.proofs.Shown.{at}
 
@@ -127,3 +127,75 @@ crate_macro_alone : (s : Syntax) × (parse_rule statement (crate_macro end) ≡ 
     ≡ Some (Node (Right (listing (Shaped said_macro (Both s (Right Nothing))) (Node (Right (listing (Shaped said (Both (new Block e) (Right Nothing))) no_statements))))), end))
 unfolding left is_end lookahead_at sees take_token take_lifetime take_mark take_group before rows_for rows run parse_rule
 crate_macro_alone = (_, refl, _, refl)
+
+-- ITEMS IN STATEMENTS are the items that the rule `item` reads of these tokens
+abbrev attributed : Stream → Stream
+attributed r = char 35 0 (group Bracket (at 1 2) (at 3 4) (letter 97 2 end) r)
+
+-- `#[a]struct b;`
+abbrev unit_struct : Stream
+unit_struct = attributed (leaf (ident w_struct) (at 4 10) (letter 98 11 (char 59 12 end)))
+
+struct_alone : (s : Syntax) × (parse_rule item unit_struct ≡ Some (Node (Case structure s), end)) × (parse_rule statement unit_struct ≡ Some (Node (Shaped an_item (Node (Case structure s))), end))
+unfolding left is_end lookahead_at sees take_token take_lifetime take_mark take_group before rows_for rows run parse_rule
+struct_alone = (_, refl, refl)
+
+struct_listed : (s : Syntax) × (parse_rule item unit_struct ≡ Some (s, end)) × (parse_rule statements unit_struct ≡ Some (Node (Right (listing (Shaped an_item s) no_statements)), end))
+unfolding left is_end lookahead_at sees take_token take_lifetime take_mark take_group before rows_for rows run parse_rule
+struct_listed = (_, refl, refl)
+
+-- `#[a]fn b();`, which is kept as tokens
+abbrev bodiless : Stream
+bodiless = attributed (leaf (ident w_fn) (at 4 6) (letter 98 7 (group Paren (at 8 9) (at 9 10) end (char 59 10 end))))
+
+kept_alone : (parse_rule item bodiless ≡ Some (Node (Case kept_item (Captured Nothing bodiless)), end)) × (parse_rule statement bodiless ≡ Some (Node (Shaped an_item (Node (Case kept_item (Captured Nothing bodiless)))), end))
+unfolding left is_end lookahead_at sees take_token take_lifetime take_mark take_group before first_span rows_for rows run parse_rule
+kept_alone = (refl, refl)
+
+kept_listed : parse_rule statements bodiless ≡ Some (Node (Right (listing (Shaped an_item (Node (Case kept_item (Captured Nothing bodiless)))) no_statements)), end)
+unfolding left is_end lookahead_at sees take_token take_lifetime take_mark take_group before first_span rows_for rows run parse_rule
+kept_listed = refl
+
+-- `crate!{}` before `.0`, which is left, is an item
+crate_macro_item : (s : Syntax) × (r : Stream) × (parse_rule item (crate_macro (char 46 8 (leaf (literal Int (48 ∷ [])) (at 9 10) end))) ≡ Some (s, r))
+    × (parse_rule statement (crate_macro (char 46 8 (leaf (literal Int (48 ∷ [])) (at 9 10) end))) ≡ Some (Node (Shaped an_item s), r))
+unfolding left is_end lookahead_at sees take_token take_lifetime take_mark take_group before first_span rows_for rows run parse_rule
+crate_macro_item = (_, _, refl, refl)
+
+-- PARAMETERS are a list of what `argument` reads, and the variadic one or none
+
+abbrev own_self : Stream → Stream
+own_self r = leaf (ident w_self) (at 0 4) r
+
+-- `self,a:b` are two
+two_parameters : (x : Syntax) × (y : Syntax) × (parse_rule argument (own_self end) ≡ Some (x, end)) × (parse_rule argument (letter 97 5 (char 58 6 (letter 98 7 end))) ≡ Some (y, end))
+    × (parse_rule inputs (own_self (char 44 4 (letter 97 5 (char 58 6 (letter 98 7 end)))))
+    ≡ Some (Node (Shaped parameters (Both (Node (Right (Both x (Left (Both (kept 44 4) (Node (Right (Both y (Right Nothing))))))))) (Right Nothing))), end))
+unfolding left is_end lookahead_at sees take_token take_lifetime take_mark take_group before first_span rows_for rows run parse_rule
+two_parameters = (_, _, refl, refl, refl)
+
+-- `self,a:...,` are one and a variadic one
+variadic_behind : (x : Syntax) × (a : Syntax) × (p : Syntax) × (v : Syntax) × (parse_rule argument (own_self end) ≡ Some (x, end))
+    × (parse_rule inputs (own_self (char 44 4 (letter 97 5 (char 58 6 (punct 46 true (at 7 8) (punct 46 true (at 8 9) (char 46 9 (char 44 10 end))))))))
+    ≡ Some (Node (Shaped parameters (Both (Node (Right (Both x (Left (Both (kept 44 4) (Node (Left Nothing))))))) (Left (Both a (Both (Left (Both p (kept 58 6))) v))))), end))
+unfolding left is_end lookahead_at sees take_token take_lifetime take_mark take_group before first_span rows_for rows run parse_rule
+variadic_behind = (_, _, _, _, refl, refl)
+
+-- `a<b>` alone is a parameter with `_ :` before it
+nameless : (x : Syntax) × (parse_rule argument (letter 97 0 (char 60 1 (letter 98 2 (char 62 3 end)))) ≡ Some (x, end))
+    × (parse_rule inputs (letter 97 0 (char 60 1 (letter 98 2 (char 62 3 end)))) ≡ Some (Node (Shaped parameters (Both (Node (Right (Both x (Right Nothing)))) (Right Nothing))), end))
+unfolding left is_end lookahead_at sees take_token take_lifetime take_mark take_group before first_span rows_for rows run parse_rule
+nameless = (_, refl, refl)
+
+-- STRUCT LITERALS
+
+-- `a{}` is one; its fields are a list, and `..` with an expression or neither
+a_literal : IsOf primary Struct (letter 97 0 (group Brace (at 1 2) (at 2 3) end end))
+unfolding left is_end lookahead_at sees take_token take_lifetime take_mark take_group before rows_for rows run parse_rule
+a_literal = (_, refl)
+
+with_base : (x : Syntax)
+    × (parse_rule literal_fields (letter 97 0 (char 44 1 (punct 46 true (at 2 3) (char 46 3 (letter 98 4 end)))))
+    ≡ Some (Node (Shaped based (Both (Node (Right (Both x (Left (Both (kept 44 1) (Node (Left Nothing))))))) (Both (Left (Mark ((46, at 2 3) ∷ (46, at 3 4) ∷ []))) (Left (Node (path_of 98 4)))))), end))
+unfolding left is_end lookahead_at sees take_token take_lifetime take_mark take_group before rows_for rows run parse_rule
+with_base = (_, refl)

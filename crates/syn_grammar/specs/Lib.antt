@@ -9,6 +9,8 @@ pub mod Forms
 pub mod Values
 pub mod Table
 pub mod Laws
+pub mod Before
+pub mod Grows
 pub mod Codes
 pub mod TreeCodes
 pub mod Take
@@ -19,3 +21,16 @@ pub mod Turns
 pub mod Same
 pub mod StandsAlone
 pub mod Alone
+pub mod ItemStatements
+pub mod UseGroups
+pub mod Plan
+pub mod ItemPlan
+pub mod MemberPlans
+pub mod StatementPlans
+pub mod SmallPlans
+pub mod AlonePlans
+pub mod ToldByTokens
+pub mod Leads
+pub mod EntryPoints
+pub mod Listed
+pub mod Joined

@@ -13,6 +13,7 @@ pub data Rule : Type 0 where
   restriction : Rule
   type_path : Rule
   type_words : Rule
+  more_type_words : Rule
   type_arguments : Rule
   return_type : Rule
   generic_arguments : Rule
@@ -65,6 +66,8 @@ pub data Rule : Type 0 where
   plain_body : Rule
   no_inner_attributes : Rule
   primary : Rule
+  literal_fields : Rule
+  literal_field : Rule
   block_like : Rule
   if_expression : Rule
   loop_expression : Rule
@@ -93,11 +96,149 @@ pub data Rule : Type 0 where
   disjunction : Rule
   assigned : Rule
   whole_expression : Rule
+  primary_head : Rule
+  unary_head : Rule
+  cast_head : Rule
+  products_head : Rule
+  product_head : Rule
+  sums_head : Rule
+  sum_head : Rule
+  shifts_head : Rule
+  shift_head : Rule
+  bit_ands_head : Rule
+  bit_and_head : Rule
+  bit_xors_head : Rule
+  bit_xor_head : Rule
+  bit_ors_head : Rule
+  bit_or_head : Rule
+  compared_head : Rule
+  comparison_head : Rule
+  conjunctions_head : Rule
+  conjunction_head : Rule
+  disjunctions_head : Rule
+  disjunction_head : Rule
+  assigned_head : Rule
+  whole_expression_head : Rule
   operand_rest : Rule
   statements : Rule
   statement_rest : Rule
   after_block : Rule
   after_expression : Rule
   statement : Rule
+  crate_macro : Rule
+  brace_macro : Rule
+  crate_macro_item : Rule
   statement_end : Rule
   local : Rule
+  no_attributes : Rule
+  receiver : Rule
+  receiver_rest : Rule
+  argument : Rule
+  inputs : Rule
+  later_inputs : Rule
+  input_rest : Rule
+  variadic : Rule
+  abi : Rule
+  unsafe_only : Rule
+  safe_or_unsafe : Rule
+  signature : Rule
+  signature_rest : Rule
+  function : Rule
+  function_rest : Rule
+  const_item : Rule
+  const_item_rest : Rule
+  static_item : Rule
+  static_item_rest : Rule
+  extern_crate : Rule
+  extern_crate_rest : Rule
+  use_tree : Rule
+  use_trees : Rule
+  root_mark : Rule
+  rooted_tree : Rule
+  rooted_trees : Rule
+  use_item : Rule
+  use_item_rest : Rule
+  rooted_use : Rule
+  module_item : Rule
+  module_item_rest : Rule
+  alias_bounds : Rule
+  type_bounds : Rule
+  alias : Rule
+  trait_alias : Rule
+  trait_alias_rest : Rule
+  type_item : Rule
+  type_item_rest : Rule
+  macro_end : Rule
+  macro_item : Rule
+  macro_item_rest : Rule
+  macro_as_item : Rule
+  macro_as_item_rest : Rule
+  bodiless_function : Rule
+  untyped_static : Rule
+  valueless_static : Rule
+  odd_const : Rule
+  macro_definition : Rule
+  odd_type : Rule
+  supertraits : Rule
+  bare_trait : Rule
+  trait_definition : Rule
+  trait_definition_rest : Rule
+  const_alias : Rule
+  restricted_trait : Rule
+  self_type : Rule
+  for_self_type : Rule
+  impl_body : Rule
+  impl_definition : Rule
+  impl_definition_rest : Rule
+  odd_impl : Rule
+  visible_const_impl : Rule
+  const_trait : Rule
+  const_impl : Rule
+  odd_const_impl : Rule
+  foreign_module : Rule
+  foreign_module_rest : Rule
+  member_macro : Rule
+  bare_trait_function : Rule
+  bare_trait_type : Rule
+  trait_const : Rule
+  trait_function : Rule
+  trait_type : Rule
+  trait_macro : Rule
+  trait_macro_as_item : Rule
+  any_const : Rule
+  marked_member : Rule
+  odd_trait_const : Rule
+  kept_trait_item : Rule
+  trait_item : Rule
+  trait_items : Rule
+  impl_const : Rule
+  impl_function : Rule
+  impl_type : Rule
+  impl_macro : Rule
+  impl_macro_as_item : Rule
+  bodiless_impl_function : Rule
+  odd_impl_const : Rule
+  odd_impl_type : Rule
+  kept_impl_item : Rule
+  impl_item : Rule
+  impl_items : Rule
+  foreign_signature : Rule
+  bare_foreign_static : Rule
+  foreign_function : Rule
+  foreign_static : Rule
+  foreign_type : Rule
+  foreign_macro : Rule
+  foreign_macro_as_item : Rule
+  foreign_body : Rule
+  foreign_value : Rule
+  odd_foreign_type : Rule
+  kept_foreign_item : Rule
+  foreign_item : Rule
+  foreign_items : Rule
+  kept_item_rest : Rule
+  kept_item : Rule
+  kept_in_block : Rule
+  item_rest : Rule
+  item : Rule
+  items : Rule
+  file : Rule

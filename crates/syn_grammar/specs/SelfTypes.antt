@@ -1,8 +1,8 @@
 -- The self types of impls.
-use Rattle.std.specs.Prelude.{List, []}
-use Rattle.syn_grammar.specs.Rules.{Rule}
+use Rattle.std.specs.Prelude.{List, [], ◌∷◌}
+use Rattle.syn_grammar.specs.Rules.{Rule, self_type}
 
 -- The rules by which an impl reads the type behind `for`: where such a type, printed, would be read as generics, empty generics
--- are printed before the impl as `< >`. This table has none.
+-- are printed before the impl as `< >`.
 abbrev pub self_types : List Rule
-self_types = []
+self_types = self_type ∷ []

@@ -28,7 +28,11 @@ pub data Shape : Type 0 where
   said : Shape  -- an expression and what follows it; of values: an expression, and `;` or not
   said_macro : Shape  -- the same of a macro with braces; of values: a macro's attributes, the macro, and `;` or not
   a_local an_item : Shape
+  single : Shape  -- a statement alone
   untagged : Shape  -- what was read, without saying by which of two forms
+  -- lists with something behind them
+  parameters : Shape  -- of a function: its parameters, and the variadic one or none
+  based : Shape  -- of a struct literal: its fields, and `..` with an expression or neither
 
 abbrev pub variants : List Variant
 variants = Array ∷ Assign ∷ Binary ∷ Block ∷ Break ∷ Call ∷ Cast ∷ Continue ∷ Field ∷ ForLoop ∷ Grouped ∷ If ∷ Index ∷ Lit ∷ Loop ∷ Macro ∷ MethodCall ∷ Parens ∷ Path ∷ Reference ∷ Repeat ∷ Return ∷ Struct ∷ Try ∷ Tuple ∷ Unary ∷ Unsafe ∷ Verbatim ∷ While ∷ []
@@ -120,9 +124,12 @@ shape_number said_macro = (15, 0)
 shape_number a_local = (16, 0)
 shape_number an_item = (17, 0)
 shape_number untagged = (18, 0)
+shape_number parameters = (19, 0)
+shape_number based = (20, 0)
+shape_number single = (21, 0)
 
 abbrev pub shape_at : ℕ × ℕ → Shape
-shape_at p = (cond (p.0 == 0) (expr (at variants p.1)) (cond (p.0 == 1) (operand (at variants p.1)) (cond (p.0 == 2) (behind_it (at variants p.1)) (cond (p.0 == 3) (operator (at variants p.1)) (cond (p.0 == 4) bracketed (cond (p.0 == 5) dotted (cond (p.0 == 6) fields (cond (p.0 == 7) choice (cond (p.0 == 8) chain (cond (p.0 == 9) leading (cond (p.0 == 10) labelled (cond (p.0 == 11) attributed (cond (p.0 == 12) listed (cond (p.0 == 13) lone (cond (p.0 == 14) said (cond (p.0 == 15) said_macro (cond (p.0 == 16) a_local (cond (p.0 == 17) an_item untagged))))))))))))))))))
+shape_at p = (cond (p.0 == 0) (expr (at variants p.1)) (cond (p.0 == 1) (operand (at variants p.1)) (cond (p.0 == 2) (behind_it (at variants p.1)) (cond (p.0 == 3) (operator (at variants p.1)) (cond (p.0 == 4) bracketed (cond (p.0 == 5) dotted (cond (p.0 == 6) fields (cond (p.0 == 7) choice (cond (p.0 == 8) chain (cond (p.0 == 9) leading (cond (p.0 == 10) labelled (cond (p.0 == 11) attributed (cond (p.0 == 12) listed (cond (p.0 == 13) lone (cond (p.0 == 14) said (cond (p.0 == 15) said_macro (cond (p.0 == 16) a_local (cond (p.0 == 17) an_item (cond (p.0 == 18) untagged (cond (p.0 == 19) parameters (cond (p.0 == 20) based single)))))))))))))))))))))
 
 pub shape_back : (j : Shape) → shape_at (shape_number j) ≡ j
 shape_back (expr v) = ap expr (variant_back v)
@@ -144,6 +151,9 @@ shape_back said_macro = refl
 shape_back a_local = refl
 shape_back an_item = refl
 shape_back untagged = refl
+shape_back parameters = refl
+shape_back based = refl
+shape_back single = refl
 
 abbrev pub same_shape : Shape → Shape → Bool
 same_shape a b = and (nat_eq (shape_number a).0 (shape_number b).0) (nat_eq (shape_number a).1 (shape_number b).1)

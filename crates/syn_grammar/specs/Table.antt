@@ -3,12 +3,12 @@
 -- This file is the source: it is written by hand, and tools/grammar.py reads it, checks it, keeps the `use` lines below
 -- and writes the files that tell the rules by name and what the proofs need to know of each. docs/GRAMMAR.md says how to read it.
 -- A comment directly above a look or a rule says it in words.
-use Rattle.std.specs.Prelude.{true, false, [], ◌∷◌}
-use Rattle.syn_grammar.specs.Words.{w_underscore, w_as, w_break, w_const, w_continue, w_crate, w_else, w_enum, w_false, w_for, w_if, w_in, w_let, w_loop, w_mut, w_pub, w_ref, w_return, w_Self_type, w_self, w_struct, w_super, w_true, w_unsafe, w_where, w_while, w_union, comma, semicolon, colon, equals, plus, star, less, greater, pound, ampersand, question, exclamation, minus, dot, colons, arrow, equal_equal, not_equals, less_less, less_equals, bar, slash, percent, and_and, or_or, greater_greater, greater_equals, plus_equals, minus_equals, star_equals, slash_equals, percent_equals, caret_equals, ampersand_equals, bar_equals, less_less_equals, greater_greater_equals, dots, caret}
-use Rattle.syn_grammar.specs.Tokens.{Paren, Brace, Bracket, None, Str, ByteStr, CStr, Byte, Char, Int, Float, Before_equals, Before_colons, Before_paren, Before_less, Before_bang, Bang_brace, Before_macro, Lone_word, Begins_in, Before_brace, Look, ended, at_name, at_word, at_mark, at_literal, at_group, at_empty_group, ahead, ◌or_else◌, ◌and_also◌, ◌but_not◌, at_lifetime, at_path_word}
-use Rattle.syn_grammar.specs.Rules.{Rule, attributes, inner_attributes, meta, unsafe_path, unsafe_word, meta_value, module_path, module_words, visibility, restriction, type_path, type_words, type_arguments, return_type, generic_arguments, generic_argument, qualified_path, path_as_type, type, types, constant, generics, lifetime_parameter, lifetimes, parameter_bounds, bound, trait_bound, bound_lifetimes, lifetime_parameters, where_clause, predicates, predicate, predicate_bounds, fields_named, named_fields, named_field, nameless_fields, unnamed_field, unnamed_fields, fields_unnamed, variant, variants, structure, structure_rest, structure_body, enumeration, enumeration_rest, union_item, union_item_rest, derive_input, expression_path, expression_words, qualified_expression_path, path_as_expression, macro_invocation, pattern, patterns, expressions, array_content, block, body, plain_body, no_inner_attributes, primary, block_like, if_expression, loop_expression, postfixes, member, unary, casts, cast, products, product, sums, sum, shifts, shift, bit_ands, bit_and, bit_xors, bit_xor, bit_ors, bit_or, compared, comparison, conjunctions, conjunction, disjunctions, disjunction, assigned, whole_expression, operand_rest, statements, statement_rest, after_block, after_expression, statement, statement_end, local}
-use Rattle.syn_grammar.specs.Shape.{Assign, Binary, Block, Break, Call, Cast, Continue, ForLoop, Grouped, If, Index, Lit, Loop, Macro, Path, Reference, Return, Try, Unary, Unsafe, While, operand, bracketed, behind_it, operator, dotted, choice, chain, leading, labelled, attributed, listed, lone, said, said_macro, a_local, untagged}
-use Rattle.syn_grammar.specs.Grammar.{name, word, name_or, index, any_literal, trailing_brace, no_trailing_brace, Grammar, empty, lifetime, ◌&◌, when◌then◌else◌, vanishing, inside, raw, rest_after, either, one_of, rule, such, shaped, captured, unshown, ordered}
+use Rattle.std.specs.Prelude.{true, false, List, [], ◌∷◌}
+use Rattle.syn_grammar.specs.Words.{Text, w_underscore, w_as, w_async, w_break, w_const, w_continue, w_crate, w_else, w_enum, w_extern, w_false, w_fn, w_for, w_if, w_impl, w_in, w_let, w_loop, w_macro, w_mod, w_mut, w_pub, w_ref, w_return, w_Self_type, w_self, w_static, w_struct, w_super, w_trait, w_true, w_try, w_type, w_unsafe, w_use, w_where, w_while, w_union, w_auto, w_default, w_safe, comma, semicolon, colon, equals, plus, star, less, greater, pound, ampersand, question, exclamation, minus, dot, colons, arrow, equal_equal, not_equals, less_less, less_equals, bar, slash, percent, and_and, or_or, greater_greater, greater_equals, plus_equals, minus_equals, star_equals, slash_equals, percent_equals, caret_equals, ampersand_equals, bar_equals, less_less_equals, greater_greater_equals, dots, ellipsis, caret}
+use Rattle.syn_grammar.specs.Tokens.{Paren, Brace, Bracket, None, Str, ByteStr, CStr, Byte, Char, Int, Float, Fact, Before_equals, Before_end, Before_colons, Before_paren, Before_less, Before_bang, Before_type_rest, Before_own_self, Begins_item, Not_item, Bang_brace, Bang_name, Before_macro, Lone_word, Begins_in, Before_brace, Look, ended, at_name, at_word, at_mark, at_literal, at_group, at_empty_group, ahead, ◌or_else◌, ◌and_also◌, ◌but_not◌, at_lifetime, at_generics, at_path_word}
+use Rattle.syn_grammar.specs.Rules.{Rule, attributes, inner_attributes, meta, unsafe_path, unsafe_word, meta_value, module_path, module_words, visibility, restriction, type_path, type_words, more_type_words, type_arguments, return_type, generic_arguments, generic_argument, qualified_path, path_as_type, type, types, constant, generics, lifetime_parameter, lifetimes, parameter_bounds, bound, trait_bound, bound_lifetimes, lifetime_parameters, where_clause, predicates, predicate, predicate_bounds, fields_named, named_fields, named_field, nameless_fields, unnamed_field, unnamed_fields, fields_unnamed, variant, variants, structure, structure_rest, structure_body, enumeration, enumeration_rest, union_item, union_item_rest, derive_input, expression_path, expression_words, qualified_expression_path, path_as_expression, macro_invocation, pattern, patterns, expressions, array_content, block, body, plain_body, no_inner_attributes, primary, literal_fields, literal_field, block_like, if_expression, loop_expression, postfixes, member, unary, casts, cast, products, product, sums, sum, shifts, shift, bit_ands, bit_and, bit_xors, bit_xor, bit_ors, bit_or, compared, comparison, conjunctions, conjunction, disjunctions, disjunction, assigned, whole_expression, primary_head, unary_head, cast_head, products_head, product_head, sums_head, sum_head, shifts_head, shift_head, bit_ands_head, bit_and_head, bit_xors_head, bit_xor_head, bit_ors_head, bit_or_head, compared_head, comparison_head, conjunctions_head, conjunction_head, disjunctions_head, disjunction_head, assigned_head, whole_expression_head, operand_rest, statements, statement_rest, after_block, after_expression, statement, crate_macro, brace_macro, crate_macro_item, statement_end, local, no_attributes, receiver, receiver_rest, argument, inputs, later_inputs, input_rest, variadic, abi, unsafe_only, safe_or_unsafe, signature, signature_rest, function, function_rest, const_item, const_item_rest, static_item, static_item_rest, extern_crate, extern_crate_rest, use_tree, use_trees, root_mark, rooted_tree, rooted_trees, use_item, use_item_rest, rooted_use, module_item, module_item_rest, alias_bounds, type_bounds, alias, trait_alias, trait_alias_rest, type_item, type_item_rest, macro_end, macro_item, macro_item_rest, macro_as_item, macro_as_item_rest, bodiless_function, untyped_static, valueless_static, odd_const, macro_definition, odd_type, supertraits, bare_trait, trait_definition, trait_definition_rest, const_alias, restricted_trait, self_type, for_self_type, impl_body, impl_definition, impl_definition_rest, odd_impl, visible_const_impl, const_trait, const_impl, odd_const_impl, foreign_module, foreign_module_rest, member_macro, bare_trait_function, bare_trait_type, trait_const, trait_function, trait_type, trait_macro, trait_macro_as_item, any_const, marked_member, odd_trait_const, kept_trait_item, trait_item, trait_items, impl_const, impl_function, impl_type, impl_macro, impl_macro_as_item, bodiless_impl_function, odd_impl_const, odd_impl_type, kept_impl_item, impl_item, impl_items, foreign_signature, bare_foreign_static, foreign_function, foreign_static, foreign_type, foreign_macro, foreign_macro_as_item, foreign_body, foreign_value, odd_foreign_type, kept_foreign_item, foreign_item, foreign_items, kept_item_rest, kept_item, kept_in_block, item_rest, item, items, file}
+use Rattle.syn_grammar.specs.Shape.{Assign, Binary, Block, Break, Call, Cast, Continue, ForLoop, Grouped, If, Index, Lit, Loop, Macro, Path, Reference, Return, Try, Unary, Unsafe, While, operand, bracketed, behind_it, operator, dotted, fields, choice, chain, leading, labelled, attributed, listed, lone, said, said_macro, a_local, an_item, single, untagged, parameters, based}
+use Rattle.syn_grammar.specs.Grammar.{name, word, name_or, literal_of, index, any_literal, trailing_brace, no_trailing_brace, has, has_no, one_where, Grammar, empty, token, lifetime, ◌&◌, when◌then◌else◌, vanishing, inside, raw, rest_after, either, one_of, rule, such, shaped, captured, unshown, supplied, generics_before, ordered}
 use Rattle.syn_grammar.specs.Forms.{plainly, telling, asking, punctuation, asking_punctuation, never, optional}
 
 -- LOOKS: conditions on what stands next
@@ -196,7 +196,7 @@ at_block_like = at_brace or_else at_lifetime or_else at_word w_if or_else at_wor
 abbrev pub at_unfinished : Look
 at_unfinished = at_paren or_else at_bracket or_else at_question or_else at_dot or_else at_mark equal_equal or_else at_mark not_equals or_else at_less or_else at_greater
 
--- `crate` stands next, and `::` doesn't follow it: as a statement it begins an item.
+-- `crate` stands next, and `::` doesn't follow it: as a statement it begins an item, unless it is the path of a macro in braces.
 abbrev pub at_lone_crate : Look
 at_lone_crate = at_word w_crate but_not ahead Before_colons
 
@@ -256,6 +256,85 @@ at_greater_operator = at_mark greater but_not (at_mark greater_equals or_else at
 abbrev pub at_equals_operator : Look
 at_equals_operator = at_mark equals but_not at_mark equal_equal
 
+-- The mark `..` stands next, alone or as the beginning of a longer mark.
+abbrev pub at_dots : Look
+at_dots = at_mark dots
+
+-- LOOKS of items
+
+-- The mark `...` stands next.
+abbrev pub at_ellipsis : Look
+at_ellipsis = at_mark ellipsis
+
+-- `extern` stands next.
+abbrev pub at_extern : Look
+at_extern = at_word w_extern
+
+-- `where` stands next.
+abbrev pub at_where : Look
+at_where = at_word w_where
+
+-- `for` stands next.
+abbrev pub at_for : Look
+at_for = at_word w_for
+
+-- `safe` or `unsafe` stands next.
+abbrev pub at_safety : Look
+at_safety = at_word w_safe or_else at_word w_unsafe
+
+-- `self` stands next, and `::` doesn't follow it.
+abbrev pub at_own_self : Look
+at_own_self = at_word w_self but_not ahead Before_colons
+
+-- A receiver stands next: `&`, `mut` before `self`, or `self`, with no `::` behind the `self`.
+abbrev pub at_receiver : Look
+at_receiver = at_ampersand or_else (at_word w_mut and_also ahead Before_own_self) or_else at_own_self
+
+-- What ends the bounds of a trait alias stands next: `where` or `;`.
+abbrev pub at_alias_bounds_end : Look
+at_alias_bounds_end = at_where or_else at_semicolon
+
+-- What ends the bounds of a type stands next: `where`, `=` or `;`.
+abbrev pub at_type_bounds_end : Look
+at_type_bounds_end = at_where or_else at_equals or_else at_semicolon
+
+-- What ends the bounds of a trait stands next: `where` or a group in braces.
+abbrev pub at_supertraits_end : Look
+at_supertraits_end = at_where or_else at_brace
+
+-- What a macro that defines something may be given as a name stands next: an identifier that isn't a keyword, or `try`.
+abbrev pub at_macro_name : Look
+at_macro_name = at_name or_else at_word w_try
+
+-- A path stands next by which a macro is no item: it begins with `Self`, or with `default` before `::`.
+abbrev pub at_no_macro_item : Look
+at_no_macro_item = at_word w_Self_type or_else (at_word w_default and_also ahead Before_colons)
+
+-- A path stands next by which a macro is no item of a trait: it begins with `Self` or `default`.
+abbrev pub at_no_trait_macro : Look
+at_no_trait_macro = at_word w_Self_type or_else at_word w_default
+
+-- An item stands next in a block, behind its attributes: a word that always begins one; `crate` without `::` behind it, unless it is the
+-- path of a macro in braces; `const` or `unsafe`, unless what follows says otherwise; `static`, `async`, `union`, `auto` or `default`, where
+-- what follows says so; or a macro with a name.
+abbrev pub at_item : Look
+at_item = at_word w_pub or_else at_extern or_else at_word w_use or_else at_word w_fn or_else at_word w_mod or_else at_word w_type or_else at_word w_struct or_else at_word w_enum or_else at_word w_trait or_else at_word w_impl or_else at_word w_macro or_else (at_lone_crate but_not ahead Bang_brace) or_else ((at_word w_const or_else at_word w_unsafe) but_not ahead Not_item) or_else ((at_word w_static or_else at_word w_async or_else at_word w_union or_else at_word w_auto or_else at_word w_default) and_also ahead Begins_item) or_else (at_module_path and_also ahead Bang_name)
+
+-- FACTS that words tell
+
+-- What a word of a path tells of the macro that it may be the path of: what `::` before it asks.
+abbrev pub path_facts : List Fact
+path_facts = Bang_brace ∷ Bang_name ∷ Before_macro ∷ []
+
+-- What the first word of a path in a type tells: what a generic argument, the fields of a field that is named `_`, a visibility and the generics
+-- of an impl ask.
+abbrev pub first_type_facts : List Fact
+first_type_facts = Before_equals ∷ Before_brace ∷ Before_end ∷ Before_type_rest ∷ path_facts
+
+-- What a word of a path in an expression or a pattern tells.
+abbrev pub expression_facts : List Fact
+expression_facts = Begins_item ∷ Before_colons ∷ Before_paren ∷ Before_less ∷ path_facts
+
 -- FORMS that stand in several rules
 
 -- The type of a field that is named `_`: `struct`, or `union` where braces follow it, with fields in braces; or a type.
@@ -281,6 +360,57 @@ no_else = shaped untagged empty
 -- A block as an expression, behind `else` or as a constant: no label stands before it, and no inner attributes stand in it.
 abbrev pub else_block : Grammar
 else_block = shaped (operand Block) ((when at_lifetime then never else empty) & rule plain_body)
+
+-- A word that may begin an item where what follows says so: of its lookahead forms may ask every fact.
+abbrev pub item_word : Text → Grammar
+item_word x = asking (word x)
+
+-- Such a word where it stands next, or nothing.
+abbrev pub optional_item_word : Text → Grammar
+optional_item_word x = when at_word x then item_word x else empty
+
+-- A name or `_`.
+abbrev pub name_or_underscore : Grammar
+name_or_underscore = plainly (name_or (w_underscore ∷ []))
+
+-- The group of a macro.
+abbrev pub macro_group : Grammar
+macro_group = when at_paren then raw Paren else when at_bracket then raw Bracket else raw Brace
+
+-- A value behind `=`, or nothing.
+abbrev pub optional_value : Grammar
+optional_value = when at_equals then punctuation equals & rule whole_expression else empty
+
+-- A type behind `=`, or nothing.
+abbrev pub optional_type : Grammar
+optional_type = when at_equals then punctuation equals & rule type else empty
+
+-- `where` and predicates, which are kept also where they are none.
+abbrev pub kept_where_clause : Grammar
+kept_where_clause = plainly (word w_where) & rule predicates
+
+-- The same where `where` stands next, or nothing.
+abbrev pub optional_where_clause : Grammar
+optional_where_clause = when at_where then kept_where_clause else empty
+
+-- Generics, which are kept also where they are none.
+abbrev pub kept_generics : Grammar
+kept_generics = ordered (rule lifetime_parameter) parameter
+
+-- What follows the name of a constant that is kept as tokens: generics, a type, a value, a where clause and `;`, with generics, with a where
+-- clause or without a value.
+abbrev pub odd_value : Grammar
+odd_value =
+    when at_less then kept_generics & punctuation colon & rule type & optional_value & optional_where_clause & punctuation semicolon
+    else punctuation colon & rule type & (when at_equals then punctuation equals & rule whole_expression & kept_where_clause & punctuation semicolon else optional_where_clause & punctuation semicolon)
+
+-- A type and a where clause behind the bounds of a type that is kept as tokens: the clause stands before `=` or behind the type, and each
+-- may be lacking.
+abbrev pub type_and_clause : Grammar
+type_and_clause =
+    when at_where then kept_where_clause & optional_type
+    else when at_equals then punctuation equals & rule type & optional_where_clause
+    else empty
 
 -- RULES
 
@@ -354,9 +484,15 @@ table type_path =
 -- The words of a path in a type: each an identifier that isn't a keyword, or `Self`, with its arguments where they stand next;
 -- or `self`, `super` or `crate`; and where `::` stands next, that mark and more words.
 table type_words =
-    shaped untagged (when at_named_word then asking (name_or (w_Self_type ∷ [])) & shaped untagged (when at_arguments then rule type_arguments else empty)
-    else asking (name_or (w_self ∷ w_super ∷ w_crate ∷ [])) & no_arguments)
-    & (when at_colons then asking_punctuation colons & rule type_words else empty)
+    shaped untagged (when at_named_word then token first_type_facts (name_or (w_Self_type ∷ [])) & shaped untagged (when at_arguments then rule type_arguments else empty)
+    else token first_type_facts (name_or (w_self ∷ w_super ∷ w_crate ∷ [])) & no_arguments)
+    & (when at_colons then asking_punctuation colons & rule more_type_words else empty)
+--
+-- The words of a path in a type behind `::`, which are read as its first ones.
+table more_type_words =
+    shaped untagged (when at_named_word then token path_facts (name_or (w_Self_type ∷ [])) & shaped untagged (when at_arguments then rule type_arguments else empty)
+    else token path_facts (name_or (w_self ∷ w_super ∷ w_crate ∷ [])) & no_arguments)
+    & (when at_colons then asking_punctuation colons & rule more_type_words else empty)
 --
 -- The arguments of a word in a type's path: types in parentheses and a return type; or generic arguments in `< >`, with `::` before them
 -- or without it. (A path asks for them only where they stand next.)
@@ -382,7 +518,7 @@ table generic_argument =
 -- A qualified path in a type: a type in `< >`, with `as` and a path behind it or without them; then `::` and words.
 -- An `as` that a tree made by hand holds without a path is not printed.
 table qualified_path =
-    punctuation less
+    asking_punctuation less
     & rule type
     & (when at_word w_as then plainly (word w_as) & rule type_path else unshown)
     & punctuation greater
@@ -575,7 +711,7 @@ table union_item =
 -- A union behind its attributes: a visibility, `union`, a name, generics, a where clause, and its fields in braces.
 table union_item_rest =
     rule visibility
-    & plainly (word w_union)
+    & item_word w_union
     & plainly name
     & rule generics
     & rule where_clause
@@ -593,8 +729,8 @@ table expression_path =
 -- The words of a path in an expression or a pattern: each an identifier that isn't a keyword, or `Self`, with its arguments where `::` and
 -- `<` stand next; or `self`, `super` or `crate`; and where `::` stands next, that mark and more words.
 table expression_words =
-    shaped untagged (when at_named_word then asking (name_or (w_Self_type ∷ [])) & shaped untagged (when at_turbofish then rule type_arguments else empty)
-    else asking (name_or (w_self ∷ w_super ∷ w_crate ∷ [])) & no_arguments)
+    shaped untagged (when at_named_word then token expression_facts (name_or (w_Self_type ∷ [])) & shaped untagged (when at_turbofish then rule type_arguments else empty)
+    else token expression_facts (name_or (w_self ∷ w_super ∷ w_crate ∷ [])) & no_arguments)
     & (when at_colons then asking_punctuation colons & rule expression_words else empty)
 --
 -- A qualified path in an expression or a pattern: a type in `< >`, with `as` and a path behind it or without them; then `::` and words.
@@ -616,7 +752,7 @@ table path_as_expression =
 table macro_invocation =
     rule module_path
     & (when at_bang then asking_punctuation exclamation else never)
-    & (when at_paren then raw Paren else when at_bracket then raw Bracket else raw Brace)
+    & macro_group
 --
 -- A pattern: `_`; a tuple or a pattern in parentheses; a path, qualified or not, with patterns in parentheses behind it or without them;
 -- or a name, with `ref` or `mut` or both before it or without them, behind which no `::` stands.
@@ -624,8 +760,8 @@ table pattern =
     when at_word w_underscore then plainly (word w_underscore)
     else when at_paren then inside Paren (rule patterns)
     else when at_pattern_path then rule path_as_expression & (when at_paren then inside Paren (rule patterns) else empty)
-    else when at_binding_word then optional w_ref & optional w_mut & plainly name
-    else asking name & (when at_colons then never else empty)
+    else when at_binding_word then optional w_ref & (when at_word w_mut then telling Before_own_self (word w_mut) else empty) & plainly name
+    else token expression_facts name & (when at_colons then never else empty)
 --
 -- Patterns, separated by commas; the last comma may stand or not.
 table patterns =
@@ -662,7 +798,8 @@ table no_inner_attributes =
 --
 -- An expression without attributes, signs before it and what goes on it: a literal, a macro, a group in parentheses or brackets, an
 -- invisible group that holds an expression, a block or what ends with one, `return` with an expression or without it, `break` or `continue`
--- with a lifetime or without it, or a path. Behind `break` and its lifetime nothing stands that an expression may begin with.
+-- with a lifetime or without it, or a path, with the fields of a struct literal in braces behind it or without them. Behind `break` and its
+-- lifetime nothing stands that an expression may begin with.
 table primary =
     shaped choice (when at_word w_true then shaped (operand Lit) (plainly (word w_true))
     else when at_word w_false then shaped (operand Lit) (plainly (word w_false))
@@ -675,24 +812,39 @@ table primary =
     else when at_word w_return then shaped (operand Return) (plainly (word w_return) & (when at_whole_expression then rule whole_expression else empty))
     else when at_word w_break then shaped (operand Break) (plainly (word w_break) & (when at_lifetime then lifetime else empty) & (when at_whole_expression then never else empty))
     else when at_word w_continue then shaped (operand Continue) (plainly (word w_continue) & (when at_lifetime then lifetime else empty))
-    else shaped (operand Path) (rule path_as_expression))
+    else shaped chain (shaped (operand Path) (rule path_as_expression) & (when at_brace then shaped fields (inside Brace (rule literal_fields)) else empty)))
+--
+-- The fields of a struct literal, separated by commas; the last comma may stand or not. Behind them, or alone, `..` and an expression may
+-- stand, with nothing behind it.
+table literal_fields =
+    shaped based (when ended then empty
+    else when at_dots then punctuation dots & rule whole_expression
+    else rule literal_field & (when at_comma then punctuation comma & rule literal_fields else empty))
+--
+-- A field of a struct literal: attributes; and a number, `:` and an expression, or a name, with `:` and an expression behind it or alone.
+-- An expression behind a name alone that a tree made by hand holds is not printed.
+table literal_field =
+    rule attributes
+    & (when at_literal Int then plainly index & punctuation colon & rule whole_expression
+    else plainly name & (when at_colon then punctuation colon & rule whole_expression else unshown))
 --
 -- A block, or what ends with one: `if`, an `unsafe` block, or a block or a loop with a label or without it.
 table block_like =
     shaped choice (when at_word w_if then rule if_expression
-    else when at_word w_unsafe then shaped (operand Unsafe) (plainly (word w_unsafe) & rule body)
+    else when at_word w_unsafe then shaped (operand Unsafe) (item_word w_unsafe & rule body)
     else shaped labelled ((when at_lifetime then lifetime & punctuation colon else empty) & (when at_brace then shaped (operand Block) (rule body) else rule loop_expression)))
 --
--- `if`: an expression and a block; and behind `else`, where it stands next, a block or another `if`.
+-- `if`: an expression, in which a path takes no braces, and a block; and behind `else`, where it stands next, a block or another `if`.
 table if_expression =
-    shaped (operand If) (plainly (word w_if) & rule whole_expression & rule block
+    shaped (operand If) (plainly (word w_if) & rule whole_expression_head & rule block
     & (when at_word w_else then plainly (word w_else) & (when at_brace then else_block else rule if_expression) else empty))
 --
--- A loop: `loop` and a block; `while`, an expression and a block; or `for`, a pattern, `in`, an expression and a block.
+-- A loop: `loop` and a block; `while`, an expression and a block; or `for`, a pattern, `in`, an expression and a block. In these expressions
+-- a path takes no braces.
 table loop_expression =
     shaped choice (when at_word w_loop then shaped (operand Loop) (plainly (word w_loop) & rule body)
-    else when at_word w_while then shaped (operand While) (plainly (word w_while) & rule whole_expression & rule body)
-    else shaped (operand ForLoop) (plainly (word w_for) & rule pattern & plainly (word w_in) & rule whole_expression & rule body))
+    else when at_word w_while then shaped (operand While) (plainly (word w_while) & rule whole_expression_head & rule body)
+    else shaped (operand ForLoop) (plainly (word w_for) & rule pattern & plainly (word w_in) & rule whole_expression_head & rule body))
 --
 -- What goes on an expression, any number of times: the arguments of a call, an index, `?`, or `.` and a member.
 table postfixes =
@@ -835,6 +987,143 @@ table assigned =
 table whole_expression =
     shaped chain (rule disjunction & rule assigned & (when at_unfinished then never else empty))
 --
+-- The same as `primary`, in the head of an `if`, a `while` or a `for`: there a path takes no braces.
+table primary_head =
+    shaped choice (when at_word w_true then shaped (operand Lit) (plainly (word w_true))
+    else when at_word w_false then shaped (operand Lit) (plainly (word w_false))
+    else when at_any_literal then shaped (operand Lit) (plainly any_literal)
+    else when at_macro then shaped (operand Macro) (rule macro_invocation)
+    else when at_paren then shaped bracketed (inside Paren (rule expressions))
+    else when at_bracket then shaped bracketed (inside Bracket (rule array_content))
+    else when at_invisible then shaped (operand Grouped) (inside None (rule whole_expression))
+    else when at_block_like then rule block_like
+    else when at_word w_return then shaped (operand Return) (plainly (word w_return) & (when at_whole_expression then rule whole_expression_head else empty))
+    else when at_word w_break then shaped (operand Break) (plainly (word w_break) & (when at_lifetime then lifetime else empty) & (when at_whole_expression then never else empty))
+    else when at_word w_continue then shaped (operand Continue) (plainly (word w_continue) & (when at_lifetime then lifetime else empty))
+    else shaped (operand Path) (rule path_as_expression))
+--
+-- The same as `unary`, in the head of an `if`, a `while` or a `for`: there a path takes no braces.
+table unary_head =
+    shaped leading (rule attributes
+    & (when at_minus then shaped (operand Unary) (punctuation minus & rule unary_head)
+    else when at_exclamation then shaped (operand Unary) (punctuation exclamation & rule unary_head)
+    else when at_star then shaped (operand Unary) (punctuation star & rule unary_head)
+    else when at_ampersand then shaped (operand Reference) (punctuation ampersand & optional w_mut & rule unary_head)
+    else shaped chain (rule primary_head & rule postfixes)))
+--
+-- The same as `cast`, in the head of an `if`, a `while` or a `for`: there a path takes no braces.
+table cast_head =
+    shaped chain (rule unary_head & rule casts)
+--
+-- The same as `products`, in the head of an `if`, a `while` or a `for`: there a path takes no braces.
+table products_head =
+    when at_star_operator then shaped (operator Binary) (punctuation star & rule cast_head) & rule products_head
+    else when at_slash_operator then shaped (operator Binary) (punctuation slash & rule cast_head) & rule products_head
+    else when at_percent_operator then shaped (operator Binary) (punctuation percent & rule cast_head) & rule products_head
+    else empty
+--
+-- The same as `product`, in the head of an `if`, a `while` or a `for`: there a path takes no braces.
+table product_head =
+    shaped chain (rule cast_head & rule products_head)
+--
+-- The same as `sums`, in the head of an `if`, a `while` or a `for`: there a path takes no braces.
+table sums_head =
+    when at_plus_operator then shaped (operator Binary) (punctuation plus & rule product_head) & rule sums_head
+    else when at_minus_operator then shaped (operator Binary) (punctuation minus & rule product_head) & rule sums_head
+    else empty
+--
+-- The same as `sum`, in the head of an `if`, a `while` or a `for`: there a path takes no braces.
+table sum_head =
+    shaped chain (rule product_head & rule sums_head)
+--
+-- The same as `shifts`, in the head of an `if`, a `while` or a `for`: there a path takes no braces.
+table shifts_head =
+    when at_less_less_operator then shaped (operator Binary) (punctuation less_less & rule sum_head) & rule shifts_head
+    else when at_greater_greater_operator then shaped (operator Binary) (punctuation greater_greater & rule sum_head) & rule shifts_head
+    else empty
+--
+-- The same as `shift`, in the head of an `if`, a `while` or a `for`: there a path takes no braces.
+table shift_head =
+    shaped chain (rule sum_head & rule shifts_head)
+--
+-- The same as `bit_ands`, in the head of an `if`, a `while` or a `for`: there a path takes no braces.
+table bit_ands_head =
+    when at_ampersand_operator then shaped (operator Binary) (punctuation ampersand & rule shift_head) & rule bit_ands_head
+    else empty
+--
+-- The same as `bit_and`, in the head of an `if`, a `while` or a `for`: there a path takes no braces.
+table bit_and_head =
+    shaped chain (rule shift_head & rule bit_ands_head)
+--
+-- The same as `bit_xors`, in the head of an `if`, a `while` or a `for`: there a path takes no braces.
+table bit_xors_head =
+    when at_caret_operator then shaped (operator Binary) (punctuation caret & rule bit_and_head) & rule bit_xors_head
+    else empty
+--
+-- The same as `bit_xor`, in the head of an `if`, a `while` or a `for`: there a path takes no braces.
+table bit_xor_head =
+    shaped chain (rule bit_and_head & rule bit_xors_head)
+--
+-- The same as `bit_ors`, in the head of an `if`, a `while` or a `for`: there a path takes no braces.
+table bit_ors_head =
+    when at_bar_operator then shaped (operator Binary) (punctuation bar & rule bit_xor_head) & rule bit_ors_head
+    else empty
+--
+-- The same as `bit_or`, in the head of an `if`, a `while` or a `for`: there a path takes no braces.
+table bit_or_head =
+    shaped chain (rule bit_xor_head & rule bit_ors_head)
+--
+-- The same as `compared`, in the head of an `if`, a `while` or a `for`: there a path takes no braces.
+table compared_head =
+    when at_mark equal_equal then shaped (operator Binary) (punctuation equal_equal & rule bit_or_head)
+    else when at_mark not_equals then shaped (operator Binary) (punctuation not_equals & rule bit_or_head)
+    else when at_less_operator then shaped (operator Binary) (punctuation less & rule bit_or_head)
+    else when at_greater_operator then shaped (operator Binary) (punctuation greater & rule bit_or_head)
+    else when at_mark less_equals then shaped (operator Binary) (punctuation less_equals & rule bit_or_head)
+    else when at_mark greater_equals then shaped (operator Binary) (punctuation greater_equals & rule bit_or_head)
+    else empty
+--
+-- The same as `comparison`, in the head of an `if`, a `while` or a `for`: there a path takes no braces.
+table comparison_head =
+    shaped chain (rule bit_or_head & rule compared_head)
+--
+-- The same as `conjunctions`, in the head of an `if`, a `while` or a `for`: there a path takes no braces.
+table conjunctions_head =
+    when at_mark and_and then shaped (operator Binary) (punctuation and_and & rule comparison_head) & rule conjunctions_head
+    else empty
+--
+-- The same as `conjunction`, in the head of an `if`, a `while` or a `for`: there a path takes no braces.
+table conjunction_head =
+    shaped chain (rule comparison_head & rule conjunctions_head)
+--
+-- The same as `disjunctions`, in the head of an `if`, a `while` or a `for`: there a path takes no braces.
+table disjunctions_head =
+    when at_mark or_or then shaped (operator Binary) (punctuation or_or & rule conjunction_head) & rule disjunctions_head
+    else empty
+--
+-- The same as `disjunction`, in the head of an `if`, a `while` or a `for`: there a path takes no braces.
+table disjunction_head =
+    shaped chain (rule conjunction_head & rule disjunctions_head)
+--
+-- The same as `assigned`, in the head of an `if`, a `while` or a `for`: there a path takes no braces.
+table assigned_head =
+    when at_equals_operator then shaped (operator Assign) (punctuation equals & rule whole_expression_head)
+    else when at_mark plus_equals then shaped (operator Binary) (punctuation plus_equals & rule whole_expression_head)
+    else when at_mark minus_equals then shaped (operator Binary) (punctuation minus_equals & rule whole_expression_head)
+    else when at_mark star_equals then shaped (operator Binary) (punctuation star_equals & rule whole_expression_head)
+    else when at_mark slash_equals then shaped (operator Binary) (punctuation slash_equals & rule whole_expression_head)
+    else when at_mark percent_equals then shaped (operator Binary) (punctuation percent_equals & rule whole_expression_head)
+    else when at_mark caret_equals then shaped (operator Binary) (punctuation caret_equals & rule whole_expression_head)
+    else when at_mark ampersand_equals then shaped (operator Binary) (punctuation ampersand_equals & rule whole_expression_head)
+    else when at_mark bar_equals then shaped (operator Binary) (punctuation bar_equals & rule whole_expression_head)
+    else when at_mark less_less_equals then shaped (operator Binary) (punctuation less_less_equals & rule whole_expression_head)
+    else when at_mark greater_greater_equals then shaped (operator Binary) (punctuation greater_greater_equals & rule whole_expression_head)
+    else empty
+--
+-- The same as `whole_expression`, in the head of an `if`, a `while` or a `for`: there a path takes no braces.
+table whole_expression_head =
+    shaped chain (rule disjunction_head & rule assigned_head & (when at_unfinished then never else empty))
+--
 -- What may follow the first operand of a statement that begins with a block or a macro in braces: postfixes, casts and operators of each
 -- level.
 table operand_rest =
@@ -851,19 +1140,19 @@ table operand_rest =
     & rule disjunctions
     & rule assigned
 --
--- Statements to the end: none; `;` alone and more; or one, its attributes first, and more.
+-- Statements to the end: none; `;` alone and more; or one, its attributes first, and more. An item that is kept as tokens is kept with its
+-- attributes.
 table statements =
     when ended then empty
     else shaped choice (when at_semicolon then shaped lone (punctuation semicolon & rule statements)
-    else shaped listed (rule attributes & rule statement_rest))
+    else shaped listed (either (shaped an_item (rule kept_in_block) & rule statements) (rule attributes & (when at_item then shaped an_item (rule item_rest & rule statements) else rule statement_rest))))
 --
--- A statement behind its attributes, and the statements that follow: a macro in braces, a local, a block or what ends with one, or an
--- expression. What begins an item is refused, as long as none are read.
+-- A statement that is no item, behind its attributes, and the statements that follow: a macro in braces, a local, a block or what ends with
+-- one, or an expression.
 table statement_rest =
     when at_crate_macro then shaped said_macro (shaped (operand Macro) (rule macro_invocation) & (when at_postfix_mark then never else rule after_block))
     else when at_brace_macro then shaped said_macro (shaped (operand Macro) (rule macro_invocation) & rule after_block)
     else when at_word w_let then shaped a_local (rule local & rule statements)
-    else when at_lone_crate then never
     else when at_block_like then shaped said (rule block_like & rule after_block)
     else shaped said (rule whole_expression & rule after_expression)
 --
@@ -879,16 +1168,32 @@ table after_expression =
     else when ended then empty
     else never
 --
--- A statement alone: attributes; and a macro in braces, a block or what ends with one, with `;` or without it; one of these that goes on, or
--- another expression, with `;`; or a local. What begins an item is refused, as long as none are read.
+-- A statement alone: an item, which is kept as tokens with its attributes, or is of a kind; or attributes, and a macro in braces, a block or
+-- what ends with one, with `;` or without it; one of these that goes on, or another expression, with `;`; or a local.
 table statement =
-    shaped attributed (rule attributes
-    & (when at_crate_macro then shaped said_macro (shaped (operand Macro) (rule macro_invocation) & (when at_postfix_mark then never else rule statement_end))
+    shaped single (either (shaped an_item (rule kept_in_block)) (shaped attributed (rule attributes
+    & (when at_item then shaped an_item (rule item_rest)
+    else when at_crate_macro then rule crate_macro
     else when at_brace_macro then shaped said_macro (shaped (operand Macro) (rule macro_invocation) & rule statement_end)
     else when at_word w_let then shaped a_local (rule local)
-    else when at_lone_crate then never
     else when at_block_like then shaped said (rule block_like & rule statement_end)
-    else shaped said (rule whole_expression & punctuation semicolon)))
+    else shaped said (rule whole_expression & punctuation semicolon)))))
+--
+-- A macro of `crate` with a group in braces, as a statement alone: a macro, with `;` or without it; but where what goes on an expression
+-- stands next, an item, and that is left.
+table crate_macro =
+    shaped choice (either (shaped an_item (rule crate_macro_item & (when at_postfix_mark then empty else never)))
+    (shaped said_macro (shaped (operand Macro) (rule brace_macro) & (when at_postfix_mark then never else rule statement_end))))
+--
+-- A macro with a group in braces.
+table brace_macro =
+    rule module_path
+    & (when at_bang then asking_punctuation exclamation else never)
+    & (when at_paren then never else when at_bracket then never else raw Brace)
+--
+-- The same as an item. (A statement asks for it only behind its attributes, at `crate`.)
+table crate_macro_item =
+    one_of (macro_as_item_rest ∷ [])
 --
 -- What follows a block or a macro in braces, in a statement alone: `;`; what goes on it, and `;`; or nothing.
 table statement_end =
@@ -903,3 +1208,757 @@ table local =
     & (rule pattern & (when at_colon then punctuation colon & rule type else empty))
     & (when at_equals then punctuation equals & shaped untagged (either (such trailing_brace (rule whole_expression) & no_else) (such no_trailing_brace (rule whole_expression) & shaped untagged (when at_word w_else then plainly (word w_else) & else_block else empty))) else empty)
     & punctuation semicolon
+--
+-- No attributes: `#` must not stand next. Attributes that a tree made by hand holds are printed.
+table no_attributes =
+    when at_pound then never
+    else unshown
+--
+-- A receiver alone, before which no attributes are read.
+table receiver =
+    rule no_attributes
+    & rule receiver_rest
+--
+-- A receiver behind its attributes: `&`, perhaps with a lifetime and `mut`, and `self`; or `self`, perhaps with `mut` before it and a type
+-- behind a colon. No `::` follows the `self`. Behind `&` a second `mut` that a tree made by hand holds is not printed.
+table receiver_rest =
+    when at_ampersand then punctuation ampersand & (when at_lifetime then lifetime else empty) & optional w_mut & unshown & plainly (word w_self) & (when at_colons then never else empty)
+    else (when at_word w_mut then telling Before_own_self (word w_mut) else empty)
+    & telling Before_colons (word w_self)
+    & (when at_colons then never else when at_colon then punctuation colon & rule type else empty)
+--
+-- A parameter of a function: attributes, and a receiver; or a pattern, a colon and a type. Where a name stands before `<`, the type stands
+-- alone, and `_ :` before it counts as read.
+table argument =
+    rule attributes
+    & (when at_receiver then rule receiver_rest else supplied Before_less (rule pattern) (rule type))
+--
+-- The parameters of a function, separated by commas; the last comma may stand or not. A receiver stands first only.
+table inputs =
+    shaped parameters (when ended then empty
+    else rule attributes
+    & (when at_receiver then rule receiver_rest & (when at_comma then punctuation comma & rule later_inputs else empty) else rule input_rest))
+--
+-- The parameters behind the first, of which none is a receiver.
+table later_inputs =
+    shaped parameters (when ended then empty
+    else rule attributes
+    & (when at_receiver then never else rule input_rest))
+--
+-- A parameter that is no receiver, behind its attributes, and those that follow: a variadic one, with a pattern and a colon before it or
+-- without them; or a pattern, a colon and a type, and behind a comma the others. Where a name stands before `<`, the type stands alone, and
+-- `_ :` before it counts as read.
+table input_rest =
+    when at_ellipsis then rule variadic
+    else supplied Before_less (rule pattern) (when at_ellipsis then rule variadic else rule type & (when at_comma then punctuation comma & rule later_inputs else empty))
+--
+-- `...`, and perhaps a comma, and nothing behind them.
+table variadic =
+    punctuation ellipsis
+    & (when at_comma then punctuation comma else empty)
+    & (when ended then empty else never)
+--
+-- An ABI: `extern`, with a string behind it or without one.
+table abi =
+    plainly (word w_extern)
+    & (when at_literal Str then plainly (literal_of (Str ∷ [])) else empty)
+--
+-- `unsafe` where it stands next, or nothing.
+table unsafe_only =
+    when at_word w_unsafe then shaped untagged (item_word w_unsafe) else empty
+--
+-- `safe` or `unsafe` where it stands next, or nothing.
+table safe_or_unsafe =
+    when at_safety then shaped untagged (when at_word w_safe then plainly (word w_safe) else plainly (word w_unsafe)) else empty
+--
+-- A signature: `const`, `async`, `unsafe` and an ABI, each of them or not, and what begins with `fn`.
+table signature =
+    optional_item_word w_const
+    & optional_item_word w_async
+    & rule unsafe_only
+    & (when at_extern then rule abi else empty)
+    & rule signature_rest
+--
+-- What follows a signature's modifiers: `fn`, a name, generics, parameters in parentheses, a return type and a where clause.
+table signature_rest =
+    plainly (word w_fn)
+    & plainly name
+    & rule generics
+    & inside Paren (rule inputs)
+    & rule return_type
+    & rule where_clause
+--
+-- A function: attributes, and what stands behind them.
+table function =
+    rule attributes
+    & rule function_rest
+--
+-- A function behind its attributes: a visibility, a signature and a body. Modifiers that a tree made by hand holds are not printed.
+table function_rest =
+    rule visibility
+    & unshown
+    & rule signature
+    & rule body
+--
+-- A constant: attributes, and what stands behind them.
+table const_item =
+    rule attributes
+    & rule const_item_rest
+--
+-- A constant behind its attributes: a visibility, `const`, a name or `_`, a type, a value and `;`. Modifiers and generics that a tree made by
+-- hand holds are not printed.
+table const_item_rest =
+    rule visibility
+    & unshown
+    & item_word w_const
+    & name_or_underscore
+    & unshown
+    & punctuation colon
+    & rule type
+    & punctuation equals
+    & rule whole_expression
+    & punctuation semicolon
+--
+-- A static: attributes, and what stands behind them.
+table static_item =
+    rule attributes
+    & rule static_item_rest
+--
+-- A static behind its attributes: a visibility, `static`, perhaps `mut`, a name, a type, a value and `;`.
+table static_item_rest =
+    rule visibility
+    & item_word w_static
+    & optional w_mut
+    & plainly name
+    & punctuation colon
+    & rule type
+    & punctuation equals
+    & rule whole_expression
+    & punctuation semicolon
+--
+-- An extern crate: attributes, and what stands behind them.
+table extern_crate =
+    rule attributes
+    & rule extern_crate_rest
+--
+-- An extern crate behind its attributes: a visibility, `extern crate`, a name or `self`, perhaps `as` and a name or `_`, and `;`.
+table extern_crate_rest =
+    rule visibility
+    & plainly (word w_extern)
+    & plainly (word w_crate)
+    & plainly (name_or (w_self ∷ []))
+    & (when at_word w_as then plainly (word w_as) & name_or_underscore else empty)
+    & punctuation semicolon
+--
+-- A tree of a use: `*`; trees in braces; or a name, `self`, `super`, `crate` or `try`, with `::` and a tree behind it, with `as` and a name or
+-- `_`, or alone.
+table use_tree =
+    when at_star then punctuation star
+    else when at_brace then inside Brace (rule use_trees)
+    else plainly (name_or (w_self ∷ w_super ∷ w_crate ∷ w_try ∷ []))
+    & (when at_colons then punctuation colons & rule use_tree else when at_word w_as then plainly (word w_as) & name_or_underscore else empty)
+--
+-- Trees of a use, separated by commas; the last comma may stand or not.
+table use_trees =
+    when ended then empty
+    else rule use_tree & (when at_comma then punctuation comma & rule use_trees else empty)
+--
+-- The mark `::` before a tree of a use in braces.
+table root_mark =
+    punctuation colons
+--
+-- A tree of a use in braces that stand behind `use` itself, or as a tree in such braces: with `::` before it or without it.
+table rooted_tree =
+    when at_colons then one_of (root_mark ∷ []) & rule use_tree
+    else when at_brace then inside Brace (rule rooted_trees)
+    else rule use_tree
+--
+-- Such trees, separated by commas; the last comma may stand or not.
+table rooted_trees =
+    when ended then empty
+    else rule rooted_tree & (when at_comma then punctuation comma & rule rooted_trees else empty)
+--
+-- A use: attributes, and what stands behind them.
+table use_item =
+    rule attributes
+    & rule use_item_rest
+--
+-- A use behind its attributes: a visibility, `use`, trees in braces of which none has `::` before it, or a tree with `::` before it or without
+-- it, and `;`.
+table use_item_rest =
+    rule visibility
+    & plainly (word w_use)
+    & (when at_brace then such (has_no root_mark) (inside Brace (rule rooted_trees)) else (when at_colons then punctuation colons else empty) & rule use_tree)
+    & punctuation semicolon
+--
+-- A use that is kept as tokens, behind its attributes: with trees in braces of which one has `::` before it.
+table rooted_use =
+    rule visibility
+    & plainly (word w_use)
+    & (when at_brace then such (has root_mark) (inside Brace (rule rooted_trees)) else never)
+    & punctuation semicolon
+--
+-- A module: attributes, and what stands behind them.
+table module_item =
+    rule attributes
+    & rule module_item_rest
+--
+-- A module behind its attributes: a visibility, perhaps `unsafe`, `mod`, a name or `try`, and `;` or inner attributes and items in braces.
+-- A semicolon with the braces that a tree made by hand holds is not printed.
+table module_item_rest =
+    rule visibility
+    & optional_item_word w_unsafe
+    & plainly (word w_mod)
+    & plainly (name_or (w_try ∷ []))
+    & (when at_semicolon then punctuation semicolon else unshown & inside Brace (rule inner_attributes & rule items))
+--
+-- The bounds of a trait alias, joined by `+`, up to what ends them at the start or behind a `+`; they may be none, and may end with `+`.
+table alias_bounds =
+    when at_alias_bounds_end then empty
+    else rule bound & (when at_plus then punctuation plus & rule alias_bounds else empty)
+--
+-- The bounds of a type, joined by `+`, up to what ends them at the start or behind a `+`; they may be none, and may end with `+`.
+table type_bounds =
+    when at_type_bounds_end then empty
+    else rule bound & (when at_plus then punctuation plus & rule type_bounds else empty)
+--
+-- A trait alias without attributes and visibility: `trait`, a name, generics, `=`, bounds, a where clause and `;`.
+table alias =
+    plainly (word w_trait)
+    & plainly name
+    & rule generics
+    & punctuation equals
+    & rule alias_bounds
+    & rule where_clause
+    & punctuation semicolon
+--
+-- A trait alias: attributes, and what stands behind them.
+table trait_alias =
+    rule attributes
+    & rule trait_alias_rest
+--
+-- A trait alias behind its attributes: a visibility, and the alias.
+table trait_alias_rest =
+    rule visibility
+    & rule alias
+--
+-- A type alias: attributes, and what stands behind them.
+table type_item =
+    rule attributes
+    & rule type_item_rest
+--
+-- A type alias behind its attributes: a visibility, `type`, a name, generics, `=` and a type with a where clause before the `=` or behind the
+-- type, and `;`. Modifiers, and the place of a clause without predicates, that a tree made by hand holds are not printed.
+table type_item_rest =
+    rule visibility
+    & unshown
+    & plainly (word w_type)
+    & plainly name
+    & rule generics
+    & unshown
+    & such one_where (rule where_clause & punctuation equals & rule type & rule where_clause)
+    & punctuation semicolon
+--
+-- What ends a macro that stands as an item: a group in braces, or one in parentheses or brackets and `;`.
+table macro_end =
+    when at_paren then raw Paren & punctuation semicolon
+    else when at_bracket then raw Bracket & punctuation semicolon
+    else raw Brace
+--
+-- A macro as an item, of any path: attributes, and what stands behind them.
+table macro_item =
+    rule attributes
+    & rule macro_item_rest
+--
+-- A macro as an item, behind its attributes: a path in module style, `!` that isn't `!=`, perhaps a name or `try`, and a group of any content,
+-- behind which `;` stands unless it is in braces.
+table macro_item_rest =
+    rule module_path
+    & (when at_bang then asking_punctuation exclamation else never)
+    & (when at_macro_name then plainly (name_or (w_try ∷ [])) else empty)
+    & rule macro_end
+--
+-- A macro among items: attributes, and what stands behind them.
+table macro_as_item =
+    rule attributes
+    & rule macro_as_item_rest
+--
+-- A macro among items, behind its attributes: its path begins neither with `Self`, nor with `default` before `::`.
+table macro_as_item_rest =
+    when at_no_macro_item then never
+    else rule macro_item_rest
+--
+-- A function without a body, which is kept as tokens, behind its attributes: a visibility, a signature and `;`.
+table bodiless_function =
+    rule visibility
+    & rule signature
+    & punctuation semicolon
+--
+-- A static without a type, which is kept as tokens, behind its attributes.
+table untyped_static =
+    rule visibility
+    & item_word w_static
+    & optional w_mut
+    & plainly name
+    & punctuation equals
+    & rule whole_expression
+    & punctuation semicolon
+--
+-- A static without a value, which is kept as tokens, behind its attributes.
+table valueless_static =
+    rule visibility
+    & item_word w_static
+    & optional w_mut
+    & plainly name
+    & punctuation colon
+    & rule type
+    & punctuation semicolon
+--
+-- A constant with generics, with a where clause or without a value, which is kept as tokens, behind its attributes.
+table odd_const =
+    rule visibility
+    & item_word w_const
+    & name_or_underscore
+    & odd_value
+--
+-- A definition by `macro`, which is kept as tokens, behind its attributes: a visibility, `macro`, a name, perhaps parentheses, and braces, both
+-- of any content.
+table macro_definition =
+    rule visibility
+    & plainly (word w_macro)
+    & plainly name
+    & (when at_paren then raw Paren else empty)
+    & raw Brace
+--
+-- A type alias with bounds or without a type, which is kept as tokens, behind its attributes.
+table odd_type =
+    rule visibility
+    & plainly (word w_type)
+    & plainly name
+    & rule generics
+    & (when at_colon then punctuation colon & rule type_bounds & type_and_clause else optional_where_clause)
+    & punctuation semicolon
+--
+-- The bounds of a trait, joined by `+`, up to what ends them at the start or behind a `+`; they may be none, and may end with `+`.
+table supertraits =
+    when at_supertraits_end then empty
+    else rule bound & (when at_plus then punctuation plus & rule supertraits else empty)
+--
+-- A trait without what stands before `unsafe`: perhaps `unsafe`, perhaps `auto`, `trait`, a name, generics, bounds behind a colon, a where
+-- clause, and inner attributes and members in braces. Without bounds the colon isn't printed.
+table bare_trait =
+    optional_item_word w_unsafe
+    & optional_item_word w_auto
+    & plainly (word w_trait)
+    & plainly name
+    & rule generics
+    & vanishing false at_colon (punctuation colon & rule supertraits)
+    & rule where_clause
+    & inside Brace (rule inner_attributes & rule trait_items)
+--
+-- A trait: attributes, and what stands behind them.
+table trait_definition =
+    rule attributes
+    & rule trait_definition_rest
+--
+-- A trait behind its attributes: a visibility, perhaps `const`, and the trait.
+table trait_definition_rest =
+    rule visibility
+    & optional_item_word w_const
+    & rule bare_trait
+--
+-- A trait alias with `const`, which is kept as tokens, behind its attributes: a visibility, `const`, and the alias.
+table const_alias =
+    rule visibility
+    & item_word w_const
+    & rule alias
+--
+-- A trait with a restriction, which is kept as tokens, behind its attributes: a visibility, `impl`, the restriction in parentheses, perhaps
+-- `const`, and the trait.
+table restricted_trait =
+    rule visibility
+    & plainly (word w_impl)
+    & (when at_restriction then inside Paren (rule restriction) else never)
+    & optional w_const
+    & rule bare_trait
+--
+-- The self type of an impl behind `for`. (Where it would be read as generics, empty generics of the impl are printed.)
+table self_type =
+    rule type
+--
+-- `for` and the self type.
+table for_self_type =
+    plainly (word w_for)
+    & one_of (self_type ∷ [])
+--
+-- What ends an impl: a where clause, and inner attributes and members in braces.
+table impl_body =
+    rule where_clause
+    & inside Brace (rule inner_attributes & rule impl_items)
+--
+-- An impl: attributes, and what stands behind them.
+table impl_definition =
+    rule attributes
+    & rule impl_definition_rest
+--
+-- An impl behind its attributes: perhaps `default`, perhaps `const`, perhaps `unsafe`, `impl` and generics; the never type, `!` and a path
+-- with `for` and a type, a path with `for` and a type or alone, or a type that is no plain path; and what ends it.
+table impl_definition_rest =
+    optional_item_word w_default
+    & optional_item_word w_const
+    & optional_item_word w_unsafe
+    & plainly (word w_impl)
+    & generics_before (rule lifetime_parameter) parameter
+    (when at_exclamation then punctuation exclamation & (when at_brace then rule impl_body else rule type_path & rule for_self_type & rule impl_body)
+    else when at_module_path then rule type_path & (when at_for then rule for_self_type else empty) & rule impl_body
+    else rule type & rule impl_body)
+--
+-- An impl for a type whose first type is no plain path, behind its attributes. It is kept as tokens by itself: printed anew, its first type
+-- might be read as generics.
+table odd_impl =
+    captured (optional_item_word w_default
+    & optional w_const
+    & optional_item_word w_unsafe
+    & plainly (word w_impl)
+    & (when at_generics then kept_generics else empty)
+    & (when at_exclamation then punctuation exclamation & (when at_brace then never else when at_module_path then never else rule type & rule for_self_type & rule impl_body)
+    else when at_module_path then never
+    else rule type & rule for_self_type & rule impl_body))
+--
+-- An impl with a visibility and `const`, behind its attributes, with any first type. It is kept as tokens by itself, as another.
+table visible_const_impl =
+    captured (plainly (word w_pub)
+    & (when at_restriction then inside Paren (rule restriction) else empty)
+    & item_word w_const
+    & optional w_unsafe
+    & plainly (word w_impl)
+    & (when at_generics then kept_generics else empty)
+    & (when at_exclamation then punctuation exclamation & (when at_brace then rule impl_body else rule type & rule for_self_type & rule impl_body)
+    else rule type & (when at_for then rule for_self_type else empty) & rule impl_body))
+--
+-- The name of a form that only the grammar before has (specs/Before.antt): a trait with `const`.
+table const_trait =
+    never
+--
+-- Another of these: an impl with `const` and no visibility.
+table const_impl =
+    never
+--
+-- Another of these: an impl with `const` and no visibility for a type whose first type is no plain path.
+table odd_const_impl =
+    never
+--
+-- A foreign module: attributes, and what stands behind them.
+table foreign_module =
+    rule attributes
+    & rule foreign_module_rest
+--
+-- A foreign module behind its attributes: perhaps `unsafe`, an ABI, and inner attributes and members in braces.
+table foreign_module_rest =
+    optional_item_word w_unsafe
+    & rule abi
+    & inside Brace (rule inner_attributes & rule foreign_items)
+--
+-- A macro as a member of a trait, an impl or a foreign module, behind its attributes: a path in module style, `!` that isn't `!=`, and a group
+-- of any content, behind which `;` stands unless it is in braces.
+table member_macro =
+    rule module_path
+    & (when at_bang then asking_punctuation exclamation else never)
+    & rule macro_end
+--
+-- A function of a trait behind its attributes: a signature, and `;` or a body. Modifiers, and a semicolon with the body, that a tree made by
+-- hand holds are not printed.
+table bare_trait_function =
+    unshown
+    & rule signature
+    & (when at_semicolon then punctuation semicolon else unshown & rule body)
+--
+-- A type of a trait behind its attributes: `type`, a name, generics, bounds behind a colon, perhaps a type behind `=`, a where clause and `;`.
+-- Without bounds the colon isn't printed. Modifiers that a tree made by hand holds are not printed.
+table bare_trait_type =
+    unshown
+    & plainly (word w_type)
+    & plainly name
+    & rule generics
+    & vanishing false at_colon (punctuation colon & rule type_bounds)
+    & optional_type
+    & rule where_clause
+    & punctuation semicolon
+--
+-- A constant of a trait: attributes, `const`, a name or `_`, a type, perhaps a value, and `;`. Modifiers and generics that a tree made by hand
+-- holds are not printed.
+table trait_const =
+    rule attributes
+    & unshown
+    & plainly (word w_const)
+    & name_or_underscore
+    & unshown
+    & punctuation colon
+    & rule type
+    & optional_value
+    & punctuation semicolon
+--
+-- A function of a trait, with its attributes.
+table trait_function =
+    rule attributes
+    & rule bare_trait_function
+--
+-- A type of a trait, with its attributes.
+table trait_type =
+    rule attributes
+    & rule bare_trait_type
+--
+-- A macro as a member of a trait, of any path: attributes and the macro.
+table trait_macro =
+    rule attributes
+    & rule member_macro
+--
+-- A macro among the members of a trait: its path begins neither with `Self` nor with `default`.
+table trait_macro_as_item =
+    rule attributes
+    & (when at_no_trait_macro then never else rule member_macro)
+--
+-- A constant with all that may stand in one: `const`, a name or `_`, perhaps generics, a type, perhaps a value and a where clause, and `;`.
+table any_const =
+    plainly (word w_const)
+    & name_or_underscore
+    & (when at_less then kept_generics else empty)
+    & punctuation colon
+    & rule type
+    & optional_value
+    & optional_where_clause
+    & punctuation semicolon
+--
+-- A member of a trait with a visibility or `default` before it, which is kept as tokens, behind its attributes: a function, a type or a
+-- constant.
+table marked_member =
+    when at_word w_pub then rule visibility & optional w_default & one_of (bare_trait_function ∷ bare_trait_type ∷ any_const ∷ [])
+    else rule visibility & plainly (word w_default) & one_of (bare_trait_function ∷ bare_trait_type ∷ any_const ∷ [])
+--
+-- A constant of a trait with generics or with a where clause, which is kept as tokens, behind its attributes.
+table odd_trait_const =
+    (when at_word w_pub then never else rule visibility)
+    & plainly (word w_const)
+    & name_or_underscore
+    & (when at_less then kept_generics & punctuation colon & rule type & optional_value & optional_where_clause & punctuation semicolon
+    else punctuation colon & rule type & optional_value & kept_where_clause & punctuation semicolon)
+--
+-- A member of a trait that is kept as tokens: attributes, and one of the forms that have no kind of their own.
+table kept_trait_item =
+    captured (rule attributes & one_of (marked_member ∷ odd_trait_const ∷ []))
+--
+-- A member of a trait: one of its kinds, or one that is kept as tokens.
+table trait_item =
+    one_of (trait_const ∷ trait_function ∷ trait_type ∷ trait_macro_as_item ∷ kept_trait_item ∷ [])
+--
+-- Members of a trait, to the end.
+table trait_items =
+    when ended then empty
+    else rule trait_item & rule trait_items
+--
+-- A constant of an impl: attributes, a visibility, perhaps `default`, `const`, a name or `_`, a type, a value and `;`. Generics that a tree made
+-- by hand holds are not printed.
+table impl_const =
+    rule attributes
+    & rule visibility
+    & optional w_default
+    & plainly (word w_const)
+    & name_or_underscore
+    & unshown
+    & punctuation colon
+    & rule type
+    & punctuation equals
+    & rule whole_expression
+    & punctuation semicolon
+--
+-- A function of an impl: attributes, a visibility, perhaps `default`, a signature and a body.
+table impl_function =
+    rule attributes
+    & rule visibility
+    & optional w_default
+    & rule signature
+    & rule body
+--
+-- A type of an impl: attributes, a visibility, perhaps `default`, `type`, a name, generics, `=`, a type, a where clause and `;`.
+table impl_type =
+    rule attributes
+    & rule visibility
+    & optional w_default
+    & plainly (word w_type)
+    & plainly name
+    & rule generics
+    & punctuation equals
+    & rule type
+    & rule where_clause
+    & punctuation semicolon
+--
+-- A macro as a member of an impl, of any path: attributes and the macro.
+table impl_macro =
+    rule attributes
+    & rule member_macro
+--
+-- A macro among the members of an impl: its path begins neither with `Self`, nor with `default` before `::`.
+table impl_macro_as_item =
+    rule attributes
+    & (when at_no_macro_item then never else rule member_macro)
+--
+-- A function of an impl without a body, which is kept as tokens, behind its attributes.
+table bodiless_impl_function =
+    rule visibility
+    & optional w_default
+    & rule signature
+    & punctuation semicolon
+--
+-- A constant of an impl with generics, with a where clause or without a value, which is kept as tokens, behind its attributes.
+table odd_impl_const =
+    rule visibility
+    & optional w_default
+    & plainly (word w_const)
+    & name_or_underscore
+    & odd_value
+--
+-- A type of an impl with bounds or without a type, which is kept as tokens, behind its attributes.
+table odd_impl_type =
+    rule visibility
+    & optional w_default
+    & plainly (word w_type)
+    & plainly name
+    & rule generics
+    & (when at_colon then punctuation colon & rule type_bounds & optional_type & optional_where_clause & punctuation semicolon
+    else optional_where_clause & punctuation semicolon)
+--
+-- A member of an impl that is kept as tokens: attributes, and one of the forms that have no kind of their own.
+table kept_impl_item =
+    captured (rule attributes & one_of (bodiless_impl_function ∷ odd_impl_const ∷ odd_impl_type ∷ []))
+--
+-- A member of an impl: one of its kinds, or one that is kept as tokens.
+table impl_item =
+    one_of (impl_const ∷ impl_function ∷ impl_type ∷ impl_macro_as_item ∷ kept_impl_item ∷ [])
+--
+-- Members of an impl, to the end.
+table impl_items =
+    when ended then empty
+    else rule impl_item & rule impl_items
+--
+-- A foreign signature: `const`, `async`, `safe` or `unsafe`, and an ABI, each of them or not, and what begins with `fn`.
+table foreign_signature =
+    optional w_const
+    & optional w_async
+    & rule safe_or_unsafe
+    & (when at_extern then rule abi else empty)
+    & rule signature_rest
+--
+-- A foreign static without its value and `;`: perhaps `safe` or `unsafe`, `static`, perhaps `mut`, a name and a type.
+table bare_foreign_static =
+    rule safe_or_unsafe
+    & plainly (word w_static)
+    & optional w_mut
+    & plainly name
+    & punctuation colon
+    & rule type
+--
+-- A foreign function: attributes, a visibility, a foreign signature and `;`. Modifiers that a tree made by hand holds are not printed.
+table foreign_function =
+    rule attributes
+    & rule visibility
+    & unshown
+    & rule foreign_signature
+    & punctuation semicolon
+--
+-- A foreign static: attributes, a visibility, the static and `;`.
+table foreign_static =
+    rule attributes
+    & rule visibility
+    & rule bare_foreign_static
+    & punctuation semicolon
+--
+-- A foreign type: attributes, a visibility, `type`, a name, generics, a where clause and `;`. Modifiers that a tree made by hand holds are not
+-- printed.
+table foreign_type =
+    rule attributes
+    & rule visibility
+    & unshown
+    & plainly (word w_type)
+    & plainly name
+    & rule generics
+    & rule where_clause
+    & punctuation semicolon
+--
+-- A macro as a foreign member, of any path: attributes and the macro.
+table foreign_macro =
+    rule attributes
+    & rule member_macro
+--
+-- A macro among foreign members: its path doesn't begin with `Self`.
+table foreign_macro_as_item =
+    rule attributes
+    & (when at_word w_Self_type then never else rule member_macro)
+--
+-- A foreign function with a body, which is kept as tokens, behind its attributes.
+table foreign_body =
+    rule visibility
+    & rule foreign_signature
+    & rule body
+--
+-- A foreign static with a value, which is kept as tokens, behind its attributes.
+table foreign_value =
+    rule visibility
+    & rule bare_foreign_static
+    & punctuation equals
+    & rule whole_expression
+    & punctuation semicolon
+--
+-- A foreign type with bounds or with a type, which is kept as tokens, behind its attributes.
+table odd_foreign_type =
+    rule visibility
+    & plainly (word w_type)
+    & plainly name
+    & rule generics
+    & (when at_colon then punctuation colon & rule type_bounds & type_and_clause & punctuation semicolon
+    else when at_where then kept_where_clause & punctuation equals & rule type & punctuation semicolon
+    else punctuation equals & rule type & optional_where_clause & punctuation semicolon)
+--
+-- A foreign member that is kept as tokens: attributes, and one of the forms that have no kind of their own.
+table kept_foreign_item =
+    captured (rule attributes & one_of (foreign_body ∷ foreign_value ∷ odd_foreign_type ∷ []))
+--
+-- A foreign member: one of its kinds, or one that is kept as tokens.
+table foreign_item =
+    one_of (foreign_function ∷ foreign_static ∷ foreign_type ∷ foreign_macro_as_item ∷ kept_foreign_item ∷ [])
+--
+-- Foreign members, to the end.
+table foreign_items =
+    when ended then empty
+    else rule foreign_item & rule foreign_items
+--
+-- What stands behind the attributes of an item that is kept as tokens: one of the forms that have no kind of their own.
+table kept_item_rest =
+    one_of (bodiless_function ∷ rooted_use ∷ untyped_static ∷ valueless_static ∷ odd_const ∷ macro_definition ∷ odd_type ∷ const_alias ∷ restricted_trait ∷ odd_impl ∷ visible_const_impl ∷ [])
+--
+-- An item that is kept as tokens: attributes, and one of the forms that have no kind of their own.
+table kept_item =
+    captured (rule attributes & rule kept_item_rest)
+--
+-- An item in a block that is kept as tokens: attributes, what begins an item, and one of those forms.
+table kept_in_block =
+    captured (rule attributes & (when at_item then rule kept_item_rest else never))
+--
+-- What stands behind the attributes of an item in a block: one of its kinds.
+table item_rest =
+    one_of (structure_rest ∷ enumeration_rest ∷ union_item_rest ∷ function_rest ∷ const_item_rest ∷ static_item_rest ∷ extern_crate_rest ∷ use_item_rest ∷ module_item_rest ∷ trait_alias_rest ∷ type_item_rest ∷ macro_as_item_rest ∷ trait_definition_rest ∷ impl_definition_rest ∷ foreign_module_rest ∷ [])
+--
+-- An item: one of its kinds, or one that is kept as tokens.
+table item =
+    one_of (structure ∷ enumeration ∷ union_item ∷ function ∷ const_item ∷ static_item ∷ extern_crate ∷ use_item ∷ module_item ∷ trait_alias ∷ type_item ∷ macro_as_item ∷ trait_definition ∷ impl_definition ∷ foreign_module ∷ kept_item ∷ [])
+--
+-- Items, to the end.
+table items =
+    when ended then empty
+    else rule item & rule items
+--
+-- A file: inner attributes and items. A first line and a frontmatter that a tree made by hand holds are not printed.
+table file =
+    unshown
+    & unshown
+    & rule inner_attributes
+    & rule items

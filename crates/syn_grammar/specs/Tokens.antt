@@ -1,6 +1,6 @@
 -- TOKEN STREAMS, what stands at the front of one, and looks: the conditions of the lookahead.
 use Rattle.std.specs.Prelude.{ℕ, suc, ◌+◌, Bool, true, false, List, [], ◌∷◌, ◌++◌, nat_eq}
-use Rattle.syn_grammar.specs.Words.{Text, keywords, contextual, w_const, w_crate, w_self, w_Self_type, w_super, w_in, w_mut, w_as, w_try, w_static, w_async, w_unsafe, w_extern, w_fn, w_move, w_union, w_auto, w_default, w_trait, w_impl, bar, equals, exclamation, not_equals, colon, colons, lifetime_mark, less, less_equals, less_less, greater, pound, long_marks}
+use Rattle.syn_grammar.specs.Words.{Text, keywords, contextual, w_const, w_crate, w_self, w_Self_type, w_super, w_in, w_mut, w_as, w_try, w_static, w_async, w_unsafe, w_extern, w_fn, w_move, w_union, w_auto, w_default, w_trait, w_impl, bar, equals, exclamation, not_equals, colon, colons, lifetime_mark, less, less_equals, greater, pound, long_marks}
 
 -- where a token stands in the text, in bytes: from its first byte to the one behind its last
 pub record Span : Type 0 where
@@ -270,9 +270,9 @@ at_lifetime = at_mark lifetime_mark
 abbrev pub at_parameter : Look
 at_parameter = at_mark pound or_else at_lifetime or_else at_word w_const or_else at_name but_not ahead Before_type_rest
 
--- generics stand next, in a place where a type may stand too: `<` (and not `<=` or `<<`) and then `>` or a parameter
+-- generics stand next, in a place where a type may stand too: `<` and then `>` or a parameter (of `<=` and `<<` nothing is told)
 abbrev pub at_generics : Look
-at_generics = (at_mark less but_not (at_mark less_equals or_else at_mark less_less)) and_also ahead Before_parameter
+at_generics = at_mark less and_also ahead Before_parameter
 
 -- a word of a path stands next: an identifier that isn't a keyword, `self`, `Self`, `super` or `crate`
 abbrev pub at_path_word : Look
@@ -365,10 +365,10 @@ abbrev pub lone_facts : Terminal → List Fact → List Fact
 lone_facts (Punctuation (x ∷ [])) l = l
 lone_facts _ l = []
 
--- a mark of one character tells what stands behind it, a mark of two what its second character does
+-- a mark of one character tells what stands behind it, and `::` what its second character does
 abbrev pub punctuation_facts : ℕ → Terminal → Lookahead → List Fact
 punctuation_facts c (Punctuation (x ∷ [])) f = facts_for (asked (Punctuation (c ∷ []))) f
-punctuation_facts c (Punctuation (x ∷ y ∷ [])) f = lone_facts f.terminal f.facts
+punctuation_facts c (Punctuation (x ∷ y ∷ [])) f = pick (nat_eq c 58) (lone_facts f.terminal f.facts) []
 punctuation_facts c _ f = []
 
 -- the lookahead of a punctuation character before this lookahead

@@ -1,9 +1,10 @@
--- THE VALUE OF A SHAPED FORM: of an expression or a statement, as the Rust types hold it.
+-- THE VALUE OF A SHAPED FORM: of an expression, a statement or the parameters of a function, as the Rust types hold it.
 -- An expression is `Shaped (expr variant) (Both attributes fields)`. What stands left of an operator, of a call's arguments and the like is a field, so chains nest to the left.
 use Rattle.std.specs.Prelude.{Bool, true, false}
 use Rattle.syn_grammar.specs.Tokens.{end, Paren, Bracket}
-use Rattle.syn_grammar.specs.Shape.{Variant, Path, Struct, Binary, Assign, Cast, Verbatim, Field, MethodCall, Parens, Tuple, Array, Repeat, Macro, Shape, expr, operand, bracketed, behind_it, operator, dotted, fields, choice, chain, leading, labelled, attributed, listed, lone, said, said_macro, a_local, an_item, untagged}
-use Rattle.syn_grammar.specs.Grammar.{Syntax, Nothing, Mark, Both, Left, Right, Node, Group, Captured, Unshown, Shaped}
+use Rattle.syn_grammar.specs.Shape.{Variant, Path, Struct, Binary, Assign, Cast, Verbatim, Field, MethodCall, Parens, Tuple, Array, Repeat, Macro, Shape, expr, operand, bracketed, behind_it, operator, dotted, fields, choice, chain, leading, labelled, attributed, listed, lone, said, said_macro, a_local, an_item, untagged, parameters, based, single}
+use Rattle.syn_grammar.specs.Rules.{Rule, structure, structure_rest, enumeration, enumeration_rest, union_item, union_item_rest, function, function_rest, const_item, const_item_rest, static_item, static_item_rest, extern_crate, extern_crate_rest, use_item, use_item_rest, module_item, module_item_rest, trait_alias, trait_alias_rest, type_item, type_item_rest, macro_as_item, macro_as_item_rest, trait_definition, trait_definition_rest, impl_definition, impl_definition_rest, foreign_module, foreign_module_rest, kept_item}
+use Rattle.syn_grammar.specs.Grammar.{Syntax, Nothing, Mark, Both, Left, Right, Node, Case, Group, Captured, Unshown, Shaped}
 
 -- what is read where no attribute stands
 abbrev pub no_attributes : Syntax
@@ -87,6 +88,37 @@ moved a (Shaped (expr Assign) (Both (Node (Right (Unshown Nothing))) (Both l p))
 moved a (Shaped (expr Cast) (Both (Node (Right (Unshown Nothing))) (Both l p))) = new Cast (Both (moved a l) p)
 moved a s = with_attributes a s
 
+-- ITEMS IN STATEMENTS are those of the rule `item`, their attributes among them
+
+-- the rule of the item of which this is the rule behind the attributes
+abbrev pub whole_item : Rule → Rule
+whole_item structure_rest = structure
+whole_item enumeration_rest = enumeration
+whole_item union_item_rest = union_item
+whole_item function_rest = function
+whole_item const_item_rest = const_item
+whole_item static_item_rest = static_item
+whole_item extern_crate_rest = extern_crate
+whole_item use_item_rest = use_item
+whole_item module_item_rest = module_item
+whole_item trait_alias_rest = trait_alias
+whole_item type_item_rest = type_item
+whole_item macro_as_item_rest = macro_as_item
+whole_item trait_definition_rest = trait_definition
+whole_item impl_definition_rest = impl_definition
+whole_item foreign_module_rest = foreign_module
+whole_item k = k
+
+-- attributes, and what an item has behind them
+abbrev pub with_outer : Syntax → Syntax → Syntax
+with_outer a (Node (Case k s)) = Node (Case (whole_item k) (Both a (Node s)))
+with_outer a s = Both a s
+
+-- an item that is kept as tokens
+abbrev pub kept_whole : Syntax → Syntax
+kept_whole (Node (Captured s i)) = Node (Case kept_item (Captured s i))
+kept_whole s = s
+
 -- STATEMENTS
 
 -- an expression as a statement, with `;` (Left) or without; a macro with `;` is a macro statement, and with braces always (true)
@@ -109,7 +141,8 @@ abbrev pub state : Syntax → Syntax → Syntax
 state a (Shaped said (Both e t)) = alone false a (core e) t
 state a (Shaped said_macro (Both e t)) = alone true a (core e) t
 state a (Shaped a_local s) = Shaped a_local (Both a s)
-state a (Shaped an_item s) = Shaped an_item (Both a s)
+state a (Shaped an_item (Both s (Left Nothing))) = Shaped an_item (with_outer a s)
+state a (Shaped an_item s) = Shaped an_item (with_outer a s)
 state a s = Shaped attributed (Both a s)
 
 abbrev pub stated : Syntax → Syntax
@@ -137,10 +170,14 @@ abbrev pub go_on : Syntax → Syntax → Syntax
 go_on a (Shaped said (Both e t)) = going_on false a (core e) t
 go_on a (Shaped said_macro (Both e t)) = going_on true a (core e) t
 go_on a (Shaped a_local (Both s l)) = listing (Shaped a_local (Both a s)) l
-go_on a (Shaped an_item (Both s l)) = listing (Shaped an_item (Both a s)) l
+go_on a (Shaped an_item (Both s l)) = listing (Shaped an_item (with_outer a s)) l
 go_on a s = Shaped attributed (Both a s)
 
+-- an item that is kept as tokens holds its attributes among them
 abbrev pub in_list : Syntax → Syntax
+in_list (Left s) = in_list s
+in_list (Right s) = in_list s
+in_list (Both (Shaped an_item s) l) = listing (Shaped an_item s) l
 in_list (Both a s) = go_on a (core s)
 in_list s = Shaped listed s
 
@@ -155,6 +192,66 @@ untag (Left s) = Shaped untagged s
 untag (Right s) = Shaped untagged s
 untag s = Shaped untagged s
 
+-- LISTS WITH SOMETHING BEHIND THEM are such a list, and that
+
+-- no more members
+abbrev pub no_members : Syntax
+no_members = Node (Left Nothing)
+
+-- a member, what follows it, and what stands behind the list
+abbrev pub one_member : Shape → Syntax → Syntax → Syntax → Syntax
+one_member j x n behind = Shaped j (Both (Node (Right (Both x (Right n)))) behind)
+
+-- a member before a comma and other members
+abbrev pub more_members : Shape → Syntax → Syntax → Syntax → Syntax
+more_members j x comma (Node (Shaped k (Both l behind))) = Shaped j (Both (Node (Right (Both x (Left (Both comma l))))) behind)
+more_members j x comma s = Shaped j (Both x (Both comma s))
+
+-- a member, and what is read behind it; of the last one, what stands behind the list
+abbrev pub member : Shape → Syntax → Syntax → Syntax → Syntax
+member j alone x (Left (Both comma l)) = more_members j x comma l
+member j alone x (Right n) = one_member j x n alone
+member j alone x s = Shaped j (Both x s)
+
+-- PARAMETERS of a function
+
+-- a variadic one
+abbrev pub ellipsis_of : Syntax → Syntax → Syntax → Syntax
+ellipsis_of a p v = Shaped parameters (Both no_members (Left (Both a (Both p v))))
+
+-- behind a pattern and its colon
+abbrev pub behind_colon : Syntax → Syntax → Syntax → Syntax → Syntax
+behind_colon a p c (Left v) = ellipsis_of a (Left (Both p c)) v
+behind_colon a p c (Right (Both t e)) = member parameters (Right Nothing) (Node (Both a (Right (Both p (Both c t))))) e
+behind_colon a p c s = Shaped parameters (Both a (Both p (Both c s)))
+
+-- one that is no receiver
+abbrev pub typed : Syntax → Syntax → Syntax
+typed a (Left v) = ellipsis_of a (Right Nothing) v
+typed a (Right (Both p (Both c s))) = behind_colon a p c s
+typed a s = Shaped parameters (Both a s)
+
+-- one behind its attributes
+abbrev pub parameter_of : Syntax → Syntax → Syntax
+parameter_of a (Left (Both r e)) = member parameters (Right Nothing) (Node (Both a (Left r))) e
+parameter_of a (Right (Node s)) = typed a s
+parameter_of a s = Shaped parameters (Both a s)
+
+abbrev pub parameters_of : Syntax → Syntax
+parameters_of (Left n) = Shaped parameters (Both (Node (Left n)) (Right Nothing))
+parameters_of (Right (Both a s)) = parameter_of a s
+parameters_of s = Shaped parameters s
+
+-- FIELDS of a struct literal, and `..` with an expression
+abbrev pub no_base : Syntax
+no_base = Both (Right Nothing) (Right Nothing)
+
+abbrev pub literal_fields_of : Syntax → Syntax
+literal_fields_of (Left n) = Shaped based (Both (Node (Left n)) no_base)
+literal_fields_of (Right (Left (Both d e))) = Shaped based (Both no_members (Both (Left d) (Left e)))
+literal_fields_of (Right (Right (Both f e))) = member based no_base f e
+literal_fields_of s = Shaped based s
+
 abbrev pub shape : Shape → Syntax → Syntax
 shape (operand v) s = new v s
 shape bracketed s = new (variant_of s) s
@@ -166,4 +263,8 @@ shape attributed s = stated s
 shape listed s = in_list s
 shape lone s = separated s
 shape untagged s = untag s
+shape an_item s = Shaped an_item (kept_whole s)
+shape parameters s = parameters_of s
+shape based s = literal_fields_of s
+shape single s = core s
 shape j s = Shaped j s

@@ -2,6 +2,15 @@
 //! Their statements stand in specs/Computed.antt.
 
 ghost use Rattle.syn_grammar.specs.Computed.{ParseMeans, ParseForms, ParseRows, ParseOnward, ValuePrints, OneValue, CapturedIsSome};
+ghost use Rattle.syn_grammar.specs.ItemStatements.{ItemStatements};
+ghost use Rattle.syn_grammar.specs.UseGroups.{UseGroups};
+ghost use Rattle.syn_grammar.specs.ItemPlan.{ItemPlan};
+ghost use Rattle.syn_grammar.specs.MemberPlans.{TraitItemPlan, ImplItemPlan, ForeignItemPlan, PlansMarked, PlansShow};
+ghost use Rattle.syn_grammar.specs.SmallPlans.{DeriveInputPlan, LocalValuePlan};
+ghost use Rattle.syn_grammar.specs.AlonePlans.{UseAlone, TypeAlone, ImplAlone};
+ghost use Rattle.syn_grammar.specs.ToldByTokens.{OneWhereTold, RootMarkTold};
+ghost use Rattle.syn_grammar.specs.Leads.{TypeLeads, ImplLed};
+ghost use Rattle.syn_grammar.specs.StatementPlans.{StatementPlan, StatementsPlan, CrateMacroPlan};
 ghost use Rattle.syn_grammar.specs.Alone.{ReadAlone, ValuesForgetSpans, ShowIsRead, ShowStandsAlone, ShowStandsBefore, SameShow};
 
 /// The computed reading answers exactly what the grammar derives: a value and a rest where a tree is
@@ -79,4 +88,127 @@ pub fn show_stands_before()
 /// bytes) aside, exactly where the tokens that are shown of them are. Holds of every token stream.
 pub fn same_show()
     ensures exactly { SameShow }
+{}
+
+/// Where an item stands next behind its attributes, a statement is what the rule `item` reads of the
+/// same tokens, attributes and all; and a list of statements is this and the statements behind it.
+/// Holds of every token stream.
+pub fn item_statements()
+    ensures as_items { ItemStatements }
+{}
+
+/// Trees of a use in braces, of which none has `::` before it, are read alike by the two rules of them:
+/// what `use_trees` reads, `rooted_trees` reads as such trees, and the other way round. Holds of every
+/// token stream.
+pub fn use_groups()
+    ensures alike { UseGroups }
+{}
+
+/// The plan of an item (specs/ItemPlan), which has no union and reads no piece twice, reads what the
+/// rule `item` reads, as the same value. Holds of every token stream.
+pub fn item_plan()
+    ensures as_the_rule { ItemPlan }
+{}
+
+/// The plan of a member of a trait reads what the rule `trait_item` reads, as the same value. Holds of
+/// every token stream.
+pub fn trait_item_plan()
+    ensures as_the_rule { TraitItemPlan }
+{}
+
+/// The plan of a member of an impl reads what the rule `impl_item` reads, as the same value. Holds of
+/// every token stream.
+pub fn impl_item_plan()
+    ensures as_the_rule { ImplItemPlan }
+{}
+
+/// The plan of a foreign member reads what the rule `foreign_item` reads, as the same value. Holds of
+/// every token stream.
+pub fn foreign_item_plan()
+    ensures as_the_rule { ForeignItemPlan }
+{}
+
+/// In these four plans, what is read behind a mark (`keeps`) is kept as tokens or refused, and all
+/// else is of a kind or refused.
+pub fn plans_marked()
+    ensures as_said { PlansMarked }
+{}
+
+/// A statement is its attributes, and behind them what the plan of an item reads, where an item stands
+/// next, or else another statement. Holds of every token stream.
+pub fn statement_plan()
+    ensures as_the_rule { StatementPlan }
+{}
+
+/// Statements that don't end, and before which no `;` stands, are the attributes of the first one, and
+/// behind them what the plan of an item reads and more statements, or else another statement and more.
+/// Holds of every token stream.
+pub fn statements_plan()
+    ensures as_the_rule { StatementsPlan }
+{}
+
+/// The plan of a macro of `crate` that stands as a statement alone reads what the rule `crate_macro`
+/// reads, as the same value. Holds of every token stream.
+pub fn crate_macro_plan()
+    ensures as_the_rule { CrateMacroPlan }
+{}
+
+/// What is written by these four plans (of each piece what is shown of it, and for what is kept as
+/// tokens what stood there) is what is shown of what their rules read. Holds of every token stream.
+pub fn plans_show()
+    ensures as_shown { PlansShow }
+{}
+
+/// The plan of the input of a derive reads what the rule `derive_input` reads, as the same value.
+/// Holds of every token stream.
+pub fn derive_input_plan()
+    ensures as_the_form { DeriveInputPlan }
+{}
+
+/// The plan of the value of a local reads what its form reads, as the same value: the expression is
+/// read once, and then its end tells. Holds of every token stream.
+pub fn local_value_plan()
+    ensures as_the_form { LocalValuePlan }
+{}
+
+/// The plan of a use behind its attributes reads what the rule `use_item_rest` reads, as the same value.
+/// Holds of every token stream.
+pub fn use_item_rest_plan()
+    ensures as_the_rule { UseAlone }
+{}
+
+/// The plan of a type alias behind its attributes reads what the rule `type_item_rest` reads, as the
+/// same value. Holds of every token stream.
+pub fn type_item_rest_plan()
+    ensures as_the_rule { TypeAlone }
+{}
+
+/// The plan of an impl behind its attributes reads what the rule `impl_definition_rest` reads, as the
+/// same value. Holds of every token stream.
+pub fn impl_definition_rest_plan()
+    ensures as_the_rule { ImplAlone }
+{}
+
+/// Of what is read of a type alias, behind forms that read no `where` outside of groups, the test that
+/// `where` stands once at most is told by the tokens, groups and lifetimes aside. Holds of every stream.
+pub fn one_where_told()
+    ensures by_tokens { OneWhereTold }
+{}
+
+/// Of the trees in the braces behind `use`, behind attributes and a visibility, the test whether `::`
+/// stands before one of them is told by the tokens. Holds of every stream.
+pub fn root_mark_told()
+    ensures by_tokens { RootMarkTold }
+{}
+
+/// A type, printed before anything, would be read as generics exactly where its tokens would be. Holds
+/// of every stream.
+pub fn type_leads()
+    ensures by_tokens { TypeLeads }
+{}
+
+/// Whether empty generics of an impl are printed (`led`) is told by the tokens behind its generics, and
+/// by those of its self type behind `for`. Holds of every stream.
+pub fn impl_led()
+    ensures by_tokens { ImplLed }
 {}

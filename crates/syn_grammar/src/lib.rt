@@ -2,5 +2,6 @@
 #![tactic(auto)]
 
 mod computed;
+mod entry_points;
 mod equality;
 mod laws;

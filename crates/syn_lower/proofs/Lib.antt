@@ -1,13 +1,14 @@
 mod AttributeLists
 pub mod Attributes
+pub mod Bodies
 mod BoundLists
 pub mod Compared
 pub mod Equality
-mod GenericPrints
-mod GenericsCompared
+pub mod GenericPrints
+pub mod GenericsCompared
 mod LifetimePrints
 mod Lifetimes
-mod Lists
+pub mod Lists
 mod Literals
 pub mod Nameless
 mod Numbers

@@ -1,4 +1,5 @@
 pub mod Attributes
+pub mod Bodies
 pub mod Bounds
 pub mod Equality
 pub mod Falls

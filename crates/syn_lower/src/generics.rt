@@ -9,6 +9,7 @@ mod parsing;
 mod printing;
 
 use crate::{Attribute, Type, TypeParamBound, WhereClause};
+pub use printing::print_bounds;
 pub(crate) use printing::print_with;
 use std::alloc::Global;
 use syn_recognize::deferred::DeferredConstant;

@@ -9,9 +9,10 @@ use Rattle.syn_grammar.specs.Take.{Out, sees, take_mark}
 use Rattle.syn_grammar.specs.Run.{and_then, branch, wrap, parse_rule}
 use Rattle.syn_grammar.specs.Promises.{itself}
 use Rattle.syn_grammar.specs.Table.{at_colons}
-use Rattle.syn_grammar.proofs.Each.{type_path_is, type_words_is}
+use Rattle.syn_grammar.proofs.Each.{type_path_is}
 use Rattle.syn_tokens.specs.Kinds.{PathSep, path_sep_syntax}
 use Rattle.syn_tokens.specs.Listing.{joined_of}
+use Rattle.syn_lower.proofs.Lists.{type_words_joined}
 use Rattle.syn_pat.specs.PathForms.{path_syntax}
 
 -- what is read, and what is left
@@ -49,7 +50,7 @@ module _ (s : Syntax) (r : Stream) where
   first None h = absurd (cc h)
 
 step : (ts r : Stream) (s : Syntax) → parse_rule type_words ts ≡ Some (s, r) → Step s r
-step ts r s e = first s r _ (sym (type_words_is ts) ∙ e)
+step ts r s e = first s r _ (sym (type_words_joined.is ts) ∙ e)
 
 -- no words end with `::`
 word_is_last : (l : List (Syntax × PathSep)) (ts r : Stream) → parse_rule type_words ts ≡ Some (joined_of itself path_sep_syntax l None, r) → ⊥

@@ -40,8 +40,8 @@ fn print_tokens_in<K: DelimiterKind>(
     delimiters.close(out)
 }
 
-/// The same, whichever delimiters they are.
-fn print_group(
+/// A group of these tokens, as they are, whichever delimiters they have.
+pub fn print_group(
     delimiter: MacroDelimiter,
     tokens: &TokenStream,
     out: &mut StreamBuilder,

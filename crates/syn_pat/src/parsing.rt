@@ -4,6 +4,6 @@ mod mac;
 mod pat;
 mod path;
 
-pub use mac::macro_invocation;
+pub use mac::{any_group, bang, macro_invocation};
 pub use pat::typed_pattern;
 pub use path::path_as_expression;

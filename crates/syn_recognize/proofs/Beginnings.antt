@@ -1,12 +1,12 @@
 -- What types, their arguments, attributes, expressions and statements begin with.
 use Rattle.std.proofs.Common.{◌≡◌, ℕ, false, List, [], ◌∷◌, refl, sym, subst}
 use Rattle.syn_grammar.specs.Tokens.{Paren}
-use Rattle.syn_grammar.specs.Rules.{after_block, after_expression, attributes, expression_words, macro_invocation, member, postfixes, statement_rest, statements, whole_expression, generic_argument, generic_arguments, meta, meta_value, module_path, module_words, path_as_type, type, type_arguments, type_path, type_words, types}
+use Rattle.syn_grammar.specs.Rules.{after_block, after_expression, expression_words, macro_invocation, member, postfixes, statement_rest, whole_expression, generic_argument, generic_arguments, meta, meta_value, module_path, module_words, path_as_type, type, type_arguments, type_path, type_words, types}
 use Rattle.syn_grammar.specs.Grammar.{Grammar, empty, ◌&◌, when◌then◌else◌, inside, mark, name, name_or, rule, shaped, token}
 use Rattle.syn_grammar.specs.Shape.{untagged}
-use Rattle.syn_grammar.specs.Table.{table, at_association, at_brace_macro, at_colons, at_turbofish}
+use Rattle.syn_grammar.specs.Table.{table, at_association, at_brace_macro, at_turbofish}
 use Rattle.syn_grammar.specs.Run.{parse_form}
-use Rattle.syn_grammar.specs.Words.{colons, equals, w_Self_type}
+use Rattle.syn_grammar.specs.Words.{equals, w_Self_type}
 use Rattle.syn_parse.specs.declared.buffer.first.First.{First}
 use Rattle.syn_parse.specs.declared.buffer.first.First.TheVariants as F
 use Rattle.syn_tokens.specs.declared.delimiter.Delimiter.{Delimiter}
@@ -73,7 +73,7 @@ pub member_by_name : (f : First) (g : Grammar) → f ≡ F.Name → parse_form g
 member_by_name f g e h = subst (λ z. Opens z g member) (sym e) (opens_as_pruned (member ∷ []) F.Name g member h)
 
 abbrev pub expression_words_form : Grammar
-expression_words_form = (token [] (name_or (w_Self_type ∷ [])) & shaped untagged (when at_turbofish then (rule type_arguments) else empty)) & (when at_colons then (mark false colons & rule expression_words) else empty)
+expression_words_form = (token [] (name_or (w_Self_type ∷ [])) & shaped untagged (when at_turbofish then (rule type_arguments) else empty)) & part_form Part-m.ExpressionWords2
 
 pub expression_words_open : (f : First) → f ≡ F.Name → Opens f expression_words_form expression_words
 expression_words_open f e = subst (λ z. Opens z expression_words_form expression_words) (sym e) (opens_as_pruned (expression_words ∷ []) F.Name expression_words_form expression_words refl)
@@ -83,11 +83,5 @@ expression_words_open f e = subst (λ z. Opens z expression_words_form expressio
 abbrev pub statement_form : Grammar
 statement_form = when at_brace_macro then (rule macro_invocation & rule after_block) else (rule whole_expression & rule after_expression)
 
-pub statements_open : (f : First) → f ≡ F.Name → Opens f statement_form statements
-statements_open f e = subst (λ z. Opens z statement_form statements) (sym e) (opens_as_pruned (statements ∷ attributes ∷ statement_rest ∷ []) F.Name statement_form statements refl)
-
 pub statement_opens : (f : First) → f ≡ F.Name → Opens f statement_form statement_rest
 statement_opens f e = subst (λ z. Opens z statement_form statement_rest) (sym e) (opens_as_pruned (statement_rest ∷ []) F.Name statement_form statement_rest refl)
-
-pub statements_by_keyword : (f : First) (g : Grammar) → f ≡ F.Keyword → parse_form g ≡ parse_form (table statement_rest) → Opens f g statements
-statements_by_keyword f g e h = subst (λ z. Opens z g statements) (sym e) (opens_through (statements ∷ attributes ∷ []) F.Keyword g statement_rest statements refl h)

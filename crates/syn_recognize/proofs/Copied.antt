@@ -4,11 +4,11 @@ use Rattle.syn_grammar.specs.Words.{Text, less, greater}
 use Rattle.syn_grammar.specs.Tokens.{Span, Stream, end, punct, Delimiter, Look, ◌⧺◌, pick, no, ended}
 use Rattle.syn_grammar.specs.Rules.{Rule}
 use Rattle.syn_grammar.specs.Shape.{Shape}
-use Rattle.syn_grammar.specs.Grammar.{Syntax, Nothing, Both, Node, Left, Right, Group, Rest, Order, spell, Grammar, empty, ◌&◌, when◌then◌else◌, inside, raw, rest_after, rule, shaped, unshown, ordered}
+use Rattle.syn_grammar.specs.Grammar.{Syntax, Nothing, Both, Node, Case, Left, Right, Group, Rest, Order, spell, Grammar, empty, ◌&◌, when◌then◌else◌, inside, raw, rest_after, one_of, rule, shaped, unshown, ordered}
 use Rattle.syn_grammar.specs.Table.{table}
 use Rattle.syn_grammar.specs.Take.{Out, Parser, Opened, is_end, only, sees, take_group, take_mark}
 use Rattle.syn_grammar.specs.Values.{shape}
-use Rattle.syn_grammar.specs.Run.{wrap, and_then, branch, close, within, raw_of, rest_of, marks_of, parse_form, rows, close_row, row_closed, row_opened}
+use Rattle.syn_grammar.specs.Run.{wrap, and_then, branch, close, named, within, raw_of, rest_of, marks_of, parse_form, rows, close_row, row_closed, row_opened}
 use Rattle.syn_grammar.proofs.Looks.{sees_ended}
 use Rattle.syn_grammar.proofs.Run.{parse_rule_is}
 use Rattle.syn_grammar.proofs.Streams.{append_append}
@@ -133,6 +133,19 @@ rest_not x w ts e = rest_is x w ts ∙ ap (λ o. next (copied w o) all_written) 
 pub rule_is : (k : Rule) (g : Grammar) (w : Written) (ts : Stream) → parse_form g ≡ parse_form (table k) → copy_form (rule k) w ts ≡ copy_form g w ts
 unfolding copy_form
 rule_is k g w ts e = ap (copied w) (parse_rule_is k ts) ∙ wrapped Node way_node w (parse_form (table k) ts) ∙ sym (ap (λ (p : Parser). copied w (p ts)) e)
+
+-- a union of one rule
+pub only_is : (k : Rule) (g : Grammar) (w : Written) (ts : Stream) → parse_form g ≡ parse_form (table k) → copy_form (one_of (k ∷ [])) w ts ≡ copy_form g w ts
+unfolding copy_form
+only_is k g w ts e = ap (λ o. copied w (named k o None)) (parse_rule_is k ts) ∙ go (parse_form (table k) ts) ∙ sym (ap (λ (p : Parser). copied w (p ts)) e)
+  where
+    same : (a : Bool) (s : Syntax) → way a (Case k s) ≡ way a s
+    same true s = refl
+    same false s = refl
+
+    go : (o : Out) → copied w (named k (wrap Node o) None) ≡ copied w o
+    go None = refl
+    go (Some p) = ap (λ i. Reached (adds w i) p.1) (same w.printing p.0)
 
 pub shaped_is : (j : Shape) (g : Grammar) (w : Written) (ts : Stream) → copy_form (shaped j g) w ts ≡ copy_form g w ts
 unfolding copy_form

@@ -1,25 +1,25 @@
 -- Deferred tokens, and what they stand for.
-use Rattle.std.proofs.Common.{◌≡◌, ℕ, zero, suc, Bool, true, false, Some, refl, sym, ap, ◌∙◌}
-use Rattle.syn_grammar.specs.Tokens.{Stream, end, plain}
-use Rattle.syn_grammar.specs.Rules.{Rule}
-use Rattle.syn_grammar.specs.Grammar.{Syntax, show, print, plain_syntax}
-use Rattle.syn_grammar.specs.Take.{only, is_end}
-use Rattle.syn_grammar.specs.Run.{parse_rule}
+use Rattle.std.proofs.Common.{◌≡◌, ℕ, zero, suc, Bool, true, false, Option, Some, None, refl, sym, ap, ◌∙◌}
+use Rattle.syn_grammar.specs.Tokens.{Delimiter, Brace, Stream, end, plain}
+use Rattle.syn_grammar.specs.Rules.{Rule, block, statements}
+use Rattle.syn_grammar.specs.Grammar.{Syntax, Node, Group, show, print, plain_syntax}
+use Rattle.syn_grammar.specs.Take.{Out, Opened, only, is_end, take_group}
+use Rattle.syn_grammar.specs.Run.{wrap, close, within, parse_rule}
 use Rattle.syn_grammar.specs.Same.{same_stream, same_syntax}
 use Rattle.syn_grammar.specs.StandsAlone.{reads_shown, stands_alone}
 use Rattle.syn_grammar.proofs.Shows.{show_is_read, show_stands_alone, same_show}
 use Rattle.syn_grammar.proofs.Same.{same_stream_plain, same_syntax_plain}
 use Rattle.syn_grammar.proofs.Takes.{end_found}
+use Rattle.syn_grammar.proofs.Each.{block_is}
 use Rattle.syn_recognize.specs.DeferredTokens.{kind_rule, tree_in, read_as, IsDeferred, whole_only}
 
 -- ---- the rules
 pub kinds_read_again : (n : ℕ) → reads_shown (kind_rule n) ≡ true
 kinds_read_again zero = refl
-kinds_read_again (suc n) = refl
-
-pub kinds_stand_alone : (n : ℕ) → stands_alone (kind_rule n) ≡ true
-kinds_stand_alone zero = refl
-kinds_stand_alone (suc n) = refl
+kinds_read_again (suc zero) = refl
+kinds_read_again (suc (suc zero)) = refl
+kinds_read_again (suc (suc (suc zero))) = refl
+kinds_read_again (suc (suc (suc (suc n)))) = refl
 
 -- ---- tokens that are kept
 -- a tree that is read of what is shown of it
@@ -69,3 +69,20 @@ same_deferred k w a b s t e i f j =
     let to : plain a ≡ plain b → plain_syntax s ≡ plain_syntax t = λ p. law.0 (sym (ap plain i) ∙ p ∙ ap plain j) in
     let from : plain_syntax s ≡ plain_syntax t → plain a ≡ plain b = λ p. ap plain i ∙ law.1 p ∙ sym (ap plain j) in
     same_bools (same_stream a b) (same_syntax s t) (λ h. (same_syntax_plain s t).1 (to ((same_stream_plain a b).0 h))) (λ h. (same_stream_plain a b).1 (from ((same_syntax_plain s t).0 h)))
+
+-- ---- blocks
+-- a group's content is read to its end
+closed : (d : Delimiter) (g : Opened) (o : Out) → close d g o ≡ close d g (whole_only o)
+closed d g None = refl
+closed d g (Some p) = go (is_end p.1) refl
+  where
+    go : (b : Bool) → is_end p.1 ≡ b → close d g (Some p) ≡ close d g (only b (Some p))
+    go true e = refl
+    go false e = ap (λ b. only b (Some (Group d g.opening g.closing p.0, g.rest))) e
+
+pub block_read : (ts : Stream) → parse_rule block ts ≡ wrap Node (within Brace (take_group Brace ts) (λ i. whole_only (parse_rule statements i)))
+block_read ts = block_is ts ∙ ap (wrap Node) (go (take_group Brace ts))
+  where
+    go : (o : Option Opened) → within Brace o (parse_rule statements) ≡ within Brace o (λ i. whole_only (parse_rule statements i))
+    go None = refl
+    go (Some g) = closed Brace g (parse_rule statements g.content)

@@ -1,7 +1,7 @@
 -- Whether token trees end with a group in braces: of what forms the syntax tree tells it.
 use Rattle.std.proofs.Common.{◌≡◌, Bool, true, false, List, [], ◌∷◌, refl, sym, ap, ◌∙◌, true≢false, ◌⊎◌, inl, inr}
 use Rattle.syn_grammar.specs.Tokens.{Span, Delimiter, Paren, Brace, Bracket, None as Invisible, Stream, end, leaf, punct, group, ◌⧺◌, and}
-use Rattle.syn_grammar.specs.Rules.{Rule, attributes, module_path, module_words, type_path, type_words, type_arguments, return_type, generic_arguments, qualified_path, path_as_type, type, expression_path, expression_words, qualified_expression_path, path_as_expression, macro_invocation, pattern, block, body, primary, block_like, if_expression, loop_expression, postfixes, member, unary, casts, cast, products, product, sums, sum, shifts, shift, bit_ands, bit_and, bit_xors, bit_xor, bit_ors, bit_or, compared, comparison, conjunctions, conjunction, disjunctions, disjunction, assigned, whole_expression, plain_body}
+use Rattle.syn_grammar.specs.Rules.{Rule, attributes, module_path, module_words, type_path, type_words, type_arguments, return_type, generic_arguments, qualified_path, path_as_type, type, expression_path, expression_words, qualified_expression_path, path_as_expression, macro_invocation, pattern, block, body, primary, block_like, if_expression, loop_expression, postfixes, member, unary, casts, cast, products, product, sums, sum, shifts, shift, bit_ands, bit_and, bit_xors, bit_xor, bit_ors, bit_or, compared, comparison, conjunctions, conjunction, disjunctions, disjunction, assigned, whole_expression, plain_body, more_type_words, whole_expression_head, disjunction_head, assigned_head, conjunction_head, disjunctions_head, comparison_head, conjunctions_head, bit_or_head, compared_head, bit_xor_head, bit_ors_head, bit_and_head, bit_xors_head, shift_head, bit_ands_head, sum_head, shifts_head, product_head, sums_head, cast_head, products_head, unary_head, primary_head}
 use Rattle.syn_grammar.specs.RuleNumbers.{same_rule}
 use Rattle.syn_grammar.specs.Grammar.{Syntax, Group, Raw, ends_brace, Grammar, empty, token, mark, lifetime, ◌&◌, when◌then◌else◌, inside, raw, either, one_of, rule, such, shaped, unshown, ordered, among}
 use Rattle.syn_grammar.specs.Table.{table}
@@ -21,7 +21,8 @@ known =
     attributes ∷ module_path ∷ module_words ∷ type_path ∷ type_words ∷ type_arguments ∷ return_type ∷ generic_arguments ∷ qualified_path ∷ path_as_type ∷ type
     ∷ expression_path ∷ expression_words ∷ qualified_expression_path ∷ path_as_expression ∷ macro_invocation ∷ pattern ∷ block ∷ body ∷ plain_body ∷ primary ∷ block_like
     ∷ if_expression ∷ loop_expression ∷ postfixes ∷ member ∷ unary ∷ casts ∷ cast ∷ products ∷ product ∷ sums ∷ sum ∷ shifts ∷ shift ∷ bit_ands ∷ bit_and ∷ bit_xors
-    ∷ bit_xor ∷ bit_ors ∷ bit_or ∷ compared ∷ comparison ∷ conjunctions ∷ conjunction ∷ disjunctions ∷ disjunction ∷ assigned ∷ whole_expression ∷ []
+    ∷ bit_xor ∷ bit_ors ∷ bit_or ∷ compared ∷ comparison ∷ conjunctions ∷ conjunction ∷ disjunctions ∷ disjunction ∷ assigned ∷ whole_expression
+    ∷ more_type_words ∷ whole_expression_head ∷ disjunction_head ∷ assigned_head ∷ conjunction_head ∷ disjunctions_head ∷ comparison_head ∷ conjunctions_head ∷ bit_or_head ∷ compared_head ∷ bit_xor_head ∷ bit_ors_head ∷ bit_and_head ∷ bit_xors_head ∷ shift_head ∷ bit_ands_head ∷ sum_head ∷ shifts_head ∷ product_head ∷ sums_head ∷ cast_head ∷ products_head ∷ unary_head ∷ primary_head ∷ []
 
 abbrev pub told_of : List Rule → Bool
 told_of [] = true

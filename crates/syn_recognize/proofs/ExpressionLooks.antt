@@ -6,7 +6,7 @@ use Rattle.syn_grammar.specs.Table.{at_ampersand, at_any_literal, at_brace, at_b
 use Rattle.syn_grammar.specs.Take.{sees}
 
 -- a row of conditions, in parts
-behind_six : (a b c d e f x : Bool) → or a (or b (or c (or d (or e (or f x))))) ≡ or (or a (or b (or c (or d (or e f))))) x
+pub behind_six : (a b c d e f x : Bool) → or a (or b (or c (or d (or e (or f x))))) ≡ or (or a (or b (or c (or d (or e f))))) x
 behind_six true b c d e f x = refl
 behind_six false true c d e f x = refl
 behind_six false false true d e f x = refl

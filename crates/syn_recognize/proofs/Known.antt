@@ -16,6 +16,7 @@ known_mark Mark-m.Colon = refl
 known_mark Mark-m.Comma = refl
 known_mark Mark-m.Dot = refl
 known_mark Mark-m.DotDot = refl
+known_mark Mark-m.DotDotDot = refl
 known_mark Mark-m.Eq = refl
 known_mark Mark-m.EqEq = refl
 known_mark Mark-m.Ge = refl

@@ -1,9 +1,9 @@
 -- A literal is a whole expression where nothing or a comma follows it, and a whole constant anywhere.
-use Rattle.std.proofs.Common.{◌≡◌, ℕ, zero, suc, ◌+◌, ◌≤◌, Bool, true, false, List, [], ◌∷◌, nat_eq, Option, Some, None, refl, sym, ap, ◌∙◌, subst, true≢false, ◌⊎◌, inl, inr}
+use Rattle.std.proofs.Common.{◌≡◌, ℕ, zero, suc, ◌+◌, ◌≤◌, Bool, true, false, List, [], ◌∷◌, nat_eq, Option, Some, None, refl, sym, ap, ◌∙◌, subst, true≢false, arith, ◌⊎◌, inl, inr}
 use Rattle.std.proofs.lemmas.Bool.{eqb-true}
 use Rattle.std.specs.Prelude.{Result, Ok, Err}
-use Rattle.syn_grammar.specs.Words.{Text, comma}
-use Rattle.syn_grammar.specs.Tokens.{Span, LitKind, Str, ByteStr, CStr, Byte, Char, Int, Float, ident, literal, Stream, end, leaf, punct, group, pick, Terminal, Ended, Name, Word, Punctuation, Literal, Delimited, Fact, Lookahead, lookahead_with, punctuation_lookahead, lookahead, Look, ended, at_mark, answers}
+use Rattle.syn_grammar.specs.Words.{Text, comma, semicolon}
+use Rattle.syn_grammar.specs.Tokens.{Span, LitKind, Str, ByteStr, CStr, Byte, Char, Int, Float, ident, literal, Stream, end, leaf, punct, group, pick, Terminal, Ended, Name, Word, Punctuation, Literal, Delimited, Fact, Lookahead, lookahead_with, punctuation_lookahead, lookahead, Look, ended, at_mark, answers, or}
 use Rattle.syn_grammar.specs.Rules.{Rule, constant, whole_expression}
 use Rattle.syn_grammar.specs.Shape.{Lit}
 use Rattle.syn_grammar.specs.Grammar.{Syntax, Nothing, Token, Both, Left, Right, Node, Unshown, Kind, any_literal, fits, Grammar, empty, token, ◌&◌, when◌then◌else◌, rule, shaped, unshown, show, print}
@@ -128,6 +128,9 @@ nothing_behind = lookahead_with Ended []
 comma_behind : Lookahead
 comma_behind = lookahead_with (Punctuation (44 ∷ [])) []
 
+semicolon_behind : Lookahead
+semicolon_behind = lookahead_with (Punctuation (59 ∷ [])) []
+
 whole_at_end : (k : LitKind) (x : Text) (sp : Span) → walk_rule k x sp nothing_behind 16 whole_expression true ≡ Some (lone k x sp, false)
 unfolding nothing_behind
 whole_at_end Str x sp = refl
@@ -147,6 +150,16 @@ whole_at_comma Byte x sp = refl
 whole_at_comma Char x sp = refl
 whole_at_comma Int x sp = refl
 whole_at_comma Float x sp = refl
+
+whole_at_semicolon : (k : LitKind) (x : Text) (sp : Span) → walk_rule k x sp semicolon_behind 16 whole_expression true ≡ Some (lone k x sp, false)
+unfolding semicolon_behind
+whole_at_semicolon Str x sp = refl
+whole_at_semicolon ByteStr x sp = refl
+whole_at_semicolon CStr x sp = refl
+whole_at_semicolon Byte x sp = refl
+whole_at_semicolon Char x sp = refl
+whole_at_semicolon Int x sp = refl
+whole_at_semicolon Float x sp = refl
 
 constant_before : (k : LitKind) (x : Text) (sp : Span) (behind : Lookahead) → walk_rule k x sp behind 2 constant true ≡ Some (lone k x sp, false)
 constant_before Str x sp behind = refl
@@ -193,14 +206,44 @@ at_comma r e = go r (sym (sees_one 44 r) ∙ e)
         char false q h = absurd (true≢false (sym h))
     go (group d o c i m) h = absurd (true≢false (sym h))
 
--- ---- a tree of either kind
-is_read : (n : ℕ) (k : LitKind) (x : Text) (sp : Span) (r : Stream) → is_over n (leaf (literal k x) sp r) ≡ true → parse_rule (kind_rule n) (leaf (literal k x) sp r) ≡ Some (lone k x sp, r)
-is_read zero k x sp r h = go (or_split (sees ended r) (sees (at_mark comma) r) h)
+-- neither does a semicolon
+semicolon_alone : (j : Bool) (f : Terminal) (l : List Fact) → punctuation_lookahead 59 j (lookahead_with f l) ≡ semicolon_behind
+unfolding semicolon_behind
+semicolon_alone false f l = refl
+semicolon_alone true Ended l = refl
+semicolon_alone true Name l = refl
+semicolon_alone true (Word x) l = refl
+semicolon_alone true (Punctuation x) l = refl
+semicolon_alone true (Literal k) l = refl
+semicolon_alone true (Delimited d v) l = refl
+
+at_semicolon : (r : Stream) → sees (at_mark semicolon) r ≡ true → lookahead r ≡ semicolon_behind
+unfolding take_mark
+at_semicolon r e = go r (sym (sees_one 59 r) ∙ e)
   where
-    go : (sees ended r ≡ true) ⊎ (sees (at_mark comma) r ≡ true) → parse_rule whole_expression (leaf (literal k x) sp r) ≡ Some (lone k x sp, r)
+    go : (r : Stream) → taken (take_mark (59 ∷ []) r) ≡ true → lookahead r ≡ semicolon_behind
+    go end h = absurd (true≢false (sym h))
+    go (leaf x sp m) h = absurd (true≢false (sym h))
+    go (punct c j sp m) h = char (nat_eq c 59) refl h
+      where
+        char : (b : Bool) → nat_eq c 59 ≡ b → taken (marked (only b (Some ((c, sp) ∷ [], m)))) ≡ true → lookahead (punct c j sp m) ≡ semicolon_behind
+        char true q h = subst (λ d. lookahead (punct d j sp m) ≡ semicolon_behind) (sym (eqb-true c 59 q)) (semicolon_alone j (lookahead m).terminal (lookahead m).facts)
+        char false q h = absurd (true≢false (sym h))
+    go (group d o c i m) h = absurd (true≢false (sym h))
+
+-- ---- a tree of any kind
+is_read : (n : ℕ) (k : LitKind) (x : Text) (sp : Span) (r : Stream) → is_over n (leaf (literal k x) sp r) ≡ true → parse_rule (kind_rule n) (leaf (literal k x) sp r) ≡ Some (lone k x sp, r)
+is_read zero k x sp r h = go (or_split (sees ended r) (or (sees (at_mark comma) r) (sees (at_mark semicolon) r)) h)
+  where
+    mark : (sees (at_mark comma) r ≡ true) ⊎ (sees (at_mark semicolon) r ≡ true) → parse_rule whole_expression (leaf (literal k x) sp r) ≡ Some (lone k x sp, r)
+    mark (inl e) = walked k x sp comma_behind r (at_comma r e) 16 whole_expression (lone k x sp) (whole_at_comma k x sp)
+    mark (inr e) = walked k x sp semicolon_behind r (at_semicolon r e) 16 whole_expression (lone k x sp) (whole_at_semicolon k x sp)
+
+    go : (sees ended r ≡ true) ⊎ (or (sees (at_mark comma) r) (sees (at_mark semicolon) r) ≡ true) → parse_rule whole_expression (leaf (literal k x) sp r) ≡ Some (lone k x sp, r)
     go (inl e) = walked k x sp nothing_behind r (at_end r e) 16 whole_expression (lone k x sp) (whole_at_end k x sp)
-    go (inr e) = walked k x sp comma_behind r (at_comma r e) 16 whole_expression (lone k x sp) (whole_at_comma k x sp)
-is_read (suc n) k x sp r h = walked k x sp (lookahead r) r refl 2 constant (lone k x sp) (constant_before k x sp (lookahead r))
+    go (inr e) = mark (or_split (sees (at_mark comma) r) (sees (at_mark semicolon) r) e)
+is_read (suc zero) k x sp r h = walked k x sp (lookahead r) r refl 2 constant (lone k x sp) (constant_before k x sp (lookahead r))
+is_read (suc (suc n)) k x sp r h = absurd (true≢false (sym h))
 
 abbrev Literally : Stream → Stream → Stream → Stream → Type 0
 Literally ts r i j = (s : Syntax) × (take_token any_literal ts ≡ Some (s, r)) × (i ≡ show s) × (j ≡ show s)
@@ -251,7 +294,10 @@ lone_refused n ts h e = absurd (true≢false (sym (and_left (sees at_any_literal
 
 pub lone_moved : (n : ℕ) (ts r : Stream) → left r + 1 ≤ left ts → left r + least (kind_rule n) ≤ left ts
 lone_moved zero ts r h = h
-lone_moved (suc n) ts r h = h
+lone_moved (suc zero) ts r h = h
+lone_moved (suc (suc zero)) ts r h = h
+lone_moved (suc (suc (suc zero))) ts r h = omega (arith, h)
+lone_moved (suc (suc (suc (suc n)))) ts r h = omega (arith, h)
 
 -- so what is promised of the literal is promised of the tree
 pub lone_promised : (n : ℕ) (ts : Stream) (result : Result ShownAndPrinted Refusal) (r : Stream) → is_lone_literal n ts ≡ true → ShowsLiteral IsSyntax ts result r → ShowsAndPrints IsSyntax (kind_rule n) ts result r

@@ -259,6 +259,27 @@ covers Look-m.Restriction f m = m
 covers Look-m.NamelessFields f m = m
 covers Look-m.ParameterEnd f m = m
 covers Look-m.PredicateEnd f m = m
+covers Look-m.Item F.Ended m = refl
+covers Look-m.Item F.Name m = absurd (true≢false m)
+covers Look-m.Item F.Keyword m = absurd (true≢false m)
+covers Look-m.Item F.Literal m = refl
+covers Look-m.Item (F.Mark c) m = m
+covers Look-m.Item (F.Group d) m = refl
+covers Look-m.Receiver F.Ended m = refl
+covers Look-m.Receiver F.Name m = refl
+covers Look-m.Receiver F.Keyword m = absurd (true≢false m)
+covers Look-m.Receiver F.Literal m = refl
+covers Look-m.Receiver (F.Mark c) m = m
+covers Look-m.Receiver (F.Group d) m = refl
+covers Look-m.Generics f m = m
+covers Look-m.NoMacroItem f m = m
+covers Look-m.StrLiteral f m = m
+covers Look-m.BeforeColons f m = absurd (true≢false m)
+covers Look-m.BeforeMacro f m = absurd (true≢false m)
+covers Look-m.MarkedUnion f m = m
+covers Look-m.MarkedAuto f m = m
+covers Look-m.InRestriction f m = m
+covers Look-m.LoneWord f m = m
 
 pub look_not : (l : look.Look) (f : First) (ts : Stream) → Begins f ts → may_hold l f ≡ false → sees (look_of l) ts ≡ false
 look_not l f ts b m = never (look_of l) f ts b (covers l f m)

@@ -1,13 +1,13 @@
 -- What a rule reads where it is known what stands next.
-use Rattle.std.proofs.Common.{◌≡◌, ℕ, zero, suc, Bool, true, false, List, [], ◌∷◌, ◌++◌, ◌-◌, arith, refl, sym, ap, ap₂, subst, ◌∙◌}
-use Rattle.syn_grammar.specs.Tokens.{Stream, Look, Paren, Bracket, pick}
-use Rattle.syn_grammar.specs.Rules.{type, type_arguments, type_path, type_words, path_as_type, Rule, attributes, unary, primary, path_as_expression, expression_path, expression_words, expressions, array_content, macro_invocation, postfixes}
-use Rattle.syn_grammar.specs.Grammar.{any_literal, mark, name_or, Grammar, empty, token, inside, ◌&◌, when◌then◌else◌, rule, shaped, unshown, among}
-use Rattle.syn_grammar.specs.Table.{table, at_any_literal, at_arguments, at_colons, at_macro}
+use Rattle.std.proofs.Common.{◌≡◌, ℕ, zero, suc, Bool, true, false, List, [], ◌∷◌, ◌++◌, ◌+◌, ◌-◌, arith, refl, sym, ap, ap₂, subst, ◌∙◌}
+use Rattle.syn_grammar.specs.Tokens.{Stream, Look, Paren, Brace, Bracket, pick}
+use Rattle.syn_grammar.specs.Rules.{type, type_arguments, type_path, type_words, more_type_words, path_as_type, Rule, attributes, unary, unary_head, primary, primary_head, literal_fields, path_as_expression, expression_path, expression_words, expressions, array_content, macro_invocation, postfixes}
+use Rattle.syn_grammar.specs.Grammar.{any_literal, name_or, Grammar, empty, token, inside, ◌&◌, when◌then◌else◌, rule, shaped, unshown, among}
+use Rattle.syn_grammar.specs.Table.{table, at_any_literal, at_arguments, at_brace, at_macro}
 use Rattle.syn_grammar.specs.Take.{sees}
 use Rattle.syn_grammar.specs.Run.{parse_form}
-use Rattle.syn_grammar.specs.Shape.{untagged}
-use Rattle.syn_grammar.specs.Words.{colons, w_Self_type}
+use Rattle.syn_grammar.specs.Shape.{fields, untagged}
+use Rattle.syn_grammar.specs.Words.{w_Self_type}
 use Rattle.syn_grammar.specs.Take.{Parser}
 use Rattle.syn_parse.specs.Firsts.{Begins}
 use Rattle.syn_parse.specs.declared.buffer.first.First.{First}
@@ -18,6 +18,8 @@ use Rattle.syn_recognize.specs.May.{may, sure}
 use Rattle.syn_recognize.specs.Written.{Written}
 use Rattle.syn_recognize.specs.Copies.{copied, next, copy_form}
 use Rattle.syn_recognize.specs.Ladder.{loud, climb, Rung}
+use Rattle.syn_recognize.specs.Parts.{part_form}
+use Rattle.syn_recognize.specs.declared.rules.Part.TheVariants as Part-m
 use Rattle.syn_recognize.specs.Opens.{Opens, both, either_way, pruned}
 use Rattle.syn_recognize.proofs.Copied.{empty_is, unshown_is, rule_is, shaped_is, then_is, when_is}
 use Rattle.syn_recognize.proofs.May.{never, surely}
@@ -48,7 +50,7 @@ pick_same : (b : Bool) (a : Grammar) (k : Rule) (ts : Stream) → Same a (table 
 pick_same true a k ts e w = e w ∙ sym (rule_is k (table k) w ts refl)
 pick_same false a k ts e w = refl
 
-pruned_is : (ks : List Rule) (n : ℕ) (f : First) (g : Grammar) (ts : Stream) → Begins f ts → Same (pruned ks n f g) g ts
+pub pruned_is : (ks : List Rule) (n : ℕ) (f : First) (g : Grammar) (ts : Stream) → Begins f ts → Same (pruned ks n f g) g ts
 pruned_is ks zero f g ts b w = refl
 pruned_is ks (suc n) f (when c then g else h) ts b w = either_same (sure c f) (may c f) c (pruned ks n f g) g (pruned ks n f h) h ts (surely c f ts b) (never c f ts b) (pruned_is ks n f g ts b) (pruned_is ks n f h ts b) w
 pruned_is ks (suc n) f (shaped j g) ts b w = pruned_is ks n f g ts b w ∙ sym (shaped_is j g w ts)
@@ -63,12 +65,12 @@ unfolding Opens
 goes_opened l f g k w ts h b = goes_here l (copy_form (rule k) w ts) g w ts (h w ts b)
 
 -- one that is a unary level and so many levels behind it: these are put off
-pub started : (l m : List Step) (f : First) (k : Rule) (j : ℕ) (u : Grammar) (w : Written) (ts : Stream) → Rung k j → Opens f u unary → Begins f ts → m ≡ l ++ Step-m.Levels 0 j ∷ [] → GoesOn l (copy_form (rule k) w ts) m u w ts
+pub started : (l m : List Step) (f : First) (i k : Rule) (b c j : ℕ) (u : Grammar) (w : Written) (ts : Stream) → Rung i b k j → c ≡ b + j → Opens f u i → Begins f ts → m ≡ l ++ Step-m.Levels b c ∷ [] → GoesOn l (copy_form (rule k) w ts) m u w ts
 unfolding Opens
-started l m f k j u w ts h o b p =
-    let s : j - 0 ≡ j = omega arith in
+started l m f i k b c j u w ts h q o a p =
+    let s : c - b ≡ j = omega (arith, q) in
     subst (λ (x : List Step). GoesOn l (copy_form (rule k) w ts) x u w ts) (sym p)
-    (goes_first l (Step-m.Levels 0 j) (copy_form (rule k) w ts) u w ts (climbs k j u w ts h (o w ts b) ∙ sym (ap (λ i. next (copy_form u w ts) (climb i 0)) s)))
+    (goes_first l (Step-m.Levels b c) (copy_form (rule k) w ts) u w ts (climbs i b k j u w ts h (o w ts a) ∙ sym (ap (λ n. next (copy_form u w ts) (climb n b)) s)))
 
 -- WHAT OPERANDS BEGIN WITH
 
@@ -88,14 +90,18 @@ pub opens_silent : (f : First) (k : Rule) → loud (table k) f ≡ false → Ope
 unfolding Opens
 opens_silent f k e = λ w ts b. rule_is k (table k) w ts refl ∙ silent (table k) f w ts b e ∙ sym (empty_is w ts)
 
+-- a path, and the fields of a struct literal behind it
+abbrev pub path_with_fields : Grammar
+path_with_fields = rule expression_words & (when at_brace then shaped fields (inside Brace (rule literal_fields)) else empty)
+
 abbrev pub name_form : Grammar
-name_form = (when at_macro then rule macro_invocation else rule expression_words) & rule postfixes
+name_form = (when at_macro then rule macro_invocation else path_with_fields) & rule postfixes
 
 pub name_opens : (f : First) → f ≡ F.Name → Opens f name_form unary
 name_opens f e = subst (λ z. Opens z name_form unary) (sym e) (opens_pruned beginnings F.Name name_form unary refl)
 
 abbrev pub literal_form : Grammar
-literal_form = (when at_any_literal then (token [] any_literal) else rule expression_words) & rule postfixes
+literal_form = (when at_any_literal then (token [] any_literal) else path_with_fields) & rule postfixes
 
 pub literal_opens : (f : First) → f ≡ F.Literal → Opens f literal_form unary
 literal_opens f e = subst (λ z. Opens z literal_form unary) (sym e) (opens_pruned beginnings F.Literal literal_form unary refl)
@@ -118,6 +124,34 @@ keyword_form = rule primary & rule postfixes
 pub keyword_opens : (f : First) → f ≡ F.Keyword → Opens f keyword_form unary
 keyword_opens f e = subst (λ z. Opens z keyword_form unary) (sym e) (opens_pruned (unary ∷ attributes ∷ []) F.Keyword keyword_form unary refl)
 
+-- and in heads
+abbrev pub head_beginnings : List Rule
+head_beginnings = unary_head ∷ attributes ∷ primary_head ∷ path_as_expression ∷ expression_path ∷ []
+
+abbrev pub head_name_form : Grammar
+head_name_form = (when at_macro then rule macro_invocation else rule expression_words) & rule postfixes
+
+pub head_name_opens : (f : First) → f ≡ F.Name → Opens f head_name_form unary_head
+head_name_opens f e = subst (λ z. Opens z head_name_form unary_head) (sym e) (opens_pruned head_beginnings F.Name head_name_form unary_head refl)
+
+abbrev pub head_literal_form : Grammar
+head_literal_form = (when at_any_literal then (token [] any_literal) else rule expression_words) & rule postfixes
+
+pub head_literal_opens : (f : First) → f ≡ F.Literal → Opens f head_literal_form unary_head
+head_literal_opens f e = subst (λ z. Opens z head_literal_form unary_head) (sym e) (opens_pruned head_beginnings F.Literal head_literal_form unary_head refl)
+
+pub head_parentheses_open : (d : Delimiter) → d ≡ D.Paren → Opens (F.Group d) parentheses_form unary_head
+head_parentheses_open d e = subst (λ z. Opens (F.Group z) parentheses_form unary_head) (sym e) (opens_pruned head_beginnings (F.Group D.Paren) parentheses_form unary_head refl)
+
+pub head_brackets_open : (d : Delimiter) → d ≡ D.Bracket → Opens (F.Group d) brackets_form unary_head
+head_brackets_open d e = subst (λ z. Opens (F.Group z) brackets_form unary_head) (sym e) (opens_pruned head_beginnings (F.Group D.Bracket) brackets_form unary_head refl)
+
+abbrev pub head_keyword_form : Grammar
+head_keyword_form = rule primary_head & rule postfixes
+
+pub head_keyword_opens : (f : First) → f ≡ F.Keyword → Opens f head_keyword_form unary_head
+head_keyword_opens f e = subst (λ z. Opens z head_keyword_form unary_head) (sym e) (opens_pruned (unary_head ∷ attributes ∷ []) F.Keyword head_keyword_form unary_head refl)
+
 -- WHAT TYPES AND THEIR WORDS BEGIN WITH
 
 pub opens_as_pruned : (ks : List Rule) (f : First) (g : Grammar) (k : Rule) → parse_form g ≡ parse_form (pruned ks 30 f (rule k)) → Opens f g k
@@ -135,10 +169,13 @@ unfolding Opens
 opens_through ks f g j k e h = λ w ts b. sym (pruned_is ks 30 f (rule k) ts b w) ∙ ap (λ p. copy_form p w ts) e ∙ rule_is j g w ts h
 
 abbrev pub words_form : Grammar
-words_form = (token [] (name_or (w_Self_type ∷ [])) & shaped untagged (when at_arguments then (rule type_arguments) else empty)) & (when at_colons then (mark false colons & rule type_words) else empty)
+words_form = (token [] (name_or (w_Self_type ∷ [])) & shaped untagged (when at_arguments then (rule type_arguments) else empty)) & part_form Part-m.TypeWords2
 
 pub type_opens : (f : First) → f ≡ F.Name → Opens f words_form type
 type_opens f e = subst (λ z. Opens z words_form type) (sym e) (opens_as_pruned (type ∷ path_as_type ∷ type_path ∷ type_words ∷ []) F.Name words_form type refl)
 
 pub words_open : (f : First) → f ≡ F.Name → Opens f words_form type_words
 words_open f e = subst (λ z. Opens z words_form type_words) (sym e) (opens_as_pruned (type_words ∷ []) F.Name words_form type_words refl)
+
+pub more_words_open : (f : First) → f ≡ F.Name → Opens f words_form more_type_words
+more_words_open f e = subst (λ z. Opens z words_form more_type_words) (sym e) (opens_as_pruned (more_type_words ∷ []) F.Name words_form more_type_words refl)

@@ -2,11 +2,11 @@
 use Rattle.std.proofs.Common.{◌≡◌, ℕ, Bool, true, false, List, [], ◌∷◌, ◌++◌, nat_eq, Some, None, refl, sym, ap, ap₂, ◌∙◌, subst, true≢false}
 use Rattle.std.proofs.lemmas.Bool.{eqb-true}
 use Rattle.syn_grammar.specs.Words.{Text, keywords, contextual, colons, exclamation, not_equals, less, w_crate, w_self, w_Self_type, w_super, w_union, w_auto, w_default, w_safe}
-use Rattle.syn_grammar.specs.Tokens.{Span, Delimiter, LitKind, Stream, end, leaf, punct, group, ident, literal, Paren, or, and, no, pick, same_text, one_of_texts, has_fact, same_fact, Fact, Before_end, Before_colons, Before_equals, Before_paren, Before_less, Before_type_rest, Before_macro, Before_brace, Begins_item, Bang_brace, Asked, asked, asked_by_name, asked_by_path_word, asked_of_path, at_path_rest, at_path_word, facts_for, Lookahead, lookahead, lookahead_with, punctuation_lookahead, answers, is_name, is_word, leaf_terminal, Terminal, Ended, Name, Word, Punctuation, Literal, Delimited, Look, at_mark, at_name, at_word, at_group, ahead, ◌or_else◌, ◌and_also◌, ◌but_not◌}
+use Rattle.syn_grammar.specs.Tokens.{Span, Delimiter, LitKind, Stream, end, leaf, punct, group, ident, literal, Paren, or, and, no, pick, same_text, one_of_texts, has_fact, same_fact, Fact, Before_end, Before_colons, Before_equals, Before_paren, Before_less, Before_type_rest, Before_macro, Before_brace, Begins_item, Bang_brace, Bang_name, Asked, asked, asked_by_name, asked_by_path_word, asked_of_path, at_path_rest, at_path_word, facts_for, Lookahead, lookahead, lookahead_with, punctuation_lookahead, answers, is_name, is_word, leaf_terminal, Terminal, Ended, Name, Word, Punctuation, Literal, Delimited, Look, at_mark, at_name, at_word, at_group, ahead, ◌or_else◌, ◌and_also◌, ◌but_not◌}
 use Rattle.syn_grammar.specs.Grammar.{Kind, name, word, name_or, Syntax, Nothing, Token, Left, fits}
 use Rattle.syn_grammar.specs.Take.{Out, sees, lookahead_at, take_mark, take_token, taken, only}
 use Rattle.syn_grammar.specs.Run.{branch, wrap}
-use Rattle.syn_grammar.specs.Table.{at_bang, at_brace, at_brace_macro, at_colons, at_crate_macro, at_less, at_lone_crate, at_macro, at_paren, at_pattern_path, at_turbofish}
+use Rattle.syn_grammar.specs.Table.{at_bang, at_brace, at_brace_macro, at_colons, at_crate_macro, at_less, at_lone_crate, at_macro, at_macro_name, at_paren, at_pattern_path, at_turbofish}
 use Rattle.syn_grammar.proofs.Sets.{same_text_eq}
 use Rattle.syn_grammar.proofs.Looks.{sees_mark, sees_name, sees_word}
 use Rattle.syn_tokens.specs.Idents.{is_keyword}
@@ -14,6 +14,7 @@ use Rattle.syn_tokens.specs.Leaves.{is_known_word}
 use Rattle.syn_parse.specs.FirstTokens.{path_words}
 use Rattle.syn_parse.specs.Peeks.{past}
 use Rattle.syn_parse.proofs.Words.{fits_name, fits_name_or, fits_word}
+use Rattle.syn_recognize.specs.ItemLooks.{at_named_macro}
 use Rattle.syn_recognize.proofs.Facts.{and_same, told_first, word_face}
 
 -- WHAT A WORD OF A PATH TELLS
@@ -23,11 +24,11 @@ abbrev first_fact : Asked → Fact
 first_fact [] = Before_end
 first_fact (p ∷ l) = p.1
 
-abbrev others : Asked → Asked
+abbrev pub others : Asked → Asked
 others [] = []
 others (p ∷ l) = l
 
-passed : (n : Fact) (l : Asked) (f : Lookahead) → same_fact n (first_fact l) ≡ false → has_fact n (facts_for l f) ≡ has_fact n (facts_for (others l) f)
+pub passed : (n : Fact) (l : Asked) (f : Lookahead) → same_fact n (first_fact l) ≡ false → has_fact n (facts_for l f) ≡ has_fact n (facts_for (others l) f)
 passed n [] f e = refl
 passed n (p ∷ l) f e = go (answers p.0 f)
   where
@@ -35,10 +36,10 @@ passed n (p ∷ l) f e = go (answers p.0 f)
     go true = ap (λ z. or z (has_fact n (facts_for l f))) e
     go false = refl
 
-abbrev face : Text → Terminal
+abbrev pub face : Text → Terminal
 face x = leaf_terminal (ident x)
 
-abbrev is_path_word : Terminal → Bool
+abbrev pub is_path_word : Terminal → Bool
 is_path_word t = or (is_name t) (or (is_word w_self t) (or (is_word w_Self_type t) (or (is_word w_super t) (is_word w_crate t))))
 
 -- a fact that no contextual keyword tells by itself
@@ -98,6 +99,9 @@ macro_told f = passed Before_macro asked_by_path_word f refl ∙ told_first Befo
 brace_told : (f : Lookahead) → has_fact Bang_brace (facts_for asked_by_path_word f) ≡ answers (at_path_rest and_also ahead Bang_brace) f
 brace_told f = passed Bang_brace asked_by_path_word f refl ∙ passed Bang_brace (others asked_by_path_word) f refl ∙ told_first Bang_brace (at_path_rest and_also ahead Bang_brace) (others (others (others asked_by_path_word))) f refl refl
 
+name_told : (f : Lookahead) → has_fact Bang_name (facts_for asked_by_path_word f) ≡ answers (at_path_rest and_also ahead Bang_name) f
+name_told f = passed Bang_name asked_by_path_word f refl ∙ passed Bang_name (others asked_by_path_word) f refl ∙ passed Bang_name (others (others asked_by_path_word)) f refl ∙ told_first Bang_name (at_path_rest and_also ahead Bang_name) [] f refl refl
+
 colons_told : (f : Lookahead) → has_fact Before_colons (facts_for asked_by_path_word f) ≡ answers (at_mark colons) f
 colons_told f = told_first Before_colons (at_mark colons) (others asked_by_path_word) f refl refl
 
@@ -106,7 +110,7 @@ paren_told f = passed Before_paren asked_by_name f refl ∙ told_first Before_pa
 
 -- ON STREAMS
 
-no_name : (c : ℕ) (j : Bool) (sp : Span) (m : Stream) → sees at_name (punct c j sp m) ≡ false
+pub no_name : (c : ℕ) (j : Bool) (sp : Span) (m : Stream) → sees at_name (punct c j sp m) ≡ false
 unfolding take_token
 no_name c j sp m = sees_name (punct c j sp m)
 
@@ -117,23 +121,25 @@ no_word w c j sp m = sees_word w (punct c j sp m)
 abbrev path_word_at : Stream → Bool
 path_word_at ts = sees at_path_word ts
 
-no_path_word : (c : ℕ) (j : Bool) (sp : Span) (m : Stream) → sees at_path_word (punct c j sp m) ≡ false
+pub no_path_word : (c : ℕ) (j : Bool) (sp : Span) (m : Stream) → sees at_path_word (punct c j sp m) ≡ false
 unfolding sees
 no_path_word c j sp m = ap₂ or (no_name c j sp m) (ap₂ or (no_word w_self c j sp m) (ap₂ or (no_word w_Self_type c j sp m) (ap₂ or (no_word w_super c j sp m) (no_word w_crate c j sp m))))
 
 -- behind a word of a path
-abbrev WordTells : Stream → Stream → Type 0
+abbrev pub WordTells : Stream → Stream → Type 0
 WordTells ts m = (sees (ahead Before_macro) ts ≡ or (sees at_bang m) (and (sees at_colons m) (sees (ahead Before_macro) m)))
     × (sees (ahead Bang_brace) ts ≡ and (or (sees at_colons m) (sees at_bang m)) (sees (ahead Bang_brace) m))
     × (sees (ahead Before_colons) ts ≡ sees at_colons m)
+    × (sees (ahead Bang_name) ts ≡ and (or (sees at_colons m) (sees at_bang m)) (sees (ahead Bang_name) m))
 
-word_tells : (ts : Stream) → sees at_path_word ts ≡ true → WordTells ts (past ts)
+pub word_tells : (ts : Stream) → sees at_path_word ts ≡ true → WordTells ts (past ts)
 unfolding sees lookahead_at
 word_tells end e = absurd (true≢false (sym e))
 word_tells (leaf (ident x) sp m) e = (
   told_of_word Before_macro refl refl refl refl refl refl refl (lookahead m) x e ∙ macro_told (lookahead m),
   told_of_word Bang_brace refl refl refl refl refl refl refl (lookahead m) x e ∙ brace_told (lookahead m),
   told_of_word Before_colons refl refl refl refl refl refl refl (lookahead m) x e ∙ colons_told (lookahead m),
+  told_of_word Bang_name refl refl refl refl refl refl refl (lookahead m) x e ∙ name_told (lookahead m),
 )
 word_tells (leaf (literal k x) sp m) e = absurd (true≢false (sym e))
 word_tells (punct c j sp m) e = absurd (true≢false (sym e ∙ no_path_word c j sp m))
@@ -244,7 +250,7 @@ crate_is_word : (ts : Stream) → sees (at_word w_crate) ts ≡ true → sees at
 unfolding sees
 crate_is_word ts h = or_fifth (sees at_name ts) (sees (at_word w_self) ts) (sees (at_word w_Self_type) ts) (sees (at_word w_super) ts) (sees (at_word w_crate) ts) h
 
-self_is_word : (ts : Stream) → sees (at_word w_self) ts ≡ true → sees at_path_word ts ≡ true
+pub self_is_word : (ts : Stream) → sees (at_word w_self) ts ≡ true → sees at_path_word ts ≡ true
 unfolding sees
 self_is_word ts h = or_second (sees at_name ts) (sees (at_word w_self) ts) _ h
 
@@ -266,35 +272,6 @@ pattern_path_seen ts =
 
 -- WHAT `!` TELLS
 
-bang_lone : (f : Lookahead) → has_fact Bang_brace (facts_for (asked (Punctuation (33 ∷ []))) f) ≡ answers at_brace f
-bang_lone f = told_first Bang_brace at_brace (others (asked (Punctuation (33 ∷ [])))) f refl refl
-
-abbrev bang_of : Lookahead → Type 0
-bang_of f = answers at_bang (punctuation_lookahead 33 true f) ≡ true → has_fact Bang_brace (punctuation_lookahead 33 true f).facts ≡ answers at_brace f
-
-bang_joint : (t : Terminal) (l : List Fact) → bang_of (lookahead_with t l)
-bang_joint Ended l h = bang_lone (lookahead_with Ended l)
-bang_joint Name l h = bang_lone (lookahead_with Name l)
-bang_joint (Word x) l h = bang_lone (lookahead_with (Word x) l)
-bang_joint (Literal k) l h = bang_lone (lookahead_with (Literal k) l)
-bang_joint (Delimited d v) l h = bang_lone (lookahead_with (Delimited d v) l)
-bang_joint (Punctuation []) l h = bang_lone (lookahead_with (Punctuation []) l)
-bang_joint (Punctuation (d ∷ m)) l h = go (nat_eq 61 d) refl h
-  where
-    go : (b : Bool) → nat_eq 61 d ≡ b → bang_of (lookahead_with (Punctuation (d ∷ m)) l)
-    go true e = subst (λ z. bang_of (lookahead_with (Punctuation (z ∷ m)) l)) (eqb-true 61 d e) (λ h. absurd (true≢false (sym h)))
-    go false e = rw e (λ h. bang_lone (lookahead_with (Punctuation (d ∷ m)) l))
-
-bang_first : (j : Bool) (sp : Span) (m : Stream) → sees at_bang (punct 33 j sp m) ≡ true → sees (ahead Bang_brace) (punct 33 j sp m) ≡ sees at_brace m
-unfolding sees lookahead_at
-bang_first false sp m h = bang_lone (lookahead m)
-bang_first true sp m h = bang_joint (lookahead m).terminal (lookahead m).facts h
-
--- `!` is no apostrophe
-past_bang : (j : Bool) (sp : Span) (m : Stream) → past (punct 33 j sp m) ≡ m
-past_bang false sp m = refl
-past_bang true sp m = refl
-
 bang_mark : (ts : Stream) → sees at_bang ts ≡ true → taken (take_mark exclamation ts) ≡ true
 unfolding sees
 bang_mark ts h = sym (sees_mark exclamation refl ts) ∙ left_true (sees (at_mark exclamation) ts) _ h
@@ -303,19 +280,59 @@ bang_mark ts h = sym (sees_mark exclamation refl ts) ∙ left_true (sees (at_mar
     left_true true b h = refl
     left_true false b h = absurd (true≢false (sym h))
 
-abbrev BangTells : Bool → Span → Stream → ℕ → Type 0
-BangTells j sp m z = sees at_bang (punct z j sp m) ≡ true → taken (take_mark exclamation (punct z j sp m)) ≡ true → sees (ahead Bang_brace) (punct z j sp m) ≡ sees at_brace (past (punct z j sp m))
+-- `!` is no apostrophe
+past_bang : (j : Bool) (sp : Span) (m : Stream) → past (punct 33 j sp m) ≡ m
+past_bang false sp m = refl
+past_bang true sp m = refl
+
+-- a fact that `!` tells of what stands behind it
+module _ (n : Fact) (c : Look) (lone : (f : Lookahead) → has_fact n (facts_for (asked (Punctuation (33 ∷ []))) f) ≡ answers c f) where
+  abbrev bang_of : Lookahead → Type 0
+  bang_of f = answers at_bang (punctuation_lookahead 33 true f) ≡ true → has_fact n (punctuation_lookahead 33 true f).facts ≡ answers c f
+
+  bang_joint : (t : Terminal) (l : List Fact) → bang_of (lookahead_with t l)
+  bang_joint Ended l h = lone (lookahead_with Ended l)
+  bang_joint Name l h = lone (lookahead_with Name l)
+  bang_joint (Word x) l h = lone (lookahead_with (Word x) l)
+  bang_joint (Literal k) l h = lone (lookahead_with (Literal k) l)
+  bang_joint (Delimited d v) l h = lone (lookahead_with (Delimited d v) l)
+  bang_joint (Punctuation []) l h = lone (lookahead_with (Punctuation []) l)
+  bang_joint (Punctuation (d ∷ m)) l h = go (nat_eq 61 d) refl h
+    where
+      go : (b : Bool) → nat_eq 61 d ≡ b → bang_of (lookahead_with (Punctuation (d ∷ m)) l)
+      go true e = subst (λ z. bang_of (lookahead_with (Punctuation (z ∷ m)) l)) (eqb-true 61 d e) (λ h. absurd (true≢false (sym h)))
+      go false e = rw e (λ h. lone (lookahead_with (Punctuation (d ∷ m)) l))
+
+  bang_first : (j : Bool) (sp : Span) (m : Stream) → sees at_bang (punct 33 j sp m) ≡ true → sees (ahead n) (punct 33 j sp m) ≡ sees c m
+  unfolding sees lookahead_at
+  bang_first false sp m h = lone (lookahead m)
+  bang_first true sp m h = bang_joint (lookahead m).terminal (lookahead m).facts h
+
+  abbrev BangTells : Bool → Span → Stream → ℕ → Type 0
+  BangTells j sp m z = sees at_bang (punct z j sp m) ≡ true → taken (take_mark exclamation (punct z j sp m)) ≡ true → sees (ahead n) (punct z j sp m) ≡ sees c (past (punct z j sp m))
+
+  told_by_bang : (ts : Stream) → sees at_bang ts ≡ true → sees (ahead n) ts ≡ sees c (past ts)
+  unfolding take_mark
+  told_by_bang end h = absurd (true≢false (sym (bang_mark end h)))
+  told_by_bang (leaf x sp m) h = absurd (true≢false (sym (bang_mark (leaf x sp m) h)))
+  told_by_bang (group d o i k m) h = absurd (true≢false (sym (bang_mark (group d o i k m) h)))
+  told_by_bang (punct d j sp m) h = go (nat_eq d 33) refl h (bang_mark (punct d j sp m) h)
+    where
+      go : (b : Bool) → nat_eq d 33 ≡ b → BangTells j sp m d
+      go true e = subst (BangTells j sp m) (sym (eqb-true d 33 e)) (λ h t. bang_first j sp m h ∙ ap (sees c) (sym (past_bang j sp m)))
+      go false e = λ h t. absurd (true≢false (sym t ∙ rw e refl))
+
+brace_lone : (f : Lookahead) → has_fact Bang_brace (facts_for (asked (Punctuation (33 ∷ []))) f) ≡ answers at_brace f
+brace_lone f = told_first Bang_brace at_brace (others (asked (Punctuation (33 ∷ [])))) f refl refl
+
+name_lone : (f : Lookahead) → has_fact Bang_name (facts_for (asked (Punctuation (33 ∷ []))) f) ≡ answers at_macro_name f
+name_lone f = passed Bang_name (asked (Punctuation (33 ∷ []))) f refl ∙ told_first Bang_name at_macro_name [] f refl refl
 
 pub bang_tells : (ts : Stream) → sees at_bang ts ≡ true → sees (ahead Bang_brace) ts ≡ sees at_brace (past ts)
-unfolding take_mark
-bang_tells end h = absurd (true≢false (sym (bang_mark end h)))
-bang_tells (leaf x sp m) h = absurd (true≢false (sym (bang_mark (leaf x sp m) h)))
-bang_tells (group d o c i m) h = absurd (true≢false (sym (bang_mark (group d o c i m) h)))
-bang_tells (punct c j sp m) h = go (nat_eq c 33) refl h (bang_mark (punct c j sp m) h)
-  where
-    go : (b : Bool) → nat_eq c 33 ≡ b → BangTells j sp m c
-    go true e = subst (BangTells j sp m) (sym (eqb-true c 33 e)) (λ h t. bang_first j sp m h ∙ ap (sees at_brace) (sym (past_bang j sp m)))
-    go false e = λ h t. absurd (true≢false (sym t ∙ rw e refl))
+bang_tells = told_by_bang Bang_brace at_brace brace_lone
+
+bang_tells_name : (ts : Stream) → sees at_bang ts ≡ true → sees (ahead Bang_name) ts ≡ sees at_macro_name (past ts)
+bang_tells_name = told_by_bang Bang_name at_macro_name name_lone
 
 -- `crate`, `!` and braces
 pub crate_macro_seen : (ts : Stream) → sees at_crate_macro ts ≡ and (sees at_lone_crate ts) (and (sees at_bang (past ts)) (sees at_brace (past (past ts))))
@@ -329,32 +346,40 @@ crate_macro_seen ts = and_same (sees at_lone_crate ts) _ _ (λ h. of_lone (sees 
 
 -- ALONG A PATH, UP TO ITS `!`
 
--- a macro whose path goes on here; and one with braces
+-- a macro whose path goes on here; one with braces; and one with a name
 abbrev pub macro_from : Stream → Bool
 macro_from ts = and (sees at_path_word ts) (sees (ahead Before_macro) ts)
 
 abbrev pub brace_macro_from : Stream → Bool
 brace_macro_from ts = and (sees at_path_word ts) (sees (ahead Bang_brace) ts)
 
+abbrev pub named_macro_from : Stream → Bool
+named_macro_from ts = and (sees at_path_word ts) (sees (ahead Bang_name) ts)
+
 abbrev Goes : Stream → Stream → Type 0
-Goes ts m = (sees (ahead Before_macro) ts ≡ macro_from m) × (sees (ahead Bang_brace) ts ≡ brace_macro_from m)
+Goes ts m = (sees (ahead Before_macro) ts ≡ macro_from m) × (sees (ahead Bang_brace) ts ≡ brace_macro_from m) × (sees (ahead Bang_name) ts ≡ named_macro_from m)
 
 -- behind `::`
 behind_colons : (ts : Stream) (s : Syntax) (m : Stream) → take_mark colons ts ≡ Some (s, m) → Goes ts m
 unfolding sees
 behind_colons ts s m e = go (colons_left ts s m e)
   where
-    macro_lone : (f : Lookahead) → has_fact Before_macro (facts_for (asked (Punctuation (58 ∷ []))) f) ≡ answers (at_path_word and_also ahead Before_macro) f
-    macro_lone f = passed Before_macro (asked (Punctuation (58 ∷ []))) f refl ∙ told_first Before_macro (at_path_word and_also ahead Before_macro) (others (others (asked (Punctuation (58 ∷ []))))) f refl refl
+    macro_in : (f : Lookahead) → has_fact Before_macro (facts_for (asked (Punctuation (58 ∷ []))) f) ≡ answers (at_path_word and_also ahead Before_macro) f
+    macro_in f = passed Before_macro (asked (Punctuation (58 ∷ []))) f refl ∙ told_first Before_macro (at_path_word and_also ahead Before_macro) (others (others (asked (Punctuation (58 ∷ []))))) f refl refl
 
-    brace_lone : (f : Lookahead) → has_fact Bang_brace (facts_for (asked (Punctuation (58 ∷ []))) f) ≡ answers (at_path_word and_also ahead Bang_brace) f
-    brace_lone f = passed Bang_brace (asked (Punctuation (58 ∷ []))) f refl ∙ passed Bang_brace (others (asked (Punctuation (58 ∷ [])))) f refl
+    brace_in : (f : Lookahead) → has_fact Bang_brace (facts_for (asked (Punctuation (58 ∷ []))) f) ≡ answers (at_path_word and_also ahead Bang_brace) f
+    brace_in f = passed Bang_brace (asked (Punctuation (58 ∷ []))) f refl ∙ passed Bang_brace (others (asked (Punctuation (58 ∷ [])))) f refl
         ∙ told_first Bang_brace (at_path_word and_also ahead Bang_brace) (others (others (others (asked (Punctuation (58 ∷ [])))))) f refl refl
+
+    name_in : (f : Lookahead) → has_fact Bang_name (facts_for (asked (Punctuation (58 ∷ []))) f) ≡ answers (at_path_word and_also ahead Bang_name) f
+    name_in f = passed Bang_name (asked (Punctuation (58 ∷ []))) f refl ∙ passed Bang_name (others (asked (Punctuation (58 ∷ [])))) f refl ∙ passed Bang_name (others (others (asked (Punctuation (58 ∷ []))))) f refl
+        ∙ told_first Bang_name (at_path_word and_also ahead Bang_name) [] f refl refl
 
     go : Colons ts m → Goes ts m
     go (sp, j, sq, h) = (
-      ap (sees (ahead Before_macro)) h ∙ told_behind Before_macro (at_path_word and_also ahead Before_macro) macro_lone (λ x l. refl) j sp sq m,
-      ap (sees (ahead Bang_brace)) h ∙ told_behind Bang_brace (at_path_word and_also ahead Bang_brace) brace_lone (λ x l. refl) j sp sq m,
+      ap (sees (ahead Before_macro)) h ∙ told_behind Before_macro (at_path_word and_also ahead Before_macro) macro_in (λ x l. refl) j sp sq m,
+      ap (sees (ahead Bang_brace)) h ∙ told_behind Bang_brace (at_path_word and_also ahead Bang_brace) brace_in (λ x l. refl) j sp sq m,
+      ap (sees (ahead Bang_name)) h ∙ told_behind Bang_name (at_path_word and_also ahead Bang_name) name_in (λ x l. refl) j sp sq m,
     )
 
 -- a word that was taken
@@ -379,34 +404,44 @@ module _ (k : Kind) (ts : Stream) (s : Syntax) (m : Stream) (word : sees at_path
   brace_is : brace_macro_from ts ≡ and (or (sees at_colons m) (sees at_bang m)) (sees (ahead Bang_brace) m)
   brace_is = ap (λ b. and b (sees (ahead Bang_brace) ts)) word ∙ tells.1
 
+  name_is : named_macro_from ts ≡ and (or (sees at_colons m) (sees at_bang m)) (sees (ahead Bang_name) m)
+  name_is = ap (λ b. and b (sees (ahead Bang_name) ts)) word ∙ tells.3
+
   -- `!` stands behind it
-  pub bang_found : sees at_bang m ≡ true → (macro_from ts ≡ true) × (brace_macro_from ts ≡ sees at_brace (past m))
+  pub bang_found : sees at_bang m ≡ true → (macro_from ts ≡ true) × (brace_macro_from ts ≡ sees at_brace (past m)) × (named_macro_from ts ≡ sees at_macro_name (past m))
   bang_found h = (
     macro_is ∙ ap (λ b. or b (and (sees at_colons m) (sees (ahead Before_macro) m))) h,
-    brace_is ∙ ap (λ b. and (or (sees at_colons m) b) (sees (ahead Bang_brace) m)) h ∙ or_true (sees at_colons m) ∙ bang_tells m h,
+    brace_is ∙ ap (λ b. and (or (sees at_colons m) b) (sees (ahead Bang_brace) m)) h ∙ or_true (sees at_colons m) (sees (ahead Bang_brace) m) ∙ bang_tells m h,
+    name_is ∙ ap (λ b. and (or (sees at_colons m) b) (sees (ahead Bang_name) m)) h ∙ or_true (sees at_colons m) (sees (ahead Bang_name) m) ∙ bang_tells_name m h,
   )
     where
-      or_true : (b : Bool) → and (or b true) (sees (ahead Bang_brace) m) ≡ sees (ahead Bang_brace) m
-      or_true true = refl
-      or_true false = refl
+      or_true : (b d : Bool) → and (or b true) d ≡ d
+      or_true true d = refl
+      or_true false d = refl
 
   -- neither `!` nor `::` does
-  pub path_ends : sees at_bang m ≡ false → sees at_colons m ≡ false → (macro_from ts ≡ false) × (brace_macro_from ts ≡ false)
+  pub path_ends : sees at_bang m ≡ false → sees at_colons m ≡ false → (macro_from ts ≡ false) × (brace_macro_from ts ≡ false) × (named_macro_from ts ≡ false)
   path_ends h n = (
     macro_is ∙ ap₂ (λ a b. or a (and b (sees (ahead Before_macro) m))) h n,
     brace_is ∙ ap₂ (λ a b. and (or b a) (sees (ahead Bang_brace) m)) h n,
+    name_is ∙ ap₂ (λ a b. and (or b a) (sees (ahead Bang_name) m)) h n,
   )
 
   -- `::` does, and a path goes on behind it
-  pub path_goes_on : sees at_bang m ≡ false → sees at_colons m ≡ true → (t : Syntax) (r : Stream) → take_mark colons m ≡ Some (t, r) → (macro_from ts ≡ macro_from r) × (brace_macro_from ts ≡ brace_macro_from r)
+  pub path_goes_on : sees at_bang m ≡ false → sees at_colons m ≡ true → (t : Syntax) (r : Stream) → take_mark colons m ≡ Some (t, r) →
+      (macro_from ts ≡ macro_from r) × (brace_macro_from ts ≡ brace_macro_from r) × (named_macro_from ts ≡ named_macro_from r)
   path_goes_on h c t r d = (
     macro_is ∙ ap₂ (λ a b. or a (and b (sees (ahead Before_macro) m))) h c ∙ (behind_colons m t r d).0,
     brace_is ∙ ap₂ (λ a b. and (or b a) (sees (ahead Bang_brace) m)) h c ∙ (behind_colons m t r d).1,
+    name_is ∙ ap₂ (λ a b. and (or b a) (sees (ahead Bang_name) m)) h c ∙ (behind_colons m t r d).2,
   )
 
--- where it begins, perhaps with `::`
-pub path_begins : (ts : Stream) (s : Syntax) (m : Stream) → branch (sees at_colons ts) (take_mark colons ts) (Some (Nothing, ts)) ≡ Some (s, m) →
-    (sees at_macro ts ≡ macro_from m) × (sees at_brace_macro ts ≡ brace_macro_from m)
+-- where it begins
+abbrev Begins : Stream → Stream → Type 0
+Begins ts m = (sees at_macro ts ≡ macro_from m) × (sees at_brace_macro ts ≡ brace_macro_from m) × (sees at_named_macro ts ≡ named_macro_from m)
+
+-- perhaps with `::`
+pub path_begins : (ts : Stream) (s : Syntax) (m : Stream) → branch (sees at_colons ts) (take_mark colons ts) (Some (Nothing, ts)) ≡ Some (s, m) → Begins ts m
 unfolding sees
 path_begins ts s m e = go (sees at_colons ts) refl e
   where
@@ -418,19 +453,21 @@ path_begins ts s m e = go (sees at_colons ts) refl e
     or_false true c = refl
     or_false false c = refl
 
-    with_colons : (o : Out) → take_mark colons ts ≡ o → sees at_colons ts ≡ true → wrap Left o ≡ Some (s, m) → (sees at_macro ts ≡ macro_from m) × (sees at_brace_macro ts ≡ brace_macro_from m)
+    with_colons : (o : Out) → take_mark colons ts ≡ o → sees at_colons ts ≡ true → wrap Left o ≡ Some (s, m) → Begins ts m
     with_colons (Some p) q h e =
         let at : take_mark colons ts ≡ Some (p.0, m) = q ∙ ap (λ z. Some (p.0, z)) (ap rest e) in (
           ap (λ b. and (or (sees at_path_word ts) b) (sees (ahead Before_macro) ts)) h ∙ or_true (sees at_path_word ts) _ ∙ (behind_colons ts p.0 m at).0,
           ap (λ b. and (or (sees at_path_word ts) b) (sees (ahead Bang_brace) ts)) h ∙ or_true (sees at_path_word ts) _ ∙ (behind_colons ts p.0 m at).1,
+          ap (λ b. and (or (sees at_path_word ts) b) (sees (ahead Bang_name) ts)) h ∙ or_true (sees at_path_word ts) _ ∙ (behind_colons ts p.0 m at).2,
         )
     with_colons None q h e = absurd (cc e)
 
-    go : (b : Bool) → sees at_colons ts ≡ b → branch b (take_mark colons ts) (Some (Nothing, ts)) ≡ Some (s, m) → (sees at_macro ts ≡ macro_from m) × (sees at_brace_macro ts ≡ brace_macro_from m)
+    go : (b : Bool) → sees at_colons ts ≡ b → branch b (take_mark colons ts) (Some (Nothing, ts)) ≡ Some (s, m) → Begins ts m
     go true h e = with_colons (take_mark colons ts) refl h e
     go false h e = (
       ap (λ b. and (or (sees at_path_word ts) b) (sees (ahead Before_macro) ts)) h ∙ or_false (sees at_path_word ts) _ ∙ ap macro_from (ap rest e),
       ap (λ b. and (or (sees at_path_word ts) b) (sees (ahead Bang_brace) ts)) h ∙ or_false (sees at_path_word ts) _ ∙ ap brace_macro_from (ap rest e),
+      ap (λ b. and (or (sees at_path_word ts) b) (sees (ahead Bang_name) ts)) h ∙ or_false (sees at_path_word ts) _ ∙ ap named_macro_from (ap rest e),
     )
 
 -- WHAT IS READ WHERE IT STANDS NEXT

@@ -8,7 +8,8 @@ use Rattle.syn_grammar.proofs.Looks.{holds_nothing_of, sees_empty_group, sees_gr
 use Rattle.syn_parse.specs.Peeks.{past}
 use Rattle.syn_parse.specs.Opened.{content_of}
 use Rattle.syn_recognize.proofs.Facts.{and_same, told_first, word_face}
-use Rattle.syn_recognize.specs.Restricted.{holds_nothing, lone_word, restricts}
+use Rattle.syn_grammar.specs.ItemPlan.{at_in_restriction, at_lone_word}
+use Rattle.syn_recognize.specs.Restricted.{holds_nothing, lone_word, restricts, begins_in, is_lone_word}
 
 -- a word that begins a restriction by itself
 abbrev lone : Look
@@ -72,3 +73,36 @@ empty_group_seen ts = sees_empty_group ts ∙ go (take_group Invisible ts)
     go : (o : Option Opened) → holds_nothing_of o ≡ holds_nothing (content_of o)
     go (Some g) = refl
     go None = refl
+
+-- what a group in parentheses tells of its content, each by itself
+notes_in : (a b : Bool) → has_fact Begins_in (pick a (Lone_word ∷ pick b (Begins_in ∷ []) []) (pick b (Begins_in ∷ []) [])) ≡ b
+notes_in true true = refl
+notes_in true false = refl
+notes_in false true = refl
+notes_in false false = refl
+
+notes_lone : (a b : Bool) → has_fact Lone_word (pick a (Lone_word ∷ pick b (Begins_in ∷ []) []) (pick b (Begins_in ∷ []) [])) ≡ a
+notes_lone true true = refl
+notes_lone true false = refl
+notes_lone false true = refl
+notes_lone false false = refl
+
+pub in_restriction_seen : (ts : Stream) → sees at_in_restriction ts ≡ begins_in (content_of (take_group Paren ts))
+unfolding sees lookahead_at take_group
+in_restriction_seen end = refl
+in_restriction_seen (leaf x sp m) = ap (λ b. and b (sees (ahead Begins_in) (leaf x sp m))) (sees_group Paren (leaf x sp m))
+in_restriction_seen (punct c j sp m) = ap (λ b. and b (sees (ahead Begins_in) (punct c j sp m))) (sees_group Paren (punct c j sp m))
+in_restriction_seen (group Paren o c i m) = notes_in (answers lone (lookahead i)) (answers (at_word w_in) (lookahead i))
+in_restriction_seen (group Brace o c i m) = refl
+in_restriction_seen (group Bracket o c i m) = refl
+in_restriction_seen (group Invisible o c i m) = refl
+
+pub lone_word_seen : (ts : Stream) → sees at_lone_word ts ≡ is_lone_word (content_of (take_group Paren ts))
+unfolding sees lookahead_at take_group
+lone_word_seen end = refl
+lone_word_seen (leaf x sp m) = ap (λ b. and b (sees (ahead Lone_word) (leaf x sp m))) (sees_group Paren (leaf x sp m))
+lone_word_seen (punct c j sp m) = ap (λ b. and b (sees (ahead Lone_word) (punct c j sp m))) (sees_group Paren (punct c j sp m))
+lone_word_seen (group Paren o c i m) = notes_lone (answers lone (lookahead i)) (answers (at_word w_in) (lookahead i)) ∙ lone_seen i
+lone_word_seen (group Brace o c i m) = refl
+lone_word_seen (group Bracket o c i m) = refl
+lone_word_seen (group Invisible o c i m) = refl

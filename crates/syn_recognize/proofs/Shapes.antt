@@ -19,6 +19,7 @@ print_sum = record {
   none_then = λ s. refl;
   regrouped = λ s t u. append_append (print s) (print t) (print u);
   no_tokens = λ xs. refl;
+  named = λ k s. refl;
 }
 
 pub shape_printed : (j : Shape) (s : Syntax) → print (shape j s) ≡ print s

@@ -2,7 +2,7 @@
 use Rattle.std.proofs.Common.{◌≡◌, Some, None, refl, sym, ap, ◌∙◌, ◌≤◌, Bool, true, false, ◌+◌, arith, true≢false}
 use Rattle.syn_grammar.specs.Tokens.{Stream}
 use Rattle.syn_grammar.specs.Rules.{Rule}
-use Rattle.syn_grammar.specs.Grammar.{Syntax, show, print, among}
+use Rattle.syn_grammar.specs.Grammar.{Syntax, show, print}
 use Rattle.syn_grammar.specs.Take.{Out, left}
 use Rattle.syn_grammar.specs.Run.{parse_rule}
 use Rattle.syn_grammar.proofs.Run.{Less, parse_rule_less}
@@ -10,10 +10,7 @@ use Rattle.syn_grammar.proofs.Said.{start_of}
 use Rattle.syn_tokens.specs.Building.{added}
 use Rattle.syn_recognize.specs.PrintedRows.{way}
 use Rattle.syn_recognize.specs.Written.{Written, adds, blank, stream_of}
-use Rattle.syn_recognize.specs.Quiet.{quiet}
 use Rattle.syn_recognize.specs.Copies.{Copy, Reached, Refused, copied, least, least_of}
-use Rattle.syn_recognize.proofs.Readable.{readable}
-use Rattle.syn_recognize.proofs.Settled.{same_print}
 
 -- what is left
 rest_of : Stream → Copy → Stream
@@ -79,10 +76,3 @@ both_written k w v ts r q i j e f g h =
 
     tree_is : {s t : Syntax} {q r : Stream} → ◌≡◌ {A = Out} (Some (s, q)) (Some (t, r)) → s ≡ t
     tree_is {s} z = ap (tree_from s) z
-
--- where no lifetime stands there
-pub both_quiet : (k : Rule) (w : Written) (ts r i j : Stream) → among k readable ≡ true → copied (blank false) (parse_rule k ts) ≡ Reached w r → i ≡ stream_of w → quiet i ≡ true → j ≡ i →
-    (s : Syntax) × (parse_rule k ts ≡ Some (s, r)) × (i ≡ show s) × (j ≡ print s)
-both_quiet k w ts r i j a e f q h =
-    let (s, d, x) = shown false k w ts r i e f in
-    (s, d, x, h ∙ x ∙ sym (same_print k ts s r a d (sym (ap quiet x) ∙ q)))

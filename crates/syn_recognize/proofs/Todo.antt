@@ -12,7 +12,7 @@ use Rattle.syn_recognize.specs.PrintedRows.{way}
 use Rattle.syn_recognize.specs.Written.{Written, adds}
 use Rattle.syn_recognize.specs.Trailing.{ends_by}
 use Rattle.syn_recognize.specs.Copies.{Copy, Reached, Refused, Stuck, Leads, copied, next, copy_form, by_braces}
-use Rattle.syn_recognize.specs.Steps.{after, todo, Steps, Guessing, Reads, Leading, GoesOn}
+use Rattle.syn_recognize.specs.Steps.{after, todo, Steps, Guessing, Leading, GoesOn}
 use Rattle.syn_recognize.specs.declared.step.Step.{Step}
 use Rattle.syn_recognize.specs.declared.step.Step.TheVariants as Step-m
 use Rattle.syn_recognize.proofs.Ways.{way_such, way_left, way_right, way_node}
@@ -41,6 +41,8 @@ nowhere (Step-m.Note b ts n) = refl
 nowhere (Step-m.Skip k b l) = refl
 nowhere (Step-m.Forget b) = refl
 nowhere (Step-m.Capture b ts) = refl
+nowhere (Step-m.Plan p g) = refl
+nowhere (Step-m.Rooted p q g b) = refl
 nowhere (Step-m.ByBraces f g ts) = refl
 nowhere (Step-m.Levels a b) = refl
 
@@ -55,6 +57,8 @@ stuck (Step-m.Note b ts n) = refl
 stuck (Step-m.Skip k b l) = refl
 stuck (Step-m.Forget b) = refl
 stuck (Step-m.Capture b ts) = refl
+stuck (Step-m.Plan p g) = refl
+stuck (Step-m.Rooted p q g b) = refl
 stuck (Step-m.ByBraces f g ts) = refl
 stuck (Step-m.Levels a b) = refl
 
@@ -134,14 +138,6 @@ rule_left k g w ts e = ap (copied w) (parse_rule_is k ts) ∙ wrapped Node way_n
 
 -- SEVERAL STEPS
 
-pub steps_read : {E : Type 0} (refusal : E → Type 0) (old : List Step) (out : Copy) (r : Result (Unit {0}) E) (new : List Step) (w : Written) (ts : Stream) → Steps refusal old out r new w ts → Reads refusal old out r new w ts
-steps_read refusal old out (Ok x) new w ts h = h
-steps_read refusal old out (Err e) new w ts h = λ s. refused old out (h s)
-
-pub reads_lead : {E : Type 0} (refusal : E → Type 0) (old : List Step) (out : Copy) (r : Result (Unit {0}) E) (new : List Step) (w : Written) (ts : Stream) → Reads refusal old out r new w ts → Leading refusal old out r new w ts
-reads_lead refusal old out (Ok x) new w ts h = leads_same (todo old out) (todo new (Reached w ts)) h
-reads_lead refusal old out (Err e) new w ts h = h
-
 pub guessing_leads : {E : Type 0} (refusal : E → Type 0) (old : List Step) (out : Copy) (r : Result (Unit {0}) E) (new : List Step) (w : Written) (ts : Stream) → Guessing refusal old out r new w ts → Leading refusal old out r new w ts
 guessing_leads refusal old out (Ok x) new w ts h = h
 guessing_leads refusal old out (Err e) new w ts h = λ s. refused old out (h s)
@@ -162,6 +158,6 @@ goes_further l m n o g h w ts a b = record { same = a.same ∙ b.same }
 pub goes_back : (l : List Step) (s : Step) (o : Copy) (g : Grammar) (w : Written) (ts : Stream) → after s o ≡ copy_form g w ts → GoesOn (l ++ s ∷ []) o l g w ts
 goes_back l s o g w ts e = record { same = push l s o ∙ ap (todo l) e }
 
-pub goes_read : {E : Type 0} (refusal : E → Type 0) (l m n : List Step) (o : Copy) (g : Grammar) (w v : Written) (ts r : Stream) (x : Result (Unit {0}) E) → GoesOn l o m g w ts → Reads refusal m (copy_form g w ts) x n v r → Reads refusal l o x n v r
-goes_read refusal l m n o g w v ts r (Ok x) a h = a.same ∙ h
+pub goes_read : {E : Type 0} (refusal : E → Type 0) (l m n : List Step) (o : Copy) (g : Grammar) (w v : Written) (ts r : Stream) (x : Result (Unit {0}) E) → GoesOn l o m g w ts → Leading refusal m (copy_form g w ts) x n v r → Leading refusal l o x n v r
+goes_read refusal l m n o g w v ts r (Ok x) a h = subst (λ c. Leads c (todo n (Reached v r))) (sym a.same) h
 goes_read refusal l m n o g w v ts r (Err e) a h = λ s. a.same ∙ h s

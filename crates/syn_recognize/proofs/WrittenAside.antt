@@ -5,9 +5,10 @@ use Rattle.syn_grammar.specs.Grammar.{Nothing, Right, Vanishing, Captured, Gramm
 use Rattle.syn_grammar.specs.Take.{Out, before, sees}
 use Rattle.syn_grammar.specs.Run.{branch, caught, parse_form, vanish}
 use Rattle.syn_recognize.specs.PrintedRows.{way}
-use Rattle.syn_recognize.specs.Written.{Written, adds, unwritten}
+use Rattle.syn_recognize.specs.Written.{Written, adds, drops, unwritten}
 use Rattle.syn_recognize.specs.Copies.{Reached, copied, copy_form, next, forgetting, capturing}
 use Rattle.syn_recognize.proofs.Copied.{nothing}
+use Rattle.syn_recognize.proofs.Writes.{adds_nothing}
 
 gone : (a : Bool) → way a (Vanishing true (Right Nothing)) ≡ end
 gone true = refl
@@ -36,3 +37,12 @@ captured_is g w ts = go (parse_form g ts)
     go : (o : Out) → copied w (caught ts o) ≡ next (copied unwritten o) (capturing w ts)
     go None = refl
     go (Some p) = ap (λ i. Reached (adds w i) p.1) (way_captured w.printing (before ts p.1))
+
+-- where all is dropped
+pub dropped_is : (g : Grammar) (w : Written) (ts : Stream) → drops w ≡ true → copy_form g w ts ≡ next (copy_form g unwritten ts) (forgetting w)
+unfolding copy_form
+dropped_is g w ts e = go (parse_form g ts)
+  where
+    go : (o : Out) → copied w o ≡ next (copied unwritten o) (forgetting w)
+    go None = refl
+    go (Some p) = ap (λ v. Reached v p.1) (adds_nothing w (way w.printing p.0) e)

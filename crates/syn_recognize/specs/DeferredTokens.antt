@@ -1,15 +1,20 @@
 -- DEFERRED TREES: tokens that are read as a whole, what they are read as, and what is printed of it.
-use Rattle.std.specs.Prelude.{◌≡◌, ℕ, zero, suc, Some, None}
-use Rattle.syn_grammar.specs.Tokens.{Stream, end}
-use Rattle.syn_grammar.specs.Rules.{Rule, constant, whole_expression}
-use Rattle.syn_grammar.specs.Grammar.{Syntax, Nothing, show, print}
+use Rattle.std.specs.Prelude.{◌≡◌, ℕ, zero, suc, Option, Some, None}
+use Rattle.syn_grammar.specs.Tokens.{Stream, end, Brace}
+use Rattle.syn_grammar.specs.Rules.{Rule, constant, whole_expression, statements, item, items}
+use Rattle.syn_grammar.specs.Grammar.{Syntax, Nothing, Node, Group, show, print}
 use Rattle.syn_grammar.specs.Take.{Out, only, is_end}
 use Rattle.syn_grammar.specs.Run.{parse_rule}
+use Rattle.syn_tokens.specs.Spans.{at}
+use Rattle.syn_tokens.specs.declared.token.delimiters.Delimiters.{Delimiters}
 
--- any expression, and constants
+-- any expression, constants, and an item; and statements and items, which are only read to the end of a group
 abbrev pub kind_rule : ℕ → Rule
 kind_rule zero = whole_expression
-kind_rule (suc n) = constant
+kind_rule (suc zero) = constant
+kind_rule (suc (suc zero)) = item
+kind_rule (suc (suc (suc zero))) = statements
+kind_rule (suc (suc (suc (suc n)))) = items
 
 abbrev pub tree_in : Out → Syntax
 tree_in (Some p) = p.0
@@ -24,6 +29,18 @@ pub record IsDeferred (k : Rule) (source printed : Stream) : Type 0 where
   pub whole : parse_rule k source ≡ Some (read_as k source, end)
   pub shown : source ≡ show (read_as k source)
   pub as_printed : printed ≡ print (read_as k source)
+
+-- what is printed, where it is told only if it isn't what is shown
+abbrev pub printed_from : {B : Type 0} → (B → Stream) → Stream → Option B → Stream
+printed_from of source (Some b) = of b
+printed_from of source None = source
+
+abbrev pub printed_or : Stream → Option Stream → Stream
+printed_or = printed_from (λ s. s)
+
+-- statements as a block with these braces
+abbrev pub in_braces : {K : Type 0} → Delimiters K → Syntax → Syntax
+in_braces braces s = Node (Group Brace (at braces.opening) (at braces.closing) s)
 
 -- an answer with nothing left
 abbrev pub whole_only : Out → Out

@@ -1,11 +1,13 @@
 -- WHAT FORMS AS DATA STAND FOR.
 use Rattle.std.specs.Prelude.{true, false, [], ◌∷◌}
-use Rattle.syn_grammar.specs.Words.{w_self, w_Self_type, w_super, w_crate}
+use Rattle.syn_grammar.specs.Words.{w_self, w_Self_type, w_super, w_crate, w_try, w_underscore}
 use Rattle.syn_grammar.specs.Rules.{whole_expression}
 use Rattle.syn_grammar.specs.Grammar as grammar
 use Rattle.syn_recognize.specs.Ordered.{first_form, other_form, generics_form}
 use Rattle.syn_recognize.specs.Fading.{fading_form}
-use Rattle.syn_recognize.specs.Unions.{union_form}
+use Rattle.syn_recognize.specs.Stages.{planned_form}
+use Rattle.syn_recognize.specs.Supplied.{supplied_form}
+use Rattle.syn_grammar.specs.Tokens.{Str}
 use Rattle.syn_grammar.specs.Grammar.{Kind, Grammar, empty, token, mark, lifetime, ◌&◌, when◌then◌else◌, inside, raw, rest_after, either, one_of, rule, such, trailing_brace, no_trailing_brace, shaped, unshown, ordered, vanishing, captured}
 use Rattle.syn_tokens.specs.Delimiters.{delimiter_of}
 use Rattle.syn_recognize.specs.Parts.{part_form}
@@ -19,6 +21,11 @@ abbrev pub kind_of : Token → Kind
 kind_of Token-m.Name = grammar.name
 kind_of Token-m.PathWord = grammar.name_or (w_self ∷ w_Self_type ∷ w_super ∷ w_crate ∷ [])
 kind_of Token-m.NameOrSelfType = grammar.name_or (w_Self_type ∷ [])
+kind_of Token-m.UseWord = grammar.name_or (w_self ∷ w_super ∷ w_crate ∷ w_try ∷ [])
+kind_of Token-m.NameOrUnderscore = grammar.name_or (w_underscore ∷ [])
+kind_of Token-m.NameOrSelf = grammar.name_or (w_self ∷ [])
+kind_of Token-m.NameOrTry = grammar.name_or (w_try ∷ [])
+kind_of Token-m.Str = grammar.literal_of (Str ∷ [])
 kind_of Token-m.NameOrPathStart = grammar.name_or (w_self ∷ w_super ∷ w_crate ∷ [])
 kind_of (Token-m.Word w) = grammar.word (word_text w)
 kind_of Token-m.Literal = grammar.any_literal
@@ -47,5 +54,7 @@ grammar_of Form-m.Generics = generics_form
 grammar_of (Form-m.Fading k) = fading_form k
 grammar_of (Form-m.Hidden' c p f) = vanishing true (look_of c.now) (grammar_of f)
 grammar_of (Form-m.Captured' p f) = captured (grammar_of f)
-grammar_of (Form-m.Union k) = union_form k
+grammar_of (Form-m.Planned k) = planned_form k
+grammar_of (Form-m.Only k) = one_of (rule_of k ∷ [])
+grammar_of (Form-m.Supplied k) = supplied_form k
 grammar_of (Form-m.ByBraces' p f q g) = either (such trailing_brace (rule whole_expression) & grammar_of f) (such no_trailing_brace (rule whole_expression) & grammar_of g)

@@ -2,7 +2,7 @@
 -- all of them, one behind the other; an operand of some level is one and those that bind more tightly.
 use Rattle.std.specs.Prelude.{◌≡◌, ◌-◌, ℕ, zero, suc, Bool, true, false, List, [], ◌∷◌, nat_eq}
 use Rattle.syn_grammar.specs.Tokens.{Stream, or}
-use Rattle.syn_grammar.specs.Rules.{Rule, casts, products, sums, shifts, bit_ands, bit_xors, bit_ors, compared, conjunctions, disjunctions, assigned, unary}
+use Rattle.syn_grammar.specs.Rules.{Rule, casts, products, sums, shifts, bit_ands, bit_xors, bit_ors, compared, conjunctions, disjunctions, assigned, products_head, sums_head, shifts_head, bit_ands_head, bit_xors_head, bit_ors_head, compared_head, conjunctions_head, disjunctions_head, assigned_head}
 use Rattle.syn_grammar.specs.Grammar.{Grammar, empty, unshown, vanishing, when◌then◌else◌, one_of, rule}
 use Rattle.syn_grammar.specs.Table.{table, at_unfinished}
 use Rattle.syn_parse.specs.Firsts.{Begins}
@@ -17,12 +17,24 @@ use Rattle.syn_recognize.specs.Copies.{Copy, Reached, next, copy_form}
 abbrev pub finished : Grammar
 finished = when at_unfinished then (one_of []) else empty
 
-abbrev pub ladder : List Rule
-ladder = casts ∷ products ∷ sums ∷ shifts ∷ bit_ands ∷ bit_xors ∷ bit_ors ∷ compared ∷ conjunctions ∷ disjunctions ∷ assigned ∷ []
+-- a rule, or what stands behind all of them
+pub data Rail : Type 0 where
+  by : Rule → Rail
+  done : Rail
 
-abbrev pub at_level : (Rule → Grammar) → List Rule → ℕ → Grammar
+-- behind an operand, and then behind one in the head of an `if`, a `while` or a `for`
+abbrev pub ladder : List Rail
+ladder =
+    by casts ∷ by products ∷ by sums ∷ by shifts ∷ by bit_ands ∷ by bit_xors ∷ by bit_ors ∷ by compared ∷ by conjunctions ∷ by disjunctions ∷ by assigned ∷ done
+    ∷ by casts ∷ by products_head ∷ by sums_head ∷ by shifts_head ∷ by bit_ands_head ∷ by bit_xors_head ∷ by bit_ors_head ∷ by compared_head ∷ by conjunctions_head ∷ by disjunctions_head ∷ by assigned_head ∷ done ∷ []
+
+abbrev pub on_rail : (Rule → Grammar) → Rail → Grammar
+on_rail h (by k) = h k
+on_rail h done = finished
+
+abbrev pub at_level : (Rule → Grammar) → List Rail → ℕ → Grammar
 at_level h [] n = finished
-at_level h (k ∷ ks) zero = h k
+at_level h (k ∷ ks) zero = on_rail h k
 at_level h (k ∷ ks) (suc n) = at_level h ks n
 
 -- the level of this number: its rule, and that rule's form
@@ -45,9 +57,9 @@ loud (vanishing true c g) f = may c f
 loud (when c then g else h) f = or (may c f) (loud h f)
 loud g f = true
 
--- the rule reads a unary level, and so many levels behind it
-unfoldable pub Rung : Rule → ℕ → Type 0
-Rung k j = (w : Written) (ts : Stream) → copy_form (rule k) w ts ≡ next (copy_form (rule unary) w ts) (climb j 0)
+-- the second rule reads the first, and so many levels behind it, from this one on
+unfoldable pub Rung : Rule → ℕ → Rule → ℕ → Type 0
+Rung u b k j = (w : Written) (ts : Stream) → copy_form (rule k) w ts ≡ next (copy_form (rule u) w ts) (climb j b)
 
 -- of the levels from one number up to another, those before a third read nothing where this stands next
 unfoldable pub Passes : ℕ → ℕ → ℕ → First → Type 0

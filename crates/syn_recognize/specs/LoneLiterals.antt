@@ -1,6 +1,6 @@
 -- TREES THAT ARE A LITERAL ALONE.
-use Rattle.std.specs.Prelude.{◌≡◌, ℕ, zero, suc, Bool, true, Some, None, Result, Ok, Err}
-use Rattle.syn_grammar.specs.Words.{comma}
+use Rattle.std.specs.Prelude.{◌≡◌, ℕ, zero, suc, Bool, true, false, Some, None, Result, Ok, Err}
+use Rattle.syn_grammar.specs.Words.{comma, semicolon}
 use Rattle.syn_grammar.specs.Tokens.{Stream, ended, at_mark, and, or}
 use Rattle.syn_grammar.specs.Grammar.{Syntax, any_literal, show}
 use Rattle.syn_grammar.specs.Take.{sees, take_token}
@@ -8,12 +8,13 @@ use Rattle.syn_parse.specs.FirstTokens.{at_any_literal}
 use Rattle.syn_parse.specs.Peeks.{past}
 use Rattle.syn_recognize.specs.declared.reading.ShownAndPrinted.{ShownAndPrinted}
 
--- behind the next token an expression is over for sure: nothing follows, or a comma
+-- behind a literal the tree is over for sure: any constant is, and an expression where nothing follows, or a comma or semicolon
 abbrev pub is_over : ℕ → Stream → Bool
-is_over zero ts = or (sees ended (past ts)) (sees (at_mark comma) (past ts))
-is_over (suc n) ts = true
+is_over zero ts = or (sees ended (past ts)) (or (sees (at_mark comma) (past ts)) (sees (at_mark semicolon) (past ts)))
+is_over (suc zero) ts = true
+is_over (suc (suc n)) ts = false
 
--- a literal stands next, and is the whole tree: any constant, or an expression that is over behind it
+-- a literal stands next, and is the whole tree
 unfoldable pub is_lone_literal : ℕ → Stream → Bool
 is_lone_literal n ts = and (sees at_any_literal ts) (is_over n ts)
 

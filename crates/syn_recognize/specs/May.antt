@@ -105,6 +105,17 @@ may_hold Look-m.Restriction f = is_group Paren f
 may_hold Look-m.NamelessFields f = or (is_keyword f) (is_name f)
 may_hold Look-m.ParameterEnd f = or (is_mark 44 f) (or (is_mark 62 f) (is_mark 61 f))
 may_hold Look-m.PredicateEnd f = or (is_ended f) (or (is_group Brace f) (or (is_mark 44 f) (or (is_mark 59 f) (or (is_mark 61 f) (is_mark 58 f)))))
+may_hold Look-m.Item f = or (is_name f) (or (is_keyword f) (is_mark 58 f))
+may_hold Look-m.Receiver f = or (is_mark 38 f) (is_keyword f)
+may_hold Look-m.Generics f = is_mark 60 f
+may_hold Look-m.NoMacroItem f = or (is_keyword f) (is_name f)
+may_hold Look-m.StrLiteral f = is_literal f
+may_hold Look-m.BeforeColons f = true
+may_hold Look-m.BeforeMacro f = true
+may_hold Look-m.MarkedUnion f = is_name f
+may_hold Look-m.MarkedAuto f = is_name f
+may_hold Look-m.InRestriction f = is_group Paren f
+may_hold Look-m.LoneWord f = is_group Paren f
 
 -- and whether it holds there for sure
 abbrev pub is_one : Text → Bool

@@ -18,3 +18,12 @@ holds_nothing None = false
 abbrev pub restricts : Option Stream → Bool
 restricts (Some i) = or (sees (at_word w_in) i) (lone_word i)
 restricts None = false
+
+-- the same, each by itself
+abbrev pub begins_in : Option Stream → Bool
+begins_in (Some i) = sees (at_word w_in) i
+begins_in None = false
+
+abbrev pub is_lone_word : Option Stream → Bool
+is_lone_word (Some i) = lone_word i
+is_lone_word None = false

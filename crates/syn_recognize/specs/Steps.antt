@@ -7,6 +7,7 @@ use Rattle.syn_recognize.specs.Forms.{grammar_of}
 use Rattle.syn_recognize.specs.Written.{Written}
 use Rattle.syn_recognize.specs.Copies.{Copy, Reached, Refused, Leads, next, closing, forgetting, returning, capturing, copy_form, copy_row, after_member, copy_others, after_other, after_late, by_braces}
 use Rattle.syn_recognize.specs.Ladder.{climb}
+use Rattle.syn_recognize.specs.Courses.{course_of, copy_guess, by_roots}
 use Rattle.syn_recognize.specs.declared.step.Step.{Step}
 use Rattle.syn_recognize.specs.declared.step.Step.TheVariants as Step-m
 
@@ -22,6 +23,8 @@ after (Step-m.Note b ts n) o = next o (returning b.value ts)
 after (Step-m.Skip k b l) o = next o (after_late k l b.value)
 after (Step-m.Forget b) o = next o (forgetting b.value)
 after (Step-m.Capture b ts) o = next o (capturing b.value ts)
+after (Step-m.Plan p g) o = next o (copy_guess g (course_of p.now))
+after (Step-m.Rooted p q g b) o = next o (by_roots b (copy_guess g (course_of p.now)) (copy_guess g (course_of q.now)))
 after (Step-m.ByBraces f g ts) o = next o (by_braces (grammar_of f.now) (grammar_of g.now) ts)
 after (Step-m.Levels a b) o = next o (climb (b - a) a)
 
@@ -45,12 +48,7 @@ abbrev pub Runs : {E : Type 0} → (E → Type 0) → Copy → Result (Unit {0})
 Runs refusal out (Ok x) w ts = out ≡ Reached w ts
 Runs refusal out (Err e) w ts = refusal e → out ≡ Refused
 
--- the same of several steps: nothing is read by all that was to be done
-abbrev pub Reads : {E : Type 0} → (E → Type 0) → List Step → Copy → Result (Unit {0}) E → List Step → Written → Stream → Type 0
-Reads refusal old out (Ok x) new w ts = todo old out ≡ todo new (Reached w ts)
-Reads refusal old out (Err e) new w ts = refusal e → todo old out ≡ Refused
-
--- and where one of them may begin with a guess
+-- the same of several steps, of which one may begin with a guess: nothing is read by all that was to be done
 abbrev pub Leading : {E : Type 0} → (E → Type 0) → List Step → Copy → Result (Unit {0}) E → List Step → Written → Stream → Type 0
 Leading refusal old out (Ok x) new w ts = Leads (todo old out) (todo new (Reached w ts))
 Leading refusal old out (Err e) new w ts = refusal e → todo old out ≡ Refused

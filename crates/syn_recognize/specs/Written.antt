@@ -19,6 +19,14 @@ blank a = record { printing = a; out = Some (record { before = end; open_groups 
 abbrev pub unwritten : Written
 unwritten = record { printing = false; out = None }
 
+abbrev pub changed : (Building → Building) → Option Building → Option Building
+changed f None = None
+changed f (Some b) = Some (f b)
+
+-- nothing was written yet in the same way
+abbrev pub beside : Written → Written
+beside w = record { printing = w.printing; out = changed (λ b. record { before = end; open_groups = []; stream = end }) w.out }
+
 abbrev pub drops_in : Option Building → Bool
 drops_in None = true
 drops_in (Some b) = false
@@ -34,10 +42,6 @@ stream_in (Some b) = b.stream
 -- what was written so far in the innermost open group
 abbrev pub stream_of : Written → Stream
 stream_of w = stream_in w.out
-
-abbrev pub changed : (Building → Building) → Option Building → Option Building
-changed f None = None
-changed f (Some b) = Some (f b)
 
 -- these trees were added
 unfoldable pub adds : Written → Stream → Written

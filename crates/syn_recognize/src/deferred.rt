@@ -1,10 +1,11 @@
 //! Deferred trees: trees that are kept as their tokens, and read when somebody opens them. A type may hold one that leads
 //! back to itself through its tree: nothing that is kept, read, copied, compared, printed or dropped knows the tree's type.
-ghost use Rattle.std.specs.Prelude.{◌≡◌, ◌↔◌, [], Some, IfOk, IfErr, OnOk, IsTrue};
+ghost use Rattle.std.specs.Prelude.{◌≡◌, ◌↔◌, [], true, Some, IfOk, IfErr, OnOk, IsTrue};
 ghost use Rattle.syn_grammar.specs.Tokens.{end};
-ghost use Rattle.syn_grammar.specs.Grammar.{rule, Node, show, print, plain_syntax};
+ghost use Rattle.syn_grammar.specs.Grammar.{rule, show, print, plain_syntax};
 ghost use Rattle.syn_grammar.specs.Run.{parse_rule};
 ghost use Rattle.syn_grammar.specs.Same.{same_syntax};
+ghost use Rattle.syn_grammar.specs.StandsAlone.{stands_alone};
 ghost use Rattle.syn_grammar.specs.Promises.{Computes, Takes, itself};
 ghost use Rattle.syn_parse.specs.Form.{of};
 ghost use Rattle.syn_parse.specs.Refusals.{IsSyntax};
@@ -13,13 +14,14 @@ ghost use Rattle.syn_parse.specs.Meanings.{meaning_of_rule};
 ghost use Rattle.syn_tokens.specs.Faults.{IsSyntaxError};
 ghost use Rattle.syn_tokens.specs.Comparison.{same_by, same_equiv, same_per};
 ghost use Rattle.syn_recognize.specs.Copies.{least};
-ghost use Rattle.syn_recognize.specs.DeferredTokens.{kind_rule, read_as, IsDeferred, whole_only};
+ghost use Rattle.syn_recognize.specs.DeferredTokens.{kind_rule, printed_or, read_as, IsDeferred, whole_only};
 ghost use Rattle.syn_recognize.specs.Names.{rule_of};
 ghost use Rattle.syn_recognize.specs.Printed.{ShowsAndPrints};
 
 use crate::literals::{is_lone_literal, read_literal};
 use crate::reading::{ShownAndPrinted, recognized_and_printed};
 use crate::rules::Rule;
+use crate::same::are_same;
 use std::alloc::{AllocError, Global};
 use std::marker::Model;
 use syn_parse::buffer::ParseBuffer;
@@ -33,17 +35,24 @@ use syn_tokens::syntactic::Syntactic;
 use syn_tokens::syntactic::compare::Compared;
 use syn_tokens::syntactic::try_clone::TryClone;
 
+mod block;
+
+pub use block::{BlockOf, DeferredBlock};
+
 /// A type of the trees that a deferred one stands for. It may stand above all types that hold a deferred tree.
 pub trait TreeOf<const KIND: usize>: ToTokens + Drop {
-    ghost use Rattle.syn_grammar.specs.Grammar.{Node};
+    ghost use Rattle.syn_grammar.specs.Grammar.{Syntax};
     ghost use Rattle.syn_grammar.specs.Run.{parse_rule};
     ghost use Rattle.syn_grammar.specs.Promises.{Computes};
     ghost use Rattle.syn_parse.specs.Refusals.{IsSyntax};
     ghost use Rattle.syn_recognize.specs.DeferredTokens.{kind_rule};
 
-    /// Reads a tree by the rule of constants, or of any expression. Refused for the input only where the rule computes nothing.
+    /// What a tree stands for, as the kind's rule reads it.
+    ghost whole: { Self → Syntax };
+
+    /// Reads a tree by the kind's rule. Refused for the input only where the rule computes nothing.
     fn read_tree(input: &mut ParseBuffer<'_>) -> Parsed<Self>
-        ensures reads { Computes IsSyntax (λ tree. Node (Self.syntax tree)) (parse_rule (kind_rule KIND) input.old) result input.new };
+        ensures reads { Computes IsSyntax Self.whole (parse_rule (kind_rule KIND) input.old) result input.new };
 }
 
 /// Any expression as its tokens.
@@ -52,18 +61,28 @@ pub type DeferredExpr = Deferred<0>;
 /// A constant as its tokens: a block, a literal, `true` or `false`.
 pub type DeferredConstant = Deferred<1>;
 
-/// A tree as its tokens, which are known to be one: of a constant, or of any expression.
+/// An item as its tokens.
+pub type DeferredItem = Deferred<2>;
+
+/// The statements of a block as their tokens. They are read to the end of the block.
+pub type DeferredStatements = Deferred<3>;
+
+/// Items as their tokens, as in a module. They are read to the end of the module.
+pub type DeferredItems = Deferred<4>;
+
+/// A tree as its tokens, which are known to be one of its kind.
 #[derive(Drop)]
 pub struct Deferred<const KIND: usize> {
     /// What is shown of the tree, from which it is read.
     shown: Box<TokenStream>,
-    printed: Box<TokenStream>,
+    /// What is printed of it, where that isn't what is shown.
+    printed: Option<Box<TokenStream>>,
 }
 
 impl<const KIND: usize> Model for Deferred<KIND> {
     ghost use Rattle.syn_grammar.specs.Grammar.{Syntax};
     ghost use Rattle.syn_grammar.specs.TreeCodes.{syntax_code};
-    ghost use Rattle.syn_recognize.specs.DeferredTokens.{kind_rule, read_as, IsDeferred};
+    ghost use Rattle.syn_recognize.specs.DeferredTokens.{kind_rule, printed_from, read_as, IsDeferred};
 
     ghost Value = { Syntax };
 
@@ -71,7 +90,7 @@ impl<const KIND: usize> Model for Deferred<KIND> {
 
     ghost view = { λ d. read_as (kind_rule KIND) d.shown.value };
 
-    ghost invariant = { λ d. IsDeferred (kind_rule KIND) d.shown.value d.printed.value };
+    ghost invariant = { λ d. IsDeferred (kind_rule KIND) d.shown.value (printed_from (λ b. b.value) d.shown.value d.printed) };
 }
 
 impl<const KIND: usize> Syntactic for Deferred<KIND> {
@@ -85,9 +104,28 @@ impl<const KIND: usize> Deferred<KIND> {
         requires { IsDeferred (kind_rule KIND) tokens.shown tokens.printed }
         ensures { IfOk result (λ deferred. deferred ≡ read_as (kind_rule KIND) tokens.shown) }
     {
+        if are_same(&tokens.shown, &tokens.printed) {
+            return Deferred::kept(tokens.shown, None, alloc);
+        }
+        Deferred::kept(tokens.shown, Some(tokens.printed), alloc)
+    }
+
+    /// The same, where what is printed is told only if it isn't what is shown.
+    fn kept(
+        shown: TokenStream,
+        printed: Option<TokenStream>,
+        alloc: Global,
+    ) -> std::result::Result<Deferred<KIND>, AllocError>
+        requires { IsDeferred (kind_rule KIND) shown (printed_or shown printed) }
+        ensures { IfOk result (λ deferred. deferred ≡ read_as (kind_rule KIND) shown) }
+    {
+        let printed = match printed {
+            Some(printed) => Some(Box::new(alloc, printed)?),
+            None => None,
+        };
         Ok(Deferred {
-            shown: Box::new(alloc, tokens.shown)?,
-            printed: Box::new(alloc, tokens.printed)?,
+            shown: Box::new(alloc, shown)?,
+            printed,
         })
     }
 
@@ -103,13 +141,16 @@ impl<const KIND: usize> Deferred<KIND> {
     fn printed(&self) -> &TokenStream
         ensures { result.now ≡ print self.now }
     {
-        &self.printed
+        match &self.printed {
+            Some(printed) => printed,
+            None => &self.shown,
+        }
     }
 
     /// The tree that it stands for, spans included. Refused only where memory is, and where the tree's type reads no tree that is
     /// nested so deep.
     pub fn open<T: TreeOf<KIND>>(&self) -> Result<T>
-        ensures ok { IfOk result (λ tree. Node (T.syntax tree) ≡ self.now) }
+        ensures ok { IfOk result (λ tree. T.whole tree ≡ self.now) }
         ensures memory { IfErr result (λ e. e ≡ []) }
     {
         let mut input = ParseBuffer::new(self.source());
@@ -145,7 +186,10 @@ fn rule_of_kind(kind: usize) -> Rule
 {
     match kind {
         0 => Rule::WholeExpression,
-        _ => Rule::Constant,
+        1 => Rule::Constant,
+        2 => Rule::Item,
+        3 => Rule::Statements,
+        _ => Rule::Items,
     }
 }
 
@@ -161,8 +205,9 @@ fn tokens_of<const KIND: usize>(input: &mut ParseBuffer<'_>) -> Parsed<ShownAndP
     recognized_and_printed(rule_of_kind(KIND), input)
 }
 
-/// Reads a tree, and keeps its tokens alone.
+/// Reads a tree, and keeps its tokens alone. Statements and items in a row aren't read so: what goes them on may stand behind them.
 pub fn read_deferred<const KIND: usize>(input: &mut ParseBuffer<'_>) -> Parsed<Deferred<KIND>>
+    requires { stands_alone (kind_rule KIND) ≡ true }
     ensures reads { Computes IsSyntax itself (parse_rule (kind_rule KIND) input.old) result input.new }
     ensures moved { Takes (least (kind_rule KIND)) input.old result input.new }
 {
@@ -191,11 +236,12 @@ impl<const KIND: usize> ToTokens for Deferred<KIND> {}
 
 impl<const KIND: usize> TryClone for Deferred<KIND> {
     fn try_clone(&self, alloc: Global) -> Result<Deferred<KIND>> {
-        let tokens = ShownAndPrinted {
-            shown: self.source().try_clone(alloc)?,
-            printed: self.printed().try_clone(alloc)?,
+        let shown = self.source().try_clone(alloc)?;
+        let printed = match &self.printed {
+            Some(printed) => Some((**printed).try_clone(alloc)?),
+            None => None,
         };
-        Ok(Deferred::of(tokens, alloc)?)
+        Ok(Deferred::kept(shown, printed, alloc)?)
     }
 }
 
@@ -225,14 +271,41 @@ impl<const KIND: usize> Eq for Deferred<KIND> {
     ghost laws = { same_equiv itself };
 }
 
-impl<const KIND: usize> Read for Deferred<KIND> {
-    ghost form = { of (rule (kind_rule KIND)) };
+/// Any expression.
+impl Read for Deferred<0> {
+    ghost form = { of (rule (kind_rule 0)) };
 
-    ghost takes = { least (kind_rule KIND) };
+    ghost takes = { least (kind_rule 0) };
 
-    ghost meaning = { meaning_of_rule (kind_rule KIND) };
+    ghost meaning = { meaning_of_rule (kind_rule 0) };
 
-    fn read(input: &mut ParseBuffer<'_>) -> Parsed<Deferred<KIND>> {
+    fn read(input: &mut ParseBuffer<'_>) -> Parsed<Deferred<0>> {
+        read_deferred(input)
+    }
+}
+
+/// A constant.
+impl Read for Deferred<1> {
+    ghost form = { of (rule (kind_rule 1)) };
+
+    ghost takes = { least (kind_rule 1) };
+
+    ghost meaning = { meaning_of_rule (kind_rule 1) };
+
+    fn read(input: &mut ParseBuffer<'_>) -> Parsed<Deferred<1>> {
+        read_deferred(input)
+    }
+}
+
+/// An item.
+impl Read for Deferred<2> {
+    ghost form = { of (rule (kind_rule 2)) };
+
+    ghost takes = { least (kind_rule 2) };
+
+    ghost meaning = { meaning_of_rule (kind_rule 2) };
+
+    fn read(input: &mut ParseBuffer<'_>) -> Parsed<Deferred<2>> {
         read_deferred(input)
     }
 }

@@ -16,7 +16,7 @@ ghost use Rattle.syn_recognize.specs.Steps.{Steps};
 
 use crate::form::Form;
 use crate::list::List;
-use crate::look::{at_parameter_end, at_predicate_end};
+use crate::look::{at_parameter_end, at_predicate_end, at_supertraits_end, at_type_bounds_end};
 use crate::rules::{Rule, form_of};
 use crate::step::Step;
 use crate::token::Token;
@@ -36,6 +36,10 @@ pub enum Fading {
     Bounds,
     /// `where`, and its predicates.
     Predicates,
+    /// `:`, and the bounds of a trait.
+    Supertraits,
+    /// `:`, and the bounds of a type.
+    TypeBounds,
 }
 
 static COLON: Form = Form::Mark(Mark::Colon);
@@ -52,6 +56,8 @@ fn head(part: Fading) -> &'static Form
         Fading::Lifetimes => &COLON,
         Fading::Bounds => &COLON,
         Fading::Predicates => &WHERE,
+        Fading::Supertraits => &COLON,
+        Fading::TypeBounds => &COLON,
     }
 }
 
@@ -63,6 +69,8 @@ fn list_of(part: Fading) -> Rule
         Fading::Lifetimes => Rule::Lifetimes,
         Fading::Bounds => Rule::ParameterBounds,
         Fading::Predicates => Rule::Predicates,
+        Fading::Supertraits => Rule::Supertraits,
+        Fading::TypeBounds => Rule::TypeBounds,
     }
 }
 
@@ -74,6 +82,8 @@ fn at_head(part: Fading, input: &ParseBuffer<'_>) -> bool
         Fading::Lifetimes => input.peek::<Colon>(),
         Fading::Bounds => input.peek::<Colon>(),
         Fading::Predicates => input.peek::<Where>(),
+        Fading::Supertraits => input.peek::<Colon>(),
+        Fading::TypeBounds => input.peek::<Colon>(),
     }
 }
 
@@ -85,6 +95,8 @@ fn skip_head(part: Fading, input: &mut ParseBuffer<'_>) -> Parsed<()>
         Fading::Lifetimes => skip_colon(input),
         Fading::Bounds => skip_colon(input),
         Fading::Predicates => skip_where(input),
+        Fading::Supertraits => skip_colon(input),
+        Fading::TypeBounds => skip_colon(input),
     }
 }
 
@@ -112,6 +124,8 @@ fn begins_list(part: Fading, input: &ParseBuffer<'_>) -> bool
         Fading::Lifetimes => input.peek::<Lifetime>(),
         Fading::Bounds => !at_parameter_end(input),
         Fading::Predicates => !at_predicate_end(input),
+        Fading::Supertraits => !at_supertraits_end(input),
+        Fading::TypeBounds => !at_type_bounds_end(input),
     }
 }
 

@@ -4,10 +4,11 @@ use crate::fault::Fault;
 use crate::left_out::Place;
 use crate::list::List;
 use crate::look::Look;
+use crate::plan::Planned;
 use crate::rules::{Part, Rule};
 use crate::shape::Shape;
+use crate::supplied::Nameless;
 use crate::token::Token;
-use crate::unions::Union;
 use crate::words::Mark;
 use syn_tokens::delimiter::Delimiter;
 
@@ -45,8 +46,12 @@ pub enum Form {
     Hidden(&'static Look, &'static Form),
     /// A part that is kept as the tokens that it is read of.
     Captured(&'static Form),
-    /// One of several rules that begin alike.
-    Union(Union),
+    /// One of several rules that begin alike: read by a plan.
+    Planned(Planned),
+    /// A union of this rule alone.
+    Only(Rule),
+    /// A pattern, a colon and what stands behind them; where a name stands before `<`, this alone, and `_ :` before it counts as read.
+    Supplied(Nameless),
     /// A whole expression, and what follows it: the first form where its last token tree is a group in braces, else the second.
     ByBraces(&'static Form, &'static Form),
 }

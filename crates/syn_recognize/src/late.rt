@@ -1,13 +1,13 @@
 //! Members that stand behind some other member of a list in `< >`, and are printed before it.
-ghost use Rattle.std.specs.Prelude.{◌≡◌, ◌↔◌, ◌∷◌, [], map, take, IsTrue, MatchOption};
+ghost use Rattle.std.specs.Prelude.{◌≡◌, ◌↔◌, ◌∷◌, [], map, IsTrue, MatchOption};
 ghost use Rattle.syn_tokens.specs.Spans.{at};
 ghost use Rattle.syn_recognize.specs.Late.{guess_of};
 
+use crate::same::are_same;
 use std::collections::VecDeque;
 use std::marker::Model;
 use syn_tokens::span::Span;
 use syn_tokens::stream::TokenStream;
-use syn_tokens::stream::entry::{Entry, Token};
 
 /// Such a member, as it is printed, and where the comma behind it stands; 0 to 0 where there is none.
 #[derive(Drop)]
@@ -65,45 +65,5 @@ impl Late {
         ensures { IsTrue result → guess_of self.now ≡ (tokens.now, at comma) }
     {
         are_same(&self.tokens, tokens) && self.comma == comma
-    }
-}
-
-/// Whether both are the same tokens, spans too.
-#[tactic(auto, using(crate::proofs::Exact::drop_same, crate::proofs::Exact::all_same))]
-fn are_same(one: &TokenStream, other: &TokenStream) -> bool
-    ensures { IsTrue result → one.now ≡ other.now }
-{
-    let (ones, others) = (one.entries(), other.entries());
-    if ones.len() != others.len() {
-        return false;
-    }
-    for i in 0..ones.len() {
-        if !is_same_entry(&ones[i], &others[i]) {
-            return false;
-        }
-    }
-    true
-}
-
-/// Whether both are the same token or delimiter, spans too.
-fn is_same_entry(one: &Entry, other: &Entry) -> bool
-    ensures { IsTrue result → one.now ≡ other.now }
-{
-    let (one, other) = (one.token(), other.token());
-    match (&one, &other) {
-        (Token::Ident(x), Token::Ident(y)) => x.text() == y.text() && x.span == y.span,
-        (Token::Literal(x), Token::Literal(y)) => {
-            x.kind() == y.kind() && x.text() == y.text() && x.span == y.span
-        }
-        (Token::Punct(x), Token::Punct(y)) => {
-            x.character() == y.character() && x.spacing == y.spacing && x.span == y.span
-        }
-        (Token::Open(x), Token::Open(y)) => {
-            x.delimiter == y.delimiter && x.span == y.span && x.skip == y.skip
-        }
-        (Token::Close(x), Token::Close(y)) => {
-            x.delimiter == y.delimiter && x.span == y.span && x.trees == y.trees
-        }
-        _ => false,
     }
 }

@@ -3,9 +3,9 @@ use syn_parse::buffer::ParseBuffer;
 use syn_tokens::ident::Ident;
 use syn_tokens::literal::Literal;
 use syn_tokens::token::{
-    And, Async, At, Await, Brace, Bracket, Colon, Const, DotDot, Dyn, Enum, Extern, False, Fn, For,
-    Impl, Let, Match, Minus, Mod, Move, Mut, Not, Or, Paren, Pub, SelfValue, Star, Static, Struct,
-    Tilde, Trait, True, Try, Type, Underscore, Unsafe, Use, Yield,
+    And, Async, At, Await, Brace, Bracket, Colon, Const, DotDot, Dyn, Extern, False, Fn, For, Impl,
+    Let, Match, Minus, Move, Mut, Not, Or, Paren, SelfValue, Star, Static, Tilde, True, Try,
+    Underscore, Unsafe, Use, Yield,
 };
 
 /// Where another form could stand in Rust than the one that is read.
@@ -36,7 +36,7 @@ impl Place {
     }
 }
 
-/// An expression that is left out, or an item.
+/// An expression that is left out.
 fn expression(input: &ParseBuffer<'_>) -> Option<&'static str> {
     if input.peek::<Match>() {
         Some("`match` is not read here")
@@ -58,25 +58,9 @@ fn expression(input: &ParseBuffer<'_>) -> Option<&'static str> {
         Some("`yield` is not read here")
     } else if input.peek::<Underscore>() {
         Some("`_` as an expression is not read here")
-    } else if at_item_word(input) {
-        Some("items are not read here")
     } else {
         None
     }
-}
-
-/// Whether a keyword stands next that begins an item, and nothing else in Rust.
-fn at_item_word(input: &ParseBuffer<'_>) -> bool {
-    input.peek::<Fn>()
-        || input.peek::<Struct>()
-        || input.peek::<Enum>()
-        || input.peek::<Impl>()
-        || input.peek::<Trait>()
-        || input.peek::<Mod>()
-        || input.peek::<Use>()
-        || input.peek::<Type>()
-        || input.peek::<Extern>()
-        || input.peek::<Pub>()
 }
 
 /// A type, a bound or a generic argument that is left out.
@@ -156,7 +140,7 @@ fn behind(input: &ParseBuffer<'_>) -> Option<&'static str> {
     } else if at_macro(input) {
         Some("macros as types and patterns are not read here")
     } else if input.peek::<Brace>() {
-        Some("struct literals and struct patterns are not read here")
+        Some("struct patterns are not read here")
     } else if at_raw(input) {
         Some("raw references are not read here")
     } else {

@@ -1,6 +1,6 @@
 //! Levels of operators. Behind an operand one look tells which of them may go on with it, so that the others cost no step.
-ghost use Rattle.std.specs.Prelude.{◌≡◌, false, MatchOption};
-ghost use Rattle.syn_grammar.specs.Rules.{assigned, compared};
+ghost use Rattle.std.specs.Prelude.{◌≡◌, ◌≤◌, false, MatchOption};
+ghost use Rattle.syn_grammar.specs.Rules.{assigned, compared, unary, unary_head};
 ghost use Rattle.syn_grammar.specs.Run.{parse_form};
 ghost use Rattle.syn_grammar.specs.Table.{table};
 ghost use Rattle.syn_parse.specs.declared.buffer.first.First.TheVariants.{Group};
@@ -25,7 +25,7 @@ static FINISHED: Form = Form::When(
 /// How many levels the rule reads behind a unary one; none where it reads something else.
 #[tactic(auto, using(crate::proofs::Ladder::cast_rung, crate::proofs::Ladder::product_rung, crate::proofs::Ladder::sum_rung, crate::proofs::Ladder::shift_rung, crate::proofs::Ladder::bit_and_rung, crate::proofs::Ladder::bit_xor_rung, crate::proofs::Ladder::bit_or_rung, crate::proofs::Ladder::comparison_rung, crate::proofs::Ladder::conjunction_rung, crate::proofs::Ladder::disjunction_rung, crate::proofs::Ladder::whole_rung))]
 pub(crate) fn height_of(rule: Rule) -> Option<usize>
-    ensures { MatchOption result (Unit {0}) (λ height. Rung (rule_of rule) height) }
+    ensures { MatchOption result (Unit {0}) (λ height. Rung unary 0 (rule_of rule) height) }
 {
     match rule {
         Rule::Cast => Some(1),
@@ -39,6 +39,28 @@ pub(crate) fn height_of(rule: Rule) -> Option<usize>
         Rule::Conjunction => Some(9),
         Rule::Disjunction => Some(10),
         Rule::WholeExpression => Some(12),
+        _ => None,
+    }
+}
+
+/// The same of the rules of heads, of which the levels stand behind the others.
+#[tactic(auto, using(crate::proofs::Ladder::cast_head_rung, crate::proofs::Ladder::product_head_rung, crate::proofs::Ladder::sum_head_rung, crate::proofs::Ladder::shift_head_rung, crate::proofs::Ladder::bit_and_head_rung, crate::proofs::Ladder::bit_xor_head_rung, crate::proofs::Ladder::bit_or_head_rung, crate::proofs::Ladder::comparison_head_rung, crate::proofs::Ladder::conjunction_head_rung, crate::proofs::Ladder::disjunction_head_rung, crate::proofs::Ladder::whole_head_rung))]
+pub(crate) fn head_height_of(rule: Rule) -> Option<usize>
+    ensures rung { MatchOption result (Unit {0}) (λ height. Rung unary_head 12 (rule_of rule) height) }
+    ensures low { MatchOption result (Unit {0}) (λ height. height ≤ 12) }
+{
+    match rule {
+        Rule::CastHead => Some(1),
+        Rule::ProductHead => Some(2),
+        Rule::SumHead => Some(3),
+        Rule::ShiftHead => Some(4),
+        Rule::BitAndHead => Some(5),
+        Rule::BitXorHead => Some(6),
+        Rule::BitOrHead => Some(7),
+        Rule::ComparisonHead => Some(8),
+        Rule::ConjunctionHead => Some(9),
+        Rule::DisjunctionHead => Some(10),
+        Rule::WholeExpressionHead => Some(12),
         _ => None,
     }
 }
@@ -61,6 +83,18 @@ pub(crate) fn behind(level: usize) -> Option<&'static Form>
         9 => Some(form_of(Rule::Disjunctions)),
         10 => Some(form_of(Rule::Assigned)),
         11 => Some(&FINISHED),
+        12 => Some(form_of(Rule::Casts)),
+        13 => Some(form_of(Rule::ProductsHead)),
+        14 => Some(form_of(Rule::SumsHead)),
+        15 => Some(form_of(Rule::ShiftsHead)),
+        16 => Some(form_of(Rule::BitAndsHead)),
+        17 => Some(form_of(Rule::BitXorsHead)),
+        18 => Some(form_of(Rule::BitOrsHead)),
+        19 => Some(form_of(Rule::ComparedHead)),
+        20 => Some(form_of(Rule::ConjunctionsHead)),
+        21 => Some(form_of(Rule::DisjunctionsHead)),
+        22 => Some(form_of(Rule::AssignedHead)),
+        23 => Some(&FINISHED),
         _ => None,
     }
 }
@@ -126,6 +160,28 @@ fn may_read(level: usize, next: First) -> bool
         9 => is_mark('|', next),
         10 => may_assign(next),
         11 => may_go_on(next),
+        _ => may_read_in_head(level, next),
+    }
+}
+
+/// The same of levels in heads.
+#[tactic(auto, unfolding(crate::specs::Ladder::level_form))]
+fn may_read_in_head(level: usize, next: First) -> bool
+    ensures { result ≡ false → loud (level_form level) next ≡ false }
+{
+    match level {
+        12 => is_keyword(next),
+        13 => is_mark('*', next) || is_mark('/', next) || is_mark('%', next),
+        14 => is_mark('+', next) || is_mark('-', next),
+        15 => is_mark('<', next) || is_mark('>', next),
+        16 => is_mark('&', next),
+        17 => is_mark('^', next),
+        18 => is_mark('|', next),
+        19 => may_compare(next),
+        20 => is_mark('&', next),
+        21 => is_mark('|', next),
+        22 => may_assign(next),
+        23 => may_go_on(next),
         _ => true,
     }
 }

@@ -6,7 +6,7 @@ ghost use Rattle.syn_grammar.specs.Promises.{OrMemory, Takes};
 ghost use Rattle.syn_tokens.specs.Leaves.{literal_leaf};
 ghost use Rattle.syn_tokens.specs.Spans.{at};
 ghost use Rattle.syn_parse.specs.Refusals.{IsSyntax};
-ghost use Rattle.syn_recognize.specs.LoneLiterals.{is_lone_literal, ShowsLiteral};
+ghost use Rattle.syn_recognize.specs.LoneLiterals.{is_lone_literal, is_over, ShowsLiteral};
 
 use crate::reading::{ShownAndPrinted, copy_of};
 use std::alloc::Global;
@@ -16,14 +16,25 @@ use syn_parse::read::refusal::{Parsed, Refusal};
 use syn_tokens::literal::Literal;
 use syn_tokens::stream::TokenStream;
 use syn_tokens::stream::tree::TokenTree;
-use syn_tokens::token::Comma;
+use syn_tokens::token::{Comma, Semi};
 
-/// Whether a literal stands next that is the whole tree: any constant is, and an expression before a comma or the end.
+/// Whether a literal stands next that is the whole tree: any constant is, and an expression before a comma, a semicolon or the end.
 #[tactic(auto, unfolding(crate::specs::LoneLiterals::is_lone_literal))]
 pub(crate) fn is_lone_literal(kind: usize, input: &ParseBuffer<'_>) -> bool
     ensures { result ≡ is_lone_literal kind input.now }
 {
-    input.peek::<Literal>() && (kind != 0 || input.peek2::<End>() || input.peek2::<Comma>())
+    input.peek::<Literal>() && is_over(kind, input)
+}
+
+/// Whether such a tree is over behind the next token.
+fn is_over(kind: usize, input: &ParseBuffer<'_>) -> bool
+    ensures { result ≡ is_over kind input.now }
+{
+    match kind {
+        0 => input.peek2::<End>() || input.peek2::<Comma>() || input.peek2::<Semi>(),
+        1 => true,
+        _ => false,
+    }
 }
 
 /// Reads a literal.

@@ -15,15 +15,15 @@ ghost use Rattle.syn_recognize.specs.May.{head_of};
 ghost use Rattle.syn_recognize.specs.declared.look.Look.TheVariants.{PredicateEnd, Unfinished};
 
 use crate::expression_looks::{at_block_like, at_postfix_mark, at_unfinished, at_whole_expression};
-use crate::looks;
 use crate::words::{Mark, Word, at_mark, at_word, first_of, is_known, is_one};
+use crate::{item_looks as items, looks};
 use syn_parse::buffer::ParseBuffer;
 use syn_parse::buffer::first::First;
 use syn_parse::read::refusal::Parsed;
 use syn_tokens::delimiter::Delimiter;
 use syn_tokens::ident::Ident;
 use syn_tokens::literal::Literal;
-use syn_tokens::token::{Brace, Comma, Eq, Gt, Semi};
+use syn_tokens::token::{Brace, Comma, Eq, Gt, Semi, Where};
 use syn_tokens::{lifetime, token};
 
 /// A condition on what stands next.
@@ -59,6 +59,17 @@ pub enum Look {
     NamelessFields,
     ParameterEnd,
     PredicateEnd,
+    Item,
+    Receiver,
+    Generics,
+    NoMacroItem,
+    StrLiteral,
+    BeforeColons,
+    BeforeMacro,
+    MarkedUnion,
+    MarkedAuto,
+    InRestriction,
+    LoneWord,
 }
 
 /// Whether a group with these delimiters stands next.
@@ -109,6 +120,17 @@ pub(crate) fn holds(look: &Look, input: &ParseBuffer<'_>) -> Parsed<bool>
         Look::NamelessFields => Ok(looks::at_nameless_fields(input)),
         Look::ParameterEnd => Ok(at_parameter_end(input)),
         Look::PredicateEnd => Ok(at_predicate_end(input)),
+        Look::Item => items::at_item(input),
+        Look::Receiver => Ok(items::at_receiver(input)),
+        Look::Generics => Ok(items::at_generics(input)),
+        Look::NoMacroItem => Ok(items::at_no_macro_item(input)),
+        Look::StrLiteral => items::at_str(input),
+        Look::BeforeColons => Ok(items::is_before_colons(input)),
+        Look::BeforeMacro => items::is_before_macro(input),
+        Look::MarkedUnion => Ok(items::at_union(input)),
+        Look::MarkedAuto => Ok(items::at_auto(input)),
+        Look::InRestriction => Ok(items::at_in_restriction(input)),
+        Look::LoneWord => Ok(items::at_lone_word(input)),
     }
 }
 
@@ -134,9 +156,25 @@ pub(crate) fn at_predicate_end(input: &ParseBuffer<'_>) -> bool
         || at_lone_colon(input)
 }
 
+/// Whether what ends the bounds of a trait stands next: `where` or a group in braces.
+#[tactic(auto, using(syn_grammar::proofs::Looks::sees_or))]
+pub(crate) fn at_supertraits_end(input: &ParseBuffer<'_>) -> bool
+    ensures { result ≡ sees table.at_supertraits_end input.now }
+{
+    input.peek::<Where>() || input.peek::<Brace>()
+}
+
+/// Whether what ends the bounds of a type stands next: `where`, `=` or `;`.
+#[tactic(auto, using(syn_grammar::proofs::Looks::sees_or))]
+pub(crate) fn at_type_bounds_end(input: &ParseBuffer<'_>) -> bool
+    ensures { result ≡ sees table.at_type_bounds_end input.now }
+{
+    input.peek::<Where>() || input.peek::<Eq>() || input.peek::<Semi>()
+}
+
 /// Whether `:` stands next, and not `::`.
 #[tactic(auto, using(syn_grammar::proofs::Looks::sees_but))]
-fn at_lone_colon(input: &ParseBuffer<'_>) -> bool
+pub(crate) fn at_lone_colon(input: &ParseBuffer<'_>) -> bool
     ensures { result ≡ sees table.at_lone_colon input.now }
 {
     input.peek::<token::Colon>() && !input.peek::<token::PathSep>()
@@ -301,6 +339,17 @@ fn may_hold(look: &Look, next: First) -> bool
         Look::NamelessFields => is_keyword(next) || is_name(next),
         Look::ParameterEnd => is_mark(',', next) || is_mark('>', next) || is_mark('=', next),
         Look::PredicateEnd => may_end_predicate(next),
+        Look::Item => is_name(next) || is_keyword(next) || is_mark(':', next),
+        Look::Receiver => is_mark('&', next) || is_keyword(next),
+        Look::Generics => is_mark('<', next),
+        Look::NoMacroItem => is_keyword(next) || is_name(next),
+        Look::StrLiteral => is_literal(next),
+        Look::BeforeColons => true,
+        Look::BeforeMacro => true,
+        Look::MarkedUnion => is_name(next),
+        Look::MarkedAuto => is_name(next),
+        Look::InRestriction => is_group(Delimiter::Paren, next),
+        Look::LoneWord => is_group(Delimiter::Paren, next),
     }
 }
 
@@ -365,6 +414,17 @@ fn tells(look: &Look) -> bool
         Look::NamelessFields => false,
         Look::ParameterEnd => false,
         Look::PredicateEnd => false,
+        Look::Item => false,
+        Look::Receiver => false,
+        Look::Generics => false,
+        Look::NoMacroItem => false,
+        Look::StrLiteral => false,
+        Look::BeforeColons => false,
+        Look::BeforeMacro => false,
+        Look::MarkedUnion => false,
+        Look::MarkedAuto => false,
+        Look::InRestriction => false,
+        Look::LoneWord => false,
     }
 }
 

@@ -9,6 +9,7 @@ ghost use Rattle.syn_parse.specs.Form.{by};
 ghost use Rattle.syn_parse.specs.Peeks.{past};
 ghost use Rattle.syn_parse.specs.Refusals.{IsSyntax};
 ghost use Rattle.syn_recognize.specs.FieldNumbers.{is_integer};
+ghost use Rattle.syn_recognize.specs.ItemLooks.{at_named_macro};
 ghost use Rattle.syn_recognize.specs.Restricted.{lone_word};
 
 use syn_parse::buffer::ParseBuffer;
@@ -31,7 +32,7 @@ pub fn at_inner_attribute(input: &ParseBuffer<'_>) -> bool
 
 /// Whether `<` stands next, and not `<=`.
 #[tactic(auto, using(syn_grammar::proofs::Looks::sees_but))]
-fn at_less_only(input: &ParseBuffer<'_>) -> bool
+pub(crate) fn at_less_only(input: &ParseBuffer<'_>) -> bool
     ensures { result ≡ sees table.at_less_only input.now }
 {
     input.peek::<Lt>() && !input.peek::<Le>()
@@ -104,7 +105,7 @@ pub fn at_restriction(input: &ParseBuffer<'_>) -> bool
 }
 
 /// Whether `crate`, `self` or `super` is all that is left.
-fn is_lone_word(content: &ParseBuffer<'_>) -> bool
+pub(crate) fn is_lone_word(content: &ParseBuffer<'_>) -> bool
     ensures { result ≡ lone_word content.now }
 {
     (content.peek::<Crate>() || content.peek::<SelfValue>() || content.peek::<Super>())
@@ -215,10 +216,10 @@ pub fn at_crate_macro(input: &ParseBuffer<'_>) -> bool
 }
 
 /// Where a macro stands next, what is left behind its path: its `!` and more.
-fn behind_path<'a>(input: &ParseBuffer<'a>) -> Parsed<Option<ParseBuffer<'a>>>
+pub(crate) fn behind_path<'a>(input: &ParseBuffer<'a>) -> Parsed<Option<ParseBuffer<'a>>>
     ensures { OrMemory IsSyntax result (λ found. MatchOption found
-        ((sees table.at_macro input.now ≡ false) × (sees table.at_brace_macro input.now ≡ false))
-        (λ bang. (sees table.at_macro input.now ≡ true) × (sees table.at_brace_macro input.now ≡ sees table.at_brace (past bang)))) }
+        ((sees table.at_macro input.now ≡ false) × (sees table.at_brace_macro input.now ≡ false) × (sees at_named_macro input.now ≡ false))
+        (λ bang. (sees table.at_macro input.now ≡ true) × (sees table.at_brace_macro input.now ≡ sees table.at_brace (past bang)) × (sees at_named_macro input.now ≡ sees table.at_macro_name (past bang)))) }
 {
     let mut ahead = input.fork();
     let _leading: Option<PathSep> = ahead.read()?;

@@ -1,6 +1,6 @@
 //! What a rule reads where it is known what stands next: forms of operands without the conditions that this rules out.
 ghost use Rattle.std.specs.Prelude.{◌≡◌};
-ghost use Rattle.syn_grammar.specs.Rules.{attributes, expression_words, generic_argument, member, meta, module_path, postfixes, statement_rest, statements, type, type_arguments, type_path, type_words, unary, visibility};
+ghost use Rattle.syn_grammar.specs.Rules.{attributes, expression_words, generic_argument, member, meta, module_path, postfixes, statement_rest, statements, more_type_words, type, type_arguments, type_path, type_words, unary, unary_head, visibility};
 ghost use Rattle.syn_grammar.specs.Table.{table};
 ghost use Rattle.syn_parse.specs.declared.buffer.first.First.TheVariants as first;
 ghost use Rattle.syn_recognize.specs.Forms.{grammar_of};
@@ -10,6 +10,7 @@ ghost use Rattle.syn_recognize.specs.Opens.{Opens};
 
 use crate::form::Form;
 use crate::look::{Look, is_any_group, is_group, is_keyword, is_mark};
+use crate::plan::Planned;
 use crate::rules::{Part, Rule, form_of, form_of_part};
 use crate::shape::Shape;
 use crate::token::Token;
@@ -22,6 +23,42 @@ static NAME: Form = Form::Then(
     &Form::When(
         Look::Macro,
         &Form::Rule(Rule::MacroInvocation),
+        &Form::Then(
+            &Form::Rule(Rule::ExpressionWords),
+            &Form::When(
+                Look::Group(Delimiter::Brace),
+                &Form::Shaped(
+                    Shape::Fields,
+                    &Form::Inside(Delimiter::Brace, &Form::Rule(Rule::LiteralFields)),
+                ),
+                &Form::Empty,
+            ),
+        ),
+    ),
+    &Form::Rule(Rule::Postfixes),
+);
+
+/// An operand in a head that begins so.
+static HEAD_NAME: Form = Form::Then(
+    &Form::When(
+        Look::Macro,
+        &Form::Rule(Rule::MacroInvocation),
+        &Form::Rule(Rule::ExpressionWords),
+    ),
+    &Form::Rule(Rule::Postfixes),
+);
+
+/// One in a head that begins with a keyword.
+static HEAD_KEYWORD: Form = Form::Then(
+    &Form::Rule(Rule::PrimaryHead),
+    &Form::Rule(Rule::Postfixes),
+);
+
+/// One in a head that is a literal.
+static HEAD_LITERAL: Form = Form::Then(
+    &Form::When(
+        Look::AnyLiteral,
+        &Form::Token(Token::Literal),
         &Form::Rule(Rule::ExpressionWords),
     ),
     &Form::Rule(Rule::Postfixes),
@@ -35,7 +72,17 @@ static LITERAL: Form = Form::Then(
     &Form::When(
         Look::AnyLiteral,
         &Form::Token(Token::Literal),
-        &Form::Rule(Rule::ExpressionWords),
+        &Form::Then(
+            &Form::Rule(Rule::ExpressionWords),
+            &Form::When(
+                Look::Group(Delimiter::Brace),
+                &Form::Shaped(
+                    Shape::Fields,
+                    &Form::Inside(Delimiter::Brace, &Form::Rule(Rule::LiteralFields)),
+                ),
+                &Form::Empty,
+            ),
+        ),
     ),
     &Form::Rule(Rule::Postfixes),
 );
@@ -65,11 +112,7 @@ static WORDS: Form = Form::Then(
             ),
         ),
     ),
-    &Form::When(
-        Look::Mark(Mark::PathSep),
-        &Form::Then(&Form::Mark(Mark::PathSep), &Form::Rule(Rule::TypeWords)),
-        &Form::Empty,
-    ),
+    &Form::Part(Part::TypeWords2),
 );
 
 /// A type in parentheses.
@@ -101,17 +144,10 @@ static EXPRESSION_WORDS: Form = Form::Then(
             ),
         ),
     ),
-    &Form::When(
-        Look::Mark(Mark::PathSep),
-        &Form::Then(
-            &Form::Mark(Mark::PathSep),
-            &Form::Rule(Rule::ExpressionWords),
-        ),
-        &Form::Empty,
-    ),
+    &Form::Part(Part::ExpressionWords2),
 );
 
-/// A statement that begins with one, and those that follow: a macro in braces, or an expression.
+/// A statement that begins with one, behind its attributes, and those that follow: a macro in braces, or an expression.
 static STATEMENT: Form = Form::When(
     Look::BraceMacro,
     &Form::Then(
@@ -124,6 +160,13 @@ static STATEMENT: Form = Form::When(
     ),
 );
 
+/// Statements of which the first begins with a word, and with no attribute.
+static LISTED: Form = Form::When(
+    Look::Item,
+    &Form::Planned(Planned::Statements),
+    &Form::Rule(Rule::StatementRest),
+);
+
 static EMPTY: Form = Form::Empty;
 
 /// A form that is read as the rule is, where this stands next.
@@ -134,10 +177,12 @@ pub(crate) fn opened(rule: Rule, next: First) -> &'static Form
 {
     match rule {
         Rule::Unary => operand(next),
+        Rule::UnaryHead => head_operand(next),
         Rule::Postfixes => postfix(next),
         Rule::Type => type_by(next),
         Rule::TypePath => path_by(next),
         Rule::TypeWords => words_by(next),
+        Rule::MoreTypeWords => more_words_by(next),
         Rule::TypeArguments => arguments_by(next),
         Rule::GenericArgument => argument_by(next),
         Rule::Attributes => attributes_by(next),
@@ -177,6 +222,34 @@ fn group_operand(delimiter: Delimiter) -> &'static Form
         Delimiter::Bracket => &BRACKETS,
         Delimiter::Brace => form_of(Rule::Unary),
         Delimiter::None => form_of(Rule::Unary),
+    }
+}
+
+/// A form that is read as a unary level in a head is.
+#[tactic(auto, using(crate::proofs::Opened::opens_rule))]
+#[inline(never)]
+pub(crate) fn head_operand(next: First) -> &'static Form
+    ensures { Opens next (grammar_of result.now) unary_head }
+{
+    match next {
+        First::Name => &HEAD_NAME,
+        First::Keyword => &HEAD_KEYWORD,
+        First::Literal => &HEAD_LITERAL,
+        First::Group(delimiter) => group_head_operand(delimiter),
+        _ => form_of(Rule::UnaryHead),
+    }
+}
+
+/// A form that is read as a unary level in a head is where such a group stands next.
+#[tactic(auto, using(crate::proofs::Opened::opens_rule))]
+fn group_head_operand(delimiter: Delimiter) -> &'static Form
+    ensures { Opens (first.Group delimiter) (grammar_of result.now) unary_head }
+{
+    match delimiter {
+        Delimiter::Paren => &PARENTHESES,
+        Delimiter::Bracket => &BRACKETS,
+        Delimiter::Brace => form_of(Rule::UnaryHead),
+        Delimiter::None => form_of(Rule::UnaryHead),
     }
 }
 
@@ -264,6 +337,17 @@ fn words_by(next: First) -> &'static Form
     match next {
         First::Name => &WORDS,
         _ => form_of(Rule::TypeWords),
+    }
+}
+
+/// A form that is read as the words of a type's path behind the first are.
+#[tactic(auto, using(crate::proofs::Opened::opens_rule))]
+fn more_words_by(next: First) -> &'static Form
+    ensures { Opens next (grammar_of result.now) more_type_words }
+{
+    match next {
+        First::Name => &WORDS,
+        _ => form_of(Rule::MoreTypeWords),
     }
 }
 
@@ -394,13 +478,13 @@ fn member_by(next: First) -> &'static Form
 }
 
 /// A form that is read as statements are.
-#[tactic(auto, using(crate::proofs::Opened::opens_rule, crate::proofs::Beginnings::statements_by_keyword))]
+#[tactic(auto, using(crate::proofs::Opened::opens_rule))]
 fn statements_by(next: First) -> &'static Form
     ensures { Opens next (grammar_of result.now) statements }
 {
     match next {
-        First::Name => &STATEMENT,
-        First::Keyword => form_of(Rule::StatementRest),
+        First::Name => &LISTED,
+        First::Keyword => &LISTED,
         _ => form_of(Rule::Statements),
     }
 }

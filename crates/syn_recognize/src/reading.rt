@@ -1,5 +1,5 @@
 //! Reads past what a rule reads, step by step, without recursion.
-ghost use Rattle.std.specs.Prelude.{◌≡◌};
+ghost use Rattle.std.specs.Prelude.{◌≡◌, None, IfErr};
 ghost use Rattle.syn_grammar.specs.Run.{parse_rule};
 ghost use Rattle.syn_grammar.specs.Promises.{Kept, OrMemory, Takes};
 ghost use Rattle.syn_parse.specs.Refusals.{IsSyntax};
@@ -8,12 +8,11 @@ ghost use Rattle.syn_recognize.specs.Names.{rule_of};
 ghost use Rattle.syn_recognize.specs.Steps.{Runs, todo};
 ghost use Rattle.syn_recognize.specs.Printed.{Prints, ReadsBy, ShowsAndPrints};
 
-use crate::quiet::is_quiet;
-use crate::rules::{Rule, form_of, is_settled};
+use crate::notes::Notes;
+use crate::rules::{Rule, form_of};
 use crate::step::Step;
 use crate::steps::take;
 use crate::writer::Writer;
-use std::collections::VecDeque;
 use syn_parse::buffer::ParseBuffer;
 use syn_parse::read::refusal::{Parsed, Refusal};
 use syn_tokens::stream::TokenStream;
@@ -72,67 +71,83 @@ pub struct ShownAndPrinted {
     pub printed: TokenStream,
 }
 
-/// Reads what the rule reads: its tokens as they are shown, and as they are printed. Where a lifetime stands among them, or a part
-/// may vanish, all is read twice, since lists are printed with their lifetimes first. Refused, it says nothing of what is left.
+/// Reads what the rule reads: its tokens as they are shown, and as they are printed; each is written by a reading of its own. What was
+/// noted of lists and plans is known before, or it is guessed that nothing was: a wrong guess is refused as memory is.
+#[tactic(auto, using(crate::proofs::Shown::not_read))]
+fn both_by(rule: Rule, notes: Notes, input: &mut ParseBuffer<'_>) -> Parsed<ShownAndPrinted>
+    ensures reads { ShowsAndPrints IsSyntax (rule_of rule) input.old result input.new }
+    ensures kept { Kept input.old result input.new }
+    ensures moved { Takes (least (rule_of rule)) input.old result input.new }
+{
+    let mut ahead = input.fork();
+    let mut out = Writer::showing(input.alloc(), notes);
+    write_rule(rule, &mut out, &mut ahead)?;
+    let (shown, notes) = out.finish()?;
+    let mut out = Writer::printing(input.alloc(), notes.anew());
+    write_rule(rule, &mut out, input)?;
+    let (printed, _notes) = out.finish()?;
+    Ok(ShownAndPrinted { shown, printed })
+}
+
+/// Reads what the rule reads, and writes its tokens as they are printed, with what was noted of lists and plans.
 #[tactic(auto, using(crate::proofs::Shown::not_read, crate::proofs::Shown::kept, crate::proofs::Shown::moved))]
+fn printed_with(rule: Rule, notes: Notes, input: &mut ParseBuffer<'_>) -> Parsed<TokenStream>
+    ensures reads { Prints IsSyntax (rule_of rule) input.old result input.new }
+    ensures kept { Kept input.old result input.new }
+    ensures moved { Takes (least (rule_of rule)) input.old result input.new }
+{
+    let mut out = Writer::printing(input.alloc(), notes);
+    write_rule(rule, &mut out, input)?;
+    let (printed, _notes) = out.finish()?;
+    Ok(printed)
+}
+
+/// How lists and plans are in what the rule reads. It is refused where the rule reads nothing, and where memory is.
+#[tactic(auto, using(crate::proofs::Shown::not_read))]
+fn noted(rule: Rule, input: &ParseBuffer<'_>) -> Parsed<Notes>
+    ensures { IfErr result (λ e. IsSyntax e → parse_rule (rule_of rule) input.now ≡ None) }
+{
+    let mut ahead = input.fork();
+    let mut out = Writer::noting(input.alloc());
+    write_rule(rule, &mut out, &mut ahead)?;
+    let (_nothing, notes) = out.finish()?;
+    Ok(notes)
+}
+
+/// Reads what the rule reads: its tokens as they are shown, and as they are printed. All is read twice, and three more times where
+/// something is kept as tokens, or where a list in `< >` has a lifetime behind another member, or an impl is printed with `< >`. Refused,
+/// it says nothing of what is left.
 pub fn recognized_and_printed(rule: Rule, input: &mut ParseBuffer<'_>) -> Parsed<ShownAndPrinted>
     ensures reads { ShowsAndPrints IsSyntax (rule_of rule) input.old result input.new }
     ensures kept { Kept input.old result input.new }
     ensures moved { Takes (least (rule_of rule)) input.old result input.new }
 {
     let mut ahead = input.fork();
-    let mut out = Writer::showing(input.alloc());
-    write_rule(rule, &mut out, &mut ahead)?;
-    let (shown, late) = out.finish()?;
-    if is_settled(rule) && is_quiet(&shown) {
-        let printed = copy_of(&shown)?;
-        input.advance_to(&ahead);
-        return Ok(ShownAndPrinted { shown, printed });
+    match both_by(rule, Notes::none(input.alloc()), &mut ahead) {
+        Ok(tokens) => {
+            input.advance_to(&ahead);
+            Ok(tokens)
+        }
+        Err(Refusal::Memory) => both_by(rule, noted(rule, input)?, input),
+        Err(Refusal::Syntax { span, text }) => Err(Refusal::Syntax { span, text }),
     }
-    let mut out = Writer::printing(input.alloc(), late);
-    write_rule(rule, &mut out, input)?;
-    let (printed, _left) = out.finish()?;
-    Ok(ShownAndPrinted { shown, printed })
 }
 
-/// Reads what the rule reads, and writes its tokens as they are printed, once. Where some list has a member that is printed before one
-/// that stands before it, it is refused as memory is.
-#[tactic(auto, using(crate::proofs::Shown::not_read, crate::proofs::Shown::kept, crate::proofs::Shown::moved))]
-fn printed_at_once(rule: Rule, input: &mut ParseBuffer<'_>) -> Parsed<TokenStream>
-    ensures reads { Prints IsSyntax (rule_of rule) input.old result input.new }
-    ensures kept { Kept input.old result input.new }
-    ensures moved { Takes (least (rule_of rule)) input.old result input.new }
-{
-    let mut out = Writer::printing(input.alloc(), VecDeque::new(input.alloc()));
-    write_rule(rule, &mut out, input)?;
-    let (printed, _left) = out.finish()?;
-    Ok(printed)
-}
-
-/// The same, with such lists: all is read twice.
-fn printed_by_shown(rule: Rule, input: &mut ParseBuffer<'_>) -> Parsed<TokenStream>
-    ensures reads { Prints IsSyntax (rule_of rule) input.old result input.new }
-    ensures kept { Kept input.old result input.new }
-    ensures moved { Takes (least (rule_of rule)) input.old result input.new }
-{
-    let read = recognized_and_printed(rule, input)?;
-    Ok(read.printed)
-}
-
-/// Reads what the rule reads: its tokens as they are printed. They are written once, and read three times at most, where a list has a
-/// member that is printed before one that stands before it. Refused, it says nothing of what is left.
+/// Reads what the rule reads: its tokens as they are printed. They are written once; all is read once, and three times where something
+/// is kept as tokens, or where a list in `< >` has a lifetime behind another member, or an impl is printed with `< >`. Refused, it says
+/// nothing of what is left.
 pub fn printed_by(rule: Rule, input: &mut ParseBuffer<'_>) -> Parsed<TokenStream>
     ensures reads { Prints IsSyntax (rule_of rule) input.old result input.new }
     ensures kept { Kept input.old result input.new }
     ensures moved { Takes (least (rule_of rule)) input.old result input.new }
 {
     let mut ahead = input.fork();
-    match printed_at_once(rule, &mut ahead) {
+    match printed_with(rule, Notes::none(input.alloc()), &mut ahead) {
         Ok(printed) => {
             input.advance_to(&ahead);
             Ok(printed)
         }
-        Err(Refusal::Memory) => printed_by_shown(rule, input),
+        Err(Refusal::Memory) => printed_with(rule, noted(rule, input)?, input),
         Err(Refusal::Syntax { span, text }) => Err(Refusal::Syntax { span, text }),
     }
 }

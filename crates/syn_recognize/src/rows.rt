@@ -138,11 +138,11 @@ fn read_other<'a>(
     Ok(())
 }
 
-/// The number of a list that has another member now; none where what is written is dropped, so that nothing is to be noted.
+/// The number of a list that has another member now; none where nothing is to be noted.
 fn number_of(number: Option<usize>, out: &mut Writer) -> Result<Option<usize>, AllocError>
     ensures { out.new ≡ out.old }
 {
-    if number.is_some() || out.is_dropping() {
+    if number.is_some() || !out.is_noting() {
         return Ok(number);
     }
     let begun = out.begin_list()?;

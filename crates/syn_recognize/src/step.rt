@@ -1,7 +1,9 @@
 //! What is still to be done.
 use crate::form::Form;
+use crate::guess::Guess;
 use crate::late::Guesses;
 use crate::list::List;
+use crate::plan::Plan;
 use crate::writer::Writer;
 use syn_parse::buffer::ParseBuffer;
 use syn_tokens::delimiter::Delimiter;
@@ -34,4 +36,8 @@ pub enum Step<'a> {
     Levels(usize, usize),
     /// Reads the first form where a group in braces was read last, from there on, else the second.
     ByBraces(&'static Form, &'static Form, ParseBuffer<'a>),
+    /// Goes on with a plan.
+    Plan(&'static Plan, Guess),
+    /// Goes on with the first plan where one of the trees of a use that were read from there on has `::` before it, else with the second.
+    Rooted(&'static Plan, &'static Plan, Guess, ParseBuffer<'a>),
 }

@@ -14,29 +14,29 @@ ghost use Rattle.syn_recognize.specs.Parts.{part_form};
 ghost use Rattle.syn_recognize.specs.Names.{look_of, mark_text, rule_of};
 ghost use Rattle.syn_recognize.specs.Copies as copies;
 ghost use Rattle.syn_recognize.specs.Copies.{Copies, Reached, copy_form, by_braces};
-ghost use Rattle.syn_recognize.specs.Unions.{union_form};
 ghost use Rattle.syn_recognize.specs.Written.{adds};
 ghost use Rattle.syn_parse.specs.Firsts.{Begins};
 ghost use Rattle.syn_recognize.specs.Ladder.{climb};
 ghost use Rattle.syn_recognize.specs.declared.step.Step.TheVariants.{Levels};
-ghost use Rattle.syn_recognize.specs.Steps.{Steps, Guessing, GoesOn, Leading, Reads, Runs, after};
+ghost use Rattle.syn_recognize.specs.Steps.{Steps, Guessing, GoesOn, Leading, Runs, after};
 
 use crate::aside::{capture, forget, read_captured, read_hidden};
 use crate::braces::has_trailing_brace;
 use crate::fading::{read_fading, read_generics};
 use crate::fault::Fault;
 use crate::form::Form;
-use crate::levels::{behind, first_level, height_of};
+use crate::levels::{behind, first_level, head_height_of, height_of};
 use crate::look::{Look, holds_next};
-use crate::operands::{opened, operand};
+use crate::operands::{head_operand, opened, operand};
+use crate::planned::{choose_by_roots, read_plan, read_planned};
 use crate::refused::{left_over, told};
 use crate::rows::{
     note, read_ordered, read_others, read_others_rest, read_row, read_row_rest, skip_late,
 };
 use crate::rules::{Part, Rule, form_of, form_of_part};
 use crate::step::Step;
+use crate::supplied::read_supplied;
 use crate::token::{copy, copy_token};
-use crate::unions::{Union, form_of_union};
 use crate::words::{Mark, copy_mark};
 use crate::writer::Writer;
 use syn_parse::buffer::ParseBuffer;
@@ -51,7 +51,7 @@ use syn_tokens::token::{DelimiterKind, kind};
 static EMPTY: Form = Form::Empty;
 
 /// Does one step, and those behind it up to the next token.
-#[tactic(auto, using(crate::proofs::Todo::reads_lead, crate::proofs::Todo::guessing_leads))]
+#[tactic(auto, using(crate::proofs::Todo::guessing_leads))]
 pub(crate) fn take<'a>(
     step: Step<'a>,
     steps: &mut Vec<Step<'a>>,
@@ -92,6 +92,10 @@ fn take_other<'a>(
         Step::ByBraces(one, other, begin) => {
             read_by_braces(one, other, &begin, steps, out, input)
         }
+        Step::Plan(plan, guess) => read_plan(plan, guess, steps, out, input),
+        Step::Rooted(one, other, guess, begin) => {
+            choose_by_roots(one, other, guess, &begin, steps, out, input)
+        }
     }
 }
 
@@ -103,7 +107,7 @@ fn read_levels<'a>(
     out: &mut Writer,
     input: &mut ParseBuffer<'a>,
 ) -> Parsed<()>
-    ensures { Reads IsSyntax steps.old.items (climb (to - from) from out.old input.old) result steps.new.items out.new input.new }
+    ensures { Leading IsSyntax steps.old.items (climb (to - from) from out.old input.old) result steps.new.items out.new input.new }
 {
     let level = first_level(from, to, input.first());
     if level < to {
@@ -122,7 +126,7 @@ fn read_level<'a>(
     input: &mut ParseBuffer<'a>,
 ) -> Parsed<()>
     requires { level < to }
-    ensures { Reads IsSyntax steps.old.items (climb (to - level) level out.old input.old) result steps.new.items out.new input.new }
+    ensures { Leading IsSyntax steps.old.items (climb (to - level) level out.old input.old) result steps.new.items out.new input.new }
 {
     let Some(form) = behind(level) else {
         return Err(Refusal::Memory);
@@ -132,17 +136,17 @@ fn read_level<'a>(
 }
 
 /// Reads a form, or says what is to be read for it; where nothing is to be read for it, the same of what was put off.
-#[tactic(auto, using(crate::proofs::Todo::goes_read, crate::proofs::Todo::steps_read))]
+#[tactic(auto, using(crate::proofs::Todo::goes_read, crate::proofs::Todo::guessing_leads))]
 fn read_form<'a>(
     form: &'static Form,
     steps: &mut Vec<Step<'a>>,
     out: &mut Writer,
     input: &mut ParseBuffer<'a>,
 ) -> Parsed<()>
-    ensures { Reads IsSyntax steps.old.items (copy_form (grammar_of form.now) out.old input.old) result steps.new.items out.new input.new }
+    ensures { Leading IsSyntax steps.old.items (copy_form (grammar_of form.now) out.old input.old) result steps.new.items out.new input.new }
 {
     let first = descend(form, steps, out, input)?;
-    match read_leaf(first, steps, out, input) {
+    match read_begun(first, steps, out, input) {
         Ok(()) => Ok(()),
         Err(refusal) => Err(told(refusal, first, input)),
     }
@@ -257,7 +261,7 @@ fn below<'a>(
         Form::When(look, one, other) => Ok(Some(choose(look, one, other, next, out, input)?)),
         Form::Rule(rule) => Ok(Some(begin_rule(*rule, next, steps, out, input)?)),
         Form::Part(part) => Ok(Some(begin_part(*part, out, input))),
-        Form::Union(union) => Ok(Some(begin_union(*union, out, input))),
+        Form::Only(rule) => Ok(Some(begin_only(*rule, out, input))),
         Form::Shaped(_, part) => Ok(Some(part)),
         _ => Ok(None),
     }
@@ -286,12 +290,12 @@ fn begin_part(part: Part, out: &Writer, input: &ParseBuffer<'_>) -> &'static For
     form_of_part(part)
 }
 
-/// A form of which the same is written as of a union of rules that begin alike.
-#[tactic(auto, using(crate::proofs::Alike::alike_is))]
-fn begin_union(union: Union, out: &Writer, input: &ParseBuffer<'_>) -> &'static Form
-    ensures { copy_form (union_form union) out.now input.now ≡ copy_form (grammar_of result.now) out.now input.now }
+/// The form of a union of one rule.
+#[tactic(auto, using(crate::proofs::Copied::only_is))]
+fn begin_only(rule: Rule, out: &Writer, input: &ParseBuffer<'_>) -> &'static Form
+    ensures { copy_form (grammar.one_of (rule_of rule ∷ [])) out.now input.now ≡ copy_form (grammar_of result.now) out.now input.now }
 {
-    form_of_union(union)
+    form_of(rule)
 }
 
 /// Chooses a form by what stands next, which is this.
@@ -315,7 +319,6 @@ fn choose(
 }
 
 /// Goes on with the form of a rule; of an operand with levels behind it with that of a unary one, and puts off the levels.
-#[tactic(auto, using(crate::proofs::Opened::goes_opened))]
 fn begin_rule<'a>(
     rule: Rule,
     next: First,
@@ -331,11 +334,48 @@ fn begin_rule<'a>(
             steps.push(Step::Levels(0, height))?;
             Ok(operand(next))
         }
+        None => begin_other(rule, next, steps, out, input),
+    }
+}
+
+/// The same of rules of heads, and of others.
+#[tactic(auto, using(crate::proofs::Opened::goes_opened))]
+fn begin_other<'a>(
+    rule: Rule,
+    next: First,
+    steps: &mut Vec<Step<'a>>,
+    out: &Writer,
+    input: &ParseBuffer<'a>,
+) -> Parsed<&'static Form>
+    requires { Begins next input.now }
+    ensures { OrMemory IsSyntax result (λ first. GoesOn steps.old.items (copy_form (grammar.rule (rule_of rule)) out.now input.now) steps.new.items (grammar_of first.now) out.now input.now) }
+{
+    match head_height_of(rule) {
+        Some(height) => {
+            steps.push(Step::Levels(12, 12 + height))?;
+            Ok(head_operand(next))
+        }
         None => Ok(opened(rule, next)),
     }
 }
 
-/// Reads a form that isn't made of another that begins where it does.
+/// Begins a plan, or reads another form that isn't made of one that begins where it does.
+#[tactic(auto, using(crate::proofs::Todo::guessing))]
+fn read_begun<'a>(
+    form: &'static Form,
+    steps: &mut Vec<Step<'a>>,
+    out: &mut Writer,
+    input: &mut ParseBuffer<'a>,
+) -> Parsed<()>
+    ensures { Guessing IsSyntax steps.old.items (copy_form (grammar_of form.now) out.old input.old) result steps.new.items out.new input.new }
+{
+    match form {
+        Form::Planned(planned) => read_planned(*planned, steps, out, input),
+        _ => read_leaf(form, steps, out, input),
+    }
+}
+
+/// Reads a form that isn't made of another that begins where it does, and isn't read by a plan.
 #[tactic(auto, unfolding(crate::specs::Copies::copy_form))]
 fn read_leaf<'a>(
     form: &'static Form,
@@ -364,12 +404,14 @@ fn read_leaf<'a>(
         Form::Hidden(look, form) => read_hidden(look, form, steps, out, input),
         Form::Captured(form) => read_captured(form, steps, out, input),
         Form::ByBraces(one, other) => read_value(one, other, steps, out, input),
+        Form::Planned(_) => Err(Refusal::Memory),
+        Form::Supplied(nameless) => read_supplied(*nameless, steps, out, input),
         Form::Then(_, _) => Err(Refusal::Memory),
         Form::When(_, _, _) => Err(Refusal::Memory),
         Form::Rule(_) => Err(Refusal::Memory),
         Form::Part(_) => Err(Refusal::Memory),
         Form::Shaped(_, _) => Err(Refusal::Memory),
-        Form::Union(_) => Err(Refusal::Memory),
+        Form::Only(_) => Err(Refusal::Memory),
     }
 }
 

@@ -1,8 +1,8 @@
 //! Tokens as data, and how each is read and written.
 ghost use Rattle.std.specs.Prelude.{◌≡◌, ◌∷◌, [], true};
-ghost use Rattle.syn_grammar.specs.Words.{w_self, w_Self_type, w_super, w_crate};
-ghost use Rattle.syn_grammar.specs.Tokens.{one_of_texts};
-ghost use Rattle.syn_grammar.specs.Grammar.{word, name_or, index, is_index};
+ghost use Rattle.syn_grammar.specs.Words.{w_self, w_Self_type, w_super, w_crate, w_try, w_underscore};
+ghost use Rattle.syn_grammar.specs.Tokens.{Str, one_of_texts};
+ghost use Rattle.syn_grammar.specs.Grammar.{word, name_or, literal_of, index, is_index};
 ghost use Rattle.syn_grammar.specs.Take.{take_token, take_mark};
 ghost use Rattle.syn_tokens.specs.Leaves.{is_known_word};
 ghost use Rattle.syn_tokens.specs.Spelled.{is_plain_word};
@@ -14,6 +14,7 @@ ghost use Rattle.syn_recognize.specs.Forms.{kind_of};
 ghost use Rattle.syn_recognize.specs.Leaves.{token_is_leaf, lifetime_is_leaf};
 
 use crate::field_numbers::field_number;
+use crate::item_looks::is_string;
 use crate::words::{Word, copy_word};
 use crate::writer::Writer;
 use syn_parse::buffer::ParseBuffer;
@@ -36,8 +37,18 @@ pub enum Token {
     NameOrSelfType,
     /// The same, or `self`, `super` or `crate`.
     NameOrPathStart,
+    /// The same, or `try`.
+    UseWord,
+    /// An identifier that is no keyword, or `_`.
+    NameOrUnderscore,
+    /// The same, or `self`.
+    NameOrSelf,
+    /// The same, or `try`.
+    NameOrTry,
     Word(Word),
     Literal,
+    /// A string.
+    Str,
     /// The number of a field.
     Index,
 }
@@ -82,6 +93,11 @@ pub(crate) fn copy_token(token: Token, out: &mut Writer, input: &mut ParseBuffer
         Token::PathWord => copy_path_word(out, input),
         Token::NameOrSelfType => copy_name_or_self_type(out, input),
         Token::NameOrPathStart => copy_name_or_path_start(out, input),
+        Token::UseWord => copy_use_word(out, input),
+        Token::NameOrUnderscore => copy_name_or_underscore(out, input),
+        Token::NameOrSelf => copy_name_or_self(out, input),
+        Token::NameOrTry => copy_name_or_try(out, input),
+        Token::Str => copy_str(out, input),
         Token::Word(word) => copy_word(word, out, input),
         Token::Literal => copy::<Literal>(out, input),
         Token::Index => copy_index(out, input),
@@ -214,6 +230,109 @@ fn is_path_start(ident: &Ident) -> bool
     ensures { result ≡ one_of_texts ident.now.text (w_self ∷ w_super ∷ w_crate ∷ []) }
 {
     ident.is("self") || ident.is("super") || ident.is("crate")
+}
+
+/// An identifier that is no keyword, or `self`, `super`, `crate` or `try`.
+#[tactic(auto, using(crate::specs::Leaves::token_is_leaf, crate::proofs::Names::name_or_read, crate::proofs::Names::name_or_refused, crate::proofs::Names::no_name_or))]
+fn copy_use_word(out: &mut Writer, input: &mut ParseBuffer<'_>) -> Parsed<()>
+    ensures { Copies IsSyntax out.old (take_token (name_or (w_self ∷ w_super ∷ w_crate ∷ w_try ∷ [])) input.old) result out.new input.new }
+{
+    let mut ahead = input.fork();
+    let ident = ahead.read_identifier()?;
+    if ident.is_keyword() && !is_use_word(&ident) {
+        return Err(input.refusal("expected identifier"));
+    }
+    input.advance_to(&ahead);
+    out.write(&ident)?;
+    Ok(())
+}
+
+/// Whether it is `self`, `super`, `crate` or `try`.
+fn is_use_word(ident: &Ident) -> bool
+    ensures { result ≡ one_of_texts ident.now.text (w_self ∷ w_super ∷ w_crate ∷ w_try ∷ []) }
+{
+    ident.is("self") || ident.is("super") || ident.is("crate") || ident.is("try")
+}
+
+/// An identifier that is no keyword, or `_`.
+#[tactic(auto, using(crate::specs::Leaves::token_is_leaf, crate::proofs::Names::name_or_read, crate::proofs::Names::name_or_refused, crate::proofs::Names::no_name_or))]
+fn copy_name_or_underscore(out: &mut Writer, input: &mut ParseBuffer<'_>) -> Parsed<()>
+    ensures { Copies IsSyntax out.old (take_token (name_or (w_underscore ∷ [])) input.old) result out.new input.new }
+{
+    let mut ahead = input.fork();
+    let ident = ahead.read_identifier()?;
+    if ident.is_keyword() && !is_underscore(&ident) {
+        return Err(input.refusal("expected identifier"));
+    }
+    input.advance_to(&ahead);
+    out.write(&ident)?;
+    Ok(())
+}
+
+/// Whether it is `_`.
+fn is_underscore(ident: &Ident) -> bool
+    ensures { result ≡ one_of_texts ident.now.text (w_underscore ∷ []) }
+{
+    ident.is("_")
+}
+
+/// An identifier that is no keyword, or `self`.
+#[tactic(auto, using(crate::specs::Leaves::token_is_leaf, crate::proofs::Names::name_or_read, crate::proofs::Names::name_or_refused, crate::proofs::Names::no_name_or))]
+fn copy_name_or_self(out: &mut Writer, input: &mut ParseBuffer<'_>) -> Parsed<()>
+    ensures { Copies IsSyntax out.old (take_token (name_or (w_self ∷ [])) input.old) result out.new input.new }
+{
+    let mut ahead = input.fork();
+    let ident = ahead.read_identifier()?;
+    if ident.is_keyword() && !is_self(&ident) {
+        return Err(input.refusal("expected identifier"));
+    }
+    input.advance_to(&ahead);
+    out.write(&ident)?;
+    Ok(())
+}
+
+/// Whether it is `self`.
+fn is_self(ident: &Ident) -> bool
+    ensures { result ≡ one_of_texts ident.now.text (w_self ∷ []) }
+{
+    ident.is("self")
+}
+
+/// An identifier that is no keyword, or `try`.
+#[tactic(auto, using(crate::specs::Leaves::token_is_leaf, crate::proofs::Names::name_or_read, crate::proofs::Names::name_or_refused, crate::proofs::Names::no_name_or))]
+fn copy_name_or_try(out: &mut Writer, input: &mut ParseBuffer<'_>) -> Parsed<()>
+    ensures { Copies IsSyntax out.old (take_token (name_or (w_try ∷ [])) input.old) result out.new input.new }
+{
+    let mut ahead = input.fork();
+    let ident = ahead.read_identifier()?;
+    if ident.is_keyword() && !is_try(&ident) {
+        return Err(input.refusal("expected identifier"));
+    }
+    input.advance_to(&ahead);
+    out.write(&ident)?;
+    Ok(())
+}
+
+/// Whether it is `try`.
+fn is_try(ident: &Ident) -> bool
+    ensures { result ≡ one_of_texts ident.now.text (w_try ∷ []) }
+{
+    ident.is("try")
+}
+
+/// A string.
+#[tactic(auto, using(crate::specs::Leaves::token_is_leaf, crate::proofs::Strings::string_taken, crate::proofs::Strings::no_string_taken, crate::proofs::Strings::no_literal_taken))]
+fn copy_str(out: &mut Writer, input: &mut ParseBuffer<'_>) -> Parsed<()>
+    ensures { Copies IsSyntax out.old (take_token (literal_of (Str ∷ [])) input.old) result out.new input.new }
+{
+    let mut ahead = input.fork();
+    let literal: Literal = ahead.read()?;
+    if !is_string(&literal) {
+        return Err(input.refusal("expected string literal"));
+    }
+    input.advance_to(&ahead);
+    out.write(&literal)?;
+    Ok(())
 }
 
 /// The number of a field: decimal digits without a leading zero, of at most 2^32 - 1.

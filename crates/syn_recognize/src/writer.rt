@@ -8,12 +8,14 @@ ghost use Rattle.syn_tokens.specs.Delimiters.{delimiter_of};
 ghost use Rattle.syn_recognize.specs.PrintedRows.{way};
 ghost use Rattle.syn_recognize.specs.Trailing.{IsLeaf};
 ghost use Rattle.syn_recognize.specs.Written.{adds, enters, leaves, blank, unwritten, drops, stream_of};
+ghost use Rattle.syn_recognize.specs.Courses.{Fair};
 ghost use Rattle.syn_grammar.specs.Promises.{OrMemory};
 ghost use Rattle.syn_parse.specs.Refusals.{IsSyntax};
 
+use crate::guess::Guess;
 use crate::late::Late;
+use crate::notes::Notes;
 use std::alloc::{AllocError, Global};
-use std::collections::VecDeque;
 use std::marker::Model;
 use std::mem;
 use syn_parse::read::refusal::{Parsed, Refusal};
@@ -31,10 +33,10 @@ pub struct Writer {
     out: Option<StreamBuilder>,
     /// Whether lists are written with their lifetimes first.
     printing: bool,
-    /// Of each list in `< >` that has some other member: the members behind its first other member that are printed first. The
-    /// lists stand in the order of these members. Where nothing is printed they are noted here; printing takes them away from the
-    /// front.
-    late: VecDeque<Vec<Late>>,
+    /// Whether it is noted how lists and plans are; then what is written is dropped.
+    noting: bool,
+    /// What is noted, or what was.
+    notes: Notes,
     alloc: Global,
 }
 
@@ -49,26 +51,28 @@ impl Model for Writer {
 }
 
 impl Writer {
-    /// Nothing was written yet; trees are written as they are shown. What grows takes its memory from `alloc`.
-    pub(crate) fn showing(alloc: Global) -> Writer
+    /// Nothing was written yet; trees are written as they are shown, with what was noted of them. What grows takes its memory from `alloc`.
+    pub(crate) fn showing(alloc: Global, notes: Notes) -> Writer
         ensures { result ≡ blank false }
     {
         Writer {
             out: Some(StreamBuilder::new(alloc)),
             printing: false,
-            late: VecDeque::new(alloc),
+            noting: false,
+            notes,
             alloc,
         }
     }
 
-    /// Nothing was written yet; trees are written as they are printed, with these late members of lists.
-    pub(crate) fn printing(alloc: Global, late: VecDeque<Vec<Late>>) -> Writer
+    /// Nothing was written yet; trees are written as they are printed, with what was noted of them.
+    pub(crate) fn printing(alloc: Global, notes: Notes) -> Writer
         ensures { result ≡ blank true }
     {
         Writer {
             out: Some(StreamBuilder::new(alloc)),
             printing: true,
-            late,
+            noting: false,
+            notes,
             alloc,
         }
     }
@@ -80,7 +84,21 @@ impl Writer {
         Writer {
             out: None,
             printing: false,
-            late: VecDeque::new(alloc),
+            noting: false,
+            notes: Notes::none(alloc),
+            alloc,
+        }
+    }
+
+    /// What is written is dropped, and it is noted how lists and plans are.
+    pub(crate) fn noting(alloc: Global) -> Writer
+        ensures { result ≡ unwritten }
+    {
+        Writer {
+            out: None,
+            printing: false,
+            noting: true,
+            notes: Notes::none(alloc),
             alloc,
         }
     }
@@ -99,32 +117,75 @@ impl Writer {
         self.out.is_none()
     }
 
+    /// Whether it is noted how lists and plans are.
+    pub(crate) fn is_noting(&self) -> bool {
+        self.noting
+    }
+
     /// One more list has another member than lifetimes: its number.
     pub(crate) fn begin_list(&mut self) -> Result<usize, AllocError>
         ensures { self.new ≡ self.old }
     {
-        let number = self.late.len();
-        self.late.push_back(Vec::new(self.alloc))?;
-        Ok(number)
+        self.notes.begin_list()
     }
 
     /// Notes a late member of the list of this number.
     pub(crate) fn note(&mut self, list: usize, late: Late) -> Result<(), AllocError>
         ensures { self.new ≡ self.old }
     {
-        match self.late.get_mut(list) {
-            Some(noted) => Ok(noted.push(late)?),
-            None => Ok(()),
-        }
+        self.notes.note(list, late)
     }
 
     /// What was noted of the next list.
     pub(crate) fn noted(&mut self) -> Vec<Late>
         ensures { self.new ≡ self.old }
     {
-        match self.late.pop_front() {
-            Some(noted) => noted,
-            None => Vec::new(self.alloc),
+        self.notes.next_list()
+    }
+
+    /// What is guessed of the next plan: what was noted of it; where nothing was, that it isn't kept, and that nothing would be read as
+    /// generics. Where it is to be noted, its number. Refused only where memory is.
+    pub(crate) fn guess(&mut self) -> Parsed<Guess>
+        ensures fair { OrMemory IsSyntax result (λ guess. Fair self.old.printing guess.leads) }
+        ensures unchanged { self.new ≡ self.old }
+    {
+        if self.noting {
+            let number = self.notes.begin_plan()?;
+            return Ok(Guess {
+                kept: false,
+                leads: self.guessed(false),
+                number: Some(number),
+            });
+        }
+        let noted = self.notes.next_plan();
+        Ok(Guess {
+            kept: noted.kept,
+            leads: self.guessed(noted.leads),
+            number: None,
+        })
+    }
+
+    /// What is guessed of the generics of an impl: this where trees are written as they are printed, else nothing.
+    fn guessed(&self, leads: bool) -> Option<bool>
+        ensures { Fair self.now.printing result }
+    {
+        if self.printing { Some(leads) } else { None }
+    }
+
+    /// Notes that what the plan of this number reads is kept as tokens.
+    pub(crate) fn note_kept(&mut self, plan: usize)
+        ensures { self.new ≡ self.old }
+    {
+        self.notes.note_kept(plan);
+    }
+
+    /// Notes that what stands behind the generics of the impl that the plan of this number reads, or its self type, would be read as
+    /// generics.
+    pub(crate) fn note_lead(&mut self, plan: Option<usize>)
+        ensures { self.new ≡ self.old }
+    {
+        if let Some(plan) = plan {
+            self.notes.note_lead(plan);
         }
     }
 
@@ -210,7 +271,7 @@ impl Writer {
         ensures before { OrMemory IsSyntax result (λ before. before.value ≡ self.old) }
         ensures blank { OrMemory IsSyntax result (λ before. self.new ≡ blank true) }
     {
-        let aside = Writer::printing(self.alloc, VecDeque::new(self.alloc));
+        let aside = Writer::printing(self.alloc, Notes::none(self.alloc));
         let before = mem::replace(self, aside);
         Ok(Box::new(self.alloc, before)?)
     }
@@ -231,25 +292,25 @@ impl Writer {
         ensures before { OrMemory IsSyntax result (λ aside. self.new ≡ before.value) }
     {
         let aside = mem::replace(self, Box::into_inner(before));
-        let (tokens, _late) = aside.finish()?;
+        let (tokens, _notes) = aside.finish()?;
         Ok(tokens)
     }
 
     /// What was written, and what was noted. Refused where a group is still open, which none ever is, as memory is.
-    pub(crate) fn finish(self) -> Parsed<(TokenStream, VecDeque<Vec<Late>>)>
+    pub(crate) fn finish(self) -> Parsed<(TokenStream, Notes)>
         ensures { OrMemory IsSyntax result (λ done. done.0 ≡ stream_of self) }
     {
         let Writer {
             out,
-            late,
+            notes,
             alloc,
             ..
         } = self;
         let Some(out) = out else {
-            return Ok((TokenStream::new(alloc), late));
+            return Ok((TokenStream::new(alloc), notes));
         };
         match out.finish() {
-            Ok(stream) => Ok((stream, late)),
+            Ok(stream) => Ok((stream, notes)),
             Err(_) => Err(Refusal::Memory),
         }
     }

@@ -11,6 +11,7 @@ mod handmade_exprs;
 mod handmade_generics;
 mod handmade_items;
 mod handmade_types;
+mod items_behind;
 mod literals;
 mod members;
 mod modifiers;

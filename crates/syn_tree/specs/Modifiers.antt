@@ -2,7 +2,7 @@
 use Rattle.std.specs.Prelude.{◌≡◌, ℕ, List, [], ◌∷◌, ◌++◌, Option, Some, None, Result, Ok, Err, codes, slice_index_or}
 use Rattle.syn_grammar.specs.Grammar.{Syntax, Nothing, Both}
 use Rattle.syn_tokens.specs.Faults.{FaultValue, IsSyntaxError}
-use Rattle.syn_tokens.specs.Kinds.{Not, auto_syntax, default_syntax, not_syntax}
+use Rattle.syn_tokens.specs.Kinds.{Not, auto_syntax, const_syntax, default_syntax, not_syntax}
 use Rattle.syn_tokens.specs.Leaves.{maybe}
 use Rattle.syn_tokens.specs.declared.span.Span.{Span}
 use Rattle.syn_tokens.specs.declared.token.word.Word.{Word}
@@ -27,10 +27,10 @@ abbrev pub syntax_of_TypeModifiers : TypeModifiers → Syntax
 syntax_of_TypeModifiers m = maybe default_syntax m.defaultness
 
 abbrev pub syntax_of_ImplModifiers : ImplModifiers → Syntax
-syntax_of_ImplModifiers m = Both (maybe default_syntax m.defaultness) (maybe not_syntax m.polarity)
+syntax_of_ImplModifiers m = Both (maybe default_syntax m.defaultness) (Both (maybe const_syntax m.constness) (maybe not_syntax m.polarity))
 
 abbrev pub syntax_of_TraitModifiers : TraitModifiers → Syntax
-syntax_of_TraitModifiers m = maybe auto_syntax m.auto_token
+syntax_of_TraitModifiers m = Both (maybe const_syntax m.constness) (maybe auto_syntax m.auto_token)
 
 -- WHAT IS REPORTED
 
@@ -62,9 +62,13 @@ fn_faults m = unexpected (codes "unexpected function modifier") (word_place m.de
 abbrev pub type_faults : TypeModifiers → List FaultValue
 type_faults m = unexpected (codes "unexpected type alias modifier") (word_place m.defaultness)
 
--- `default` before `!`
+-- `default` before `!`, and `const` behind both
 abbrev pub impl_faults : ImplModifiers → List FaultValue
-impl_faults m = unexpected (codes "unexpected impl modifier") (word_place m.defaultness) ++ unexpected (codes "unexpected impl modifier") (mark_place m.polarity)
+impl_faults m =
+    unexpected (codes "unexpected impl modifier") (word_place m.defaultness)
+    ++ unexpected (codes "unexpected impl modifier") (mark_place m.polarity)
+    ++ unexpected (codes "unexpected impl modifier") (word_place m.constness)
 
+-- `auto` before `const`
 abbrev pub trait_faults : TraitModifiers → List FaultValue
-trait_faults m = unexpected (codes "unexpected trait modifier") (word_place m.auto_token)
+trait_faults m = unexpected (codes "unexpected trait modifier") (word_place m.auto_token) ++ unexpected (codes "unexpected trait modifier") (word_place m.constness)

@@ -2,13 +2,14 @@
 ghost use Rattle.std.specs.Prelude.{◌≡◌};
 ghost use Rattle.syn_grammar.specs.Rules as rules;
 ghost use Rattle.syn_grammar.specs.Grammar.{Case, Node};
-ghost use Rattle.syn_lower.specs.Parsing.{of, rule, meaning_of_rule, parse_rule, Computes, Moved, IsSyntax};
+ghost use Rattle.syn_lower.specs.Parsing.{of, rule, meaning_of_rule, parse_form, parse_rule, Computes, Moved, itself, IsSyntax};
 ghost use Rattle.syn_tokens.specs.Leaves.{syntax_of_ident};
 ghost use Rattle.syn_lower.specs.Parts.{first};
 ghost use Rattle.syn_lower.specs.Attributes.{attributes_syntax};
 ghost use Rattle.syn_tree.specs.Restriction.{syntax_of_Visibility};
 ghost use Rattle.syn_lower.specs.Generics.{clause_of};
-ghost use Rattle.syn_tree.specs.Derive.{braced_of, item_of, structure_of, syntax_of_DataEnum, syntax_of_DataStruct, syntax_of_DataUnion};
+ghost use Rattle.syn_grammar.specs.Run.{wrap};
+ghost use Rattle.syn_tree.specs.Derive.{braced_of, enumeration_form, item_of, structure_form, structure_of, union_form, syntax_of_DataEnum, syntax_of_DataStruct, syntax_of_DataUnion};
 ghost use Rattle.syn_tree.specs.Items.{enumeration_rest_syntax, structure_rest_syntax, union_item_rest_syntax};
 
 mod modifiers;
@@ -179,6 +180,45 @@ fn union_item_rest(input: &mut ParseBuffer<'_>) -> Parsed<(Visibility, Ident, Ge
     Ok((vis, ident, generics, data))
 }
 
+/// A struct, behind these attributes and this visibility: `struct`, a name, generics, and fields in braces, in parentheses or none.
+pub fn struct_behind(
+    attrs: Vec<Attribute>,
+    vis: Visibility,
+    input: &mut ParseBuffer<'_>,
+) -> Parsed<ItemStruct>
+    ensures reads { Computes IsSyntax itself (wrap (item_of (attributes_syntax attrs.items) (syntax_of_Visibility vis)) (parse_form structure_form input.old)) result input.new }
+    ensures moved { Moved input.old result input.new }
+{
+    let (ident, generics, data) = structure(input)?;
+    Ok(item_struct(attrs, vis, ident, generics, data))
+}
+
+/// An enum, behind these attributes and this visibility: `enum`, a name, generics, a where clause, and variants in braces.
+pub fn enum_behind(
+    attrs: Vec<Attribute>,
+    vis: Visibility,
+    input: &mut ParseBuffer<'_>,
+) -> Parsed<ItemEnum>
+    ensures reads { Computes IsSyntax itself (wrap (item_of (attributes_syntax attrs.items) (syntax_of_Visibility vis)) (parse_form enumeration_form input.old)) result input.new }
+    ensures moved { Moved input.old result input.new }
+{
+    let (ident, generics, data) = enumeration(input)?;
+    Ok(item_enum(attrs, vis, ident, generics, data))
+}
+
+/// A union, behind these attributes and this visibility: `union`, a name, generics, a where clause, and fields in braces.
+pub fn union_behind(
+    attrs: Vec<Attribute>,
+    vis: Visibility,
+    input: &mut ParseBuffer<'_>,
+) -> Parsed<ItemUnion>
+    ensures reads { Computes IsSyntax itself (wrap (item_of (attributes_syntax attrs.items) (syntax_of_Visibility vis)) (parse_form union_form input.old)) result input.new }
+    ensures moved { Moved input.old result input.new }
+{
+    let (ident, generics, data) = union_item(input)?;
+    Ok(item_union(attrs, vis, ident, generics, data))
+}
+
 /// All fields are moved, spans included: the input stands for what the item stands for.
 impl From<ItemEnum> for DeriveInput {
     ghost from_gives = { λ item input. input ≡ Node (Case rules.enumeration item) };
@@ -266,7 +306,7 @@ impl From<ItemUnion> for Item {
 }
 
 /// An enum of these parts, spans included.
-fn item_enum(
+pub fn item_enum(
     attrs: Vec<Attribute>,
     vis: Visibility,
     ident: Ident,
@@ -287,7 +327,7 @@ fn item_enum(
 }
 
 /// A struct of these parts, spans included.
-fn item_struct(
+pub fn item_struct(
     attrs: Vec<Attribute>,
     vis: Visibility,
     ident: Ident,
@@ -308,7 +348,7 @@ fn item_struct(
 }
 
 /// A union of these parts, spans included.
-fn item_union(
+pub fn item_union(
     attrs: Vec<Attribute>,
     vis: Visibility,
     ident: Ident,

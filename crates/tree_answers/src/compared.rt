@@ -5,10 +5,11 @@ use crate::case::{Case, Kind, Question};
 use crate::failure::Failure;
 use crate::tally::Tally;
 use syn::canon::{Canonical, canonical, same_form};
+use syn::parse::ParseBuffer;
 use syn::reader::{read_tokens, token_text};
 use syn::token::TokenStream;
 use syn_answers::answers::{canonical_by, derived_by, same_form_by};
-use syn_recognize::Rule;
+use syn_recognize::{Rule, read_by};
 
 /// Compares what is answered about the text as a `T`, by trees and by the rule that reads it. The word names the kind.
 pub(crate) fn compare<T: Canonical + Drop>(
@@ -47,12 +48,33 @@ fn printed_by_tree<T: Canonical + Drop>(case: &Case<'_>) -> Result<Answer, Failu
 
 fn printed_by_rule(case: &Case<'_>, rule: Rule) -> Result<Answer, Failure> {
     let tokens = case.tokens.try_clone(case.alloc)?;
-    Answer::of_print(case.alloc, &canonical_by(rule, tokens))
+    let answer = Answer::of_print(case.alloc, &canonical_by(rule, tokens))?;
+    Ok(stopped(answer, rule, case.tokens))
 }
 
 fn checked_by_rule(case: &Case<'_>, rule: Rule) -> Result<Answer, Failure> {
     let tokens = case.tokens.try_clone(case.alloc)?;
-    Ok(Answer::of_check(&derived_by(rule, tokens)))
+    Ok(stopped(
+        Answer::of_check(&derived_by(rule, tokens)),
+        rule,
+        case.tokens,
+    ))
+}
+
+/// The same answer; where it is a refusal, with the byte at which reading stopped: faults that more than one token tells are told at
+/// others.
+fn stopped(answer: Answer, rule: Rule, tokens: &TokenStream) -> Answer {
+    match answer {
+        Answer::Refused(_) => Answer::of_check(&read_whole(rule, tokens)),
+        other => other,
+    }
+}
+
+/// Reads the whole stream by the rule.
+fn read_whole(rule: Rule, tokens: &TokenStream) -> syn::Result<()> {
+    let mut input = ParseBuffer::new(tokens);
+    read_by(rule, &mut input)?;
+    input.finish()
 }
 
 /// Compares what is answered whether the text and another one have the same form.
@@ -88,9 +110,12 @@ fn form_by_rule(
     left: &TokenStream,
     right: &TokenStream,
 ) -> Result<Answer, Failure> {
-    let left = left.try_clone(case.alloc)?;
-    let right = right.try_clone(case.alloc)?;
-    Ok(Answer::of_form(&same_form_by(rule, left, right)))
+    let copies = (left.try_clone(case.alloc)?, right.try_clone(case.alloc)?);
+    let answer = Answer::of_form(&same_form_by(rule, copies.0, copies.1));
+    match stopped(answer, rule, left) {
+        Answer::Read => Ok(stopped(Answer::Refused(0), rule, right)),
+        answer => Ok(answer),
+    }
 }
 
 /// The tokens of the text of the canonical print, where there is one.

@@ -12,7 +12,7 @@
 //! - `form of the text before`: whether the last text before it that could be read has, and
 //! - `form, as the text before has it`: the same in the other order.
 //!
-//! Both have to answer the same, or to refuse the text at the same byte; the words may differ. Trees refuse memory to what is
+//! Both have to answer the same, or to stop reading the text at the same byte; the words may differ. Trees refuse memory to what is
 //! nested too deep, and recognition doesn't: where memory is refused to one of them, that is counted, and nothing is compared.
 //!
 //! Each question whose answers differ is three lines on standard output, and at the end there stands what was counted. The

@@ -2,11 +2,11 @@
 
 use crate::nested::compare::{CompareNested, CompareOf, same_else, same_statements};
 use crate::nested::copy::{CopyNested, CopyOf, copied, copy_else, copy_operand};
-use crate::nested::print::{PrintNested, PrintOf, print_before, print_body, print_else};
+use crate::nested::print::{PrintNested, PrintOf, print_body, print_else};
 use crate::{Block, Expr};
 use std::alloc::{AllocError, Global};
 use syn_lower::Attribute;
-use syn_lower::attr::print_outer;
+use syn_lower::attr::{print_before_body, print_outer};
 use syn_pat::Pat;
 use syn_tokens::lifetime::Lifetime;
 use syn_tokens::print::Print;
@@ -91,14 +91,14 @@ impl PrintNested<Expr> for ExprBlock {
         nested: &N,
         out: &mut StreamBuilder,
     ) -> Result<(), AllocError> {
-        print_before(&self.attrs, out)?;
+        print_before_body(&self.attrs, out)?;
         self.label.print_in(out)?;
         print_body(nested, &self.attrs, &self.block, out)
     }
 }
 
 impl CompareNested<Expr> for ExprBlock {
-    #[tactic(auto, using(crate::proofs::Bodies::same_behind_one))]
+    #[tactic(auto, using(syn_lower::proofs::Bodies::same_behind_one))]
     fn is_same_nested<N: CompareOf<Expr>>(&self, nested: &N, other: &ExprBlock) -> bool {
         self.attrs.is_same(&other.attrs)
             && self.label.is_same(&other.label)
@@ -113,7 +113,7 @@ impl PrintNested<Expr> for ExprForLoop {
         nested: &N,
         out: &mut StreamBuilder,
     ) -> Result<(), AllocError> {
-        print_before(&self.attrs, out)?;
+        print_before_body(&self.attrs, out)?;
         self.label.print_in(out)?;
         self.for_token.print_in(out)?;
         self.pat.print_in(out)?;
@@ -124,7 +124,7 @@ impl PrintNested<Expr> for ExprForLoop {
 }
 
 impl CompareNested<Expr> for ExprForLoop {
-    #[tactic(auto, using(crate::proofs::Bodies::same_behind_five))]
+    #[tactic(auto, using(syn_lower::proofs::Bodies::same_behind_five))]
     fn is_same_nested<N: CompareOf<Expr>>(&self, nested: &N, other: &ExprForLoop) -> bool {
         self.attrs.is_same(&other.attrs)
             && self.label.is_same(&other.label)
@@ -143,7 +143,7 @@ impl PrintNested<Expr> for ExprLoop {
         nested: &N,
         out: &mut StreamBuilder,
     ) -> Result<(), AllocError> {
-        print_before(&self.attrs, out)?;
+        print_before_body(&self.attrs, out)?;
         self.label.print_in(out)?;
         self.loop_token.print_in(out)?;
         print_body(nested, &self.attrs, &self.body, out)
@@ -151,7 +151,7 @@ impl PrintNested<Expr> for ExprLoop {
 }
 
 impl CompareNested<Expr> for ExprLoop {
-    #[tactic(auto, using(crate::proofs::Bodies::same_behind_two))]
+    #[tactic(auto, using(syn_lower::proofs::Bodies::same_behind_two))]
     fn is_same_nested<N: CompareOf<Expr>>(&self, nested: &N, other: &ExprLoop) -> bool {
         self.attrs.is_same(&other.attrs)
             && self.label.is_same(&other.label)
@@ -167,14 +167,14 @@ impl PrintNested<Expr> for ExprUnsafe {
         nested: &N,
         out: &mut StreamBuilder,
     ) -> Result<(), AllocError> {
-        print_before(&self.attrs, out)?;
+        print_before_body(&self.attrs, out)?;
         self.unsafe_token.print_in(out)?;
         print_body(nested, &self.attrs, &self.block, out)
     }
 }
 
 impl CompareNested<Expr> for ExprUnsafe {
-    #[tactic(auto, using(crate::proofs::Bodies::same_behind_one))]
+    #[tactic(auto, using(syn_lower::proofs::Bodies::same_behind_one))]
     fn is_same_nested<N: CompareOf<Expr>>(&self, nested: &N, other: &ExprUnsafe) -> bool {
         self.attrs.is_same(&other.attrs)
             && self.unsafe_token.is_same(&other.unsafe_token)
@@ -189,7 +189,7 @@ impl PrintNested<Expr> for ExprWhile {
         nested: &N,
         out: &mut StreamBuilder,
     ) -> Result<(), AllocError> {
-        print_before(&self.attrs, out)?;
+        print_before_body(&self.attrs, out)?;
         self.label.print_in(out)?;
         self.while_token.print_in(out)?;
         nested.print_one(&self.cond, out)?;
@@ -198,7 +198,7 @@ impl PrintNested<Expr> for ExprWhile {
 }
 
 impl CompareNested<Expr> for ExprWhile {
-    #[tactic(auto, using(crate::proofs::Bodies::same_behind_three))]
+    #[tactic(auto, using(syn_lower::proofs::Bodies::same_behind_three))]
     fn is_same_nested<N: CompareOf<Expr>>(&self, nested: &N, other: &ExprWhile) -> bool {
         self.attrs.is_same(&other.attrs)
             && self.label.is_same(&other.label)

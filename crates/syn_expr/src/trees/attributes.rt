@@ -5,7 +5,7 @@ ghost use Rattle.syn_grammar.specs.Values.{attributes_before};
 ghost use Rattle.syn_grammar.specs.Promises.{OrMemory};
 ghost use Rattle.syn_lower.specs.Attributes.{all_attributes_syntax, attributes_syntax};
 ghost use Rattle.syn_lower.specs.Parsing.{IsSyntax};
-ghost use Rattle.syn_expr_parse.specs.Bodies.{attributes_before_body, attributes_in_body};
+ghost use Rattle.syn_lower.specs.Bodies.{attributes_before_body, attributes_in_body};
 ghost use Rattle.syn_expr_parse.specs.Unary.{all_shown, own_shown};
 ghost use Rattle.syn_expr.specs.Expressions.{syntax_of_Expr};
 
@@ -53,6 +53,7 @@ pub(super) fn put_before(attrs: Vec<Attribute>, expr: &mut Expr) -> Parsed<()>
         Expr::Reference(e) => join(attrs, &mut e.attrs),
         Expr::Repeat(e) => join(attrs, &mut e.attrs),
         Expr::Return(e) => join(attrs, &mut e.attrs),
+        Expr::Struct(e) => join(attrs, &mut e.attrs),
         Expr::Try(e) => join(attrs, &mut e.attrs),
         Expr::Tuple(e) => join(attrs, &mut e.attrs),
         Expr::Unary(e) => join(attrs, &mut e.attrs),

@@ -1,21 +1,22 @@
 //! What the makers of trees share.
 ghost use Rattle.std.specs.Prelude.{◌≡◌};
-ghost use Rattle.syn_grammar.specs.Values.{sentence as sentence_syntax};
 ghost use Rattle.syn_grammar.specs.Promises.{OrMemory, itself};
-ghost use Rattle.syn_tokens.specs.Kinds.{semi_syntax};
-ghost use Rattle.syn_tokens.specs.Leaves.{maybe};
+ghost use Rattle.syn_tokens.specs.Leaves.{maybe, syntax_of_ident};
 ghost use Rattle.syn_parse.specs.Refusals.{IsSyntax};
 ghost use Rattle.syn_expr_parse.specs.Parts.{label_syntax};
+ghost use Rattle.syn_expr_parse.specs.StructLiterals.{named_path};
 ghost use Rattle.syn_expr.specs.Expressions.{syntax_of_Expr};
-ghost use Rattle.syn_expr.specs.Statements.{statement_of};
 
 use crate::Expr;
-use crate::expr::Label;
-use crate::stmt::Stmt;
+use crate::expr::{ExprPath, Label};
+use crate::nested::copy::copied;
 use std::alloc::Global;
+use syn_lower::{Path, PathArguments, PathSegment};
 use syn_parse::read::refusal::Parsed;
+use syn_tokens::ident::Ident;
 use syn_tokens::lifetime::Lifetime;
-use syn_tokens::token::{Colon, Semi};
+use syn_tokens::punctuated::Punctuated;
+use syn_tokens::token::Colon;
 
 /// This expression in a box.
 pub(super) fn boxed(expr: Expr, alloc: Global) -> Parsed<Box<Expr>>
@@ -31,6 +32,27 @@ pub(super) fn out_of_box(expr: Box<Expr>) -> Expr
     Box::into_inner(expr)
 }
 
+/// The variable of this name, as an expression.
+#[tactic(auto, using(crate::proofs::Attributes::no_attributes))]
+pub(super) fn named(name: &Ident, alloc: Global) -> Parsed<Expr>
+    ensures { OrMemory IsSyntax result (λ e. syntax_of_Expr e ≡ named_path (syntax_of_ident name.now)) }
+{
+    let ident = copied(name, alloc)?;
+    let mut segments = Punctuated::new(alloc);
+    segments.push_value(PathSegment {
+        ident,
+        arguments: PathArguments::None,
+    })?;
+    Ok(Expr::Path(ExprPath {
+        attrs: Vec::new(alloc),
+        qself: None,
+        path: Path {
+            leading_colon: None,
+            segments,
+        },
+    }))
+}
+
 /// A label, or none.
 pub(super) fn labelled(label: Option<(Lifetime, Colon)>) -> Option<Label>
     ensures { maybe itself result ≡ label_syntax label }
@@ -38,22 +60,5 @@ pub(super) fn labelled(label: Option<(Lifetime, Colon)>) -> Option<Label>
     match label {
         Some((name, colon_token)) => Some(Label { name, colon_token }),
         None => None,
-    }
-}
-
-/// An expression as a statement. A macro with `;` is a macro's statement, and so is one in braces (`braces`).
-#[tactic(auto, using(crate::proofs::Statements::plain_sentence, crate::proofs::Statements::with_semicolon))]
-pub(super) fn sentence(braces: bool, expr: Expr, semi: Option<Semi>) -> Stmt
-    ensures { statement_of result ≡ sentence_syntax braces (syntax_of_Expr expr) (maybe semi_syntax semi) }
-{
-    match semi {
-        Some(semi) => expr.into_stmt(Some(semi)),
-        None => {
-            if braces {
-                expr.into_stmt(None)
-            } else {
-                Stmt::Expr(expr, None)
-            }
-        }
     }
 }

@@ -12,9 +12,9 @@ ghost use Rattle.syn_lower.specs.Attributes.{none_listed};
 ghost use Rattle.syn_lower.specs.Parsing.{parse_rule, parse_form, Computes, Parses, Moved, Kept, MayBelow, MayHere, itself, IsSyntax};
 ghost use Rattle.syn_expr_parse.specs.BlockForms.{else_branch_form, for_form, label_form, labelled_as, labelled_form, loop_form, otherwise_form, unsafe_form, while_form};
 ghost use Rattle.syn_expr_parse.specs.Parts.{behind_else, block_behind_else, label_syntax};
-ghost use Rattle.syn_expr_parse.specs.Bodies.{attributes_before_body, attributes_in_body, body as body_syntax};
+ghost use Rattle.syn_lower.specs.Bodies.{attributes_before_body, attributes_in_body, body as body_syntax};
 
-use crate::parsing::nested::{Block, Expr, Nested, Rung};
+use crate::parsing::nested::{Block, Expr, Nested, Rung, Spot};
 use crate::trees::Trees;
 use syn_lower::Attribute;
 use syn_lower::attr::inner_attributes;
@@ -205,7 +205,7 @@ fn while_loop<N: Nested>(
     ensures moved { Moved input.old result input.new }
 {
     let while_token = input.read()?;
-    let cond = nested.expr(Rung::Whole, input)?;
+    let cond = nested.expr(Rung::Whole(Spot::Head), input)?;
     let (attrs, body) = body(nested, input)?;
     N::Trees::expr_while(attrs, label, while_token, cond, body, input.alloc())
 }
@@ -223,7 +223,7 @@ fn for_loop<N: Nested>(
     let for_token = input.read()?;
     let pat = input.read()?;
     let in_token = input.read()?;
-    let expr = nested.expr(Rung::Whole, input)?;
+    let expr = nested.expr(Rung::Whole(Spot::Head), input)?;
     let (attrs, body) = body(nested, input)?;
     N::Trees::expr_for_loop(
         attrs,
@@ -247,7 +247,7 @@ pub(super) fn if_expression<N: Nested>(
     ensures parses { Parses IsSyntax (λ e. Node (N.Trees.expr_syntax e.value)) rules.if_expression input.old result input.new }
 {
     let if_token = input.read()?;
-    let cond = nested.expr(Rung::Whole, input)?;
+    let cond = nested.expr(Rung::Whole(Spot::Head), input)?;
     let then_branch = block(nested, input)?;
     let else_branch = otherwise(nested, input)?;
     N::Trees::expr_if(if_token, cond, then_branch, else_branch, input.alloc())

@@ -16,7 +16,7 @@ ghost use Rattle.syn_expr_parse.specs.Arrays.{syntax_of_ArrayContent, array_rest
 ghost use Rattle.syn_expr_parse.specs.Postfixes.{arguments_form};
 ghost use Rattle.syn_expr_parse.specs.Primary.{bracketed_of, brackets_form, group_form};
 
-use crate::parsing::nested::{Expr, Nested, Rung};
+use crate::parsing::nested::{Expr, Nested, Rung, Spot};
 use crate::trees::Trees;
 use std::alloc::Global;
 use syn_parse::buffer::ParseBuffer;
@@ -45,7 +45,7 @@ pub(super) fn expressions<N: Nested>(
 {
     let mut list = Punctuated::new(input.alloc());
     'elements: while !input.is_empty() {
-        let value = N::Trees::unboxed(nested.expr(Rung::Whole, input)?);
+        let value = N::Trees::unboxed(nested.expr(Rung::Whole(Spot::Anywhere), input)?);
         if !input.peek::<Comma>() {
             list.push_value(value)?;
             return Ok(list);
@@ -159,12 +159,12 @@ fn array_content<N: Nested>(
     if input.is_empty() {
         return Ok(ArrayContent::Elements(Punctuated::new(input.alloc())));
     }
-    let first = nested.expr(Rung::Whole, input)?;
+    let first = nested.expr(Rung::Whole(Spot::Anywhere), input)?;
     if !input.peek::<Semi>() {
         return Ok(ArrayContent::Elements(elements(nested, first, input)?));
     }
     let semi_token = input.read()?;
-    let len = nested.expr(Rung::Whole, input)?;
+    let len = nested.expr(Rung::Whole(Spot::Anywhere), input)?;
     Ok(ArrayContent::Copies(first, semi_token, len))
 }
 
@@ -199,7 +199,7 @@ pub(super) fn in_invisible_group<N: Nested>(
     ensures moved { Moved input.old result input.new }
 {
     let (group_token, mut content) = input.read_group::<kind::Group>()?;
-    let expr = nested.expr(Rung::Whole, &mut content)?;
+    let expr = nested.expr(Rung::Whole(Spot::Anywhere), &mut content)?;
     content.read_end()?;
     N::Trees::expr_group(group_token, expr, input.alloc())
 }

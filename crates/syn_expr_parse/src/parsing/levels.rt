@@ -9,8 +9,9 @@ ghost use Rattle.syn_grammar.specs.Run.{wrap};
 ghost use Rattle.syn_grammar.specs.Values.{core, new, onto};
 ghost use Rattle.syn_grammar.specs.Promises.{OrMemory};
 ghost use Rattle.syn_lower.specs.Parsing.{parse_rule, Computes, Kept, MayBelow, MayHere, Parses, IsSyntax};
-ghost use Rattle.syn_expr_parse.specs.Levels.{Operator, ReadsOperator, chained_out, first_operator, going};
+ghost use Rattle.syn_expr_parse.specs.Levels.{IsLevel, Operator, ReadsOperator, Steps};
 ghost use Rattle.syn_expr_parse.specs.Operators.{syntax_of_BinOp};
+ghost use Rattle.syn_expr_parse.specs.Spots.{within};
 
 mod behind;
 mod looks;
@@ -18,7 +19,7 @@ mod operators;
 mod rows;
 
 use crate::op::BinOp;
-use crate::parsing::nested::{Expr, Nested};
+use crate::parsing::nested::{Expr, Nested, Spot};
 use crate::parsing::postfix::postfixes;
 use crate::trees::Trees;
 use behind::{assigned, casts, compared};
@@ -43,59 +44,69 @@ trait Level {
     ghost level_rule: { Rule };
 
     /// Reads an operand.
-    fn operand<N: Nested>(nested: &N, input: &mut ParseBuffer<'_>) -> Parsed<Box<Expr<N>>>
+    fn operand<N: Nested>(
+        spot: Spot,
+        nested: &N,
+        input: &mut ParseBuffer<'_>,
+    ) -> Parsed<Box<Expr<N>>>
         requires { MayBelow N.may nested.now input.old }
-        ensures parses { Parses IsSyntax (λ e. Node (N.Trees.expr_syntax e.value)) operand_rule input.old result input.new };
+        ensures parses { Parses IsSyntax (λ e. Node (N.Trees.expr_syntax e.value)) (within spot operand_rule) input.old result input.new };
 
     /// Reads an operator, where one stands next.
     fn operator(input: &mut ParseBuffer<'_>) -> Parsed<Option<BinOp>>
         ensures operator { ReadsOperator IsSyntax syntax_of_BinOp operators input.old result input.new };
 
     /// What stands behind the expression `a`, by the operator that stands next.
-    ghost step: { (a : Syntax) (ts : Stream) → wrap (onto a) (parse_rule chain_rule ts) ≡ going a ts (first_operator operators ts) (parse_rule operand_rule) (parse_rule chain_rule) };
+    ghost step: { Steps operators operand_rule chain_rule };
 
     /// The level, by its first operand.
-    ghost level: { (ts : Stream) → parse_rule level_rule ts ≡ chained_out (parse_rule operand_rule ts) (parse_rule chain_rule) };
+    ghost level: { IsLevel operand_rule chain_rule level_rule };
 }
 
 /// What stands behind an operand on a level: as long as an operator stands next, all before it is its left operand.
 fn chain<L: Level, N: Nested>(
+    spot: Spot,
     nested: &N,
     left: Box<Expr<N>>,
     input: &mut ParseBuffer<'_>,
 ) -> Parsed<Box<Expr<N>>>
     requires { MayBelow N.may nested.now input.old }
-    ensures reads { Computes IsSyntax (λ e. N.Trees.expr_syntax e.value) (wrap (onto (core (N.Trees.expr_syntax left.value))) (parse_rule L.chain_rule input.old)) result input.new }
+    ensures reads { Computes IsSyntax (λ e. N.Trees.expr_syntax e.value) (wrap (onto (core (N.Trees.expr_syntax left.value))) (parse_rule (within spot L.chain_rule) input.old)) result input.new }
     ensures kept { Kept input.old result input.new }
 {
     let mut all = left;
     'operators: while let Some(op) = L::operator(input)? {
-        let right = L::operand(nested, input)?;
+        let right = L::operand(spot, nested, input)?;
         all = N::Trees::expr_binary(all, op, right, input.alloc())?;
     }
     Ok(all)
 }
 
 /// A level: an operand, and what stands behind it.
-fn read_level<L: Level, N: Nested>(nested: &N, input: &mut ParseBuffer<'_>) -> Parsed<Box<Expr<N>>>
+fn read_level<L: Level, N: Nested>(
+    spot: Spot,
+    nested: &N,
+    input: &mut ParseBuffer<'_>,
+) -> Parsed<Box<Expr<N>>>
     requires { MayBelow N.may nested.now input.old }
-    ensures parses { Parses IsSyntax (λ e. Node (N.Trees.expr_syntax e.value)) L.level_rule input.old result input.new }
+    ensures parses { Parses IsSyntax (λ e. Node (N.Trees.expr_syntax e.value)) (within spot L.level_rule) input.old result input.new }
 {
-    let first = L::operand(nested, input)?;
-    chain::<L, N>(nested, first, input)
+    let first = L::operand(spot, nested, input)?;
+    chain::<L, N>(spot, nested, first, input)
 }
 
 /// Any expression: a disjunction, and what is assigned to it. Refused where a postfix or a comparison stands behind it.
 #[tactic(auto, using(crate::proofs::Levels::whole_are))]
 pub(super) fn whole_expression<N: Nested>(
+    spot: Spot,
     nested: &N,
     input: &mut ParseBuffer<'_>,
 ) -> Parsed<Box<Expr<N>>>
     requires { MayBelow N.may nested.now input.old }
-    ensures parses { Parses IsSyntax (λ e. Node (N.Trees.expr_syntax e.value)) rules.whole_expression input.old result input.new }
+    ensures parses { Parses IsSyntax (λ e. Node (N.Trees.expr_syntax e.value)) (within spot rules.whole_expression) input.old result input.new }
 {
-    let first = read_level::<Disjunctions, N>(nested, input)?;
-    let all = assigned(nested, first, input)?;
+    let first = read_level::<Disjunctions, N>(spot, nested, input)?;
+    let all = assigned(spot, nested, first, input)?;
     if at_unfinished(input) {
         return Err(input.refusal("unexpected token"));
     }
@@ -116,14 +127,14 @@ pub(super) fn operand_rest<N: Nested>(
 {
     let all = postfixes(nested, left, input)?;
     let all = casts::<N>(all, input)?;
-    let all = chain::<Products, N>(nested, all, input)?;
-    let all = chain::<Sums, N>(nested, all, input)?;
-    let all = chain::<Shifts, N>(nested, all, input)?;
-    let all = chain::<BitAnds, N>(nested, all, input)?;
-    let all = chain::<BitXors, N>(nested, all, input)?;
-    let all = chain::<BitOrs, N>(nested, all, input)?;
-    let all = compared(nested, all, input)?;
-    let all = chain::<Conjunctions, N>(nested, all, input)?;
-    let all = chain::<Disjunctions, N>(nested, all, input)?;
-    assigned(nested, all, input)
+    let all = chain::<Products, N>(Spot::Anywhere, nested, all, input)?;
+    let all = chain::<Sums, N>(Spot::Anywhere, nested, all, input)?;
+    let all = chain::<Shifts, N>(Spot::Anywhere, nested, all, input)?;
+    let all = chain::<BitAnds, N>(Spot::Anywhere, nested, all, input)?;
+    let all = chain::<BitXors, N>(Spot::Anywhere, nested, all, input)?;
+    let all = chain::<BitOrs, N>(Spot::Anywhere, nested, all, input)?;
+    let all = compared(Spot::Anywhere, nested, all, input)?;
+    let all = chain::<Conjunctions, N>(Spot::Anywhere, nested, all, input)?;
+    let all = chain::<Disjunctions, N>(Spot::Anywhere, nested, all, input)?;
+    assigned(Spot::Anywhere, nested, all, input)
 }

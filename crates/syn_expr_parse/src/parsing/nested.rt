@@ -10,13 +10,22 @@ use crate::trees::Trees;
 use syn_parse::buffer::ParseBuffer;
 use syn_parse::read::refusal::Parsed;
 
+/// Where an expression stands: whether a path may take braces.
+#[derive(Clone, Copy)]
+pub enum Spot {
+    /// Anywhere, but where only the other is meant.
+    Anywhere,
+    /// In the head of an `if`, a `while` or a `for`: there a path takes none.
+    Head,
+}
+
 /// Which expressions are read inside of another.
 #[derive(Clone, Copy)]
 pub enum Rung {
     /// Any.
-    Whole,
+    Whole(Spot),
     /// A unary level: behind a sign.
-    Unary,
+    Unary(Spot),
     /// `if`, behind `else`.
     If,
 }
@@ -51,6 +60,9 @@ pub type Block<N> = <<N as Nested>::Trees as Trees>::Block;
 
 /// The statements that it reads.
 pub type Stmt<N> = <<N as Nested>::Trees as Trees>::Stmt;
+
+/// The fields of struct literals that it reads.
+pub type FieldValue<N> = <<N as Nested>::Trees as Trees>::FieldValue;
 
 /// The values of locals that it reads.
 pub type LocalInit<N> = <<N as Nested>::Trees as Trees>::LocalInit;

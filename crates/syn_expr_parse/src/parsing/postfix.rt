@@ -14,7 +14,7 @@ ghost use Rattle.syn_lower.specs.Parsing.{sees, parse_rule, parse_form, Computes
 ghost use Rattle.syn_expr_parse.specs.Postfixes.{arguments_form, behind_dot, behind_name, generic_call_form, index_form, linked, member_form, named_form};
 
 use crate::parsing::groups::arguments;
-use crate::parsing::nested::{Expr, Nested, Rung};
+use crate::parsing::nested::{Expr, Nested, Rung, Spot};
 use crate::trees::Trees;
 use syn_lower::Member;
 use syn_parse::buffer::ParseBuffer;
@@ -77,7 +77,7 @@ fn indexed<N: Nested>(
     ensures moved { Moved input.old result input.new }
 {
     let (bracket_token, mut content) = input.read_group::<kind::Bracket>()?;
-    let index = nested.expr(Rung::Whole, &mut content)?;
+    let index = nested.expr(Rung::Whole(Spot::Anywhere), &mut content)?;
     content.read_end()?;
     N::Trees::expr_index(expr, bracket_token, index, input.alloc())
 }

@@ -5,12 +5,15 @@ ghost use Rattle.syn_grammar.specs.Shape.{Break, Continue, Macro, Path, Return};
 ghost use Rattle.syn_grammar.specs.Values.{new};
 ghost use Rattle.syn_grammar.specs.Run.{wrap};
 ghost use Rattle.syn_lower.specs.Parsing.{parse_rule, parse_form, Computes, Parses, Moved, MayBelow, IsSyntax};
-ghost use Rattle.syn_expr_parse.specs.Primary.{break_form, continue_form, return_form};
+ghost use Rattle.syn_expr_parse.specs.Primary.{behind_path, break_form, continue_form, path_out, return_form};
 ghost use Rattle.syn_expr_parse.specs.Primary as primaries;
+ghost use Rattle.syn_expr_parse.specs.Spots.{within};
+ghost use Rattle.syn_expr_parse.specs.Then.{then_by};
 
 use crate::parsing::blocks::{block_like, else_block};
 use crate::parsing::groups::{bracketed, in_invisible_group, parenthesized};
-use crate::parsing::nested::{Expr, Nested, Rung};
+use crate::parsing::literals::struct_literal;
+use crate::parsing::nested::{Expr, Nested, Rung, Spot};
 use crate::trees::Trees;
 use syn_lower::Lit;
 use syn_parse::buffer::ParseBuffer;
@@ -22,12 +25,16 @@ use syn_tokens::token::{Brace, Bracket, Break, Continue, Group, Paren, Return};
 
 /// A primary expression, by the token that it begins with.
 #[tactic(auto, using(crate::proofs::Primary::primary_are))]
-pub(super) fn primary<N: Nested>(nested: &N, input: &mut ParseBuffer<'_>) -> Parsed<Box<Expr<N>>>
+pub(super) fn primary<N: Nested>(
+    spot: Spot,
+    nested: &N,
+    input: &mut ParseBuffer<'_>,
+) -> Parsed<Box<Expr<N>>>
     requires { MayBelow N.may nested.now input.old }
-    ensures parses { Parses IsSyntax (λ e. Node (N.Trees.expr_syntax e.value)) rules.primary input.old result input.new }
+    ensures parses { Parses IsSyntax (λ e. Node (N.Trees.expr_syntax e.value)) (within spot rules.primary) input.old result input.new }
 {
     if !input.peek::<Lit>() {
-        return no_literal(nested, input);
+        return no_literal(spot, nested, input);
     }
     let lit = input.read()?;
     N::Trees::expr_lit(lit, input.alloc())
@@ -47,9 +54,13 @@ pub fn constant<N: Nested>(nested: &N, input: &mut ParseBuffer<'_>) -> Parsed<Bo
 }
 
 /// A primary expression that is no literal.
-fn no_literal<N: Nested>(nested: &N, input: &mut ParseBuffer<'_>) -> Parsed<Box<Expr<N>>>
+fn no_literal<N: Nested>(
+    spot: Spot,
+    nested: &N,
+    input: &mut ParseBuffer<'_>,
+) -> Parsed<Box<Expr<N>>>
     requires { MayBelow N.may nested.now input.old }
-    ensures reads { Computes IsSyntax (λ e. N.Trees.expr_syntax e.value) (primaries.no_literal input.old) result input.new }
+    ensures reads { Computes IsSyntax (λ e. N.Trees.expr_syntax e.value) (primaries.no_literal spot input.old) result input.new }
     ensures moved { Moved input.old result input.new }
 {
     if at_macro(input)? {
@@ -63,7 +74,7 @@ fn no_literal<N: Nested>(nested: &N, input: &mut ParseBuffer<'_>) -> Parsed<Box<
     } else if at_block_like(input) {
         block_like(nested, input)
     } else {
-        jump_or_path(nested, input)
+        jump_or_path(spot, nested, input)
     }
 }
 
@@ -77,33 +88,41 @@ fn in_macro<N: Nested>(input: &mut ParseBuffer<'_>) -> Parsed<Box<Expr<N>>>
 }
 
 /// `return`, `break` or `continue`, with what belongs to it, or a path.
-fn jump_or_path<N: Nested>(nested: &N, input: &mut ParseBuffer<'_>) -> Parsed<Box<Expr<N>>>
+fn jump_or_path<N: Nested>(
+    spot: Spot,
+    nested: &N,
+    input: &mut ParseBuffer<'_>,
+) -> Parsed<Box<Expr<N>>>
     requires { MayBelow N.may nested.now input.old }
-    ensures reads { Computes IsSyntax (λ e. N.Trees.expr_syntax e.value) (primaries.jump_or_path input.old) result input.new }
+    ensures reads { Computes IsSyntax (λ e. N.Trees.expr_syntax e.value) (primaries.jump_or_path spot input.old) result input.new }
     ensures moved { Moved input.old result input.new }
 {
     if input.peek::<Return>() {
-        return_value(nested, input)
+        return_value(spot, nested, input)
     } else if input.peek::<Break>() {
         break_loop::<N>(input)
     } else if input.peek::<Continue>() {
         continue_loop::<N>(input)
     } else {
-        path::<N>(input)
+        path(spot, nested, input)
     }
 }
 
 /// `return`, and an expression where one may begin.
-fn return_value<N: Nested>(nested: &N, input: &mut ParseBuffer<'_>) -> Parsed<Box<Expr<N>>>
+fn return_value<N: Nested>(
+    spot: Spot,
+    nested: &N,
+    input: &mut ParseBuffer<'_>,
+) -> Parsed<Box<Expr<N>>>
     requires { MayBelow N.may nested.now input.old }
-    ensures reads { Computes IsSyntax (λ e. N.Trees.expr_syntax e.value) (wrap (new Return) (parse_form return_form input.old)) result input.new }
+    ensures reads { Computes IsSyntax (λ e. N.Trees.expr_syntax e.value) (wrap (new Return) (parse_form (return_form spot) input.old)) result input.new }
     ensures moved { Moved input.old result input.new }
 {
     let return_token = input.read()?;
     if !at_whole_expression(input) {
         return N::Trees::expr_return(return_token, None, input.alloc());
     }
-    let value = nested.expr(Rung::Whole, input)?;
+    let value = nested.expr(Rung::Whole(spot), input)?;
     N::Trees::expr_return(return_token, Some(value), input.alloc())
 }
 
@@ -130,11 +149,36 @@ fn continue_loop<N: Nested>(input: &mut ParseBuffer<'_>) -> Parsed<Box<Expr<N>>>
     N::Trees::expr_continue(continue_token, label, input.alloc())
 }
 
-/// A path.
-fn path<N: Nested>(input: &mut ParseBuffer<'_>) -> Parsed<Box<Expr<N>>>
+/// A path, and the braces of a struct literal behind it, where they may stand.
+fn path<N: Nested>(spot: Spot, nested: &N, input: &mut ParseBuffer<'_>) -> Parsed<Box<Expr<N>>>
+    requires { MayBelow N.may nested.now input.old }
+    ensures reads { Computes IsSyntax (λ e. N.Trees.expr_syntax e.value) (path_out spot input.old) result input.new }
+    ensures moved { Moved input.old result input.new }
+{
+    match spot {
+        Spot::Anywhere => path_or_literal(nested, input),
+        Spot::Head => lone_path::<N>(input),
+    }
+}
+
+/// A path alone.
+fn lone_path<N: Nested>(input: &mut ParseBuffer<'_>) -> Parsed<Box<Expr<N>>>
     ensures reads { Computes IsSyntax (λ e. N.Trees.expr_syntax e.value) (wrap (new Path) (parse_rule rules.path_as_expression input.old)) result input.new }
     ensures moved { Moved input.old result input.new }
 {
     let (qself, path) = path_as_expression(input)?;
     N::Trees::expr_path(qself, path, input.alloc())
+}
+
+/// A path, with the braces of a struct literal behind it or without them.
+fn path_or_literal<N: Nested>(nested: &N, input: &mut ParseBuffer<'_>) -> Parsed<Box<Expr<N>>>
+    requires { MayBelow N.may nested.now input.old }
+    ensures reads { Computes IsSyntax (λ e. N.Trees.expr_syntax e.value) (then_by (parse_rule rules.path_as_expression input.old) behind_path) result input.new }
+    ensures moved { Moved input.old result input.new }
+{
+    let (qself, path) = path_as_expression(input)?;
+    if !input.peek::<Brace>() {
+        return N::Trees::expr_path(qself, path, input.alloc());
+    }
+    struct_literal(qself, path, nested, input)
 }

@@ -20,8 +20,8 @@ pub fn expression<N: Nested>(
     ensures parses { Parses IsSyntax (λ e. Node (N.Trees.expr_syntax e.value)) (rule_of rung) input.old result input.new }
 {
     match rung {
-        Rung::Whole => whole_expression(nested, input),
-        Rung::Unary => unary(nested, input),
+        Rung::Whole(spot) => whole_expression(spot, nested, input),
+        Rung::Unary(spot) => unary(spot, nested, input),
         Rung::If => if_expression(nested, input),
     }
 }

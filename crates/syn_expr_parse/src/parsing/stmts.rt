@@ -14,21 +14,22 @@ ghost use Rattle.syn_lower.specs.Parsing.{of, rule, meaning_of_rule, parse_rule,
 ghost use Rattle.syn_expr_parse.specs.Parts.{block_behind_else, diverging as diverging_syntax, statements_of};
 ghost use Rattle.syn_expr_parse.specs.Listed.{is_listed};
 ghost use Rattle.syn_expr_parse.specs.Spines.{spine_shown};
-ghost use Rattle.syn_expr_parse.specs.StatementForms.{behind_attributes, behind_block, crate_macro_statement as crate_macro_statement_by, diverges, ending, expression_statement as expression_statement_by, local_init_form, local_value as local_value_by, macro_statement as macro_statement_by, next_statement, statement_by, statement_form, terminator as terminator_by};
+ghost use Rattle.syn_expr_parse.specs.StatementForms.{behind_attributes, behind_block, crate_item, crate_macro_statement as crate_macro_statement_by, diverges, ending, expression_statement as expression_statement_by, item_next, item_statement, local_init_form, local_value as local_value_by, macro_statement as macro_statement_by, next_statement, statement_by, terminator as terminator_by};
 ghost use Rattle.syn_recognize.specs.Trailing.{ends_by};
 
 use crate::parsing::blocks::{block_like, else_block};
 use crate::parsing::levels::operand_rest;
-use crate::parsing::nested::{Expr, LocalInit, Nested, Rung, Stmt};
+use crate::parsing::nested::{Expr, LocalInit, Nested, Rung, Spot, Stmt};
 use crate::parsing::trailing::has_trailing_brace;
 use crate::trees::Trees;
 use syn_lower::Attribute;
 use syn_lower::attr::outer_attributes;
 use syn_parse::buffer::ParseBuffer;
-use syn_parse::read::refusal::Parsed;
-use syn_pat::parsing::typed_pattern;
+use syn_parse::read::refusal::{Parsed, Refusal};
+use syn_pat::parsing::{macro_invocation, typed_pattern};
 use syn_recognize::expression_looks::{at_block_like, at_postfix_mark};
-use syn_recognize::looks::{at_brace_macro, at_crate_macro, at_lone_crate};
+use syn_recognize::item_looks::at_item;
+use syn_recognize::looks::{at_brace_macro, at_crate_macro};
 use syn_tokens::token::{Else, Eq, Let, Semi};
 
 /// Where a statement stands: what may end it.
@@ -72,24 +73,66 @@ fn listed<N: Nested>(nested: &N, input: &mut ParseBuffer<'_>) -> Parsed<Stmt<N>>
 #[tactic(auto, using(crate::proofs::StatementLists::statement_alone))]
 pub fn statement<N: Nested>(nested: &N, input: &mut ParseBuffer<'_>) -> Parsed<Stmt<N>>
     requires { MayHere N.may nested.now input.old }
-    ensures reads { Computes IsSyntax N.Trees.stmt_syntax (parse_form statement_form input.old) result input.new }
+    ensures parses { Parses IsSyntax (λ s. Node (N.Trees.stmt_syntax s)) rules.statement input.old result input.new }
     ensures moved { Moved input.old result input.new }
 {
     statement_in(Place::Alone, nested, input)
 }
 
-/// A statement with its attributes.
+/// A statement with its attributes. Behind them it is seen whether it is an item, which is read with them.
 #[tactic(auto, unfolding(crate::specs::StatementForms::statement_by))]
 fn statement_in<N: Nested>(place: Place, nested: &N, input: &mut ParseBuffer<'_>) -> Parsed<Stmt<N>>
     requires { MayHere N.may nested.now input.old }
     ensures reads { Computes IsSyntax N.Trees.stmt_syntax (statement_by (is_listed place) input.old) result input.new }
     ensures moved { Moved input.old result input.new }
 {
+    let start = input.fork();
     let attrs = outer_attributes(input)?;
+    if at_item_statement(place, input)? {
+        input.advance_to(&start);
+        return item::<N>(input);
+    }
     statement_behind(place, attrs, nested, input)
 }
 
-/// A statement behind its attributes.
+/// Whether an item stands next, behind its attributes. Refused only where memory is.
+fn at_item_statement(place: Place, input: &ParseBuffer<'_>) -> Parsed<bool>
+    ensures { OrMemory IsSyntax result (λ b. b ≡ item_next (is_listed place) input.now) }
+{
+    if at_item(input)? {
+        return Ok(true);
+    }
+    match place {
+        Place::Alone => at_crate_item(input),
+        Place::Listed => Ok(false),
+    }
+}
+
+/// Whether a macro of `crate` in braces stands next, and behind it what goes on an expression: alone, it is an item. Refused only where
+/// memory is.
+fn at_crate_item(input: &ParseBuffer<'_>) -> Parsed<bool>
+    ensures { OrMemory IsSyntax result (λ b. b ≡ crate_item false input.now) }
+{
+    if !at_crate_macro(input) {
+        return Ok(false);
+    }
+    let mut behind = input.fork();
+    match macro_invocation(&mut behind) {
+        Ok(_) => Ok(at_postfix_mark(&behind)),
+        Err(Refusal::Memory) => Err(Refusal::Memory),
+        Err(Refusal::Syntax { .. }) => Ok(false),
+    }
+}
+
+/// An item, kept as its tokens.
+fn item<N: Nested>(input: &mut ParseBuffer<'_>) -> Parsed<Stmt<N>>
+    ensures reads { Computes IsSyntax N.Trees.stmt_syntax (item_statement input.old) result input.new }
+    ensures moved { Moved input.old result input.new }
+{
+    Ok(N::Trees::item(input.read()?))
+}
+
+/// A statement that is no item, behind its attributes.
 fn statement_behind<N: Nested>(
     place: Place,
     attrs: Vec<Attribute>,
@@ -107,8 +150,6 @@ fn statement_behind<N: Nested>(
         macro_statement(place, attrs, nested, input)
     } else if input.peek::<Let>() {
         local(attrs, nested, input)
-    } else if at_lone_crate(input) {
-        Err(input.refusal("unexpected token"))
     } else {
         expression_statement(place, attrs, nested, input)
     }
@@ -125,7 +166,7 @@ fn macro_expression<N: Nested>(input: &mut ParseBuffer<'_>) -> Parsed<Box<Expr<N
     N::Trees::expr_macro(mac, input.alloc())
 }
 
-/// A macro in braces whose path is `crate`: no expression begins with it. It is refused where it stands.
+/// A macro in braces whose path is `crate`: no expression begins with it, so nothing goes on it.
 fn crate_macro_statement<N: Nested>(
     place: Place,
     attrs: Vec<Attribute>,
@@ -137,10 +178,9 @@ fn crate_macro_statement<N: Nested>(
     ensures reads { Computes IsSyntax N.Trees.stmt_syntax (crate_macro_statement_by (is_listed place) (attributes_syntax attrs.items) input.old) result input.new }
     ensures moved { Moved input.old result input.new }
 {
-    let refusal = input.refusal("unexpected token");
     let expr = macro_expression::<N>(input)?;
     if at_postfix_mark(input) {
-        return Err(refusal);
+        return Err(input.refusal("unexpected token"));
     }
     statement_of_block(place, true, attrs, expr, nested, input)
 }
@@ -177,7 +217,7 @@ fn expression_statement<N: Nested>(
         let expr = block_like(nested, input)?;
         statement_of_block(place, false, attrs, expr, nested, input)
     } else {
-        let expr = nested.expr(Rung::Whole, input)?;
+        let expr = nested.expr(Rung::Whole(Spot::Anywhere), input)?;
         statement_of_expression::<N>(place, false, attrs, expr, input)
     }
 }
@@ -236,7 +276,8 @@ fn with_attributes<N: Nested>(
     requires shown { spine_shown (N.Trees.expr_syntax expr.value) ≡ true }
     ensures { OrMemory IsSyntax result (λ s. N.Trees.stmt_syntax s ≡ sentence_syntax braces (moved_syntax (attributes_syntax attrs.items) (N.Trees.expr_syntax expr.value)) (maybe semi_syntax semi)) }
 {
-    Ok(N::Trees::stmt(braces, N::Trees::moved(attrs, expr)?, semi))
+    let expr = N::Trees::moved(attrs, expr)?;
+    Ok(N::Trees::stmt(braces, N::Trees::held(expr), semi))
 }
 
 /// `;`; or at the end of a list nothing.
@@ -303,7 +344,7 @@ fn local_value<N: Nested>(
     ensures moved { Moved input.old result input.new }
 {
     let start = input.fork();
-    let expr = nested.expr(Rung::Whole, input)?;
+    let expr = nested.expr(Rung::Whole(Spot::Anywhere), input)?;
     let diverge = diverging(&start, nested, input)?;
     Ok(N::Trees::local_init(eq_token, expr, diverge))
 }

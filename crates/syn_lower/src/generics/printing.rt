@@ -36,7 +36,7 @@ pub(crate) fn print_with<H: Print, T: Print, P: Print>(
 }
 
 /// A parameter's colon and bounds, where there are bounds; then the colon is printed though there is none.
-fn print_bounds<T: Print>(
+pub fn print_bounds<T: Print>(
     colon_token: &Option<Colon>,
     bounds: &Punctuated<T, Plus>,
     out: &mut StreamBuilder,

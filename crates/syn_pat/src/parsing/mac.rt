@@ -47,7 +47,7 @@ pub fn macro_invocation(input: &mut ParseBuffer<'_>) -> Parsed<Macro>
 }
 
 /// `!`, and not `!=`.
-fn bang(input: &mut ParseBuffer<'_>) -> Parsed<Not>
+pub fn bang(input: &mut ParseBuffer<'_>) -> Parsed<Not>
     ensures reads { Computes IsSyntax (λ t. Left (not_syntax t)) (parse_form bang_form input.old) result input.new }
     ensures moved { Moved input.old result input.new }
 {
@@ -58,7 +58,7 @@ fn bang(input: &mut ParseBuffer<'_>) -> Parsed<Not>
 }
 
 /// A group of any tokens: its delimiters, and the tokens.
-fn any_group(input: &mut ParseBuffer<'_>) -> Parsed<(MacroDelimiter, TokenStream)>
+pub fn any_group(input: &mut ParseBuffer<'_>) -> Parsed<(MacroDelimiter, TokenStream)>
     ensures reads { Computes IsSyntax (λ p. macro_group p.1 p.0) (parse_form any_group_form input.old) result input.new }
     ensures moved { Moved input.old result input.new }
 {

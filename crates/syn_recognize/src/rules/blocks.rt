@@ -42,8 +42,8 @@ pub(super) static NO_INNER_ATTRIBUTES: Form = Form::When(
 
 /// An expression without attributes, signs before it and what goes on it: a literal, a macro, a group in parentheses or
 /// brackets, an invisible group that holds an expression, a block or what ends with one, `return` with an expression or
-/// without it, `break` or `continue` with a lifetime or without it, or a path. Behind `break` and its lifetime nothing
-/// stands that an expression may begin with.
+/// without it, `break` or `continue` with a lifetime or without it, or a path, with the fields of a struct literal in
+/// braces behind it or without them. Behind `break` and its lifetime nothing stands that an expression may begin with.
 pub(super) static PRIMARY: Form = Form::Shaped(
     Shape::Choice,
     &Form::When(
@@ -58,13 +58,32 @@ pub(super) static PRIMARY: Form = Form::Shaped(
                 Shape::Operand(Variant::Lit),
                 &Form::Token(Token::Word(Word::False)),
             ),
-            &Form::Part(Part::Primary5),
+            &Form::Part(Part::Primary6),
         ),
     ),
 );
 
 /// A part of `primary`.
 pub(super) static PRIMARY_1: Form = Form::Shaped(
+    Shape::Chain,
+    &Form::Then(
+        &Form::Shaped(
+            Shape::Operand(Variant::Path),
+            &Form::Rule(Rule::PathAsExpression),
+        ),
+        &Form::When(
+            Look::Group(Delimiter::Brace),
+            &Form::Shaped(
+                Shape::Fields,
+                &Form::Inside(Delimiter::Brace, &Form::Rule(Rule::LiteralFields)),
+            ),
+            &Form::Empty,
+        ),
+    ),
+);
+
+/// A part of `primary`.
+pub(super) static PRIMARY_2: Form = Form::Shaped(
     Shape::Operand(Variant::Break),
     &Form::Then(
         &Form::Token(Token::Word(Word::Break)),
@@ -80,9 +99,9 @@ pub(super) static PRIMARY_1: Form = Form::Shaped(
 );
 
 /// A part of `primary`.
-pub(super) static PRIMARY_2: Form = Form::When(
+pub(super) static PRIMARY_3: Form = Form::When(
     Look::Word(Word::Break),
-    &Form::Part(Part::Primary1),
+    &Form::Part(Part::Primary2),
     &Form::When(
         Look::Word(Word::Continue),
         &Form::Shaped(
@@ -92,15 +111,12 @@ pub(super) static PRIMARY_2: Form = Form::When(
                 &Form::When(Look::Lifetime, &Form::Lifetime, &Form::Empty),
             ),
         ),
-        &Form::Shaped(
-            Shape::Operand(Variant::Path),
-            &Form::Rule(Rule::PathAsExpression),
-        ),
+        &Form::Part(Part::Primary1),
     ),
 );
 
 /// A part of `primary`.
-pub(super) static PRIMARY_3: Form = Form::When(
+pub(super) static PRIMARY_4: Form = Form::When(
     Look::BlockLike,
     &Form::Rule(Rule::BlockLike),
     &Form::When(
@@ -116,12 +132,12 @@ pub(super) static PRIMARY_3: Form = Form::When(
                 ),
             ),
         ),
-        &Form::Part(Part::Primary2),
+        &Form::Part(Part::Primary3),
     ),
 );
 
 /// A part of `primary`.
-pub(super) static PRIMARY_4: Form = Form::When(
+pub(super) static PRIMARY_5: Form = Form::When(
     Look::Group(Delimiter::Bracket),
     &Form::Shaped(
         Shape::Bracketed,
@@ -133,12 +149,12 @@ pub(super) static PRIMARY_4: Form = Form::When(
             Shape::Operand(Variant::Grouped),
             &Form::Inside(Delimiter::None, &Form::Rule(Rule::WholeExpression)),
         ),
-        &Form::Part(Part::Primary3),
+        &Form::Part(Part::Primary4),
     ),
 );
 
 /// A part of `primary`.
-pub(super) static PRIMARY_5: Form = Form::When(
+pub(super) static PRIMARY_6: Form = Form::When(
     Look::AnyLiteral,
     &Form::Shaped(Shape::Operand(Variant::Lit), &Form::Token(Token::Literal)),
     &Form::When(
@@ -153,8 +169,56 @@ pub(super) static PRIMARY_5: Form = Form::When(
                 Shape::Bracketed,
                 &Form::Inside(Delimiter::Paren, &Form::Rule(Rule::Expressions)),
             ),
-            &Form::Part(Part::Primary4),
+            &Form::Part(Part::Primary5),
         ),
+    ),
+);
+
+/// The fields of a struct literal, separated by commas; the last comma may stand or not. Behind them, or alone, `..`
+/// and an expression may stand, with nothing behind it.
+pub(super) static LITERAL_FIELDS: Form = Form::Shaped(
+    Shape::Based,
+    &Form::When(Look::Ended, &Form::Empty, &Form::Part(Part::LiteralFields1)),
+);
+
+/// A part of `literal_fields`.
+pub(super) static LITERAL_FIELDS_1: Form = Form::When(
+    Look::Mark(Mark::DotDot),
+    &Form::Then(
+        &Form::Mark(Mark::DotDot),
+        &Form::Rule(Rule::WholeExpression),
+    ),
+    &Form::Then(
+        &Form::Rule(Rule::LiteralField),
+        &Form::When(
+            Look::Mark(Mark::Comma),
+            &Form::Then(&Form::Mark(Mark::Comma), &Form::Rule(Rule::LiteralFields)),
+            &Form::Empty,
+        ),
+    ),
+);
+
+/// A field of a struct literal: attributes; and a number, `:` and an expression, or a name, with `:` and an expression
+/// behind it or alone. An expression behind a name alone that a tree made by hand holds is not printed.
+pub(super) static LITERAL_FIELD: Form = Form::Then(
+    &Form::Rule(Rule::Attributes),
+    &Form::When(
+        Look::Integer,
+        &Form::Then(
+            &Form::Token(Token::Index),
+            &Form::Then(&Form::Mark(Mark::Colon), &Form::Rule(Rule::WholeExpression)),
+        ),
+        &Form::Part(Part::LiteralField1),
+    ),
+);
+
+/// A part of `literal_field`.
+pub(super) static LITERAL_FIELD_1: Form = Form::Then(
+    &Form::Token(Token::Name),
+    &Form::When(
+        Look::Mark(Mark::Colon),
+        &Form::Then(&Form::Mark(Mark::Colon), &Form::Rule(Rule::WholeExpression)),
+        &Form::Unshown,
     ),
 );
 
@@ -195,44 +259,48 @@ pub(super) static BLOCK_LIKE_1: Form = Form::Shaped(
     ),
 );
 
-/// `if`: an expression and a block; and behind `else`, where it stands next, a block or another `if`.
+/// `if`: an expression, in which a path takes no braces, and a block; and behind `else`, where it stands next, a block
+/// or another `if`.
 pub(super) static IF_EXPRESSION: Form = Form::Shaped(
     Shape::Operand(Variant::If),
     &Form::Then(
         &Form::Token(Token::Word(Word::If)),
         &Form::Then(
-            &Form::Rule(Rule::WholeExpression),
-            &Form::Then(&Form::Rule(Rule::Block), &Form::Part(Part::IfExpression1)),
+            &Form::Rule(Rule::WholeExpressionHead),
+            &Form::Then(
+                &Form::Rule(Rule::Block),
+                &Form::When(
+                    Look::Word(Word::Else),
+                    &Form::Part(Part::IfExpression1),
+                    &Form::Empty,
+                ),
+            ),
         ),
     ),
 );
 
 /// A part of `if_expression`.
-pub(super) static IF_EXPRESSION_1: Form = Form::When(
-    Look::Word(Word::Else),
-    &Form::Then(
-        &Form::Token(Token::Word(Word::Else)),
-        &Form::When(
-            Look::Group(Delimiter::Brace),
-            &Form::Shaped(
-                Shape::Operand(Variant::Block),
-                &Form::Then(
-                    &Form::When(
-                        Look::Lifetime,
-                        &Form::Never(Fault::Unexpected),
-                        &Form::Empty,
-                    ),
-                    &Form::Rule(Rule::PlainBody),
+pub(super) static IF_EXPRESSION_1: Form = Form::Then(
+    &Form::Token(Token::Word(Word::Else)),
+    &Form::When(
+        Look::Group(Delimiter::Brace),
+        &Form::Shaped(
+            Shape::Operand(Variant::Block),
+            &Form::Then(
+                &Form::When(
+                    Look::Lifetime,
+                    &Form::Never(Fault::Unexpected),
+                    &Form::Empty,
                 ),
+                &Form::Rule(Rule::PlainBody),
             ),
-            &Form::Rule(Rule::IfExpression),
         ),
+        &Form::Rule(Rule::IfExpression),
     ),
-    &Form::Empty,
 );
 
 /// A loop: `loop` and a block; `while`, an expression and a block; or `for`, a pattern, `in`, an expression and a
-/// block.
+/// block. In these expressions a path takes no braces.
 pub(super) static LOOP_EXPRESSION: Form = Form::Shaped(
     Shape::Choice,
     &Form::When(
@@ -257,7 +325,10 @@ pub(super) static LOOP_EXPRESSION_1: Form = Form::Shaped(
             &Form::Rule(Rule::Pattern),
             &Form::Then(
                 &Form::TokenAt(Token::Word(Word::In), Place::Behind),
-                &Form::Then(&Form::Rule(Rule::WholeExpression), &Form::Rule(Rule::Body)),
+                &Form::Then(
+                    &Form::Rule(Rule::WholeExpressionHead),
+                    &Form::Rule(Rule::Body),
+                ),
             ),
         ),
     ),
@@ -270,7 +341,10 @@ pub(super) static LOOP_EXPRESSION_2: Form = Form::When(
         Shape::Operand(Variant::While),
         &Form::Then(
             &Form::Token(Token::Word(Word::While)),
-            &Form::Then(&Form::Rule(Rule::WholeExpression), &Form::Rule(Rule::Body)),
+            &Form::Then(
+                &Form::Rule(Rule::WholeExpressionHead),
+                &Form::Rule(Rule::Body),
+            ),
         ),
     ),
     &Form::Part(Part::LoopExpression1),

@@ -3,9 +3,9 @@
 //! Structs, enums, unions, and the input of a derive.
 use crate::form::Form;
 use crate::look::Look;
+use crate::plan::Planned;
 use crate::rules::{Part, Rule};
 use crate::token::Token;
-use crate::unions::Union;
 use crate::words::{Mark, Word};
 use syn_tokens::delimiter::Delimiter;
 
@@ -18,17 +18,14 @@ pub(super) static STRUCTURE: Form = Form::Then(
 /// A struct behind its attributes: a visibility, `struct`, a name, generics and a body.
 pub(super) static STRUCTURE_REST: Form = Form::Then(
     &Form::Rule(Rule::Visibility),
-    &Form::Part(Part::StructureRest1),
-);
-
-/// A part of `structure_rest`.
-pub(super) static STRUCTURE_REST_1: Form = Form::Then(
-    &Form::Token(Token::Word(Word::Struct)),
     &Form::Then(
-        &Form::Token(Token::Name),
+        &Form::Token(Token::Word(Word::Struct)),
         &Form::Then(
-            &Form::Rule(Rule::Generics),
-            &Form::Rule(Rule::StructureBody),
+            &Form::Token(Token::Name),
+            &Form::Then(
+                &Form::Rule(Rule::Generics),
+                &Form::Rule(Rule::StructureBody),
+            ),
         ),
     ),
 );
@@ -90,23 +87,20 @@ pub(super) static UNION_ITEM: Form = Form::Then(
 /// A union behind its attributes: a visibility, `union`, a name, generics, a where clause, and its fields in braces.
 pub(super) static UNION_ITEM_REST: Form = Form::Then(
     &Form::Rule(Rule::Visibility),
-    &Form::Part(Part::UnionItemRest1),
-);
-
-/// A part of `union_item_rest`.
-pub(super) static UNION_ITEM_REST_1: Form = Form::Then(
-    &Form::Token(Token::Word(Word::Union)),
     &Form::Then(
-        &Form::Token(Token::Name),
+        &Form::Token(Token::Word(Word::Union)),
         &Form::Then(
-            &Form::Rule(Rule::Generics),
+            &Form::Token(Token::Name),
             &Form::Then(
-                &Form::Rule(Rule::WhereClause),
-                &Form::Rule(Rule::FieldsNamed),
+                &Form::Rule(Rule::Generics),
+                &Form::Then(
+                    &Form::Rule(Rule::WhereClause),
+                    &Form::Rule(Rule::FieldsNamed),
+                ),
             ),
         ),
     ),
 );
 
 /// The input of a derive: a struct, an enum or a union.
-pub(super) static DERIVE_INPUT: Form = Form::Union(Union::DeriveInput);
+pub(super) static DERIVE_INPUT: Form = Form::Planned(Planned::DeriveInput);

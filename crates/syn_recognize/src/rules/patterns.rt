@@ -25,15 +25,18 @@ pub(super) static EXPRESSION_PATH: Form = Form::Then(
 /// arguments where `::` and `<` stand next; or `self`, `super` or `crate`; and where `::` stands next, that mark and
 /// more words.
 pub(super) static EXPRESSION_WORDS: Form = Form::Then(
-    &Form::Part(Part::ExpressionWords2),
-    &Form::When(
-        Look::Mark(Mark::PathSep),
-        &Form::Then(
-            &Form::Mark(Mark::PathSep),
-            &Form::Rule(Rule::ExpressionWords),
+    &Form::Shaped(
+        Shape::Untagged,
+        &Form::When(
+            Look::Or(&Look::Name, &Look::Word(Word::SelfType)),
+            &Form::Part(Part::ExpressionWords1),
+            &Form::Then(
+                &Form::TokenAt(Token::NameOrPathStart, Place::Expression),
+                &Form::Shaped(Shape::Untagged, &Form::Empty),
+            ),
         ),
-        &Form::Empty,
     ),
+    &Form::Part(Part::ExpressionWords2),
 );
 
 /// A part of `expression_words`.
@@ -50,16 +53,13 @@ pub(super) static EXPRESSION_WORDS_1: Form = Form::Then(
 );
 
 /// A part of `expression_words`.
-pub(super) static EXPRESSION_WORDS_2: Form = Form::Shaped(
-    Shape::Untagged,
-    &Form::When(
-        Look::Or(&Look::Name, &Look::Word(Word::SelfType)),
-        &Form::Part(Part::ExpressionWords1),
-        &Form::Then(
-            &Form::TokenAt(Token::NameOrPathStart, Place::Expression),
-            &Form::Shaped(Shape::Untagged, &Form::Empty),
-        ),
+pub(super) static EXPRESSION_WORDS_2: Form = Form::When(
+    Look::Mark(Mark::PathSep),
+    &Form::Then(
+        &Form::Mark(Mark::PathSep),
+        &Form::Rule(Rule::ExpressionWords),
     ),
+    &Form::Empty,
 );
 
 /// A qualified path in an expression or a pattern: a type in `< >`, with `as` and a path behind it or without them;

@@ -20,7 +20,7 @@ pub(super) static POSTFIXES: Form = Form::When(
         ),
         &Form::Rule(Rule::Postfixes),
     ),
-    &Form::Part(Part::Postfixes2),
+    &Form::Part(Part::Postfixes3),
 );
 
 /// A part of `postfixes`.
@@ -38,6 +38,16 @@ pub(super) static POSTFIXES_1: Form = Form::When(
 
 /// A part of `postfixes`.
 pub(super) static POSTFIXES_2: Form = Form::When(
+    Look::Mark(Mark::Question),
+    &Form::Then(
+        &Form::Shaped(Shape::BehindIt(Variant::Try), &Form::Mark(Mark::Question)),
+        &Form::Rule(Rule::Postfixes),
+    ),
+    &Form::Part(Part::Postfixes1),
+);
+
+/// A part of `postfixes`.
+pub(super) static POSTFIXES_3: Form = Form::When(
     Look::Group(Delimiter::Bracket),
     &Form::Then(
         &Form::Shaped(
@@ -46,14 +56,7 @@ pub(super) static POSTFIXES_2: Form = Form::When(
         ),
         &Form::Rule(Rule::Postfixes),
     ),
-    &Form::When(
-        Look::Mark(Mark::Question),
-        &Form::Then(
-            &Form::Shaped(Shape::BehindIt(Variant::Try), &Form::Mark(Mark::Question)),
-            &Form::Rule(Rule::Postfixes),
-        ),
-        &Form::Part(Part::Postfixes1),
-    ),
+    &Form::Part(Part::Postfixes2),
 );
 
 /// A member: the number or the name of a field; or the name of a method, generic arguments behind `::` or none, and

@@ -5,10 +5,12 @@ use crate::fault::Fault;
 use crate::form::Form;
 use crate::left_out::Place;
 use crate::look::Look;
+use crate::plan::Planned;
 use crate::rules::{Part, Rule};
 use crate::shape::{Shape, Variant};
 use crate::token::Token;
 use crate::words::{Mark, Word};
+use syn_tokens::delimiter::Delimiter;
 
 /// What may follow the first operand of a statement that begins with a block or a macro in braces: postfixes, casts and
 /// operators of each level.
@@ -47,7 +49,8 @@ pub(super) static OPERAND_REST_2: Form = Form::Then(
     ),
 );
 
-/// Statements to the end: none; `;` alone and more; or one, its attributes first, and more.
+/// Statements to the end: none; `;` alone and more; or one, its attributes first, and more. An item that is kept as
+/// tokens is kept with its attributes.
 pub(super) static STATEMENTS: Form = Form::When(
     Look::Ended,
     &Form::Empty,
@@ -59,78 +62,71 @@ pub(super) static STATEMENTS: Form = Form::When(
                 Shape::Lone,
                 &Form::Then(&Form::Mark(Mark::Semi), &Form::Rule(Rule::Statements)),
             ),
-            &Form::Shaped(
-                Shape::Listed,
-                &Form::Then(
-                    &Form::Rule(Rule::Attributes),
-                    &Form::Rule(Rule::StatementRest),
-                ),
-            ),
+            &Form::Shaped(Shape::Listed, &Form::Planned(Planned::Statements)),
         ),
     ),
 );
 
-/// A statement behind its attributes, and the statements that follow: a macro in braces, a local, a block or what ends
-/// with one, or an expression. What begins an item is refused, as long as none are read.
+/// A statement that is no item, behind its attributes, and the statements that follow: a macro in braces, a local, a
+/// block or what ends with one, or an expression.
 pub(super) static STATEMENT_REST: Form = Form::When(
     Look::CrateMacro,
-    &Form::Shaped(
-        Shape::SaidMacro,
-        &Form::Then(
-            &Form::Shaped(
-                Shape::Operand(Variant::Macro),
-                &Form::Rule(Rule::MacroInvocation),
-            ),
-            &Form::When(
-                Look::PostfixMark,
-                &Form::Never(Fault::Unexpected),
+    &Form::Part(Part::StatementRest3),
+    &Form::When(
+        Look::BraceMacro,
+        &Form::Shaped(
+            Shape::SaidMacro,
+            &Form::Then(
+                &Form::Shaped(
+                    Shape::Operand(Variant::Macro),
+                    &Form::Rule(Rule::MacroInvocation),
+                ),
                 &Form::Rule(Rule::AfterBlock),
             ),
         ),
+        &Form::Part(Part::StatementRest2),
     ),
-    &Form::Part(Part::StatementRest2),
 );
 
 /// A part of `statement_rest`.
 pub(super) static STATEMENT_REST_1: Form = Form::When(
-    Look::LoneCrate,
-    &Form::Never(Fault::Unexpected),
-    &Form::When(
-        Look::BlockLike,
-        &Form::Shaped(
-            Shape::Said,
-            &Form::Then(&Form::Rule(Rule::BlockLike), &Form::Rule(Rule::AfterBlock)),
-        ),
-        &Form::Shaped(
-            Shape::Said,
-            &Form::Then(
-                &Form::Rule(Rule::WholeExpression),
-                &Form::Rule(Rule::AfterExpression),
-            ),
+    Look::BlockLike,
+    &Form::Shaped(
+        Shape::Said,
+        &Form::Then(&Form::Rule(Rule::BlockLike), &Form::Rule(Rule::AfterBlock)),
+    ),
+    &Form::Shaped(
+        Shape::Said,
+        &Form::Then(
+            &Form::Rule(Rule::WholeExpression),
+            &Form::Rule(Rule::AfterExpression),
         ),
     ),
 );
 
 /// A part of `statement_rest`.
 pub(super) static STATEMENT_REST_2: Form = Form::When(
-    Look::BraceMacro,
+    Look::Word(Word::Let),
     &Form::Shaped(
-        Shape::SaidMacro,
-        &Form::Then(
-            &Form::Shaped(
-                Shape::Operand(Variant::Macro),
-                &Form::Rule(Rule::MacroInvocation),
-            ),
+        Shape::ALocal,
+        &Form::Then(&Form::Rule(Rule::Local), &Form::Rule(Rule::Statements)),
+    ),
+    &Form::Part(Part::StatementRest1),
+);
+
+/// A part of `statement_rest`.
+pub(super) static STATEMENT_REST_3: Form = Form::Shaped(
+    Shape::SaidMacro,
+    &Form::Then(
+        &Form::Shaped(
+            Shape::Operand(Variant::Macro),
+            &Form::Rule(Rule::MacroInvocation),
+        ),
+        &Form::When(
+            Look::PostfixMark,
+            &Form::Never(Fault::Unexpected),
             &Form::Rule(Rule::AfterBlock),
         ),
-    ),
-    &Form::When(
-        Look::Word(Word::Let),
-        &Form::Shaped(
-            Shape::ALocal,
-            &Form::Then(&Form::Rule(Rule::Local), &Form::Rule(Rule::Statements)),
-        ),
-        &Form::Part(Part::StatementRest1),
     ),
 );
 
@@ -156,74 +152,33 @@ pub(super) static AFTER_EXPRESSION: Form = Form::When(
     &Form::When(Look::Ended, &Form::Empty, &Form::Never(Fault::MissingEnd)),
 );
 
-/// A statement alone: attributes; and a macro in braces, a block or what ends with one, with `;` or without it; one of
-/// these that goes on, or another expression, with `;`; or a local. What begins an item is refused, as long as none are
-/// read.
-pub(super) static STATEMENT: Form = Form::Shaped(
-    Shape::Attributed,
+/// A statement alone: an item, which is kept as tokens with its attributes, or is of a kind; or attributes, and a macro
+/// in braces, a block or what ends with one, with `;` or without it; one of these that goes on, or another expression,
+/// with `;`; or a local.
+pub(super) static STATEMENT: Form = Form::Planned(Planned::Statement);
+
+/// A macro of `crate` with a group in braces, as a statement alone: a macro, with `;` or without it; but where what
+/// goes on an expression stands next, an item, and that is left.
+pub(super) static CRATE_MACRO: Form = Form::Planned(Planned::CrateMacro);
+
+/// A macro with a group in braces.
+pub(super) static BRACE_MACRO: Form = Form::Then(
+    &Form::Rule(Rule::ModulePath),
     &Form::Then(
-        &Form::Rule(Rule::Attributes),
         &Form::When(
-            Look::CrateMacro,
-            &Form::Shaped(
-                Shape::SaidMacro,
-                &Form::Then(
-                    &Form::Shaped(
-                        Shape::Operand(Variant::Macro),
-                        &Form::Rule(Rule::MacroInvocation),
-                    ),
-                    &Form::When(
-                        Look::PostfixMark,
-                        &Form::Never(Fault::Unexpected),
-                        &Form::Rule(Rule::StatementEnd),
-                    ),
-                ),
-            ),
-            &Form::Part(Part::Statement2),
+            Look::Bang,
+            &Form::Mark(Mark::Not),
+            &Form::Never(Fault::Unexpected),
         ),
-    ),
-);
-
-/// A part of `statement`.
-pub(super) static STATEMENT_1: Form = Form::When(
-    Look::LoneCrate,
-    &Form::Never(Fault::Unexpected),
-    &Form::When(
-        Look::BlockLike,
-        &Form::Shaped(
-            Shape::Said,
-            &Form::Then(
-                &Form::Rule(Rule::BlockLike),
-                &Form::Rule(Rule::StatementEnd),
+        &Form::When(
+            Look::Group(Delimiter::Paren),
+            &Form::Never(Fault::Unexpected),
+            &Form::When(
+                Look::Group(Delimiter::Bracket),
+                &Form::Never(Fault::Unexpected),
+                &Form::Raw(Delimiter::Brace),
             ),
         ),
-        &Form::Shaped(
-            Shape::Said,
-            &Form::Then(
-                &Form::Rule(Rule::WholeExpression),
-                &Form::MarkElse(Mark::Semi, Fault::MissingSemi),
-            ),
-        ),
-    ),
-);
-
-/// A part of `statement`.
-pub(super) static STATEMENT_2: Form = Form::When(
-    Look::BraceMacro,
-    &Form::Shaped(
-        Shape::SaidMacro,
-        &Form::Then(
-            &Form::Shaped(
-                Shape::Operand(Variant::Macro),
-                &Form::Rule(Rule::MacroInvocation),
-            ),
-            &Form::Rule(Rule::StatementEnd),
-        ),
-    ),
-    &Form::When(
-        Look::Word(Word::Let),
-        &Form::Shaped(Shape::ALocal, &Form::Rule(Rule::Local)),
-        &Form::Part(Part::Statement1),
     ),
 );
 

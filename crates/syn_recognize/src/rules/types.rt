@@ -25,12 +25,18 @@ pub(super) static TYPE_PATH: Form = Form::Then(
 /// The words of a path in a type: each an identifier that isn't a keyword, or `Self`, with its arguments where they
 /// stand next; or `self`, `super` or `crate`; and where `::` stands next, that mark and more words.
 pub(super) static TYPE_WORDS: Form = Form::Then(
-    &Form::Part(Part::TypeWords2),
-    &Form::When(
-        Look::Mark(Mark::PathSep),
-        &Form::Then(&Form::Mark(Mark::PathSep), &Form::Rule(Rule::TypeWords)),
-        &Form::Empty,
+    &Form::Shaped(
+        Shape::Untagged,
+        &Form::When(
+            Look::Or(&Look::Name, &Look::Word(Word::SelfType)),
+            &Form::Part(Part::TypeWords1),
+            &Form::Then(
+                &Form::TokenAt(Token::NameOrPathStart, Place::Type),
+                &Form::Shaped(Shape::Untagged, &Form::Empty),
+            ),
+        ),
     ),
+    &Form::Part(Part::TypeWords2),
 );
 
 /// A part of `type_words`.
@@ -47,16 +53,46 @@ pub(super) static TYPE_WORDS_1: Form = Form::Then(
 );
 
 /// A part of `type_words`.
-pub(super) static TYPE_WORDS_2: Form = Form::Shaped(
-    Shape::Untagged,
-    &Form::When(
-        Look::Or(&Look::Name, &Look::Word(Word::SelfType)),
-        &Form::Part(Part::TypeWords1),
-        &Form::Then(
-            &Form::TokenAt(Token::NameOrPathStart, Place::Type),
-            &Form::Shaped(Shape::Untagged, &Form::Empty),
+pub(super) static TYPE_WORDS_2: Form = Form::When(
+    Look::Mark(Mark::PathSep),
+    &Form::Then(&Form::Mark(Mark::PathSep), &Form::Rule(Rule::MoreTypeWords)),
+    &Form::Empty,
+);
+
+/// The words of a path in a type behind `::`, which are read as its first ones.
+pub(super) static MORE_TYPE_WORDS: Form = Form::Then(
+    &Form::Shaped(
+        Shape::Untagged,
+        &Form::When(
+            Look::Or(&Look::Name, &Look::Word(Word::SelfType)),
+            &Form::Part(Part::MoreTypeWords1),
+            &Form::Then(
+                &Form::TokenAt(Token::NameOrPathStart, Place::Type),
+                &Form::Shaped(Shape::Untagged, &Form::Empty),
+            ),
         ),
     ),
+    &Form::Part(Part::MoreTypeWords2),
+);
+
+/// A part of `more_type_words`.
+pub(super) static MORE_TYPE_WORDS_1: Form = Form::Then(
+    &Form::Token(Token::NameOrSelfType),
+    &Form::Shaped(
+        Shape::Untagged,
+        &Form::When(
+            Look::Arguments,
+            &Form::Rule(Rule::TypeArguments),
+            &Form::Empty,
+        ),
+    ),
+);
+
+/// A part of `more_type_words`.
+pub(super) static MORE_TYPE_WORDS_2: Form = Form::When(
+    Look::Mark(Mark::PathSep),
+    &Form::Then(&Form::Mark(Mark::PathSep), &Form::Rule(Rule::MoreTypeWords)),
+    &Form::Empty,
 );
 
 /// The arguments of a word in a type's path: types in parentheses and a return type; or generic arguments in `< >`,
@@ -95,20 +131,17 @@ pub(super) static GENERIC_ARGUMENT: Form = Form::When(
         &Form::Token(Token::Name),
         &Form::Then(&Form::Mark(Mark::Eq), &Form::Rule(Rule::Type)),
     ),
-    &Form::Part(Part::GenericArgument1),
-);
-
-/// A part of `generic_argument`.
-pub(super) static GENERIC_ARGUMENT_1: Form = Form::When(
-    Look::Or(
-        &Look::Group(Delimiter::Brace),
-        &Look::Or(
-            &Look::Word(Word::True),
-            &Look::Or(&Look::Word(Word::False), &Look::AnyLiteral),
+    &Form::When(
+        Look::Or(
+            &Look::Group(Delimiter::Brace),
+            &Look::Or(
+                &Look::Word(Word::True),
+                &Look::Or(&Look::Word(Word::False), &Look::AnyLiteral),
+            ),
         ),
+        &Form::Rule(Rule::Constant),
+        &Form::Rule(Rule::Type),
     ),
-    &Form::Rule(Rule::Constant),
-    &Form::Rule(Rule::Type),
 );
 
 /// A qualified path in a type: a type in `< >`, with `as` and a path behind it or without them; then `::` and words. An

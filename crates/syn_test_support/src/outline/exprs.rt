@@ -4,7 +4,7 @@ use super::parts::{
     node, show_arguments, show_label, show_mut, show_path, show_semi, show_target, show_type,
 };
 use crate::outline::{Outlined, TreeText};
-use syn::expr::Expr;
+use syn::expr::{Expr, ExprStruct, FieldValue};
 use syn::punctuated::Punctuated;
 use syn::stmt::{Block, Local, Stmt, StmtMacro};
 use syn::token::{Bracket, Comma, Paren, Span};
@@ -69,6 +69,7 @@ fn show_expr(expr: &Expr, depth: usize, out: &mut TreeText) {
             show_group(expr, depth - 1, out);
         }
         Expr::Block(_) | Expr::If(_) | Expr::Unsafe(_) => show_braces(expr, depth - 1, out),
+        Expr::Struct(e) => show_struct(e, depth - 1, out),
         Expr::ForLoop(_) | Expr::Loop(_) | Expr::While(_) => show_loop(expr, depth - 1, out),
         Expr::Return(e) => {
             node("Return", &e.attrs, out);
@@ -239,6 +240,48 @@ fn show_group(expr: &Expr, depth: usize, out: &mut TreeText) {
     }
 }
 
+/// Adds what shows a struct literal.
+#[cycle(show)]
+fn show_struct(literal: &ExprStruct, depth: usize, out: &mut TreeText) {
+    if depth == 0 {
+        out.word("..");
+        return;
+    }
+    node("Struct", &literal.attrs, out);
+    show_path(&literal.qself, &literal.path, out);
+    out.token("{", literal.brace_token.opening);
+    for (field, comma) in literal.fields.pairs() {
+        show_field(field, depth - 1, out);
+        out.mark(",", comma);
+    }
+    if let Some(field) = literal.fields.trailing_value() {
+        show_field(field, depth - 1, out);
+    }
+    if let Some(dots) = &literal.dot2_token {
+        out.mark("..", dots);
+    }
+    if let Some(rest) = &literal.rest {
+        show_expr(rest, depth - 1, out);
+    }
+    out.token("}", literal.brace_token.closing);
+}
+
+/// Adds what shows a field of a struct literal.
+#[cycle(show)]
+fn show_field(field: &FieldValue, depth: usize, out: &mut TreeText) {
+    if depth == 0 {
+        out.word("..");
+        return;
+    }
+    node("FieldValue", &field.attrs, out);
+    field.member.show(out);
+    match &field.colon_token {
+        Some(colon) => out.mark(":", colon),
+        None => out.word("None"),
+    }
+    show_expr(&field.expr, depth - 1, out);
+}
+
 /// Adds what shows a block or an `if`.
 #[cycle(show)]
 fn show_braces(expr: &Expr, depth: usize, out: &mut TreeText) {
@@ -377,6 +420,10 @@ fn show_stmt(stmt: &Stmt, depth: usize, out: &mut TreeText) {
             out.word("Expr");
             show_expr(expr, depth - 1, out);
             show_semi(semi, out);
+        }
+        Stmt::Item(item) => {
+            out.word("Item");
+            item.source().show(out);
         }
         Stmt::Macro(mac) => mac.show(out),
     }

@@ -6,7 +6,7 @@ use std::process::Abort;
 use syn::data::FieldModifiers;
 use syn::item::{ConstModifiers, FnModifiers, ImplModifiers, TraitModifiers, TypeModifiers};
 use syn::stmt::LocalModifiers;
-use syn::token::{self, Auto, Not};
+use syn::token::{self, Auto, Const, Not};
 use syn::{Fault, Result};
 use syn_test_support::span;
 
@@ -59,10 +59,16 @@ fn of_fields_and_statements(rt: HostRuntime) {
     assert_equals_copy(&rt, rt.alloc(), LocalModifiers::default());
 }
 
-/// An `impl` with a `!` at 3 and a `default` at 9, or with one of these.
-fn of_impl(defaultness: bool, polarity: bool) -> ImplModifiers {
+/// `const` at this place.
+fn const_at(start: usize, end: usize) -> Option<Const> {
+    Some(Const::new(span(start, end)))
+}
+
+/// An `impl` with a `!` at 3, a `default` at 9 and a `const` at 6, or with some of these.
+fn of_impl(defaultness: bool, polarity: bool, constness: bool) -> ImplModifiers {
     ImplModifiers {
         defaultness: if defaultness { default_at(9, 16) } else { None },
+        constness: if constness { const_at(6, 11) } else { None },
         polarity: if polarity {
             Some(Not::new([span(3, 4)]))
         } else {
@@ -71,22 +77,47 @@ fn of_impl(defaultness: bool, polarity: bool) -> ImplModifiers {
     }
 }
 
-/// Each is reported, `default` before `!`.
+/// Each is reported: `default` before `!`, and `const` behind both.
 #[test]
 fn of_impls(rt: HostRuntime) {
-    for (defaultness, polarity, want) in [
-        (false, false, "ok"),
-        (true, false, "9: unexpected impl modifier;"),
-        (false, true, "3: unexpected impl modifier;"),
+    for (defaultness, polarity, constness, want) in [
+        (false, false, false, "ok"),
+        (true, false, false, "9: unexpected impl modifier;"),
+        (false, true, false, "3: unexpected impl modifier;"),
+        (false, false, true, "6: unexpected impl modifier;"),
         (
             true,
             true,
+            false,
             "9: unexpected impl modifier;3: unexpected impl modifier;",
         ),
+        (
+            true,
+            false,
+            true,
+            "9: unexpected impl modifier;6: unexpected impl modifier;",
+        ),
+        (
+            true,
+            true,
+            true,
+            "9: unexpected impl modifier;3: unexpected impl modifier;6: unexpected impl modifier;",
+        ),
     ] {
-        let answer = of_impl(defaultness, polarity).require_empty();
+        let answer = of_impl(defaultness, polarity, constness).require_empty();
         assert_faults(&rt, rt.alloc(), answer, want);
     }
+}
+
+/// `auto` is reported before `const`.
+#[test]
+fn of_traits(rt: HostRuntime) {
+    let both = TraitModifiers {
+        constness: const_at(2, 7),
+        auto_token: Some(Auto::new(span(4, 8))),
+    };
+    let want = "4: unexpected trait modifier;2: unexpected trait modifier;";
+    assert_faults(&rt, rt.alloc(), both.require_empty(), want);
 }
 
 #[test]
@@ -108,6 +139,7 @@ fn of_others(rt: HostRuntime) {
     let want = "3: unexpected type alias modifier;";
     assert_faults(&rt, alloc, alias.require_empty(), want);
     let auto = TraitModifiers {
+        constness: None,
         auto_token: Some(Auto::new(span(4, 8))),
     };
     let want = "4: unexpected trait modifier;";

@@ -5,7 +5,7 @@ ghost use Rattle.syn_tree.specs.Modifiers.{Reports, const_faults, fn_faults, imp
 use syn_tokens::error::{Error, Result};
 use syn_tokens::span::Span;
 use syn_tokens::token;
-use syn_tokens::token::{Auto, Not};
+use syn_tokens::token::{Auto, Const, Not};
 
 /// The modifiers of a constant.
 #[derive(Clone, Copy, Debug, Default)]
@@ -25,16 +25,18 @@ pub struct TypeModifiers {
     pub defaultness: Option<token::Default>,
 }
 
-/// The modifiers of an `impl`: `default` before it, and the `!` of a trait that is not implemented.
+/// The modifiers of an `impl`: `default` and `const` before it, and the `!` of a trait that is not implemented.
 #[derive(Clone, Copy, Debug, Default)]
 pub struct ImplModifiers {
     pub defaultness: Option<token::Default>,
+    pub constness: Option<Const>,
     pub polarity: Option<Not>,
 }
 
-/// The modifiers of a trait.
+/// The modifiers of a trait: `const` before it, and `auto` directly before its word.
 #[derive(Clone, Copy, Debug, Default)]
 pub struct TraitModifiers {
+    pub constness: Option<Const>,
     pub auto_token: Option<Auto>,
 }
 
@@ -78,27 +80,29 @@ impl TypeModifiers {
 }
 
 impl ImplModifiers {
-    /// `Ok` where there is no modifier, and else the fault `unexpected impl modifier` at each that is there: at `default`
-    /// and then at `!`, wherever they stand.
+    /// `Ok` where there is no modifier, and else the fault `unexpected impl modifier` at each that is there: at `default`,
+    /// at `!` and then at `const`, wherever they stand.
     pub fn require_empty(&self) -> Result<()>
         ensures { Reports (impl_faults self.now) result }
     {
-        require_none(
+        require_none_of_three(
             self.defaultness.map(|word| word.span),
             self.polarity.map(|mark| mark.spans[0]),
+            self.constness.map(|word| word.span),
             "unexpected impl modifier",
         )
     }
 }
 
 impl TraitModifiers {
-    /// `Ok` where there is no modifier, and else the fault `unexpected trait modifier` at the one that is there.
+    /// `Ok` where there is no modifier, and else the fault `unexpected trait modifier` at each that is there: at `auto` and
+    /// then at `const`.
     pub fn require_empty(&self) -> Result<()>
         ensures { Reports (trait_faults self.now) result }
     {
         require_none(
             self.auto_token.map(|word| word.span),
-            None,
+            self.constness.map(|word| word.span),
             "unexpected trait modifier",
         )
     }
@@ -115,6 +119,28 @@ fn require_none(first: Option<Span>, second: Option<Span>, text: &'static str) -
         (Some(first), Some(second)) => {
             let mut error = Error::new(first, text);
             error.combine(Error::new(second, text));
+            Err(error)
+        }
+    }
+}
+
+/// The same of three places.
+fn require_none_of_three(
+    first: Option<Span>,
+    second: Option<Span>,
+    third: Option<Span>,
+    text: &'static str,
+) -> Result<()>
+    ensures { Reports (unexpected text.now first ++ unexpected text.now second ++ unexpected text.now third) result }
+{
+    match (first, second, third) {
+        (None, second, third) => require_none(second, third, text),
+        (Some(first), None, third) => require_none(Some(first), third, text),
+        (Some(first), Some(second), None) => require_none(Some(first), Some(second), text),
+        (Some(first), Some(second), Some(third)) => {
+            let mut error = Error::new(first, text);
+            error.combine(Error::new(second, text));
+            error.combine(Error::new(third, text));
             Err(error)
         }
     }

@@ -120,6 +120,7 @@ fn same_variant<N: CompareOf<Expr>>(nested: &N, expr: &Expr, other: &Expr) -> bo
         (Expr::Reference(a), Expr::Reference(b)) => a.is_same_nested(nested, b),
         (Expr::Repeat(a), Expr::Repeat(b)) => a.is_same_nested(nested, b),
         (Expr::Return(a), Expr::Return(b)) => a.is_same_nested(nested, b),
+        (Expr::Struct(a), Expr::Struct(b)) => a.is_same_nested(nested, b),
         (Expr::Try(a), Expr::Try(b)) => a.is_same_nested(nested, b),
         (Expr::Tuple(a), Expr::Tuple(b)) => a.is_same_nested(nested, b),
         (Expr::Unary(a), Expr::Unary(b)) => a.is_same_nested(nested, b),

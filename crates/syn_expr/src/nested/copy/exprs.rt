@@ -114,6 +114,7 @@ fn copy_variant<N: CopyOf<Expr>>(nested: &N, expr: &Expr, alloc: Global) -> Resu
         Expr::Reference(value) => Ok(Expr::Reference(value.copy_nested(nested, alloc)?)),
         Expr::Repeat(value) => Ok(Expr::Repeat(value.copy_nested(nested, alloc)?)),
         Expr::Return(value) => Ok(Expr::Return(value.copy_nested(nested, alloc)?)),
+        Expr::Struct(value) => Ok(Expr::Struct(value.copy_nested(nested, alloc)?)),
         Expr::Try(value) => Ok(Expr::Try(value.copy_nested(nested, alloc)?)),
         Expr::Tuple(value) => Ok(Expr::Tuple(value.copy_nested(nested, alloc)?)),
         Expr::Unary(value) => Ok(Expr::Unary(value.copy_nested(nested, alloc)?)),

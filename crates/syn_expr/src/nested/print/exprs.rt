@@ -80,6 +80,7 @@ fn print_variant<N: PrintOf<Expr>>(
         Expr::Reference(value) => value.print_nested(nested, out),
         Expr::Repeat(value) => value.print_nested(nested, out),
         Expr::Return(value) => value.print_nested(nested, out),
+        Expr::Struct(value) => value.print_nested(nested, out),
         Expr::Try(value) => value.print_nested(nested, out),
         Expr::Tuple(value) => value.print_nested(nested, out),
         Expr::Unary(value) => value.print_nested(nested, out),

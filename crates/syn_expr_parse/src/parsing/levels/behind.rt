@@ -9,12 +9,14 @@ ghost use Rattle.syn_grammar.specs.Values.{core, new, onto};
 ghost use Rattle.syn_tokens.specs.Kinds.{as_syntax};
 ghost use Rattle.syn_lower.specs.Types.{syntax_of_Type};
 ghost use Rattle.syn_lower.specs.Parsing.{parse_rule, Computes, Kept, MayBelow, Parses, IsSyntax};
+ghost use Rattle.syn_expr_parse.specs.Levels.{assignment_operators, first_operator, going_once};
+ghost use Rattle.syn_expr_parse.specs.Spots.{within};
 
 use super::looks::at_equals_operator;
 use super::operators::{assignment_operator, comparison_operator};
 use super::read_level;
 use super::rows::BitOrs;
-use crate::parsing::nested::{Expr, Nested, Rung};
+use crate::parsing::nested::{Expr, Nested, Rung, Spot};
 use crate::parsing::unary::unary;
 use crate::trees::Trees;
 use std::alloc::Global;
@@ -25,11 +27,15 @@ use syn_tokens::token::As;
 
 /// A unary level and its casts.
 #[tactic(auto, using(crate::proofs::Levels::cast_are))]
-pub(super) fn cast<N: Nested>(nested: &N, input: &mut ParseBuffer<'_>) -> Parsed<Box<Expr<N>>>
+pub(super) fn cast<N: Nested>(
+    spot: Spot,
+    nested: &N,
+    input: &mut ParseBuffer<'_>,
+) -> Parsed<Box<Expr<N>>>
     requires { MayBelow N.may nested.now input.old }
-    ensures parses { Parses IsSyntax (λ e. Node (N.Trees.expr_syntax e.value)) rules.cast input.old result input.new }
+    ensures parses { Parses IsSyntax (λ e. Node (N.Trees.expr_syntax e.value)) (within spot rules.cast) input.old result input.new }
 {
-    let first = unary(nested, input)?;
+    let first = unary(spot, nested, input)?;
     casts::<N>(first, input)
 }
 
@@ -53,28 +59,33 @@ pub(super) fn casts<N: Nested>(
 
 /// A comparison: an operand, or two with an operator between them.
 #[tactic(auto, using(crate::proofs::Levels::comparison_are))]
-pub(super) fn comparison<N: Nested>(nested: &N, input: &mut ParseBuffer<'_>) -> Parsed<Box<Expr<N>>>
+pub(super) fn comparison<N: Nested>(
+    spot: Spot,
+    nested: &N,
+    input: &mut ParseBuffer<'_>,
+) -> Parsed<Box<Expr<N>>>
     requires { MayBelow N.may nested.now input.old }
-    ensures parses { Parses IsSyntax (λ e. Node (N.Trees.expr_syntax e.value)) rules.comparison input.old result input.new }
+    ensures parses { Parses IsSyntax (λ e. Node (N.Trees.expr_syntax e.value)) (within spot rules.comparison) input.old result input.new }
 {
-    let first = read_level::<BitOrs, N>(nested, input)?;
-    compared(nested, first, input)
+    let first = read_level::<BitOrs, N>(spot, nested, input)?;
+    compared(spot, nested, first, input)
 }
 
 /// What an expression is compared with, once at most.
 #[tactic(auto, using(crate::proofs::Levels::compared_step))]
 pub(super) fn compared<N: Nested>(
+    spot: Spot,
     nested: &N,
     left: Box<Expr<N>>,
     input: &mut ParseBuffer<'_>,
 ) -> Parsed<Box<Expr<N>>>
     requires { MayBelow N.may nested.now input.old }
-    ensures reads { Computes IsSyntax (λ e. N.Trees.expr_syntax e.value) (wrap (onto (core (N.Trees.expr_syntax left.value))) (parse_rule rules.compared input.old)) result input.new }
+    ensures reads { Computes IsSyntax (λ e. N.Trees.expr_syntax e.value) (wrap (onto (core (N.Trees.expr_syntax left.value))) (parse_rule (within spot rules.compared) input.old)) result input.new }
     ensures kept { Kept input.old result input.new }
 {
     match comparison_operator(input)? {
         Some(op) => {
-            let right = read_level::<BitOrs, N>(nested, input)?;
+            let right = read_level::<BitOrs, N>(spot, nested, input)?;
             N::Trees::expr_binary(left, op, right, input.alloc())
         }
         None => Ok(left),
@@ -84,22 +95,37 @@ pub(super) fn compared<N: Nested>(
 /// What is assigned to an expression, by `=` or an operator with `=`, once at most: any expression, which may assign too.
 #[tactic(auto, using(crate::proofs::Levels::assigned_step))]
 pub(super) fn assigned<N: Nested>(
+    spot: Spot,
     nested: &N,
     left: Box<Expr<N>>,
     input: &mut ParseBuffer<'_>,
 ) -> Parsed<Box<Expr<N>>>
     requires { MayBelow N.may nested.now input.old }
-    ensures reads { Computes IsSyntax (λ e. N.Trees.expr_syntax e.value) (wrap (onto (core (N.Trees.expr_syntax left.value))) (parse_rule rules.assigned input.old)) result input.new }
+    ensures reads { Computes IsSyntax (λ e. N.Trees.expr_syntax e.value) (wrap (onto (core (N.Trees.expr_syntax left.value))) (parse_rule (within spot rules.assigned) input.old)) result input.new }
     ensures kept { Kept input.old result input.new }
 {
-    if at_equals_operator(input) {
-        let eq_token = input.read()?;
-        let right = nested.expr(Rung::Whole, input)?;
-        return N::Trees::expr_assign(left, eq_token, right, input.alloc());
+    if !at_equals_operator(input) {
+        return assigned_by_operator(spot, nested, left, input);
     }
+    let eq_token = input.read()?;
+    let right = nested.expr(Rung::Whole(spot), input)?;
+    N::Trees::expr_assign(left, eq_token, right, input.alloc())
+}
+
+/// What is assigned to an expression by an operator with `=`, once at most.
+fn assigned_by_operator<N: Nested>(
+    spot: Spot,
+    nested: &N,
+    left: Box<Expr<N>>,
+    input: &mut ParseBuffer<'_>,
+) -> Parsed<Box<Expr<N>>>
+    requires { MayBelow N.may nested.now input.old }
+    ensures reads { Computes IsSyntax (λ e. N.Trees.expr_syntax e.value) (going_once (core (N.Trees.expr_syntax left.value)) input.old (first_operator assignment_operators input.old) (parse_rule (within spot rules.whole_expression))) result input.new }
+    ensures kept { Kept input.old result input.new }
+{
     match assignment_operator(input)? {
         Some(op) => {
-            let right = nested.expr(Rung::Whole, input)?;
+            let right = nested.expr(Rung::Whole(spot), input)?;
             N::Trees::expr_binary(left, op, right, input.alloc())
         }
         None => Ok(left),

@@ -25,7 +25,7 @@ returns-then-at_bang c =
     let got : take_token (name_or path_words) c.words.ahead ≡ Some (syntax_of_ident c.in_ok-_word._word, c.read_path_word.new.self) = search rules in
     let bang : sees at_bang c.read_path_word.new.self ≡ true = search rules in
     let found = bang_found (name_or path_words) c.words.ahead (syntax_of_ident c.in_ok-_word._word) c.read_path_word.new.self word got bang in
-    (c.words.invariant.0 ∙ found.0, c.words.invariant.1 ∙ found.1)
+    (c.words.invariant.0 ∙ found.0, c.words.invariant.1 ∙ found.1, c.words.invariant.2 ∙ found.2)
 
 pub returns-then-not-peek : goal.returns-then-not-peek
 returns-then-not-peek c =
@@ -34,7 +34,7 @@ returns-then-not-peek c =
     let bang : sees at_bang c.read_path_word.new.self ≡ false = search rules in
     let more : sees at_colons c.read_path_word.new.self ≡ false = search rules in
     let ends = path_ends (name_or path_words) c.words.ahead (syntax_of_ident c.in_ok-_word._word) c.read_path_word.new.self word got bang more in
-    (c.words.invariant.0 ∙ ends.0, c.words.invariant.1 ∙ ends.1)
+    (c.words.invariant.0 ∙ ends.0, c.words.invariant.1 ∙ ends.1, c.words.invariant.2 ∙ ends.2)
 
 pub returns-in_err-_colons : goal.returns-in_err-_colons
 returns-in_err-_colons c = search (rules, colons_read)
@@ -47,4 +47,4 @@ words-preserved c =
     let more : sees at_colons c.read_path_word.new.self ≡ true = search rules in
     let sign : take_mark colons c.read_path_word.new.self ≡ Some (path_sep_syntax c.in_ok-_colons._colons, c.read-in-words.new.self) = search rules in
     let on = path_goes_on (name_or path_words) c.words.ahead (syntax_of_ident c.in_ok-_word._word) c.read_path_word.new.self word got bang more (path_sep_syntax c.in_ok-_colons._colons) c.read-in-words.new.self sign in
-    (c.words.invariant.0 ∙ on.0, c.words.invariant.1 ∙ on.1)
+    (c.words.invariant.0 ∙ on.0, c.words.invariant.1 ∙ on.1, c.words.invariant.2 ∙ on.2)

@@ -1,5 +1,8 @@
-use Rattle.syn_recognize.proofs.Beginnings.{statements_open}
+use Rattle.syn_recognize.proofs.Listed.{listed_by_keyword, listed_by_name}
 use Rattle.syn_recognize.proofs.operands.statements_by.Goals as goal
 
 pub returns-in-Name : goal.returns-in-Name
-returns-in-Name c = statements_open c.args.next c.in-Name.is
+returns-in-Name c = listed_by_name c.args.next c.in-Name.is
+
+pub returns-in-Keyword : goal.returns-in-Keyword
+returns-in-Keyword c = listed_by_keyword c.args.next c.in-Keyword.is

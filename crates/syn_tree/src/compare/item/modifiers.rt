@@ -88,7 +88,9 @@ impl Eq for TypeModifiers {
 
 impl Compared for ImplModifiers {
     fn is_same(&self, other: &ImplModifiers) -> bool {
-        self.defaultness.is_same(&other.defaultness) && self.polarity.is_same(&other.polarity)
+        self.defaultness.is_same(&other.defaultness)
+            && self.constness.is_same(&other.constness)
+            && self.polarity.is_same(&other.polarity)
     }
 }
 
@@ -114,7 +116,7 @@ impl Eq for ImplModifiers {
 
 impl Compared for TraitModifiers {
     fn is_same(&self, other: &TraitModifiers) -> bool {
-        self.auto_token.is_same(&other.auto_token)
+        self.constness.is_same(&other.constness) && self.auto_token.is_same(&other.auto_token)
     }
 }
 

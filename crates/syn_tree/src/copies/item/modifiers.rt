@@ -35,6 +35,7 @@ impl TryClone for ImplModifiers {
     fn try_clone(&self, alloc: Global) -> Result<ImplModifiers> {
         Ok(ImplModifiers {
             defaultness: self.defaultness.try_clone(alloc)?,
+            constness: self.constness,
             polarity: self.polarity,
         })
     }
@@ -43,6 +44,7 @@ impl TryClone for ImplModifiers {
 impl TryClone for TraitModifiers {
     fn try_clone(&self, _alloc: Global) -> Result<TraitModifiers> {
         Ok(TraitModifiers {
+            constness: self.constness,
             auto_token: self.auto_token,
         })
     }

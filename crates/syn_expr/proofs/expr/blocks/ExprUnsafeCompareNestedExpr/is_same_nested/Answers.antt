@@ -1,5 +1,5 @@
 use Rattle.std.proofs.Common.{rules, true}
-use Rattle.syn_expr.proofs.Bodies.{same_behind_one}
+use Rattle.syn_lower.proofs.Bodies.{same_behind_one}
 use Rattle.syn_expr.proofs.expr.blocks.ExprUnsafeCompareNestedExpr.is_same_nested.Goals as goal
 
 pub returns-then-is_same-2 : goal.returns-then-is_same-2

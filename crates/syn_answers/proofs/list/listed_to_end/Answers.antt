@@ -1,0 +1,20 @@
+use Rattle.syn_grammar.specs.Promises.{Refused}
+use Rattle.syn_grammar.specs.Rules.{file}
+use Rattle.syn_answers.proofs.Listing.{begun, unbegun, gone_on, refused, same_err}
+use Rattle.syn_answers.proofs.list.listed_to_end.Goals as goal
+
+pub returns-in_err-read_by-clause-refused : goal.returns-in_err-read_by-clause-refused
+returns-in_err-read_by-clause-refused c =
+    same_err c.from_residual.result c.in_err-read_by.field-0.0 (Refused file c.args.tokens.now) c.from_residual.ensures.1 (λ s. unbegun c.args.tokens.now c.new-input.result c.new-input.ensures (c.in_err-read_by.ensures.reads s))
+
+pub items-init : goal.items-init
+items-init c = begun c.args.tokens.now c.new-input.result _ c.new-list.result.items c.new-input.ensures c.new-list.ensures.items c.in_ok-read_by.ensures.reads
+
+pub returns-in_err-item-clause-refused : goal.returns-in_err-item-clause-refused
+returns-in_err-item-clause-refused c =
+    same_err c.from_residual-in_err-item.result c.in_err-item.field-0.0 (Refused file c.args.tokens.now) c.from_residual-in_err-item.ensures.1
+    (λ s. refused c.args.tokens.now c.items.list.items c.items.input c.is_empty.result c.items.invariant c.is_empty.ensures c.if-is_empty.false (c.in_err-item.ensures s))
+
+pub items-preserved : goal.items-preserved
+items-preserved c =
+    gone_on c.args.tokens.now c.items.list.items _ c.items.input c.in_ok-item.item _ c.is_empty.result c.items.invariant c.is_empty.ensures c.if-is_empty.false c.in_ok-item.ensures c.in_ok-push.ensures.items

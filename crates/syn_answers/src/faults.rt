@@ -1,0 +1,104 @@
+//! Faults that more than one token tells: what they say and where they begin depends on what stands before the token that can't stand
+//! there.
+ghost use Rattle.std.specs.Prelude.{◌↔◌};
+ghost use Rattle.syn_parse.specs.Refusals.{IsSyntax};
+
+mod angles;
+mod context;
+mod impls;
+mod marks;
+mod receivers;
+
+use crate::faults::context::{Before, Context, Place, place_at};
+use crate::faults::impls::{negative_inherent, negative_of_type, no_trait};
+use crate::faults::receivers::{late_receiver, path_in_place_of_receiver};
+use syn_parse::read::refusal::Refusal;
+use syn_recognize::Rule;
+use syn_tokens::span::Span;
+use syn_tokens::stream::TokenStream;
+
+/// Where a fault begins, and what it says.
+#[derive(Clone, Copy, Debug)]
+pub(crate) struct Fault {
+    pub span: Span,
+    pub text: &'static str,
+}
+
+/// What could have stood where a token can't, of what tells of one of these faults.
+#[derive(Clone, Copy, Debug)]
+enum Expected {
+    Identifier,
+    For,
+    Braces,
+    /// Nothing more.
+    End,
+}
+
+impl Expected {
+    /// What a refusal of this text expected.
+    fn from_text(text: &str) -> Option<Expected> {
+        match text {
+            "expected identifier" => Some(Expected::Identifier),
+            "unexpected end of input, expected identifier" => Some(Expected::Identifier),
+            // This is said of a `[` where a path of a trait is expected.
+            "`const` bounds are not read here" => Some(Expected::Identifier),
+            "expected `for`" => Some(Expected::For),
+            "unexpected end of input, expected `for`" => Some(Expected::For),
+            "expected curly braces" => Some(Expected::Braces),
+            "unexpected token" => Some(Expected::End),
+            _ => None,
+        }
+    }
+}
+
+/// The refusal of a stream by this rule, with the text and the place of the fault by what stands before it. It takes no memory, and goes
+/// once past what stands before the fault.
+pub(crate) fn told(refusal: Refusal, rule: Rule, tokens: &TokenStream) -> Refusal
+    ensures { IsSyntax result ↔ IsSyntax refusal }
+{
+    match refusal {
+        Refusal::Memory => Refusal::Memory,
+        Refusal::Syntax { span, text } => {
+            let fault = fault_of(Fault { span, text }, rule, tokens);
+            Refusal::Syntax {
+                span: fault.span,
+                text: fault.text,
+            }
+        }
+    }
+}
+
+/// The fault that this one is, by what stands before it.
+fn fault_of(fault: Fault, rule: Rule, tokens: &TokenStream) -> Fault {
+    let Some(expected) = Expected::from_text(fault.text) else {
+        return fault;
+    };
+    let place = place_at(fault.span.start, rule, tokens);
+    let known = match expected {
+        Expected::Identifier => no_name(fault.span, &place),
+        Expected::For => negative_inherent(&place),
+        Expected::Braces => no_trait(&place),
+        Expected::End => left_over(fault.span, rule, &place, tokens),
+    };
+    known.unwrap_or(fault)
+}
+
+/// The fault of what is no identifier, here at this place.
+fn no_name(span: Span, place: &Place<'_>) -> Option<Fault> {
+    if place.before == Before::As && matches!(&place.context, Context::Use) {
+        Some(Fault {
+            span,
+            text: "expected identifier or underscore",
+        })
+    } else {
+        negative_of_type(place)
+    }
+}
+
+/// The fault of what is left over, here at this place.
+fn left_over(span: Span, rule: Rule, place: &Place<'_>, tokens: &TokenStream) -> Option<Fault> {
+    match rule {
+        Rule::Receiver => path_in_place_of_receiver(span.start, &tokens.cursor()),
+        _ => late_receiver(place),
+    }
+}

@@ -1,0 +1,212 @@
+//! In what a token stands, as the words before it tell. In a stream that is read up to there, they are what they look like.
+use crate::faults::angles::Angles;
+use syn_recognize::Rule;
+use syn_tokens::delimiter::Delimiter;
+use syn_tokens::stream::TokenStream;
+use syn_tokens::stream::cursor::{Cursor, GroupRef, TokenTreeRef};
+
+/// In what trees stand.
+#[derive(Drop)]
+pub(crate) enum Context<'a> {
+    /// In the trees of a use.
+    Use,
+    /// Behind `fn`, before the arguments.
+    Function,
+    /// In the arguments of a function, which are these.
+    Arguments(Cursor<'a>),
+    /// Behind `impl`, behind which these stand, before `for`, `where` and the members.
+    Impl(Cursor<'a>),
+    /// In anything else.
+    Other,
+}
+
+/// What stands directly before a place.
+#[derive(Clone, Copy, Debug, PartialEq, Eq)]
+pub(crate) enum Before {
+    /// The word `as`.
+    As,
+    /// A comma in no `< >`, and attributes behind it.
+    Comma,
+    /// The `#` of an attribute that stands there.
+    Pound,
+    Other,
+}
+
+/// A place in a stream.
+#[derive(Drop)]
+pub(crate) struct Place<'a> {
+    pub context: Context<'a>,
+    pub before: Before,
+    /// What stands from there on, up to the end of the stream or of the group.
+    pub trees: Cursor<'a>,
+    /// The `<` that are open since the context began.
+    angles: Angles,
+}
+
+/// The place of the token at this byte in a stream that the rule reads; at the end of the stream where all tokens stand before it.
+/// It goes down to the group in which the token stands, past each tree before it once.
+pub(crate) fn place_at<'a>(byte: usize, rule: Rule, tokens: &'a TokenStream) -> Place<'a> {
+    let context = match rule {
+        Rule::UseTree => Context::Use,
+        _ => Context::Other,
+    };
+    let mut place = Place::begins(context, tokens.cursor());
+    for _tree in 0..u64::MAX {
+        if !place.moves_to(byte) {
+            return place;
+        }
+    }
+    place
+}
+
+impl<'a> Place<'a> {
+    /// Where these trees begin.
+    fn begins(context: Context<'a>, trees: Cursor<'a>) -> Place<'a> {
+        Place {
+            context,
+            before: Before::Other,
+            trees,
+            angles: Angles::none(),
+        }
+    }
+
+    /// Goes past the next tree, or into it, where that leads to the byte; else the place is reached.
+    fn moves_to(&mut self, byte: usize) -> bool {
+        let Some((tree, behind)) = self.trees.split() else {
+            return false;
+        };
+        if byte <= tree.span().start {
+            return false;
+        }
+        match tree {
+            TokenTreeRef::Group(group) => {
+                if byte <= group.closing.start {
+                    self.enter(group);
+                } else {
+                    self.pass(&TokenTreeRef::Group(group), behind);
+                }
+            }
+            TokenTreeRef::Ident(_) | TokenTreeRef::Literal(_) | TokenTreeRef::Punct(_) => {
+                self.pass(&tree, behind)
+            }
+        }
+        true
+    }
+
+    /// Goes into a group.
+    fn enter(&mut self, group: GroupRef<'a>) {
+        *self = Place::begins(self.context_in(&group), group.content);
+    }
+
+    /// In what the trees of a group stand.
+    fn context_in(&self, group: &GroupRef<'a>) -> Context<'a> {
+        match (&self.context, group.delimiter) {
+            (Context::Use, Delimiter::Brace) => Context::Use,
+            (Context::Function, Delimiter::Paren) => {
+                if self.angles.are_closed() {
+                    Context::Arguments(group.content.fork())
+                } else {
+                    Context::Other
+                }
+            }
+            _ => Context::Other,
+        }
+    }
+
+    /// Goes past a tree, behind which these stand.
+    fn pass(&mut self, tree: &TokenTreeRef<'a>, behind: Cursor<'a>) {
+        self.before = self.before_behind(tree);
+        self.angles.pass(tree);
+        match tree {
+            TokenTreeRef::Ident(ident) => self.pass_word(ident.text(), &behind),
+            TokenTreeRef::Literal(_) => {}
+            TokenTreeRef::Punct(punct) => self.pass_mark(punct.character()),
+            TokenTreeRef::Group(group) => self.pass_group(group.delimiter),
+        }
+        self.trees = behind;
+    }
+
+    /// What stands before the place behind a tree.
+    fn before_behind(&self, tree: &TokenTreeRef<'_>) -> Before {
+        match tree {
+            TokenTreeRef::Ident(ident) => {
+                if ident.is("as") {
+                    Before::As
+                } else {
+                    Before::Other
+                }
+            }
+            TokenTreeRef::Literal(_) => Before::Other,
+            TokenTreeRef::Punct(punct) => match punct.character() {
+                ',' => {
+                    if self.angles.are_closed() {
+                        Before::Comma
+                    } else {
+                        Before::Other
+                    }
+                }
+                '#' => {
+                    if self.before == Before::Comma {
+                        Before::Pound
+                    } else {
+                        Before::Other
+                    }
+                }
+                _ => Before::Other,
+            },
+            TokenTreeRef::Group(_) => {
+                if self.before == Before::Pound {
+                    Before::Comma
+                } else {
+                    Before::Other
+                }
+            }
+        }
+    }
+
+    /// A context begins.
+    fn begin(&mut self, context: Context<'a>) {
+        self.context = context;
+        self.angles = Angles::none();
+    }
+
+    /// What a word begins or ends, behind which these trees stand.
+    fn pass_word(&mut self, word: &str, behind: &Cursor<'a>) {
+        match word {
+            "use" => self.begin(Context::Use),
+            "fn" => self.begin(Context::Function),
+            "impl" => self.begin(Context::Impl(behind.fork())),
+            "for" | "where" => {
+                if matches!(&self.context, Context::Impl(_)) && self.angles.are_closed() {
+                    self.begin(Context::Other);
+                }
+            }
+            _ => {}
+        }
+    }
+
+    /// What a character of a mark ends: `;` an item, and the dots of a variadic the arguments.
+    fn pass_mark(&mut self, character: char) {
+        match character {
+            ';' => self.begin(Context::Other),
+            '.' => {
+                if matches!(&self.context, Context::Arguments(_)) {
+                    self.begin(Context::Other);
+                }
+            }
+            _ => {}
+        }
+    }
+
+    /// What a group ends: that in parentheses what stands before the arguments, and that in braces what stands before the members.
+    fn pass_group(&mut self, delimiter: Delimiter) {
+        let ends = match (&self.context, delimiter) {
+            (Context::Function, Delimiter::Paren) => true,
+            (Context::Impl(_), Delimiter::Brace) => true,
+            _ => false,
+        };
+        if ends && self.angles.are_closed() {
+            self.begin(Context::Other);
+        }
+    }
+}

@@ -1,0 +1,65 @@
+//! Marks and words that stand next.
+use syn_tokens::punct::Spacing;
+use syn_tokens::stream::cursor::Cursor;
+
+/// Whether a mark that begins with this character stands next.
+pub(crate) fn is_at(character: char, trees: &Cursor<'_>) -> bool {
+    match trees.split_punct() {
+        Some((punct, _)) => punct.character() == character,
+        None => false,
+    }
+}
+
+/// Whether this word stands next.
+pub(crate) fn is_at_word(word: &str, trees: &Cursor<'_>) -> bool {
+    match trees.split_ident() {
+        Some((ident, _)) => ident.is(word),
+        None => false,
+    }
+}
+
+/// What stands behind the character of a mark, where it stands next and is joined to the mark behind it.
+fn behind_joint<'a>(character: char, trees: &Cursor<'a>) -> Option<Cursor<'a>> {
+    let (punct, behind) = trees.split_punct()?;
+    if punct.character() == character && punct.spacing == Spacing::Joint {
+        Some(behind)
+    } else {
+        None
+    }
+}
+
+/// Whether this mark of two characters stands next.
+pub(crate) fn is_at_both(first: char, second: char, trees: &Cursor<'_>) -> bool {
+    match behind_joint(first, trees) {
+        Some(behind) => is_at(second, &behind),
+        None => false,
+    }
+}
+
+/// What stands behind the lifetime that stands next.
+pub(crate) fn behind_lifetime<'a>(trees: &Cursor<'a>) -> Option<Cursor<'a>> {
+    let (_name, behind) = behind_joint('\'', trees)?.split_ident()?;
+    Some(behind)
+}
+
+/// What stands behind the attributes that stand next.
+pub(crate) fn behind_attributes<'a>(trees: &Cursor<'a>) -> Cursor<'a> {
+    let mut rest = trees.fork();
+    for _tree in 0..trees.len() {
+        let Some(behind) = behind_attribute(&rest) else {
+            return rest;
+        };
+        rest = behind;
+    }
+    rest
+}
+
+/// What stands behind the attribute that stands next.
+fn behind_attribute<'a>(trees: &Cursor<'a>) -> Option<Cursor<'a>> {
+    let (punct, behind) = trees.split_punct()?;
+    if punct.character() != '#' {
+        return None;
+    }
+    let (_brackets, behind) = behind.split()?;
+    Some(behind)
+}

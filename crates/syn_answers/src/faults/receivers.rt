@@ -1,0 +1,72 @@
+//! Receivers where none may stand.
+use crate::faults::Fault;
+use crate::faults::context::{Before, Context, Place};
+use crate::faults::marks::{behind_attributes, behind_lifetime, is_at, is_at_both};
+use crate::names::behind_mut;
+use syn_tokens::ident::ident_ref::IdentRef;
+use syn_tokens::span::Span;
+use syn_tokens::stream::cursor::Cursor;
+
+/// What stands behind `&` and a lifetime, where they stand next.
+fn behind_reference<'a>(trees: &Cursor<'a>) -> Cursor<'a> {
+    if !is_at('&', trees) {
+        return trees.fork();
+    }
+    let Some((_and, behind)) = trees.split() else {
+        return trees.fork();
+    };
+    match behind_lifetime(&behind) {
+        Some(behind) => behind,
+        None => behind,
+    }
+}
+
+/// The `self` of what looks like a receiver and stands next, and what stands behind it.
+fn split_self<'a>(trees: &Cursor<'a>) -> Option<(IdentRef<'a>, Cursor<'a>)> {
+    let (ident, behind) = behind_mut(&behind_reference(trees)).split_ident()?;
+    if ident.is("self") {
+        Some((ident, behind))
+    } else {
+        None
+    }
+}
+
+/// Where the `self` of the receiver stands that stands next. A `self` before `::` is none.
+fn receiver(trees: &Cursor<'_>) -> Option<Span> {
+    let (ident, behind) = split_self(trees)?;
+    if is_at_both(':', ':', &behind) {
+        None
+    } else {
+        Some(ident.span)
+    }
+}
+
+/// The fault of a receiver behind other arguments.
+pub(crate) fn late_receiver(place: &Place<'_>) -> Option<Fault> {
+    let Context::Arguments(arguments) = &place.context else {
+        return None;
+    };
+    if place.before != Before::Comma {
+        return None;
+    }
+    let span = receiver(&place.trees)?;
+    let text = match receiver(&behind_attributes(arguments)) {
+        Some(_) => "unexpected second method receiver",
+        None => "unexpected method receiver",
+    };
+    Some(Fault { span, text })
+}
+
+/// The fault of a `::` at this byte behind the `self` of a stream that is to be a receiver.
+pub(crate) fn path_in_place_of_receiver(byte: usize, trees: &Cursor<'_>) -> Option<Fault> {
+    let (_word, behind) = split_self(trees)?;
+    let (colon, _) = behind.split_punct()?;
+    if is_at_both(':', ':', &behind) && colon.span.start == byte {
+        Some(Fault {
+            span: colon.span,
+            text: "expected `:`",
+        })
+    } else {
+        None
+    }
+}

@@ -1,0 +1,66 @@
+//! What an item looks like. A guess decides nothing: it is what is tried first.
+use crate::list::ItemKind;
+use syn_tokens::delimiter::Delimiter;
+use syn_tokens::stream::cursor::{Cursor, TokenTreeRef};
+
+/// The kind that the first words tell which stand in no group. It looks no further than to the end of the item.
+pub(crate) fn guess(trees: &Cursor<'_>) -> ItemKind {
+    let mut rest = trees.fork();
+    for _tree in 0..trees.len() {
+        let Some((tree, behind)) = rest.split() else {
+            return ItemKind::Verbatim;
+        };
+        if let Some(kind) = told_by(&tree, &behind) {
+            return kind;
+        }
+        rest = behind;
+    }
+    ItemKind::Verbatim
+}
+
+/// What a tree tells of the item in which it stands, with what stands behind it.
+fn told_by(tree: &TokenTreeRef<'_>, behind: &Cursor<'_>) -> Option<ItemKind> {
+    match tree {
+        TokenTreeRef::Ident(ident) => told_by_word(ident.text(), behind),
+        TokenTreeRef::Literal(_) => None,
+        TokenTreeRef::Punct(punct) => match punct.character() {
+            '!' => Some(ItemKind::Macro),
+            ';' => Some(ItemKind::Verbatim),
+            _ => None,
+        },
+        TokenTreeRef::Group(group) => match group.delimiter {
+            Delimiter::Brace => Some(ItemKind::ForeignMod),
+            Delimiter::Bracket | Delimiter::None | Delimiter::Paren => None,
+        },
+    }
+}
+
+/// What a word tells.
+fn told_by_word(word: &str, behind: &Cursor<'_>) -> Option<ItemKind> {
+    match word {
+        "crate" => Some(ItemKind::ExternCrate),
+        "enum" => Some(ItemKind::Enum),
+        "fn" => Some(ItemKind::Fn),
+        "impl" => Some(ItemKind::Impl),
+        "macro" => Some(ItemKind::Verbatim),
+        "mod" => Some(ItemKind::Mod),
+        "static" => Some(ItemKind::Static),
+        "struct" => Some(ItemKind::Struct),
+        "trait" => Some(ItemKind::Trait),
+        "type" => Some(ItemKind::Ty),
+        "use" => Some(ItemKind::Use),
+        "const" => told_before_name(ItemKind::Const, behind),
+        "union" => told_before_name(ItemKind::Union, behind),
+        _ => None,
+    }
+}
+
+/// This kind, where a name stands next, or `_`.
+fn told_before_name(kind: ItemKind, behind: &Cursor<'_>) -> Option<ItemKind> {
+    let (ident, _) = behind.split_ident()?;
+    match ident.text() {
+        "_" => Some(kind),
+        "auto" => None,
+        _ => { if ident.is_keyword() { None } else { Some(kind) } }
+    }
+}

@@ -1,0 +1,240 @@
+//! What a file lists: the kind and the name of each of its items.
+ghost use Rattle.std.specs.Prelude.{◌≡◌, [], ◌∷◌, map, true, IfOk, IfErr, MatchOption};
+ghost use Rattle.syn_grammar.specs.Tokens.{visible};
+ghost use Rattle.syn_grammar.specs.Rules as rules;
+ghost use Rattle.syn_grammar.specs.Listed.{FileLists};
+ghost use Rattle.syn_grammar.specs.Promises.{Refused};
+ghost use Rattle.syn_parse.specs.Refusals.{IsSyntax};
+ghost use Rattle.syn_recognize.specs.Names as names;
+ghost use Rattle.syn_tokens.specs.Faults.{IsSyntaxError};
+ghost use Rattle.syn_answers.specs.Listing.{entry_of, rule_of, KindTried, KindsTried, KindRead, ItemRead};
+ghost use Rattle.syn_answers.specs.declared.list.ItemKind.TheVariants as K;
+
+use crate::faults::told;
+use crate::guess::guess;
+use crate::names::name_ahead;
+use syn_parse::buffer::ParseBuffer;
+use syn_parse::read::refusal::{Parsed, Refusal};
+use syn_recognize::{Rule, read_by};
+use syn_tokens::error::Result;
+use syn_tokens::ident::Ident;
+use syn_tokens::stream::TokenStream;
+
+/// The kinds of items, by what the trees of each are called.
+#[derive(Clone, Copy, Debug, PartialEq, Eq)]
+pub enum ItemKind {
+    Const,
+    Enum,
+    ExternCrate,
+    Fn,
+    ForeignMod,
+    Impl,
+    Macro,
+    Mod,
+    Static,
+    Struct,
+    Trait,
+    TraitAlias,
+    Ty,
+    Union,
+    Use,
+    /// What has no kind of its own, and is kept as its tokens.
+    Verbatim,
+}
+
+/// The kind of an item, and its name. An impl, a use, a foreign module and what is kept as tokens have none, nor has a macro
+/// without a name behind its `!`; of a constant it may be `_`, of an extern crate `self`.
+#[derive(Debug, Drop)]
+pub struct ListedItem {
+    pub kind: ItemKind,
+    pub name: Option<Ident>,
+}
+
+/// The rule that reads items of this kind.
+fn rule_by(kind: ItemKind) -> Option<Rule>
+    ensures { MatchOption result (kind ≡ K.Verbatim) (λ rule. names.rule_of rule ≡ rule_of kind) }
+{
+    match kind {
+        ItemKind::Const => Some(Rule::ConstItem),
+        ItemKind::Enum => Some(Rule::Enumeration),
+        ItemKind::ExternCrate => Some(Rule::ExternCrate),
+        ItemKind::Fn => Some(Rule::Function),
+        ItemKind::ForeignMod => Some(Rule::ForeignModule),
+        ItemKind::Impl => Some(Rule::ImplDefinition),
+        ItemKind::Macro => Some(Rule::MacroAsItem),
+        ItemKind::Mod => Some(Rule::ModuleItem),
+        ItemKind::Static => Some(Rule::StaticItem),
+        ItemKind::Struct => Some(Rule::Structure),
+        ItemKind::Trait => Some(Rule::TraitDefinition),
+        ItemKind::TraitAlias => Some(Rule::TraitAlias),
+        ItemKind::Ty => Some(Rule::TypeItem),
+        ItemKind::Union => Some(Rule::UnionItem),
+        ItemKind::Use => Some(Rule::UseItem),
+        ItemKind::Verbatim => None,
+    }
+}
+
+/// Reads an item of this kind, and says whether there was one; where there was none, nothing is read.
+fn try_kind(kind: ItemKind, input: &mut ParseBuffer<'_>) -> Parsed<bool>
+    ensures { KindTried IsSyntax kind input.old result input.new }
+{
+    let Some(rule) = rule_by(kind) else {
+        return Ok(false);
+    };
+    let mut ahead = input.fork();
+    match read_by(rule, &mut ahead) {
+        Ok(()) => {
+            input.advance_to(&ahead);
+            Ok(true)
+        }
+        Err(Refusal::Syntax { .. }) => Ok(false),
+        Err(Refusal::Memory) => Err(Refusal::Memory),
+    }
+}
+
+/// Reads an item of one of the kinds that are most common.
+fn try_common(input: &mut ParseBuffer<'_>) -> Parsed<Option<ItemKind>>
+    ensures { KindsTried IsSyntax (K.Fn ∷ K.Struct ∷ K.Impl ∷ K.Enum ∷ K.Use ∷ []) input.old result input.new }
+{
+    if try_kind(ItemKind::Fn, input)? {
+        return Ok(Some(ItemKind::Fn));
+    }
+    if try_kind(ItemKind::Struct, input)? {
+        return Ok(Some(ItemKind::Struct));
+    }
+    if try_kind(ItemKind::Impl, input)? {
+        return Ok(Some(ItemKind::Impl));
+    }
+    if try_kind(ItemKind::Enum, input)? {
+        return Ok(Some(ItemKind::Enum));
+    }
+    if try_kind(ItemKind::Use, input)? {
+        return Ok(Some(ItemKind::Use));
+    }
+    Ok(None)
+}
+
+/// Reads an item of one of these kinds.
+fn try_others(input: &mut ParseBuffer<'_>) -> Parsed<Option<ItemKind>>
+    ensures { KindsTried IsSyntax (K.Const ∷ K.Mod ∷ K.Trait ∷ K.Ty ∷ K.Macro ∷ []) input.old result input.new }
+{
+    if try_kind(ItemKind::Const, input)? {
+        return Ok(Some(ItemKind::Const));
+    }
+    if try_kind(ItemKind::Mod, input)? {
+        return Ok(Some(ItemKind::Mod));
+    }
+    if try_kind(ItemKind::Trait, input)? {
+        return Ok(Some(ItemKind::Trait));
+    }
+    if try_kind(ItemKind::Ty, input)? {
+        return Ok(Some(ItemKind::Ty));
+    }
+    if try_kind(ItemKind::Macro, input)? {
+        return Ok(Some(ItemKind::Macro));
+    }
+    Ok(None)
+}
+
+/// Reads an item of one of the kinds that are rare.
+fn try_rare(input: &mut ParseBuffer<'_>) -> Parsed<Option<ItemKind>>
+    ensures { KindsTried IsSyntax (K.Static ∷ K.ExternCrate ∷ K.ForeignMod ∷ K.Union ∷ K.TraitAlias ∷ []) input.old result input.new }
+{
+    if try_kind(ItemKind::Static, input)? {
+        return Ok(Some(ItemKind::Static));
+    }
+    if try_kind(ItemKind::ExternCrate, input)? {
+        return Ok(Some(ItemKind::ExternCrate));
+    }
+    if try_kind(ItemKind::ForeignMod, input)? {
+        return Ok(Some(ItemKind::ForeignMod));
+    }
+    if try_kind(ItemKind::Union, input)? {
+        return Ok(Some(ItemKind::Union));
+    }
+    if try_kind(ItemKind::TraitAlias, input)? {
+        return Ok(Some(ItemKind::TraitAlias));
+    }
+    Ok(None)
+}
+
+/// Reads an item of any kind, and says which it is: where none of the kinds reads it, it is kept as tokens.
+#[tactic(auto, using(crate::proofs::Listing::kept))]
+fn read_any(input: &mut ParseBuffer<'_>) -> Parsed<ItemKind>
+    ensures { KindRead IsSyntax input.old result input.new }
+{
+    if let Some(kind) = try_common(input)? {
+        return Ok(kind);
+    }
+    if let Some(kind) = try_others(input)? {
+        return Ok(kind);
+    }
+    if let Some(kind) = try_rare(input)? {
+        return Ok(kind);
+    }
+    read_by(Rule::Item, input)?;
+    Ok(ItemKind::Verbatim)
+}
+
+/// Reads an item, and says of which kind it is. It is tried first as what its words look like, so that most are read once.
+fn read_kind(input: &mut ParseBuffer<'_>) -> Parsed<ItemKind>
+    ensures { KindRead IsSyntax input.old result input.new }
+{
+    let guessed = guess(&input.cursor());
+    if try_kind(guessed, input)? {
+        return Ok(guessed);
+    }
+    read_any(input)
+}
+
+/// Reads an item.
+fn read_item(input: &mut ParseBuffer<'_>) -> Parsed<ListedItem>
+    ensures { ItemRead IsSyntax input.old result input.new }
+{
+    let ahead = input.fork();
+    let kind = read_kind(input)?;
+    let name = name_ahead(kind, &ahead)?;
+    Ok(ListedItem { kind, name })
+}
+
+/// The items of a whole file.
+#[tactic(auto, using(crate::proofs::Listing::ends))]
+fn listed_to_end(tokens: &TokenStream) -> Parsed<Vec<ListedItem>>
+    ensures listed { IfOk result (λ list. FileLists tokens.now (map entry_of list.items)) }
+    ensures refused { IfErr result (λ e. IsSyntax e → Refused rules.file tokens.now) }
+{
+    let mut input = ParseBuffer::new(tokens);
+    read_by(Rule::InnerAttributes, &mut input)?;
+    let mut list = Vec::new(tokens.alloc());
+    'items: for _item in 0..u64::MAX {
+        if input.is_empty() {
+            return Ok(list);
+        }
+        let item = read_item(&mut input)?;
+        list.push(item)?;
+    }
+    Err(Refusal::Memory)
+}
+
+/// The items of a whole file, with the faults that more than a token tells.
+fn listed(tokens: &TokenStream) -> Parsed<Vec<ListedItem>>
+    ensures listed { IfOk result (λ list. FileLists tokens.now (map entry_of list.items)) }
+    ensures refused { IfErr result (λ e. IsSyntax e → Refused rules.file tokens.now) }
+{
+    match listed_to_end(tokens) {
+        Ok(list) => Ok(list),
+        Err(refusal) => Err(told(refusal, Rule::File, tokens)),
+    }
+}
+
+/// The items of the file that these tokens spell, in order: of each its kind and its name. No tree is made, and no stack is
+/// taken for what is nested.
+///
+/// It is refused where no file is derived of the whole stream, with a fault at a token that can't stand there; else only where
+/// memory is.
+pub fn list_items(tokens: &TokenStream) -> Result<Vec<ListedItem>>
+    ensures listed { IfOk result (λ list. visible tokens.now ≡ true → FileLists tokens.now (map entry_of list.items)) }
+    ensures refused { IfErr result (λ e. visible tokens.now ≡ true → IsSyntaxError e → Refused rules.file tokens.now) }
+{
+    Ok(listed(tokens)?)
+}

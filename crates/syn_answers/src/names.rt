@@ -1,0 +1,127 @@
+//! Where the names of items stand.
+ghost use Rattle.std.specs.Prelude.{◌≡◌};
+ghost use Rattle.syn_grammar.specs.Listed as grammar;
+ghost use Rattle.syn_grammar.specs.Listed.{past};
+ghost use Rattle.syn_parse.specs.Refusals.{IsSyntax};
+ghost use Rattle.syn_grammar.specs.Promises.{OrMemory};
+ghost use Rattle.syn_answers.specs.Listing.{marker_of, marks, name_of, rule_of};
+
+use crate::list::ItemKind;
+use syn_parse::buffer::ParseBuffer;
+use syn_parse::read::refusal::Parsed;
+use syn_tokens::ident::Ident;
+use syn_tokens::stream::cursor::{Cursor, TokenTreeRef};
+
+/// What stands before a name: a word, or the `!` of a macro.
+#[derive(Clone, Copy, Debug)]
+pub(crate) enum Marker {
+    Word(&'static str),
+    Bang,
+}
+
+/// Whether the tree is the marker.
+fn is_marker(tree: &TokenTreeRef<'_>, marker: Marker) -> bool
+    ensures { result ≡ marks (marker_of marker) tree.now }
+{
+    match marker {
+        Marker::Word(text) => is_word(tree, text),
+        Marker::Bang => is_bang(tree),
+    }
+}
+
+/// Whether the tree is this word.
+fn is_word(tree: &TokenTreeRef<'_>, text: &str) -> bool
+    ensures { result ≡ marks (grammar.a_word text.now) tree.now }
+{
+    match tree {
+        TokenTreeRef::Ident(ident) => ident.is(text),
+        TokenTreeRef::Literal(_) => false,
+        TokenTreeRef::Punct(_) => false,
+        TokenTreeRef::Group(_) => false,
+    }
+}
+
+/// Whether the tree is a `!`.
+fn is_bang(tree: &TokenTreeRef<'_>) -> bool
+    ensures { result ≡ marks grammar.a_bang tree.now }
+{
+    match tree {
+        TokenTreeRef::Ident(_) => false,
+        TokenTreeRef::Literal(_) => false,
+        TokenTreeRef::Punct(punct) => punct.character() == '!',
+        TokenTreeRef::Group(_) => false,
+    }
+}
+
+/// What stands behind the first marker that stands in no group; nothing where there is none.
+#[tactic(auto, using(crate::proofs::Listing::past_marker, crate::proofs::Listing::past_other, crate::proofs::Listing::one_shorter, crate::proofs::Listing::past_all))]
+fn behind<'a>(trees: &Cursor<'a>, marker: Marker) -> Cursor<'a>
+    ensures { result ≡ past (marker_of marker) trees.now }
+{
+    let mut rest = trees.fork();
+    'trees: for _tree in 0..trees.len() {
+        let Some((tree, behind)) = rest.split() else {
+            return rest;
+        };
+        if is_marker(&tree, marker) {
+            return behind;
+        }
+        rest = behind;
+    }
+    Cursor::none()
+}
+
+/// What stands behind `mut`, where that stands next.
+pub(crate) fn behind_mut<'a>(trees: &Cursor<'a>) -> Cursor<'a>
+    ensures { result ≡ grammar.past_mut trees.now }
+{
+    let Some((ident, behind)) = trees.split_ident() else {
+        return trees.fork();
+    };
+    if ident.is("mut") {
+        return behind;
+    }
+    trees.fork()
+}
+
+/// The identifier that stands next.
+fn name(trees: &Cursor<'_>) -> Parsed<Option<Ident>>
+    ensures { OrMemory IsSyntax result (λ name. name_of name ≡ grammar.name_next trees.now) }
+{
+    match trees.split_ident() {
+        Some((ident, _)) => Ok(Some(ident.to_ident()?)),
+        None => Ok(None),
+    }
+}
+
+/// The identifier that stands behind the first of these words that stands in no group.
+fn name_behind(trees: &Cursor<'_>, word: &'static str) -> Parsed<Option<Ident>>
+    ensures { OrMemory IsSyntax result (λ name. name_of name ≡ grammar.name_past word.now trees.now) }
+{
+    name(&behind(trees, Marker::Word(word)))
+}
+
+/// The name of the item of this kind that begins here.
+pub(crate) fn name_ahead(kind: ItemKind, input: &ParseBuffer<'_>) -> Parsed<Option<Ident>>
+    ensures { OrMemory IsSyntax result (λ name. name_of name ≡ grammar.name_ahead (rule_of kind) input.now) }
+{
+    let trees = input.cursor();
+    match kind {
+        ItemKind::Const => name_behind(&trees, "const"),
+        ItemKind::Enum => name_behind(&trees, "enum"),
+        ItemKind::ExternCrate => name_behind(&trees, "crate"),
+        ItemKind::Fn => name_behind(&trees, "fn"),
+        ItemKind::ForeignMod => Ok(None),
+        ItemKind::Impl => Ok(None),
+        ItemKind::Macro => name(&behind(&trees, Marker::Bang)),
+        ItemKind::Mod => name_behind(&trees, "mod"),
+        ItemKind::Static => name(&behind_mut(&behind(&trees, Marker::Word("static")))),
+        ItemKind::Struct => name_behind(&trees, "struct"),
+        ItemKind::Trait => name_behind(&trees, "trait"),
+        ItemKind::TraitAlias => name_behind(&trees, "trait"),
+        ItemKind::Ty => name_behind(&trees, "type"),
+        ItemKind::Union => name_behind(&trees, "union"),
+        ItemKind::Use => Ok(None),
+        ItemKind::Verbatim => Ok(None),
+    }
+}

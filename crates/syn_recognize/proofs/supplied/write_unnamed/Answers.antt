@@ -1,0 +1,18 @@
+use Rattle.std.proofs.Common.{◌≡◌, true, false, rules, ap, ◌∙◌}
+use Rattle.syn_grammar.specs.Words.{w_underscore}
+use Rattle.syn_grammar.specs.Tokens.{Before_less, end, ident, leaf, punct}
+use Rattle.syn_grammar.specs.Grammar.{at_unnamed}
+use Rattle.syn_grammar.specs.Take.{sees}
+use Rattle.syn_tokens.specs.Spans.{at}
+use Rattle.syn_recognize.specs.Written.{adds}
+use Rattle.syn_recognize.proofs.SuppliedNames.{unnamed_stands}
+use Rattle.syn_recognize.proofs.supplied.write_unnamed.Goals as goal
+
+pub returns : goal.returns
+returns c =
+    let s = c.span-span.result in
+    let h : sees (at_unnamed Before_less) c.args.input.now ≡ true = search rules in
+    let first : c.write_word.new.self ≡ adds c.args.out.now (leaf (ident w_underscore) (at s) end) = search rules in
+    let second : c.write_punct.new.self ≡ adds c.write_word.new.self (punct 58 false (at s) end) = search rules in
+    let stands = unnamed_stands c.args.input.now c.args.out.now s h c.span-span.ensures in
+    (stands.0, stands.1, second ∙ ap (λ w. adds w (punct 58 false (at s) end)) first ∙ stands.2)

@@ -1,0 +1,413 @@
+//! Conditions on what stands next in items.
+ghost use Rattle.std.specs.Prelude.{◌≡◌, codes};
+ghost use Rattle.syn_grammar.specs.Grammar.{at_unnamed};
+ghost use Rattle.syn_grammar.specs.Promises.{OrMemory};
+ghost use Rattle.syn_grammar.specs.Take.{sees};
+ghost use Rattle.syn_grammar.specs.Table as table;
+ghost use Rattle.syn_grammar.specs.Tokens as grammar;
+ghost use Rattle.syn_grammar.specs.Tokens.{ahead, ◌and_also◌, Str, Before_colons, Before_less, Before_macro, Begins_item};
+ghost use Rattle.syn_grammar.specs.Words.{w_union, w_auto};
+ghost use Rattle.syn_grammar.specs.ItemPlan as plan;
+ghost use Rattle.syn_parse.specs.Form.{by};
+ghost use Rattle.syn_parse.specs.Refusals.{IsSyntax};
+ghost use Rattle.syn_recognize.specs.ItemLooks as items;
+ghost use Rattle.syn_recognize.specs.Strings.{is_string};
+
+use crate::look::at_lone_colon;
+use crate::looks::{
+    at_crate_macro, at_less_only, at_lone_crate, at_macro, at_path_word, behind_path, is_lone_word,
+};
+use syn_parse::buffer::ParseBuffer;
+use syn_parse::read::Peek;
+use syn_parse::read::refusal::{Parsed, Refusal};
+use syn_tokens::ident::Ident;
+use syn_tokens::lifetime::Lifetime;
+use syn_tokens::literal::{LitKind, Literal};
+use syn_tokens::token::{
+    And, As, Async, Auto, Brace, Colon, Const, Default, Enum, Extern, Fn, Gt, Impl, In, Lt, Macro,
+    Mod, Move, Mut, Or, Paren, PathSep, Pound, Pub, SelfType, SelfValue, Static, Struct, Trait,
+    Try, Type, Union, Unsafe, Use, kind,
+};
+
+/// Whether an item stands next in a block, behind its attributes. Refused only where memory is.
+#[tactic(auto, using(crate::proofs::ItemLooks::item_seen))]
+pub fn at_item(input: &ParseBuffer<'_>) -> Parsed<bool>
+    ensures { OrMemory IsSyntax result (λ answer. answer ≡ sees table.at_item input.now) }
+{
+    if at_item_word(input) {
+        return Ok(true);
+    }
+    if at_marked_word(input) {
+        return Ok(true);
+    }
+    if at_crate_item(input) {
+        return Ok(true);
+    }
+    at_named_macro(input)
+}
+
+/// Whether a word stands next that always begins an item.
+#[tactic(auto, using(syn_grammar::proofs::Looks::sees_or))]
+fn at_item_word(input: &ParseBuffer<'_>) -> bool
+    ensures { result ≡ sees items.at_item_word input.now }
+{
+    at_first_item_word(input) || at_other_item_word(input)
+}
+
+/// Whether `pub`, `extern`, `use`, `fn` or `mod` stands next.
+#[tactic(auto, using(syn_grammar::proofs::Looks::sees_or))]
+fn at_first_item_word(input: &ParseBuffer<'_>) -> bool
+    ensures { result ≡ sees items.at_first_item_word input.now }
+{
+    input.peek::<Pub>()
+        || input.peek::<Extern>()
+        || input.peek::<Use>()
+        || input.peek::<Fn>()
+        || input.peek::<Mod>()
+}
+
+/// Whether `type`, `struct`, `enum`, `trait`, `impl` or `macro` stands next.
+#[tactic(auto, using(syn_grammar::proofs::Looks::sees_or))]
+fn at_other_item_word(input: &ParseBuffer<'_>) -> bool
+    ensures { result ≡ sees items.at_other_item_word input.now }
+{
+    input.peek::<Type>()
+        || input.peek::<Struct>()
+        || input.peek::<Enum>()
+        || input.peek::<Trait>()
+        || input.peek::<Impl>()
+        || input.peek::<Macro>()
+}
+
+/// Whether a word stands next that begins an item by what follows it.
+#[tactic(auto, using(syn_grammar::proofs::Looks::sees_or))]
+fn at_marked_word(input: &ParseBuffer<'_>) -> bool
+    ensures { result ≡ sees items.at_marked_word input.now }
+{
+    at_const_item(input)
+        || at_unsafe_item(input)
+        || at_static_item(input)
+        || at_async_item(input)
+        || at_union(input)
+        || at_auto(input)
+        || at_default_item(input)
+}
+
+/// What an expression begins with behind `const`.
+struct ConstExpression;
+
+impl Peek for ConstExpression {
+    ghost look = { by items.at_const_expression };
+
+    ghost fault = { codes "expected an expression behind `const`" };
+
+    fn peek(input: &ParseBuffer<'_>) -> bool {
+        at_const_expression(input)
+    }
+
+    fn expected() -> &'static str {
+        "expected an expression behind `const`"
+    }
+}
+
+/// Whether what an expression begins with behind `const` stands next.
+#[tactic(auto, using(crate::proofs::ItemLooks::const_expression_seen))]
+fn at_const_expression(input: &ParseBuffer<'_>) -> bool
+    ensures { result ≡ sees items.at_const_expression input.now }
+{
+    input.peek::<Brace>()
+        || input.peek::<Static>()
+        || input.peek::<Move>()
+        || input.peek::<Or>()
+        || (input.peek::<Async>() && !at_async_item(input))
+}
+
+/// Whether `const` stands next, and what follows it begins no expression.
+#[tactic(auto, using(crate::proofs::ItemLooks::const_item_seen))]
+fn at_const_item(input: &ParseBuffer<'_>) -> bool
+    ensures { result ≡ sees items.at_const_item input.now }
+{
+    input.peek::<Const>() && !input.peek2::<ConstExpression>()
+}
+
+/// Whether `unsafe` stands next, and no group in braces follows it.
+#[tactic(auto, using(crate::proofs::ItemLooks::unsafe_item_seen))]
+fn at_unsafe_item(input: &ParseBuffer<'_>) -> bool
+    ensures { result ≡ sees items.at_unsafe_item input.now }
+{
+    input.peek::<Unsafe>() && !input.peek2::<Brace>()
+}
+
+/// Whether `static` stands next, and `mut` or a name behind it.
+#[tactic(auto, using(crate::proofs::ItemLooks::static_item_seen))]
+fn at_static_item(input: &ParseBuffer<'_>) -> bool
+    ensures { result ≡ sees items.at_static_item input.now }
+{
+    input.peek::<Static>() && (input.peek2::<Mut>() || input.peek2::<Ident>())
+}
+
+/// Whether `async` stands next, and `unsafe`, `extern` or `fn` behind it.
+#[tactic(auto, using(crate::proofs::ItemLooks::async_item_seen))]
+fn at_async_item(input: &ParseBuffer<'_>) -> bool
+    ensures { result ≡ sees items.at_async_item input.now }
+{
+    input.peek::<Async>()
+        && (input.peek2::<Unsafe>() || input.peek2::<Extern>() || input.peek2::<Fn>())
+}
+
+/// Whether `union` stands next, and a name behind it.
+#[tactic(auto, using(crate::proofs::ItemLooks::union_seen))]
+pub fn at_union(input: &ParseBuffer<'_>) -> bool
+    ensures { result ≡ sees (grammar.at_word w_union and_also ahead Begins_item) input.now }
+{
+    input.peek::<Union>() && input.peek2::<Ident>()
+}
+
+/// Whether `auto` stands next, and `trait` behind it.
+#[tactic(auto, using(crate::proofs::ItemLooks::auto_seen))]
+pub fn at_auto(input: &ParseBuffer<'_>) -> bool
+    ensures { result ≡ sees (grammar.at_word w_auto and_also ahead Begins_item) input.now }
+{
+    input.peek::<Auto>() && input.peek2::<Trait>()
+}
+
+/// Whether `default` stands next, and `unsafe` or `impl` behind it.
+#[tactic(auto, using(crate::proofs::ItemLooks::default_item_seen))]
+fn at_default_item(input: &ParseBuffer<'_>) -> bool
+    ensures { result ≡ sees items.at_default_item input.now }
+{
+    input.peek::<Default>() && (input.peek2::<Unsafe>() || input.peek2::<Impl>())
+}
+
+/// Whether `crate` stands next that no `::` follows, and not as the whole path of a macro with a group in braces.
+#[tactic(auto, using(crate::proofs::ItemLooks::crate_item_seen))]
+fn at_crate_item(input: &ParseBuffer<'_>) -> bool
+    ensures { result ≡ sees items.at_crate_item input.now }
+{
+    at_lone_crate(input) && !at_crate_macro(input)
+}
+
+/// A name of a macro: an identifier that is no keyword, or `try`.
+struct MacroName;
+
+impl Peek for MacroName {
+    ghost look = { by table.at_macro_name };
+
+    ghost fault = { codes "expected identifier" };
+
+    fn peek(input: &ParseBuffer<'_>) -> bool {
+        at_macro_name(input)
+    }
+
+    fn expected() -> &'static str {
+        "expected identifier"
+    }
+}
+
+/// Whether an identifier that is no keyword, or `try`, stands next.
+#[tactic(auto, using(syn_grammar::proofs::Looks::sees_or))]
+pub fn at_macro_name(input: &ParseBuffer<'_>) -> bool
+    ensures { result ≡ sees table.at_macro_name input.now }
+{
+    input.peek::<Ident>() || input.peek::<Try>()
+}
+
+/// Whether a macro with a name stands next. Refused only where memory is.
+fn at_named_macro(input: &ParseBuffer<'_>) -> Parsed<bool>
+    ensures { OrMemory IsSyntax result (λ answer. answer ≡ sees items.at_named_macro input.now) }
+{
+    match behind_path(input)? {
+        Some(bang) => Ok(bang.peek2::<MacroName>()),
+        None => Ok(false),
+    }
+}
+
+/// `self`, and not `self::`.
+struct OwnSelf;
+
+impl Peek for OwnSelf {
+    ghost look = { by table.at_own_self };
+
+    ghost fault = { codes "expected `self`" };
+
+    fn peek(input: &ParseBuffer<'_>) -> bool {
+        at_own_self(input)
+    }
+
+    fn expected() -> &'static str {
+        "expected `self`"
+    }
+}
+
+/// Whether `self` stands next, and `::` doesn't follow it.
+#[tactic(auto, using(crate::proofs::ItemLooks::own_self_seen))]
+fn at_own_self(input: &ParseBuffer<'_>) -> bool
+    ensures { result ≡ sees table.at_own_self input.now }
+{
+    input.peek::<SelfValue>() && !input.peek2::<PathSep>()
+}
+
+/// Whether a receiver stands next.
+#[tactic(auto, using(crate::proofs::ItemLooks::receiver_seen))]
+pub fn at_receiver(input: &ParseBuffer<'_>) -> bool
+    ensures { result ≡ sees table.at_receiver input.now }
+{
+    input.peek::<And>() || (input.peek::<Mut>() && input.peek2::<OwnSelf>()) || at_own_self(input)
+}
+
+/// Whether a name stands next that begins a type, as `<` follows it, where a parameter may have none.
+#[tactic(auto, using(crate::proofs::ItemLooks::unnamed_seen))]
+pub fn at_unnamed(input: &ParseBuffer<'_>) -> bool
+    ensures { result ≡ sees (at_unnamed Before_less) input.now }
+{
+    input.peek::<Ident>() && input.peek2::<Lt>()
+}
+
+/// A parameter of generics, or the `>` where there is none.
+struct FirstParameter;
+
+impl Peek for FirstParameter {
+    ghost look = { by items.at_first_parameter };
+
+    ghost fault = { codes "expected a parameter or `>`" };
+
+    fn peek(input: &ParseBuffer<'_>) -> bool {
+        at_first_parameter(input)
+    }
+
+    fn expected() -> &'static str {
+        "expected a parameter or `>`"
+    }
+}
+
+/// Whether a parameter of generics, or the `>` where there is none, stands next.
+#[tactic(auto, using(syn_grammar::proofs::Looks::sees_or))]
+fn at_first_parameter(input: &ParseBuffer<'_>) -> bool
+    ensures { result ≡ sees items.at_first_parameter input.now }
+{
+    input.peek::<Gt>() || at_parameter(input)
+}
+
+/// Whether generics stand next where a type may stand too.
+#[tactic(auto, using(crate::proofs::ParameterLooks::generics_seen))]
+pub fn at_generics(input: &ParseBuffer<'_>) -> bool
+    ensures { result ≡ sees grammar.at_generics input.now }
+{
+    input.peek::<Lt>() && input.peek2::<FirstParameter>()
+}
+
+/// What a type goes on with behind an identifier.
+struct TypeRest;
+
+impl Peek for TypeRest {
+    ghost look = { by items.at_type_rest };
+
+    ghost fault = { codes "expected the rest of a type" };
+
+    fn peek(input: &ParseBuffer<'_>) -> bool {
+        at_type_rest(input)
+    }
+
+    fn expected() -> &'static str {
+        "expected the rest of a type"
+    }
+}
+
+/// Whether what a type goes on with behind an identifier stands next: `::`, `<` and not `<=`, a group in parentheses, or `as`.
+#[tactic(auto, using(syn_grammar::proofs::Looks::sees_or))]
+fn at_type_rest(input: &ParseBuffer<'_>) -> bool
+    ensures { result ≡ sees items.at_type_rest input.now }
+{
+    input.peek::<PathSep>() || at_less_only(input) || input.peek::<Paren>() || input.peek::<As>()
+}
+
+/// Whether a parameter of generics stands next: `#`, a lifetime, `const`, or an identifier that no type goes on from.
+#[tactic(auto, using(crate::proofs::ParameterLooks::parameter_seen))]
+fn at_parameter(input: &ParseBuffer<'_>) -> bool
+    ensures { result ≡ sees grammar.at_parameter input.now }
+{
+    input.peek::<Pound>()
+        || input.peek::<Lifetime>()
+        || input.peek::<Const>()
+        || (input.peek::<Ident>() && !input.peek2::<TypeRest>())
+}
+
+/// Whether a path stands next by which a macro is no item.
+#[tactic(auto, using(crate::proofs::ItemLooks::no_macro_item_seen))]
+pub fn at_no_macro_item(input: &ParseBuffer<'_>) -> bool
+    ensures { result ≡ sees table.at_no_macro_item input.now }
+{
+    input.peek::<SelfType>() || (input.peek::<Default>() && input.peek2::<PathSep>())
+}
+
+/// Whether a string stands next. Refused only where memory is.
+#[tactic(auto, using(crate::proofs::Strings::string_seen, crate::proofs::Strings::no_string_seen))]
+pub fn at_str(input: &ParseBuffer<'_>) -> Parsed<bool>
+    ensures { OrMemory IsSyntax result (λ answer. answer ≡ sees (grammar.at_literal Str) input.now) }
+{
+    match input.fork().read::<Literal>() {
+        Ok(literal) => Ok(is_string(&literal)),
+        Err(Refusal::Memory) => Err(Refusal::Memory),
+        Err(Refusal::Syntax { .. }) => Ok(false),
+    }
+}
+
+/// Whether a literal is a string.
+pub(crate) fn is_string(literal: &Literal) -> bool
+    ensures { result ≡ is_string literal.now.kind }
+{
+    match literal.kind() {
+        LitKind::Str => true,
+        LitKind::ByteStr => false,
+        LitKind::CStr => false,
+        LitKind::Byte => false,
+        LitKind::Char => false,
+        LitKind::Int => false,
+        LitKind::Float => false,
+    }
+}
+
+/// Whether a word of a path stands next, and `::` behind it.
+#[tactic(auto, using(crate::proofs::MacroLooks::before_colons_seen))]
+pub fn is_before_colons(input: &ParseBuffer<'_>) -> bool
+    ensures { result ≡ sees (ahead Before_colons) input.now }
+{
+    at_path_word(input) && input.peek2::<PathSep>()
+}
+
+/// Whether the path of a macro stands next, or its rest behind a `:`. Refused only where memory is.
+pub fn is_before_macro(input: &ParseBuffer<'_>) -> Parsed<bool>
+    ensures { OrMemory IsSyntax result (λ answer. answer ≡ sees (ahead Before_macro) input.now) }
+{
+    if !at_lone_colon(input) {
+        return at_macro(input);
+    }
+    let mut behind = input.fork();
+    let _colon: Colon = behind.read()?;
+    if !at_path_word(&behind) {
+        return Ok(false);
+    }
+    at_macro(&behind)
+}
+
+/// Whether parentheses stand next that begin with `in`.
+#[tactic(auto, using(crate::proofs::Restricted::in_restriction_seen))]
+pub fn at_in_restriction(input: &ParseBuffer<'_>) -> bool
+    ensures { result ≡ sees plan.at_in_restriction input.now }
+{
+    match input.peek_group::<kind::Paren>() {
+        Some(content) => content.peek::<In>(),
+        None => false,
+    }
+}
+
+/// Whether parentheses stand next that hold `crate`, `self` or `super` alone.
+#[tactic(auto, using(crate::proofs::Restricted::lone_word_seen))]
+pub fn at_lone_word(input: &ParseBuffer<'_>) -> bool
+    ensures { result ≡ sees plan.at_lone_word input.now }
+{
+    match input.peek_group::<kind::Paren>() {
+        Some(content) => is_lone_word(&content),
+        None => false,
+    }
+}

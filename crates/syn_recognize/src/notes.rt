@@ -1,0 +1,124 @@
+//! What is noted of lists and plans by one reading, for those that write.
+
+use crate::late::Late;
+use std::alloc::{AllocError, Global};
+use std::collections::VecDeque;
+
+/// How what a plan reads is written.
+#[derive(Clone, Copy)]
+pub(crate) struct PlanNote {
+    /// It is kept as tokens.
+    pub(crate) kept: bool,
+    /// What stands behind the generics of its impl, or the self type, would be read as generics.
+    pub(crate) leads: bool,
+    /// How many lists were noted before it.
+    lists: usize,
+}
+
+/// What is noted, and what of it was used.
+#[derive(Drop)]
+pub struct Notes {
+    /// Of each list in `< >` that has some other member: the members behind its first other member that are printed first. The
+    /// lists stand in the order of these members. Printing takes them away from the front.
+    late: VecDeque<Vec<Late>>,
+    /// Of each plan, in the order of their beginnings; none of those that stand in one that is kept.
+    plans: Vec<PlanNote>,
+    /// How many plans were used.
+    used: usize,
+    alloc: Global,
+}
+
+impl Notes {
+    /// Nothing was noted.
+    pub(crate) fn none(alloc: Global) -> Notes {
+        Notes {
+            late: VecDeque::new(alloc),
+            plans: Vec::new(alloc),
+            used: 0,
+            alloc,
+        }
+    }
+
+    /// The same, of which no plan was used yet.
+    pub(crate) fn anew(self) -> Notes {
+        let Notes {
+            late,
+            plans,
+            alloc,
+            ..
+        } = self;
+        Notes {
+            late,
+            plans,
+            used: 0,
+            alloc,
+        }
+    }
+
+    /// One more list has another member than lifetimes: its number.
+    pub(crate) fn begin_list(&mut self) -> Result<usize, AllocError> {
+        let number = self.late.len();
+        self.late.push_back(Vec::new(self.alloc))?;
+        Ok(number)
+    }
+
+    /// Notes a late member of the list of this number.
+    pub(crate) fn note(&mut self, list: usize, late: Late) -> Result<(), AllocError> {
+        match self.late.get_mut(list) {
+            Some(noted) => Ok(noted.push(late)?),
+            None => Ok(()),
+        }
+    }
+
+    /// What was noted of the next list.
+    pub(crate) fn next_list(&mut self) -> Vec<Late> {
+        match self.late.pop_front() {
+            Some(noted) => noted,
+            None => Vec::new(self.alloc),
+        }
+    }
+
+    /// One more plan begins: its number.
+    pub(crate) fn begin_plan(&mut self) -> Result<usize, AllocError> {
+        let number = self.plans.len();
+        self.plans.push(PlanNote {
+            kept: false,
+            leads: false,
+            lists: self.late.len(),
+        })?;
+        Ok(number)
+    }
+
+    /// What was noted of the next plan.
+    pub(crate) fn next_plan(&mut self) -> PlanNote {
+        match self.plans.get(self.used) {
+            Some(noted) => {
+                let noted = *noted;
+                self.used += 1;
+                noted
+            }
+            None => PlanNote {
+                kept: false,
+                leads: false,
+                lists: 0,
+            },
+        }
+    }
+
+    /// What the plan of this number reads is kept as tokens: what was noted within it is forgotten.
+    pub(crate) fn note_kept(&mut self, plan: usize) {
+        self.plans.truncate(plan.saturating_add(1));
+        if let Some(noted) = self.plans.get_mut(plan) {
+            noted.kept = true;
+            let lists = noted.lists;
+            self.late.truncate(lists);
+        }
+    }
+
+    /// In the impl that the plan of this number reads generics would be read.
+    pub(crate) fn note_lead(&mut self, plan: usize) {
+        if let Some(noted) = self.plans.get_mut(plan) {
+            noted.leads = true;
+        }
+    }
+}

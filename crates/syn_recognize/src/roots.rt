@@ -1,0 +1,63 @@
+//! Trees of a use in braces that have `::` before them.
+ghost use Rattle.std.specs.Prelude.{◌≡◌, false};
+ghost use Rattle.syn_grammar.specs.Promises.{OrMemory};
+ghost use Rattle.syn_grammar.specs.Take.{before};
+ghost use Rattle.syn_parse.specs.Refusals.{IsSyntax};
+ghost use Rattle.syn_recognize.specs.RootMarks.{colon_entry, begins_entry};
+ghost use Rattle.syn_grammar.specs.ToldByTokens.{roots};
+
+use syn_parse::buffer::ParseBuffer;
+use syn_parse::read::refusal::{Parsed, Refusal};
+use syn_tokens::stream::TokenStream;
+use syn_tokens::stream::entry::{Entry, Token};
+
+/// Whether `::` stands before one of the trees in braces that were read from there on. Refused only where memory is.
+pub(crate) fn has_root_mark<'a>(begin: &ParseBuffer<'a>, input: &ParseBuffer<'a>) -> Parsed<bool>
+    ensures { OrMemory IsSyntax result (λ answer. answer ≡ roots false (before begin.now input.now)) }
+{
+    match begin.between(input) {
+        Ok(tokens) => Ok(has_root(&tokens)),
+        Err(_memory) => Err(Refusal::Memory),
+    }
+}
+
+/// Whether `:` stands at the beginning of a group among these tokens, or behind a comma.
+#[tactic(auto, using(crate::proofs::RootMarks::roots_are, crate::proofs::RootMarks::roots_step, crate::proofs::RootMarks::roots_done))]
+fn has_root(tokens: &TokenStream) -> bool
+    ensures { result ≡ roots false tokens.now }
+{
+    let mut begins = false;
+    for entry in tokens.entries() {
+        if begins && is_colon(entry) {
+            return true;
+        }
+        begins = begins_tree(entry);
+    }
+    false
+}
+
+/// Whether it is `:`.
+fn is_colon(entry: &Entry) -> bool
+    ensures { result ≡ colon_entry entry.now }
+{
+    match entry.token() {
+        Token::Punct(punct) => punct.character() == ':',
+        Token::Ident(_) => false,
+        Token::Literal(_) => false,
+        Token::Open(_) => false,
+        Token::Close(_) => false,
+    }
+}
+
+/// Whether a tree begins behind it: the opening delimiter of a group, or a comma.
+fn begins_tree(entry: &Entry) -> bool
+    ensures { result ≡ begins_entry entry.now }
+{
+    match entry.token() {
+        Token::Punct(punct) => punct.character() == ',',
+        Token::Open(_) => true,
+        Token::Ident(_) => false,
+        Token::Literal(_) => false,
+        Token::Close(_) => false,
+    }
+}

@@ -1,0 +1,92 @@
+//! The name of a parameter, which is supplied where none is written.
+ghost use Rattle.std.specs.Prelude.{◌≡◌, true, OnOk};
+ghost use Rattle.syn_grammar.specs.Tokens.{Before_less};
+ghost use Rattle.syn_grammar.specs.Grammar.{at_unnamed};
+ghost use Rattle.syn_grammar.specs.Take.{sees};
+ghost use Rattle.syn_parse.specs.Refusals.{IsSyntax};
+ghost use Rattle.syn_recognize.specs.Forms.{grammar_of};
+ghost use Rattle.syn_recognize.specs.Supplied.{supplied_form, typed_form, Unnamed};
+ghost use Rattle.syn_recognize.specs.Copies.{copy_form};
+ghost use Rattle.syn_recognize.specs.Steps.{Steps};
+
+use crate::form::Form;
+use crate::item_looks::at_unnamed;
+use crate::look::Look;
+use crate::rules::Rule;
+use crate::step::Step;
+use crate::words::Mark;
+use crate::writer::Writer;
+use std::alloc::AllocError;
+use syn_parse::buffer::ParseBuffer;
+use syn_parse::read::refusal::Parsed;
+use syn_tokens::punct::Spacing;
+
+/// What stands behind the name of a parameter and its colon.
+#[derive(Clone, Copy)]
+pub enum Nameless {
+    /// A type.
+    Argument,
+    /// `...`, or a type and the parameters behind it.
+    Input,
+}
+
+static PATTERN: Form = Form::Rule(Rule::Pattern);
+
+static COLON: Form = Form::Mark(Mark::Colon);
+
+static ARGUMENT: Form = Form::Rule(Rule::Type);
+
+static INPUT: Form = Form::When(
+    Look::Mark(Mark::DotDotDot),
+    &Form::Rule(Rule::Variadic),
+    &Form::Then(
+        &Form::Rule(Rule::Type),
+        &Form::When(
+            Look::Mark(Mark::Comma),
+            &Form::Then(&Form::Mark(Mark::Comma), &Form::Rule(Rule::LaterInputs)),
+            &Form::Empty,
+        ),
+    ),
+);
+
+/// What stands behind the name and its colon, as a form.
+fn typed(nameless: Nameless) -> &'static Form
+    ensures { grammar_of result.now ≡ typed_form nameless }
+{
+    match nameless {
+        Nameless::Argument => &ARGUMENT,
+        Nameless::Input => &INPUT,
+    }
+}
+
+/// Reads a pattern, a colon and what stands behind them. Where a name stands before `<`, this stands alone, and `_ :` is written before it.
+pub(crate) fn read_supplied<'a>(
+    nameless: Nameless,
+    steps: &mut Vec<Step<'a>>,
+    out: &mut Writer,
+    input: &ParseBuffer<'a>,
+) -> Parsed<()>
+    ensures { Steps IsSyntax steps.old.items (copy_form (supplied_form nameless) out.old input.now) result steps.new.items out.new input.now }
+{
+    if at_unnamed(input) {
+        write_unnamed(out, input)?;
+        steps.push(Step::Form(typed(nameless)))?;
+        return Ok(());
+    }
+    steps.push(Step::Form(typed(nameless)))?;
+    steps.push(Step::Form(&COLON))?;
+    steps.push(Step::Form(&PATTERN))?;
+    Ok(())
+}
+
+/// Writes `_ :`, with the span of the name that stands next.
+#[tactic(auto, unfolding(syn_tokens::specs::Punct::is_punct_character))]
+fn write_unnamed(out: &mut Writer, input: &ParseBuffer<'_>) -> Result<(), AllocError>
+    requires { sees (at_unnamed Before_less) input.now ≡ true }
+    ensures { OnOk result (Unnamed out.old input.now out.new) }
+{
+    let span = input.span();
+    out.write_word("_", span)?;
+    out.write_punct(':', Spacing::Alone, span)?;
+    Ok(())
+}

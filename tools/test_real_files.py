@@ -1,0 +1,36 @@
+#!/usr/bin/env python3
+"""Tests of real_files.py: which items it finds in a file, and where they begin and end."""
+
+import unittest
+
+from real_files import items_of, line_at, place
+from real_inputs import trees
+from test_real_inputs import line_of
+
+
+def found(text):
+    return [text[start:end] for start, end in items_of(trees(line_of(text)))]
+
+
+class Items(unittest.TestCase):
+    def test_each_item_of_a_file(self):
+        items = ["#[a] pub(crate) use a::{b, c};", "const C: u8 = a < b;", "fn f() -> T<{ N }> { ; }", "impl<T> A<T> for B {}", "m! { a; }", "mod m;"]
+        self.assertEqual(found(" ".join(items)), items)
+
+    def test_inner_attributes_belong_to_no_item(self):
+        self.assertEqual(found("#![a] #![b(c)] struct S; enum E {}"), ["struct S;", "enum E {}"])
+
+    def test_what_is_in_braces_is_no_end_of_a_value(self):
+        items = ["static S: T = T { a: 1 };", "type A = [u8; { 1 }];", "const fn f() {}", "extern crate a;", "extern fn g() {}"]
+        self.assertEqual(found(" ".join(items)), items)
+
+    def test_what_has_no_end_is_left_out(self):
+        self.assertEqual(found("struct S; use a"), ["struct S;"])
+
+    def test_the_line_of_a_refusal(self):
+        self.assertEqual(place("refused at 12: expected `;`"), 12)
+        self.assertEqual(line_at(b"a\n  b  c\nd", 5), "b c")
+
+
+if __name__ == "__main__":
+    unittest.main()
