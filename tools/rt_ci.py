@@ -53,7 +53,7 @@ SECONDS = {
     "syn_expr_parse": 1200,
     "syn_expr": 5300,
     "syn_tree": 1200,
-    "syn_item": 2500,
+    "syn_item": 3100,
     "syn_reader": 280,
     "syn": 270,
     "syn_canon": 140,
