@@ -40,23 +40,23 @@ TOP = Path(__file__).resolve().parent.parent
 # The crates that only test or measure.
 BESIDE = ("syn_outlines", "syn_tokens_tests", "syn_reader_tests", "syn_answers_tests", "syn_item_tests", "syn_test_support", "syn_tests", "check_rows", "tree_answers", "syn_bench")
 
-# What the proof of a crate took, in seconds of processor: the tasks are ordered by it, and those of other crates by their lines, which
+# What the proof of a crate took, or as reckoned takes (syn_expr, syn_item), in seconds of processor: the tasks are ordered by it, and those of other crates by their lines, which
 # are about as many, but for what owns trees. It needn't be exact.
 SECONDS = {
     "syn_grammar": 80,
     "syn_tokens": 480,
     "syn_parse": 280,
-    "syn_recognize": 1000,
-    "syn_answers": 50,
-    "syn_lower": 2300,
-    "syn_pat": 900,
-    "syn_expr_parse": 1200,
-    "syn_expr": 5300,
-    "syn_tree": 1200,
-    "syn_item": 3100,
+    "syn_recognize": 2000,
+    "syn_answers": 400,
+    "syn_lower": 3300,
+    "syn_pat": 1400,
+    "syn_expr_parse": 2100,
+    "syn_expr": 7000,
+    "syn_tree": 1700,
+    "syn_item": 6500,
     "syn_reader": 280,
     "syn": 270,
-    "syn_canon": 140,
+    "syn_canon": 330,
     "statement_macro": 480,
     "list_fields": 400,
     "list_items": 400,
