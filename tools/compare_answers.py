@@ -55,14 +55,17 @@ ESCAPES = {"n": "\n", "t": "\t", "s": " ", "\\": "\\", "e": ""}
 COUNT = re.compile(r"(\d+) ([a-z ]+)")
 
 
-def conformance_texts(path, stage):
-    """What the cases that have answers at the stage give to the program, where that is text; each once, with the kinds that are named."""
+def live_cases(path, stage):
+    """The cases that have answers at the stage, and are text."""
     cases = map(json.loads, path.read_text(encoding="utf-8").splitlines())
-    live = [case for case in cases if case["stage"] <= stage and (case["until"] is None or stage <= case["until"])]
+    return [case for case in cases if "stdin" in case and case["stage"] <= stage and (case["until"] is None or stage <= case["until"])]
+
+
+def conformance_texts(path, stage):
+    """What the cases that have answers at the stage give to the program; each once, with the kinds that are named."""
     texts = {}
-    for case in live:
-        if "stdin" in case:
-            texts.setdefault(case["stdin"], []).append(kind_of(case["args"]))
+    for case in live_cases(path, stage):
+        texts.setdefault(case["stdin"], []).append(kind_of(case["args"]))
     return list(texts.items())
 
 
@@ -71,12 +74,18 @@ def kind_of(words):
     return words[1] if len(words) == 2 and words[1] in WORDS else "file"
 
 
-def row_texts(path):
-    """What the lines of the rows stand for; no kind is named."""
+def row_sections(path):
+    """The heading of each section of rows, and what the lines behind it stand for."""
     for section in path.read_text(encoding="utf-8").split("\n\n"):
         lines = list(itertools.dropwhile(lambda line: line.startswith("#"), section.splitlines()))
-        for line in lines[1:]:
-            yield re.sub(r"\\(.)", lambda found: ESCAPES[found[1]], line.removeprefix("    ")), []
+        if lines:
+            yield lines[0], [re.sub(r"\\(.)", lambda found: ESCAPES[found[1]], line.removeprefix("    ")) for line in lines[1:]]
+
+
+def row_texts(path):
+    """What the lines of the rows stand for; no kind is named."""
+    for _, texts in row_sections(path):
+        yield from ((text, []) for text in texts)
 
 
 def random_texts(folder, stage, count, seed):
@@ -106,18 +115,22 @@ def asked_as(texts, seed, every):
         yield text, [] if every else sorted({*words, *others})
 
 
+def packed(lines, size=CHUNK):
+    """The lines, as many together as one run takes."""
+    pack, length = [], 0
+    for line in lines:
+        if pack and length + len(line) > size:
+            yield "".join(pack)
+            pack, length = [], 0
+        pack.append(line)
+        length += len(line)
+    if pack:
+        yield "".join(pack)
+
+
 def chunks(texts, size=CHUNK):
     """The lines of the texts, as many together as one run takes."""
-    lines, length = [], 0
-    for text, words in texts:
-        line = " ".join([text.encode().hex(), *words]) + "\n"
-        if lines and length + len(line) > size:
-            yield "".join(lines)
-            lines, length = [], 0
-        lines.append(line)
-        length += len(line)
-    if lines:
-        yield "".join(lines)
+    return packed((" ".join([text.encode().hex(), *words]) + "\n" for text, words in texts), size)
 
 
 def gathered(options):
@@ -144,8 +157,8 @@ def asked(program, inputs):
     return [(run.returncode, run.stdout) for run in runs]
 
 
-def tried(inputs):
-    """The same of one trial build."""
+def tried(inputs, crate=CRATE):
+    """The same of one trial build of the crate."""
     with tempfile.TemporaryDirectory(prefix="compare_answers-") as folder:
         room = Path(folder)
         try_tests.copied(TOP, room)
@@ -154,7 +167,7 @@ def tried(inputs):
             (room / f"cases/{number:04}").write_text(text)
         # the steps are the interpreter's, which wouldn't get to the end; the compiled program answers
         words = ["--steps", "1000", "--cases", str(room / "cases")]
-        wrote, said, _ = try_tests.called(words, room / "crates" / CRATE, SECONDS)
+        wrote, said, _ = try_tests.called(words, room / "crates" / crate, SECONDS)
     statuses = re.findall(r"(?m)^case=\d+ run=ended status=(\d+) ", said)
     parts = re.split(r"(?m)^== \d+\n", wrote.decode())[1:]
     if len(statuses) != len(inputs) or len(parts) != len(inputs):

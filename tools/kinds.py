@@ -21,6 +21,7 @@ and beside them:
     docs/GRAMMAR.md                     the table of rules, each in the words above it, with what reads it
     crates/syn_canon                    src/kind.rt, src/by_kind.rt, specs/Kinds.antt: the program's list of kinds
     crates/tree_answers/src/by_kind.rt  the same kinds, by their trees and by their rules
+    crates/cut_streams/src/by_kind.rt   the same of all types that are read by one rule
 
 What is odd is written by hand, and then left out here: a `view_X` in a file of specs/, or an `impl TryClone for X`, `impl Compared
 for X` .. in a file of src/. A struct with a `syntax_of_X` of its own has no `Model`, unless it has a `view_X` too: then that is
@@ -34,7 +35,7 @@ from pathlib import Path
 from kindslib.grammar import rows
 from kindslib.impls import comparisons, copies, prints
 from kindslib.lists import comma_lists
-from kindslib.program import canonical, comparisons_of_answers, dispatch, kind_enum, kind_specs
+from kindslib.program import answers_of_streams, canonical, comparisons_of_answers, dispatch, kind_enum, kind_specs
 from kindslib.source import LOWEST, Fault, Source
 from kindslib.views import endings, plain_views
 
@@ -104,6 +105,9 @@ OTHERS = [
     ("WherePredicate", "predicate"),
 ]
 
+# what is read by one rule, but without the node around it that the rule makes: the type, the rule
+INNER = [("Expr", "whole_expression")]
+
 # lists with one value at least, which end with one
 JOINED = {("Path", "segments")}
 
@@ -170,6 +174,7 @@ def outputs():
     files[CRATES / "syn_canon/src/by_kind.rt"] = dispatch(KINDS)
     files[CRATES / "syn_canon/specs/Kinds.antt"] = kind_specs(KINDS)
     files[CRATES / "tree_answers/src/by_kind.rt"] = comparisons_of_answers(trees, KINDS)
+    files[CRATES / "cut_streams/src/by_kind.rt"] = answers_of_streams(trees, [kind[1:] for kind in KINDS] + OTHERS + INNER)
     return files
 
 

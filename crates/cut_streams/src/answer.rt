@@ -1,0 +1,105 @@
+//! What is answered about a stream.
+
+use crate::failure::Failure;
+use std::alloc::Global;
+use syn::parse::{Parse, ParseBuffer, parse2};
+use syn::reader::token_text;
+use syn::token::TokenStream;
+use syn::{Result, ToTokens};
+use syn_answers::answers::{canonical_by, derived_by};
+use syn_recognize::Rule;
+
+/// What is answered about a stream as one kind.
+#[derive(Drop)]
+pub(crate) enum Answer {
+    /// It is read as a tree that prints this text.
+    Accepted(String),
+    Refused,
+    /// Memory is refused to trees.
+    Memory,
+    /// What doesn't hold of it that holds of every stream.
+    Broken(&'static str),
+}
+
+/// What is answered about the stream as a `T`, which this rule reads.
+pub(crate) fn answer<T: Parse + ToTokens + Drop>(
+    rule: Rule,
+    tokens: &TokenStream,
+) -> std::result::Result<Answer, Failure> {
+    let broken = match printed::<T>(tokens) {
+        Ok(print) => match fault_of_print::<T>(rule, tokens, &print)? {
+            None => return Ok(Answer::Accepted(token_text(&print)?)),
+            Some(fault) => fault,
+        },
+        Err(error) if error.is_memory() => return Ok(Answer::Memory),
+        Err(_) => match fault_of_refusal::<T>(rule, tokens)? {
+            None => return Ok(Answer::Refused),
+            Some(fault) => fault,
+        },
+    };
+    Ok(Answer::Broken(broken))
+}
+
+/// What the tree prints that the whole stream is read as.
+fn printed<T: Parse + ToTokens + Drop>(tokens: &TokenStream) -> Result<TokenStream> {
+    let alloc = tokens.alloc();
+    let tree: T = parse2(tokens.try_clone(alloc)?)?;
+    let mut print = TokenStream::new(alloc);
+    tree.to_tokens(&mut print)?;
+    Ok(print)
+}
+
+/// What doesn't hold of an accepted stream with this print: the print is read again, and prints itself; and without trees the stream is
+/// read and printed so too.
+fn fault_of_print<T: Parse + ToTokens + Drop>(
+    rule: Rule,
+    tokens: &TokenStream,
+    print: &TokenStream,
+) -> std::result::Result<Option<&'static str>, Failure> {
+    let alloc = tokens.alloc();
+    let fault = match read(printed::<T>(print))? {
+        None => Some("its print is refused"),
+        Some(again) if again != *print => Some("its print has another print"),
+        Some(_) if read(derived_by(rule, tokens.try_clone(alloc)?))?.is_none() => {
+            Some("it is refused without trees")
+        }
+        Some(_) => match read(canonical_by(rule, tokens.try_clone(alloc)?))? {
+            None => Some("it has no print without trees"),
+            Some(by_rule) if by_rule != *print => Some("it has another print without trees"),
+            Some(_) => None,
+        },
+    };
+    Ok(fault)
+}
+
+/// What doesn't hold of a refused stream: the buffer stands where it stood, unless a tree stands at its front; and without trees it is
+/// refused too.
+fn fault_of_refusal<T: Parse + Drop>(
+    rule: Rule,
+    tokens: &TokenStream,
+) -> std::result::Result<Option<&'static str>, Failure> {
+    let alloc = tokens.alloc();
+    let mut input = ParseBuffer::new(tokens);
+    let front = read(input.parse::<T>())?;
+    let fault = if front.is_some() && input.is_empty() {
+        Some("its front is the whole of it")
+    } else if front.is_none() && input.rest()? != *tokens {
+        Some("the buffer has moved")
+    } else if read(derived_by(rule, tokens.try_clone(alloc)?))?.is_some() {
+        Some("it is read without trees")
+    } else if read(canonical_by(rule, tokens.try_clone(alloc)?))?.is_some() {
+        Some("it has a print without trees")
+    } else {
+        None
+    };
+    Ok(fault)
+}
+
+/// What was read; none where it was refused.
+fn read<T: Drop>(found: Result<T>) -> std::result::Result<Option<T>, Failure> {
+    match found {
+        Ok(value) => Ok(Some(value)),
+        Err(error) if error.is_memory() => Err(Failure::OutOfMemory),
+        Err(_) => Ok(None),
+    }
+}

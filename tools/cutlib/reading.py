@@ -1,0 +1,121 @@
+"""The other reading of the grammar, which stands beside the repository: what is answered about a stream or a text."""
+import re
+
+from fuzz_reader import Oracle
+from kinds import KINDS
+
+from .streams import CLOSING, OPENING, is_mark
+
+# The program's word of each type that has one.
+WORDS = {name: word for word, name, _ in KINDS}
+
+
+def present(function):
+    """The function, refusing where it gives nothing."""
+    def read(cursor):
+        found = function(cursor)
+        if found is None:
+            raise cursor.err()
+        return found
+    return read
+
+
+def of_kind(function, name):
+    """The function, refusing where it gives another kind of nodes."""
+    def read(cursor):
+        found = function(cursor)
+        if found.k != name:
+            raise cursor.err()
+        return found
+    return read
+
+
+def parsers(other):
+    """The function of the other reading by which each type is read, by the type's name."""
+    found = {name: other.KINDS[word][0] for name, word in WORDS.items()}
+    found |= {"".join(map(str.capitalize, word.split("-"))): function for word, (function, _) in other.API_KINDS.items()}
+    return found | {
+        "Abi": present(other.p_abi),
+        "LifetimeParam": other.p_lifetime_param,
+        "Macro": lambda cursor: other.p_macro_rest(cursor, other.p_path(cursor, "mod")),
+        "Pat": other.p_pat,
+        "Path": lambda cursor: other.p_path(cursor, "type"),
+        "ReturnType": other.p_return_type,
+        "TypeParamBound": other.p_bound,
+        "TypePath": of_kind(other.p_type, "TypePath"),
+        "WherePredicate": other.p_predicate,
+    }
+
+
+class Reading:
+    """The other reading, at a stage of the grammar."""
+
+    def __init__(self, folder, stage):
+        self.other, self.stage = Oracle(folder).module, stage
+        self.other.STAGE = stage
+        self.parsers = parsers(self.other)
+
+    def words(self, text):
+        """The words of the tokens that the text spells; none where it is refused as text."""
+        try:
+            return list(self.words_of(self.other.read_tokens(text)))
+        except self.other.SynErr:
+            return None
+
+    def words_of(self, trees):
+        for tree in trees:
+            if isinstance(tree, self.other.Group):
+                yield tree.delim
+                yield from self.words_of(tree.trees)
+                yield CLOSING[tree.delim]
+            elif isinstance(tree, self.other.Punct):
+                yield ("+" if tree.joint else "-") + tree.ch
+            else:
+                yield f"{getattr(tree, 'kind', 'Ident')}:{tree.text.encode().hex()}"
+
+    def trees(self, words):
+        """The token trees of these words. The span of each token is its place among them."""
+        level, around = [], []
+        for at, word in enumerate(words):
+            if word in CLOSING:
+                level.append(self.other.Group(word, [], at, at + 1))
+                around.append(level)
+                level = level[-1].trees
+            elif word in OPENING:
+                level = around.pop()
+                level[-1].cs, level[-1].ce = at, at + 1
+            else:
+                level.append(self.token(word, at))
+        return level
+
+    def token(self, word, at):
+        if is_mark(word):
+            return self.other.Punct(word[1:], word[0] == "+", at, at + 1)
+        kind, digits = word.split(":")
+        text = bytes.fromhex(digits).decode()
+        return self.other.Ident(text, at, at + 1) if kind == "Ident" else self.other.Lit(kind, text, at, at + 1)
+
+    def print(self, kind, words):
+        """The text that the stream of these words prints as this kind; none where it is refused."""
+        other, trees = self.other, self.trees(words)
+        other.MEMO.clear()
+        other.KEEP.clear()
+        cursor = other.Cur(trees, other.end_of(trees))
+        try:
+            tree = self.parsers[kind](cursor)
+            cursor.finish()
+        except other.SynErr:
+            return None
+        return other.token_text(other.flat(tree))
+
+    def run(self, kind, text):
+        """How the program ends that prints the bytes as this kind: its status, what it writes, and what it says of a refusal, or none
+        where of that only the form is known."""
+        status, output, faults, is_known = self.other.run(["print", WORDS[kind]], text, self.stage)
+        return status, output, faults if is_known else None
+
+
+def is_but_for_empty_generics(left, right):
+    """Whether two prints are the same but for `< >` behind `impl`."""
+    bare = [re.sub(r"\bimpl < > ", "impl ", each) for each in (left, right)]
+    return left != right and bare[0] == bare[1]

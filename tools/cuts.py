@@ -1,0 +1,185 @@
+#!/usr/bin/env python3
+"""Asks what is read of streams and texts that are cut short or changed, and compares it with another reading of the grammar.
+
+    tools/cuts.py streams [--bin PROGRAM]           by the program `cut_streams`, built by trial, or PROGRAM
+    tools/cuts.py texts [--bin PROGRAM] [--jobs N]  by `syn_canon` as `rt ci` or `./run --prove` has built it, or PROGRAM
+    --part I/N                                      of N parts of the texts the I-th
+
+Both begin with the texts that rows of `check_rows` and the conformance cases say are read, each as its kind. Of the tokens of each,
+`streams` makes
+
+- cuts: the first tokens, none of them to all, where a group's two signs are one token, and what is open there is closed;
+- `@`: that mark as the last tree of one group;
+- delimiters: one group with another delimiter;
+- spacings: every mark Joint, every mark Alone, and one mark otherwise than it is.
+
+The stream has to be read or refused, and to print, as the other reading says; and what holds of each stream has to hold of it (the
+program's src/main.rt tells what). `texts` gives to the program
+
+- prefixes: the first bytes of each text, none of them to all; it has to end as the other reading says;
+- failing reads and writes: each text in pieces of a few bytes, the first call failing, then the second, until a run meets no failure.
+  A run that meets one has to end with status 1 and `read failed` or `write failed`.
+
+One difference is known, and counted by itself: `< >` behind `impl`, which is printed where the other reading has none, or the reverse.
+The status is 0 where nothing else differs, 1 where something does, and 2 where nothing could be compared.
+
+The other reading and the cases stand beside the repository. Without the cases rows alone are taken.
+"""
+import argparse
+import os
+import re
+import subprocess
+import sys
+import tempfile
+from collections import Counter
+from concurrent.futures import ThreadPoolExecutor
+from pathlib import Path
+
+from compare_answers import CONFORMANCE, ORACLE, ROWS, STAGE, asked, packed, there, tried
+from cutlib.inputs import of_cases, of_rows, part_of
+from cutlib.reading import WORDS, Reading, is_but_for_empty_generics
+from cutlib.streams import SWEEPS
+from cutlib.texts import beginnings, built_library, ended, failures, verdict
+
+TOP = Path(__file__).resolve().parent.parent
+CRATE = "cut_streams"
+PROGRAM = TOP / "crates/syn_canon/out/syn_canon"
+# How many differences are shown.
+SHOWN = 30
+# What isn't a difference.
+AGREED = ("ok", "refused", "empty generics")
+
+
+class Tally:
+    """How the answers of each sweep were, and what differs."""
+
+    def __init__(self):
+        self.counts, self.differences = {}, []
+
+    def add(self, sweep, what, found):
+        """Counts an answer: one of those agreed, or what is wrong in words."""
+        counts = self.counts.setdefault(sweep, Counter())
+        counts[found if found in AGREED else "differ"] += 1
+        if found not in AGREED:
+            self.differences.append(f"{sweep}, {what}: {found}")
+
+    def told(self):
+        """The differences, as far as they are shown, and a line of what was counted."""
+        parts = [f"{sweep} {counts.total()}: " + ", ".join(f"{counts[how]} {how}" for how in AGREED if counts[how]) for sweep, counts in self.counts.items()]
+        return [*self.differences[:SHOWN], "; ".join([*parts, f"{len(self.differences)} differ"])]
+
+
+def part(text):
+    """The numbers of `I/N`."""
+    found = re.fullmatch(r"(\d+)/(\d+)", text)
+    if not found or not 1 <= int(found[1]) <= int(found[2]):
+        raise argparse.ArgumentTypeError(f"{text} is no part as 1/3")
+    return int(found[1]), int(found[2])
+
+
+def inputs_of(options):
+    """The inputs of the part that is asked for."""
+    inputs = [*of_rows(ROWS)]
+    if there(options.conformance, "the conformance cases"):
+        inputs += of_cases(options.conformance, options.stage)
+    return part_of(inputs, *options.part)
+
+
+def changed_streams(inputs, reading):
+    """What is made of the streams of the inputs: the sweep, the kind and the words. An input that the other reading refuses is an error."""
+    for each in inputs:
+        words = reading.words(each.text)
+        if words is None or reading.print(each.kind, words) is None:
+            raise RuntimeError(f"the other reading refuses {each.text!r} as {each.kind}")
+        for sweep, change in SWEEPS.items():
+            yield from ((sweep, each.kind, changed) for changed in change(words))
+
+
+def line_of(kind, words):
+    return " ".join([kind, *words])
+
+
+def answers_of(lines, program):
+    """The program's answer to each line. What it answers to the lines of its own input is compared with what is stored."""
+    folder = TOP / "crates" / CRATE
+    stored = [(folder / name).read_text(encoding="utf-8") for name in ("stdin", "stdout")]
+    inputs = [stored[0], *packed([line + "\n" for line in lines])]
+    ran = asked(program, inputs) if program else tried(inputs, CRATE)
+    if ran[0] != (0, stored[1]):
+        raise RuntimeError(f"its own input is answered otherwise than its file stdout says: {ran[0]!r}")
+    answers = [answer for status, wrote in ran[1:] for answer in wrote.splitlines() if status == 0]
+    if len(answers) != len(lines):
+        raise RuntimeError(f"{len(answers)} answers to {len(lines)} streams")
+    return dict(zip(lines, answers))
+
+
+def judged(answer, print_of_other):
+    """How the program's answer and the print of the other reading, or none, compare."""
+    word, _, rest = answer.partition(" ")
+    if word == "refused" and print_of_other is None:
+        return "refused"
+    if word != "ok" or print_of_other is None:
+        return f"{answer if word != 'ok' else bytes.fromhex(rest).decode()!r} in place of {print_of_other!r}"
+    text = bytes.fromhex(rest).decode()
+    if text == print_of_other:
+        return "ok"
+    return "empty generics" if is_but_for_empty_generics(text, print_of_other) else f"{text!r} in place of {print_of_other!r}"
+
+
+def streams(options, reading):
+    """Compares the answers about changed streams."""
+    changed = list(changed_streams(inputs_of(options), reading))
+    answers = answers_of(list(dict.fromkeys(line_of(kind, words) for _, kind, words in changed)), options.bin)
+    tally, known = Tally(), {}
+    for sweep, kind, words in changed:
+        line = line_of(kind, words)
+        if line not in known:
+            known[line] = judged(answers[line], reading.print(kind, words))
+        tally.add(sweep, line, known[line])
+    return tally
+
+
+def texts(options, reading):
+    """Compares how the program ends on beginnings of texts, and sees how it ends where a call fails."""
+    program, tally = options.bin or str(PROGRAM), Tally()
+    inputs = [each for each in inputs_of(options) if each.kind in WORDS]
+    cut = list(dict.fromkeys((each.kind, data) for each in inputs for data in beginnings(each.text)))
+    with tempfile.TemporaryDirectory(prefix="cuts-") as folder, ThreadPoolExecutor(options.jobs) as pool:
+        for (kind, data), found in zip(cut, pool.map(lambda it: ended(program, *it), cut)):
+            tally.add("prefixes", f"{kind} {data!r}", verdict(found, reading.run(kind, data)))
+        library = built_library(folder)
+        for call in ("read", "write"):
+            for each, (count, wrong) in zip(inputs, pool.map(lambda it: failures(program, library, it.kind, it.text.encode(), call), inputs)):
+                for _ in range(count):
+                    tally.add(f"failing {call}s", "", "ok")
+                if wrong:
+                    tally.add(f"failing {call}s", f"{each.kind} {each.text!r}", wrong)
+    return tally
+
+
+def parsed_words():
+    parser = argparse.ArgumentParser(description=__doc__, formatter_class=argparse.RawDescriptionHelpFormatter)
+    parser.add_argument("what", choices=("streams", "texts"), help="what is cut")
+    parser.add_argument("--bin", help="the program, built")
+    parser.add_argument("--part", type=part, default=(1, 1), metavar="I/N", help="of N parts the I-th (1/1)")
+    parser.add_argument("--jobs", type=int, default=len(os.sched_getaffinity(0)), help="how many runs of `texts` go on side by side")
+    parser.add_argument("--stage", type=int, default=STAGE, help=f"how much of the grammar is built ({STAGE})")
+    parser.add_argument("--conformance", type=Path, default=CONFORMANCE, help="the file of cases with answers")
+    parser.add_argument("--oracle", type=Path, default=ORACLE, help="the folder of the other reading")
+    return parser.parse_args()
+
+
+def main():
+    options = parsed_words()
+    try:
+        tally = {"streams": streams, "texts": texts}[options.what](options, Reading(options.oracle, options.stage))
+    except (OSError, RuntimeError, subprocess.SubprocessError) as error:
+        print(f"cuts: {error}", file=sys.stderr)
+        sys.exit(2)
+    for line in tally.told():
+        print(line)
+    sys.exit(1 if tally.differences or not tally.counts else 0)
+
+
+if __name__ == "__main__":
+    main()
