@@ -6,7 +6,7 @@ use syn::parse::{Parse, ParseBuffer, parse2};
 use syn::reader::token_text;
 use syn::token::TokenStream;
 use syn::{Result, ToTokens};
-use syn_answers::answers::{canonical_by, derived_by};
+use syn_answers::answers::canonical_by;
 use syn_recognize::Rule;
 
 /// What is answered about a stream as one kind.
@@ -60,11 +60,8 @@ fn fault_of_print<T: Parse + ToTokens + Drop>(
     let fault = match read(printed::<T>(print))? {
         None => Some("its print is refused"),
         Some(again) if again != *print => Some("its print has another print"),
-        Some(_) if read(derived_by(rule, tokens.try_clone(alloc)?))?.is_none() => {
-            Some("it is refused without trees")
-        }
         Some(_) => match read(canonical_by(rule, tokens.try_clone(alloc)?))? {
-            None => Some("it has no print without trees"),
+            None => Some("it is refused without trees"),
             Some(by_rule) if by_rule != *print => Some("it has another print without trees"),
             Some(_) => None,
         },
@@ -85,10 +82,8 @@ fn fault_of_refusal<T: Parse + Drop>(
         Some("its front is the whole of it")
     } else if front.is_none() && input.rest()? != *tokens {
         Some("the buffer has moved")
-    } else if read(derived_by(rule, tokens.try_clone(alloc)?))?.is_some() {
-        Some("it is read without trees")
     } else if read(canonical_by(rule, tokens.try_clone(alloc)?))?.is_some() {
-        Some("it has a print without trees")
+        Some("it is read without trees")
     } else {
         None
     };
