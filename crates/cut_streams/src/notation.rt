@@ -19,12 +19,7 @@ pub(crate) fn stream_of(alloc: Global, words: &str) -> Result<TokenStream, Failu
 }
 
 /// Adds what the word stands for; an empty one stands for nothing.
-fn add_word(
-    alloc: Global,
-    word: &str,
-    span: Span,
-    out: &mut StreamBuilder,
-) -> Result<(), Failure> {
+fn add_word(alloc: Global, word: &str, span: Span, out: &mut StreamBuilder) -> Result<(), Failure> {
     match word {
         "" => {}
         "(" => out.open(Delimiter::Paren, span)?,
