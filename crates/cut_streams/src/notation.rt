@@ -65,12 +65,13 @@ fn add_mark(
     out: &mut StreamBuilder,
 ) -> Result<(), Failure> {
     let mut characters = mark.chars();
-    match (characters.next(), characters.next()) {
-        (Some(character), None) if Punct::is_punct_character(character) => {
-            Ok(out.add_punct(character, spacing, span)?)
-        }
-        _ => Err(Failure::Broken),
+    let (Some(character), None) = (characters.next(), characters.next()) else {
+        return Err(Failure::Broken);
+    };
+    if !Punct::is_punct_character(character) {
+        return Err(Failure::Broken);
     }
+    Ok(out.add_punct(character, spacing, span)?)
 }
 
 /// The text whose bytes these hex digits are.
