@@ -8,7 +8,7 @@ from pathlib import Path
 from kindslib.grammar import HEAD, rows
 from kindslib.impls import comparisons, copies, import_lines, prints
 from kindslib.lists import comma_lists, list_rules
-from kindslib.program import canonical, comparisons_of_answers, dispatch, kind_enum, kind_specs
+from kindslib.program import answers_of_streams, canonical, comparisons_of_answers, dispatch, kind_enum, kind_specs
 from kindslib.source import MARK, Fault, Source
 from kindslib.views import endings, plain_views
 
@@ -312,6 +312,27 @@ table entry =
         self.assertIn("use syn::canon::Wrapped;\n", text)
         self.assertIn("use syn_tree::things::Thing;\n", text)
         self.assertIn('    compare::<Thing>(case, "a-thing", Rule::AThing, tally)?;\n    compare::<Wrapped>(case, "wrapped", Rule::Thing, tally)?;\n', text)
+
+    def test_a_stream_is_asked_about_as_each_kind(self):
+        text = answers_of_streams(self.crate(), [("Thing", "a_thing"), ("Wrapped", "thing"), ("Item", "item")], at_once=2)
+        self.assertIn("use syn::canon::{Item, Wrapped};\n", text)
+        self.assertIn("""
+pub(crate) fn answer_as(kind: &str, tokens: &TokenStream) -> Result<Answer, Failure> {
+    match kind {
+        "Thing" => answer::<Thing>(Rule::AThing, tokens),
+        "Wrapped" => answer::<Wrapped>(Rule::Thing, tokens),
+        _ => answer_as_1(kind, tokens),
+    }
+}
+
+/// The same of further kinds.
+fn answer_as_1(kind: &str, tokens: &TokenStream) -> Result<Answer, Failure> {
+    match kind {
+        "Item" => answer::<Item>(Rule::Item, tokens),
+        _ => Err(Failure::Broken),
+    }
+}
+""", text)
 
     def test_the_kinds_of_the_program(self):
         kinds = [("fields-unnamed", "FieldsUnnamed", "fields_unnamed")]
