@@ -53,19 +53,18 @@ AGREED = ("ok", "refused", "empty generics")
 class Tally:
     """How the answers of each sweep were, and what differs."""
 
-    def __init__(self):
-        self.counts, self.differences = {}, []
+    def __init__(self, sweeps):
+        self.counts, self.differences = {sweep: Counter() for sweep in sweeps}, []
 
     def add(self, sweep, what, found):
         """Counts an answer: one of those agreed, or what is wrong in words."""
-        counts = self.counts.setdefault(sweep, Counter())
-        counts[found if found in AGREED else "differ"] += 1
+        self.counts[sweep][found if found in AGREED else "differ"] += 1
         if found not in AGREED:
             self.differences.append(f"{sweep}, {what}: {found}")
 
     def told(self):
         """The differences, as far as they are shown, and a line of what was counted."""
-        parts = [f"{sweep} {counts.total()}: " + ", ".join(f"{counts[how]} {how}" for how in AGREED if counts[how]) for sweep, counts in self.counts.items()]
+        parts = [f"{sweep} {counts.total()}: " + ", ".join(f"{counts[how]} {how}" for how in AGREED if counts[how]) for sweep, counts in self.counts.items() if counts]
         return [*self.differences[:SHOWN], "; ".join([*parts, f"{len(self.differences)} differ"])]
 
 
@@ -130,7 +129,7 @@ def streams(options, reading):
     """Compares the answers about changed streams."""
     changed = list(changed_streams(inputs_of(options), reading))
     answers = answers_of(list(dict.fromkeys(line_of(kind, words) for _, kind, words in changed)), options.bin)
-    tally, known = Tally(), {}
+    tally, known = Tally(SWEEPS), {}
     for sweep, kind, words in changed:
         line = line_of(kind, words)
         if line not in known:
@@ -141,7 +140,7 @@ def streams(options, reading):
 
 def texts(options, reading):
     """Compares how the program ends on beginnings of texts, and sees how it ends where a call fails."""
-    program, tally = options.bin or str(PROGRAM), Tally()
+    program, tally = options.bin or str(PROGRAM), Tally(("prefixes", "failing reads", "failing writes"))
     inputs = [each for each in inputs_of(options) if each.kind in WORDS]
     cut = list(dict.fromkeys((each.kind, data) for each in inputs for data in beginnings(each.text)))
     with tempfile.TemporaryDirectory(prefix="cuts-") as folder, ThreadPoolExecutor(options.jobs) as pool:
@@ -178,7 +177,7 @@ def main():
         sys.exit(2)
     for line in tally.told():
         print(line)
-    sys.exit(1 if tally.differences or not tally.counts else 0)
+    sys.exit(1 if tally.differences or not any(tally.counts.values()) else 0)
 
 
 if __name__ == "__main__":
