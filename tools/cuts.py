@@ -64,7 +64,7 @@ class Tally:
 
     def told(self):
         """The differences, as far as they are shown, and a line of what was counted."""
-        parts = [f"{sweep} {counts.total()}: " + ", ".join(f"{counts[how]} {how}" for how in AGREED if counts[how]) for sweep, counts in self.counts.items() if counts]
+        parts = [f"{sweep} {counts.total()}: " + ", ".join(f"{counts[how]} {how}" for how in (*AGREED, "differ") if counts[how]) for sweep, counts in self.counts.items() if counts]
         return [*self.differences[:SHOWN], "; ".join([*parts, f"{len(self.differences)} differ"])]
 
 

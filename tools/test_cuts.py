@@ -252,7 +252,7 @@ class Script(Cuts):
     def test_streams_that_differ(self):
         status, said = self.status("streams", self.program("streams", STREAMS.replace("'-@' in words or", "")))
         self.assertIn("@, Item Ident:61 ( Ident:62 -@ ): 'a ( b @ )' in place of None\n", said)
-        self.assertTrue(said.endswith("@ 1: ; delimiters 2: 2 ok; spacings 1: 1 ok; 1 differ\n"), said)
+        self.assertTrue(said.endswith("@ 1: 1 differ; delimiters 2: 2 ok; spacings 1: 1 ok; 1 differ\n"), said)
         self.assertEqual(status, 1)
 
     def test_a_program_that_does_not_answer(self):
