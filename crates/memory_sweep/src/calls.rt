@@ -1,9 +1,9 @@
 //! The calls on the tokens of an input, and on the tree that they are.
 
+use crate::ends::{Call, End, Run};
 use crate::given::{Given, is_stream};
 use crate::heap::{refuse, was_refused};
 use crate::named::Named;
-use crate::ends::{Call, End, Run};
 use crate::ways::Ways;
 use std::marker::PhantomData;
 use syn::canon::{Canonical, canonical, same_form};
@@ -13,11 +13,11 @@ use syn::{Item, Result, ToTokens, parse2};
 use syn_answers::answers::join_items;
 
 /// `parse2`
-pub(crate) struct Parse2<W> {
+pub(crate) struct ParseWhole<W> {
     ways: PhantomData<W>,
 }
 
-impl<T: Parse + ToTokens + Named + Drop, W: Ways<T>> Call<Given<T>> for Parse2<W> {
+impl<T: Parse + ToTokens + Named + Drop, W: Ways<T>> Call<Given<T>> for ParseWhole<W> {
     fn once(given: &Given<T>, number: usize) -> Result<Run> {
         let tokens = given.tokens.try_clone(given.alloc)?;
         refuse(given.alloc, number);
@@ -70,11 +70,11 @@ impl<T: ToTokens> Call<Given<T>> for ToHeldTokens {
 }
 
 /// `try_clone`
-pub(crate) struct Copy<W> {
+pub(crate) struct TreeCopy<W> {
     ways: PhantomData<W>,
 }
 
-impl<T: Parse + ToTokens + Named + Drop, W: Ways<T>> Call<Given<T>> for Copy<W> {
+impl<T: Parse + ToTokens + Named + Drop, W: Ways<T>> Call<Given<T>> for TreeCopy<W> {
     fn once(given: &Given<T>, number: usize) -> Result<Run> {
         refuse(given.alloc, number);
         let answer = W::copy(&given.tree, given.alloc);

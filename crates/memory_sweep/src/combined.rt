@@ -1,8 +1,8 @@
 //! The refusal of memory, combined with a fault of syntax.
 
+use crate::ends::{Call, End, Run};
 use crate::failure::Failure;
 use crate::heap::{refuse, was_refused};
-use crate::ends::{Call, End, Run};
 use crate::sweep::sweep;
 use crate::tally::Tally;
 use std::alloc::Global;

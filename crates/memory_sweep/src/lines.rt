@@ -43,28 +43,27 @@ fn sweep_line(alloc: Global, line: &str, tally: &mut Tally) -> Result<(), Failur
 
 /// The tokens of a text. The calls that make them of it, and it of them, are made on the way.
 fn tokens_of(alloc: Global, text: &str, tally: &mut Tally) -> Result<TokenStream, Failure> {
-    match without_signs(text) {
+    match text
+        .strip_prefix("<< ")
+        .and_then(|held| held.strip_suffix(" >>"))
+    {
         Some(held) => in_invisible_group(text_and_tokens(alloc, held, tally)?),
         None => text_and_tokens(alloc, text, tally),
     }
 }
 
-/// What stands between the signs of a group without delimiters, where the text is one.
-fn without_signs(text: &str) -> Option<&str> {
-    text.strip_prefix("<< ")?.strip_suffix(" >>")
-}
-
 fn text_and_tokens(alloc: Global, text: &str, tally: &mut Tally) -> Result<TokenStream, Failure> {
     let tokens = read_tokens(alloc, text)?;
+    let told = token_text(&tokens)?;
     let given = GivenText {
         alloc,
-        text,
-        tokens: &tokens,
-        told: token_text(&tokens)?,
+        text: String::from_str(alloc, text)?,
+        tokens,
+        told,
     };
-    sweep::<GivenText<'_>, ReadTokens>(&given, "read_tokens", tally)?;
-    sweep::<GivenText<'_>, TokenText>(&given, "token_text", tally)?;
-    Ok(tokens)
+    sweep::<GivenText, ReadTokens>(&given, "read_tokens", tally)?;
+    sweep::<GivenText, TokenText>(&given, "token_text", tally)?;
+    Ok(given.tokens.try_clone(alloc)?)
 }
 
 /// The tokens, in a group without delimiters.

@@ -22,12 +22,12 @@
 mod by_kind;
 mod calls;
 mod combined;
+mod ends;
 mod failure;
 mod given;
 mod heap;
 mod lines;
 mod named;
-mod ends;
 mod sweep;
 mod tally;
 mod texts;

@@ -1,12 +1,14 @@
 //! All runs of the calls on an input.
 
-use crate::calls::{CanonicalPrint, Copy, JoinItems, Parse2, ParseBehind, SameForm, ToHeldTokens};
+use crate::calls::{
+    CanonicalPrint, JoinItems, ParseBehind, ParseWhole, SameForm, ToHeldTokens, TreeCopy,
+};
+use crate::ends::Call;
 use crate::failure::Failure;
 use crate::given::{Given, Input};
 use crate::named::Named;
-use crate::ends::Call;
 use crate::tally::Tally;
-use crate::ways::{ByItself, Ways};
+use crate::ways::Ways;
 use syn::canon::Canonical;
 use syn::parse::Parse;
 use syn::{Item, ToTokens};
@@ -41,10 +43,10 @@ fn parsed<T: Parse + ToTokens + Named + Drop, W: Ways<T>>(
     if given.tree.variant() != input.variant {
         return Err(Failure::Broken);
     }
-    sweep::<Given<T>, Parse2<W>>(&given, "parse2", tally)?;
+    sweep::<Given<T>, ParseWhole<W>>(&given, "parse2", tally)?;
     sweep::<Given<T>, ParseBehind<W>>(&given, "parse", tally)?;
     sweep::<Given<T>, ToHeldTokens>(&given, "to_tokens", tally)?;
-    sweep::<Given<T>, Copy<W>>(&given, "try_clone", tally)?;
+    sweep::<Given<T>, TreeCopy<W>>(&given, "try_clone", tally)?;
     Ok(given)
 }
 

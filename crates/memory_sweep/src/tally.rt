@@ -1,7 +1,7 @@
 //! What was found so far.
 
-use crate::failure::Failure;
 use crate::ends::{End, Run};
+use crate::failure::Failure;
 use std::alloc::Global;
 use std::fmt;
 use std::fmt::Write as _;
