@@ -5,7 +5,7 @@
     tools/memory.py program [--strict] [--told]             the program's runs, on a few of them
 
 The program `memory_sweep` makes the calls (its src/main.rt tells which, and what is wrong). It is asked about each input, and about a
-file that is made of all of them; the last line says what was counted. A call may ask again for what it was refused, and then answers
+file that is made of them; the last line says what was counted. A call may ask again for what it was refused, and then answers
 the right thing; such runs are counted as `again`, and are wrong with --strict. With --told each call that does so is printed.
 
 `program` runs `syn_canon`. Each run that is refused a request has to end with status 3, to write nothing, and to say that memory is
@@ -78,12 +78,21 @@ def inputs_of(text):
     return [Input(name[0], name[2], line.partition(" ")[2]) for name, line in zip(names, lines)]
 
 
-def whole_file(inputs):
-    """The file that holds the items of these inputs, and all of their members, types, patterns, expressions and statements."""
-    texts = {}
+def of_each_form(inputs):
+    """The first of these inputs of each variant, and each of those that are kept as their tokens, which differ by their forms. What
+    stands in a group without delimiters is left out."""
+    first = {}
     for it in inputs:
         if not it.is_in_group:
-            texts.setdefault(it.type, []).append(it.text)
+            first.setdefault((it.type, it.text if it.variant == "Verbatim" else it.variant), it)
+    return list(first.values())
+
+
+def whole_file(inputs):
+    """A file with an item and a member of each form, and in it a type, a pattern, an expression and a statement of each."""
+    texts = {}
+    for it in of_each_form(inputs):
+        texts.setdefault(it.type, []).append(it.text)
     parts = ["#![a]", *texts["Item"], "trait Members {", *texts["TraitItem"], "}", "impl Members {", *texts["ImplItem"], "}"]
     parts += ['extern "C" {', *texts["ForeignItem"], "}", "struct Types(" + ", ".join(texts["Type"]) + ");"]
     parts += ["struct Kept { _: struct { a: b } }", "fn bodies() {", *(f"let {pattern} = a;" for pattern in texts["Pat"])]
