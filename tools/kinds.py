@@ -22,6 +22,7 @@ and beside them:
     crates/syn_canon                    src/kind.rt, src/by_kind.rt, specs/Kinds.antt: the program's list of kinds
     crates/tree_answers/src/by_kind.rt  the same kinds, by their trees and by their rules
     crates/cut_streams/src/by_kind.rt   the same of all types that are read by one rule
+    crates/memory_sweep/src             by_kind.rt, variants.rt: what has a parser, by its name, and how it tells its variant
 
 What is odd is written by hand, and then left out here: a `view_X` in a file of specs/, or an `impl TryClone for X`, `impl Compared
 for X` .. in a file of src/. A struct with a `syntax_of_X` of its own has no `Model`, unless it has a `view_X` too: then that is
@@ -37,6 +38,7 @@ from kindslib.impls import comparisons, copies, prints
 from kindslib.lists import comma_lists
 from kindslib.program import answers_of_streams, canonical, comparisons_of_answers, dispatch, kind_enum, kind_specs
 from kindslib.source import LOWEST, Fault, Source
+from kindslib.sweep import sweeps, variant_names
 from kindslib.views import endings, plain_views
 
 # the program's word, the type, the rule that reads it
@@ -107,6 +109,9 @@ OTHERS = [
 
 # what is read by one rule, but without the node around it that the rule makes: the type, the rule
 INNER = [("Expr", "whole_expression")]
+# what has a parser, and no canonical print: types, and tokens that hold a text
+PARSED = ["Expr", "Generics", "Lit", "WhereClause"]
+TEXTS = ["Ident", "Lifetime"]
 
 # lists with one value at least, which end with one
 JOINED = {("Path", "segments")}
@@ -150,14 +155,26 @@ class Together:
         return next(source for source in self.sources if source.crate.name == t.crate)
 
 
-def outputs():
-    """What stands in each file that this script writes, or has a part of."""
+def sources():
+    """The crates of trees: types, patterns, operators, expressions, data, items."""
     lower = Source(CRATES / LOWEST)
     source = Source(CRATES / "syn_tree", lower)
     patterns = Source(CRATES / "syn_pat", lower)
     operators = Source(CRATES / "syn_expr_parse", patterns)
     expressions = Source(CRATES / "syn_expr", operators)
     items = Source(CRATES / "syn_item", Together(lower, patterns, source))
+    return lower, patterns, operators, expressions, source, items
+
+
+def together(crates):
+    """The types of all of these crates of trees, which stand below each other."""
+    _, patterns, operators, expressions, source, items = crates
+    return Together(items, patterns, operators, expressions, source)
+
+
+def outputs():
+    """What stands in each file that this script writes, or has a part of."""
+    crates = lower, patterns, operators, expressions, source, items = sources()
     files = {}
     for crate in (lower, patterns, operators, expressions, source, items):
         files.update(endings(crate))
@@ -168,13 +185,16 @@ def outputs():
     table, page = CRATES / "syn_grammar/specs/Table.antt", Path("docs/GRAMMAR.md")
     files.update(comma_lists(source, table))
     files[page] = rows(source, table, page, patterns, operators, expressions, items)
-    trees = Together(items, patterns, operators, expressions, source)
+    trees = together(crates)
     files[CRATES / "syn/src/kinds.rt"] = canonical(trees, [kind[1:] for kind in KINDS] + OTHERS)
     files[CRATES / "syn_canon/src/kind.rt"] = kind_enum(KINDS)
     files[CRATES / "syn_canon/src/by_kind.rt"] = dispatch(KINDS)
     files[CRATES / "syn_canon/specs/Kinds.antt"] = kind_specs(KINDS)
     files[CRATES / "tree_answers/src/by_kind.rt"] = comparisons_of_answers(trees, KINDS)
     files[CRATES / "cut_streams/src/by_kind.rt"] = answers_of_streams(trees, [kind[1:] for kind in KINDS] + OTHERS + INNER)
+    kinds, others = [name for _, name, _ in KINDS], [name for name, _ in OTHERS]
+    files[CRATES / "memory_sweep/src/by_kind.rt"] = sweeps(trees, kinds, others, PARSED, TEXTS)
+    files[CRATES / "memory_sweep/src/variants.rt"] = variant_names(trees, [*kinds, *others, *PARSED], TEXTS)
     return files
 
 

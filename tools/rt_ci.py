@@ -38,7 +38,7 @@ from pathlib import Path
 
 TOP = Path(__file__).resolve().parent.parent
 # The crates that only test or measure.
-BESIDE = ("syn_outlines", "syn_tokens_tests", "syn_reader_tests", "syn_answers_tests", "syn_item_tests", "syn_test_support", "syn_tests", "check_rows", "tree_answers", "cut_streams", "syn_bench")
+BESIDE = ("syn_outlines", "syn_tokens_tests", "syn_reader_tests", "syn_answers_tests", "syn_item_tests", "syn_test_support", "syn_tests", "check_rows", "tree_answers", "cut_streams", "memory_sweep", "syn_bench")
 
 # What the proof of a crate took, or as reckoned takes (syn_expr, syn_item), in seconds of processor: the tasks are ordered by it, and those of other crates by their lines, which
 # are about as many, but for what owns trees. It needn't be exact.

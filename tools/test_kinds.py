@@ -10,6 +10,7 @@ from kindslib.impls import comparisons, copies, import_lines, prints
 from kindslib.lists import comma_lists, list_rules
 from kindslib.program import answers_of_streams, canonical, comparisons_of_answers, dispatch, kind_enum, kind_specs
 from kindslib.source import MARK, Fault, Source
+from kindslib.sweep import sweeps, variant_names, variants_of
 from kindslib.views import endings, plain_views
 
 TYPES = """//! Things.
@@ -333,6 +334,25 @@ fn answer_as_1(kind: &str, tokens: &TokenStream) -> Result<Answer, Failure> {
     }
 }
 """, text)
+
+    def test_a_type_is_swept_by_its_name(self):
+        text = sweeps(self.crate(), ["Thing"], ["Wrapped"], ["Choice"], ["Ident"])
+        self.assertIn("use syn::Ident;\nuse syn::canon::Wrapped;\n", text)
+        for arm in (
+            '"Thing" => as_canonical::<Thing, ByItself>(input, tally),\n        _ => of_others(word, input, tally),\n',
+            '"Wrapped" => as_canonical::<Wrapped, InField>(input, tally),\n        _ => of_parsed(word, input, tally),\n',
+            '"Choice" => as_parsed::<Choice, ByItself>(input, tally),\n        "Ident" => as_parsed::<Ident, ByItself>(input, tally),\n        _ => Err(Failure::Broken),\n',
+        ):
+            self.assertIn(arm, text)
+
+    def test_a_type_tells_its_variant(self):
+        source = self.crate()
+        text = variant_names(source, ["Thing", "Choice"], ["Ident"])
+        self.assertIn("impl Named for Thing {}\n", text)
+        self.assertIn("impl Named for Ident {}\n", text)
+        self.assertIn('            Choice::Mark(_) => "Mark",\n            Choice::Whole(_) => "Whole",\n            Choice::Nothing => "Nothing",\n', text)
+        self.assertEqual([name for name, _ in variants_of(source, "Choice")], ["Mark", "Whole", "Nothing"])
+        self.assertEqual(variants_of(source, "Thing"), [])
 
     def test_the_kinds_of_the_program(self):
         kinds = [("fields-unnamed", "FieldsUnnamed", "fields_unnamed")]

@@ -74,10 +74,10 @@ def copied(top, to):
             shutil.copyfile(top / name, to / name)
 
 
-def called(words, folder, seconds, given=b""):
-    """Runs the command in the folder. Returns what it wrote, what it said to standard error, and its status."""
+def called(words, folder, seconds, given=b"", command=None):
+    """Runs the command in the folder, or that which is named. Returns what it wrote, what it said to standard error, and its status."""
     pipe = subprocess.PIPE
-    started = subprocess.Popen([*COMMAND, "--seconds", str(seconds), *words], cwd=folder, stdin=pipe, stdout=pipe, stderr=pipe)
+    started = subprocess.Popen([*(command or COMMAND), "--seconds", str(seconds), *words], cwd=folder, stdin=pipe, stdout=pipe, stderr=pipe)
     try:
         wrote, said = started.communicate(given, timeout=WITH_BUILD * seconds)
     except subprocess.TimeoutExpired:
