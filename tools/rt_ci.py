@@ -40,23 +40,23 @@ TOP = Path(__file__).resolve().parent.parent
 # The crates that only test or measure.
 BESIDE = ("syn_outlines", "syn_tokens_tests", "syn_reader_tests", "syn_answers_tests", "syn_item_tests", "syn_test_support", "syn_tests", "check_rows", "tree_answers", "cut_streams", "memory_sweep", "syn_bench")
 
-# What the proof of a crate took, or as reckoned takes (syn_expr, syn_item), in seconds of processor: the tasks are ordered by it, and those of other crates by their lines, which
-# are about as many, but for what owns trees. It needn't be exact.
+# What the proof of a crate takes, in seconds of processor (of syn_expr and what uses it, as reckoned): the tasks are ordered by it, and
+# those of other crates by their lines, which are about as many, but for what owns trees. It needn't be exact.
 SECONDS = {
-    "syn_grammar": 80,
-    "syn_tokens": 480,
-    "syn_parse": 280,
-    "syn_recognize": 2000,
-    "syn_answers": 400,
-    "syn_lower": 3300,
-    "syn_pat": 1400,
-    "syn_expr_parse": 2100,
-    "syn_expr": 7000,
-    "syn_tree": 1700,
-    "syn_item": 6500,
-    "syn_reader": 280,
+    "syn_grammar": 290,
+    "syn_tokens": 800,
+    "syn_parse": 420,
+    "syn_recognize": 1960,
+    "syn_answers": 390,
+    "syn_lower": 2710,
+    "syn_pat": 990,
+    "syn_expr_parse": 1630,
+    "syn_expr": 5000,
+    "syn_tree": 1260,
+    "syn_item": 7570,
+    "syn_reader": 240,
     "syn": 270,
-    "syn_canon": 330,
+    "syn_canon": 270,
     "statement_macro": 480,
     "list_fields": 400,
     "list_items": 400,
@@ -64,7 +64,7 @@ SECONDS = {
     "first_steps": 270,
     "own_syntax": 270,
     "token_stats": 160,
-    "token_lines": 110,
+    "token_lines": 120,
 }
 
 # The crate beside whose proof edits are tried: in its first minutes and in its last ones only one process runs. And the program
