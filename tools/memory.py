@@ -79,13 +79,13 @@ def inputs_of(text):
 
 
 def of_each_form(inputs):
-    """The first of these inputs of each variant, and each of those that are kept as their tokens, which differ by their forms. What
+    """The shortest of these inputs of each variant, and each of those that are kept as their tokens, which differ by their forms. What
     stands in a group without delimiters is left out."""
-    first = {}
-    for it in inputs:
+    shortest = {}
+    for it in sorted(inputs, key=lambda it: len(it.text)):
         if not it.is_in_group:
-            first.setdefault((it.type, it.text if it.variant == "Verbatim" else it.variant), it)
-    return list(first.values())
+            shortest.setdefault((it.type, it.text if it.variant == "Verbatim" else it.variant), it)
+    return list(shortest.values())
 
 
 def whole_file(inputs):
