@@ -46,7 +46,7 @@ RUNS = [
     ("check stmts", "let a = b(c); d::<E>().f?"),
     ("list", "struct A; use b::c; impl D for E { fn f() {} }"),
 ]
-MOST = 200
+MOST = 80
 REFUSED = (3, "", "out of memory\n")
 # How a trial tells of the end of a case, behind what the program said.
 CASE = re.compile(r"(?m)^case=\d+ run=ended status=(\d+) .*\n")
