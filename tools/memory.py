@@ -46,7 +46,7 @@ RUNS = [
     ("check stmts", "let a = b(c); d::<E>().f?"),
     ("list", "struct A; use b::c; impl D for E { fn f() {} }"),
 ]
-MOST = 200
+MOST = 80
 REFUSED = (3, "", "out of memory\n")
 # How a trial tells of the end of a case, behind what the program said.
 CASE = re.compile(r"(?m)^case=\d+ run=ended status=(\d+) .*\n")
@@ -79,13 +79,13 @@ def inputs_of(text):
 
 
 def of_each_form(inputs):
-    """The first of these inputs of each variant, and each of those that are kept as their tokens, which differ by their forms. What
+    """The shortest of these inputs of each variant, and each of those that are kept as their tokens, which differ by their forms. What
     stands in a group without delimiters is left out."""
-    first = {}
-    for it in inputs:
+    shortest = {}
+    for it in sorted(inputs, key=lambda it: len(it.text)):
         if not it.is_in_group:
-            first.setdefault((it.type, it.text if it.variant == "Verbatim" else it.variant), it)
-    return list(first.values())
+            shortest.setdefault((it.type, it.text if it.variant == "Verbatim" else it.variant), it)
+    return list(shortest.values())
 
 
 def whole_file(inputs):
