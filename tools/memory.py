@@ -94,10 +94,14 @@ def whole_file(inputs):
     for it in of_each_form(inputs):
         texts.setdefault(it.type, []).append(it.text)
     parts = ["#![a]", *texts["Item"], "trait Members {", *texts["TraitItem"], "}", "impl Members {", *texts["ImplItem"], "}"]
-    parts += ['extern "C" {', *texts["ForeignItem"], "}", "struct Types(" + ", ".join(texts["Type"]) + ");"]
-    parts += ["struct Kept { _: struct { a: b } }", "fn bodies() {", *(f"let {pattern} = a;" for pattern in texts["Pat"])]
-    parts += [f"let _ = {expression};" for expression in texts["Expr"]]
-    return Input("File", "", " ".join([*parts, *texts["Stmt"], "}"]))
+    parts += ['extern "C" {', *texts["ForeignItem"], "}", listed("struct Types(", texts["Type"], ");"), "struct Kept { _: struct { a: b } }"]
+    parts += ["fn bodies() {", *texts["Stmt"], listed("let (", texts["Pat"], ") ="), listed("(", texts["Expr"], "); }")]
+    return Input("File", "", " ".join(parts))
+
+
+def listed(opening, texts, closing):
+    """The texts with commas between them, in a group."""
+    return opening + ", ".join(texts) + closing
 
 
 def kit():
