@@ -437,7 +437,7 @@ type_leads m r q t e =
     ap (λ z. stands at_generics (z ⧺ q)) (sym (ap print v) ∙ print_value s) ∙ node_alike s m r q d ∙ sym (sees_stands at_generics m)
 
 -- ---- NO SELF TYPE of an impl is a part of these, groups and lists aside
-abbrev selfless : Grammar → Bool
+abbrev pub selfless : Grammar → Bool
 selfless (g & h) = and (selfless g) (selfless h)
 selfless (when c then g else h) = and (selfless g) (selfless h)
 selfless (either g h) = and (selfless g) (selfless h)
@@ -486,7 +486,7 @@ no_part (row g h) (More b s sp t) ts r e x = refl
 no_part (ordered g h) (Order xs l ys) ts r e x = refl
 no_part _ _ ts r e x = search false_true
 
-no_part_of : (g : Grammar) (m r : Stream) (s : Syntax) → selfless g ≡ true → Reads g m s r → led_part (renew s) ≡ false
+pub no_part_of : (g : Grammar) (m r : Stream) (s : Syntax) → selfless g ≡ true → Reads g m s r → led_part (renew s) ≡ false
 no_part_of g m r s e h =
     let (t, d, v) = told g m (s, r) h in
     ap (λ z. led_part (renew z)) (sym v) ∙ led_part_value t ∙ no_part g t m r e d

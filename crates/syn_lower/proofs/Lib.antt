@@ -23,7 +23,7 @@ pub mod Restricted
 pub mod SameLists
 pub mod SameQualified
 pub mod Smaller
-mod Solid
+pub mod Solid
 mod Tuples
 pub mod Types
 mod WhereClauses
