@@ -229,16 +229,16 @@ fn read_rest<'a>(
     form: &'static Form,
     guess: Guess,
     steps: &mut Vec<Step<'a>>,
-    out: &Writer,
+    out: &mut Writer,
     input: &ParseBuffer<'a>,
 ) -> Parsed<()>
-    ensures { Guessing IsSyntax steps.old.items (copy_guess guess (rest (grammar_of form.now)) out.now input.now) result steps.new.items out.now input.now }
+    ensures { Guessing IsSyntax steps.old.items (copy_guess guess (rest (grammar_of form.now)) out.old input.now) result steps.new.items out.new input.now }
 {
     if guess.kept {
-        return Err(Refusal::Memory);
+        return Err(out.wrong_guess());
     }
     if let Some(true) = guess.leads {
-        return Err(Refusal::Memory);
+        return Err(out.wrong_guess());
     }
     steps.push(Step::Form(form))?;
     Ok(())
@@ -257,7 +257,7 @@ fn read_kept<'a>(
 {
     if !guess.kept {
         if !out.is_dropping() {
-            return Err(Refusal::Memory);
+            return Err(out.wrong_guess());
         }
         if let Some(number) = guess.number {
             return note_kept(form, number, steps, out, input);
@@ -450,7 +450,7 @@ fn compared(guess: Guess, it: bool, out: &mut Writer) -> Parsed<Guess>
     match guess.leads {
         None => Ok(guess),
         Some(true) => Ok(guess.settled()),
-        Some(false) => Err(Refusal::Memory),
+        Some(false) => Err(out.wrong_guess()),
     }
 }
 
