@@ -28,7 +28,7 @@ fn run<'a>(steps: &mut Vec<Step<'a>>, out: &mut Writer, input: &mut ParseBuffer<
         };
         take(step, steps, out, input)?;
     }
-    Err(Refusal::Memory)
+    Err(Refusal::Memory(None))
 }
 
 /// These tokens once more. Refused only where memory is.
@@ -37,7 +37,7 @@ pub(crate) fn copy_of(tokens: &TokenStream) -> Parsed<TokenStream>
 {
     match tokens.try_clone(tokens.alloc()) {
         Ok(copy) => Ok(copy),
-        Err(_) => Err(Refusal::Memory),
+        Err(_) => Err(Refusal::Memory(None)),
     }
 }
 
@@ -128,7 +128,7 @@ pub fn recognized_and_printed(rule: Rule, input: &mut ParseBuffer<'_>) -> Parsed
             input.advance_to(&ahead);
             Ok(tokens)
         }
-        Err(Refusal::Memory) => both_by(rule, noted(rule, input)?, input),
+        Err(Refusal::Memory(_)) => both_by(rule, noted(rule, input)?, input),
         Err(Refusal::Syntax { span, text }) => Err(Refusal::Syntax { span, text }),
     }
 }
@@ -147,7 +147,7 @@ pub fn printed_by(rule: Rule, input: &mut ParseBuffer<'_>) -> Parsed<TokenStream
             input.advance_to(&ahead);
             Ok(printed)
         }
-        Err(Refusal::Memory) => printed_with(rule, noted(rule, input)?, input),
+        Err(Refusal::Memory(_)) => printed_with(rule, noted(rule, input)?, input),
         Err(Refusal::Syntax { span, text }) => Err(Refusal::Syntax { span, text }),
     }
 }

@@ -216,7 +216,7 @@ fn no_more(late: &Guesses) -> Parsed<()>
     if late.is_empty() {
         Ok(())
     } else {
-        Err(Refusal::Memory)
+        Err(Refusal::Memory(None))
     }
 }
 
@@ -270,18 +270,18 @@ pub(crate) fn skip_late<'a>(
 {
     let member = out.put_back(before)?;
     let Some(guess) = late.next() else {
-        return Err(Refusal::Memory);
+        return Err(Refusal::Memory(None));
     };
     if !input.peek::<Comma>() {
         if !guess.is(&member, Span::call_site()) {
-            return Err(Refusal::Memory);
+            return Err(Refusal::Memory(None));
         }
         no_more(&late)?;
         return Ok(());
     }
     let comma: Comma = input.read()?;
     if !guess.is(&member, place_of(&comma)) {
-        return Err(Refusal::Memory);
+        return Err(Refusal::Memory(None));
     }
     steps.push(Step::Others(list, late))?;
     Ok(())

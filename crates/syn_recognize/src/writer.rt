@@ -311,7 +311,7 @@ impl Writer {
         };
         match out.finish() {
             Ok(stream) => Ok((stream, notes)),
-            Err(_) => Err(Refusal::Memory),
+            Err(_) => Err(Refusal::Memory(None)),
         }
     }
 }

@@ -57,7 +57,7 @@ fn nested_type<E: Carrier>(
     ensures parses { Parses E.is_syntax syntax_of_Type rules.type input.old result input.new }
 {
     let Some(left) = inside.0.checked_sub(1) else {
-        return Err(E::carry(Refusal::Memory));
+        return Err(E::carry(Refusal::Memory(Some(input.span()))));
     };
     let knot = Knot {
         ty: nested_type::<E>,

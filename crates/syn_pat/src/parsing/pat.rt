@@ -190,7 +190,7 @@ fn nested_pattern<E: Carrier>(
     ensures parses { Parses E.is_syntax syntax_of_Pat rules.pattern input.old result input.new }
 {
     let Some(left) = inside.0.checked_sub(1) else {
-        return Err(E::carry(Refusal::Memory));
+        return Err(E::carry(Refusal::Memory(Some(input.span()))));
     };
     let knot = Knot {
         pat: nested_pattern::<E>,

@@ -104,8 +104,8 @@ fn refusals(rt: HostRuntime) {
 
 #[test]
 fn exhausted(rt: HostRuntime) {
-    assert!(rt; matches!(exhaust(), Err(Refusal::Memory)));
-    assert!(rt; Error::from(Refusal::Memory).is_memory());
+    assert!(rt; matches!(exhaust(), Err(Refusal::Memory(None))));
+    assert!(rt; Error::from(Refusal::Memory(None)).is_memory());
 }
 
 #[test]

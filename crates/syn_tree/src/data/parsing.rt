@@ -77,7 +77,7 @@ fn read_fields_named<E: Carrier>(
     ensures { Parses E.is_syntax itself rules.fields_named input.old result input.new }
 {
     let Some(left) = inside.0.checked_sub(1) else {
-        return Err(E::carry(Refusal::Memory));
+        return Err(E::carry(Refusal::Memory(Some(input.span()))));
     };
     let knot = Knot {
         fields_named: read_fields_named::<E>,
@@ -200,7 +200,7 @@ fn nameless_fields<N: Nested>(nested: &N, input: &mut ParseBuffer<'_>) -> Parsed
     let _fields = nested.fields_named(input)?;
     match begin.between(input) {
         Ok(tokens) => Ok(tokens),
-        Err(_) => Err(Refusal::Memory),
+        Err(_) => Err(Refusal::Memory(None)),
     }
 }
 
