@@ -17,14 +17,12 @@ use syn_expr_parse::parsing::{
 use syn_expr_parse::trees::Trees;
 use syn_lower::carrier::Carrier;
 use syn_parse::buffer::ParseBuffer;
+use syn_parse::limits::EXPRESSIONS;
 use syn_parse::read::Read;
 use syn_parse::read::refusal::{Parsed, Refusal};
 use syn_recognize::deferred::{BlockOf, TreeOf};
 use syn_tokens::error::Result;
 use syn_tokens::token::Brace;
-
-/// How many expressions and blocks may stand inside each other. The stack is memory too, and is refused for what is deeper.
-const LEVELS: u32 = 50;
 
 /// An expression inside of another, or of a block.
 #[cycle(knot)]
@@ -84,7 +82,7 @@ impl Read for Expr {
         Ok(ExprTrees::unboxed(nested_expr::<Refusal>(
             Rung::Whole(Spot::Anywhere),
             input,
-            (LEVELS, PhantomData),
+            (EXPRESSIONS, PhantomData),
         )?))
     }
 }
@@ -97,7 +95,7 @@ impl TreeOf<0> for Expr {
         Ok(ExprTrees::unboxed(nested_expr::<Refusal>(
             Rung::Whole(Spot::Anywhere),
             input,
-            (LEVELS, PhantomData),
+            (EXPRESSIONS, PhantomData),
         )?))
     }
 }
@@ -111,7 +109,7 @@ impl TreeOf<1> for Expr {
         let knot = Knot {
             expr: nested_expr::<Refusal>,
             statements: nested_statements::<Refusal>,
-            inside: (LEVELS, PhantomData),
+            inside: (EXPRESSIONS, PhantomData),
             trees: PhantomData::<ExprTrees>,
         };
         Ok(ExprTrees::unboxed(constant(&knot, input)?))
@@ -128,7 +126,7 @@ impl Read for Block {
         let knot = Knot {
             expr: nested_expr::<Refusal>,
             statements: nested_statements::<Refusal>,
-            inside: (LEVELS, PhantomData),
+            inside: (EXPRESSIONS, PhantomData),
             trees: PhantomData::<ExprTrees>,
         };
         block(&knot, input)
@@ -153,7 +151,7 @@ impl Read for Stmt {
         let knot = Knot {
             expr: nested_expr::<Refusal>,
             statements: nested_statements::<Refusal>,
-            inside: (LEVELS, PhantomData),
+            inside: (EXPRESSIONS, PhantomData),
             trees: PhantomData::<ExprTrees>,
         };
         statement(&knot, input)
@@ -165,7 +163,7 @@ impl Block {
     pub fn read_within(input: &mut ParseBuffer<'_>) -> Parsed<Vec<Stmt>>
         ensures parses { MayParse IsSyntax (λ v. statements_syntax v.items) rules.statements input.old result input.new }
     {
-        nested_statements::<Refusal>(input, (LEVELS, PhantomData))
+        nested_statements::<Refusal>(input, (EXPRESSIONS, PhantomData))
     }
 
     /// Parses statements up to the end of the group or stream. They may be none, and the last expression may stand without `;`.
@@ -179,7 +177,7 @@ impl Block {
         ensures kept { Kept input.old result input.new }
     {
         let mut ahead = input.fork();
-        let stmts = nested_statements::<Refusal>(&mut ahead, (LEVELS, PhantomData))?;
+        let stmts = nested_statements::<Refusal>(&mut ahead, (EXPRESSIONS, PhantomData))?;
         input.advance_to(&ahead);
         Ok(stmts)
     }

@@ -25,6 +25,7 @@ use syn_lower::Attribute;
 use syn_lower::attr::outer_attributes;
 use syn_lower::carrier::Carrier;
 use syn_parse::buffer::ParseBuffer;
+use syn_parse::limits::USE_TREES;
 use syn_parse::read::lists::punctuated_list;
 use syn_parse::read::refusal::{Parsed, Refusal};
 use syn_parse::read::{End, Read};
@@ -134,7 +135,7 @@ fn fault_in_braces(input: &mut ParseBuffer<'_>) -> Refusal {
 /// Trees in braces, with `::` before each or without it.
 fn rooted_group(input: &mut ParseBuffer<'_>) -> Parsed<()> {
     let (_brace_token, mut content) = input.read_group::<kind::Brace>()?;
-    rooted_trees(&mut content, LEVELS)
+    rooted_trees(&mut content, USE_TREES)
 }
 
 /// Such trees with commas between them, up to the end, of which at most so many stand inside each other.
@@ -277,9 +278,6 @@ fn other_name(input: &mut ParseBuffer<'_>) -> Parsed<Ident>
     }
 }
 
-/// How many trees may stand inside each other, behind `::` and in braces. The stack is memory too, and is refused for what is deeper.
-const LEVELS: u32 = 200;
-
 /// How many trees may still stand inside, and what carries a refusal.
 type Inside<E> = (u32, PhantomData<E>);
 
@@ -327,14 +325,14 @@ fn nested_tree<E: Carrier>(
 
 /// `*`; trees in braces; or a name, `self`, `super`, `crate` or `try`, with `::` and a tree behind it, with `as` and a name or `_`, or alone.
 ///
-/// Where neither a name nor `_` stands behind `as`, the fault is `expected identifier or underscore`. More than 200 trees in each other are
-/// refused for memory.
+/// Where neither a name nor `_` stands behind `as`, the fault is `expected identifier or underscore`. More than `USE_TREES` trees in each
+/// other are refused for memory.
 impl Read for UseTree {
     ghost form = { of (rule rules.use_tree) };
 
     ghost meaning = { meaning_of_rule rules.use_tree };
 
     fn read(input: &mut ParseBuffer<'_>) -> Parsed<UseTree> {
-        nested_tree::<Refusal>(input, (LEVELS, PhantomData))
+        nested_tree::<Refusal>(input, (USE_TREES, PhantomData))
     }
 }

@@ -19,12 +19,9 @@ use crate::carrier::Carrier;
 use crate::{AngleBracketedGenericArguments, Path, PathArguments, ReturnType, Type, TypePath};
 use std::marker::PhantomData;
 use syn_parse::buffer::ParseBuffer;
+use syn_parse::limits::TYPES;
 use syn_parse::read::Read;
 use syn_parse::read::refusal::{Parsed, Refusal};
-
-/// How many types may stand inside each other. The stack is memory too, and is refused for what is deeper: a type takes up to 35 KB of
-/// it in a trial build, which isn't optimized, and a main thread usually has 8 MB.
-const LEVELS: u32 = 200;
 
 /// How many types may still stand inside, and what carries a refusal.
 type Inside<E> = (u32, PhantomData<E>);
@@ -76,7 +73,7 @@ impl Read for Type {
     ghost meaning = { meaning_of_rule rules.type };
 
     fn read(input: &mut ParseBuffer<'_>) -> Parsed<Type> {
-        nested_type::<Refusal>(input, (LEVELS, PhantomData))
+        nested_type::<Refusal>(input, (TYPES, PhantomData))
     }
 }
 
@@ -89,7 +86,7 @@ impl Read for TypePath {
     fn read(input: &mut ParseBuffer<'_>) -> Parsed<TypePath> {
         let knot = Knot {
             ty: nested_type::<Refusal>,
-            inside: (LEVELS, PhantomData),
+            inside: (TYPES, PhantomData),
         };
         path_as_type(&knot, input)
     }
@@ -104,7 +101,7 @@ impl Read for Path {
     fn read(input: &mut ParseBuffer<'_>) -> Parsed<Path> {
         let knot = Knot {
             ty: nested_type::<Refusal>,
-            inside: (LEVELS, PhantomData),
+            inside: (TYPES, PhantomData),
         };
         type_path(&knot, input)
     }
@@ -121,7 +118,7 @@ impl Read for ReturnType {
     fn read(input: &mut ParseBuffer<'_>) -> Parsed<ReturnType> {
         let knot = Knot {
             ty: nested_type::<Refusal>,
-            inside: (LEVELS, PhantomData),
+            inside: (TYPES, PhantomData),
         };
         return_type(&knot, input)
     }
@@ -136,7 +133,7 @@ impl Read for AngleBracketedGenericArguments {
     fn read(input: &mut ParseBuffer<'_>) -> Parsed<AngleBracketedGenericArguments> {
         let knot = Knot {
             ty: nested_type::<Refusal>,
-            inside: (LEVELS, PhantomData),
+            inside: (TYPES, PhantomData),
         };
         angle_bracketed(&knot, input)
     }
@@ -149,7 +146,7 @@ pub fn path_arguments(input: &mut ParseBuffer<'_>) -> Parsed<PathArguments>
 {
     let knot = Knot {
         ty: nested_type::<Refusal>,
-        inside: (LEVELS, PhantomData),
+        inside: (TYPES, PhantomData),
     };
     some_arguments(&knot, input)
 }

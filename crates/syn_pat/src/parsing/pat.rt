@@ -22,6 +22,7 @@ use crate::pat::{PatIdent, PatParen, PatPath, PatTuple, PatTupleStruct, PatType,
 use std::marker::PhantomData;
 use syn_lower::carrier::Carrier;
 use syn_parse::buffer::ParseBuffer;
+use syn_parse::limits::PATTERNS;
 use syn_parse::read::lists::punctuated_list;
 use syn_parse::read::refusal::{Parsed, Refusal};
 use syn_parse::read::{End, Read};
@@ -156,9 +157,6 @@ fn patterns<N: NestedPat>(nested: &N, input: &mut ParseBuffer<'_>) -> Parsed<Pun
     punctuated_list::<End, Comma, _, _>(input, |next| nested.pat(next))
 }
 
-/// How many patterns may stand inside each other. The stack is memory too, and is refused for what is deeper.
-const LEVELS: u32 = 200;
-
 /// How many patterns may still stand inside, and what carries a refusal.
 type Inside<E> = (u32, PhantomData<E>);
 
@@ -209,7 +207,7 @@ impl Read for Pat {
     ghost meaning = { meaning_of_rule rules.pattern };
 
     fn read(input: &mut ParseBuffer<'_>) -> Parsed<Pat> {
-        nested_pattern::<Refusal>(input, (LEVELS, PhantomData))
+        nested_pattern::<Refusal>(input, (PATTERNS, PhantomData))
     }
 }
 

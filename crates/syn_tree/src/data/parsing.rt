@@ -24,6 +24,7 @@ use syn_lower::attr::all_outer_attributes;
 use syn_lower::carrier::Carrier;
 use syn_lower::looks::at_nameless_fields;
 use syn_parse::buffer::ParseBuffer;
+use syn_parse::limits::FIELDS;
 use syn_parse::read::End;
 use syn_parse::read::lists::punctuated_list;
 use syn_parse::read::refusal::{Parsed, Refusal};
@@ -42,10 +43,6 @@ pub(crate) trait Nested {
         requires { may self.now input.old }
         ensures { Parses IsSyntax itself rules.fields_named input.old result input.new };
 }
-
-/// How many braces with fields may stand inside each other. The stack is memory too, and is refused for what is deeper, as for types
-/// (`lower::parsing::recursion`), which take their own share of it inside.
-const LEVELS: u32 = 30;
 
 /// The parser itself, as what reads the fields inside, and what it is told: how many braces may still stand inside, and what carries a
 /// refusal.
@@ -93,7 +90,7 @@ fn read_fields_named<E: Carrier>(
 pub(crate) fn fields_named(input: &mut ParseBuffer<'_>) -> Parsed<FieldsNamed>
     ensures { Parses IsSyntax itself rules.fields_named input.old result input.new }
 {
-    read_fields_named::<Refusal>(input, (LEVELS, PhantomData))
+    read_fields_named::<Refusal>(input, (FIELDS, PhantomData))
 }
 
 /// A field with a name.
@@ -102,7 +99,7 @@ pub(crate) fn named_field(input: &mut ParseBuffer<'_>) -> Parsed<Field>
 {
     let knot = Knot {
         fields_named: read_fields_named::<Refusal>,
-        inside: (LEVELS, PhantomData),
+        inside: (FIELDS, PhantomData),
     };
     field(&knot, input)
 }
