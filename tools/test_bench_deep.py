@@ -43,8 +43,7 @@ class Texts(unittest.TestCase):
             path = Path(folder) / "limits.rt"
             path.write_text((TOP / BENCH.LIMITS).read_text())
             BENCH.without_limits(path)
-            numbers = {line.split(" = ")[1] for line in path.read_text().splitlines() if line.startswith("pub const")}
-        self.assertEqual(numbers, {f"{BENCH.UNLIMITED};"})
+            self.assertEqual(path.read_text().count(f"pub const STACK: u32 = {BENCH.UNLIMITED};"), 1)
 
 
 class Runs(unittest.TestCase):

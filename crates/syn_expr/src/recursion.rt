@@ -17,7 +17,7 @@ use syn_expr_parse::parsing::{
 use syn_expr_parse::trees::Trees;
 use syn_lower::carrier::Carrier;
 use syn_parse::buffer::ParseBuffer;
-use syn_parse::limits::EXPRESSIONS;
+use syn_parse::limits::EXPRESSION;
 use syn_parse::read::Read;
 use syn_parse::read::refusal::{Parsed, Refusal};
 use syn_recognize::deferred::{BlockOf, TreeOf};
@@ -33,7 +33,7 @@ fn nested_expr<E: Carrier>(
 ) -> std::result::Result<Box<Expr>, E>
     ensures parses { Parses E.is_syntax (λ e. whole e.value) (rule_of rung) input.old result input.new }
 {
-    let Some(left) = inside.0.checked_sub(1) else {
+    let Some(left) = inside.0.checked_sub(EXPRESSION) else {
         return Err(E::carry(Refusal::Memory(Some(input.span()))));
     };
     let knot = Knot {
@@ -42,7 +42,10 @@ fn nested_expr<E: Carrier>(
         inside: (left, inside.1),
         trees: PhantomData::<ExprTrees>,
     };
-    match expression(&knot, rung, input) {
+    input.set_stack_left(left);
+    let answer = expression(&knot, rung, input);
+    input.set_stack_left(inside.0);
+    match answer {
         Ok(value) => Ok(value),
         Err(refusal) => Err(E::carry(refusal)),
     }
@@ -56,7 +59,7 @@ fn nested_statements<E: Carrier>(
 ) -> std::result::Result<Vec<Stmt>, E>
     ensures parses { MayParse E.is_syntax (λ v. statements_syntax v.items) rules.statements input.old result input.new }
 {
-    let Some(left) = inside.0.checked_sub(1) else {
+    let Some(left) = inside.0.checked_sub(EXPRESSION) else {
         return Err(E::carry(Refusal::Memory(Some(input.span()))));
     };
     let knot = Knot {
@@ -65,7 +68,10 @@ fn nested_statements<E: Carrier>(
         inside: (left, inside.1),
         trees: PhantomData::<ExprTrees>,
     };
-    match statements(&knot, input) {
+    input.set_stack_left(left);
+    let answer = statements(&knot, input);
+    input.set_stack_left(inside.0);
+    match answer {
         Ok(value) => Ok(value),
         Err(refusal) => Err(E::carry(refusal)),
     }
@@ -79,10 +85,11 @@ impl Read for Expr {
 
     #[tactic(auto, using(crate::specs::Cores::core_view))]
     fn read(input: &mut ParseBuffer<'_>) -> Parsed<Expr> {
+        let left = input.stack_left();
         Ok(ExprTrees::unboxed(nested_expr::<Refusal>(
             Rung::Whole(Spot::Anywhere),
             input,
-            (EXPRESSIONS, PhantomData),
+            (left, PhantomData),
         )?))
     }
 }
@@ -92,10 +99,11 @@ impl TreeOf<0> for Expr {
     ghost whole = { whole };
 
     fn read_tree(input: &mut ParseBuffer<'_>) -> Parsed<Expr> {
+        let left = input.stack_left();
         Ok(ExprTrees::unboxed(nested_expr::<Refusal>(
             Rung::Whole(Spot::Anywhere),
             input,
-            (EXPRESSIONS, PhantomData),
+            (left, PhantomData),
         )?))
     }
 }
@@ -109,7 +117,7 @@ impl TreeOf<1> for Expr {
         let knot = Knot {
             expr: nested_expr::<Refusal>,
             statements: nested_statements::<Refusal>,
-            inside: (EXPRESSIONS, PhantomData),
+            inside: (input.stack_left(), PhantomData),
             trees: PhantomData::<ExprTrees>,
         };
         Ok(ExprTrees::unboxed(constant(&knot, input)?))
@@ -126,7 +134,7 @@ impl Read for Block {
         let knot = Knot {
             expr: nested_expr::<Refusal>,
             statements: nested_statements::<Refusal>,
-            inside: (EXPRESSIONS, PhantomData),
+            inside: (input.stack_left(), PhantomData),
             trees: PhantomData::<ExprTrees>,
         };
         block(&knot, input)
@@ -151,7 +159,7 @@ impl Read for Stmt {
         let knot = Knot {
             expr: nested_expr::<Refusal>,
             statements: nested_statements::<Refusal>,
-            inside: (EXPRESSIONS, PhantomData),
+            inside: (input.stack_left(), PhantomData),
             trees: PhantomData::<ExprTrees>,
         };
         statement(&knot, input)
@@ -163,7 +171,8 @@ impl Block {
     pub fn read_within(input: &mut ParseBuffer<'_>) -> Parsed<Vec<Stmt>>
         ensures parses { MayParse IsSyntax (λ v. statements_syntax v.items) rules.statements input.old result input.new }
     {
-        nested_statements::<Refusal>(input, (EXPRESSIONS, PhantomData))
+        let left = input.stack_left();
+        nested_statements::<Refusal>(input, (left, PhantomData))
     }
 
     /// Parses statements up to the end of the group or stream. They may be none, and the last expression may stand without `;`.
@@ -177,7 +186,8 @@ impl Block {
         ensures kept { Kept input.old result input.new }
     {
         let mut ahead = input.fork();
-        let stmts = nested_statements::<Refusal>(&mut ahead, (EXPRESSIONS, PhantomData))?;
+        let left = input.stack_left();
+        let stmts = nested_statements::<Refusal>(&mut ahead, (left, PhantomData))?;
         input.advance_to(&ahead);
         Ok(stmts)
     }

@@ -25,7 +25,7 @@ use syn_lower::Attribute;
 use syn_lower::attr::outer_attributes;
 use syn_lower::carrier::Carrier;
 use syn_parse::buffer::ParseBuffer;
-use syn_parse::limits::USE_TREES;
+use syn_parse::limits::USE_TREE;
 use syn_parse::read::lists::punctuated_list;
 use syn_parse::read::refusal::{Parsed, Refusal};
 use syn_parse::read::{End, Read};
@@ -135,13 +135,13 @@ fn fault_in_braces(input: &mut ParseBuffer<'_>) -> Refusal {
 /// Trees in braces, with `::` before each or without it.
 fn rooted_group(input: &mut ParseBuffer<'_>) -> Parsed<()> {
     let (_brace_token, mut content) = input.read_group::<kind::Brace>()?;
-    rooted_trees(&mut content, USE_TREES)
+    rooted_trees(&mut content, input.stack_left())
 }
 
-/// Such trees with commas between them, up to the end, of which at most so many stand inside each other.
+/// Such trees with commas between them, up to the end, for which so many KiB of stack are left.
 #[cycle(rooted_trees)]
 fn rooted_trees(input: &mut ParseBuffer<'_>, inside: u32) -> Parsed<()> {
-    let Some(left) = inside.checked_sub(1) else {
+    let Some(left) = inside.checked_sub(USE_TREE) else {
         return Err(Refusal::Memory(Some(input.span())));
     };
     'trees: while !input.is_empty() {
@@ -278,7 +278,7 @@ fn other_name(input: &mut ParseBuffer<'_>) -> Parsed<Ident>
     }
 }
 
-/// How many trees may still stand inside, and what carries a refusal.
+/// How many KiB of stack are left, and what carries a refusal.
 type Inside<E> = (u32, PhantomData<E>);
 
 /// The function that reads a nested tree, and what it is told.
@@ -310,7 +310,7 @@ fn nested_tree<E: Carrier>(
 ) -> std::result::Result<UseTree, E>
     ensures parses { Parses E.is_syntax syntax_of_UseTree rules.use_tree input.old result input.new }
 {
-    let Some(left) = inside.0.checked_sub(1) else {
+    let Some(left) = inside.0.checked_sub(USE_TREE) else {
         return Err(E::carry(Refusal::Memory(Some(input.span()))));
     };
     let knot = Knot {
@@ -325,14 +325,15 @@ fn nested_tree<E: Carrier>(
 
 /// `*`; trees in braces; or a name, `self`, `super`, `crate` or `try`, with `::` and a tree behind it, with `as` and a name or `_`, or alone.
 ///
-/// Where neither a name nor `_` stands behind `as`, the fault is `expected identifier or underscore`. More than `USE_TREES` trees in each
-/// other are refused for memory.
+/// Where neither a name nor `_` stands behind `as`, the fault is `expected identifier or underscore`. What is nested too deep for the stack
+/// is refused as memory is.
 impl Read for UseTree {
     ghost form = { of (rule rules.use_tree) };
 
     ghost meaning = { meaning_of_rule rules.use_tree };
 
     fn read(input: &mut ParseBuffer<'_>) -> Parsed<UseTree> {
-        nested_tree::<Refusal>(input, (USE_TREES, PhantomData))
+        let left = input.stack_left();
+        nested_tree::<Refusal>(input, (left, PhantomData))
     }
 }

@@ -10,7 +10,7 @@ use syn_item::sig::{
 use syn_item::simple::{ItemConst, ItemMod, ItemType, ItemUse, WhereClausePlacement};
 use syn_item::use_tree::{UseName, UseTree};
 use syn_parse::buffer::ParseBuffer;
-use syn_parse::limits::USE_TREES;
+use syn_parse::limits::{STACK, USE_TREE};
 use syn_parse::parse::{Parse, parse2};
 use syn_pat::Pat;
 use syn_tokens::error::Result;
@@ -221,7 +221,7 @@ fn conversions(rt: HostRuntime) {
 fn deep_uses(rt: HostRuntime) {
     let alloc = rt.alloc();
     let mut text = String::new(alloc);
-    for _ in 1..USE_TREES {
+    for _ in 1..STACK / USE_TREE {
         value(&rt, text.push_str("a::").map_err(|e| e.into()));
     }
     let mut longer = value(
@@ -232,7 +232,7 @@ fn deep_uses(rt: HostRuntime) {
     let _tree: UseTree = part(&rt, alloc, text.as_str());
     value(&rt, longer.push_str("a::b").map_err(|e| e.into()));
     let answer: Result<UseTree> = parse2(tokens(&rt, alloc, longer.as_str()));
-    let start = USE_TREES as usize * "a::".len();
+    let start = (STACK / USE_TREE) as usize * "a::".len();
     assert!(rt;
         matches!(answer, Err(error) if error.is_memory() && error.is_too_deep() && error.span().start == start)
     );

@@ -9,7 +9,7 @@ use syn::parse::{Parse, parse2};
 use syn::print::ToTokens;
 use syn::reader::token_text;
 use syn::{Error, Expr, TryClone};
-use syn_parse::limits::{EXPRESSIONS, FIELDS, PATTERNS, TYPES};
+use syn_parse::limits::{EXPRESSION, FIELDS, PATTERN, STACK, TYPE};
 use syn_test_support::printed;
 
 const DEEP: usize = 100_000;
@@ -71,15 +71,25 @@ fn types(rt: HostRuntime) {
     for (before, behind) in AROUND {
         let text = value(
             &rt,
-            repeated(rt.alloc(), around(TYPES), before, "u8", behind),
+            repeated(rt.alloc(), around(TYPE), before, "u8", behind),
         );
         assert_read_again::<Type>(&rt, rt.alloc(), text.as_str());
     }
 }
 
-/// How many may stand around the innermost one, where so many may be read in each other.
-fn around(limit: u32) -> usize {
-    (limit as usize).saturating_sub(1)
+/// How many may be read in each other, where one takes so many KiB of stack.
+fn most(kib: u32) -> usize {
+    fit(STACK, kib)
+}
+
+/// How many of so many KiB fit into all of these.
+fn fit(all: u32, kib: u32) -> usize {
+    all.checked_div(kib).unwrap_or(0) as usize
+}
+
+/// How many may stand around the innermost one.
+fn around(kib: u32) -> usize {
+    most(kib).saturating_sub(1)
 }
 
 /// Whether the error says that what is nested goes too deep at the token that begins at this byte.
@@ -97,16 +107,16 @@ fn assert_too_deep<T: Parse + Drop>(rt: &impl Abort, alloc: Global, text: &str, 
     );
 }
 
-/// Fails where one more than so many in each other aren't refused as nested too deep, nor far more; each stands right behind what stands
-/// before it.
+/// Fails where one more than fit, of so many KiB each, aren't refused as nested too deep, nor far more; each stands right behind what
+/// stands before it.
 fn assert_limited<T: Parse + Drop>(
     rt: &impl Abort,
     alloc: Global,
-    limit: u32,
+    kib: u32,
     (before, inside, behind): (&str, &str, &str),
 ) {
-    let start = limit as usize * before.len();
-    for depth in [limit as usize, 10_000] {
+    let start = most(kib).saturating_mul(before.len());
+    for depth in [most(kib), 10_000] {
         let text = value(rt, repeated(alloc, depth, before, inside, behind));
         assert_too_deep::<T>(rt, alloc, text.as_str(), start);
     }
@@ -115,7 +125,7 @@ fn assert_limited<T: Parse + Drop>(
 #[test]
 fn deeper_types_are_refused(rt: HostRuntime) {
     for (before, behind) in AROUND {
-        assert_limited::<Type>(&rt, rt.alloc(), TYPES, (before, "u8", behind));
+        assert_limited::<Type>(&rt, rt.alloc(), TYPE, (before, "u8", behind));
     }
 }
 
@@ -134,7 +144,7 @@ const AROUND_EXPRESSIONS: &[(&str, &str)] = &[
 #[test]
 fn expressions(rt: HostRuntime) {
     for (before, behind) in AROUND_EXPRESSIONS {
-        let depth = around(EXPRESSIONS);
+        let depth = around(EXPRESSION);
         let text = value(&rt, repeated(rt.alloc(), depth, before, "a", behind));
         assert_read_again::<Expr>(&rt, rt.alloc(), text.as_str());
     }
@@ -143,7 +153,7 @@ fn expressions(rt: HostRuntime) {
 #[test]
 fn deeper_expressions_are_refused(rt: HostRuntime) {
     for (before, behind) in AROUND_EXPRESSIONS {
-        assert_limited::<Expr>(&rt, rt.alloc(), EXPRESSIONS, (before, "a", behind));
+        assert_limited::<Expr>(&rt, rt.alloc(), EXPRESSION, (before, "a", behind));
     }
 }
 
@@ -155,36 +165,63 @@ fn chain_of_ifs(alloc: Global, count: usize) -> Result<String, AllocError> {
 /// The condition of an `if` is an expression in it.
 #[test]
 fn chains_of_else_if(rt: HostRuntime) {
-    let text = value(&rt, chain_of_ifs(rt.alloc(), around(EXPRESSIONS)));
+    let text = value(&rt, chain_of_ifs(rt.alloc(), around(EXPRESSION)));
     assert_read_again::<Expr>(&rt, rt.alloc(), text.as_str());
-    let text = value(&rt, chain_of_ifs(rt.alloc(), EXPRESSIONS as usize));
-    let start = around(EXPRESSIONS) * "if a {} else ".len() + "if ".len();
+    let text = value(&rt, chain_of_ifs(rt.alloc(), most(EXPRESSION)));
+    let start = around(EXPRESSION).saturating_mul("if a {} else ".len());
+    assert_too_deep::<Expr>(
+        &rt,
+        rt.alloc(),
+        text.as_str(),
+        start.saturating_add("if ".len()),
+    );
+}
+
+/// A cast to a type behind so many `&`, in so many parentheses.
+fn cast(alloc: Global, references: usize, depth: usize) -> Result<String, AllocError> {
+    let mut text = String::new(alloc);
+    text.push_str("a as ")?;
+    text.push_str(repeated(alloc, references, "&", "u8", "")?.as_str())?;
+    repeated(alloc, depth, "(", text.as_str(), ")")
+}
+
+/// Types in expressions have the stack that those leave.
+#[test]
+fn types_in_expressions(rt: HostRuntime) {
+    let left = fit(STACK.saturating_sub(61 * EXPRESSION), TYPE);
+    let text = value(&rt, cast(rt.alloc(), left.saturating_sub(1), 60));
+    assert_read_again::<Expr>(&rt, rt.alloc(), text.as_str());
+    let text = value(&rt, cast(rt.alloc(), around(TYPE), 60));
+    let start = left.saturating_add(60).saturating_add("a as ".len());
     assert_too_deep::<Expr>(&rt, rt.alloc(), text.as_str(), start);
 }
 
 /// A local with a name in so many parentheses.
 fn local(alloc: Global, depth: usize) -> Result<String, AllocError> {
     let pattern = repeated(alloc, depth, "(", "a", ")")?;
-    let mut text = String::from_str(alloc, "let ")?;
+    let mut text = String::new(alloc);
+    text.push_str("let ")?;
     text.push_str(pattern.as_str())?;
     text.push_str(" = b;")?;
     Ok(text)
 }
 
+/// The statements that a pattern stands in count as an expression.
 #[test]
 fn patterns(rt: HostRuntime) {
-    let text = value(&rt, local(rt.alloc(), around(PATTERNS)));
+    let left = fit(STACK.saturating_sub(EXPRESSION), PATTERN);
+    let text = value(&rt, local(rt.alloc(), left.saturating_sub(1)));
     assert_read_again::<Stmts>(&rt, rt.alloc(), text.as_str());
-    let start = "let ".len() + PATTERNS as usize;
-    for depth in [PATTERNS as usize, 10_000] {
+    let start = left.saturating_add("let ".len());
+    for depth in [left, 10_000] {
         let text = value(&rt, local(rt.alloc(), depth));
         assert_too_deep::<Stmts>(&rt, rt.alloc(), text.as_str(), start);
     }
 }
 
-/// So many braces with one field around braces with one.
+/// So many braces with one field around braces without one.
 fn fields_inside(alloc: Global, depth: usize) -> Result<String, AllocError> {
-    repeated(alloc, depth, "{ _: struct ", "{ a: u8 }", " }")
+    repeated(alloc, depth, "{ _: struct ", "{}", " }")
 }
 
 #[test]
@@ -192,5 +229,5 @@ fn deeper_fields_are_refused(rt: HostRuntime) {
     let text = value(&rt, fields_inside(rt.alloc(), around(FIELDS)));
     let fields: FieldsNamed = tree_of(&rt, rt.alloc(), text.as_str());
     assert!(rt; fields.named.len() == 1);
-    assert_limited::<FieldsNamed>(&rt, rt.alloc(), FIELDS, ("{ _: struct ", "{ a: u8 }", " }"));
+    assert_limited::<FieldsNamed>(&rt, rt.alloc(), FIELDS, ("{ _: struct ", "{}", " }"));
 }

@@ -44,8 +44,7 @@ pub(crate) trait Nested {
         ensures { Parses IsSyntax itself rules.fields_named input.old result input.new };
 }
 
-/// The parser itself, as what reads the fields inside, and what it is told: how many braces may still stand inside, and what carries a
-/// refusal.
+/// The parser itself, as what reads the fields inside, and what it is told: how many KiB of stack are left, and what carries a refusal.
 #[derive(Drop)]
 struct Knot<E, F> {
     fields_named: F,
@@ -73,14 +72,17 @@ fn read_fields_named<E: Carrier>(
 ) -> std::result::Result<FieldsNamed, E>
     ensures { Parses E.is_syntax itself rules.fields_named input.old result input.new }
 {
-    let Some(left) = inside.0.checked_sub(1) else {
+    let Some(left) = inside.0.checked_sub(FIELDS) else {
         return Err(E::carry(Refusal::Memory(Some(input.span()))));
     };
     let knot = Knot {
         fields_named: read_fields_named::<E>,
         inside: (left, inside.1),
     };
-    match braced_fields(&knot, input) {
+    input.set_stack_left(left);
+    let answer = braced_fields(&knot, input);
+    input.set_stack_left(inside.0);
+    match answer {
         Ok(fields) => Ok(fields),
         Err(refusal) => Err(E::carry(refusal)),
     }
@@ -90,7 +92,8 @@ fn read_fields_named<E: Carrier>(
 pub(crate) fn fields_named(input: &mut ParseBuffer<'_>) -> Parsed<FieldsNamed>
     ensures { Parses IsSyntax itself rules.fields_named input.old result input.new }
 {
-    read_fields_named::<Refusal>(input, (FIELDS, PhantomData))
+    let left = input.stack_left();
+    read_fields_named::<Refusal>(input, (left, PhantomData))
 }
 
 /// A field with a name.
@@ -99,7 +102,7 @@ pub(crate) fn named_field(input: &mut ParseBuffer<'_>) -> Parsed<Field>
 {
     let knot = Knot {
         fields_named: read_fields_named::<Refusal>,
-        inside: (FIELDS, PhantomData),
+        inside: (input.stack_left(), PhantomData),
     };
     field(&knot, input)
 }
