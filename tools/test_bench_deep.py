@@ -18,18 +18,17 @@ LOADER.exec_module(BENCH)
 
 PARENTHESES = next(it for it in BENCH.forms([]) if it.name == "parentheses")
 
-# Refuses what is longer than 60 characters, and ends by a signal where it is longer than 90.
+# Refuses what is longer than 60 characters, or ends by a signal then.
 PROGRAM = """#!/bin/sh
 read -r text kind
-[ ${#text} -gt 90 ] && kill -SEGV $$
-[ ${#text} -gt 60 ] && echo '0 printed, 1 beyond trees' || echo '1 printed, 0 beyond trees'
+[ ${#text} -gt 60 ] && %s || echo '1 printed, 0 beyond trees'
 """
 
 
 class Texts(unittest.TestCase):
-    def test_depths_grow_by_a_tenth(self):
-        self.assertEqual(BENCH.depths(13), [8, 9, 10, 11, 12, 13])
-        self.assertEqual(BENCH.depths(100)[-2:], [94, 103])
+    def test_depths_grow_by_a_seventh(self):
+        self.assertEqual(BENCH.depths(22), [16, 18, 20, 23])
+        self.assertEqual(BENCH.depths(100)[-2:], [94, 108])
 
     def test_lines_are_hex_digits_and_a_kind(self):
         self.assertEqual(BENCH.line_of(PARENTHESES, 2), b"let _ = ((a));".hex() + " stmts\n")
@@ -53,14 +52,18 @@ class Runs(unittest.TestCase):
         self.assertEqual(BENCH.outcome(-11, ""), BENCH.ENDED)
         self.assertEqual(BENCH.outcome(None, ""), BENCH.ENDED)
 
-    def test_a_program(self):
+    def fits(self, otherwise, most):
         with tempfile.TemporaryDirectory() as folder:
             path = Path(folder) / "program"
-            path.write_text(PROGRAM)
+            path.write_text(PROGRAM % otherwise)
             os.chmod(path, 0o755)
-            lines = [f"{'0' * length} item\n" for length in (10, 70, 100)]
-            found = BENCH.built(str(path), 1024, lines)
-        self.assertEqual(found, [BENCH.ANSWERED, BENCH.REFUSED, BENCH.ENDED])
+            return BENCH.built(str(path), 1024, PARENTHESES, most)
+
+    def test_a_program(self):
+        # the text is 10 characters and two a level, and each is two digits
+        self.assertEqual(self.fits("echo '0 printed, 1 beyond trees'", 100), (10, BENCH.REFUSED))
+        self.assertEqual(self.fits("kill -SEGV $$", 100), (10, BENCH.ENDED))
+        self.assertEqual(self.fits("kill -SEGV $$", 10), (10, None))
 
     def test_what_a_trial_tells(self):
         said = b"case=0 run=ended status=0 x\ncase=1 run=ended status=139 x\n"
@@ -69,18 +72,17 @@ class Runs(unittest.TestCase):
 
 
 class Rows(unittest.TestCase):
-    def row(self, *outcomes):
-        return BENCH.row_of(PARENTHESES, [8, 10, 20], outcomes, 1000)
+    def test_what_fits_a_trial(self):
+        levels = [8, 10, 20]
+        self.assertEqual(BENCH.first_wrong(levels, [BENCH.ANSWERED, BENCH.REFUSED, BENCH.ENDED]), (8, BENCH.REFUSED))
+        self.assertEqual(BENCH.first_wrong(levels, [BENCH.ANSWERED] * 3), (20, None))
+        self.assertEqual(BENCH.first_wrong(levels, [BENCH.ENDED] * 3), (0, BENCH.ENDED))
 
-    def test_the_stack_ends(self):
-        self.assertEqual(self.row(BENCH.ANSWERED, BENCH.ANSWERED, BENCH.ENDED), "| parentheses | 10 | ended | 102400 |")
-
-    def test_refused(self):
-        self.assertEqual(self.row(BENCH.ANSWERED, BENCH.REFUSED, BENCH.ENDED), "| parentheses | 8 | refused | - |")
-
-    def test_all_and_none(self):
-        self.assertEqual(self.row(*[BENCH.ANSWERED] * 3), "| parentheses | 20 | | |")
-        self.assertEqual(self.row(*[BENCH.ENDED] * 3), "| parentheses | 0 | ended | - |")
+    def test_rows(self):
+        self.assertEqual(BENCH.row_of(PARENTHESES, 10, BENCH.ENDED, 1000), "| parentheses | 10 | ended | 102400 |")
+        self.assertEqual(BENCH.row_of(PARENTHESES, 8, BENCH.REFUSED, 1000), "| parentheses | 8 | refused | - |")
+        self.assertEqual(BENCH.row_of(PARENTHESES, 20, None, 1000), "| parentheses | 20 | - | - |")
+        self.assertEqual(BENCH.row_of(PARENTHESES, 0, BENCH.ENDED, 1000), "| parentheses | 0 | ended | - |")
 
 
 if __name__ == "__main__":
