@@ -11,7 +11,7 @@ pub const STACK: u32 = 5461;
 pub const TYPE: u32 = 36;
 
 /// A pattern in another.
-pub const PATTERN: u32 = 36;
+pub const PATTERN: u32 = 18;
 
 /// An expression or a block in another.
 pub const EXPRESSION: u32 = 42;
@@ -20,4 +20,4 @@ pub const EXPRESSION: u32 = 42;
 pub const FIELDS: u32 = 28;
 
 /// A tree of a use in another, behind `::` and in braces.
-pub const USE_TREE: u32 = 27;
+pub const USE_TREE: u32 = 18;
