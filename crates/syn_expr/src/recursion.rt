@@ -12,7 +12,7 @@ use crate::trees::ExprTrees;
 use crate::{Block, Expr, Stmt};
 use std::marker::PhantomData;
 use syn_expr_parse::parsing::{
-    Inside, Knot, Rung, Spot, block, constant, expression, statement, statements,
+    Inside, Knot, Rung, Spot, block, constant, expression_within, statement, statements_within,
 };
 use syn_expr_parse::trees::Trees;
 use syn_lower::carrier::Carrier;
@@ -42,10 +42,7 @@ fn nested_expr<E: Carrier>(
         inside: (left, inside.1),
         trees: PhantomData::<ExprTrees>,
     };
-    input.set_stack_left(left);
-    let answer = expression(&knot, rung, input);
-    input.set_stack_left(inside.0);
-    match answer {
+    match expression_within(left, &knot, rung, input) {
         Ok(value) => Ok(value),
         Err(refusal) => Err(E::carry(refusal)),
     }
@@ -68,10 +65,7 @@ fn nested_statements<E: Carrier>(
         inside: (left, inside.1),
         trees: PhantomData::<ExprTrees>,
     };
-    input.set_stack_left(left);
-    let answer = statements(&knot, input);
-    input.set_stack_left(inside.0);
-    match answer {
+    match statements_within(left, &knot, input) {
         Ok(value) => Ok(value),
         Err(refusal) => Err(E::carry(refusal)),
     }

@@ -60,6 +60,18 @@ fn pattern<N: NestedPat>(nested: &N, input: &mut ParseBuffer<'_>) -> Parsed<Pat>
     }
 }
 
+/// A pattern that is left so many KiB of stack.
+fn pattern_within<N: NestedPat>(kib: u32, nested: &N, input: &mut ParseBuffer<'_>) -> Parsed<Pat>
+    requires { MayBelow N.may nested.now input.old }
+    ensures parses { Parses IsSyntax syntax_of_Pat rules.pattern input.old result input.new }
+{
+    let outside = input.stack_left();
+    input.set_stack_left(kib);
+    let answer = pattern(nested, input);
+    input.set_stack_left(outside);
+    answer
+}
+
 /// `_`.
 #[tactic(auto, unfolding(syn_lower::specs::Attributes::outer_listed))]
 fn wild(input: &mut ParseBuffer<'_>) -> Parsed<Pat>
@@ -194,10 +206,7 @@ fn nested_pattern<E: Carrier>(
         pat: nested_pattern::<E>,
         inside: (left, inside.1),
     };
-    input.set_stack_left(left);
-    let answer = pattern(&knot, input);
-    input.set_stack_left(inside.0);
-    match answer {
+    match pattern_within(left, &knot, input) {
         Ok(value) => Ok(value),
         Err(refusal) => Err(E::carry(refusal)),
     }

@@ -79,10 +79,7 @@ fn read_fields_named<E: Carrier>(
         fields_named: read_fields_named::<E>,
         inside: (left, inside.1),
     };
-    input.set_stack_left(left);
-    let answer = braced_fields(&knot, input);
-    input.set_stack_left(inside.0);
-    match answer {
+    match fields_within(left, &knot, input) {
         Ok(fields) => Ok(fields),
         Err(refusal) => Err(E::carry(refusal)),
     }
@@ -117,6 +114,22 @@ fn braced_fields<N: Nested>(nested: &N, input: &mut ParseBuffer<'_>) -> Parsed<F
     let named = named_fields(nested, &mut content)?;
     content.read_end()?;
     Ok(FieldsNamed { brace_token, named })
+}
+
+/// Fields with names, in braces, that are left so many KiB of stack.
+fn fields_within<N: Nested>(
+    kib: u32,
+    nested: &N,
+    input: &mut ParseBuffer<'_>,
+) -> Parsed<FieldsNamed>
+    requires { MayBelow N.may nested.now input.old }
+    ensures { Parses IsSyntax itself rules.fields_named input.old result input.new }
+{
+    let outside = input.stack_left();
+    input.set_stack_left(kib);
+    let answer = braced_fields(nested, input);
+    input.set_stack_left(outside);
+    answer
 }
 
 /// Fields with names, separated by commas; the last comma may stand or not.
