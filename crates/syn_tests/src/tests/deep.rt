@@ -1,5 +1,5 @@
 //! Texts and trees that are nested deep.
-use crate::tests::asserts::{tokens_of, tree_of, value};
+use crate::tests::asserts::{tokens_of, too_deep_at, tree_of, value};
 use std::alloc::{AllocError, Global};
 use std::process::Abort;
 use syn::canon::Stmts;
@@ -8,7 +8,7 @@ use syn::lower::Type;
 use syn::parse::{Parse, parse2};
 use syn::print::ToTokens;
 use syn::reader::token_text;
-use syn::{Error, Expr, TryClone};
+use syn::{Expr, TryClone};
 use syn_parse::limits::{EXPRESSION, FIELDS, PATTERN, STACK, TYPE};
 use syn_test_support::printed;
 
@@ -92,19 +92,11 @@ fn around(kib: u32) -> usize {
     most(kib).saturating_sub(1)
 }
 
-/// Whether the error says that what is nested goes too deep at the token that begins at this byte.
-fn is_too_deep(error: &Error, start: usize) -> bool {
-    error.is_memory() && error.is_too_deep() && error.span().start == start
-}
-
 /// Fails where the text isn't refused as a `T` as nested too deep, with the token at this byte the first that is.
 fn assert_too_deep<T: Parse + Drop>(rt: &impl Abort, alloc: Global, text: &str, start: usize) {
     let tokens = tokens_of(rt, alloc, text);
-    let answer = parse2::<T>(tokens);
-    assert!(rt;
-        matches!(&answer, Err(error) if is_too_deep(error, start)),
-        "{text}"
-    );
+    let span = too_deep_at(rt, parse2::<T>(tokens));
+    assert!(rt; span.start == start, "{text}");
 }
 
 /// Fails where one more than fit, of so many KiB each, aren't refused as nested too deep, nor far more; each stands right behind what

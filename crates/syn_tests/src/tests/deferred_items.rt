@@ -1,5 +1,5 @@
 //! Items, statements and blocks that are deferred: opened, and deferred once more.
-use crate::tests::asserts::{assert_printed, assert_text, tokens_of, tree_of, value};
+use crate::tests::asserts::{assert_printed, assert_text, tokens_of, too_deep_at, tree_of, value};
 use std::alloc::Global;
 use std::process::Abort;
 use syn::canon::Stmts;
@@ -240,5 +240,5 @@ fn deep_bodies(rt: HostRuntime) {
     assert!(rt; opened.is_ok());
     let text = nested_braces(&rt, rt.alloc(), 200);
     let opened: Result<Block> = body(&rt, rt.alloc(), text.as_str()).open();
-    assert!(rt; matches!(opened, Err(error) if error.is_memory() && error.is_too_deep()));
+    let _span = too_deep_at(&rt, opened);
 }
