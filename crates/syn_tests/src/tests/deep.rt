@@ -2,13 +2,12 @@
 use crate::tests::asserts::{tokens_of, too_deep_at, tree_of, value};
 use std::alloc::{AllocError, Global};
 use std::process::Abort;
-use syn::canon::Stmts;
 use syn::data::FieldsNamed;
 use syn::lower::Type;
 use syn::parse::{Parse, parse2};
 use syn::print::ToTokens;
 use syn::reader::token_text;
-use syn::{Expr, TryClone};
+use syn::{Block, Expr, TryClone};
 use syn_parse::limits::{EXPRESSION, FIELDS, PATTERN, STACK, TYPE};
 use syn_test_support::printed;
 
@@ -188,13 +187,13 @@ fn types_in_expressions(rt: HostRuntime) {
     assert_too_deep::<Expr>(&rt, rt.alloc(), text.as_str(), start);
 }
 
-/// A local with a name in so many parentheses.
+/// A block with a local, whose name is in so many parentheses.
 fn local(alloc: Global, depth: usize) -> Result<String, AllocError> {
     let pattern = repeated(alloc, depth, "(", "a", ")")?;
     let mut text = String::new(alloc);
-    text.push_str("let ")?;
+    text.push_str("{ let ")?;
     text.push_str(pattern.as_str())?;
-    text.push_str(" = b;")?;
+    text.push_str(" = b; }")?;
     Ok(text)
 }
 
@@ -203,11 +202,11 @@ fn local(alloc: Global, depth: usize) -> Result<String, AllocError> {
 fn patterns(rt: HostRuntime) {
     let left = fit(STACK.saturating_sub(EXPRESSION), PATTERN);
     let text = value(&rt, local(rt.alloc(), left.saturating_sub(1)));
-    assert_read_again::<Stmts>(&rt, rt.alloc(), text.as_str());
-    let start = left.saturating_add("let ".len());
+    assert_read_again::<Block>(&rt, rt.alloc(), text.as_str());
+    let start = left.saturating_add("{ let ".len());
     for depth in [left, 10_000] {
         let text = value(&rt, local(rt.alloc(), depth));
-        assert_too_deep::<Stmts>(&rt, rt.alloc(), text.as_str(), start);
+        assert_too_deep::<Block>(&rt, rt.alloc(), text.as_str(), start);
     }
 }
 
