@@ -12,19 +12,17 @@ use crate::trees::ExprTrees;
 use crate::{Block, Expr, Stmt};
 use std::marker::PhantomData;
 use syn_expr_parse::parsing::{
-    Inside, Knot, Rung, Spot, block, constant, expression, statement, statements,
+    Inside, Knot, Rung, Spot, block, constant, expression_within, statement, statements_within,
 };
 use syn_expr_parse::trees::Trees;
 use syn_lower::carrier::Carrier;
 use syn_parse::buffer::ParseBuffer;
+use syn_parse::limits::EXPRESSION;
 use syn_parse::read::Read;
 use syn_parse::read::refusal::{Parsed, Refusal};
 use syn_recognize::deferred::{BlockOf, TreeOf};
 use syn_tokens::error::Result;
 use syn_tokens::token::Brace;
-
-/// How many expressions and blocks may stand inside each other. The stack is memory too, and is refused for what is deeper.
-const LEVELS: u32 = 50;
 
 /// An expression inside of another, or of a block.
 #[cycle(knot)]
@@ -35,8 +33,8 @@ fn nested_expr<E: Carrier>(
 ) -> std::result::Result<Box<Expr>, E>
     ensures parses { Parses E.is_syntax (λ e. whole e.value) (rule_of rung) input.old result input.new }
 {
-    let Some(left) = inside.0.checked_sub(1) else {
-        return Err(E::carry(Refusal::Memory));
+    let Some(left) = inside.0.checked_sub(EXPRESSION) else {
+        return Err(E::carry(Refusal::Memory(Some(input.span()))));
     };
     let knot = Knot {
         expr: nested_expr::<E>,
@@ -44,7 +42,7 @@ fn nested_expr<E: Carrier>(
         inside: (left, inside.1),
         trees: PhantomData::<ExprTrees>,
     };
-    match expression(&knot, rung, input) {
+    match expression_within(left, &knot, rung, input) {
         Ok(value) => Ok(value),
         Err(refusal) => Err(E::carry(refusal)),
     }
@@ -58,8 +56,8 @@ fn nested_statements<E: Carrier>(
 ) -> std::result::Result<Vec<Stmt>, E>
     ensures parses { MayParse E.is_syntax (λ v. statements_syntax v.items) rules.statements input.old result input.new }
 {
-    let Some(left) = inside.0.checked_sub(1) else {
-        return Err(E::carry(Refusal::Memory));
+    let Some(left) = inside.0.checked_sub(EXPRESSION) else {
+        return Err(E::carry(Refusal::Memory(Some(input.span()))));
     };
     let knot = Knot {
         expr: nested_expr::<E>,
@@ -67,7 +65,7 @@ fn nested_statements<E: Carrier>(
         inside: (left, inside.1),
         trees: PhantomData::<ExprTrees>,
     };
-    match statements(&knot, input) {
+    match statements_within(left, &knot, input) {
         Ok(value) => Ok(value),
         Err(refusal) => Err(E::carry(refusal)),
     }
@@ -81,10 +79,11 @@ impl Read for Expr {
 
     #[tactic(auto, using(crate::specs::Cores::core_view))]
     fn read(input: &mut ParseBuffer<'_>) -> Parsed<Expr> {
+        let left = input.stack_left();
         Ok(ExprTrees::unboxed(nested_expr::<Refusal>(
             Rung::Whole(Spot::Anywhere),
             input,
-            (LEVELS, PhantomData),
+            (left, PhantomData),
         )?))
     }
 }
@@ -94,10 +93,11 @@ impl TreeOf<0> for Expr {
     ghost whole = { whole };
 
     fn read_tree(input: &mut ParseBuffer<'_>) -> Parsed<Expr> {
+        let left = input.stack_left();
         Ok(ExprTrees::unboxed(nested_expr::<Refusal>(
             Rung::Whole(Spot::Anywhere),
             input,
-            (LEVELS, PhantomData),
+            (left, PhantomData),
         )?))
     }
 }
@@ -111,7 +111,7 @@ impl TreeOf<1> for Expr {
         let knot = Knot {
             expr: nested_expr::<Refusal>,
             statements: nested_statements::<Refusal>,
-            inside: (LEVELS, PhantomData),
+            inside: (input.stack_left(), PhantomData),
             trees: PhantomData::<ExprTrees>,
         };
         Ok(ExprTrees::unboxed(constant(&knot, input)?))
@@ -128,7 +128,7 @@ impl Read for Block {
         let knot = Knot {
             expr: nested_expr::<Refusal>,
             statements: nested_statements::<Refusal>,
-            inside: (LEVELS, PhantomData),
+            inside: (input.stack_left(), PhantomData),
             trees: PhantomData::<ExprTrees>,
         };
         block(&knot, input)
@@ -153,7 +153,7 @@ impl Read for Stmt {
         let knot = Knot {
             expr: nested_expr::<Refusal>,
             statements: nested_statements::<Refusal>,
-            inside: (LEVELS, PhantomData),
+            inside: (input.stack_left(), PhantomData),
             trees: PhantomData::<ExprTrees>,
         };
         statement(&knot, input)
@@ -165,7 +165,8 @@ impl Block {
     pub fn read_within(input: &mut ParseBuffer<'_>) -> Parsed<Vec<Stmt>>
         ensures parses { MayParse IsSyntax (λ v. statements_syntax v.items) rules.statements input.old result input.new }
     {
-        nested_statements::<Refusal>(input, (LEVELS, PhantomData))
+        let left = input.stack_left();
+        nested_statements::<Refusal>(input, (left, PhantomData))
     }
 
     /// Parses statements up to the end of the group or stream. They may be none, and the last expression may stand without `;`.
@@ -179,7 +180,8 @@ impl Block {
         ensures kept { Kept input.old result input.new }
     {
         let mut ahead = input.fork();
-        let stmts = nested_statements::<Refusal>(&mut ahead, (LEVELS, PhantomData))?;
+        let left = input.stack_left();
+        let stmts = nested_statements::<Refusal>(&mut ahead, (left, PhantomData))?;
         input.advance_to(&ahead);
         Ok(stmts)
     }

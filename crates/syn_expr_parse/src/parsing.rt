@@ -17,5 +17,5 @@ pub use blocks::block;
 pub use knot::{Inside, Knot};
 pub use nested::{Block, Expr, FieldValue, LocalInit, Nested, Rung, Spot, Stmt};
 pub use primary::constant;
-pub use recursion::expression;
-pub use stmts::{statement, statements};
+pub use recursion::{expression_within, statements_within};
+pub use stmts::statement;

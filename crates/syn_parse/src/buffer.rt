@@ -14,6 +14,7 @@ ghost use Rattle.syn_tokens.specs.Cursors.{before_next};
 ghost use Rattle.syn_parse.specs.Opened.{ComputesOpened, content_of};
 
 use crate::buffer::first_token::split_group;
+use crate::limits::STACK;
 use crate::read::refusal::{Parsed, Refusal};
 use crate::read::{Peek, Read};
 use std::alloc::Global;
@@ -40,6 +41,8 @@ pub struct ParseBuffer<'a> {
     tokens: Cursor<'a>,
     end: Span,
     alloc: Global,
+    /// How many KiB of stack are left to what is read. No contract speaks of it.
+    stack_left: u32,
 }
 
 impl<'a> Model for ParseBuffer<'a> {
@@ -99,6 +102,7 @@ impl<'a> ParseBuffer<'a> {
             tokens: stream.cursor(),
             end: end_of(stream.entries()),
             alloc: stream.alloc(),
+            stack_left: STACK,
         }
     }
 
@@ -110,6 +114,7 @@ impl<'a> ParseBuffer<'a> {
             tokens: self.tokens.fork(),
             end: self.end,
             alloc: self.alloc,
+            stack_left: self.stack_left,
         }
     }
 
@@ -131,6 +136,18 @@ impl<'a> ParseBuffer<'a> {
     /// Where what is read takes its memory from.
     pub fn alloc(&self) -> Global {
         self.alloc
+    }
+
+    /// How many KiB of stack are left to what is read.
+    pub fn stack_left(&self) -> u32 {
+        self.stack_left
+    }
+
+    /// Has what is read take no more stack than so many KiB.
+    pub fn set_stack_left(&mut self, kib: u32)
+        ensures { self.new ≡ self.old }
+    {
+        self.stack_left = kib;
     }
 
     /// Whether nothing is left.
@@ -197,6 +214,7 @@ impl<'a> ParseBuffer<'a> {
             tokens,
             end: self.end,
             alloc: self.alloc,
+            stack_left: self.stack_left,
         }
     }
 
@@ -233,6 +251,7 @@ impl<'a> ParseBuffer<'a> {
             tokens: group.content,
             end: group.closing,
             alloc: self.alloc,
+            stack_left: self.stack_left,
         };
         Ok((Delimiters::new(group.opening, group.closing), content))
     }
@@ -246,6 +265,7 @@ impl<'a> ParseBuffer<'a> {
             tokens: group.content,
             end: group.closing,
             alloc: self.alloc,
+            stack_left: self.stack_left,
         })
     }
 

@@ -28,7 +28,7 @@ fn run<'a>(steps: &mut Vec<Step<'a>>, out: &mut Writer, input: &mut ParseBuffer<
         };
         take(step, steps, out, input)?;
     }
-    Err(Refusal::Memory)
+    Err(Refusal::Memory(None))
 }
 
 /// These tokens once more. Refused only where memory is.
@@ -37,7 +37,7 @@ pub(crate) fn copy_of(tokens: &TokenStream) -> Parsed<TokenStream>
 {
     match tokens.try_clone(tokens.alloc()) {
         Ok(copy) => Ok(copy),
-        Err(_) => Err(Refusal::Memory),
+        Err(_) => Err(Refusal::Memory(None)),
     }
 }
 

@@ -1,5 +1,5 @@
 //! What is written.
-ghost use Rattle.std.specs.Prelude.{◌≡◌, true, false, OnOk};
+ghost use Rattle.std.specs.Prelude.{◌≡◌, true, false, None, OnOk};
 ghost use Rattle.syn_grammar.specs.Tokens.{ident, leaf, punct, end};
 ghost use Rattle.syn_tokens.specs.Punct.{is_joint, is_punct_character};
 ghost use Rattle.syn_tokens.specs.Spelled.{is_plain_word};
@@ -181,11 +181,11 @@ impl Writer {
 
     /// What was guessed of a list or a plan was wrong: refuses as where memory is, and remembers it.
     pub(crate) fn wrong_guess(&mut self) -> Refusal
-        ensures memory { result ≡ Memory }
+        ensures memory { result ≡ Memory None }
         ensures unchanged { self.new ≡ self.old }
     {
         self.mistaken = true;
-        Refusal::Memory
+        Refusal::Memory(None)
     }
 
     /// Whether what was guessed of a list or a plan was wrong.
@@ -332,7 +332,7 @@ impl Writer {
         };
         match out.finish() {
             Ok(stream) => Ok((stream, notes)),
-            Err(_) => Err(Refusal::Memory),
+            Err(_) => Err(Refusal::Memory(None)),
         }
     }
 }
