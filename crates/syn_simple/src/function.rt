@@ -4,7 +4,6 @@ mod parsing;
 
 use crate::sig::Signature;
 pub use parsing::function;
-pub(crate) use parsing::function_rest;
 use syn_lower::Attribute;
 use syn_recognize::deferred::DeferredBlock;
 use syn_tree::item::FnModifiers;

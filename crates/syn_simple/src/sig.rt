@@ -17,7 +17,6 @@ mod parsing;
 mod wrappers;
 
 pub use parsing::{foreign_signature, safe_or_unsafe};
-pub(crate) use parsing::{Qualifiers, signature_rest, unsafe_only};
 use std::alloc::{AllocError, Global};
 use syn_lower::attr::print_outer;
 use syn_lower::{Attribute, Generics, ReturnType, Type};

@@ -19,11 +19,9 @@ mod values;
 use crate::parts::{print_bounds_end, print_typed_value};
 use crate::use_tree::UseTree;
 pub use aliases::{aliased_bounds, type_behind_head};
-pub(crate) use aliases::{trait_alias, trait_alias_rest, type_alias, type_rest};
+pub(crate) use macro_items::ended_group;
 pub use macro_items::macro_as_item_rest;
-pub(crate) use macro_items::{ended_group, macro_rest};
 pub use modules::{extern_crate, module};
-pub(crate) use modules::{extern_crate_rest, module_rest};
 use std::alloc::{AllocError, Global};
 use syn_lower::attr::{print_before_body, print_inner, print_outer};
 use syn_lower::{Attribute, Generics, Type, TypeParamBound};
@@ -44,7 +42,6 @@ use syn_tokens::token::{
 use syn_tokens::{error, token};
 use syn_tree::item::{ConstModifiers, TypeModifiers};
 use syn_tree::restriction::Visibility;
-pub(crate) use values::{const_rest, constant, static_item, static_rest};
 
 /// A constant, such as `const A: u8 = 1;`.
 #[derive(Drop)]

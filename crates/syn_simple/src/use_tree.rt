@@ -3,7 +3,6 @@
 mod parsing;
 
 pub use parsing::use_item;
-pub(crate) use parsing::use_rest;
 use syn_tokens::ident::Ident;
 use syn_tokens::punctuated::Punctuated;
 use syn_tokens::token::{As, Brace, Comma, PathSep, Star};

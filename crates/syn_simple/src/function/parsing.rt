@@ -36,7 +36,7 @@ impl Read for ItemFn {
 
 /// A function behind its attributes.
 #[tactic(auto, using(syn_grammar::proofs::Each::function_rest_is))]
-pub(crate) fn function_rest(attrs: Vec<Attribute>, input: &mut ParseBuffer<'_>) -> Parsed<ItemFn>
+fn function_rest(attrs: Vec<Attribute>, input: &mut ParseBuffer<'_>) -> Parsed<ItemFn>
     requires outer { all_attributes_syntax attrs.items ≡ attributes_syntax attrs.items }
     ensures reads { Computes IsSyntax itself (wrap (Both (attributes_syntax attrs.items)) (parse_rule rules.function_rest input.old)) result input.new }
     ensures moved { Moved input.old result input.new }

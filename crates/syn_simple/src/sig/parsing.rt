@@ -32,7 +32,7 @@ use syn_tokens::token::{Async, Const, Extern, Fn, Paren, Word, WordKind, kind};
 
 /// What stands before the `fn` of a signature.
 #[derive(Drop)]
-pub(crate) struct Qualifiers {
+struct Qualifiers {
     pub constness: Option<Const>,
     pub asyncness: Option<Async>,
     pub safety: Safety,
@@ -77,10 +77,7 @@ pub fn foreign_signature(input: &mut ParseBuffer<'_>) -> Parsed<Signature>
 
 /// A signature behind what stands before its `fn`.
 #[tactic(auto, using(syn_grammar::proofs::Each::signature_rest_is))]
-pub(crate) fn signature_rest(
-    qualifiers: Qualifiers,
-    input: &mut ParseBuffer<'_>,
-) -> Parsed<Signature>
+fn signature_rest(qualifiers: Qualifiers, input: &mut ParseBuffer<'_>) -> Parsed<Signature>
     ensures reads { Computes IsSyntax itself (wrap (behind_qualifiers (qualifiers_syntax qualifiers)) (parse_rule rules.signature_rest input.old)) result input.new }
     ensures moved { Moved input.old result input.new }
 {

@@ -49,7 +49,7 @@ impl Read for ItemType {
 
 /// A type alias behind its attributes.
 #[tactic(auto, using(syn_grammar::proofs::Each::type_item_rest_is))]
-pub(crate) fn type_rest(attrs: Vec<Attribute>, input: &mut ParseBuffer<'_>) -> Parsed<ItemType>
+fn type_rest(attrs: Vec<Attribute>, input: &mut ParseBuffer<'_>) -> Parsed<ItemType>
     ensures reads { Computes IsSyntax itself (wrap (Both (attributes_syntax attrs.items)) (parse_rule rules.type_item_rest input.old)) result input.new }
     ensures moved { Moved input.old result input.new }
 {
@@ -58,7 +58,7 @@ pub(crate) fn type_rest(attrs: Vec<Attribute>, input: &mut ParseBuffer<'_>) -> P
 }
 
 /// A type alias behind its visibility.
-pub(crate) fn type_alias(
+fn type_alias(
     attrs: Vec<Attribute>,
     vis: Visibility,
     input: &mut ParseBuffer<'_>,
@@ -208,10 +208,7 @@ impl Read for ItemTraitAlias {
 
 /// A trait alias behind its attributes.
 #[tactic(auto, using(syn_grammar::proofs::Each::trait_alias_rest_is))]
-pub(crate) fn trait_alias_rest(
-    attrs: Vec<Attribute>,
-    input: &mut ParseBuffer<'_>,
-) -> Parsed<ItemTraitAlias>
+fn trait_alias_rest(attrs: Vec<Attribute>, input: &mut ParseBuffer<'_>) -> Parsed<ItemTraitAlias>
     ensures reads { Computes IsSyntax itself (wrap (Both (attributes_syntax attrs.items)) (parse_rule rules.trait_alias_rest input.old)) result input.new }
     ensures moved { Moved input.old result input.new }
 {
@@ -221,7 +218,7 @@ pub(crate) fn trait_alias_rest(
 
 /// A trait alias behind its visibility.
 #[tactic(auto, using(syn_grammar::proofs::Each::alias_is))]
-pub(crate) fn trait_alias(
+fn trait_alias(
     attrs: Vec<Attribute>,
     vis: Visibility,
     input: &mut ParseBuffer<'_>,

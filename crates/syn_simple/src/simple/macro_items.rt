@@ -44,7 +44,7 @@ impl Read for ItemMacro {
 
 /// A macro as an item, behind its attributes.
 #[tactic(auto, using(syn_grammar::proofs::Each::macro_item_rest_is))]
-pub(crate) fn macro_rest(attrs: Vec<Attribute>, input: &mut ParseBuffer<'_>) -> Parsed<ItemMacro>
+fn macro_rest(attrs: Vec<Attribute>, input: &mut ParseBuffer<'_>) -> Parsed<ItemMacro>
     ensures reads { Computes IsSyntax itself (wrap (Both (attributes_syntax attrs.items)) (parse_rule rules.macro_item_rest input.old)) result input.new }
     ensures moved { Moved input.old result input.new }
 {

@@ -43,10 +43,7 @@ impl Read for ItemExternCrate {
 
 /// An extern crate behind its attributes.
 #[tactic(auto, using(syn_grammar::proofs::Each::extern_crate_rest_is))]
-pub(crate) fn extern_crate_rest(
-    attrs: Vec<Attribute>,
-    input: &mut ParseBuffer<'_>,
-) -> Parsed<ItemExternCrate>
+fn extern_crate_rest(attrs: Vec<Attribute>, input: &mut ParseBuffer<'_>) -> Parsed<ItemExternCrate>
     ensures reads { Computes IsSyntax itself (wrap (Both (attributes_syntax attrs.items)) (parse_rule rules.extern_crate_rest input.old)) result input.new }
     ensures moved { Moved input.old result input.new }
 {
@@ -103,7 +100,7 @@ impl Read for ItemMod {
 
 /// A module behind its attributes.
 #[tactic(auto, using(syn_grammar::proofs::Each::module_item_rest_is))]
-pub(crate) fn module_rest(attrs: Vec<Attribute>, input: &mut ParseBuffer<'_>) -> Parsed<ItemMod>
+fn module_rest(attrs: Vec<Attribute>, input: &mut ParseBuffer<'_>) -> Parsed<ItemMod>
     requires outer { all_attributes_syntax attrs.items ≡ attributes_syntax attrs.items }
     ensures reads { Computes IsSyntax itself (wrap (Both (attributes_syntax attrs.items)) (parse_rule rules.module_item_rest input.old)) result input.new }
     ensures moved { Moved input.old result input.new }

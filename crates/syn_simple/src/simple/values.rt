@@ -43,7 +43,7 @@ impl Read for ItemConst {
 
 /// A constant behind its attributes.
 #[tactic(auto, using(syn_grammar::proofs::Each::const_item_rest_is))]
-pub(crate) fn const_rest(attrs: Vec<Attribute>, input: &mut ParseBuffer<'_>) -> Parsed<ItemConst>
+fn const_rest(attrs: Vec<Attribute>, input: &mut ParseBuffer<'_>) -> Parsed<ItemConst>
     ensures reads { Computes IsSyntax itself (wrap (Both (attributes_syntax attrs.items)) (parse_rule rules.const_item_rest input.old)) result input.new }
     ensures moved { Moved input.old result input.new }
 {
@@ -52,7 +52,7 @@ pub(crate) fn const_rest(attrs: Vec<Attribute>, input: &mut ParseBuffer<'_>) -> 
 }
 
 /// A constant behind its visibility.
-pub(crate) fn constant(
+fn constant(
     attrs: Vec<Attribute>,
     vis: Visibility,
     input: &mut ParseBuffer<'_>,
@@ -107,7 +107,7 @@ impl Read for ItemStatic {
 
 /// A static behind its attributes.
 #[tactic(auto, using(syn_grammar::proofs::Each::static_item_rest_is))]
-pub(crate) fn static_rest(attrs: Vec<Attribute>, input: &mut ParseBuffer<'_>) -> Parsed<ItemStatic>
+fn static_rest(attrs: Vec<Attribute>, input: &mut ParseBuffer<'_>) -> Parsed<ItemStatic>
     ensures reads { Computes IsSyntax itself (wrap (Both (attributes_syntax attrs.items)) (parse_rule rules.static_item_rest input.old)) result input.new }
     ensures moved { Moved input.old result input.new }
 {
@@ -116,7 +116,7 @@ pub(crate) fn static_rest(attrs: Vec<Attribute>, input: &mut ParseBuffer<'_>) ->
 }
 
 /// A static behind its visibility.
-pub(crate) fn static_item(
+fn static_item(
     attrs: Vec<Attribute>,
     vis: Visibility,
     input: &mut ParseBuffer<'_>,

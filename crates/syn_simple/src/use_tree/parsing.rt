@@ -50,7 +50,7 @@ impl Read for ItemUse {
 
 /// A use behind its attributes.
 #[tactic(auto, using(crate::proofs::Uses::visibility_refused))]
-pub(crate) fn use_rest(attrs: Vec<Attribute>, input: &mut ParseBuffer<'_>) -> Parsed<ItemUse>
+fn use_rest(attrs: Vec<Attribute>, input: &mut ParseBuffer<'_>) -> Parsed<ItemUse>
     ensures reads { Computes IsSyntax itself (wrap (Both (attributes_syntax attrs.items)) (parse_rule rules.use_item_rest input.old)) result input.new }
     ensures moved { Moved input.old result input.new }
 {
