@@ -1,6 +1,6 @@
 #!/usr/bin/env python3
 """Writes what is the same for every type of syntax, from the structs and enums of the crates of trees (syn_lower, syn_pat,
-syn_expr_parse, syn_expr, syn_tree, syn_item) and the table of kinds below.
+syn_expr_parse, syn_expr, syn_tree, syn_simple, syn_item) and the table of kinds below.
 
     tools/kinds.py            writes the files; run it at the top of the repository, and commit what it writes
     tools/kinds.py --check    writes nothing; fails where a file isn't as it would write it
@@ -153,9 +153,10 @@ def outputs():
     patterns = Source(CRATES / "syn_pat", lower)
     operators = Source(CRATES / "syn_expr_parse", patterns)
     expressions = Source(CRATES / "syn_expr", operators)
-    items = Source(CRATES / "syn_item", Together(lower, patterns, source))
+    simple = Source(CRATES / "syn_simple", Together(lower, patterns, source))
+    items = Source(CRATES / "syn_item", Together(lower, patterns, source, simple))
     files = {}
-    for crate in (lower, patterns, operators, expressions, source, items):
+    for crate in (lower, patterns, operators, expressions, source, simple, items):
         files.update(endings(crate))
         files.update(plain_views(crate, JOINED))
         files.update(copies(crate))
@@ -163,8 +164,8 @@ def outputs():
         files.update(prints(crate, UNPRINTED))
     table, page = CRATES / "syn_grammar/specs/Table.antt", Path("docs/GRAMMAR.md")
     files.update(comma_lists(source, table))
-    files[page] = rows(source, table, page, patterns, operators, expressions, items)
-    trees = Together(items, patterns, operators, expressions, source)
+    files[page] = rows(source, table, page, patterns, operators, expressions, simple, items)
+    trees = Together(items, simple, patterns, operators, expressions, source)
     files[CRATES / "syn/src/kinds.rt"] = canonical(trees, [kind[1:] for kind in KINDS] + OTHERS)
     files[CRATES / "syn_canon/src/kind.rt"] = kind_enum(KINDS)
     files[CRATES / "syn_canon/src/by_kind.rt"] = dispatch(KINDS)
@@ -175,7 +176,7 @@ def outputs():
 
 def leftovers(files):
     """Files in the folders that are this script's alone which it wouldn't write."""
-    folders = [CRATES / crate / name for crate in (LOWEST, "syn_pat", "syn_expr_parse", "syn_expr", "syn_tree", "syn_item") for name in ("src/copies", "src/compare", "src/prints", "proofs/comma_lists")]
+    folders = [CRATES / crate / name for crate in (LOWEST, "syn_pat", "syn_expr_parse", "syn_expr", "syn_tree", "syn_simple", "syn_item") for name in ("src/copies", "src/compare", "src/prints", "proofs/comma_lists")]
     return [path for folder in folders for path in sorted(folder.rglob("*.*t*")) if path.is_file() and path not in files]
 
 

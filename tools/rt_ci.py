@@ -40,7 +40,7 @@ TOP = Path(__file__).resolve().parent.parent
 # The crates that only test or measure.
 BESIDE = ("syn_outlines", "syn_tokens_tests", "syn_reader_tests", "syn_answers_tests", "syn_item_tests", "syn_test_support", "syn_tests", "check_rows", "tree_answers", "syn_bench")
 
-# What the proof of a crate took, or as reckoned takes (syn_expr, syn_item), in seconds of processor: the tasks are ordered by it, and those of other crates by their lines, which
+# What the proof of a crate took, or as reckoned takes (syn_expr, syn_simple, syn_item), in seconds of processor: the tasks are ordered by it, and those of other crates by their lines, which
 # are about as many, but for what owns trees. It needn't be exact.
 SECONDS = {
     "syn_grammar": 80,
@@ -53,7 +53,8 @@ SECONDS = {
     "syn_expr_parse": 2100,
     "syn_expr": 7000,
     "syn_tree": 1700,
-    "syn_item": 6500,
+    "syn_simple": 2800,
+    "syn_item": 3900,
     "syn_reader": 280,
     "syn": 270,
     "syn_canon": 330,

@@ -11,7 +11,7 @@ import re
 import sys
 from pathlib import Path
 
-CRATES = [Path("crates/syn_lower"), Path("crates/syn_pat"), Path("crates/syn_expr"), Path("crates/syn_tree"), Path("crates/syn_item")]
+CRATES = [Path("crates/syn_lower"), Path("crates/syn_pat"), Path("crates/syn_expr"), Path("crates/syn_tree"), Path("crates/syn_simple"), Path("crates/syn_item")]
 
 STRUCT = re.compile(r"^pub struct (\w+) \{(.*?)\}", re.S | re.M)
 FIELD = re.compile(r"^\s*pub (\w+): (.+),$", re.M)

@@ -73,6 +73,9 @@ def stands_alone(t):
     return not (t.is_nested and FAMILIES[t.family].argument) or t.name in ALONE
 
 
+# the crate of items without members, which has what other items want too
+SHARED = "syn_simple"
+
 # what says that the parts of such a type are smaller than it, where computing doesn't
 SMALLER_LISTS = "proofs::Smaller::lists"
 SMALLER = {"TypePath": ["crate::proofs::Smaller::qself_smaller", "crate::proofs::Smaller::path_smaller"]}
@@ -81,20 +84,22 @@ SMALLER = {"TypePath": ["crate::proofs::Smaller::qself_smaller", "crate::proofs:
 # too, where several have a type of this name); `whole` is of a comparison, and says of its attributes too
 FORMS = "crate::proofs::Forms"
 MEMBERS = "crate::proofs::SameMembers"
-COPIED_MEMBERS = "crate::proofs::Members::copied_members"
-PARTS = "crate::proofs::SameParts"
-UNPRINTED = "crate::proofs::Unprinted"
+MACROS = f"{SHARED}::proofs::Macros"
+SAME_MACROS = f"{SHARED}::proofs::SameMacros"
+COPIED_MEMBERS = f"{SHARED}::proofs::Members::copied_members"
+PARTS = f"{SHARED}::proofs::SameParts"
+UNPRINTED = f"{SHARED}::proofs::Unprinted"
 PATTERNS = "crate::proofs::Patterns"
 BODY = {"smaller": ["crate::specs::Falls::inner_size"]}
 LEMMAS = {
     **dict.fromkeys(("ExprBlock", "ExprForLoop", "ExprLoop", "ExprUnsafe", "ExprWhile"), BODY),
     **dict.fromkeys(
         ("ForeignItem", "ImplItem", "TraitItem"),
-        {"print": ["crate::proofs::Macros::print_among_members"], "compare": [f"{MEMBERS}::same_among_members"]},
+        {"print": [f"{MACROS}::print_among_members"], "compare": [f"{MEMBERS}::same_among_members"]},
     ),
     **dict.fromkeys(
         ("ForeignItemMacro", "ImplItemMacro", "TraitItemMacro"),
-        {"print": ["crate::proofs::Macros::print_ended_macro"], "whole": ["crate::proofs::SameMacros::same_member_macro"]},
+        {"print": [f"{MACROS}::print_ended_macro"], "whole": [f"{SAME_MACROS}::same_member_macro"]},
     ),
     "ExprArray": {"print": ["crate::proofs::Lists::print_array"], "compare": ["crate::proofs::Lists::same_array"], "smaller": ["crate::proofs::Lists::in_array"]},
     "ExprBreak": {"compare": ["syn_grammar::proofs::Same::and_true"]},
@@ -117,7 +122,7 @@ LEMMAS = {
     "ItemFn": {"whole": [f"{PARTS}::same_function"]},
     "ItemForeignMod": {"copy": [COPIED_MEMBERS], "whole": ["crate::proofs::SameRows::same_foreign_module"]},
     **dict.fromkeys(("ItemImpl", "ItemTrait"), {"copy": [COPIED_MEMBERS]}),
-    "ItemMacro": {"whole": ["crate::proofs::SameMacros::same_item_macro"]},
+    "ItemMacro": {"whole": [f"{SAME_MACROS}::same_item_macro"]},
     "ItemUse": {"print": ["crate::proofs::Uses::print_used"], "whole": [f"{PARTS}::same_use"]},
     "Local": {"print": ["syn_pat::proofs::Patterns::print_local"]},
     "PatIdent": {"print": [f"{PATTERNS}::print_bound"], "compare": [f"{PATTERNS}::same_bound"]},
@@ -128,12 +133,20 @@ LEMMAS = {
     "TraitItemConst": {"print": [f"{UNPRINTED}::print_generics_aside"], "whole": [f"{MEMBERS}::same_trait_constant"]},
     "TraitItemFn": {"whole": [f"{MEMBERS}::same_trait_function"]},
     "TraitItemType": {"print": ["syn_lower::proofs::GenericPrints::print_bounds"], "whole": [f"{MEMBERS}::same_trait_type"]},
-    "syn_item::Item": {"print": ["crate::proofs::Macros::print_among_items"], "compare": [f"{MEMBERS}::same_among_items"]},
+    "syn_item::Item": {"print": [f"{MACROS}::print_among_items"], "compare": [f"{MEMBERS}::same_among_items"]},
 }
 
 
+def as_named_in(crate, path):
+    """A path, as this crate calls it."""
+    return re.sub(rf"^{crate}::", "crate::", path)
+
+
 def lemmas_of(t):
-    return LEMMAS.get(f"{t.crate}::{t.name}", LEMMAS.get(t.name, {})) if t.crate != LOWEST else {}
+    if t.crate == LOWEST:
+        return {}
+    found = LEMMAS.get(f"{t.crate}::{t.name}", LEMMAS.get(t.name, {}))
+    return {verb: [as_named_in(t.crate, lemma) for lemma in several] for verb, several in found.items()}
 
 
 def lemmas(source, t, verb, body):
@@ -555,6 +568,9 @@ def comparisons(source):
 # PRINTS
 
 
+# what prints parts of items
+PRINTS = f"{SHARED}::parts"
+
 PRINTED = Calls(
     "nested.print_{1}(&self.{0}, out)",
     "self.{0}.print_nested(nested, out)",
@@ -579,10 +595,10 @@ def print_step(source, t, field, kind, uses):
         uses.append(("syn_tokens::print", "print_list"))
         return f"print_list(&self.{field}, out)"
     if kind.startswith("Option<("):
-        uses.append(("crate::parts", "print_pair"))
+        uses.append((as_named_in(t.crate, PRINTS), "print_pair"))
         return f"print_pair(&self.{field}, out)"
     if kind == "DeferredBlock":
-        uses.append(("crate::parts", "print_body"))
+        uses.append((as_named_in(t.crate, PRINTS), "print_body"))
         return f"print_body(&self.attrs, &self.{field}, out)"
     if kind == "Generics" and t.name in CLAUSES:
         return f"self.{field}.print_params(out)"
@@ -596,7 +612,7 @@ def print_steps(source, t, field, kind, uses):
     if field == "modifiers":
         return [f"self.{field}.{modifier}.print_in(out)" for modifier, _ in source.types[kind].fields]
     if has_body(t) and kind.startswith("Vec<") and kind != ATTRIBUTES:
-        uses.append(("crate::parts", "print_braced"))
+        uses.append((as_named_in(t.crate, PRINTS), "print_braced"))
         return [f"print_braced(&self.brace_token, &self.attrs, &self.{field}, out)"]
     return [print_step(source, t, field, kind, uses)]
 
@@ -632,8 +648,8 @@ MANY = 7
 def print_tactic(source, t, body):
     """What the proof of a print is handed beside what all of them are."""
     groups, more = ".open(out)" in body, lemmas(source, t, "print", body)
-    if body.count("?;") >= MANY and t.crate == "syn_item":
-        return tactic(["crate::proofs::LongPrints::in_order"] + more)
+    if body.count("?;") >= MANY and t.crate in (SHARED, "syn_item"):
+        return tactic([as_named_in(t.crate, f"{SHARED}::proofs::LongPrints::in_order")] + more)
     steps = [f"syn_tokens::proofs::Prints::{'groups' if groups else 'prints'}"] if groups or more else []
     return tactic(steps + more)
 

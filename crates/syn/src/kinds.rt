@@ -12,20 +12,20 @@ use syn_item::foreign::{
     ForeignItem, ForeignItemFn, ForeignItemMacro, ForeignItemStatic, ForeignItemType,
     ItemForeignMod,
 };
-use syn_item::function::ItemFn;
 use syn_item::impls::{ImplItem, ImplItemConst, ImplItemFn, ImplItemMacro, ImplItemType, ItemImpl};
 use syn_item::item::Item;
-use syn_item::sig::{Abi, FnArg, Receiver, Signature};
-use syn_item::simple::{
-    ItemConst, ItemExternCrate, ItemMacro, ItemMod, ItemStatic, ItemTraitAlias, ItemType, ItemUse,
-};
 use syn_item::traits::{
     ItemTrait, TraitItem, TraitItemConst, TraitItemFn, TraitItemMacro, TraitItemType,
 };
-use syn_item::use_tree::UseTree;
 use syn_lower::{LifetimeParam, Path, ReturnType, Type, TypeParamBound, TypePath, WherePredicate};
 use syn_pat::mac::Macro;
 use syn_pat::pat::Pat;
+use syn_simple::function::ItemFn;
+use syn_simple::sig::{Abi, FnArg, Receiver, Signature};
+use syn_simple::simple::{
+    ItemConst, ItemExternCrate, ItemMacro, ItemMod, ItemStatic, ItemTraitAlias, ItemType, ItemUse,
+};
+use syn_simple::use_tree::UseTree;
 use syn_tree::data::{FieldsNamed, FieldsUnnamed, Variant};
 use syn_tree::derive::DeriveInput;
 use syn_tree::item::{ItemEnum, ItemStruct, ItemUnion};

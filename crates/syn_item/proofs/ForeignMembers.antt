@@ -21,7 +21,7 @@ use Rattle.syn_grammar.proofs.PlanSteps.{Event, happened, left_over, seen_along,
 use Rattle.syn_parse.specs.Peeks.{past}
 use Rattle.syn_recognize.proofs.MacroLooks.{before_colons_seen}
 use Rattle.syn_recognize.proofs.PathLooks.{word_tells}
-use Rattle.syn_item.specs.Macros.{among_members}
+use Rattle.syn_simple.specs.Macros.{among_members}
 use Rattle.syn_item.specs.NextWords.{foreign_function_next, foreign_word, static_next}
 use Rattle.syn_item.specs.Planned.{Follows}
 use Rattle.syn_item.specs.Stages.{foreign_function_or_kept, foreign_item_plan_behind, foreign_static_or_kept, foreign_type_or_kept}

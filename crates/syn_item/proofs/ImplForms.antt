@@ -18,7 +18,7 @@ use Rattle.syn_lower.specs.Generics.{as_row, clause_of, parameters_of, sign_of, 
 use Rattle.syn_lower.specs.declared.generics.GenericParam.TheVariants as GenericParam-m
 use Rattle.syn_lower.specs.Types.{syntax_of_Type}
 use Rattle.syn_item.specs.Impls.{behind_generics, for_type, implemented, inherent, is_shaped, kept_list, syntax_of_ImplItem, view_ItemImpl, without_self_type}
-use Rattle.syn_item.specs.Parts.{members_of}
+use Rattle.syn_simple.specs.Parts.{members_of}
 use Rattle.syn_item.specs.declared.impls.ItemImpl.TheInside as ItemImpl-in
 
 -- A PART WITHOUT A SELF TYPE

@@ -18,7 +18,7 @@ use Rattle.syn_grammar.proofs.PlanSteps.{Event, happened, left_over, marked, too
 use Rattle.syn_parse.specs.Peeks.{past}
 use Rattle.syn_lower.specs.Parts.{first, second}
 use Rattle.syn_item.specs.ImplForms.{impl_function_of}
-use Rattle.syn_item.specs.Macros.{among_members}
+use Rattle.syn_simple.specs.Macros.{among_members}
 use Rattle.syn_item.specs.NextWords.{constant_next, function_next, impl_macro_next, no_member_word}
 use Rattle.syn_item.specs.Planned.{Follows, OnlyKept}
 use Rattle.syn_item.specs.Stages.{impl_const_or_kept, impl_item_plan_behind}

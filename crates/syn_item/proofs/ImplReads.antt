@@ -15,7 +15,8 @@ use Rattle.syn_grammar.proofs.Looks.{sees_and}
 use Rattle.syn_grammar.proofs.Sets.{and_left}
 use Rattle.syn_grammar.proofs.Takes.{TreeAndRest}
 use Rattle.syn_lower.specs.Parts.{first}
-use Rattle.syn_item.specs.ImplForms.{behind_impl_form, impl_generics_form, member_marks_form, type_head_form, type_rest_form}
+use Rattle.syn_item.specs.ImplForms.{behind_impl_form, impl_generics_form, member_marks_form, type_rest_form}
+use Rattle.syn_simple.specs.Pieces.{type_head_form}
 use Rattle.syn_item.specs.Impls.{kept_list}
 
 -- GENERICS, where they stand next: what the rule reads, without the mark that they aren't printed where they are empty

@@ -13,7 +13,7 @@ use Rattle.syn_grammar.specs.Promises.{Computes, itself}
 use Rattle.syn_grammar.proofs.Each.{bare_trait_function_is, impl_const_is, impl_function_is}
 use Rattle.syn_grammar.proofs.Takes.{TreeAndRest}
 use Rattle.syn_item.specs.ImplForms.{const_head_form, const_rest_of, impl_function_of, member_marks_form}
-use Rattle.syn_item.specs.ItemForms.{value_form}
+use Rattle.syn_simple.specs.ItemForms.{value_form}
 use Rattle.syn_item.specs.TraitForms.{function_end_form, trait_function_of}
 use Rattle.syn_item.proofs.ImplReads.{three_read}
 

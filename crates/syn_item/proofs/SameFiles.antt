@@ -12,9 +12,9 @@ use Rattle.syn_lower.specs.declared.attr.AttrStyle.TheVariants as AttrStyle-m
 use Rattle.syn_lower.specs.declared.attr.Attribute.{Attribute}
 use Rattle.syn_lower.proofs.Compared.{told}
 use Rattle.syn_item.specs.Files.{syntax_of_Frontmatter, unshown_text}
-use Rattle.syn_item.specs.Parts.{aside, members_of}
+use Rattle.syn_simple.specs.Parts.{aside, members_of}
 use Rattle.syn_item.specs.declared.file.Frontmatter.{Frontmatter}
-use Rattle.syn_item.proofs.SameParts.{all_same, same_aside}
+use Rattle.syn_simple.proofs.SameParts.{all_same, same_aside}
 use Rattle.syn_item.proofs.SameRows.{same_members}
 
 abbrev all : List Attribute → Syntax

@@ -20,8 +20,8 @@ use Rattle.syn_lower.specs.declared.attr.Attribute.{Attribute}
 use Rattle.syn_lower.specs.declared.generics.Generics.TheInside as Generics-in
 use Rattle.syn_lower.proofs.Compared.{told}
 use Rattle.syn_item.specs.Impls.{for_type, implemented, inherent, is_shaped, kept_list, without_self_type}
-use Rattle.syn_item.specs.Parts.{members_of}
-use Rattle.syn_item.proofs.SameParts.{all_same}
+use Rattle.syn_simple.specs.Parts.{members_of}
+use Rattle.syn_simple.proofs.SameParts.{all_same}
 use Rattle.syn_item.proofs.SameTraits.{before, behind_nine, inside, same_members}
 
 -- A PART WITHOUT A SELF TYPE: spans don't tell whether one would be found

@@ -20,11 +20,11 @@ use Rattle.syn_lower.proofs.Attributes.{same_attributes}
 use Rattle.syn_lower.proofs.Bodies.{same_behind_three}
 use Rattle.syn_lower.proofs.Compared.{told}
 use Rattle.syn_lower.proofs.GenericsCompared.{same_bounds}
-use Rattle.syn_item.specs.Macros.{among_items, among_members}
-use Rattle.syn_item.specs.Parts.{aside, generics_aside}
-use Rattle.syn_item.specs.Simple.{attributes_by_content}
+use Rattle.syn_simple.specs.Macros.{among_items, among_members}
+use Rattle.syn_simple.specs.Parts.{aside, generics_aside}
+use Rattle.syn_simple.specs.Simple.{attributes_by_content}
 use Rattle.syn_item.specs.Traits.{function_end}
-use Rattle.syn_item.proofs.SameParts.{Optional, all_same, listed_same, modifiers, modifiers_aside, same_aside, same_generics_aside, same_or_added, semi_of, turn}
+use Rattle.syn_simple.proofs.SameParts.{Optional, all_same, listed_same, modifiers, modifiers_aside, same_aside, same_generics_aside, same_or_added, semi_of, turn}
 
 -- A MACRO AMONG OTHERS
 

@@ -7,8 +7,8 @@ use Rattle.syn_tokens.specs.InOrder.{in_order}
 use Rattle.syn_lower.specs.Bodies.{attributes_before_body, attributes_in_body}
 use Rattle.syn_lower.specs.declared.attr.Attribute.{Attribute}
 use Rattle.syn_lower.proofs.Bodies.{same_behind_two}
-use Rattle.syn_item.specs.Parts.{members_of}
-use Rattle.syn_item.proofs.SameParts.{all_same}
+use Rattle.syn_simple.specs.Parts.{members_of}
+use Rattle.syn_simple.proofs.SameParts.{all_same}
 
 module _ {T : Type 0} (v : T → Syntax) where
   pub same_members : (l m : List T) → same_syntax (members_of v l) (members_of v m) ≡ same_syntax (in_order v l) (in_order v m)

@@ -16,8 +16,8 @@ use Rattle.syn_lower.specs.declared.attr.Attribute.{Attribute}
 use Rattle.syn_lower.specs.declared.bounds.TypeParamBound.TheVariants as TypeParamBound-m
 use Rattle.syn_lower.proofs.Bodies.{same_behind_five}
 use Rattle.syn_lower.proofs.GenericsCompared.{same_bounds}
-use Rattle.syn_item.specs.Parts.{members_of}
-use Rattle.syn_item.proofs.SameParts.{all_same}
+use Rattle.syn_simple.specs.Parts.{members_of}
+use Rattle.syn_simple.proofs.SameParts.{all_same}
 
 -- MEMBERS to the end of a group, and in a vector
 

@@ -17,7 +17,7 @@ use Rattle.syn_grammar.proofs.Looks.{sees_or}
 use Rattle.syn_grammar.proofs.Marked.{plans_marked}
 use Rattle.syn_grammar.proofs.PlanSteps.{Event, happened, left_over, marked, took, went}
 use Rattle.syn_parse.specs.Peeks.{past}
-use Rattle.syn_item.specs.Macros.{among_members}
+use Rattle.syn_simple.specs.Macros.{among_members}
 use Rattle.syn_item.specs.NextWords.{function_next, marked_next}
 use Rattle.syn_item.specs.Planned.{Follows, OnlyKept}
 use Rattle.syn_item.specs.Stages.{trait_const_or_kept, trait_item_plan_behind}

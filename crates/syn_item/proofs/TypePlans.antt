@@ -11,8 +11,8 @@ use Rattle.syn_grammar.specs.Run.{and_then, parse_form, parse_rule, such_as, wra
 use Rattle.syn_grammar.specs.Plan.{Plan, by_test, ends, fails, follow, reads, tests, run_plan}
 use Rattle.syn_grammar.specs.ItemPlan.{kept_end, type_plan}
 use Rattle.syn_grammar.proofs.PlanSteps.{Event, happened, left_over, marked, took, went}
-use Rattle.syn_item.specs.ImplForms.{type_head_form}
-use Rattle.syn_item.specs.ItemForms.{alias_end_form, alias_syntax, aliased_form}
+use Rattle.syn_simple.specs.Pieces.{type_head_form}
+use Rattle.syn_simple.specs.ItemForms.{alias_end_form, alias_syntax, aliased_form}
 use Rattle.syn_item.specs.NextWords.{equals_ahead}
 use Rattle.syn_item.specs.Planned.{OnlyKept}
 use Rattle.syn_item.proofs.Followed.{is_kept}

@@ -6,7 +6,7 @@ use Rattle.syn_grammar.specs.Grammar.{Syntax, Nothing, Token, Both, Node}
 use Rattle.syn_tokens.specs.Leaves.{maybe}
 use Rattle.syn_lower.specs.Attributes.{inner_attributes_syntax}
 use Rattle.syn_item.specs.Items.{syntax_of_Item}
-use Rattle.syn_item.specs.Parts.{aside, members_of}
+use Rattle.syn_simple.specs.Parts.{aside, members_of}
 use Rattle.syn_item.specs.declared.file.File.TheInside as File-in
 use Rattle.syn_item.specs.declared.file.Frontmatter.{Frontmatter}
 

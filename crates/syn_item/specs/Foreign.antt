@@ -11,10 +11,10 @@ use Rattle.syn_lower.specs.Parts.{first, group_syntax}
 use Rattle.syn_lower.specs.Types.{syntax_of_Type}
 use Rattle.syn_tree.specs.Modifiers.{syntax_of_FnModifiers, syntax_of_TypeModifiers}
 use Rattle.syn_tree.specs.Restriction.{syntax_of_Visibility}
-use Rattle.syn_item.specs.Macros.{among_members}
-use Rattle.syn_item.specs.Parts.{aside, members_of}
-use Rattle.syn_item.specs.Signatures.{syntax_of_Safety}
-use Rattle.syn_item.specs.Simple.{syntax_of_StaticMutability}
+use Rattle.syn_simple.specs.Macros.{among_members}
+use Rattle.syn_simple.specs.Parts.{aside, members_of}
+use Rattle.syn_simple.specs.Signatures.{syntax_of_Safety}
+use Rattle.syn_simple.specs.Simple.{syntax_of_StaticMutability}
 use Rattle.syn_item.specs.declared.foreign.ForeignItem.TheVariants as ForeignItem-m
 use Rattle.syn_item.specs.declared.foreign.ForeignItemFn.TheInside as ForeignItemFn-in
 use Rattle.syn_item.specs.declared.foreign.ForeignItemStatic.TheInside as ForeignItemStatic-in

@@ -3,8 +3,8 @@ use Rattle.syn_grammar.specs.Grammar.{Syntax, Nothing, Both, Node, Unshown}
 use Rattle.syn_tokens.specs.Kinds.{colon_syntax, static_syntax}
 use Rattle.syn_tokens.specs.Leaves.{syntax_of_ident}
 use Rattle.syn_lower.specs.Types.{syntax_of_Type}
-use Rattle.syn_item.specs.Signatures.{syntax_of_Safety}
-use Rattle.syn_item.specs.Simple.{syntax_of_StaticMutability}
+use Rattle.syn_simple.specs.Signatures.{syntax_of_Safety}
+use Rattle.syn_simple.specs.Simple.{syntax_of_StaticMutability}
 use Rattle.syn_item.specs.declared.foreign.members.BareStatic.{BareStatic}
 
 -- a foreign static without its `;`

@@ -1,5 +1,5 @@
 -- HOW IMPLS AND THEIR MEMBERS ARE READ: forms of their parts, and what the parts stand for together.
-use Rattle.syn_grammar.specs.Words.{exclamation, equals, semicolon, w_const, w_default, w_type}
+use Rattle.syn_grammar.specs.Words.{exclamation, equals, semicolon, w_const, w_default}
 use Rattle.std.specs.Prelude.{◌≡◌, None, Result, Ok, Err}
 use Rattle.syn_grammar.specs.Tokens.{Stream, at_generics}
 use Rattle.syn_grammar.specs.Take.{Out, sees}
@@ -9,7 +9,7 @@ use Rattle.syn_grammar.specs.Grammar.{Grammar, Syntax, Both, Node, ◌&◌, empt
 use Rattle.syn_grammar.specs.Forms.{optional, plainly, punctuation}
 use Rattle.syn_grammar.specs.Table.{at_brace, at_exclamation, at_for, at_module_path, kept_generics, name_or_underscore, parameter}
 use Rattle.syn_tokens.specs.Idents.{IdentValue}
-use Rattle.syn_tokens.specs.Kinds.{Const, «Type» as TypeToken, const_syntax, default_syntax, for_syntax, impl_syntax, not_syntax, type_syntax, unsafe_syntax}
+use Rattle.syn_tokens.specs.Kinds.{Const, const_syntax, default_syntax, for_syntax, impl_syntax, not_syntax, unsafe_syntax}
 use Rattle.syn_tokens.specs.InOrder.{pair_of}
 use Rattle.syn_tokens.specs.Leaves.{maybe, syntax_of_ident}
 use Rattle.syn_lower.specs.Attributes.{attributes_syntax}
@@ -71,13 +71,6 @@ const_head_form = plainly (word w_const) & name_or_underscore
 
 abbrev pub const_head_syntax : Const × IdentValue → Syntax
 const_head_syntax p = Both (const_syntax p.0) (syntax_of_ident p.1)
-
--- `type`, a name and generics
-abbrev pub type_head_form : Grammar
-type_head_form = plainly (word w_type) & plainly name & rule generics
-
-abbrev pub type_head_syntax : TypeToken × IdentValue × Syntax → Syntax
-type_head_syntax p = Both (type_syntax p.0) (Both (syntax_of_ident p.1) (first p.2))
 
 -- `=`, a type, a where clause and `;`
 abbrev pub type_rest_form : Grammar

@@ -15,8 +15,8 @@ use Rattle.syn_lower.specs.Parts.{first, group_syntax}
 use Rattle.syn_lower.specs.Types.{syntax_of_Type}
 use Rattle.syn_tree.specs.Modifiers.{syntax_of_ConstModifiers, syntax_of_FnModifiers, syntax_of_TypeModifiers}
 use Rattle.syn_tree.specs.Restriction.{syntax_of_Visibility}
-use Rattle.syn_item.specs.Macros.{among_members}
-use Rattle.syn_item.specs.Parts.{generics_aside, members_of}
+use Rattle.syn_simple.specs.Macros.{among_members}
+use Rattle.syn_simple.specs.Parts.{generics_aside, members_of}
 use Rattle.syn_item.specs.declared.impls.ImplItem.TheVariants as ImplItem-m
 use Rattle.syn_item.specs.declared.impls.ImplItemConst.TheInside as ImplItemConst-in
 use Rattle.syn_item.specs.declared.impls.ImplItemFn.TheInside as ImplItemFn-in

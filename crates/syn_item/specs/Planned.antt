@@ -4,7 +4,7 @@ use Rattle.std.specs.Prelude.{◌≡◌, Bool, true, false, Option, Some, None, 
 use Rattle.syn_grammar.specs.Tokens.{Stream}
 use Rattle.syn_grammar.specs.Rules.{Rule}
 use Rattle.syn_grammar.specs.Grammar.{Syntax}
-use Rattle.syn_grammar.specs.Take.{Out, before}
+use Rattle.syn_grammar.specs.Take.{Out}
 use Rattle.syn_grammar.specs.Plan.{kept_as}
 
 -- what is read, if anything, is kept as tokens, of this rule and from this stream on
@@ -18,11 +18,6 @@ abbrev pub Follows : {X E : Type 0} → (E → Type 0) → (X → Syntax) → Ru
 Follows refusal view k ts out (Ok (Some x)) new = out ≡ Some (view x, new)
 Follows refusal view k ts out (Ok None) new = OnlyKept k ts out
 Follows refusal view k ts out (Err e) new = refusal e → out ≡ None
-
--- The tokens from one stream to another, where the rule reads from the one to the other.
-abbrev pub CopiesBy : {E : Type 0} → (E → Type 0) → Out → Stream → Result Stream E → Stream → Type 0
-CopiesBy refusal out ts (Ok tokens) new = (s : Syntax) × (out ≡ Some (s, new)) × (tokens ≡ before ts new)
-CopiesBy refusal out ts (Err e) new = refusal e → out ≡ None
 
 -- something is read, or nothing
 abbrev pub IsRead : Bool → Out → Type 0

@@ -11,7 +11,7 @@ use Rattle.syn_lower.specs.Attributes.{attributes_syntax}
 use Rattle.syn_lower.specs.Parts.{first}
 use Rattle.syn_tree.specs.Derive.{item_of}
 use Rattle.syn_tree.specs.Restriction.{syntax_of_Visibility}
-use Rattle.syn_item.specs.Pieces.{bounds_form, braced_form}
+use Rattle.syn_simple.specs.Pieces.{bounds_form, braced_form}
 use Rattle.syn_item.specs.declared.traits.parsing.TraitHead.{TraitHead}
 use Rattle.syn_item.specs.declared.traits.parsing.TraitMarks.{TraitMarks}
 

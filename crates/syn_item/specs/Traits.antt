@@ -15,9 +15,9 @@ use Rattle.syn_lower.specs.Types.{syntax_of_Type}
 use Rattle.syn_tree.specs.Derive.{item_of}
 use Rattle.syn_tree.specs.Modifiers.{syntax_of_ConstModifiers, syntax_of_FnModifiers, syntax_of_TypeModifiers}
 use Rattle.syn_tree.specs.Restriction.{syntax_of_Visibility}
-use Rattle.syn_item.specs.Macros.{among_members}
-use Rattle.syn_item.specs.Parts.{aside, generics_aside, members_of}
-use Rattle.syn_item.specs.Simple.{attributes_by_content}
+use Rattle.syn_simple.specs.Macros.{among_members}
+use Rattle.syn_simple.specs.Parts.{aside, generics_aside, members_of}
+use Rattle.syn_simple.specs.Simple.{attributes_by_content}
 use Rattle.syn_item.specs.declared.traits.ItemTrait.TheInside as ItemTrait-in
 use Rattle.syn_item.specs.declared.traits.TraitItem.TheVariants as TraitItem-m
 use Rattle.syn_item.specs.declared.traits.TraitItemConst.TheInside as TraitItemConst-in

@@ -7,10 +7,10 @@ ghost use Rattle.syn_item.specs.Files.{unshown_text};
 mod parsing;
 
 use crate::item::Item;
-use crate::parts::print_members;
 use std::alloc::{AllocError, Global};
 use syn_lower::Attribute;
 use syn_lower::attr::print_inner;
+use syn_simple::parts::print_members;
 use syn_tokens::error;
 use syn_tokens::print::Print;
 use syn_tokens::stream::builder::StreamBuilder;
@@ -55,7 +55,7 @@ fn copy_text(text: &Option<String>, alloc: Global) -> error::Result<Option<Strin
 }
 
 impl TryClone for File {
-    #[tactic(auto, using(crate::proofs::Members::copied_members))]
+    #[tactic(auto, using(syn_simple::proofs::Members::copied_members))]
     fn try_clone(&self, alloc: Global) -> error::Result<File> {
         Ok(File {
             shebang: copy_text(&self.shebang, alloc)?,

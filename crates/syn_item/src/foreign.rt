@@ -3,14 +3,14 @@
 mod members;
 mod parsing;
 
-use crate::parts::print_clause_end;
-use crate::sig::{Abi, Safety, Signature};
-use crate::simple::StaticMutability;
 pub(crate) use parsing::foreign_module_rest;
 use std::alloc::AllocError;
 use syn_lower::attr::print_outer;
 use syn_lower::{Attribute, Generics, Type};
 use syn_pat::Macro;
+use syn_simple::parts::print_clause_end;
+use syn_simple::sig::{Abi, Safety, Signature};
+use syn_simple::simple::StaticMutability;
 use syn_tokens::ident::Ident;
 use syn_tokens::print::Print;
 use syn_tokens::stream::TokenStream;
@@ -164,7 +164,7 @@ impl std::marker::Model for ForeignItemMacro {
 
     ghost coded = { syntax_code };
 
-    ghost use Rattle.syn_item.specs.Macros.{view_ForeignItemMacro};
+    ghost use Rattle.syn_item.specs.MemberMacros.{view_ForeignItemMacro};
 
     ghost view = { view_ForeignItemMacro };
 }
@@ -200,7 +200,7 @@ impl syn_tokens::syntactic::Syntactic for ForeignItemType {
 }
 
 impl syn_tokens::syntactic::Syntactic for ForeignItemMacro {
-    ghost use Rattle.syn_item.specs.Macros.{syntax_of_ForeignItemMacro};
+    ghost use Rattle.syn_item.specs.MemberMacros.{syntax_of_ForeignItemMacro};
 
     ghost syntax = { syntax_of_ForeignItemMacro };
 }

@@ -12,8 +12,6 @@ ghost use Rattle.syn_item.specs.Impls.{behind_generics, behind_impl, kept_list};
 mod members;
 mod parsing;
 
-use crate::parts::{print_braced, print_clause_end, print_pair, print_typed_value};
-use crate::sig::Signature;
 pub(crate) use parsing::{ImplMarks, ImplTypes, impl_end, impl_generics, impl_or_kept};
 use std::alloc::{AllocError, Global};
 use syn_lower::attr::{print_before_body, print_outer};
@@ -22,6 +20,8 @@ use syn_parse::buffer::ParseBuffer;
 use syn_pat::Macro;
 use syn_recognize::deferred::{DeferredBlock, DeferredExpr};
 use syn_recognize::item_looks::at_generics;
+use syn_simple::parts::{print_braced, print_clause_end, print_pair, print_typed_value};
+use syn_simple::sig::Signature;
 use syn_tokens::ident::Ident;
 use syn_tokens::print::Print;
 use syn_tokens::span::Span;
@@ -112,7 +112,7 @@ pub struct ImplItemMacro {
 
 /// Generics are not printed.
 impl Print for ImplItemConst {
-    #[tactic(auto, using(syn_tokens::proofs::Prints::prints, crate::proofs::Unprinted::print_generics_aside))]
+    #[tactic(auto, using(syn_tokens::proofs::Prints::prints, syn_simple::proofs::Unprinted::print_generics_aside))]
     fn print_in(&self, out: &mut StreamBuilder) -> Result<(), AllocError> {
         print_outer(&self.attrs, out)?;
         self.vis.print_in(out)?;
@@ -348,7 +348,7 @@ impl std::marker::Model for ImplItemMacro {
 
     ghost coded = { syntax_code };
 
-    ghost use Rattle.syn_item.specs.Macros.{view_ImplItemMacro};
+    ghost use Rattle.syn_item.specs.MemberMacros.{view_ImplItemMacro};
 
     ghost view = { view_ImplItemMacro };
 }
@@ -384,7 +384,7 @@ impl syn_tokens::syntactic::Syntactic for ImplItemType {
 }
 
 impl syn_tokens::syntactic::Syntactic for ImplItemMacro {
-    ghost use Rattle.syn_item.specs.Macros.{syntax_of_ImplItemMacro};
+    ghost use Rattle.syn_item.specs.MemberMacros.{syntax_of_ImplItemMacro};
 
     ghost syntax = { syntax_of_ImplItemMacro };
 }

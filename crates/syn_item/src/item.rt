@@ -5,12 +5,12 @@ mod parsing;
 mod trees;
 
 use crate::foreign::ItemForeignMod;
-use crate::function::ItemFn;
 use crate::impls::ItemImpl;
-use crate::simple::{
+use crate::traits::ItemTrait;
+use syn_simple::function::ItemFn;
+use syn_simple::simple::{
     ItemConst, ItemExternCrate, ItemMacro, ItemMod, ItemStatic, ItemTraitAlias, ItemType, ItemUse,
 };
-use crate::traits::ItemTrait;
 use syn_tokens::stream::TokenStream;
 use syn_tree::item::{ItemEnum, ItemStruct, ItemUnion};
 pub use trees::Items;

@@ -1,23 +1,16 @@
-//! The syntax trees of items and files: functions, traits, impls and all else that stands beside structs, enums and unions. They hold
-//! no expression and no item: bodies, values and the content of modules are kept as their tokens.
+//! The syntax trees of items and files: traits, impls and foreign modules with their members, and all other items, structs, enums and
+//! unions among them. They hold no expression: bodies and values are kept as their tokens.
 #![tactic(auto)]
 
-mod bodies;
 mod compare;
 mod conversions;
 mod copies;
 pub mod file;
 pub mod foreign;
-pub mod function;
 pub mod impls;
 pub mod item;
 pub mod laws;
-mod names;
-mod nested;
-mod parts;
-mod pieces;
 mod prints;
-pub mod sig;
-pub mod simple;
 pub mod traits;
-pub mod use_tree;
+
+pub use syn_simple::{function, sig, simple, use_tree};

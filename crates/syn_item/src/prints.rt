@@ -5,10 +5,6 @@
 
 mod file;
 mod foreign;
-mod function;
 mod impls;
 mod item;
-mod sig;
-mod simple;
 mod traits;
-mod use_tree;

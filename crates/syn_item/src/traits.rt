@@ -7,13 +7,11 @@ ghost use Rattle.syn_tokens.specs.Kinds.{semi_syntax};
 ghost use Rattle.syn_tokens.specs.Leaves.{maybe};
 ghost use Rattle.syn_lower.specs.Attributes.{attributes_syntax};
 ghost use Rattle.syn_lower.specs.Bodies.{attributes_before_body, attributes_in_body};
-ghost use Rattle.syn_item.specs.Simple.{attributes_by_content};
+ghost use Rattle.syn_simple.specs.Simple.{attributes_by_content};
 ghost use Rattle.syn_item.specs.Traits.{behind_auto, behind_name, function_end};
 
 mod parsing;
 
-use crate::parts::{print_body, print_braced};
-use crate::sig::Signature;
 pub(crate) use parsing::{TraitHead, TraitMarks, named_trait, trait_end, unmarked_trait};
 use std::alloc::AllocError;
 use syn_lower::attr::{print_before_body, print_outer};
@@ -21,6 +19,8 @@ use syn_lower::generics::print_bounds;
 use syn_lower::{Attribute, Generics, Type, TypeParamBound};
 use syn_pat::Macro;
 use syn_recognize::deferred::{DeferredBlock, DeferredExpr};
+use syn_simple::parts::{print_body, print_braced};
+use syn_simple::sig::Signature;
 use syn_tokens::ident::Ident;
 use syn_tokens::print::Print;
 use syn_tokens::punctuated::Punctuated;
@@ -276,7 +276,7 @@ impl std::marker::Model for TraitItemMacro {
 
     ghost coded = { syntax_code };
 
-    ghost use Rattle.syn_item.specs.Macros.{view_TraitItemMacro};
+    ghost use Rattle.syn_item.specs.MemberMacros.{view_TraitItemMacro};
 
     ghost view = { view_TraitItemMacro };
 }
@@ -312,7 +312,7 @@ impl syn_tokens::syntactic::Syntactic for TraitItemType {
 }
 
 impl syn_tokens::syntactic::Syntactic for TraitItemMacro {
-    ghost use Rattle.syn_item.specs.Macros.{syntax_of_TraitItemMacro};
+    ghost use Rattle.syn_item.specs.MemberMacros.{syntax_of_TraitItemMacro};
 
     ghost syntax = { syntax_of_TraitItemMacro };
 }

@@ -10,16 +10,16 @@ use syn::canon::{NamedField, Stmts, UnnamedField};
 use syn_expr::stmt::{Block, Stmt};
 use syn_item::file::File;
 use syn_item::foreign::{ForeignItem, ItemForeignMod};
-use syn_item::function::ItemFn;
 use syn_item::impls::{ImplItem, ItemImpl};
 use syn_item::item::Item;
-use syn_item::sig::{FnArg, Receiver, Signature};
-use syn_item::simple::{
+use syn_item::traits::{ItemTrait, TraitItem};
+use syn_recognize::Rule;
+use syn_simple::function::ItemFn;
+use syn_simple::sig::{FnArg, Receiver, Signature};
+use syn_simple::simple::{
     ItemConst, ItemExternCrate, ItemMacro, ItemMod, ItemStatic, ItemTraitAlias, ItemType, ItemUse,
 };
-use syn_item::traits::{ItemTrait, TraitItem};
-use syn_item::use_tree::UseTree;
-use syn_recognize::Rule;
+use syn_simple::use_tree::UseTree;
 use syn_tree::data::{FieldsNamed, FieldsUnnamed, Variant};
 use syn_tree::derive::DeriveInput;
 use syn_tree::item::{ItemEnum, ItemStruct, ItemUnion};

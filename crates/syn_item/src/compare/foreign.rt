@@ -4,7 +4,7 @@
 ghost use Rattle.syn_item.specs.Foreign.{syntax_of_ItemForeignMod, syntax_of_ForeignItem, syntax_of_ForeignItemFn, syntax_of_ForeignItemStatic, syntax_of_ForeignItemType};
 ghost use Rattle.syn_lower.specs.Equality.{IsSame, IsEqual, PrintsAlike};
 ghost use Rattle.syn_tokens.specs.Comparison.{same_by, same_equiv, same_per};
-ghost use Rattle.syn_item.specs.Macros.{syntax_of_ForeignItemMacro};
+ghost use Rattle.syn_item.specs.MemberMacros.{syntax_of_ForeignItemMacro};
 
 use crate::foreign::{
     ForeignItem, ForeignItemFn, ForeignItemMacro, ForeignItemStatic, ForeignItemType,
@@ -77,7 +77,7 @@ impl Eq for ForeignItem {
 }
 
 impl Compared for ForeignItemFn {
-    #[tactic(auto, using(crate::proofs::SameParts::same_modified))]
+    #[tactic(auto, using(syn_simple::proofs::SameParts::same_modified))]
     fn is_same(&self, other: &ForeignItemFn) -> bool {
         self.attrs.is_same(&other.attrs)
             && self.vis.is_same(&other.vis)
@@ -143,7 +143,7 @@ impl Eq for ForeignItemStatic {
 }
 
 impl Compared for ForeignItemType {
-    #[tactic(auto, using(crate::proofs::SameParts::same_modified))]
+    #[tactic(auto, using(syn_simple::proofs::SameParts::same_modified))]
     fn is_same(&self, other: &ForeignItemType) -> bool {
         self.attrs.is_same(&other.attrs)
             && self.vis.is_same(&other.vis)
@@ -177,7 +177,7 @@ impl Eq for ForeignItemType {
 }
 
 impl Compared for ForeignItemMacro {
-    #[tactic(auto, using(crate::proofs::SameMacros::same_member_macro))]
+    #[tactic(auto, using(syn_simple::proofs::SameMacros::same_member_macro))]
     fn is_same(&self, other: &ForeignItemMacro) -> bool {
         self.attrs.is_same(&other.attrs)
             && self.mac.is_same(&other.mac)

@@ -4,7 +4,7 @@
 ghost use Rattle.syn_item.specs.Impls.{syntax_of_ItemImpl, syntax_of_ImplItem, syntax_of_ImplItemConst, syntax_of_ImplItemFn, syntax_of_ImplItemType};
 ghost use Rattle.syn_lower.specs.Equality.{IsSame, IsEqual, PrintsAlike};
 ghost use Rattle.syn_tokens.specs.Comparison.{same_by, same_equiv, same_per};
-ghost use Rattle.syn_item.specs.Macros.{syntax_of_ImplItemMacro};
+ghost use Rattle.syn_item.specs.MemberMacros.{syntax_of_ImplItemMacro};
 
 use crate::impls::{ImplItem, ImplItemConst, ImplItemFn, ImplItemMacro, ImplItemType, ItemImpl};
 use syn_tokens::syntactic::compare::Compared;
@@ -168,7 +168,7 @@ impl Eq for ImplItemType {
 }
 
 impl Compared for ImplItemMacro {
-    #[tactic(auto, using(crate::proofs::SameMacros::same_member_macro))]
+    #[tactic(auto, using(syn_simple::proofs::SameMacros::same_member_macro))]
     fn is_same(&self, other: &ImplItemMacro) -> bool {
         self.attrs.is_same(&other.attrs)
             && self.mac.is_same(&other.mac)

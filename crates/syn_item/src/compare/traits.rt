@@ -4,7 +4,7 @@
 ghost use Rattle.syn_item.specs.Traits.{syntax_of_ItemTrait, syntax_of_TraitItem, syntax_of_TraitItemConst, syntax_of_TraitItemFn, syntax_of_TraitItemType};
 ghost use Rattle.syn_lower.specs.Equality.{IsSame, IsEqual, PrintsAlike};
 ghost use Rattle.syn_tokens.specs.Comparison.{same_by, same_equiv, same_per};
-ghost use Rattle.syn_item.specs.Macros.{syntax_of_TraitItemMacro};
+ghost use Rattle.syn_item.specs.MemberMacros.{syntax_of_TraitItemMacro};
 
 use crate::traits::{
     ItemTrait, TraitItem, TraitItemConst, TraitItemFn, TraitItemMacro, TraitItemType,
@@ -168,7 +168,7 @@ impl Eq for TraitItemType {
 }
 
 impl Compared for TraitItemMacro {
-    #[tactic(auto, using(crate::proofs::SameMacros::same_member_macro))]
+    #[tactic(auto, using(syn_simple::proofs::SameMacros::same_member_macro))]
     fn is_same(&self, other: &TraitItemMacro) -> bool {
         self.attrs.is_same(&other.attrs)
             && self.mac.is_same(&other.mac)

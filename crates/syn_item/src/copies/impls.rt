@@ -8,7 +8,7 @@ use syn_tokens::error::Result;
 use syn_tokens::syntactic::try_clone::TryClone;
 
 impl TryClone for ItemImpl {
-    #[tactic(auto, using(crate::proofs::Members::copied_members))]
+    #[tactic(auto, using(syn_simple::proofs::Members::copied_members))]
     fn try_clone(&self, alloc: Global) -> Result<ItemImpl> {
         Ok(ItemImpl {
             attrs: self.attrs.try_clone(alloc)?,

@@ -10,7 +10,7 @@ use syn_tokens::error::Result;
 use syn_tokens::syntactic::try_clone::TryClone;
 
 impl TryClone for ItemTrait {
-    #[tactic(auto, using(crate::proofs::Members::copied_members))]
+    #[tactic(auto, using(syn_simple::proofs::Members::copied_members))]
     fn try_clone(&self, alloc: Global) -> Result<ItemTrait> {
         Ok(ItemTrait {
             attrs: self.attrs.try_clone(alloc)?,

@@ -3,11 +3,11 @@ ghost use Rattle.syn_grammar.specs.Rules as rules;
 ghost use Rattle.syn_lower.specs.Parsing.{of, rule, meaning_of_rule};
 
 use super::File;
-use crate::pieces::members;
 use syn_lower::attr::inner_attributes;
 use syn_parse::buffer::ParseBuffer;
 use syn_parse::read::Read;
 use syn_parse::read::refusal::Parsed;
+use syn_simple::pieces::members;
 
 /// Inner attributes and items, to the end. Neither a first line nor a frontmatter is read.
 ///

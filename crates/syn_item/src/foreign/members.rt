@@ -23,9 +23,6 @@ ghost use Rattle.syn_item.specs.Planned.{Follows};
 ghost use Rattle.syn_item.specs.Stages.{foreign_function_or_kept, foreign_item_plan_behind, foreign_static_or_kept, foreign_type_or_kept};
 
 use super::{ForeignItem, ForeignItemFn, ForeignItemMacro, ForeignItemStatic, ForeignItemType};
-use crate::pieces::{kept_tokens, member_macro, type_head};
-use crate::sig::{Safety, Signature, foreign_signature, safe_or_unsafe};
-use crate::simple::StaticMutability;
 use syn_lower::attr::outer_attributes;
 use syn_lower::where_clause::where_clause;
 use syn_lower::{Attribute, Generics, Type, WhereClause};
@@ -35,6 +32,9 @@ use syn_parse::read::refusal::Parsed;
 use syn_recognize::Rule;
 use syn_recognize::item_looks::{is_before_colons, is_before_macro};
 use syn_recognize::looks::at_empty_group;
+use syn_simple::pieces::{kept_tokens, member_macro, type_head};
+use syn_simple::sig::{Safety, Signature, foreign_signature, safe_or_unsafe};
+use syn_simple::simple::StaticMutability;
 use syn_tokens::ident::Ident;
 use syn_tokens::token;
 use syn_tokens::token::{

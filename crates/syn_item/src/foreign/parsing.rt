@@ -7,12 +7,12 @@ ghost use Rattle.syn_lower.specs.Attributes.{all_attributes_syntax, attributes_s
 ghost use Rattle.syn_lower.specs.Parsing.{of, rule, meaning_of_rule, parse_rule, Computes, Moved, itself, IsSyntax};
 
 use super::ItemForeignMod;
-use crate::pieces::braced;
 use syn_lower::Attribute;
 use syn_lower::attr::outer_attributes;
 use syn_parse::buffer::ParseBuffer;
 use syn_parse::read::Read;
 use syn_parse::read::refusal::Parsed;
+use syn_simple::pieces::braced;
 
 /// Attributes, perhaps `unsafe`, an ABI, and inner attributes and members in braces.
 impl Read for ItemForeignMod {

@@ -21,7 +21,6 @@ ghost use Rattle.syn_item.specs.Planned.{Follows};
 ghost use Rattle.syn_item.specs.Stages.{impl_types_behind};
 
 use super::ItemImpl;
-use crate::pieces::braced;
 use syn_lower::attr::outer_attributes;
 use syn_lower::where_clause::where_clause;
 use syn_lower::{Attribute, Generics, Path, Type, TypeNever, TypePath, WhereClause};
@@ -30,6 +29,7 @@ use syn_parse::read::refusal::{Parsed, Refusal};
 use syn_parse::read::{Peek, Read};
 use syn_recognize::item_looks::at_generics;
 use syn_recognize::looks::at_path_word;
+use syn_simple::pieces::braced;
 use syn_tokens::span::Span;
 use syn_tokens::token::{Brace, Const, Default, For, Impl, Not, PathSep, Unsafe};
 use syn_tree::item::ImplModifiers;

@@ -20,8 +20,6 @@ mod kept;
 mod traits;
 
 use super::Item;
-use crate::pieces::kept_tokens;
-use crate::simple::{macro_as_item_rest, module};
 use functions::{behind_const, behind_extern, behind_unsafe, function_or_kept};
 use impls::{bare_impl, default_impl};
 use kept::{static_or_kept, type_or_kept, use_or_kept};
@@ -33,6 +31,8 @@ use syn_parse::read::refusal::Parsed;
 use syn_recognize::Rule;
 use syn_recognize::item_looks::{at_auto, at_union, is_before_macro};
 use syn_recognize::looks::at_empty_group;
+use syn_simple::pieces::kept_tokens;
+use syn_simple::simple::{macro_as_item_rest, module};
 use syn_tokens::token;
 use syn_tokens::token::{
     Async, Const, Default, Enum, Extern, Fn, Impl, Mod, Pub, Static, Struct, Trait, Type, Unsafe,

@@ -1,15 +1,15 @@
 //! Items as the trees that deferred ones stand for.
 ghost use Rattle.syn_item.specs.Items.{syntax_of_Item};
-ghost use Rattle.syn_item.specs.Parts.{members_of};
+ghost use Rattle.syn_simple.specs.Parts.{members_of};
 
 use super::Item;
-use crate::parts::print_members;
-use crate::pieces::members;
 use std::alloc::AllocError;
 use syn_parse::buffer::ParseBuffer;
 use syn_parse::read::Read;
 use syn_parse::read::refusal::Parsed;
 use syn_recognize::deferred::TreeOf;
+use syn_simple::parts::print_members;
+use syn_simple::pieces::members;
 use syn_tokens::print::{Print, ToTokens};
 use syn_tokens::stream::builder::StreamBuilder;
 use syn_tokens::syntactic::Syntactic;

@@ -6,9 +6,9 @@ use crate::foreign::{
     ForeignItem, ForeignItemFn, ForeignItemMacro, ForeignItemStatic, ForeignItemType,
     ItemForeignMod,
 };
-use crate::parts::print_braced;
 use std::alloc::AllocError;
 use syn_lower::attr::{print_before_body, print_outer};
+use syn_simple::parts::print_braced;
 use syn_tokens::print::{Print, ToTokens};
 use syn_tokens::stream::builder::StreamBuilder;
 
@@ -24,7 +24,7 @@ impl Print for ItemForeignMod {
 impl ToTokens for ItemForeignMod {}
 
 impl Print for ForeignItem {
-    #[tactic(auto, using(syn_tokens::proofs::Prints::prints, crate::proofs::Macros::print_among_members))]
+    #[tactic(auto, using(syn_tokens::proofs::Prints::prints, syn_simple::proofs::Macros::print_among_members))]
     fn print_in(&self, out: &mut StreamBuilder) -> Result<(), AllocError> {
         match self {
             ForeignItem::Fn(value) => value.print_in(out),
@@ -50,7 +50,7 @@ impl Print for ForeignItemFn {
 impl ToTokens for ForeignItemFn {}
 
 impl Print for ForeignItemStatic {
-    #[tactic(auto, using(crate::proofs::LongPrints::in_order))]
+    #[tactic(auto, using(syn_simple::proofs::LongPrints::in_order))]
     fn print_in(&self, out: &mut StreamBuilder) -> Result<(), AllocError> {
         print_outer(&self.attrs, out)?;
         self.vis.print_in(out)?;
@@ -69,7 +69,7 @@ impl ToTokens for ForeignItemStatic {}
 impl ToTokens for ForeignItemType {}
 
 impl Print for ForeignItemMacro {
-    #[tactic(auto, using(syn_tokens::proofs::Prints::prints, crate::proofs::Macros::print_ended_macro))]
+    #[tactic(auto, using(syn_tokens::proofs::Prints::prints, syn_simple::proofs::Macros::print_ended_macro))]
     fn print_in(&self, out: &mut StreamBuilder) -> Result<(), AllocError> {
         print_outer(&self.attrs, out)?;
         self.mac.print_in(out)?;

@@ -3,16 +3,16 @@
 //! Prints of `impls`.
 
 use crate::impls::{ImplItem, ImplItemConst, ImplItemFn, ImplItemMacro, ImplItemType, ItemImpl};
-use crate::parts::print_body;
 use std::alloc::AllocError;
 use syn_lower::attr::{print_before_body, print_outer};
+use syn_simple::parts::print_body;
 use syn_tokens::print::{Print, ToTokens};
 use syn_tokens::stream::builder::StreamBuilder;
 
 impl ToTokens for ItemImpl {}
 
 impl Print for ImplItem {
-    #[tactic(auto, using(syn_tokens::proofs::Prints::prints, crate::proofs::Macros::print_among_members))]
+    #[tactic(auto, using(syn_tokens::proofs::Prints::prints, syn_simple::proofs::Macros::print_among_members))]
     fn print_in(&self, out: &mut StreamBuilder) -> Result<(), AllocError> {
         match self {
             ImplItem::Const(value) => value.print_in(out),
@@ -43,7 +43,7 @@ impl ToTokens for ImplItemFn {}
 impl ToTokens for ImplItemType {}
 
 impl Print for ImplItemMacro {
-    #[tactic(auto, using(syn_tokens::proofs::Prints::prints, crate::proofs::Macros::print_ended_macro))]
+    #[tactic(auto, using(syn_tokens::proofs::Prints::prints, syn_simple::proofs::Macros::print_ended_macro))]
     fn print_in(&self, out: &mut StreamBuilder) -> Result<(), AllocError> {
         print_outer(&self.attrs, out)?;
         self.mac.print_in(out)?;

@@ -8,7 +8,7 @@ use syn_tokens::print::{Print, ToTokens};
 use syn_tokens::stream::builder::StreamBuilder;
 
 impl Print for Item {
-    #[tactic(auto, using(syn_tokens::proofs::Prints::prints, crate::proofs::Macros::print_among_items))]
+    #[tactic(auto, using(syn_tokens::proofs::Prints::prints, syn_simple::proofs::Macros::print_among_items))]
     fn print_in(&self, out: &mut StreamBuilder) -> Result<(), AllocError> {
         match self {
             Item::Const(value) => value.print_in(out),

@@ -14,19 +14,12 @@ ghost use Rattle.syn_tree.specs.Derive.{item_of};
 ghost use Rattle.syn_tree.specs.Restriction.{syntax_of_Visibility};
 ghost use Rattle.syn_item.specs.NextWords.{marked_next};
 ghost use Rattle.syn_item.specs.Planned.{Follows};
-ghost use Rattle.syn_item.specs.Simple.{attributes_by_content};
+ghost use Rattle.syn_simple.specs.Simple.{attributes_by_content};
 ghost use Rattle.syn_item.specs.Stages.{trait_const_or_kept, trait_item_plan_behind};
 ghost use Rattle.syn_item.specs.TraitForms.{behind_head, behind_marks, function_end_form, named_form, named_syntax, trait_end_form, trait_function_of, unmarked_form};
 ghost use Rattle.syn_item.specs.Traits.{function_end, syntax_of_TraitItem};
 
 use super::{ItemTrait, TraitItem, TraitItemConst, TraitItemFn, TraitItemMacro, TraitItemType};
-use crate::bodies::body;
-use crate::names::{OrUnderscore, name_or};
-use crate::pieces::{
-    at_function, behind_equals, braced, colon_and_supertraits, colon_and_type_bounds, kept_tokens,
-    member_macro,
-};
-use crate::sig::Signature;
 use syn_lower::attr::outer_attributes;
 use syn_lower::where_clause::where_clause;
 use syn_lower::{Attribute, Generics};
@@ -36,6 +29,13 @@ use syn_parse::read::refusal::Parsed;
 use syn_recognize::Rule;
 use syn_recognize::deferred::DeferredBlock;
 use syn_recognize::looks::at_empty_group;
+use syn_simple::bodies::body;
+use syn_simple::names::{OrUnderscore, name_or};
+use syn_simple::pieces::{
+    at_function, behind_equals, braced, colon_and_supertraits, colon_and_type_bounds, kept_tokens,
+    member_macro,
+};
+use syn_simple::sig::Signature;
 use syn_tokens::ident::Ident;
 use syn_tokens::token;
 use syn_tokens::token::{Auto, Const, Default, Lt, Pub, SelfType, Semi, Trait, Unsafe};

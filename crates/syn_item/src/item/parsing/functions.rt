@@ -24,14 +24,14 @@ use super::impls::impl_behind;
 use super::traits::{const_trait, trait_behind};
 use super::{Begun, Place};
 use crate::foreign::foreign_module_rest;
-use crate::function::function;
 use crate::item::Item;
-use crate::names::{OrUnderscore, name_or};
-use crate::sig::Abi;
-use crate::simple::{ItemConst, extern_crate, module};
 use syn_lower::Generics;
 use syn_parse::buffer::ParseBuffer;
 use syn_parse::read::refusal::{Parsed, Refusal};
+use syn_simple::function::function;
+use syn_simple::names::{OrUnderscore, name_or};
+use syn_simple::sig::Abi;
+use syn_simple::simple::{ItemConst, extern_crate, module};
 use syn_tokens::token::{
     Async, Auto, Brace, Const, Crate, Eq, Extern, Fn, Impl, Lt, Mod, Semi, Trait, Unsafe,
 };

@@ -17,12 +17,12 @@ ghost use Rattle.syn_item.specs.Planned.{Follows, IsRead};
 
 use super::Begun;
 use crate::item::Item;
-use crate::pieces::type_head;
-use crate::simple::{ItemStatic, type_behind_head};
-use crate::use_tree::use_item;
 use syn_parse::buffer::ParseBuffer;
 use syn_parse::read::refusal::{Parsed, Refusal};
 use syn_recognize::{Rule, read_by};
+use syn_simple::pieces::type_head;
+use syn_simple::simple::{ItemStatic, type_behind_head};
+use syn_simple::use_tree::use_item;
 use syn_tokens::token::{Brace, Colon, Eq};
 
 /// A type alias; `None` where it is kept as its tokens: with a colon behind its generics, or without `=` behind these and a where clause.

@@ -11,17 +11,17 @@ ghost use Rattle.syn_lower.specs.Parsing.{itself, parse_form, Computes, IsSyntax
 ghost use Rattle.syn_tokens.specs.Kinds.{const_syntax, unsafe_syntax};
 ghost use Rattle.syn_tokens.specs.Leaves.{maybe};
 ghost use Rattle.syn_tree.specs.Restriction.{syntax_of_Visibility};
-ghost use Rattle.syn_item.specs.ItemForms.{bounds_end_form};
+ghost use Rattle.syn_simple.specs.ItemForms.{bounds_end_form};
 ghost use Rattle.syn_item.specs.Items.{syntax_of_Item};
 ghost use Rattle.syn_item.specs.Planned.{Follows};
 ghost use Rattle.syn_item.specs.TraitForms.{alias_of};
 
 use super::Begun;
 use crate::item::Item;
-use crate::simple::{ItemTraitAlias, aliased_bounds};
 use crate::traits::{TraitHead, TraitMarks, named_trait, trait_end, unmarked_trait};
 use syn_parse::buffer::ParseBuffer;
 use syn_parse::read::refusal::Parsed;
+use syn_simple::simple::{ItemTraitAlias, aliased_bounds};
 use syn_tokens::token::{Const, Eq, Unsafe};
 
 /// A trait behind its `const` and `unsafe`, each of them or not.

@@ -10,7 +10,7 @@ use Rattle.syn_lower.specs.Attributes.{attributes_syntax}
 use Rattle.syn_lower.specs.Parsing.{IsSyntax}
 use Rattle.syn_tree.specs.Restriction.{syntax_of_Visibility}
 use Rattle.syn_item.specs.Foreign.{syntax_of_ForeignItem}
-use Rattle.syn_item.specs.Macros.{among_members}
+use Rattle.syn_simple.specs.Macros.{among_members}
 use Rattle.syn_item.specs.NextWords.{foreign_function_next, static_next}
 use Rattle.syn_item.specs.Planned.{Follows}
 use Rattle.syn_item.specs.Stages.{foreign_item_plan_behind}

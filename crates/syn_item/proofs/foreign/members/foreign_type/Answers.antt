@@ -13,7 +13,7 @@ use Rattle.syn_lower.specs.Attributes.{attributes_syntax}
 use Rattle.syn_lower.specs.Generics.{where_part}
 use Rattle.syn_lower.specs.Parts.{first}
 use Rattle.syn_tree.specs.Restriction.{syntax_of_Visibility}
-use Rattle.syn_item.specs.ImplForms.{type_head_form, type_head_syntax}
+use Rattle.syn_simple.specs.Pieces.{type_head_form, type_head_syntax}
 use Rattle.syn_item.specs.Planned.{OnlyKept}
 use Rattle.syn_item.specs.Stages.{foreign_type_or_kept}
 use Rattle.syn_item.proofs.ForeignPlans.{bounds_kept, clause_refused, head_refused, type_end_refused, type_kept, type_read}

@@ -12,7 +12,8 @@ use Rattle.syn_tokens.specs.Leaves.{maybe, syntax_of_ident}
 use Rattle.syn_lower.specs.Attributes.{attributes_syntax}
 use Rattle.syn_lower.specs.Parts.{first}
 use Rattle.syn_tree.specs.Restriction.{syntax_of_Visibility}
-use Rattle.syn_item.specs.ImplForms.{member_marks_syntax, type_head_form, type_head_syntax, type_rest_form, type_rest_of}
+use Rattle.syn_item.specs.ImplForms.{member_marks_syntax, type_rest_form, type_rest_of}
+use Rattle.syn_simple.specs.Pieces.{type_head_form, type_head_syntax}
 use Rattle.syn_item.specs.Planned.{OnlyKept}
 use Rattle.syn_item.proofs.ImplPlans.{rest_read, rest_refused, type_kept}
 use Rattle.syn_item.proofs.impls.members.impl_type.Goals as goal

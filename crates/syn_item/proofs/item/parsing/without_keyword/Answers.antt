@@ -9,7 +9,7 @@ use Rattle.syn_lower.specs.Parsing.{IsSyntax}
 use Rattle.syn_item.specs.ItemStages.{other_plan_of, place_of}
 use Rattle.syn_item.specs.ItemTurns.{default_next, no_visibility}
 use Rattle.syn_item.specs.Items.{syntax_of_Item}
-use Rattle.syn_item.specs.Macros.{among_items}
+use Rattle.syn_simple.specs.Macros.{among_items}
 use Rattle.syn_item.specs.Planned.{Follows}
 use Rattle.syn_item.proofs.ItemPlans.{default_follows, macro_read}
 use Rattle.syn_item.proofs.item.parsing.without_keyword.Goals as goal

@@ -1,7 +1,8 @@
 use Rattle.std.proofs.Common.{◌≡◌, Some, rules}
 use Rattle.syn_grammar.specs.Run.{parse_form}
 use Rattle.syn_lower.specs.Parsing.{IsSyntax}
-use Rattle.syn_item.specs.ImplForms.{member_marks_form, member_marks_syntax, type_head_form, type_head_syntax}
+use Rattle.syn_item.specs.ImplForms.{member_marks_form, member_marks_syntax}
+use Rattle.syn_simple.specs.Pieces.{type_head_form, type_head_syntax}
 use Rattle.syn_item.proofs.ImplReads.{type_read}
 use Rattle.syn_item.proofs.impls.members.ImplItemTypeRead.read.Goals as goal
 

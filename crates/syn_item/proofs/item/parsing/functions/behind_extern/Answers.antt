@@ -12,7 +12,7 @@ use Rattle.syn_lower.specs.Attributes.{attributes_syntax}
 use Rattle.syn_lower.specs.Parsing.{IsSyntax}
 use Rattle.syn_tree.specs.Derive.{item_of}
 use Rattle.syn_tree.specs.Restriction.{syntax_of_Visibility}
-use Rattle.syn_item.specs.ItemForms.{crate_form}
+use Rattle.syn_simple.specs.ItemForms.{crate_form}
 use Rattle.syn_item.specs.Items.{syntax_of_Item}
 use Rattle.syn_item.specs.ItemStages.{place_of}
 use Rattle.syn_item.specs.ItemTurns.{extern_turn}

@@ -13,7 +13,7 @@ use Rattle.syn_tokens.specs.Leaves.{maybe}
 use Rattle.syn_lower.specs.Attributes.{attributes_syntax}
 use Rattle.syn_lower.specs.Parsing.{IsSyntax}
 use Rattle.syn_tree.specs.Restriction.{syntax_of_Visibility}
-use Rattle.syn_item.specs.ItemForms.{module_form, module_of}
+use Rattle.syn_simple.specs.ItemForms.{module_form, module_of}
 use Rattle.syn_item.specs.Items.{syntax_of_Item}
 use Rattle.syn_item.specs.ItemStages.{place_of}
 use Rattle.syn_item.specs.ItemTurns.{no_visibility, unsafe_turn}

@@ -8,7 +8,7 @@ use Rattle.syn_grammar.specs.Take.{sees}
 use Rattle.syn_grammar.specs.Run.{parse_rule, wrap}
 use Rattle.syn_lower.specs.Attributes.{attributes_syntax}
 use Rattle.syn_tree.specs.Restriction.{syntax_of_Visibility}
-use Rattle.syn_item.specs.ItemForms.{function_of}
+use Rattle.syn_simple.specs.ItemForms.{function_of}
 use Rattle.syn_item.specs.ItemTurns.{function_turn}
 use Rattle.syn_item.specs.Planned.{OnlyKept}
 use Rattle.syn_item.proofs.ItemPlans.{bodiless_kept, function_read, function_refused}

@@ -15,7 +15,7 @@ use Rattle.syn_lower.specs.Attributes.{attributes_syntax}
 use Rattle.syn_lower.specs.Types.{syntax_of_Type}
 use Rattle.syn_tree.specs.Restriction.{syntax_of_Visibility}
 use Rattle.syn_item.specs.Planned.{OnlyKept}
-use Rattle.syn_item.specs.Simple.{syntax_of_StaticMutability}
+use Rattle.syn_simple.specs.Simple.{syntax_of_StaticMutability}
 use Rattle.syn_item.proofs.ItemPlans.{untyped_kept, unvalued_kept}
 use Rattle.syn_item.proofs.item.parsing.kept.static_or_kept.Goals as goal
 

@@ -12,8 +12,8 @@ use Rattle.syn_tokens.specs.Leaves.{syntax_of_ident}
 use Rattle.syn_lower.specs.Attributes.{attributes_syntax}
 use Rattle.syn_lower.specs.Parts.{first}
 use Rattle.syn_tree.specs.Restriction.{syntax_of_Visibility}
-use Rattle.syn_item.specs.ImplForms.{type_head_form}
-use Rattle.syn_item.specs.ItemForms.{alias_end_form, alias_syntax}
+use Rattle.syn_simple.specs.Pieces.{type_head_form}
+use Rattle.syn_simple.specs.ItemForms.{alias_end_form, alias_syntax}
 use Rattle.syn_item.specs.NextWords.{equals_ahead}
 use Rattle.syn_item.specs.Planned.{OnlyKept}
 use Rattle.syn_item.proofs.TypePlans.{alias_read, colon_kept, no_alias_kept}

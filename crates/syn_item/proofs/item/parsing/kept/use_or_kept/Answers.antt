@@ -12,7 +12,7 @@ use Rattle.syn_lower.specs.Attributes.{attributes_syntax}
 use Rattle.syn_tree.specs.Derive.{item_of}
 use Rattle.syn_tree.specs.Restriction.{syntax_of_Visibility}
 use Rattle.syn_item.specs.NextWords.{IsRootedGroup}
-use Rattle.syn_item.specs.UseForms.{use_form}
+use Rattle.syn_simple.specs.UseForms.{use_form}
 use Rattle.syn_item.proofs.UsePlans.{use_read}
 use Rattle.syn_item.proofs.item.parsing.kept.use_or_kept.Goals as goal
 

@@ -13,7 +13,7 @@ use Rattle.syn_lower.specs.Attributes.{attributes_syntax}
 use Rattle.syn_lower.specs.Parts.{first}
 use Rattle.syn_tree.specs.Derive.{item_of}
 use Rattle.syn_tree.specs.Restriction.{syntax_of_Visibility}
-use Rattle.syn_item.specs.ItemForms.{bounds_end_form}
+use Rattle.syn_simple.specs.ItemForms.{bounds_end_form}
 use Rattle.syn_item.specs.TraitForms.{named_form, trait_end_form}
 use Rattle.syn_item.proofs.ItemTraits.{alias_read, alias_refused, named_read, named_refused}
 use Rattle.syn_item.proofs.item.parsing.traits.trait_or_alias.Goals as goal

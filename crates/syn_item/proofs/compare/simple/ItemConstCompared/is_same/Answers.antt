@@ -1,6 +1,0 @@
-use Rattle.std.proofs.Common.{rules}
-use Rattle.syn_item.proofs.SameParts.{same_constant}
-use Rattle.syn_item.proofs.compare.simple.ItemConstCompared.is_same.Goals as goal
-
-pub returns-else-is_same-10 : goal.returns-else-is_same-10
-returns-else-is_same-10 c = record { same = rw (← c.self.view_is, ← c.other.view_is, same_constant) (search rules) }

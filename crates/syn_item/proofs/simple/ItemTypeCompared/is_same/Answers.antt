@@ -1,6 +1,0 @@
-use Rattle.std.proofs.Common.{rules}
-use Rattle.syn_item.proofs.SameParts.{same_alias}
-use Rattle.syn_item.proofs.simple.ItemTypeCompared.is_same.Goals as goal
-
-pub returns-else-has_same_alias : goal.returns-else-has_same_alias
-returns-else-has_same_alias c = record { same = rw (← c.self.view_is, ← c.other.view_is, same_alias) (search rules) }

@@ -1,0 +1,12 @@
+pub mod Falls
+pub mod Functions
+pub mod ItemForms
+pub mod Macros
+pub mod Parts
+pub mod Pieces
+pub mod Plain
+pub mod SignatureForms
+pub mod Signatures
+pub mod Simple
+pub mod UseForms
+pub mod Uses

@@ -1,0 +1,8 @@
+//! Written by tools/kinds.py; edits are lost.
+//!
+//! Copies of trees.
+
+mod function;
+mod sig;
+mod simple;
+mod use_tree;
