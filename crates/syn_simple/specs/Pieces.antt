@@ -1,5 +1,5 @@
 -- WHAT MANY ITEMS ARE READ WITH: forms of their parts, and what the parts stand for.
-use Rattle.std.specs.Prelude.{◌≡◌, false, List, [], ◌∷◌, Some, Result, Ok, Err}
+use Rattle.std.specs.Prelude.{◌≡◌, false, List, [], ◌∷◌, Some, None, Result, Ok, Err}
 use Rattle.syn_grammar.specs.Tokens.{Stream, Brace, ended}
 use Rattle.syn_grammar.specs.Rules.{Rule, generics, inner_attributes}
 use Rattle.syn_grammar.specs.Grammar.{Grammar, Syntax, Nothing, Both, Right, Node, ◌&◌, inside, name, rule, vanishing, word}
