@@ -121,6 +121,10 @@ class Theorems:
         content = f'({content})' if ' ' in content else content
         return f'group {token.delimiter} {self.span(token.opening, plain)} {self.span(token.closing, plain)} {content} {rest}'
 
+    def hidden(self, trees):
+        """Whether an invisible group stands in the stream: the grammar doesn't speak of it then, and what is computed is told."""
+        return any(isinstance(t, Group) and (t.delimiter == 'None' or self.hidden(t.content)) for t in trees)
+
     def agree(self, example):
         """The reader of the scripts agrees with what the example says; else the file is wrong, or the table."""
         trees = read_text(example.text)
@@ -136,20 +140,33 @@ class Theorems:
     def theorem(self, example):
         trees = read_text(example.text)
         comment = f'-- `{example.text}`' if example.text else '-- no tokens'
+        if self.hidden(trees):
+            return comment + self.computed(example, trees)
         if example.unread:
-            claim, proof = f'NotDerived (rule {example.rule})\n    ({self.stream(trees)})', f'not_read {example.rule} _ refl'
+            claim, proof = f'NotDerived (rule {example.rule})\n    ({self.stream(trees)})', f'not_read {example.rule} _ refl refl'
             comment += ': nothing is read'
         elif example.printed is None:
-            claim, proof = f'Refused {example.rule}\n    ({self.stream(trees)})', f'not_derived {example.rule} _ refl'
+            claim, proof = f'Refused {example.rule}\n    ({self.stream(trees)})', f'not_derived {example.rule} _ refl refl'
             comment += ' is refused'
         else:
             rest = trees[len(trees) - len(read_text(example.rest)):] if example.rest else ()
             printed = self.stream(read_text(example.printed), True)
             claim = f'DerivesAs {example.rule}\n    ({self.stream(trees)})\n    ({printed})\n    ({self.stream(rest)})'
-            proof = f'computed {example.rule} _ _ _ refl'
+            proof = f'computed {example.rule} _ _ _ refl refl'
             comment += f' prints `{example.printed}`' + (f' and leaves `{example.rest}`' if example.rest else '')
         opened = SUPPLIED if example.rule in self.supplying or example.rule in ('statement', 'statements') and 'fn ' in example.text else UNFOLD
         return f'{comment}\n{example.name} : {claim}\nunfolding {opened}\n{example.name} = {proof}\n'
+
+    def computed(self, example, trees):
+        """The comment and the theorem of what is computed of a stream with invisible groups."""
+        if example.printed is None:
+            word, comment = ('ComputesNothing', ': nothing is read') if example.unread else ('ComputesNoWhole', ' is refused')
+            claim = f'{word} {example.rule}\n    ({self.stream(trees)})'
+        else:
+            rest = trees[len(trees) - len(read_text(example.rest)):] if example.rest else ()
+            claim = f'ComputesAs {example.rule}\n    ({self.stream(trees)})\n    ({self.stream(read_text(example.printed), True)})\n    ({self.stream(rest)})'
+            comment = f' prints `{example.printed}`' + (f' and leaves `{example.rest}`' if example.rest else '')
+        return f'{comment}\n{example.name} : {claim}\nunfolding {UNFOLD}\n{example.name} = refl\n'
 
     def files(self, examples):
         """The file of each subject, and the rules without an example that is read and one that is refused."""
@@ -170,6 +187,6 @@ class Theorems:
             ('Rattle.std.proofs.Common', COMMON), specs('Words'), specs('Tokens'),
             (f'{CRATE}.specs.Rules', ['Rule'] + self.source.rules), (f'{CRATE}.specs.Grammar', ['rule']),
             specs('Take'), specs('Run'), (f'{CRATE}.specs.Promises', ['Refused', 'NotDerived']),
-            (f'{CRATE}.proofs.Means', ['not_derived']), (f'{CRATE}.proofs.Shown', ['at', 'DerivesAs', 'computed', 'not_read'])]
+            (f'{CRATE}.proofs.Means', ['not_derived']), (f'{CRATE}.proofs.Shown', ['at', 'DerivesAs', 'computed', 'not_read', 'ComputesAs', 'ComputesNothing', 'ComputesNoWhole'])]
         about = f'-- Worked examples of {words}, from tools/examples.txt: what each rule reads, prints and refuses. The checker computes each.'
         return f'{MARK}\n{about}\n' + use_lines(body, modules) + '\n' + body

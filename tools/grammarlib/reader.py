@@ -29,7 +29,8 @@ class Reader:
         return here.known_lookahead
 
     def compute_lookahead(self, here):
-        token, lookaheads = here.token, self.lookaheads
+        here, lookaheads = here.front(), self.lookaheads
+        token = here.token
         if token is None:
             return ENDED, []
         if isinstance(token, Ident):
@@ -45,15 +46,30 @@ class Reader:
         """The look holds of what stands next. Each stream keeps its answers, with the looks, since it is read by many tables."""
         known = here.known_looks.get(id(look))
         if known is None:
-            known = here.known_looks[id(look)] = look, self.lookaheads.answers(look, self.lookahead(here))
+            known = here.known_looks[id(look)] = look, self.answers(look, here)
         return known[1]
+
+    def answers(self, look, here):
+        """An invisible group is looked for as the very next tree; all other looks look through invisible groups."""
+        kind = look[0]
+        if kind == 'or_else':
+            return self.sees(look[1], here) or self.sees(look[2], here)
+        if kind == 'and_also':
+            return self.sees(look[1], here) and self.sees(look[2], here)
+        if kind == 'but_not':
+            return self.sees(look[1], here) and not self.sees(look[2], here)
+        if kind == 'at_group' and look[1][0] == 'None':
+            return here.is_invisible()
+        if kind == 'at_empty_group':
+            return here.is_invisible() and here.content().front().token is None
+        return self.lookaheads.answers(look, self.lookahead(here))
 
     # READING: each gives the tree and what is left, or raises Refused
 
     def whole(self, rule, trees):
         """The tree of all these token trees."""
         tree, rest = self.read(('rule', (rule,)), stream(trees))
-        if rest.token is not None:
+        if rest.front().token is not None:
             raise Refused()
         return tree
 
@@ -79,6 +95,7 @@ class Reader:
     read_unshown = read_empty
 
     def read_token(self, form, here):
+        here = here.front()
         token, kind = here.token, form[2]
         if not isinstance(token, (Ident, Literal)) or self.lookahead(here)[0] not in self.lookaheads.terminals(kind):
             raise Refused()
@@ -91,6 +108,7 @@ class Reader:
 
     def take_mark(self, text, here):
         for place, character in enumerate(text):
+            here = here.front()
             token = here.token
             if not isinstance(token, Punct) or token.character != character or (place + 1 < len(text) and not token.joint):
                 raise Refused()
@@ -98,14 +116,15 @@ class Reader:
         return ('mark', text), here
 
     def read_lifetime(self, form, here):
-        first = here.token
-        if not isinstance(first, Punct) or first.character != "'" or not first.joint or not isinstance(here.rest.token, Ident):
+        here = here.front()
+        first, second = here.token, here.rest and here.rest.front()
+        if not isinstance(first, Punct) or first.character != "'" or not first.joint or not isinstance(second.token, Ident):
             raise Refused()
-        return ('tokens', (first, here.rest.token)), here.rest.rest
+        return ('tokens', (first, second.token)), second.rest
 
     def read_rest_after(self, form, here):
         taken, rest = self.take_mark(form[1], here)
-        if rest.token is None:
+        if rest.front().token is None:
             raise Refused()
         return ('both', taken, ('tokens', tuple(rest.trees()))), Stream()
 
@@ -121,17 +140,20 @@ class Reader:
         return ('vanishing', form[1], tree), rest
 
     def open_group(self, delimiter, here):
+        """The stream at the group; an invisible one is the very next tree."""
+        here = here if delimiter[0] == 'None' else here.front()
         if not isinstance(here.token, Group) or here.token.delimiter != delimiter[0]:
             raise Refused()
-        return here.token
+        return here
 
     def read_raw(self, form, here):
-        return ('tokens', (self.open_group(form[1], here),)), here.rest
+        here = self.open_group(form[1], here)
+        return ('tokens', (here.token,)), here.rest
 
     def read_inside(self, form, here):
-        group = self.open_group(form[1], here)
+        here = self.open_group(form[1], here)
         tree, rest = self.read(form[2], here.content())
-        if rest.token is not None:
+        if rest.front().token is not None:
             raise Refused()
         return ('group', form[1][0], tree), here.rest
 

@@ -44,17 +44,32 @@ class Group:
 
 class Stream:
     """Token trees in a row, and their lookahead (computed once)."""
-    __slots__ = ('token', 'rest', 'known_lookahead', 'known_looks', 'known_content')
+    __slots__ = ('token', 'rest', 'known_lookahead', 'known_looks', 'known_content', 'known_front')
 
     def __init__(self, token=None, rest=None):
         self.token, self.rest = token, rest
-        self.known_lookahead, self.known_looks, self.known_content = None, {}, None
+        self.known_lookahead, self.known_looks, self.known_content, self.known_front = None, {}, None, None
 
     def content(self):
         """The content of the group that stands first."""
         if self.known_content is None:
             self.known_content = stream(self.token.content)
         return self.known_content
+
+    def is_invisible(self):
+        """An invisible group stands first."""
+        return isinstance(self.token, Group) and self.token.delimiter == 'None'
+
+    def front(self):
+        """The stream with the invisible groups at its front opened."""
+        if self.known_front is None:
+            here = self
+            while here.is_invisible():
+                content, here = here.token.content, here.rest
+                for tree in reversed(content):
+                    here = Stream(tree, here)
+            self.known_front = here
+        return self.known_front
 
     def trees(self, stop=None):
         """The trees before the rest `stop`, else all."""

@@ -1,7 +1,7 @@
 -- What was read in front of a rest is read alone; and equal tokens, spans aside, are read as equal values, spans aside.
 use Rattle.std.proofs.Common.{◌≡◌, ℕ, zero, suc, Bool, true, false, List, [], ◌∷◌, Some, refl, sym, ap, ap₂, ◌∙◌, subst, true≢false, ◌⊎◌, inl, inr}
 use Rattle.syn_grammar.specs.Words.{w_true, w_false}
-use Rattle.syn_grammar.specs.Tokens.{Stream, end, leaf, group, ◌⧺◌, or, and, no, Lookahead, Look, ended, at_name, at_word, at_mark, at_literal, at_group, at_empty_group, ahead, ◌or_else◌, ◌and_also◌, ◌but_not◌, lookahead, answers, is_ended, is_name, is_word, starts_mark, is_literal, is_group, is_empty_group}
+use Rattle.syn_grammar.specs.Tokens.{Stream, end, leaf, punct, group, ◌⧺◌, plain, visible, is_visible, or, and, no, Lookahead, Look, ended, at_name, at_word, at_mark, at_literal, at_group, at_empty_group, ahead, ◌or_else◌, ◌and_also◌, ◌but_not◌, lookahead, answers, is_ended, is_name, is_word, starts_mark, is_literal, is_group, is_empty_group}
 use Rattle.syn_grammar.specs.Rules.{Rule}
 use Rattle.syn_grammar.specs.RuleNumbers.{place, same_rule, rules, at_place, back}
 use Rattle.syn_grammar.specs.Grammar.{Syntax, Nothing, Token, Mark, Both, Left, Right, Node, Group, Raw, Case, Such, Shaped, Unshown, word, any_literal, Grammar, DerivesPrefix, empty, token, mark, ◌&◌, when◌then◌else◌, inside, raw, either, one_of, rule, such, shaped, unshown, among, plain_syntax}
@@ -10,7 +10,7 @@ use Rattle.syn_grammar.specs.Run.{parse_rule, value_of}
 use Rattle.syn_grammar.specs.Alone.{all_of, self_delimiting, asks_fact, reads_anywhere, rule_reads_anywhere, is_empty, reads_at_end, rule_reads_at_end, reads_alone, ReadAlone, ValuesForgetSpans}
 use Rattle.syn_grammar.proofs.RuleLemmas.{same_rule_eq}
 use Rattle.syn_grammar.proofs.Sets.{or_split, and_left, and_right, no_true}
-use Rattle.syn_grammar.proofs.Streams.{append_append, append_end, spelled_alone}
+use Rattle.syn_grammar.proofs.Streams.{append_append, append_end, spelled_alone, visible_append}
 use Rattle.syn_grammar.proofs.Extend.{alone}
 use Rattle.syn_grammar.proofs.Proved.{one_tree, spans}
 use Rattle.syn_grammar.proofs.Said.{closed_of, closed_hold}
@@ -212,16 +212,30 @@ rule_at_end (suc n) a k (Node s) ts r w x = go (or_split (self_delimiting k) _ w
 rule_at_end (suc n) a k _ ts r w x = elim x [ ]
 
 -- ---- THE LAWS
+-- of spans alone no group becomes invisible
+plain_visible : (ts : Stream) → visible (plain ts) ≡ visible ts
+plain_visible end = refl
+plain_visible (leaf x sp m) = plain_visible m
+plain_visible (punct c j sp m) = plain_visible m
+plain_visible (group d o c i m) = ap₂ (λ x y. and (is_visible d) (and x y)) (plain_visible i) (plain_visible m)
+
+pub visible_like : (a b : Stream) → plain a ≡ plain b → visible a ≡ true → visible b ≡ true
+visible_like a b e v = sym (plain_visible b) ∙ ap visible (sym e) ∙ plain_visible a ∙ v
+
+-- of what stands alone
+part_visible : (c r ts : Stream) → ts ≡ c ⧺ r → visible ts ≡ true → visible c ≡ true
+part_visible c r ts e v = and_left (visible c) _ (sym (visible_append c r) ∙ ap visible (sym e) ∙ v)
+
 pub read_alone : ReadAlone
-read_alone k w ts s r e =
-    let (t, a, h) = parse_rule_told k ts (s, r) e in
+read_alone k w ts s r v e =
+    let (t, a, h) = parse_rule_told k ts (s, r) v e in
     let (c, q, b, i) = rule_at_end 4 false k t ts r w a in
-    ap (parse_rule k) (before_is ts c r q) ∙ parse_rule_found k c t end b ∙ ap (λ z. Some (z, end)) h
+    ap (parse_rule k) (before_is ts c r q) ∙ parse_rule_found k c t end (part_visible c r ts q v) b ∙ ap (λ z. Some (z, end)) h
 
 pub like_values : ValuesForgetSpans
-like_values k a b s t e f g =
-    let (x, d, h) = parse_rule_told k a (s, end) f in
-    let (y, c, i) = parse_rule_told k b (t, end) g in
+like_values k a b s t v e f g =
+    let (x, d, h) = parse_rule_told k a (s, end) v f in
+    let (y, c, i) = parse_rule_told k b (t, end) (visible_like a b e v) g in
     let (u, w, j) = spans k a b x e d in
     let m : u ≡ y = (one_tree k b u y end end w c).0 in
     let n : plain_syntax y ≡ plain_syntax x = ap plain_syntax (sym m) ∙ j in

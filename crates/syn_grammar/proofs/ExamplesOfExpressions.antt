@@ -5,16 +5,16 @@ use Rattle.syn_grammar.specs.Words.{w_underscore, w_break, w_continue, w_crate, 
 use Rattle.syn_grammar.specs.Tokens.{call_site, Paren, Brace, Bracket, None, Str, ByteStr, CStr, Byte, Char, Int, Float, ident, literal, end, leaf, punct, group}
 use Rattle.syn_grammar.specs.Rules.{expressions, array_content, primary, postfixes, member, unary}
 use Rattle.syn_grammar.specs.Grammar.{rule}
-use Rattle.syn_grammar.specs.Take.{left, is_end, lookahead_at, sees, take_token, take_lifetime, take_mark, take_group, before}
+use Rattle.syn_grammar.specs.Take.{left, is_end, take_token, take_lifetime, take_mark, take_group, lookahead_at, sees, before}
 use Rattle.syn_grammar.specs.Run.{rows_for, rows, run, parse_rule}
 use Rattle.syn_grammar.specs.Promises.{NotDerived}
-use Rattle.syn_grammar.proofs.Shown.{at, DerivesAs, computed, not_read}
+use Rattle.syn_grammar.proofs.Shown.{at, DerivesAs, computed, not_read, ComputesAs, ComputesNothing}
 
 -- `_`: nothing is read
 prim_underscore : NotDerived (rule primary)
     (leaf (ident w_underscore) (at 0 1) end)
 unfolding left is_end lookahead_at sees take_token take_lifetime take_mark take_group before rows_for rows run parse_rule
-prim_underscore = not_read primary _ refl
+prim_underscore = not_read primary _ refl refl
 
 -- `1 1` prints `1` and leaves `1`
 prim_n1_n1 : DerivesAs primary
@@ -22,7 +22,7 @@ prim_n1_n1 : DerivesAs primary
     (leaf (literal Int (49 ∷ [])) call_site end)
     (leaf (literal Int (49 ∷ [])) (at 2 3) end)
 unfolding left is_end lookahead_at sees take_token take_lifetime take_mark take_group before rows_for rows run parse_rule
-prim_n1_n1 = computed primary _ _ _ refl
+prim_n1_n1 = computed primary _ _ _ refl refl
 
 -- `true true` prints `true` and leaves `true`
 prim_true_true : DerivesAs primary
@@ -30,7 +30,7 @@ prim_true_true : DerivesAs primary
     (leaf (ident w_true) call_site end)
     (leaf (ident w_true) (at 5 9) end)
 unfolding left is_end lookahead_at sees take_token take_lifetime take_mark take_group before rows_for rows run parse_rule
-prim_true_true = computed primary _ _ _ refl
+prim_true_true = computed primary _ _ _ refl refl
 
 -- `false false {}` prints `false` and leaves `false {}`
 prim_false_false_braces : DerivesAs primary
@@ -38,7 +38,7 @@ prim_false_false_braces : DerivesAs primary
     (leaf (ident w_false) call_site end)
     (leaf (ident w_false) (at 6 11) (group Brace (at 12 13) (at 13 14) end end))
 unfolding left is_end lookahead_at sees take_token take_lifetime take_mark take_group before rows_for rows run parse_rule
-prim_false_false_braces = computed primary _ _ _ refl
+prim_false_false_braces = computed primary _ _ _ refl refl
 
 -- `a!() a` prints `a ! ()` and leaves `a`
 prim_a_bang_parens_a : DerivesAs primary
@@ -46,7 +46,7 @@ prim_a_bang_parens_a : DerivesAs primary
     (leaf (ident (97 ∷ [])) call_site (punct 33 false call_site (group Paren call_site call_site end end)))
     (leaf (ident (97 ∷ [])) (at 5 6) end)
 unfolding left is_end lookahead_at sees take_token take_lifetime take_mark take_group before rows_for rows run parse_rule
-prim_a_bang_parens_a = computed primary _ _ _ refl
+prim_a_bang_parens_a = computed primary _ _ _ refl refl
 
 -- `() ()` prints `()` and leaves `()`
 prim_parens_parens : DerivesAs primary
@@ -54,7 +54,7 @@ prim_parens_parens : DerivesAs primary
     (group Paren call_site call_site end end)
     (group Paren (at 3 4) (at 4 5) end end)
 unfolding left is_end lookahead_at sees take_token take_lifetime take_mark take_group before rows_for rows run parse_rule
-prim_parens_parens = computed primary _ _ _ refl
+prim_parens_parens = computed primary _ _ _ refl refl
 
 -- `(1)` prints `(1)`
 prim_in_paren_n1 : DerivesAs primary
@@ -62,13 +62,13 @@ prim_in_paren_n1 : DerivesAs primary
     (group Paren call_site call_site (leaf (literal Int (49 ∷ [])) call_site end) end)
     (end)
 unfolding left is_end lookahead_at sees take_token take_lifetime take_mark take_group before rows_for rows run parse_rule
-prim_in_paren_n1 = computed primary _ _ _ refl
+prim_in_paren_n1 = computed primary _ _ _ refl refl
 
 -- `(a b)`: nothing is read
 prim_in_paren_a_b : NotDerived (rule primary)
     (group Paren (at 0 1) (at 4 5) (leaf (ident (97 ∷ [])) (at 1 2) (leaf (ident (98 ∷ [])) (at 3 4) end)) end)
 unfolding left is_end lookahead_at sees take_token take_lifetime take_mark take_group before rows_for rows run parse_rule
-prim_in_paren_a_b = not_read primary _ refl
+prim_in_paren_a_b = not_read primary _ refl refl
 
 -- `[] []` prints `[]` and leaves `[]`
 prim_brackets_brackets : DerivesAs primary
@@ -76,33 +76,33 @@ prim_brackets_brackets : DerivesAs primary
     (group Bracket call_site call_site end end)
     (group Bracket (at 3 4) (at 4 5) end end)
 unfolding left is_end lookahead_at sees take_token take_lifetime take_mark take_group before rows_for rows run parse_rule
-prim_brackets_brackets = computed primary _ _ _ refl
+prim_brackets_brackets = computed primary _ _ _ refl refl
 
 -- `[a b]`: nothing is read
 prim_in_bracket_a_b : NotDerived (rule primary)
     (group Bracket (at 0 1) (at 4 5) (leaf (ident (97 ∷ [])) (at 1 2) (leaf (ident (98 ∷ [])) (at 3 4) end)) end)
 unfolding left is_end lookahead_at sees take_token take_lifetime take_mark take_group before rows_for rows run parse_rule
-prim_in_bracket_a_b = not_read primary _ refl
+prim_in_bracket_a_b = not_read primary _ refl refl
 
 -- `\(\)`: nothing is read
-prim_hidden : NotDerived (rule primary)
+prim_hidden : ComputesNothing primary
     (group None (at 0 2) (at 2 4) end end)
 unfolding left is_end lookahead_at sees take_token take_lifetime take_mark take_group before rows_for rows run parse_rule
-prim_hidden = not_read primary _ refl
+prim_hidden = refl
 
 -- `\(a\) \(a\)` prints `\(a\)` and leaves `\(a\)`
-prim_in_none_a_in_none_a : DerivesAs primary
+prim_in_none_a_in_none_a : ComputesAs primary
     (group None (at 0 2) (at 3 5) (leaf (ident (97 ∷ [])) (at 2 3) end) (group None (at 6 8) (at 9 11) (leaf (ident (97 ∷ [])) (at 8 9) end) end))
     (group None call_site call_site (leaf (ident (97 ∷ [])) call_site end) end)
     (group None (at 6 8) (at 9 11) (leaf (ident (97 ∷ [])) (at 8 9) end) end)
 unfolding left is_end lookahead_at sees take_token take_lifetime take_mark take_group before rows_for rows run parse_rule
-prim_in_none_a_in_none_a = computed primary _ _ _ refl
+prim_in_none_a_in_none_a = refl
 
 -- `\(a b\)`: nothing is read
-prim_in_none_a_b : NotDerived (rule primary)
+prim_in_none_a_b : ComputesNothing primary
     (group None (at 0 2) (at 5 7) (leaf (ident (97 ∷ [])) (at 2 3) (leaf (ident (98 ∷ [])) (at 4 5) end)) end)
 unfolding left is_end lookahead_at sees take_token take_lifetime take_mark take_group before rows_for rows run parse_rule
-prim_in_none_a_b = not_read primary _ refl
+prim_in_none_a_b = refl
 
 -- `{} {}` prints `{}` and leaves `{}`
 prim_braces_braces : DerivesAs primary
@@ -110,7 +110,7 @@ prim_braces_braces : DerivesAs primary
     (group Brace call_site call_site end end)
     (group Brace (at 3 4) (at 4 5) end end)
 unfolding left is_end lookahead_at sees take_token take_lifetime take_mark take_group before rows_for rows run parse_rule
-prim_braces_braces = computed primary _ _ _ refl
+prim_braces_braces = computed primary _ _ _ refl refl
 
 -- `return continue return` prints `return continue` and leaves `return`
 prim_return_continue_return : DerivesAs primary
@@ -118,7 +118,7 @@ prim_return_continue_return : DerivesAs primary
     (leaf (ident w_return) call_site (leaf (ident w_continue) call_site end))
     (leaf (ident w_return) (at 16 22) end)
 unfolding left is_end lookahead_at sees take_token take_lifetime take_mark take_group before rows_for rows run parse_rule
-prim_return_continue_return = computed primary _ _ _ refl
+prim_return_continue_return = computed primary _ _ _ refl refl
 
 -- `break 'a` prints `break 'a`
 prim_break_tick_a : DerivesAs primary
@@ -126,19 +126,19 @@ prim_break_tick_a : DerivesAs primary
     (leaf (ident w_break) call_site (punct 39 true call_site (leaf (ident (97 ∷ [])) call_site end)))
     (end)
 unfolding left is_end lookahead_at sees take_token take_lifetime take_mark take_group before rows_for rows run parse_rule
-prim_break_tick_a = computed primary _ _ _ refl
+prim_break_tick_a = computed primary _ _ _ refl refl
 
 -- `break break`: nothing is read
 prim_break_break : NotDerived (rule primary)
     (leaf (ident w_break) (at 0 5) (leaf (ident w_break) (at 6 11) end))
 unfolding left is_end lookahead_at sees take_token take_lifetime take_mark take_group before rows_for rows run parse_rule
-prim_break_break = not_read primary _ refl
+prim_break_break = not_read primary _ refl refl
 
 -- `break 'a ' a`: nothing is read
 prim_break_tick_a_tick_a : NotDerived (rule primary)
     (leaf (ident w_break) (at 0 5) (punct 39 true (at 6 7) (leaf (ident (97 ∷ [])) (at 7 8) (punct 39 true (at 9 10) (leaf (ident (97 ∷ [])) (at 11 12) end)))))
 unfolding left is_end lookahead_at sees take_token take_lifetime take_mark take_group before rows_for rows run parse_rule
-prim_break_tick_a_tick_a = not_read primary _ refl
+prim_break_tick_a_tick_a = not_read primary _ refl refl
 
 -- `continue continue` prints `continue` and leaves `continue`
 prim_continue_continue : DerivesAs primary
@@ -146,7 +146,7 @@ prim_continue_continue : DerivesAs primary
     (leaf (ident w_continue) call_site end)
     (leaf (ident w_continue) (at 9 17) end)
 unfolding left is_end lookahead_at sees take_token take_lifetime take_mark take_group before rows_for rows run parse_rule
-prim_continue_continue = computed primary _ _ _ refl
+prim_continue_continue = computed primary _ _ _ refl refl
 
 -- `continue 'a 'b` prints `continue 'a` and leaves `'b`
 prim_continue_tick_a_tick_b : DerivesAs primary
@@ -154,7 +154,7 @@ prim_continue_tick_a_tick_b : DerivesAs primary
     (leaf (ident w_continue) call_site (punct 39 true call_site (leaf (ident (97 ∷ [])) call_site end)))
     (punct 39 true (at 12 13) (leaf (ident (98 ∷ [])) (at 13 14) end))
 unfolding left is_end lookahead_at sees take_token take_lifetime take_mark take_group before rows_for rows run parse_rule
-prim_continue_tick_a_tick_b = computed primary _ _ _ refl
+prim_continue_tick_a_tick_b = computed primary _ _ _ refl refl
 
 -- `return b"x"` prints `return b"x"`
 prim_return_bytes : DerivesAs primary
@@ -162,7 +162,7 @@ prim_return_bytes : DerivesAs primary
     (leaf (ident w_return) call_site (leaf (literal ByteStr (98 ∷ 34 ∷ 120 ∷ 34 ∷ [])) call_site end))
     (end)
 unfolding left is_end lookahead_at sees take_token take_lifetime take_mark take_group before rows_for rows run parse_rule
-prim_return_bytes = computed primary _ _ _ refl
+prim_return_bytes = computed primary _ _ _ refl refl
 
 -- `return 'c'` prints `return 'c'`
 prim_return_char : DerivesAs primary
@@ -170,7 +170,7 @@ prim_return_char : DerivesAs primary
     (leaf (ident w_return) call_site (leaf (literal Char (39 ∷ 99 ∷ 39 ∷ [])) call_site end))
     (end)
 unfolding left is_end lookahead_at sees take_token take_lifetime take_mark take_group before rows_for rows run parse_rule
-prim_return_char = computed primary _ _ _ refl
+prim_return_char = computed primary _ _ _ refl refl
 
 -- `return 1.5` prints `return 1.5`
 prim_return_float : DerivesAs primary
@@ -178,7 +178,7 @@ prim_return_float : DerivesAs primary
     (leaf (ident w_return) call_site (leaf (literal Float (49 ∷ 46 ∷ 53 ∷ [])) call_site end))
     (end)
 unfolding left is_end lookahead_at sees take_token take_lifetime take_mark take_group before rows_for rows run parse_rule
-prim_return_float = computed primary _ _ _ refl
+prim_return_float = computed primary _ _ _ refl refl
 
 -- `::a!()` prints `:: a ! ()`
 prim_colons_a_bang_parens : DerivesAs primary
@@ -186,13 +186,13 @@ prim_colons_a_bang_parens : DerivesAs primary
     (punct 58 true call_site (punct 58 false call_site (leaf (ident (97 ∷ [])) call_site (punct 33 false call_site (group Paren call_site call_site end end)))))
     (end)
 unfolding left is_end lookahead_at sees take_token take_lifetime take_mark take_group before rows_for rows run parse_rule
-prim_colons_a_bang_parens = computed primary _ _ _ refl
+prim_colons_a_bang_parens = computed primary _ _ _ refl refl
 
 -- `super !`: nothing is read
 prim_super_bang : NotDerived (rule primary)
     (leaf (ident w_super) (at 0 5) (punct 33 false (at 6 7) end))
 unfolding left is_end lookahead_at sees take_token take_lifetime take_mark take_group before rows_for rows run parse_rule
-prim_super_bang = not_read primary _ refl
+prim_super_bang = not_read primary _ refl refl
 
 -- `self!()` prints `self ! ()`
 prim_self_bang_parens : DerivesAs primary
@@ -200,7 +200,7 @@ prim_self_bang_parens : DerivesAs primary
     (leaf (ident w_self) call_site (punct 33 false call_site (group Paren call_site call_site end end)))
     (end)
 unfolding left is_end lookahead_at sees take_token take_lifetime take_mark take_group before rows_for rows run parse_rule
-prim_self_bang_parens = computed primary _ _ _ refl
+prim_self_bang_parens = computed primary _ _ _ refl refl
 
 -- `Self!()` prints `Self ! ()`
 prim_Self_bang_parens : DerivesAs primary
@@ -208,7 +208,7 @@ prim_Self_bang_parens : DerivesAs primary
     (leaf (ident w_Self_type) call_site (punct 33 false call_site (group Paren call_site call_site end end)))
     (end)
 unfolding left is_end lookahead_at sees take_token take_lifetime take_mark take_group before rows_for rows run parse_rule
-prim_Self_bang_parens = computed primary _ _ _ refl
+prim_Self_bang_parens = computed primary _ _ _ refl refl
 
 -- `crate!()` prints `crate ! ()`
 prim_crate_bang_parens : DerivesAs primary
@@ -216,7 +216,7 @@ prim_crate_bang_parens : DerivesAs primary
     (leaf (ident w_crate) call_site (punct 33 false call_site (group Paren call_site call_site end end)))
     (end)
 unfolding left is_end lookahead_at sees take_token take_lifetime take_mark take_group before rows_for rows run parse_rule
-prim_crate_bang_parens = computed primary _ _ _ refl
+prim_crate_bang_parens = computed primary _ _ _ refl refl
 
 -- `[a; 1]` prints `[a ; 1]`
 prim_in_bracket_a_semi_n1 : DerivesAs primary
@@ -224,15 +224,15 @@ prim_in_bracket_a_semi_n1 : DerivesAs primary
     (group Bracket call_site call_site (leaf (ident (97 ∷ [])) call_site (punct 59 false call_site (leaf (literal Int (49 ∷ [])) call_site end))) end)
     (end)
 unfolding left is_end lookahead_at sees take_token take_lifetime take_mark take_group before rows_for rows run parse_rule
-prim_in_bracket_a_semi_n1 = computed primary _ _ _ refl
+prim_in_bracket_a_semi_n1 = computed primary _ _ _ refl refl
 
 -- `\(a = b\)` prints `\(a = b\)`
-prim_in_none_a_eq_b : DerivesAs primary
+prim_in_none_a_eq_b : ComputesAs primary
     (group None (at 0 2) (at 7 9) (leaf (ident (97 ∷ [])) (at 2 3) (punct 61 false (at 4 5) (leaf (ident (98 ∷ [])) (at 6 7) end))) end)
     (group None call_site call_site (leaf (ident (97 ∷ [])) call_site (punct 61 false call_site (leaf (ident (98 ∷ [])) call_site end))) end)
     (end)
 unfolding left is_end lookahead_at sees take_token take_lifetime take_mark take_group before rows_for rows run parse_rule
-prim_in_none_a_eq_b = computed primary _ _ _ refl
+prim_in_none_a_eq_b = refl
 
 -- `return "s"` prints `return "s"`
 prim_return_str : DerivesAs primary
@@ -240,7 +240,7 @@ prim_return_str : DerivesAs primary
     (leaf (ident w_return) call_site (leaf (literal Str (34 ∷ 115 ∷ 34 ∷ [])) call_site end))
     (end)
 unfolding left is_end lookahead_at sees take_token take_lifetime take_mark take_group before rows_for rows run parse_rule
-prim_return_str = computed primary _ _ _ refl
+prim_return_str = computed primary _ _ _ refl refl
 
 -- `return c"x"` prints `return c"x"`
 prim_return_cstr : DerivesAs primary
@@ -248,7 +248,7 @@ prim_return_cstr : DerivesAs primary
     (leaf (ident w_return) call_site (leaf (literal CStr (99 ∷ 34 ∷ 120 ∷ 34 ∷ [])) call_site end))
     (end)
 unfolding left is_end lookahead_at sees take_token take_lifetime take_mark take_group before rows_for rows run parse_rule
-prim_return_cstr = computed primary _ _ _ refl
+prim_return_cstr = computed primary _ _ _ refl refl
 
 -- `return b'x'` prints `return b'x'`
 prim_return_byte : DerivesAs primary
@@ -256,7 +256,7 @@ prim_return_byte : DerivesAs primary
     (leaf (ident w_return) call_site (leaf (literal Byte (98 ∷ 39 ∷ 120 ∷ 39 ∷ [])) call_site end))
     (end)
 unfolding left is_end lookahead_at sees take_token take_lifetime take_mark take_group before rows_for rows run parse_rule
-prim_return_byte = computed primary _ _ _ refl
+prim_return_byte = computed primary _ _ _ refl refl
 
 -- `return 0` prints `return 0`
 prim_return_n0 : DerivesAs primary
@@ -264,7 +264,7 @@ prim_return_n0 : DerivesAs primary
     (leaf (ident w_return) call_site (leaf (literal Int (48 ∷ [])) call_site end))
     (end)
 unfolding left is_end lookahead_at sees take_token take_lifetime take_mark take_group before rows_for rows run parse_rule
-prim_return_n0 = computed primary _ _ _ refl
+prim_return_n0 = computed primary _ _ _ refl refl
 
 -- `return true` prints `return true`
 prim_return_true : DerivesAs primary
@@ -272,7 +272,7 @@ prim_return_true : DerivesAs primary
     (leaf (ident w_return) call_site (leaf (ident w_true) call_site end))
     (end)
 unfolding left is_end lookahead_at sees take_token take_lifetime take_mark take_group before rows_for rows run parse_rule
-prim_return_true = computed primary _ _ _ refl
+prim_return_true = computed primary _ _ _ refl refl
 
 -- `return false` prints `return false`
 prim_return_false : DerivesAs primary
@@ -280,7 +280,7 @@ prim_return_false : DerivesAs primary
     (leaf (ident w_return) call_site (leaf (ident w_false) call_site end))
     (end)
 unfolding left is_end lookahead_at sees take_token take_lifetime take_mark take_group before rows_for rows run parse_rule
-prim_return_false = computed primary _ _ _ refl
+prim_return_false = computed primary _ _ _ refl refl
 
 -- `return Self` prints `return Self`
 prim_return_Self : DerivesAs primary
@@ -288,7 +288,7 @@ prim_return_Self : DerivesAs primary
     (leaf (ident w_return) call_site (leaf (ident w_Self_type) call_site end))
     (end)
 unfolding left is_end lookahead_at sees take_token take_lifetime take_mark take_group before rows_for rows run parse_rule
-prim_return_Self = computed primary _ _ _ refl
+prim_return_Self = computed primary _ _ _ refl refl
 
 -- `return self` prints `return self`
 prim_return_self : DerivesAs primary
@@ -296,7 +296,7 @@ prim_return_self : DerivesAs primary
     (leaf (ident w_return) call_site (leaf (ident w_self) call_site end))
     (end)
 unfolding left is_end lookahead_at sees take_token take_lifetime take_mark take_group before rows_for rows run parse_rule
-prim_return_self = computed primary _ _ _ refl
+prim_return_self = computed primary _ _ _ refl refl
 
 -- `return crate` prints `return crate`
 prim_return_crate : DerivesAs primary
@@ -304,7 +304,7 @@ prim_return_crate : DerivesAs primary
     (leaf (ident w_return) call_site (leaf (ident w_crate) call_site end))
     (end)
 unfolding left is_end lookahead_at sees take_token take_lifetime take_mark take_group before rows_for rows run parse_rule
-prim_return_crate = computed primary _ _ _ refl
+prim_return_crate = computed primary _ _ _ refl refl
 
 -- `return super` prints `return super`
 prim_return_super : DerivesAs primary
@@ -312,7 +312,7 @@ prim_return_super : DerivesAs primary
     (leaf (ident w_return) call_site (leaf (ident w_super) call_site end))
     (end)
 unfolding left is_end lookahead_at sees take_token take_lifetime take_mark take_group before rows_for rows run parse_rule
-prim_return_super = computed primary _ _ _ refl
+prim_return_super = computed primary _ _ _ refl refl
 
 -- `return ::a` prints `return :: a`
 prim_return_colons_a : DerivesAs primary
@@ -320,7 +320,7 @@ prim_return_colons_a : DerivesAs primary
     (leaf (ident w_return) call_site (punct 58 true call_site (punct 58 false call_site (leaf (ident (97 ∷ [])) call_site end))))
     (end)
 unfolding left is_end lookahead_at sees take_token take_lifetime take_mark take_group before rows_for rows run parse_rule
-prim_return_colons_a = computed primary _ _ _ refl
+prim_return_colons_a = computed primary _ _ _ refl refl
 
 -- `return : a` prints `return` and leaves `: a`
 prim_return_colon_a : DerivesAs primary
@@ -328,19 +328,19 @@ prim_return_colon_a : DerivesAs primary
     (leaf (ident w_return) call_site end)
     (punct 58 false (at 7 8) (leaf (ident (97 ∷ [])) (at 9 10) end))
 unfolding left is_end lookahead_at sees take_token take_lifetime take_mark take_group before rows_for rows run parse_rule
-prim_return_colon_a = computed primary _ _ _ refl
+prim_return_colon_a = computed primary _ _ _ refl refl
 
 -- `return <= a`: nothing is read
 prim_return_lt_eq_a : NotDerived (rule primary)
     (leaf (ident w_return) (at 0 6) (punct 60 true (at 7 8) (punct 61 false (at 8 9) (leaf (ident (97 ∷ [])) (at 10 11) end))))
 unfolding left is_end lookahead_at sees take_token take_lifetime take_mark take_group before rows_for rows run parse_rule
-prim_return_lt_eq_a = not_read primary _ refl
+prim_return_lt_eq_a = not_read primary _ refl refl
 
 -- `return <<= a`: nothing is read
 prim_return_shl_eq_a : NotDerived (rule primary)
     (leaf (ident w_return) (at 0 6) (punct 60 true (at 7 8) (punct 60 true (at 8 9) (punct 61 false (at 9 10) (leaf (ident (97 ∷ [])) (at 11 12) end)))))
 unfolding left is_end lookahead_at sees take_token take_lifetime take_mark take_group before rows_for rows run parse_rule
-prim_return_shl_eq_a = not_read primary _ refl
+prim_return_shl_eq_a = not_read primary _ refl refl
 
 -- `return if a {}` prints `return if a {}`
 prim_return_if_a_braces : DerivesAs primary
@@ -348,7 +348,7 @@ prim_return_if_a_braces : DerivesAs primary
     (leaf (ident w_return) call_site (leaf (ident w_if) call_site (leaf (ident (97 ∷ [])) call_site (group Brace call_site call_site end end))))
     (end)
 unfolding left is_end lookahead_at sees take_token take_lifetime take_mark take_group before rows_for rows run parse_rule
-prim_return_if_a_braces = computed primary _ _ _ refl
+prim_return_if_a_braces = computed primary _ _ _ refl refl
 
 -- `return loop {}` prints `return loop {}`
 prim_return_loop_braces : DerivesAs primary
@@ -356,7 +356,7 @@ prim_return_loop_braces : DerivesAs primary
     (leaf (ident w_return) call_site (leaf (ident w_loop) call_site (group Brace call_site call_site end end)))
     (end)
 unfolding left is_end lookahead_at sees take_token take_lifetime take_mark take_group before rows_for rows run parse_rule
-prim_return_loop_braces = computed primary _ _ _ refl
+prim_return_loop_braces = computed primary _ _ _ refl refl
 
 -- `return while a {}` prints `return while a {}`
 prim_return_while_a_braces : DerivesAs primary
@@ -364,7 +364,7 @@ prim_return_while_a_braces : DerivesAs primary
     (leaf (ident w_return) call_site (leaf (ident w_while) call_site (leaf (ident (97 ∷ [])) call_site (group Brace call_site call_site end end))))
     (end)
 unfolding left is_end lookahead_at sees take_token take_lifetime take_mark take_group before rows_for rows run parse_rule
-prim_return_while_a_braces = computed primary _ _ _ refl
+prim_return_while_a_braces = computed primary _ _ _ refl refl
 
 -- `return for a in b {}` prints `return for a in b {}`
 prim_return_for_a_in_b_braces : DerivesAs primary
@@ -372,7 +372,7 @@ prim_return_for_a_in_b_braces : DerivesAs primary
     (leaf (ident w_return) call_site (leaf (ident w_for) call_site (leaf (ident (97 ∷ [])) call_site (leaf (ident w_in) call_site (leaf (ident (98 ∷ [])) call_site (group Brace call_site call_site end end))))))
     (end)
 unfolding left is_end lookahead_at sees take_token take_lifetime take_mark take_group before rows_for rows run parse_rule
-prim_return_for_a_in_b_braces = computed primary _ _ _ refl
+prim_return_for_a_in_b_braces = computed primary _ _ _ refl refl
 
 -- `return unsafe {}` prints `return unsafe {}`
 prim_return_unsafe_braces : DerivesAs primary
@@ -380,7 +380,7 @@ prim_return_unsafe_braces : DerivesAs primary
     (leaf (ident w_return) call_site (leaf (ident w_unsafe) call_site (group Brace call_site call_site end end)))
     (end)
 unfolding left is_end lookahead_at sees take_token take_lifetime take_mark take_group before rows_for rows run parse_rule
-prim_return_unsafe_braces = computed primary _ _ _ refl
+prim_return_unsafe_braces = computed primary _ _ _ refl refl
 
 -- `return return` prints `return return`
 prim_return_return : DerivesAs primary
@@ -388,7 +388,7 @@ prim_return_return : DerivesAs primary
     (leaf (ident w_return) call_site (leaf (ident w_return) call_site end))
     (end)
 unfolding left is_end lookahead_at sees take_token take_lifetime take_mark take_group before rows_for rows run parse_rule
-prim_return_return = computed primary _ _ _ refl
+prim_return_return = computed primary _ _ _ refl refl
 
 -- `return break` prints `return break`
 prim_return_break : DerivesAs primary
@@ -396,19 +396,19 @@ prim_return_break : DerivesAs primary
     (leaf (ident w_return) call_site (leaf (ident w_break) call_site end))
     (end)
 unfolding left is_end lookahead_at sees take_token take_lifetime take_mark take_group before rows_for rows run parse_rule
-prim_return_break = computed primary _ _ _ refl
+prim_return_break = computed primary _ _ _ refl refl
 
 -- `return #`: nothing is read
 prim_return_pound : NotDerived (rule primary)
     (leaf (ident w_return) (at 0 6) (punct 35 false (at 7 8) end))
 unfolding left is_end lookahead_at sees take_token take_lifetime take_mark take_group before rows_for rows run parse_rule
-prim_return_pound = not_read primary _ refl
+prim_return_pound = not_read primary _ refl refl
 
 -- `return (&)`: nothing is read
 prim_return_in_paren_amp : NotDerived (rule primary)
     (leaf (ident w_return) (at 0 6) (group Paren (at 7 8) (at 9 10) (punct 38 false (at 8 9) end) end))
 unfolding left is_end lookahead_at sees take_token take_lifetime take_mark take_group before rows_for rows run parse_rule
-prim_return_in_paren_amp = not_read primary _ refl
+prim_return_in_paren_amp = not_read primary _ refl refl
 
 -- `return [a]` prints `return [a]`
 prim_return_in_bracket_a : DerivesAs primary
@@ -416,7 +416,7 @@ prim_return_in_bracket_a : DerivesAs primary
     (leaf (ident w_return) call_site (group Bracket call_site call_site (leaf (ident (97 ∷ [])) call_site end) end))
     (end)
 unfolding left is_end lookahead_at sees take_token take_lifetime take_mark take_group before rows_for rows run parse_rule
-prim_return_in_bracket_a = computed primary _ _ _ refl
+prim_return_in_bracket_a = computed primary _ _ _ refl refl
 
 -- `return {}` prints `return {}`
 prim_return_braces : DerivesAs primary
@@ -424,7 +424,7 @@ prim_return_braces : DerivesAs primary
     (leaf (ident w_return) call_site (group Brace call_site call_site end end))
     (end)
 unfolding left is_end lookahead_at sees take_token take_lifetime take_mark take_group before rows_for rows run parse_rule
-prim_return_braces = computed primary _ _ _ refl
+prim_return_braces = computed primary _ _ _ refl refl
 
 -- `return -a` prints `return - a`
 prim_return_minus_a : DerivesAs primary
@@ -432,7 +432,7 @@ prim_return_minus_a : DerivesAs primary
     (leaf (ident w_return) call_site (punct 45 false call_site (leaf (ident (97 ∷ [])) call_site end)))
     (end)
 unfolding left is_end lookahead_at sees take_token take_lifetime take_mark take_group before rows_for rows run parse_rule
-prim_return_minus_a = computed primary _ _ _ refl
+prim_return_minus_a = computed primary _ _ _ refl refl
 
 -- `return !a` prints `return ! a`
 prim_return_bang_a : DerivesAs primary
@@ -440,7 +440,7 @@ prim_return_bang_a : DerivesAs primary
     (leaf (ident w_return) call_site (punct 33 false call_site (leaf (ident (97 ∷ [])) call_site end)))
     (end)
 unfolding left is_end lookahead_at sees take_token take_lifetime take_mark take_group before rows_for rows run parse_rule
-prim_return_bang_a = computed primary _ _ _ refl
+prim_return_bang_a = computed primary _ _ _ refl refl
 
 -- `return *a` prints `return * a`
 prim_return_star_a : DerivesAs primary
@@ -448,7 +448,7 @@ prim_return_star_a : DerivesAs primary
     (leaf (ident w_return) call_site (punct 42 false call_site (leaf (ident (97 ∷ [])) call_site end)))
     (end)
 unfolding left is_end lookahead_at sees take_token take_lifetime take_mark take_group before rows_for rows run parse_rule
-prim_return_star_a = computed primary _ _ _ refl
+prim_return_star_a = computed primary _ _ _ refl refl
 
 -- `return &a` prints `return & a`
 prim_return_amp_a : DerivesAs primary
@@ -456,7 +456,7 @@ prim_return_amp_a : DerivesAs primary
     (leaf (ident w_return) call_site (punct 38 false call_site (leaf (ident (97 ∷ [])) call_site end)))
     (end)
 unfolding left is_end lookahead_at sees take_token take_lifetime take_mark take_group before rows_for rows run parse_rule
-prim_return_amp_a = computed primary _ _ _ refl
+prim_return_amp_a = computed primary _ _ _ refl refl
 
 -- `return '` prints `return` and leaves `'`
 prim_return_tick : DerivesAs primary
@@ -464,7 +464,7 @@ prim_return_tick : DerivesAs primary
     (leaf (ident w_return) call_site end)
     (punct 39 true (at 7 8) end)
 unfolding left is_end lookahead_at sees take_token take_lifetime take_mark take_group before rows_for rows run parse_rule
-prim_return_tick = computed primary _ _ _ refl
+prim_return_tick = computed primary _ _ _ refl refl
 
 -- `return a = b` prints `return a = b`
 prim_return_a_eq_b : DerivesAs primary
@@ -472,7 +472,7 @@ prim_return_a_eq_b : DerivesAs primary
     (leaf (ident w_return) call_site (leaf (ident (97 ∷ [])) call_site (punct 61 false call_site (leaf (ident (98 ∷ [])) call_site end))))
     (end)
 unfolding left is_end lookahead_at sees take_token take_lifetime take_mark take_group before rows_for rows run parse_rule
-prim_return_a_eq_b = computed primary _ _ _ refl
+prim_return_a_eq_b = computed primary _ _ _ refl refl
 
 -- `break '` prints `break` and leaves `'`
 prim_break_tick : DerivesAs primary
@@ -480,97 +480,97 @@ prim_break_tick : DerivesAs primary
     (leaf (ident w_break) call_site end)
     (punct 39 true (at 6 7) end)
 unfolding left is_end lookahead_at sees take_token take_lifetime take_mark take_group before rows_for rows run parse_rule
-prim_break_tick = computed primary _ _ _ refl
+prim_break_tick = computed primary _ _ _ refl refl
 
 -- `break 1`: nothing is read
 prim_break_n1 : NotDerived (rule primary)
     (leaf (ident w_break) (at 0 5) (leaf (literal Int (49 ∷ [])) (at 6 7) end))
 unfolding left is_end lookahead_at sees take_token take_lifetime take_mark take_group before rows_for rows run parse_rule
-prim_break_n1 = not_read primary _ refl
+prim_break_n1 = not_read primary _ refl refl
 
 -- `break "s"`: nothing is read
 prim_break_str : NotDerived (rule primary)
     (leaf (ident w_break) (at 0 5) (leaf (literal Str (34 ∷ 115 ∷ 34 ∷ [])) (at 6 9) end))
 unfolding left is_end lookahead_at sees take_token take_lifetime take_mark take_group before rows_for rows run parse_rule
-prim_break_str = not_read primary _ refl
+prim_break_str = not_read primary _ refl refl
 
 -- `break b"x"`: nothing is read
 prim_break_bytes : NotDerived (rule primary)
     (leaf (ident w_break) (at 0 5) (leaf (literal ByteStr (98 ∷ 34 ∷ 120 ∷ 34 ∷ [])) (at 6 10) end))
 unfolding left is_end lookahead_at sees take_token take_lifetime take_mark take_group before rows_for rows run parse_rule
-prim_break_bytes = not_read primary _ refl
+prim_break_bytes = not_read primary _ refl refl
 
 -- `break c"x"`: nothing is read
 prim_break_cstr : NotDerived (rule primary)
     (leaf (ident w_break) (at 0 5) (leaf (literal CStr (99 ∷ 34 ∷ 120 ∷ 34 ∷ [])) (at 6 10) end))
 unfolding left is_end lookahead_at sees take_token take_lifetime take_mark take_group before rows_for rows run parse_rule
-prim_break_cstr = not_read primary _ refl
+prim_break_cstr = not_read primary _ refl refl
 
 -- `break b'x'`: nothing is read
 prim_break_byte : NotDerived (rule primary)
     (leaf (ident w_break) (at 0 5) (leaf (literal Byte (98 ∷ 39 ∷ 120 ∷ 39 ∷ [])) (at 6 10) end))
 unfolding left is_end lookahead_at sees take_token take_lifetime take_mark take_group before rows_for rows run parse_rule
-prim_break_byte = not_read primary _ refl
+prim_break_byte = not_read primary _ refl refl
 
 -- `break 'c'`: nothing is read
 prim_break_char : NotDerived (rule primary)
     (leaf (ident w_break) (at 0 5) (leaf (literal Char (39 ∷ 99 ∷ 39 ∷ [])) (at 6 9) end))
 unfolding left is_end lookahead_at sees take_token take_lifetime take_mark take_group before rows_for rows run parse_rule
-prim_break_char = not_read primary _ refl
+prim_break_char = not_read primary _ refl refl
 
 -- `break 1.5`: nothing is read
 prim_break_float : NotDerived (rule primary)
     (leaf (ident w_break) (at 0 5) (leaf (literal Float (49 ∷ 46 ∷ 53 ∷ [])) (at 6 9) end))
 unfolding left is_end lookahead_at sees take_token take_lifetime take_mark take_group before rows_for rows run parse_rule
-prim_break_float = not_read primary _ refl
+prim_break_float = not_read primary _ refl refl
 
 -- `break true`: nothing is read
 prim_break_true : NotDerived (rule primary)
     (leaf (ident w_break) (at 0 5) (leaf (ident w_true) (at 6 10) end))
 unfolding left is_end lookahead_at sees take_token take_lifetime take_mark take_group before rows_for rows run parse_rule
-prim_break_true = not_read primary _ refl
+prim_break_true = not_read primary _ refl refl
 
 -- `break false`: nothing is read
 prim_break_false : NotDerived (rule primary)
     (leaf (ident w_break) (at 0 5) (leaf (ident w_false) (at 6 11) end))
 unfolding left is_end lookahead_at sees take_token take_lifetime take_mark take_group before rows_for rows run parse_rule
-prim_break_false = not_read primary _ refl
+prim_break_false = not_read primary _ refl refl
 
 -- `break a`: nothing is read
 prim_break_a : NotDerived (rule primary)
     (leaf (ident w_break) (at 0 5) (leaf (ident (97 ∷ [])) (at 6 7) end))
 unfolding left is_end lookahead_at sees take_token take_lifetime take_mark take_group before rows_for rows run parse_rule
-prim_break_a = not_read primary _ refl
+prim_break_a = not_read primary _ refl refl
 
 -- `break Self`: nothing is read
 prim_break_Self : NotDerived (rule primary)
     (leaf (ident w_break) (at 0 5) (leaf (ident w_Self_type) (at 6 10) end))
 unfolding left is_end lookahead_at sees take_token take_lifetime take_mark take_group before rows_for rows run parse_rule
-prim_break_Self = not_read primary _ refl
+prim_break_Self = not_read primary _ refl refl
 
 -- `break self`: nothing is read
 prim_break_self : NotDerived (rule primary)
     (leaf (ident w_break) (at 0 5) (leaf (ident w_self) (at 6 10) end))
 unfolding left is_end lookahead_at sees take_token take_lifetime take_mark take_group before rows_for rows run parse_rule
-prim_break_self = not_read primary _ refl
+prim_break_self = not_read primary _ refl refl
 
 -- `break crate`: nothing is read
 prim_break_crate : NotDerived (rule primary)
     (leaf (ident w_break) (at 0 5) (leaf (ident w_crate) (at 6 11) end))
 unfolding left is_end lookahead_at sees take_token take_lifetime take_mark take_group before rows_for rows run parse_rule
-prim_break_crate = not_read primary _ refl
+prim_break_crate = not_read primary _ refl refl
 
 -- `break super`: nothing is read
 prim_break_super : NotDerived (rule primary)
     (leaf (ident w_break) (at 0 5) (leaf (ident w_super) (at 6 11) end))
 unfolding left is_end lookahead_at sees take_token take_lifetime take_mark take_group before rows_for rows run parse_rule
-prim_break_super = not_read primary _ refl
+prim_break_super = not_read primary _ refl refl
 
 -- `break ::a`: nothing is read
 prim_break_colons_a : NotDerived (rule primary)
     (leaf (ident w_break) (at 0 5) (punct 58 true (at 6 7) (punct 58 false (at 7 8) (leaf (ident (97 ∷ [])) (at 8 9) end))))
 unfolding left is_end lookahead_at sees take_token take_lifetime take_mark take_group before rows_for rows run parse_rule
-prim_break_colons_a = not_read primary _ refl
+prim_break_colons_a = not_read primary _ refl refl
 
 -- `break : a` prints `break` and leaves `: a`
 prim_break_colon_a : DerivesAs primary
@@ -578,109 +578,109 @@ prim_break_colon_a : DerivesAs primary
     (leaf (ident w_break) call_site end)
     (punct 58 false (at 6 7) (leaf (ident (97 ∷ [])) (at 8 9) end))
 unfolding left is_end lookahead_at sees take_token take_lifetime take_mark take_group before rows_for rows run parse_rule
-prim_break_colon_a = computed primary _ _ _ refl
+prim_break_colon_a = computed primary _ _ _ refl refl
 
 -- `break <= a`: nothing is read
 prim_break_lt_eq_a : NotDerived (rule primary)
     (leaf (ident w_break) (at 0 5) (punct 60 true (at 6 7) (punct 61 false (at 7 8) (leaf (ident (97 ∷ [])) (at 9 10) end))))
 unfolding left is_end lookahead_at sees take_token take_lifetime take_mark take_group before rows_for rows run parse_rule
-prim_break_lt_eq_a = not_read primary _ refl
+prim_break_lt_eq_a = not_read primary _ refl refl
 
 -- `break <<= a`: nothing is read
 prim_break_shl_eq_a : NotDerived (rule primary)
     (leaf (ident w_break) (at 0 5) (punct 60 true (at 6 7) (punct 60 true (at 7 8) (punct 61 false (at 8 9) (leaf (ident (97 ∷ [])) (at 10 11) end)))))
 unfolding left is_end lookahead_at sees take_token take_lifetime take_mark take_group before rows_for rows run parse_rule
-prim_break_shl_eq_a = not_read primary _ refl
+prim_break_shl_eq_a = not_read primary _ refl refl
 
 -- `break if`: nothing is read
 prim_break_if : NotDerived (rule primary)
     (leaf (ident w_break) (at 0 5) (leaf (ident w_if) (at 6 8) end))
 unfolding left is_end lookahead_at sees take_token take_lifetime take_mark take_group before rows_for rows run parse_rule
-prim_break_if = not_read primary _ refl
+prim_break_if = not_read primary _ refl refl
 
 -- `break loop {}`: nothing is read
 prim_break_loop_braces : NotDerived (rule primary)
     (leaf (ident w_break) (at 0 5) (leaf (ident w_loop) (at 6 10) (group Brace (at 11 12) (at 12 13) end end)))
 unfolding left is_end lookahead_at sees take_token take_lifetime take_mark take_group before rows_for rows run parse_rule
-prim_break_loop_braces = not_read primary _ refl
+prim_break_loop_braces = not_read primary _ refl refl
 
 -- `break while a {}`: nothing is read
 prim_break_while_a_braces : NotDerived (rule primary)
     (leaf (ident w_break) (at 0 5) (leaf (ident w_while) (at 6 11) (leaf (ident (97 ∷ [])) (at 12 13) (group Brace (at 14 15) (at 15 16) end end))))
 unfolding left is_end lookahead_at sees take_token take_lifetime take_mark take_group before rows_for rows run parse_rule
-prim_break_while_a_braces = not_read primary _ refl
+prim_break_while_a_braces = not_read primary _ refl refl
 
 -- `break for a in b {}`: nothing is read
 prim_break_for_a_in_b_braces : NotDerived (rule primary)
     (leaf (ident w_break) (at 0 5) (leaf (ident w_for) (at 6 9) (leaf (ident (97 ∷ [])) (at 10 11) (leaf (ident w_in) (at 12 14) (leaf (ident (98 ∷ [])) (at 15 16) (group Brace (at 17 18) (at 18 19) end end))))))
 unfolding left is_end lookahead_at sees take_token take_lifetime take_mark take_group before rows_for rows run parse_rule
-prim_break_for_a_in_b_braces = not_read primary _ refl
+prim_break_for_a_in_b_braces = not_read primary _ refl refl
 
 -- `break unsafe {}`: nothing is read
 prim_break_unsafe_braces : NotDerived (rule primary)
     (leaf (ident w_break) (at 0 5) (leaf (ident w_unsafe) (at 6 12) (group Brace (at 13 14) (at 14 15) end end)))
 unfolding left is_end lookahead_at sees take_token take_lifetime take_mark take_group before rows_for rows run parse_rule
-prim_break_unsafe_braces = not_read primary _ refl
+prim_break_unsafe_braces = not_read primary _ refl refl
 
 -- `break return`: nothing is read
 prim_break_return : NotDerived (rule primary)
     (leaf (ident w_break) (at 0 5) (leaf (ident w_return) (at 6 12) end))
 unfolding left is_end lookahead_at sees take_token take_lifetime take_mark take_group before rows_for rows run parse_rule
-prim_break_return = not_read primary _ refl
+prim_break_return = not_read primary _ refl refl
 
 -- `break continue`: nothing is read
 prim_break_continue : NotDerived (rule primary)
     (leaf (ident w_break) (at 0 5) (leaf (ident w_continue) (at 6 14) end))
 unfolding left is_end lookahead_at sees take_token take_lifetime take_mark take_group before rows_for rows run parse_rule
-prim_break_continue = not_read primary _ refl
+prim_break_continue = not_read primary _ refl refl
 
 -- `break (a)`: nothing is read
 prim_break_in_paren_a : NotDerived (rule primary)
     (leaf (ident w_break) (at 0 5) (group Paren (at 6 7) (at 8 9) (leaf (ident (97 ∷ [])) (at 7 8) end) end))
 unfolding left is_end lookahead_at sees take_token take_lifetime take_mark take_group before rows_for rows run parse_rule
-prim_break_in_paren_a = not_read primary _ refl
+prim_break_in_paren_a = not_read primary _ refl refl
 
 -- `break []`: nothing is read
 prim_break_brackets : NotDerived (rule primary)
     (leaf (ident w_break) (at 0 5) (group Bracket (at 6 7) (at 7 8) end end))
 unfolding left is_end lookahead_at sees take_token take_lifetime take_mark take_group before rows_for rows run parse_rule
-prim_break_brackets = not_read primary _ refl
+prim_break_brackets = not_read primary _ refl refl
 
 -- `break {a}`: nothing is read
 prim_break_in_brace_a : NotDerived (rule primary)
     (leaf (ident w_break) (at 0 5) (group Brace (at 6 7) (at 8 9) (leaf (ident (97 ∷ [])) (at 7 8) end) end))
 unfolding left is_end lookahead_at sees take_token take_lifetime take_mark take_group before rows_for rows run parse_rule
-prim_break_in_brace_a = not_read primary _ refl
+prim_break_in_brace_a = not_read primary _ refl refl
 
 -- `break -a`: nothing is read
 prim_break_minus_a : NotDerived (rule primary)
     (leaf (ident w_break) (at 0 5) (punct 45 false (at 6 7) (leaf (ident (97 ∷ [])) (at 7 8) end)))
 unfolding left is_end lookahead_at sees take_token take_lifetime take_mark take_group before rows_for rows run parse_rule
-prim_break_minus_a = not_read primary _ refl
+prim_break_minus_a = not_read primary _ refl refl
 
 -- `break !a`: nothing is read
 prim_break_bang_a : NotDerived (rule primary)
     (leaf (ident w_break) (at 0 5) (punct 33 false (at 6 7) (leaf (ident (97 ∷ [])) (at 7 8) end)))
 unfolding left is_end lookahead_at sees take_token take_lifetime take_mark take_group before rows_for rows run parse_rule
-prim_break_bang_a = not_read primary _ refl
+prim_break_bang_a = not_read primary _ refl refl
 
 -- `break *a`: nothing is read
 prim_break_star_a : NotDerived (rule primary)
     (leaf (ident w_break) (at 0 5) (punct 42 false (at 6 7) (leaf (ident (97 ∷ [])) (at 7 8) end)))
 unfolding left is_end lookahead_at sees take_token take_lifetime take_mark take_group before rows_for rows run parse_rule
-prim_break_star_a = not_read primary _ refl
+prim_break_star_a = not_read primary _ refl refl
 
 -- `break &a`: nothing is read
 prim_break_amp_a : NotDerived (rule primary)
     (leaf (ident w_break) (at 0 5) (punct 38 false (at 6 7) (leaf (ident (97 ∷ [])) (at 7 8) end)))
 unfolding left is_end lookahead_at sees take_token take_lifetime take_mark take_group before rows_for rows run parse_rule
-prim_break_amp_a = not_read primary _ refl
+prim_break_amp_a = not_read primary _ refl refl
 
 -- `break #[a] b`: nothing is read
 prim_break_pound_in_bracket_a_b : NotDerived (rule primary)
     (leaf (ident w_break) (at 0 5) (punct 35 false (at 6 7) (group Bracket (at 7 8) (at 9 10) (leaf (ident (97 ∷ [])) (at 8 9) end) (leaf (ident (98 ∷ [])) (at 11 12) end))))
 unfolding left is_end lookahead_at sees take_token take_lifetime take_mark take_group before rows_for rows run parse_rule
-prim_break_pound_in_bracket_a_b = not_read primary _ refl
+prim_break_pound_in_bracket_a_b = not_read primary _ refl refl
 
 -- `continue '` prints `continue` and leaves `'`
 prim_continue_tick : DerivesAs primary
@@ -688,7 +688,7 @@ prim_continue_tick : DerivesAs primary
     (leaf (ident w_continue) call_site end)
     (punct 39 true (at 9 10) end)
 unfolding left is_end lookahead_at sees take_token take_lifetime take_mark take_group before rows_for rows run parse_rule
-prim_continue_tick = computed primary _ _ _ refl
+prim_continue_tick = computed primary _ _ _ refl refl
 
 -- `continue` prints `continue`
 prim_continue : DerivesAs primary
@@ -696,7 +696,7 @@ prim_continue : DerivesAs primary
     (leaf (ident w_continue) call_site end)
     (end)
 unfolding left is_end lookahead_at sees take_token take_lifetime take_mark take_group before rows_for rows run parse_rule
-prim_continue = computed primary _ _ _ refl
+prim_continue = computed primary _ _ _ refl refl
 
 -- `<T>::a` prints `< T > :: a`
 prim_lt_T_gt_colons_a : DerivesAs primary
@@ -704,7 +704,7 @@ prim_lt_T_gt_colons_a : DerivesAs primary
     (punct 60 false call_site (leaf (ident (84 ∷ [])) call_site (punct 62 false call_site (punct 58 true call_site (punct 58 false call_site (leaf (ident (97 ∷ [])) call_site end))))))
     (end)
 unfolding left is_end lookahead_at sees take_token take_lifetime take_mark take_group before rows_for rows run parse_rule
-prim_lt_T_gt_colons_a = computed primary _ _ _ refl
+prim_lt_T_gt_colons_a = computed primary _ _ _ refl refl
 
 -- `{;}` prints `{;}`
 prim_in_brace_semi : DerivesAs primary
@@ -712,7 +712,7 @@ prim_in_brace_semi : DerivesAs primary
     (group Brace call_site call_site (punct 59 false call_site end) end)
     (end)
 unfolding left is_end lookahead_at sees take_token take_lifetime take_mark take_group before rows_for rows run parse_rule
-prim_in_brace_semi = computed primary _ _ _ refl
+prim_in_brace_semi = computed primary _ _ _ refl refl
 
 -- `1;` prints `1` and leaves `;`
 exprs_n1_semi : DerivesAs expressions
@@ -720,7 +720,7 @@ exprs_n1_semi : DerivesAs expressions
     (leaf (literal Int (49 ∷ [])) call_site end)
     (punct 59 false (at 1 2) end)
 unfolding left is_end lookahead_at sees take_token take_lifetime take_mark take_group before rows_for rows run parse_rule
-exprs_n1_semi = computed expressions _ _ _ refl
+exprs_n1_semi = computed expressions _ _ _ refl refl
 
 -- `1,` prints `1 ,`
 exprs_n1_comma : DerivesAs expressions
@@ -728,19 +728,19 @@ exprs_n1_comma : DerivesAs expressions
     (leaf (literal Int (49 ∷ [])) call_site (punct 44 false call_site end))
     (end)
 unfolding left is_end lookahead_at sees take_token take_lifetime take_mark take_group before rows_for rows run parse_rule
-exprs_n1_comma = computed expressions _ _ _ refl
+exprs_n1_comma = computed expressions _ _ _ refl refl
 
 -- `, c d`: nothing is read
 exprs_comma_c_d : NotDerived (rule expressions)
     (punct 44 false (at 0 1) (leaf (ident (99 ∷ [])) (at 2 3) (leaf (ident (100 ∷ [])) (at 4 5) end)))
 unfolding left is_end lookahead_at sees take_token take_lifetime take_mark take_group before rows_for rows run parse_rule
-exprs_comma_c_d = not_read expressions _ refl
+exprs_comma_c_d = not_read expressions _ refl refl
 
 -- `a,,`: nothing is read
 exprs_a_comma_comma : NotDerived (rule expressions)
     (leaf (ident (97 ∷ [])) (at 0 1) (punct 44 true (at 1 2) (punct 44 false (at 2 3) end)))
 unfolding left is_end lookahead_at sees take_token take_lifetime take_mark take_group before rows_for rows run parse_rule
-exprs_a_comma_comma = not_read expressions _ refl
+exprs_a_comma_comma = not_read expressions _ refl refl
 
 -- `1, c d` prints `1 , c` and leaves `d`
 exprs_n1_comma_c_d : DerivesAs expressions
@@ -748,7 +748,7 @@ exprs_n1_comma_c_d : DerivesAs expressions
     (leaf (literal Int (49 ∷ [])) call_site (punct 44 false call_site (leaf (ident (99 ∷ [])) call_site end)))
     (leaf (ident (100 ∷ [])) (at 5 6) end)
 unfolding left is_end lookahead_at sees take_token take_lifetime take_mark take_group before rows_for rows run parse_rule
-exprs_n1_comma_c_d = computed expressions _ _ _ refl
+exprs_n1_comma_c_d = computed expressions _ _ _ refl refl
 
 -- `a = b` prints `a = b`
 exprs_a_eq_b : DerivesAs expressions
@@ -756,13 +756,13 @@ exprs_a_eq_b : DerivesAs expressions
     (leaf (ident (97 ∷ [])) call_site (punct 61 false call_site (leaf (ident (98 ∷ [])) call_site end)))
     (end)
 unfolding left is_end lookahead_at sees take_token take_lifetime take_mark take_group before rows_for rows run parse_rule
-exprs_a_eq_b = computed expressions _ _ _ refl
+exprs_a_eq_b = computed expressions _ _ _ refl refl
 
 -- `,`: nothing is read
 array_comma : NotDerived (rule array_content)
     (punct 44 false (at 0 1) end)
 unfolding left is_end lookahead_at sees take_token take_lifetime take_mark take_group before rows_for rows run parse_rule
-array_comma = not_read array_content _ refl
+array_comma = not_read array_content _ refl refl
 
 -- `1 c` prints `1` and leaves `c`
 array_n1_c : DerivesAs array_content
@@ -770,7 +770,7 @@ array_n1_c : DerivesAs array_content
     (leaf (literal Int (49 ∷ [])) call_site end)
     (leaf (ident (99 ∷ [])) (at 2 3) end)
 unfolding left is_end lookahead_at sees take_token take_lifetime take_mark take_group before rows_for rows run parse_rule
-array_n1_c = computed array_content _ _ _ refl
+array_n1_c = computed array_content _ _ _ refl refl
 
 -- `1,` prints `1 ,`
 array_n1_comma : DerivesAs array_content
@@ -778,7 +778,7 @@ array_n1_comma : DerivesAs array_content
     (leaf (literal Int (49 ∷ [])) call_site (punct 44 false call_site end))
     (end)
 unfolding left is_end lookahead_at sees take_token take_lifetime take_mark take_group before rows_for rows run parse_rule
-array_n1_comma = computed array_content _ _ _ refl
+array_n1_comma = computed array_content _ _ _ refl refl
 
 -- `a, b;` prints `a , b` and leaves `;`
 array_a_comma_b_semi : DerivesAs array_content
@@ -786,19 +786,19 @@ array_a_comma_b_semi : DerivesAs array_content
     (leaf (ident (97 ∷ [])) call_site (punct 44 false call_site (leaf (ident (98 ∷ [])) call_site end)))
     (punct 59 false (at 4 5) end)
 unfolding left is_end lookahead_at sees take_token take_lifetime take_mark take_group before rows_for rows run parse_rule
-array_a_comma_b_semi = computed array_content _ _ _ refl
+array_a_comma_b_semi = computed array_content _ _ _ refl refl
 
 -- `; () break ,`: nothing is read
 array_semi_parens_break_comma : NotDerived (rule array_content)
     (punct 59 false (at 0 1) (group Paren (at 2 3) (at 3 4) end (leaf (ident w_break) (at 5 10) (punct 44 false (at 11 12) end))))
 unfolding left is_end lookahead_at sees take_token take_lifetime take_mark take_group before rows_for rows run parse_rule
-array_semi_parens_break_comma = not_read array_content _ refl
+array_semi_parens_break_comma = not_read array_content _ refl refl
 
 -- `continue ; ; {}`: nothing is read
 array_continue_semi_semi_braces : NotDerived (rule array_content)
     (leaf (ident w_continue) (at 0 8) (punct 59 false (at 9 10) (punct 59 false (at 11 12) (group Brace (at 13 14) (at 14 15) end end))))
 unfolding left is_end lookahead_at sees take_token take_lifetime take_mark take_group before rows_for rows run parse_rule
-array_continue_semi_semi_braces = not_read array_content _ refl
+array_continue_semi_semi_braces = not_read array_content _ refl refl
 
 -- `1; c; d` prints `1 ; c` and leaves `; d`
 array_n1_semi_c_semi_d : DerivesAs array_content
@@ -806,7 +806,7 @@ array_n1_semi_c_semi_d : DerivesAs array_content
     (leaf (literal Int (49 ∷ [])) call_site (punct 59 false call_site (leaf (ident (99 ∷ [])) call_site end)))
     (punct 59 false (at 4 5) (leaf (ident (100 ∷ [])) (at 6 7) end))
 unfolding left is_end lookahead_at sees take_token take_lifetime take_mark take_group before rows_for rows run parse_rule
-array_n1_semi_c_semi_d = computed array_content _ _ _ refl
+array_n1_semi_c_semi_d = computed array_content _ _ _ refl refl
 
 -- `- true ; & false break` prints `- true ; & false` and leaves `break`
 array_minus_true_semi_amp_false_break : DerivesAs array_content
@@ -814,13 +814,13 @@ array_minus_true_semi_amp_false_break : DerivesAs array_content
     (punct 45 false call_site (leaf (ident w_true) call_site (punct 59 false call_site (punct 38 false call_site (leaf (ident w_false) call_site end)))))
     (leaf (ident w_break) (at 17 22) end)
 unfolding left is_end lookahead_at sees take_token take_lifetime take_mark take_group before rows_for rows run parse_rule
-array_minus_true_semi_amp_false_break = computed array_content _ _ _ refl
+array_minus_true_semi_amp_false_break = computed array_content _ _ _ refl refl
 
 -- `a,,`: nothing is read
 array_a_comma_comma : NotDerived (rule array_content)
     (leaf (ident (97 ∷ [])) (at 0 1) (punct 44 true (at 1 2) (punct 44 false (at 2 3) end)))
 unfolding left is_end lookahead_at sees take_token take_lifetime take_mark take_group before rows_for rows run parse_rule
-array_a_comma_comma = not_read array_content _ refl
+array_a_comma_comma = not_read array_content _ refl refl
 
 -- no tokens prints ``
 array_nothing : DerivesAs array_content
@@ -828,13 +828,13 @@ array_nothing : DerivesAs array_content
     (end)
     (end)
 unfolding left is_end lookahead_at sees take_token take_lifetime take_mark take_group before rows_for rows run parse_rule
-array_nothing = computed array_content _ _ _ refl
+array_nothing = computed array_content _ _ _ refl refl
 
 -- `{} =`: nothing is read
 array_braces_eq : NotDerived (rule array_content)
     (group Brace (at 0 1) (at 1 2) end (punct 61 false (at 3 4) end))
 unfolding left is_end lookahead_at sees take_token take_lifetime take_mark take_group before rows_for rows run parse_rule
-array_braces_eq = not_read array_content _ refl
+array_braces_eq = not_read array_content _ refl refl
 
 -- `1` prints `1`
 array_n1 : DerivesAs array_content
@@ -842,7 +842,7 @@ array_n1 : DerivesAs array_content
     (leaf (literal Int (49 ∷ [])) call_site end)
     (end)
 unfolding left is_end lookahead_at sees take_token take_lifetime take_mark take_group before rows_for rows run parse_rule
-array_n1 = computed array_content _ _ _ refl
+array_n1 = computed array_content _ _ _ refl refl
 
 -- `1; c = d` prints `1 ; c = d`
 array_n1_semi_c_eq_d : DerivesAs array_content
@@ -850,13 +850,13 @@ array_n1_semi_c_eq_d : DerivesAs array_content
     (leaf (literal Int (49 ∷ [])) call_site (punct 59 false call_site (leaf (ident (99 ∷ [])) call_site (punct 61 false call_site (leaf (ident (100 ∷ [])) call_site end)))))
     (end)
 unfolding left is_end lookahead_at sees take_token take_lifetime take_mark take_group before rows_for rows run parse_rule
-array_n1_semi_c_eq_d = computed array_content _ _ _ refl
+array_n1_semi_c_eq_d = computed array_content _ _ _ refl refl
 
 -- `.`: nothing is read
 postfixes_dot : NotDerived (rule postfixes)
     (punct 46 false (at 0 1) end)
 unfolding left is_end lookahead_at sees take_token take_lifetime take_mark take_group before rows_for rows run parse_rule
-postfixes_dot = not_read postfixes _ refl
+postfixes_dot = not_read postfixes _ refl refl
 
 -- `()?` prints `() ?`
 postfixes_parens_question : DerivesAs postfixes
@@ -864,7 +864,7 @@ postfixes_parens_question : DerivesAs postfixes
     (group Paren call_site call_site end (punct 63 false call_site end))
     (end)
 unfolding left is_end lookahead_at sees take_token take_lifetime take_mark take_group before rows_for rows run parse_rule
-postfixes_parens_question = computed postfixes _ _ _ refl
+postfixes_parens_question = computed postfixes _ _ _ refl refl
 
 -- `(a, b)` prints `(a , b)`
 postfixes_in_paren_a_comma_b : DerivesAs postfixes
@@ -872,19 +872,19 @@ postfixes_in_paren_a_comma_b : DerivesAs postfixes
     (group Paren call_site call_site (leaf (ident (97 ∷ [])) call_site (punct 44 false call_site (leaf (ident (98 ∷ [])) call_site end))) end)
     (end)
 unfolding left is_end lookahead_at sees take_token take_lifetime take_mark take_group before rows_for rows run parse_rule
-postfixes_in_paren_a_comma_b = computed postfixes _ _ _ refl
+postfixes_in_paren_a_comma_b = computed postfixes _ _ _ refl refl
 
 -- `(a b)`: nothing is read
 postfixes_in_paren_a_b : NotDerived (rule postfixes)
     (group Paren (at 0 1) (at 4 5) (leaf (ident (97 ∷ [])) (at 1 2) (leaf (ident (98 ∷ [])) (at 3 4) end)) end)
 unfolding left is_end lookahead_at sees take_token take_lifetime take_mark take_group before rows_for rows run parse_rule
-postfixes_in_paren_a_b = not_read postfixes _ refl
+postfixes_in_paren_a_b = not_read postfixes _ refl refl
 
 -- `[]`: nothing is read
 postfixes_brackets : NotDerived (rule postfixes)
     (group Bracket (at 0 1) (at 1 2) end end)
 unfolding left is_end lookahead_at sees take_token take_lifetime take_mark take_group before rows_for rows run parse_rule
-postfixes_brackets = not_read postfixes _ refl
+postfixes_brackets = not_read postfixes _ refl refl
 
 -- `[a]?` prints `[a] ?`
 postfixes_in_bracket_a_question : DerivesAs postfixes
@@ -892,13 +892,13 @@ postfixes_in_bracket_a_question : DerivesAs postfixes
     (group Bracket call_site call_site (leaf (ident (97 ∷ [])) call_site end) (punct 63 false call_site end))
     (end)
 unfolding left is_end lookahead_at sees take_token take_lifetime take_mark take_group before rows_for rows run parse_rule
-postfixes_in_bracket_a_question = computed postfixes _ _ _ refl
+postfixes_in_bracket_a_question = computed postfixes _ _ _ refl refl
 
 -- `[a b]`: nothing is read
 postfixes_in_bracket_a_b : NotDerived (rule postfixes)
     (group Bracket (at 0 1) (at 4 5) (leaf (ident (97 ∷ [])) (at 1 2) (leaf (ident (98 ∷ [])) (at 3 4) end)) end)
 unfolding left is_end lookahead_at sees take_token take_lifetime take_mark take_group before rows_for rows run parse_rule
-postfixes_in_bracket_a_b = not_read postfixes _ refl
+postfixes_in_bracket_a_b = not_read postfixes _ refl refl
 
 -- `??` prints `? ?`
 postfixes_question_question : DerivesAs postfixes
@@ -906,13 +906,13 @@ postfixes_question_question : DerivesAs postfixes
     (punct 63 false call_site (punct 63 false call_site end))
     (end)
 unfolding left is_end lookahead_at sees take_token take_lifetime take_mark take_group before rows_for rows run parse_rule
-postfixes_question_question = computed postfixes _ _ _ refl
+postfixes_question_question = computed postfixes _ _ _ refl refl
 
 -- `. .a`: nothing is read
 postfixes_dot_dot_a : NotDerived (rule postfixes)
     (punct 46 false (at 0 1) (punct 46 false (at 2 3) (leaf (ident (97 ∷ [])) (at 3 4) end)))
 unfolding left is_end lookahead_at sees take_token take_lifetime take_mark take_group before rows_for rows run parse_rule
-postfixes_dot_dot_a = not_read postfixes _ refl
+postfixes_dot_dot_a = not_read postfixes _ refl refl
 
 -- `.0.b` prints `. 0 . b`
 postfixes_dot_n0_dot_b : DerivesAs postfixes
@@ -920,7 +920,7 @@ postfixes_dot_n0_dot_b : DerivesAs postfixes
     (punct 46 false call_site (leaf (literal Int (48 ∷ [])) call_site (punct 46 false call_site (leaf (ident (98 ∷ [])) call_site end))))
     (end)
 unfolding left is_end lookahead_at sees take_token take_lifetime take_mark take_group before rows_for rows run parse_rule
-postfixes_dot_n0_dot_b = computed postfixes _ _ _ refl
+postfixes_dot_n0_dot_b = computed postfixes _ _ _ refl refl
 
 -- `.0 b` prints `. 0` and leaves `b`
 postfixes_dot_n0_b : DerivesAs postfixes
@@ -928,7 +928,7 @@ postfixes_dot_n0_b : DerivesAs postfixes
     (punct 46 false call_site (leaf (literal Int (48 ∷ [])) call_site end))
     (leaf (ident (98 ∷ [])) (at 3 4) end)
 unfolding left is_end lookahead_at sees take_token take_lifetime take_mark take_group before rows_for rows run parse_rule
-postfixes_dot_n0_b = computed postfixes _ _ _ refl
+postfixes_dot_n0_b = computed postfixes _ _ _ refl refl
 
 -- `{}` prints `` and leaves `{}`
 postfixes_braces : DerivesAs postfixes
@@ -936,7 +936,7 @@ postfixes_braces : DerivesAs postfixes
     (end)
     (group Brace (at 0 1) (at 1 2) end end)
 unfolding left is_end lookahead_at sees take_token take_lifetime take_mark take_group before rows_for rows run parse_rule
-postfixes_braces = computed postfixes _ _ _ refl
+postfixes_braces = computed postfixes _ _ _ refl refl
 
 -- `() + a` prints `()` and leaves `+ a`
 postfixes_parens_plus_a : DerivesAs postfixes
@@ -944,7 +944,7 @@ postfixes_parens_plus_a : DerivesAs postfixes
     (group Paren call_site call_site end end)
     (punct 43 false (at 3 4) (leaf (ident (97 ∷ [])) (at 5 6) end))
 unfolding left is_end lookahead_at sees take_token take_lifetime take_mark take_group before rows_for rows run parse_rule
-postfixes_parens_plus_a = computed postfixes _ _ _ refl
+postfixes_parens_plus_a = computed postfixes _ _ _ refl refl
 
 -- `[a = b]` prints `[a = b]`
 postfixes_in_bracket_a_eq_b : DerivesAs postfixes
@@ -952,7 +952,7 @@ postfixes_in_bracket_a_eq_b : DerivesAs postfixes
     (group Bracket call_site call_site (leaf (ident (97 ∷ [])) call_site (punct 61 false call_site (leaf (ident (98 ∷ [])) call_site end))) end)
     (end)
 unfolding left is_end lookahead_at sees take_token take_lifetime take_mark take_group before rows_for rows run parse_rule
-postfixes_in_bracket_a_eq_b = computed postfixes _ _ _ refl
+postfixes_in_bracket_a_eq_b = computed postfixes _ _ _ refl refl
 
 -- `...a` prints `` and leaves `...a`
 postfixes_dots_dot_a : DerivesAs postfixes
@@ -960,7 +960,7 @@ postfixes_dots_dot_a : DerivesAs postfixes
     (end)
     (punct 46 true (at 0 1) (punct 46 true (at 1 2) (punct 46 false (at 2 3) (leaf (ident (97 ∷ [])) (at 3 4) end))))
 unfolding left is_end lookahead_at sees take_token take_lifetime take_mark take_group before rows_for rows run parse_rule
-postfixes_dots_dot_a = computed postfixes _ _ _ refl
+postfixes_dots_dot_a = computed postfixes _ _ _ refl refl
 
 -- `..a` prints `` and leaves `..a`
 postfixes_dots_a : DerivesAs postfixes
@@ -968,7 +968,7 @@ postfixes_dots_a : DerivesAs postfixes
     (end)
     (punct 46 true (at 0 1) (punct 46 false (at 1 2) (leaf (ident (97 ∷ [])) (at 2 3) end)))
 unfolding left is_end lookahead_at sees take_token take_lifetime take_mark take_group before rows_for rows run parse_rule
-postfixes_dots_a = computed postfixes _ _ _ refl
+postfixes_dots_a = computed postfixes _ _ _ refl refl
 
 -- `.a..b` prints `. a` and leaves `..b`
 postfixes_dot_a_dots_b : DerivesAs postfixes
@@ -976,7 +976,7 @@ postfixes_dot_a_dots_b : DerivesAs postfixes
     (punct 46 false call_site (leaf (ident (97 ∷ [])) call_site end))
     (punct 46 true (at 2 3) (punct 46 false (at 3 4) (leaf (ident (98 ∷ [])) (at 4 5) end)))
 unfolding left is_end lookahead_at sees take_token take_lifetime take_mark take_group before rows_for rows run parse_rule
-postfixes_dot_a_dots_b = computed postfixes _ _ _ refl
+postfixes_dot_a_dots_b = computed postfixes _ _ _ refl refl
 
 -- `0 0` prints `0` and leaves `0`
 member_n0_n0 : DerivesAs member
@@ -984,7 +984,7 @@ member_n0_n0 : DerivesAs member
     (leaf (literal Int (48 ∷ [])) call_site end)
     (leaf (literal Int (48 ∷ [])) (at 2 3) end)
 unfolding left is_end lookahead_at sees take_token take_lifetime take_mark take_group before rows_for rows run parse_rule
-member_n0_n0 = computed member _ _ _ refl
+member_n0_n0 = computed member _ _ _ refl refl
 
 -- `a b` prints `a` and leaves `b`
 member_a_b : DerivesAs member
@@ -992,7 +992,7 @@ member_a_b : DerivesAs member
     (leaf (ident (97 ∷ [])) call_site end)
     (leaf (ident (98 ∷ [])) (at 2 3) end)
 unfolding left is_end lookahead_at sees take_token take_lifetime take_mark take_group before rows_for rows run parse_rule
-member_a_b = computed member _ _ _ refl
+member_a_b = computed member _ _ _ refl refl
 
 -- `a() ()` prints `a ()` and leaves `()`
 member_a_parens_parens : DerivesAs member
@@ -1000,25 +1000,25 @@ member_a_parens_parens : DerivesAs member
     (leaf (ident (97 ∷ [])) call_site (group Paren call_site call_site end end))
     (group Paren (at 4 5) (at 5 6) end end)
 unfolding left is_end lookahead_at sees take_token take_lifetime take_mark take_group before rows_for rows run parse_rule
-member_a_parens_parens = computed member _ _ _ refl
+member_a_parens_parens = computed member _ _ _ refl refl
 
 -- `() auto`: nothing is read
 member_parens_auto : NotDerived (rule member)
     (group Paren (at 0 1) (at 1 2) end (leaf (ident w_auto) (at 3 7) end))
 unfolding left is_end lookahead_at sees take_token take_lifetime take_mark take_group before rows_for rows run parse_rule
-member_parens_auto = not_read member _ refl
+member_parens_auto = not_read member _ refl refl
 
 -- `auto :: :: <> ()`: nothing is read
 member_auto_colons_colons_lt_gt_parens : NotDerived (rule member)
     (leaf (ident w_auto) (at 0 4) (punct 58 true (at 5 6) (punct 58 false (at 6 7) (punct 58 true (at 8 9) (punct 58 false (at 9 10) (punct 60 true (at 11 12) (punct 62 false (at 12 13) (group Paren (at 14 15) (at 15 16) end end))))))))
 unfolding left is_end lookahead_at sees take_token take_lifetime take_mark take_group before rows_for rows run parse_rule
-member_auto_colons_colons_lt_gt_parens = not_read member _ refl
+member_auto_colons_colons_lt_gt_parens = not_read member _ refl refl
 
 -- `union ::<> :: ()`: nothing is read
 member_union_colons_lt_gt_colons_parens : NotDerived (rule member)
     (leaf (ident w_union) (at 0 5) (punct 58 true (at 6 7) (punct 58 true (at 7 8) (punct 60 true (at 8 9) (punct 62 false (at 9 10) (punct 58 true (at 11 12) (punct 58 false (at 12 13) (group Paren (at 14 15) (at 15 16) end end))))))))
 unfolding left is_end lookahead_at sees take_token take_lifetime take_mark take_group before rows_for rows run parse_rule
-member_union_colons_lt_gt_colons_parens = not_read member _ refl
+member_union_colons_lt_gt_colons_parens = not_read member _ refl refl
 
 -- `auto :: < > () ::` prints `auto :: < > ()` and leaves `::`
 member_auto_colons_lt_gt_parens_colons : DerivesAs member
@@ -1026,13 +1026,13 @@ member_auto_colons_lt_gt_parens_colons : DerivesAs member
     (leaf (ident w_auto) call_site (punct 58 true call_site (punct 58 false call_site (punct 60 false call_site (punct 62 false call_site (group Paren call_site call_site end end))))))
     (punct 58 true (at 15 16) (punct 58 false (at 16 17) end))
 unfolding left is_end lookahead_at sees take_token take_lifetime take_mark take_group before rows_for rows run parse_rule
-member_auto_colons_lt_gt_parens_colons = computed member _ _ _ refl
+member_auto_colons_lt_gt_parens_colons = computed member _ _ _ refl refl
 
 -- `b :: < >< > ()`: nothing is read
 member_b_colons_lt_gt_lt_gt_parens : NotDerived (rule member)
     (leaf (ident (98 ∷ [])) (at 0 1) (punct 58 true (at 2 3) (punct 58 false (at 3 4) (punct 60 false (at 5 6) (punct 62 true (at 7 8) (punct 60 false (at 8 9) (punct 62 false (at 10 11) (group Paren (at 12 13) (at 13 14) end end))))))))
 unfolding left is_end lookahead_at sees take_token take_lifetime take_mark take_group before rows_for rows run parse_rule
-member_b_colons_lt_gt_lt_gt_parens = not_read member _ refl
+member_b_colons_lt_gt_lt_gt_parens = not_read member _ refl refl
 
 -- `union :: < > () < >` prints `union :: < > ()` and leaves `< >`
 member_union_colons_lt_gt_parens_lt_gt : DerivesAs member
@@ -1040,13 +1040,13 @@ member_union_colons_lt_gt_parens_lt_gt : DerivesAs member
     (leaf (ident w_union) call_site (punct 58 true call_site (punct 58 false call_site (punct 60 false call_site (punct 62 false call_site (group Paren call_site call_site end end))))))
     (punct 60 false (at 16 17) (punct 62 false (at 18 19) end))
 unfolding left is_end lookahead_at sees take_token take_lifetime take_mark take_group before rows_for rows run parse_rule
-member_union_colons_lt_gt_parens_lt_gt = computed member _ _ _ refl
+member_union_colons_lt_gt_parens_lt_gt = computed member _ _ _ refl refl
 
 -- `b :: () < > ()`: nothing is read
 member_b_colons_parens_lt_gt_parens : NotDerived (rule member)
     (leaf (ident (98 ∷ [])) (at 0 1) (punct 58 true (at 2 3) (punct 58 false (at 3 4) (group Paren (at 5 6) (at 6 7) end (punct 60 false (at 8 9) (punct 62 false (at 10 11) (group Paren (at 12 13) (at 13 14) end end)))))))
 unfolding left is_end lookahead_at sees take_token take_lifetime take_mark take_group before rows_for rows run parse_rule
-member_b_colons_parens_lt_gt_parens = not_read member _ refl
+member_b_colons_parens_lt_gt_parens = not_read member _ refl refl
 
 -- `a :: < > () ()` prints `a :: < > ()` and leaves `()`
 member_a_colons_lt_gt_parens_parens : DerivesAs member
@@ -1054,7 +1054,7 @@ member_a_colons_lt_gt_parens_parens : DerivesAs member
     (leaf (ident (97 ∷ [])) call_site (punct 58 true call_site (punct 58 false call_site (punct 60 false call_site (punct 62 false call_site (group Paren call_site call_site end end))))))
     (group Paren (at 12 13) (at 13 14) end end)
 unfolding left is_end lookahead_at sees take_token take_lifetime take_mark take_group before rows_for rows run parse_rule
-member_a_colons_lt_gt_parens_parens = computed member _ _ _ refl
+member_a_colons_lt_gt_parens_parens = computed member _ _ _ refl refl
 
 -- `auto :: < > (return)` prints `auto :: < > (return)`
 member_auto_colons_lt_gt_in_paren_return : DerivesAs member
@@ -1062,13 +1062,13 @@ member_auto_colons_lt_gt_in_paren_return : DerivesAs member
     (leaf (ident w_auto) call_site (punct 58 true call_site (punct 58 false call_site (punct 60 false call_site (punct 62 false call_site (group Paren call_site call_site (leaf (ident w_return) call_site end) end))))))
     (end)
 unfolding left is_end lookahead_at sees take_token take_lifetime take_mark take_group before rows_for rows run parse_rule
-member_auto_colons_lt_gt_in_paren_return = computed member _ _ _ refl
+member_auto_colons_lt_gt_in_paren_return = computed member _ _ _ refl refl
 
 -- `a::<T>(b c)`: nothing is read
 member_a_colons_lt_T_gt_in_paren_b_c : NotDerived (rule member)
     (leaf (ident (97 ∷ [])) (at 0 1) (punct 58 true (at 1 2) (punct 58 true (at 2 3) (punct 60 false (at 3 4) (leaf (ident (84 ∷ [])) (at 4 5) (punct 62 false (at 5 6) (group Paren (at 6 7) (at 10 11) (leaf (ident (98 ∷ [])) (at 7 8) (leaf (ident (99 ∷ [])) (at 9 10) end)) end)))))))
 unfolding left is_end lookahead_at sees take_token take_lifetime take_mark take_group before rows_for rows run parse_rule
-member_a_colons_lt_T_gt_in_paren_b_c = not_read member _ refl
+member_a_colons_lt_T_gt_in_paren_b_c = not_read member _ refl refl
 
 -- `a(b)` prints `a (b)`
 member_a_in_paren_b : DerivesAs member
@@ -1076,13 +1076,13 @@ member_a_in_paren_b : DerivesAs member
     (leaf (ident (97 ∷ [])) call_site (group Paren call_site call_site (leaf (ident (98 ∷ [])) call_site end) end))
     (end)
 unfolding left is_end lookahead_at sees take_token take_lifetime take_mark take_group before rows_for rows run parse_rule
-member_a_in_paren_b = computed member _ _ _ refl
+member_a_in_paren_b = computed member _ _ _ refl refl
 
 -- `a(b c)`: nothing is read
 member_a_in_paren_b_c : NotDerived (rule member)
     (leaf (ident (97 ∷ [])) (at 0 1) (group Paren (at 1 2) (at 5 6) (leaf (ident (98 ∷ [])) (at 2 3) (leaf (ident (99 ∷ [])) (at 4 5) end)) end))
 unfolding left is_end lookahead_at sees take_token take_lifetime take_mark take_group before rows_for rows run parse_rule
-member_a_in_paren_b_c = not_read member _ refl
+member_a_in_paren_b_c = not_read member _ refl refl
 
 -- `a:` prints `a` and leaves `:`
 member_a_colon : DerivesAs member
@@ -1090,7 +1090,7 @@ member_a_colon : DerivesAs member
     (leaf (ident (97 ∷ [])) call_site end)
     (punct 58 false (at 1 2) end)
 unfolding left is_end lookahead_at sees take_token take_lifetime take_mark take_group before rows_for rows run parse_rule
-member_a_colon = computed member _ _ _ refl
+member_a_colon = computed member _ _ _ refl refl
 
 -- `a{}` prints `a` and leaves `{}`
 member_a_braces : DerivesAs member
@@ -1098,7 +1098,7 @@ member_a_braces : DerivesAs member
     (leaf (ident (97 ∷ [])) call_site end)
     (group Brace (at 1 2) (at 2 3) end end)
 unfolding left is_end lookahead_at sees take_token take_lifetime take_mark take_group before rows_for rows run parse_rule
-member_a_braces = computed member _ _ _ refl
+member_a_braces = computed member _ _ _ refl refl
 
 -- `a[]` prints `a` and leaves `[]`
 member_a_brackets : DerivesAs member
@@ -1106,7 +1106,7 @@ member_a_brackets : DerivesAs member
     (leaf (ident (97 ∷ [])) call_site end)
     (group Bracket (at 1 2) (at 2 3) end end)
 unfolding left is_end lookahead_at sees take_token take_lifetime take_mark take_group before rows_for rows run parse_rule
-member_a_brackets = computed member _ _ _ refl
+member_a_brackets = computed member _ _ _ refl refl
 
 -- `b . < > ()` prints `b` and leaves `. < > ()`
 member_b_dot_lt_gt_parens : DerivesAs member
@@ -1114,43 +1114,43 @@ member_b_dot_lt_gt_parens : DerivesAs member
     (leaf (ident (98 ∷ [])) call_site end)
     (punct 46 false (at 2 3) (punct 60 false (at 4 5) (punct 62 false (at 6 7) (group Paren (at 8 9) (at 9 10) end end))))
 unfolding left is_end lookahead_at sees take_token take_lifetime take_mark take_group before rows_for rows run parse_rule
-member_b_dot_lt_gt_parens = computed member _ _ _ refl
+member_b_dot_lt_gt_parens = computed member _ _ _ refl refl
 
 -- `_`: nothing is read
 member_underscore : NotDerived (rule member)
     (leaf (ident w_underscore) (at 0 1) end)
 unfolding left is_end lookahead_at sees take_token take_lifetime take_mark take_group before rows_for rows run parse_rule
-member_underscore = not_read member _ refl
+member_underscore = not_read member _ refl refl
 
 -- `self`: nothing is read
 member_self : NotDerived (rule member)
     (leaf (ident w_self) (at 0 4) end)
 unfolding left is_end lookahead_at sees take_token take_lifetime take_mark take_group before rows_for rows run parse_rule
-member_self = not_read member _ refl
+member_self = not_read member _ refl refl
 
 -- `Self`: nothing is read
 member_Self : NotDerived (rule member)
     (leaf (ident w_Self_type) (at 0 4) end)
 unfolding left is_end lookahead_at sees take_token take_lifetime take_mark take_group before rows_for rows run parse_rule
-member_Self = not_read member _ refl
+member_Self = not_read member _ refl refl
 
 -- `super`: nothing is read
 member_super : NotDerived (rule member)
     (leaf (ident w_super) (at 0 5) end)
 unfolding left is_end lookahead_at sees take_token take_lifetime take_mark take_group before rows_for rows run parse_rule
-member_super = not_read member _ refl
+member_super = not_read member _ refl refl
 
 -- `crate`: nothing is read
 member_crate : NotDerived (rule member)
     (leaf (ident w_crate) (at 0 5) end)
 unfolding left is_end lookahead_at sees take_token take_lifetime take_mark take_group before rows_for rows run parse_rule
-member_crate = not_read member _ refl
+member_crate = not_read member _ refl refl
 
 -- `fn`: nothing is read
 member_fn : NotDerived (rule member)
     (leaf (ident w_fn) (at 0 2) end)
 unfolding left is_end lookahead_at sees take_token take_lifetime take_mark take_group before rows_for rows run parse_rule
-member_fn = not_read member _ refl
+member_fn = not_read member _ refl refl
 
 -- `default` prints `default`
 member_default : DerivesAs member
@@ -1158,7 +1158,7 @@ member_default : DerivesAs member
     (leaf (ident w_default) call_site end)
     (end)
 unfolding left is_end lookahead_at sees take_token take_lifetime take_mark take_group before rows_for rows run parse_rule
-member_default = computed member _ _ _ refl
+member_default = computed member _ _ _ refl refl
 
 -- `safe` prints `safe`
 member_safe : DerivesAs member
@@ -1166,19 +1166,19 @@ member_safe : DerivesAs member
     (leaf (ident w_safe) call_site end)
     (end)
 unfolding left is_end lookahead_at sees take_token take_lifetime take_mark take_group before rows_for rows run parse_rule
-member_safe = computed member _ _ _ refl
+member_safe = computed member _ _ _ refl refl
 
 -- `"s"`: nothing is read
 member_str : NotDerived (rule member)
     (leaf (literal Str (34 ∷ 115 ∷ 34 ∷ [])) (at 0 3) end)
 unfolding left is_end lookahead_at sees take_token take_lifetime take_mark take_group before rows_for rows run parse_rule
-member_str = not_read member _ refl
+member_str = not_read member _ refl refl
 
 -- `!`: nothing is read
 unary_bang : NotDerived (rule unary)
     (punct 33 false (at 0 1) end)
 unfolding left is_end lookahead_at sees take_token take_lifetime take_mark take_group before rows_for rows run parse_rule
-unary_bang = not_read unary _ refl
+unary_bang = not_read unary _ refl refl
 
 -- `#[a] 1` prints `# [a] 1`
 unary_pound_in_bracket_a_n1 : DerivesAs unary
@@ -1186,7 +1186,7 @@ unary_pound_in_bracket_a_n1 : DerivesAs unary
     (punct 35 false call_site (group Bracket call_site call_site (leaf (ident (97 ∷ [])) call_site end) (leaf (literal Int (49 ∷ [])) call_site end)))
     (end)
 unfolding left is_end lookahead_at sees take_token take_lifetime take_mark take_group before rows_for rows run parse_rule
-unary_pound_in_bracket_a_n1 = computed unary _ _ _ refl
+unary_pound_in_bracket_a_n1 = computed unary _ _ _ refl refl
 
 -- `a #[b]` prints `a` and leaves `# [b]`
 unary_a_pound_in_bracket_b : DerivesAs unary
@@ -1194,13 +1194,13 @@ unary_a_pound_in_bracket_b : DerivesAs unary
     (leaf (ident (97 ∷ [])) call_site end)
     (punct 35 false (at 2 3) (group Bracket (at 3 4) (at 5 6) (leaf (ident (98 ∷ [])) (at 4 5) end) end))
 unfolding left is_end lookahead_at sees take_token take_lifetime take_mark take_group before rows_for rows run parse_rule
-unary_a_pound_in_bracket_b = computed unary _ _ _ refl
+unary_a_pound_in_bracket_b = computed unary _ _ _ refl refl
 
 -- `-`: nothing is read
 unary_minus : NotDerived (rule unary)
     (punct 45 false (at 0 1) end)
 unfolding left is_end lookahead_at sees take_token take_lifetime take_mark take_group before rows_for rows run parse_rule
-unary_minus = not_read unary _ refl
+unary_minus = not_read unary _ refl refl
 
 -- `- a -` prints `- a` and leaves `-`
 unary_minus_a_minus : DerivesAs unary
@@ -1208,7 +1208,7 @@ unary_minus_a_minus : DerivesAs unary
     (punct 45 false call_site (leaf (ident (97 ∷ [])) call_site end))
     (punct 45 false (at 4 5) end)
 unfolding left is_end lookahead_at sees take_token take_lifetime take_mark take_group before rows_for rows run parse_rule
-unary_minus_a_minus = computed unary _ _ _ refl
+unary_minus_a_minus = computed unary _ _ _ refl refl
 
 -- `! a -` prints `! a` and leaves `-`
 unary_bang_a_minus : DerivesAs unary
@@ -1216,13 +1216,13 @@ unary_bang_a_minus : DerivesAs unary
     (punct 33 false call_site (leaf (ident (97 ∷ [])) call_site end))
     (punct 45 false (at 4 5) end)
 unfolding left is_end lookahead_at sees take_token take_lifetime take_mark take_group before rows_for rows run parse_rule
-unary_bang_a_minus = computed unary _ _ _ refl
+unary_bang_a_minus = computed unary _ _ _ refl refl
 
 -- `*`: nothing is read
 unary_star : NotDerived (rule unary)
     (punct 42 false (at 0 1) end)
 unfolding left is_end lookahead_at sees take_token take_lifetime take_mark take_group before rows_for rows run parse_rule
-unary_star = not_read unary _ refl
+unary_star = not_read unary _ refl refl
 
 -- `&* a *!` prints `& * a` and leaves `*!`
 unary_amp_star_a_star_bang : DerivesAs unary
@@ -1230,7 +1230,7 @@ unary_amp_star_a_star_bang : DerivesAs unary
     (punct 38 false call_site (punct 42 false call_site (leaf (ident (97 ∷ [])) call_site end)))
     (punct 42 true (at 5 6) (punct 33 false (at 6 7) end))
 unfolding left is_end lookahead_at sees take_token take_lifetime take_mark take_group before rows_for rows run parse_rule
-unary_amp_star_a_star_bang = computed unary _ _ _ refl
+unary_amp_star_a_star_bang = computed unary _ _ _ refl refl
 
 -- `a b` prints `a` and leaves `b`
 unary_a_b : DerivesAs unary
@@ -1238,7 +1238,7 @@ unary_a_b : DerivesAs unary
     (leaf (ident (97 ∷ [])) call_site end)
     (leaf (ident (98 ∷ [])) (at 2 3) end)
 unfolding left is_end lookahead_at sees take_token take_lifetime take_mark take_group before rows_for rows run parse_rule
-unary_a_b = computed unary _ _ _ refl
+unary_a_b = computed unary _ _ _ refl refl
 
 -- `& a & mut` prints `& a` and leaves `& mut`
 unary_amp_a_amp_mut : DerivesAs unary
@@ -1246,7 +1246,7 @@ unary_amp_a_amp_mut : DerivesAs unary
     (punct 38 false call_site (leaf (ident (97 ∷ [])) call_site end))
     (punct 38 false (at 4 5) (leaf (ident w_mut) (at 6 9) end))
 unfolding left is_end lookahead_at sees take_token take_lifetime take_mark take_group before rows_for rows run parse_rule
-unary_amp_a_amp_mut = computed unary _ _ _ refl
+unary_amp_a_amp_mut = computed unary _ _ _ refl refl
 
 -- `& &mut a` prints `& & mut a`
 unary_amp_amp_mut_a : DerivesAs unary
@@ -1254,13 +1254,13 @@ unary_amp_amp_mut_a : DerivesAs unary
     (punct 38 false call_site (punct 38 false call_site (leaf (ident w_mut) call_site (leaf (ident (97 ∷ [])) call_site end))))
     (end)
 unfolding left is_end lookahead_at sees take_token take_lifetime take_mark take_group before rows_for rows run parse_rule
-unary_amp_amp_mut_a = computed unary _ _ _ refl
+unary_amp_amp_mut_a = computed unary _ _ _ refl refl
 
 -- `&mut mut a`: nothing is read
 unary_amp_mut_mut_a : NotDerived (rule unary)
     (punct 38 false (at 0 1) (leaf (ident w_mut) (at 1 4) (leaf (ident w_mut) (at 5 8) (leaf (ident (97 ∷ [])) (at 9 10) end))))
 unfolding left is_end lookahead_at sees take_token take_lifetime take_mark take_group before rows_for rows run parse_rule
-unary_amp_mut_mut_a = not_read unary _ refl
+unary_amp_mut_mut_a = not_read unary _ refl refl
 
 -- `& 1 mut` prints `& 1` and leaves `mut`
 unary_amp_n1_mut : DerivesAs unary
@@ -1268,7 +1268,7 @@ unary_amp_n1_mut : DerivesAs unary
     (punct 38 false call_site (leaf (literal Int (49 ∷ [])) call_site end))
     (leaf (ident w_mut) (at 4 7) end)
 unfolding left is_end lookahead_at sees take_token take_lifetime take_mark take_group before rows_for rows run parse_rule
-unary_amp_n1_mut = computed unary _ _ _ refl
+unary_amp_n1_mut = computed unary _ _ _ refl refl
 
 -- `()` prints `()`
 unary_parens : DerivesAs unary
@@ -1276,7 +1276,7 @@ unary_parens : DerivesAs unary
     (group Paren call_site call_site end end)
     (end)
 unfolding left is_end lookahead_at sees take_token take_lifetime take_mark take_group before rows_for rows run parse_rule
-unary_parens = computed unary _ _ _ refl
+unary_parens = computed unary _ _ _ refl refl
 
 -- `a?` prints `a ?`
 unary_a_question : DerivesAs unary
@@ -1284,7 +1284,7 @@ unary_a_question : DerivesAs unary
     (leaf (ident (97 ∷ [])) call_site (punct 63 false call_site end))
     (end)
 unfolding left is_end lookahead_at sees take_token take_lifetime take_mark take_group before rows_for rows run parse_rule
-unary_a_question = computed unary _ _ _ refl
+unary_a_question = computed unary _ _ _ refl refl
 
 -- `-! 1` prints `- ! 1`
 unary_minus_bang_n1 : DerivesAs unary
@@ -1292,7 +1292,7 @@ unary_minus_bang_n1 : DerivesAs unary
     (punct 45 false call_site (punct 33 false call_site (leaf (literal Int (49 ∷ [])) call_site end)))
     (end)
 unfolding left is_end lookahead_at sees take_token take_lifetime take_mark take_group before rows_for rows run parse_rule
-unary_minus_bang_n1 = computed unary _ _ _ refl
+unary_minus_bang_n1 = computed unary _ _ _ refl refl
 
 -- `! ! a` prints `! ! a`
 unary_bang_bang_a : DerivesAs unary
@@ -1300,7 +1300,7 @@ unary_bang_bang_a : DerivesAs unary
     (punct 33 false call_site (punct 33 false call_site (leaf (ident (97 ∷ [])) call_site end)))
     (end)
 unfolding left is_end lookahead_at sees take_token take_lifetime take_mark take_group before rows_for rows run parse_rule
-unary_bang_bang_a = computed unary _ _ _ refl
+unary_bang_bang_a = computed unary _ _ _ refl refl
 
 -- `* * a` prints `* * a`
 unary_star_star_a : DerivesAs unary
@@ -1308,7 +1308,7 @@ unary_star_star_a : DerivesAs unary
     (punct 42 false call_site (punct 42 false call_site (leaf (ident (97 ∷ [])) call_site end)))
     (end)
 unfolding left is_end lookahead_at sees take_token take_lifetime take_mark take_group before rows_for rows run parse_rule
-unary_star_star_a = computed unary _ _ _ refl
+unary_star_star_a = computed unary _ _ _ refl refl
 
 -- `!1 !` prints `! 1` and leaves `!`
 unary_bang_n1_bang : DerivesAs unary
@@ -1316,7 +1316,7 @@ unary_bang_n1_bang : DerivesAs unary
     (punct 33 false call_site (leaf (literal Int (49 ∷ [])) call_site end))
     (punct 33 false (at 3 4) end)
 unfolding left is_end lookahead_at sees take_token take_lifetime take_mark take_group before rows_for rows run parse_rule
-unary_bang_n1_bang = computed unary _ _ _ refl
+unary_bang_n1_bang = computed unary _ _ _ refl refl
 
 -- `!1 !a` prints `! 1` and leaves `! a`
 unary_bang_n1_bang_a : DerivesAs unary
@@ -1324,4 +1324,72 @@ unary_bang_n1_bang_a : DerivesAs unary
     (punct 33 false call_site (leaf (literal Int (49 ∷ [])) call_site end))
     (punct 33 false (at 3 4) (leaf (ident (97 ∷ [])) (at 4 5) end))
 unfolding left is_end lookahead_at sees take_token take_lifetime take_mark take_group before rows_for rows run parse_rule
-unary_bang_n1_bang_a = computed unary _ _ _ refl
+unary_bang_n1_bang_a = computed unary _ _ _ refl refl
+
+-- `\(-1\)` prints `\(-1\)`
+unary_in_none_minus : ComputesAs unary
+    (group None (at 0 2) (at 4 6) (punct 45 false (at 2 3) (leaf (literal Int (49 ∷ [])) (at 3 4) end)) end)
+    (group None call_site call_site (punct 45 false call_site (leaf (literal Int (49 ∷ [])) call_site end)) end)
+    (end)
+unfolding left is_end lookahead_at sees take_token take_lifetime take_mark take_group before rows_for rows run parse_rule
+unary_in_none_minus = refl
+
+-- `\(a + b\).c[d]` prints `\(a + b\) . c [d]`
+unary_in_none_postfix : ComputesAs unary
+    (group None (at 0 2) (at 7 9) (leaf (ident (97 ∷ [])) (at 2 3) (punct 43 false (at 4 5) (leaf (ident (98 ∷ [])) (at 6 7) end))) (punct 46 false (at 9 10) (leaf (ident (99 ∷ [])) (at 10 11) (group Bracket (at 11 12) (at 13 14) (leaf (ident (100 ∷ [])) (at 12 13) end) end))))
+    (group None call_site call_site (leaf (ident (97 ∷ [])) call_site (punct 43 false call_site (leaf (ident (98 ∷ [])) call_site end))) (punct 46 false call_site (leaf (ident (99 ∷ [])) call_site (group Bracket call_site call_site (leaf (ident (100 ∷ [])) call_site end) end))))
+    (end)
+unfolding left is_end lookahead_at sees take_token take_lifetime take_mark take_group before rows_for rows run parse_rule
+unary_in_none_postfix = refl
+
+-- `-\(a\)` prints `-\(a\)`
+unary_minus_in_none : ComputesAs unary
+    (punct 45 false (at 0 1) (group None (at 1 3) (at 4 6) (leaf (ident (97 ∷ [])) (at 3 4) end) end))
+    (punct 45 false call_site (group None call_site call_site (leaf (ident (97 ∷ [])) call_site end) end))
+    (end)
+unfolding left is_end lookahead_at sees take_token take_lifetime take_mark take_group before rows_for rows run parse_rule
+unary_minus_in_none = refl
+
+-- `\(-\)a`: nothing is read
+unary_in_none_mark : ComputesNothing unary
+    (group None (at 0 2) (at 3 5) (punct 45 false (at 2 3) end) (leaf (ident (97 ∷ [])) (at 5 6) end))
+unfolding left is_end lookahead_at sees take_token take_lifetime take_mark take_group before rows_for rows run parse_rule
+unary_in_none_mark = refl
+
+-- `\(#[a] b\)` prints `\(# [a] b\)`
+unary_in_none_attribute : ComputesAs unary
+    (group None (at 0 2) (at 8 10) (punct 35 false (at 2 3) (group Bracket (at 3 4) (at 5 6) (leaf (ident (97 ∷ [])) (at 4 5) end) (leaf (ident (98 ∷ [])) (at 7 8) end))) end)
+    (group None call_site call_site (punct 35 false call_site (group Bracket call_site call_site (leaf (ident (97 ∷ [])) call_site end) (leaf (ident (98 ∷ [])) call_site end))) end)
+    (end)
+unfolding left is_end lookahead_at sees take_token take_lifetime take_mark take_group before rows_for rows run parse_rule
+unary_in_none_attribute = refl
+
+-- `\(a\) \(+\) b` prints `\(a\)` and leaves `\(+\) b`
+unary_in_none_leaves : ComputesAs unary
+    (group None (at 0 2) (at 3 5) (leaf (ident (97 ∷ [])) (at 2 3) end) (group None (at 6 8) (at 9 11) (punct 43 false (at 8 9) end) (leaf (ident (98 ∷ [])) (at 12 13) end)))
+    (group None call_site call_site (leaf (ident (97 ∷ [])) call_site end) end)
+    (group None (at 6 8) (at 9 11) (punct 43 false (at 8 9) end) (leaf (ident (98 ∷ [])) (at 12 13) end))
+unfolding left is_end lookahead_at sees take_token take_lifetime take_mark take_group before rows_for rows run parse_rule
+unary_in_none_leaves = refl
+
+-- `\(\(a\)\)` prints `\(\(a\)\)`
+unary_in_none_in_none : ComputesAs unary
+    (group None (at 0 2) (at 7 9) (group None (at 2 4) (at 5 7) (leaf (ident (97 ∷ [])) (at 4 5) end) end) end)
+    (group None call_site call_site (group None call_site call_site (leaf (ident (97 ∷ [])) call_site end) end) end)
+    (end)
+unfolding left is_end lookahead_at sees take_token take_lifetime take_mark take_group before rows_for rows run parse_rule
+unary_in_none_in_none = refl
+
+-- `\(\) a`: nothing is read
+unary_in_none_nothing : ComputesNothing unary
+    (group None (at 0 2) (at 2 4) end (leaf (ident (97 ∷ [])) (at 5 6) end))
+unfolding left is_end lookahead_at sees take_token take_lifetime take_mark take_group before rows_for rows run parse_rule
+unary_in_none_nothing = refl
+
+-- `\({}\)` prints `\({}\)`
+unary_in_none_braces : ComputesAs unary
+    (group None (at 0 2) (at 4 6) (group Brace (at 2 3) (at 3 4) end end) end)
+    (group None call_site call_site (group Brace call_site call_site end end) end)
+    (end)
+unfolding left is_end lookahead_at sees take_token take_lifetime take_mark take_group before rows_for rows run parse_rule
+unary_in_none_braces = refl

@@ -5,11 +5,11 @@ use Rattle.syn_grammar.specs.Words.{w_underscore, w_as, w_crate, w_false, w_fn, 
 use Rattle.syn_grammar.specs.Tokens.{call_site, Paren, Brace, Bracket, None, Int, ident, literal, end, leaf, punct, group}
 use Rattle.syn_grammar.specs.Rules.{fields_named, named_fields, named_field, nameless_fields, unnamed_field, unnamed_fields, fields_unnamed, variant, variants}
 use Rattle.syn_grammar.specs.Grammar.{rule}
-use Rattle.syn_grammar.specs.Take.{left, is_end, lookahead_at, sees, take_token, take_lifetime, take_mark, take_group, before}
+use Rattle.syn_grammar.specs.Take.{left, is_end, take_token, take_lifetime, take_mark, take_group, lookahead_at, sees, before}
 use Rattle.syn_grammar.specs.Run.{rows_for, rows, run, parse_rule}
 use Rattle.syn_grammar.specs.Promises.{Refused, NotDerived}
 use Rattle.syn_grammar.proofs.Means.{not_derived}
-use Rattle.syn_grammar.proofs.Shown.{at, DerivesAs, computed, not_read}
+use Rattle.syn_grammar.proofs.Shown.{at, DerivesAs, computed, not_read, ComputesAs, ComputesNothing}
 
 -- `{ a: u8, pub b: T }` prints `{ a : u8 , pub b : T }`
 braces_two : DerivesAs fields_named
@@ -17,25 +17,25 @@ braces_two : DerivesAs fields_named
     (group Brace call_site call_site (leaf (ident (97 ∷ [])) call_site (punct 58 false call_site (leaf (ident (117 ∷ 56 ∷ [])) call_site (punct 44 false call_site (leaf (ident w_pub) call_site (leaf (ident (98 ∷ [])) call_site (punct 58 false call_site (leaf (ident (84 ∷ [])) call_site end)))))))) end)
     (end)
 unfolding left is_end lookahead_at sees take_token take_lifetime take_mark take_group before rows_for rows run parse_rule
-braces_two = computed fields_named _ _ _ refl
+braces_two = computed fields_named _ _ _ refl refl
 
 -- `[]`: nothing is read
 braces_brackets : NotDerived (rule fields_named)
     (group Bracket (at 0 1) (at 1 2) end end)
 unfolding left is_end lookahead_at sees take_token take_lifetime take_mark take_group before rows_for rows run parse_rule
-braces_brackets = not_read fields_named _ refl
+braces_brackets = not_read fields_named _ refl refl
 
 -- `{ a: b c: d }`: nothing is read
 braces_no_comma : NotDerived (rule fields_named)
     (group Brace (at 0 1) (at 12 13) (leaf (ident (97 ∷ [])) (at 2 3) (punct 58 false (at 3 4) (leaf (ident (98 ∷ [])) (at 5 6) (leaf (ident (99 ∷ [])) (at 7 8) (punct 58 false (at 8 9) (leaf (ident (100 ∷ [])) (at 10 11) end)))))) end)
 unfolding left is_end lookahead_at sees take_token take_lifetime take_mark take_group before rows_for rows run parse_rule
-braces_no_comma = not_read fields_named _ refl
+braces_no_comma = not_read fields_named _ refl refl
 
 -- `()`: nothing is read
 braces_parentheses : NotDerived (rule fields_named)
     (group Paren (at 0 1) (at 1 2) end end)
 unfolding left is_end lookahead_at sees take_token take_lifetime take_mark take_group before rows_for rows run parse_rule
-braces_parentheses = not_read fields_named _ refl
+braces_parentheses = not_read fields_named _ refl refl
 
 -- `{} {}` prints `{ }` and leaves `{}`
 braces_leave_braces : DerivesAs fields_named
@@ -43,7 +43,7 @@ braces_leave_braces : DerivesAs fields_named
     (group Brace call_site call_site end end)
     (group Brace (at 3 4) (at 4 5) end end)
 unfolding left is_end lookahead_at sees take_token take_lifetime take_mark take_group before rows_for rows run parse_rule
-braces_leave_braces = computed fields_named _ _ _ refl
+braces_leave_braces = computed fields_named _ _ _ refl refl
 
 -- `a: u8, b: T,` prints `a : u8 , b : T ,`
 named_list_two : DerivesAs named_fields
@@ -51,7 +51,7 @@ named_list_two : DerivesAs named_fields
     (leaf (ident (97 ∷ [])) call_site (punct 58 false call_site (leaf (ident (117 ∷ 56 ∷ [])) call_site (punct 44 false call_site (leaf (ident (98 ∷ [])) call_site (punct 58 false call_site (leaf (ident (84 ∷ [])) call_site (punct 44 false call_site end))))))))
     (end)
 unfolding left is_end lookahead_at sees take_token take_lifetime take_mark take_group before rows_for rows run parse_rule
-named_list_two = computed named_fields _ _ _ refl
+named_list_two = computed named_fields _ _ _ refl refl
 
 -- `a: b c` prints `a : b` and leaves `c`
 named_list_leaves_word : DerivesAs named_fields
@@ -59,7 +59,7 @@ named_list_leaves_word : DerivesAs named_fields
     (leaf (ident (97 ∷ [])) call_site (punct 58 false call_site (leaf (ident (98 ∷ [])) call_site end)))
     (leaf (ident (99 ∷ [])) (at 5 6) end)
 unfolding left is_end lookahead_at sees take_token take_lifetime take_mark take_group before rows_for rows run parse_rule
-named_list_leaves_word = computed named_fields _ _ _ refl
+named_list_leaves_word = computed named_fields _ _ _ refl refl
 
 -- `a: b` prints `a : b`
 named_list_one : DerivesAs named_fields
@@ -67,13 +67,13 @@ named_list_one : DerivesAs named_fields
     (leaf (ident (97 ∷ [])) call_site (punct 58 false call_site (leaf (ident (98 ∷ [])) call_site end)))
     (end)
 unfolding left is_end lookahead_at sees take_token take_lifetime take_mark take_group before rows_for rows run parse_rule
-named_list_one = computed named_fields _ _ _ refl
+named_list_one = computed named_fields _ _ _ refl refl
 
 -- `, a: b c: d`: nothing is read
 named_list_comma_first : NotDerived (rule named_fields)
     (punct 44 false (at 0 1) (leaf (ident (97 ∷ [])) (at 2 3) (punct 58 false (at 3 4) (leaf (ident (98 ∷ [])) (at 5 6) (leaf (ident (99 ∷ [])) (at 7 8) (punct 58 false (at 8 9) (leaf (ident (100 ∷ [])) (at 10 11) end)))))))
 unfolding left is_end lookahead_at sees take_token take_lifetime take_mark take_group before rows_for rows run parse_rule
-named_list_comma_first = not_read named_fields _ refl
+named_list_comma_first = not_read named_fields _ refl refl
 
 -- `a: b, _: c[]` prints `a : b , _ : c` and leaves `[]`
 named_list_leaves_brackets : DerivesAs named_fields
@@ -81,13 +81,13 @@ named_list_leaves_brackets : DerivesAs named_fields
     (leaf (ident (97 ∷ [])) call_site (punct 58 false call_site (leaf (ident (98 ∷ [])) call_site (punct 44 false call_site (leaf (ident w_underscore) call_site (punct 58 false call_site (leaf (ident (99 ∷ [])) call_site end)))))))
     (group Bracket (at 10 11) (at 11 12) end end)
 unfolding left is_end lookahead_at sees take_token take_lifetime take_mark take_group before rows_for rows run parse_rule
-named_list_leaves_brackets = computed named_fields _ _ _ refl
+named_list_leaves_brackets = computed named_fields _ _ _ refl refl
 
 -- `a: b,, c: d`: nothing is read
 named_list_two_commas : NotDerived (rule named_fields)
     (leaf (ident (97 ∷ [])) (at 0 1) (punct 58 false (at 1 2) (leaf (ident (98 ∷ [])) (at 3 4) (punct 44 true (at 4 5) (punct 44 false (at 5 6) (leaf (ident (99 ∷ [])) (at 7 8) (punct 58 false (at 8 9) (leaf (ident (100 ∷ [])) (at 10 11) end))))))))
 unfolding left is_end lookahead_at sees take_token take_lifetime take_mark take_group before rows_for rows run parse_rule
-named_list_two_commas = not_read named_fields _ refl
+named_list_two_commas = not_read named_fields _ refl refl
 
 -- `_: struct {};` prints `_ : struct { }` and leaves `;`
 named_list_semicolon : DerivesAs named_fields
@@ -95,7 +95,7 @@ named_list_semicolon : DerivesAs named_fields
     (leaf (ident w_underscore) call_site (punct 58 false call_site (leaf (ident w_struct) call_site (group Brace call_site call_site end end))))
     (punct 59 false (at 12 13) end)
 unfolding left is_end lookahead_at sees take_token take_lifetime take_mark take_group before rows_for rows run parse_rule
-named_list_semicolon = computed named_fields _ _ _ refl
+named_list_semicolon = computed named_fields _ _ _ refl refl
 
 -- `pub a: u8 = 1` prints `pub a : u8 = 1`
 named_default : DerivesAs named_field
@@ -103,7 +103,7 @@ named_default : DerivesAs named_field
     (leaf (ident w_pub) call_site (leaf (ident (97 ∷ [])) call_site (punct 58 false call_site (leaf (ident (117 ∷ 56 ∷ [])) call_site (punct 61 false call_site (leaf (literal Int (49 ∷ [])) call_site end))))))
     (end)
 unfolding left is_end lookahead_at sees take_token take_lifetime take_mark take_group before rows_for rows run parse_rule
-named_default = computed named_field _ _ _ refl
+named_default = computed named_field _ _ _ refl refl
 
 -- `pub enabled: bool` prints `pub enabled : bool`
 named_enabled : DerivesAs named_field
@@ -111,7 +111,7 @@ named_enabled : DerivesAs named_field
     (leaf (ident w_pub) call_site (leaf (ident (101 ∷ 110 ∷ 97 ∷ 98 ∷ 108 ∷ 101 ∷ 100 ∷ [])) call_site (punct 58 false call_site (leaf (ident (98 ∷ 111 ∷ 111 ∷ 108 ∷ [])) call_site end))))
     (end)
 unfolding left is_end lookahead_at sees take_token take_lifetime take_mark take_group before rows_for rows run parse_rule
-named_enabled = computed named_field _ _ _ refl
+named_enabled = computed named_field _ _ _ refl refl
 
 -- `a:::b` prints `a : :: b`
 named_split : DerivesAs named_field
@@ -119,7 +119,7 @@ named_split : DerivesAs named_field
     (leaf (ident (97 ∷ [])) call_site (punct 58 false call_site (punct 58 true call_site (punct 58 false call_site (leaf (ident (98 ∷ [])) call_site end)))))
     (end)
 unfolding left is_end lookahead_at sees take_token take_lifetime take_mark take_group before rows_for rows run parse_rule
-named_split = computed named_field _ _ _ refl
+named_split = computed named_field _ _ _ refl refl
 
 -- `_: union { a: u8 }` prints `_ : union { a : u8 }`
 named_underscore : DerivesAs named_field
@@ -127,7 +127,7 @@ named_underscore : DerivesAs named_field
     (leaf (ident w_underscore) call_site (punct 58 false call_site (leaf (ident w_union) call_site (group Brace call_site call_site (leaf (ident (97 ∷ [])) call_site (punct 58 false call_site (leaf (ident (117 ∷ 56 ∷ [])) call_site end))) end))))
     (end)
 unfolding left is_end lookahead_at sees take_token take_lifetime take_mark take_group before rows_for rows run parse_rule
-named_underscore = computed named_field _ _ _ refl
+named_underscore = computed named_field _ _ _ refl refl
 
 -- `_: struct { #[a==b] c:::d }` prints `_ : struct { # [ a == b ] c ::: d }`
 named_underscore_kept : DerivesAs named_field
@@ -135,7 +135,7 @@ named_underscore_kept : DerivesAs named_field
     (leaf (ident w_underscore) call_site (punct 58 false call_site (leaf (ident w_struct) call_site (group Brace call_site call_site (punct 35 false call_site (group Bracket call_site call_site (leaf (ident (97 ∷ [])) call_site (punct 61 true call_site (punct 61 false call_site (leaf (ident (98 ∷ [])) call_site end)))) (leaf (ident (99 ∷ [])) call_site (punct 58 true call_site (punct 58 true call_site (punct 58 false call_site (leaf (ident (100 ∷ [])) call_site end))))))) end))))
     (end)
 unfolding left is_end lookahead_at sees take_token take_lifetime take_mark take_group before rows_for rows run parse_rule
-named_underscore_kept = computed named_field _ _ _ refl
+named_underscore_kept = computed named_field _ _ _ refl refl
 
 -- `_: union` prints `_ : union`
 named_underscore_union : DerivesAs named_field
@@ -143,13 +143,13 @@ named_underscore_union : DerivesAs named_field
     (leaf (ident w_underscore) call_site (punct 58 false call_site (leaf (ident w_union) call_site end)))
     (end)
 unfolding left is_end lookahead_at sees take_token take_lifetime take_mark take_group before rows_for rows run parse_rule
-named_underscore_union = computed named_field _ _ _ refl
+named_underscore_union = computed named_field _ _ _ refl refl
 
 -- `_: struct`: nothing is read
 named_underscore_open : NotDerived (rule named_field)
     (leaf (ident w_underscore) (at 0 1) (punct 58 false (at 1 2) (leaf (ident w_struct) (at 3 9) end)))
 unfolding left is_end lookahead_at sees take_token take_lifetime take_mark take_group before rows_for rows run parse_rule
-named_underscore_open = not_read named_field _ refl
+named_underscore_open = not_read named_field _ refl refl
 
 -- `_: a {}` prints `_ : a` and leaves `{}`
 named_brace : DerivesAs named_field
@@ -157,7 +157,7 @@ named_brace : DerivesAs named_field
     (leaf (ident w_underscore) call_site (punct 58 false call_site (leaf (ident (97 ∷ [])) call_site end)))
     (group Brace (at 5 6) (at 6 7) end end)
 unfolding left is_end lookahead_at sees take_token take_lifetime take_mark take_group before rows_for rows run parse_rule
-named_brace = computed named_field _ _ _ refl
+named_brace = computed named_field _ _ _ refl refl
 
 -- `_: union::a {}` prints `_ : union :: a` and leaves `{}`
 named_union_path : DerivesAs named_field
@@ -165,7 +165,7 @@ named_union_path : DerivesAs named_field
     (leaf (ident w_underscore) call_site (punct 58 false call_site (leaf (ident w_union) call_site (punct 58 true call_site (punct 58 false call_site (leaf (ident (97 ∷ [])) call_site end))))))
     (group Brace (at 12 13) (at 13 14) end end)
 unfolding left is_end lookahead_at sees take_token take_lifetime take_mark take_group before rows_for rows run parse_rule
-named_union_path = computed named_field _ _ _ refl
+named_union_path = computed named_field _ _ _ refl refl
 
 -- `_: union {} a` prints `_ : union {}` and leaves `a`
 named_union_brace : DerivesAs named_field
@@ -173,13 +173,13 @@ named_union_brace : DerivesAs named_field
     (leaf (ident w_underscore) call_site (punct 58 false call_site (leaf (ident w_union) call_site (group Brace call_site call_site end end))))
     (leaf (ident (97 ∷ [])) (at 12 13) end)
 unfolding left is_end lookahead_at sees take_token take_lifetime take_mark take_group before rows_for rows run parse_rule
-named_union_brace = computed named_field _ _ _ refl
+named_union_brace = computed named_field _ _ _ refl refl
 
 -- `= 1 a: a`: nothing is read
 named_default_first : NotDerived (rule named_field)
     (punct 61 false (at 0 1) (leaf (literal Int (49 ∷ [])) (at 2 3) (leaf (ident (97 ∷ [])) (at 4 5) (punct 58 false (at 5 6) (leaf (ident (97 ∷ [])) (at 7 8) end)))))
 unfolding left is_end lookahead_at sees take_token take_lifetime take_mark take_group before rows_for rows run parse_rule
-named_default_first = not_read named_field _ refl
+named_default_first = not_read named_field _ refl refl
 
 -- `a: b c` prints `a : b` and leaves `c`
 named_leaves_type : DerivesAs named_field
@@ -187,37 +187,37 @@ named_leaves_type : DerivesAs named_field
     (leaf (ident (97 ∷ [])) call_site (punct 58 false call_site (leaf (ident (98 ∷ [])) call_site end)))
     (leaf (ident (99 ∷ [])) (at 5 6) end)
 unfolding left is_end lookahead_at sees take_token take_lifetime take_mark take_group before rows_for rows run parse_rule
-named_leaves_type = computed named_field _ _ _ refl
+named_leaves_type = computed named_field _ _ _ refl refl
 
 -- `a:`: nothing is read
 named_no_type : NotDerived (rule named_field)
     (leaf (ident (97 ∷ [])) (at 0 1) (punct 58 false (at 1 2) end))
 unfolding left is_end lookahead_at sees take_token take_lifetime take_mark take_group before rows_for rows run parse_rule
-named_no_type = not_read named_field _ refl
+named_no_type = not_read named_field _ refl refl
 
 -- `fn: a`: nothing is read
 named_keyword : NotDerived (rule named_field)
     (leaf (ident w_fn) (at 0 2) (punct 58 false (at 2 3) (leaf (ident (97 ∷ [])) (at 4 5) end)))
 unfolding left is_end lookahead_at sees take_token take_lifetime take_mark take_group before rows_for rows run parse_rule
-named_keyword = not_read named_field _ refl
+named_keyword = not_read named_field _ refl refl
 
 -- `a: b == true`: nothing is read
 named_equals_twice : NotDerived (rule named_field)
     (leaf (ident (97 ∷ [])) (at 0 1) (punct 58 false (at 1 2) (leaf (ident (98 ∷ [])) (at 3 4) (punct 61 true (at 5 6) (punct 61 false (at 6 7) (leaf (ident w_true) (at 8 12) end))))))
 unfolding left is_end lookahead_at sees take_token take_lifetime take_mark take_group before rows_for rows run parse_rule
-named_equals_twice = not_read named_field _ refl
+named_equals_twice = not_read named_field _ refl refl
 
 -- `a b: c`: nothing is read
 named_two_names : NotDerived (rule named_field)
     (leaf (ident (97 ∷ [])) (at 0 1) (leaf (ident (98 ∷ [])) (at 2 3) (punct 58 false (at 3 4) (leaf (ident (99 ∷ [])) (at 5 6) end))))
 unfolding left is_end lookahead_at sees take_token take_lifetime take_mark take_group before rows_for rows run parse_rule
-named_two_names = not_read named_field _ refl
+named_two_names = not_read named_field _ refl refl
 
 -- `_::a`: nothing is read
 named_underscore_colons : NotDerived (rule named_field)
     (leaf (ident w_underscore) (at 0 1) (punct 58 true (at 1 2) (punct 58 false (at 2 3) (leaf (ident (97 ∷ [])) (at 3 4) end))))
 unfolding left is_end lookahead_at sees take_token take_lifetime take_mark take_group before rows_for rows run parse_rule
-named_underscore_colons = not_read named_field _ refl
+named_underscore_colons = not_read named_field _ refl refl
 
 -- `_: a #` prints `_ : a` and leaves `#`
 named_underscore_leaves_pound : DerivesAs named_field
@@ -225,25 +225,25 @@ named_underscore_leaves_pound : DerivesAs named_field
     (leaf (ident w_underscore) call_site (punct 58 false call_site (leaf (ident (97 ∷ [])) call_site end)))
     (punct 35 false (at 5 6) end)
 unfolding left is_end lookahead_at sees take_token take_lifetime take_mark take_group before rows_for rows run parse_rule
-named_underscore_leaves_pound = computed named_field _ _ _ refl
+named_underscore_leaves_pound = computed named_field _ _ _ refl refl
 
 -- `_ a: b`: nothing is read
 named_underscore_name : NotDerived (rule named_field)
     (leaf (ident w_underscore) (at 0 1) (leaf (ident (97 ∷ [])) (at 2 3) (punct 58 false (at 3 4) (leaf (ident (98 ∷ [])) (at 5 6) end))))
 unfolding left is_end lookahead_at sees take_token take_lifetime take_mark take_group before rows_for rows run parse_rule
-named_underscore_name = not_read named_field _ refl
+named_underscore_name = not_read named_field _ refl refl
 
 -- `: a: b`: nothing is read
 named_colon_first : NotDerived (rule named_field)
     (punct 58 false (at 0 1) (leaf (ident (97 ∷ [])) (at 2 3) (punct 58 false (at 3 4) (leaf (ident (98 ∷ [])) (at 5 6) end))))
 unfolding left is_end lookahead_at sees take_token take_lifetime take_mark take_group before rows_for rows run parse_rule
-named_colon_first = not_read named_field _ refl
+named_colon_first = not_read named_field _ refl refl
 
 -- `pub #[a] b: c`: nothing is read
 named_attribute_behind_pub : NotDerived (rule named_field)
     (leaf (ident w_pub) (at 0 3) (punct 35 false (at 4 5) (group Bracket (at 5 6) (at 7 8) (leaf (ident (97 ∷ [])) (at 6 7) end) (leaf (ident (98 ∷ [])) (at 9 10) (punct 58 false (at 10 11) (leaf (ident (99 ∷ [])) (at 12 13) end))))))
 unfolding left is_end lookahead_at sees take_token take_lifetime take_mark take_group before rows_for rows run parse_rule
-named_attribute_behind_pub = not_read named_field _ refl
+named_attribute_behind_pub = not_read named_field _ refl refl
 
 -- `a: b pub` prints `a : b` and leaves `pub`
 named_leaves_pub : DerivesAs named_field
@@ -251,13 +251,13 @@ named_leaves_pub : DerivesAs named_field
     (leaf (ident (97 ∷ [])) call_site (punct 58 false call_site (leaf (ident (98 ∷ [])) call_site end)))
     (leaf (ident w_pub) (at 5 8) end)
 unfolding left is_end lookahead_at sees take_token take_lifetime take_mark take_group before rows_for rows run parse_rule
-named_leaves_pub = computed named_field _ _ _ refl
+named_leaves_pub = computed named_field _ _ _ refl refl
 
 -- `a: b = true =`: nothing is read
 named_default_two_equals : NotDerived (rule named_field)
     (leaf (ident (97 ∷ [])) (at 0 1) (punct 58 false (at 1 2) (leaf (ident (98 ∷ [])) (at 3 4) (punct 61 false (at 5 6) (leaf (ident w_true) (at 7 11) (punct 61 false (at 12 13) end))))))
 unfolding left is_end lookahead_at sees take_token take_lifetime take_mark take_group before rows_for rows run parse_rule
-named_default_two_equals = not_read named_field _ refl
+named_default_two_equals = not_read named_field _ refl refl
 
 -- `a: b = 1 + c` prints `a : b = 1 + c`
 named_default_sum : DerivesAs named_field
@@ -265,7 +265,7 @@ named_default_sum : DerivesAs named_field
     (leaf (ident (97 ∷ [])) call_site (punct 58 false call_site (leaf (ident (98 ∷ [])) call_site (punct 61 false call_site (leaf (literal Int (49 ∷ [])) call_site (punct 43 false call_site (leaf (ident (99 ∷ [])) call_site end)))))))
     (end)
 unfolding left is_end lookahead_at sees take_token take_lifetime take_mark take_group before rows_for rows run parse_rule
-named_default_sum = computed named_field _ _ _ refl
+named_default_sum = computed named_field _ _ _ refl refl
 
 -- `a: b = c = d` prints `a : b = c = d`
 named_default_assigned : DerivesAs named_field
@@ -273,7 +273,7 @@ named_default_assigned : DerivesAs named_field
     (leaf (ident (97 ∷ [])) call_site (punct 58 false call_site (leaf (ident (98 ∷ [])) call_site (punct 61 false call_site (leaf (ident (99 ∷ [])) call_site (punct 61 false call_site (leaf (ident (100 ∷ [])) call_site end)))))))
     (end)
 unfolding left is_end lookahead_at sees take_token take_lifetime take_mark take_group before rows_for rows run parse_rule
-named_default_assigned = computed named_field _ _ _ refl
+named_default_assigned = computed named_field _ _ _ refl refl
 
 -- `a: b = 1 !` prints `a : b = 1` and leaves `!`
 named_default_leaves_bang : DerivesAs named_field
@@ -281,7 +281,7 @@ named_default_leaves_bang : DerivesAs named_field
     (leaf (ident (97 ∷ [])) call_site (punct 58 false call_site (leaf (ident (98 ∷ [])) call_site (punct 61 false call_site (leaf (literal Int (49 ∷ [])) call_site end)))))
     (punct 33 false (at 9 10) end)
 unfolding left is_end lookahead_at sees take_token take_lifetime take_mark take_group before rows_for rows run parse_rule
-named_default_leaves_bang = computed named_field _ _ _ refl
+named_default_leaves_bang = computed named_field _ _ _ refl refl
 
 -- `a: b = c as d e` prints `a : b = c as d` and leaves `e`
 named_default_cast : DerivesAs named_field
@@ -289,19 +289,19 @@ named_default_cast : DerivesAs named_field
     (leaf (ident (97 ∷ [])) call_site (punct 58 false call_site (leaf (ident (98 ∷ [])) call_site (punct 61 false call_site (leaf (ident (99 ∷ [])) call_site (leaf (ident w_as) call_site (leaf (ident (100 ∷ [])) call_site end)))))))
     (leaf (ident (101 ∷ [])) (at 14 15) end)
 unfolding left is_end lookahead_at sees take_token take_lifetime take_mark take_group before rows_for rows run parse_rule
-named_default_cast = computed named_field _ _ _ refl
+named_default_cast = computed named_field _ _ _ refl refl
 
 -- `a = b`: nothing is read
 named_equals_for_colon : NotDerived (rule named_field)
     (leaf (ident (97 ∷ [])) (at 0 1) (punct 61 false (at 2 3) (leaf (ident (98 ∷ [])) (at 4 5) end)))
 unfolding left is_end lookahead_at sees take_token take_lifetime take_mark take_group before rows_for rows run parse_rule
-named_equals_for_colon = not_read named_field _ refl
+named_equals_for_colon = not_read named_field _ refl refl
 
 -- `1: a`: nothing is read
 named_number : NotDerived (rule named_field)
     (leaf (literal Int (49 ∷ [])) (at 0 1) (punct 58 false (at 1 2) (leaf (ident (97 ∷ [])) (at 3 4) end)))
 unfolding left is_end lookahead_at sees take_token take_lifetime take_mark take_group before rows_for rows run parse_rule
-named_number = not_read named_field _ refl
+named_number = not_read named_field _ refl refl
 
 -- `_: a:` prints `_ : a` and leaves `:`
 named_underscore_leaves_colon : DerivesAs named_field
@@ -309,19 +309,19 @@ named_underscore_leaves_colon : DerivesAs named_field
     (leaf (ident w_underscore) call_site (punct 58 false call_site (leaf (ident (97 ∷ [])) call_site end)))
     (punct 58 false (at 4 5) end)
 unfolding left is_end lookahead_at sees take_token take_lifetime take_mark take_group before rows_for rows run parse_rule
-named_underscore_leaves_colon = computed named_field _ _ _ refl
+named_underscore_leaves_colon = computed named_field _ _ _ refl refl
 
 -- `_: _ a`: nothing is read
 named_underscore_no_colon : NotDerived (rule named_field)
     (leaf (ident w_underscore) (at 0 1) (punct 58 false (at 1 2) (leaf (ident w_underscore) (at 3 4) (leaf (ident (97 ∷ [])) (at 5 6) end))))
 unfolding left is_end lookahead_at sees take_token take_lifetime take_mark take_group before rows_for rows run parse_rule
-named_underscore_no_colon = not_read named_field _ refl
+named_underscore_no_colon = not_read named_field _ refl refl
 
 -- `_ _: a`: nothing is read
 named_underscore_twice : NotDerived (rule named_field)
     (leaf (ident w_underscore) (at 0 1) (leaf (ident w_underscore) (at 2 3) (punct 58 false (at 3 4) (leaf (ident (97 ∷ [])) (at 5 6) end))))
 unfolding left is_end lookahead_at sees take_token take_lifetime take_mark take_group before rows_for rows run parse_rule
-named_underscore_twice = not_read named_field _ refl
+named_underscore_twice = not_read named_field _ refl refl
 
 -- `a: b:` prints `a : b` and leaves `:`
 named_leaves_colon : DerivesAs named_field
@@ -329,13 +329,13 @@ named_leaves_colon : DerivesAs named_field
     (leaf (ident (97 ∷ [])) call_site (punct 58 false call_site (leaf (ident (98 ∷ [])) call_site end)))
     (punct 58 false (at 4 5) end)
 unfolding left is_end lookahead_at sees take_token take_lifetime take_mark take_group before rows_for rows run parse_rule
-named_leaves_colon = computed named_field _ _ _ refl
+named_leaves_colon = computed named_field _ _ _ refl refl
 
 -- `self: a`: nothing is read
 named_self : NotDerived (rule named_field)
     (leaf (ident w_self) (at 0 4) (punct 58 false (at 4 5) (leaf (ident (97 ∷ [])) (at 6 7) end)))
 unfolding left is_end lookahead_at sees take_token take_lifetime take_mark take_group before rows_for rows run parse_rule
-named_self = not_read named_field _ refl
+named_self = not_read named_field _ refl refl
 
 -- `safe: a` prints `safe : a`
 named_safe : DerivesAs named_field
@@ -343,7 +343,7 @@ named_safe : DerivesAs named_field
     (leaf (ident w_safe) call_site (punct 58 false call_site (leaf (ident (97 ∷ [])) call_site end)))
     (end)
 unfolding left is_end lookahead_at sees take_token take_lifetime take_mark take_group before rows_for rows run parse_rule
-named_safe = computed named_field _ _ _ refl
+named_safe = computed named_field _ _ _ refl refl
 
 -- `auto: a` prints `auto : a`
 named_auto : DerivesAs named_field
@@ -351,13 +351,13 @@ named_auto : DerivesAs named_field
     (leaf (ident w_auto) call_site (punct 58 false call_site (leaf (ident (97 ∷ [])) call_site end)))
     (end)
 unfolding left is_end lookahead_at sees take_token take_lifetime take_mark take_group before rows_for rows run parse_rule
-named_auto = computed named_field _ _ _ refl
+named_auto = computed named_field _ _ _ refl refl
 
 -- `Self: a`: nothing is read
 named_self_type : NotDerived (rule named_field)
     (leaf (ident w_Self_type) (at 0 4) (punct 58 false (at 4 5) (leaf (ident (97 ∷ [])) (at 6 7) end)))
 unfolding left is_end lookahead_at sees take_token take_lifetime take_mark take_group before rows_for rows run parse_rule
-named_self_type = not_read named_field _ refl
+named_self_type = not_read named_field _ refl refl
 
 -- `union: !` prints `union : !`
 named_union : DerivesAs named_field
@@ -365,25 +365,25 @@ named_union : DerivesAs named_field
     (leaf (ident w_union) call_site (punct 58 false call_site (punct 33 false call_site end)))
     (end)
 unfolding left is_end lookahead_at sees take_token take_lifetime take_mark take_group before rows_for rows run parse_rule
-named_union = computed named_field _ _ _ refl
+named_union = computed named_field _ _ _ refl refl
 
 -- `super: a`: nothing is read
 named_super : NotDerived (rule named_field)
     (leaf (ident w_super) (at 0 5) (punct 58 false (at 5 6) (leaf (ident (97 ∷ [])) (at 7 8) end)))
 unfolding left is_end lookahead_at sees take_token take_lifetime take_mark take_group before rows_for rows run parse_rule
-named_super = not_read named_field _ refl
+named_super = not_read named_field _ refl refl
 
 -- `crate: a`: nothing is read
 named_crate : NotDerived (rule named_field)
     (leaf (ident w_crate) (at 0 5) (punct 58 false (at 5 6) (leaf (ident (97 ∷ [])) (at 7 8) end)))
 unfolding left is_end lookahead_at sees take_token take_lifetime take_mark take_group before rows_for rows run parse_rule
-named_crate = not_read named_field _ refl
+named_crate = not_read named_field _ refl refl
 
 -- `pub pub a: b`: nothing is read
 named_two_public : NotDerived (rule named_field)
     (leaf (ident w_pub) (at 0 3) (leaf (ident w_pub) (at 4 7) (leaf (ident (97 ∷ [])) (at 8 9) (punct 58 false (at 9 10) (leaf (ident (98 ∷ [])) (at 11 12) end)))))
 unfolding left is_end lookahead_at sees take_token take_lifetime take_mark take_group before rows_for rows run parse_rule
-named_two_public = not_read named_field _ refl
+named_two_public = not_read named_field _ refl refl
 
 -- `default: a` prints `default : a`
 named_called_default : DerivesAs named_field
@@ -391,7 +391,7 @@ named_called_default : DerivesAs named_field
     (leaf (ident w_default) call_site (punct 58 false call_site (leaf (ident (97 ∷ [])) call_site end)))
     (end)
 unfolding left is_end lookahead_at sees take_token take_lifetime take_mark take_group before rows_for rows run parse_rule
-named_called_default = computed named_field _ _ _ refl
+named_called_default = computed named_field _ _ _ refl refl
 
 -- `_: struct {} _` prints `_ : struct { }` and leaves `_`
 named_struct_leaves_underscore : DerivesAs named_field
@@ -399,7 +399,7 @@ named_struct_leaves_underscore : DerivesAs named_field
     (leaf (ident w_underscore) call_site (punct 58 false call_site (leaf (ident w_struct) call_site (group Brace call_site call_site end end))))
     (leaf (ident w_underscore) (at 13 14) end)
 unfolding left is_end lookahead_at sees take_token take_lifetime take_mark take_group before rows_for rows run parse_rule
-named_struct_leaves_underscore = computed named_field _ _ _ refl
+named_struct_leaves_underscore = computed named_field _ _ _ refl refl
 
 -- `_: struct {} = false false` prints `_ : struct { } = false` and leaves `false`
 named_struct_default : DerivesAs named_field
@@ -407,7 +407,7 @@ named_struct_default : DerivesAs named_field
     (leaf (ident w_underscore) call_site (punct 58 false call_site (leaf (ident w_struct) call_site (group Brace call_site call_site end (punct 61 false call_site (leaf (ident w_false) call_site end))))))
     (leaf (ident w_false) (at 21 26) end)
 unfolding left is_end lookahead_at sees take_token take_lifetime take_mark take_group before rows_for rows run parse_rule
-named_struct_default = computed named_field _ _ _ refl
+named_struct_default = computed named_field _ _ _ refl refl
 
 -- `_: struct {} struct {}` prints `_ : struct { }` and leaves `struct {}`
 named_nameless_twice : DerivesAs named_field
@@ -415,13 +415,13 @@ named_nameless_twice : DerivesAs named_field
     (leaf (ident w_underscore) call_site (punct 58 false call_site (leaf (ident w_struct) call_site (group Brace call_site call_site end end))))
     (leaf (ident w_struct) (at 13 19) (group Brace (at 20 21) (at 21 22) end end))
 unfolding left is_end lookahead_at sees take_token take_lifetime take_mark take_group before rows_for rows run parse_rule
-named_nameless_twice = computed named_field _ _ _ refl
+named_nameless_twice = computed named_field _ _ _ refl refl
 
 -- `_:`: nothing is read
 named_underscore_nothing : NotDerived (rule named_field)
     (leaf (ident w_underscore) (at 0 1) (punct 58 false (at 1 2) end))
 unfolding left is_end lookahead_at sees take_token take_lifetime take_mark take_group before rows_for rows run parse_rule
-named_underscore_nothing = not_read named_field _ refl
+named_underscore_nothing = not_read named_field _ refl refl
 
 -- `_: !` prints `_ : !`
 named_underscore_never : DerivesAs named_field
@@ -429,7 +429,7 @@ named_underscore_never : DerivesAs named_field
     (leaf (ident w_underscore) call_site (punct 58 false call_site (punct 33 false call_site end)))
     (end)
 unfolding left is_end lookahead_at sees take_token take_lifetime take_mark take_group before rows_for rows run parse_rule
-named_underscore_never = computed named_field _ _ _ refl
+named_underscore_never = computed named_field _ _ _ refl refl
 
 -- `a: b c` prints `a : b` and leaves `c`
 named_leaves_second_type : DerivesAs named_field
@@ -437,47 +437,51 @@ named_leaves_second_type : DerivesAs named_field
     (leaf (ident (97 ∷ [])) call_site (punct 58 false call_site (leaf (ident (98 ∷ [])) call_site end)))
     (leaf (ident (99 ∷ [])) (at 5 6) end)
 unfolding left is_end lookahead_at sees take_token take_lifetime take_mark take_group before rows_for rows run parse_rule
-named_leaves_second_type = computed named_field _ _ _ refl
+named_leaves_second_type = computed named_field _ _ _ refl refl
 
 -- `\(\) a: b` prints `a : b`
-named_invisible : DerivesAs named_field
+named_invisible : ComputesAs named_field
     (group None (at 0 2) (at 2 4) end (leaf (ident (97 ∷ [])) (at 5 6) (punct 58 false (at 6 7) (leaf (ident (98 ∷ [])) (at 8 9) end))))
     (leaf (ident (97 ∷ [])) call_site (punct 58 false call_site (leaf (ident (98 ∷ [])) call_site end)))
     (end)
 unfolding left is_end lookahead_at sees take_token take_lifetime take_mark take_group before rows_for rows run parse_rule
-named_invisible = computed named_field _ _ _ refl
+named_invisible = refl
 
 -- `\(\) _: struct { \(\) a: b }` prints `_ : struct { \(\) a : b }`
-named_invisible_underscore : DerivesAs named_field
+named_invisible_underscore : ComputesAs named_field
     (group None (at 0 2) (at 2 4) end (leaf (ident w_underscore) (at 5 6) (punct 58 false (at 6 7) (leaf (ident w_struct) (at 8 14) (group Brace (at 15 16) (at 27 28) (group None (at 17 19) (at 19 21) end (leaf (ident (97 ∷ [])) (at 22 23) (punct 58 false (at 23 24) (leaf (ident (98 ∷ [])) (at 25 26) end)))) end)))))
     (leaf (ident w_underscore) call_site (punct 58 false call_site (leaf (ident w_struct) call_site (group Brace call_site call_site (group None call_site call_site end (leaf (ident (97 ∷ [])) call_site (punct 58 false call_site (leaf (ident (98 ∷ [])) call_site end)))) end))))
     (end)
 unfolding left is_end lookahead_at sees take_token take_lifetime take_mark take_group before rows_for rows run parse_rule
-named_invisible_underscore = computed named_field _ _ _ refl
+named_invisible_underscore = refl
 
--- `\(\) \(\) a: b`: nothing is read
-named_invisible_twice : NotDerived (rule named_field)
+-- `\(\) \(\) a: b` prints `a : b`
+named_invisible_twice : ComputesAs named_field
     (group None (at 0 2) (at 2 4) end (group None (at 5 7) (at 7 9) end (leaf (ident (97 ∷ [])) (at 10 11) (punct 58 false (at 11 12) (leaf (ident (98 ∷ [])) (at 13 14) end)))))
+    (leaf (ident (97 ∷ [])) call_site (punct 58 false call_site (leaf (ident (98 ∷ [])) call_site end)))
+    (end)
 unfolding left is_end lookahead_at sees take_token take_lifetime take_mark take_group before rows_for rows run parse_rule
-named_invisible_twice = not_read named_field _ refl
+named_invisible_twice = refl
 
 -- `\(\) pub a: b`: nothing is read
-named_invisible_public : NotDerived (rule named_field)
+named_invisible_public : ComputesNothing named_field
     (group None (at 0 2) (at 2 4) end (leaf (ident w_pub) (at 5 8) (leaf (ident (97 ∷ [])) (at 9 10) (punct 58 false (at 10 11) (leaf (ident (98 ∷ [])) (at 12 13) end)))))
 unfolding left is_end lookahead_at sees take_token take_lifetime take_mark take_group before rows_for rows run parse_rule
-named_invisible_public = not_read named_field _ refl
+named_invisible_public = refl
 
--- `pub \(\) a: b`: nothing is read
-named_public_invisible : NotDerived (rule named_field)
+-- `pub \(\) a: b` prints `pub a : b`
+named_public_invisible : ComputesAs named_field
     (leaf (ident w_pub) (at 0 3) (group None (at 4 6) (at 6 8) end (leaf (ident (97 ∷ [])) (at 9 10) (punct 58 false (at 10 11) (leaf (ident (98 ∷ [])) (at 12 13) end)))))
+    (leaf (ident w_pub) call_site (leaf (ident (97 ∷ [])) call_site (punct 58 false call_site (leaf (ident (98 ∷ [])) call_site end))))
+    (end)
 unfolding left is_end lookahead_at sees take_token take_lifetime take_mark take_group before rows_for rows run parse_rule
-named_public_invisible = not_read named_field _ refl
+named_public_invisible = refl
 
 -- `\(a\) b: c`: nothing is read
-named_invisible_name : NotDerived (rule named_field)
+named_invisible_name : ComputesNothing named_field
     (group None (at 0 2) (at 3 5) (leaf (ident (97 ∷ [])) (at 2 3) end) (leaf (ident (98 ∷ [])) (at 6 7) (punct 58 false (at 7 8) (leaf (ident (99 ∷ [])) (at 9 10) end))))
 unfolding left is_end lookahead_at sees take_token take_lifetime take_mark take_group before rows_for rows run parse_rule
-named_invisible_name = not_read named_field _ refl
+named_invisible_name = refl
 
 -- `_: a b` prints `_ : a` and leaves `b`
 named_underscore_leaves_type : DerivesAs named_field
@@ -485,7 +489,7 @@ named_underscore_leaves_type : DerivesAs named_field
     (leaf (ident w_underscore) call_site (punct 58 false call_site (leaf (ident (97 ∷ [])) call_site end)))
     (leaf (ident (98 ∷ [])) (at 5 6) end)
 unfolding left is_end lookahead_at sees take_token take_lifetime take_mark take_group before rows_for rows run parse_rule
-named_underscore_leaves_type = computed named_field _ _ _ refl
+named_underscore_leaves_type = computed named_field _ _ _ refl refl
 
 -- `struct { a: u8 }` prints `struct { a : u8 }`
 nameless_struct : DerivesAs nameless_fields
@@ -493,7 +497,7 @@ nameless_struct : DerivesAs nameless_fields
     (leaf (ident w_struct) call_site (group Brace call_site call_site (leaf (ident (97 ∷ [])) call_site (punct 58 false call_site (leaf (ident (117 ∷ 56 ∷ [])) call_site end))) end))
     (end)
 unfolding left is_end lookahead_at sees take_token take_lifetime take_mark take_group before rows_for rows run parse_rule
-nameless_struct = computed nameless_fields _ _ _ refl
+nameless_struct = computed nameless_fields _ _ _ refl refl
 
 -- `union {}` prints `union { }`
 nameless_union : DerivesAs nameless_fields
@@ -501,7 +505,7 @@ nameless_union : DerivesAs nameless_fields
     (leaf (ident w_union) call_site (group Brace call_site call_site end end))
     (end)
 unfolding left is_end lookahead_at sees take_token take_lifetime take_mark take_group before rows_for rows run parse_rule
-nameless_union = computed nameless_fields _ _ _ refl
+nameless_union = computed nameless_fields _ _ _ refl refl
 
 -- `struct {}` prints `struct { }`
 nameless_struct_empty : DerivesAs nameless_fields
@@ -509,7 +513,7 @@ nameless_struct_empty : DerivesAs nameless_fields
     (leaf (ident w_struct) call_site (group Brace call_site call_site end end))
     (end)
 unfolding left is_end lookahead_at sees take_token take_lifetime take_mark take_group before rows_for rows run parse_rule
-nameless_struct_empty = computed nameless_fields _ _ _ refl
+nameless_struct_empty = computed nameless_fields _ _ _ refl refl
 
 -- `union {} union` prints `union { }` and leaves `union`
 nameless_leaves_union : DerivesAs nameless_fields
@@ -517,49 +521,49 @@ nameless_leaves_union : DerivesAs nameless_fields
     (leaf (ident w_union) call_site (group Brace call_site call_site end end))
     (leaf (ident w_union) (at 9 14) end)
 unfolding left is_end lookahead_at sees take_token take_lifetime take_mark take_group before rows_for rows run parse_rule
-nameless_leaves_union = computed nameless_fields _ _ _ refl
+nameless_leaves_union = computed nameless_fields _ _ _ refl refl
 
 -- `{}`: nothing is read
 nameless_braces_alone : NotDerived (rule nameless_fields)
     (group Brace (at 0 1) (at 1 2) end end)
 unfolding left is_end lookahead_at sees take_token take_lifetime take_mark take_group before rows_for rows run parse_rule
-nameless_braces_alone = not_read nameless_fields _ refl
+nameless_braces_alone = not_read nameless_fields _ refl refl
 
 -- `union union {}`: nothing is read
 nameless_two_words : NotDerived (rule nameless_fields)
     (leaf (ident w_union) (at 0 5) (leaf (ident w_union) (at 6 11) (group Brace (at 12 13) (at 13 14) end end)))
 unfolding left is_end lookahead_at sees take_token take_lifetime take_mark take_group before rows_for rows run parse_rule
-nameless_two_words = not_read nameless_fields _ refl
+nameless_two_words = not_read nameless_fields _ refl refl
 
 -- `{} union {}`: nothing is read
 nameless_braces_first : NotDerived (rule nameless_fields)
     (group Brace (at 0 1) (at 1 2) end (leaf (ident w_union) (at 3 8) (group Brace (at 9 10) (at 10 11) end end)))
 unfolding left is_end lookahead_at sees take_token take_lifetime take_mark take_group before rows_for rows run parse_rule
-nameless_braces_first = not_read nameless_fields _ refl
+nameless_braces_first = not_read nameless_fields _ refl refl
 
 -- `struct struct {}`: nothing is read
 nameless_struct_twice : NotDerived (rule nameless_fields)
     (leaf (ident w_struct) (at 0 6) (leaf (ident w_struct) (at 7 13) (group Brace (at 14 15) (at 15 16) end end)))
 unfolding left is_end lookahead_at sees take_token take_lifetime take_mark take_group before rows_for rows run parse_rule
-nameless_struct_twice = not_read nameless_fields _ refl
+nameless_struct_twice = not_read nameless_fields _ refl refl
 
 -- `_ {}`: nothing is read
 nameless_other_word : NotDerived (rule nameless_fields)
     (leaf (ident w_underscore) (at 0 1) (group Brace (at 2 3) (at 3 4) end end))
 unfolding left is_end lookahead_at sees take_token take_lifetime take_mark take_group before rows_for rows run parse_rule
-nameless_other_word = not_read nameless_fields _ refl
+nameless_other_word = not_read nameless_fields _ refl refl
 
 -- `a {}`: nothing is read
 nameless_name : NotDerived (rule nameless_fields)
     (leaf (ident (97 ∷ [])) (at 0 1) (group Brace (at 2 3) (at 3 4) end end))
 unfolding left is_end lookahead_at sees take_token take_lifetime take_mark take_group before rows_for rows run parse_rule
-nameless_name = not_read nameless_fields _ refl
+nameless_name = not_read nameless_fields _ refl refl
 
 -- no tokens: nothing is read
 nameless_nothing : NotDerived (rule nameless_fields)
     (end)
 unfolding left is_end lookahead_at sees take_token take_lifetime take_mark take_group before rows_for rows run parse_rule
-nameless_nothing = not_read nameless_fields _ refl
+nameless_nothing = not_read nameless_fields _ refl refl
 
 -- `struct {} {}` prints `struct { }` and leaves `{}`
 nameless_leaves_braces : DerivesAs nameless_fields
@@ -567,7 +571,7 @@ nameless_leaves_braces : DerivesAs nameless_fields
     (leaf (ident w_struct) call_site (group Brace call_site call_site end end))
     (group Brace (at 10 11) (at 11 12) end end)
 unfolding left is_end lookahead_at sees take_token take_lifetime take_mark take_group before rows_for rows run parse_rule
-nameless_leaves_braces = computed nameless_fields _ _ _ refl
+nameless_leaves_braces = computed nameless_fields _ _ _ refl refl
 
 -- `u8` prints `u8`
 field_plain : DerivesAs unnamed_field
@@ -575,7 +579,7 @@ field_plain : DerivesAs unnamed_field
     (leaf (ident (117 ∷ 56 ∷ [])) call_site end)
     (end)
 unfolding left is_end lookahead_at sees take_token take_lifetime take_mark take_group before rows_for rows run parse_rule
-field_plain = computed unnamed_field _ _ _ refl
+field_plain = computed unnamed_field _ _ _ refl refl
 
 -- `pub primitive::bool` prints `pub primitive :: bool`
 field_public : DerivesAs unnamed_field
@@ -583,7 +587,7 @@ field_public : DerivesAs unnamed_field
     (leaf (ident w_pub) call_site (leaf (ident (112 ∷ 114 ∷ 105 ∷ 109 ∷ 105 ∷ 116 ∷ 105 ∷ 118 ∷ 101 ∷ [])) call_site (punct 58 true call_site (punct 58 false call_site (leaf (ident (98 ∷ 111 ∷ 111 ∷ 108 ∷ [])) call_site end)))))
     (end)
 unfolding left is_end lookahead_at sees take_token take_lifetime take_mark take_group before rows_for rows run parse_rule
-field_public = computed unnamed_field _ _ _ refl
+field_public = computed unnamed_field _ _ _ refl refl
 
 -- `pub(in a) b` prints `pub ( in a ) b`
 field_restricted : DerivesAs unnamed_field
@@ -591,7 +595,7 @@ field_restricted : DerivesAs unnamed_field
     (leaf (ident w_pub) call_site (group Paren call_site call_site (leaf (ident w_in) call_site (leaf (ident (97 ∷ [])) call_site end)) (leaf (ident (98 ∷ [])) call_site end)))
     (end)
 unfolding left is_end lookahead_at sees take_token take_lifetime take_mark take_group before rows_for rows run parse_rule
-field_restricted = computed unnamed_field _ _ _ refl
+field_restricted = computed unnamed_field _ _ _ refl refl
 
 -- `pub ::b` prints `pub :: b`
 field_rooted : DerivesAs unnamed_field
@@ -599,7 +603,7 @@ field_rooted : DerivesAs unnamed_field
     (leaf (ident w_pub) call_site (punct 58 true call_site (punct 58 false call_site (leaf (ident (98 ∷ [])) call_site end))))
     (end)
 unfolding left is_end lookahead_at sees take_token take_lifetime take_mark take_group before rows_for rows run parse_rule
-field_rooted = computed unnamed_field _ _ _ refl
+field_rooted = computed unnamed_field _ _ _ refl refl
 
 -- `u8, u16` prints `u8` and leaves `, u16`
 field_leaves_comma : DerivesAs unnamed_field
@@ -607,31 +611,31 @@ field_leaves_comma : DerivesAs unnamed_field
     (leaf (ident (117 ∷ 56 ∷ [])) call_site end)
     (punct 44 false (at 2 3) (leaf (ident (117 ∷ 49 ∷ 54 ∷ [])) (at 4 7) end))
 unfolding left is_end lookahead_at sees take_token take_lifetime take_mark take_group before rows_for rows run parse_rule
-field_leaves_comma = computed unnamed_field _ _ _ refl
+field_leaves_comma = computed unnamed_field _ _ _ refl refl
 
 -- `a: u8` is refused
 field_named : Refused unnamed_field
     (leaf (ident (97 ∷ [])) (at 0 1) (punct 58 false (at 1 2) (leaf (ident (117 ∷ 56 ∷ [])) (at 3 5) end)))
 unfolding left is_end lookahead_at sees take_token take_lifetime take_mark take_group before rows_for rows run parse_rule
-field_named = not_derived unnamed_field _ refl
+field_named = not_derived unnamed_field _ refl refl
 
 -- `u8 = 1`: nothing is read
 field_default : NotDerived (rule unnamed_field)
     (leaf (ident (117 ∷ 56 ∷ [])) (at 0 2) (punct 61 false (at 3 4) (leaf (literal Int (49 ∷ [])) (at 5 6) end)))
 unfolding left is_end lookahead_at sees take_token take_lifetime take_mark take_group before rows_for rows run parse_rule
-field_default = not_read unnamed_field _ refl
+field_default = not_read unnamed_field _ refl refl
 
 -- `u8 == 1`: nothing is read
 field_default_first : NotDerived (rule unnamed_field)
     (leaf (ident (117 ∷ 56 ∷ [])) (at 0 2) (punct 61 true (at 3 4) (punct 61 false (at 4 5) (leaf (literal Int (49 ∷ [])) (at 6 7) end))))
 unfolding left is_end lookahead_at sees take_token take_lifetime take_mark take_group before rows_for rows run parse_rule
-field_default_first = not_read unnamed_field _ refl
+field_default_first = not_read unnamed_field _ refl refl
 
 -- `pub (crate)`: nothing is read
 field_public_tuple : NotDerived (rule unnamed_field)
     (leaf (ident w_pub) (at 0 3) (group Paren (at 4 5) (at 10 11) (leaf (ident w_crate) (at 5 10) end) end))
 unfolding left is_end lookahead_at sees take_token take_lifetime take_mark take_group before rows_for rows run parse_rule
-field_public_tuple = not_read unnamed_field _ refl
+field_public_tuple = not_read unnamed_field _ refl refl
 
 -- `!a` prints `!` and leaves `a`
 field_leaves_type : DerivesAs unnamed_field
@@ -639,7 +643,7 @@ field_leaves_type : DerivesAs unnamed_field
     (punct 33 false call_site end)
     (leaf (ident (97 ∷ [])) (at 1 2) end)
 unfolding left is_end lookahead_at sees take_token take_lifetime take_mark take_group before rows_for rows run parse_rule
-field_leaves_type = computed unnamed_field _ _ _ refl
+field_leaves_type = computed unnamed_field _ _ _ refl refl
 
 -- `a #` prints `a` and leaves `#`
 field_leaves_pound : DerivesAs unnamed_field
@@ -647,13 +651,13 @@ field_leaves_pound : DerivesAs unnamed_field
     (leaf (ident (97 ∷ [])) call_site end)
     (punct 35 false (at 2 3) end)
 unfolding left is_end lookahead_at sees take_token take_lifetime take_mark take_group before rows_for rows run parse_rule
-field_leaves_pound = computed unnamed_field _ _ _ refl
+field_leaves_pound = computed unnamed_field _ _ _ refl refl
 
 -- `pub #[a] b`: nothing is read
 field_attribute_behind_pub : NotDerived (rule unnamed_field)
     (leaf (ident w_pub) (at 0 3) (punct 35 false (at 4 5) (group Bracket (at 5 6) (at 7 8) (leaf (ident (97 ∷ [])) (at 6 7) end) (leaf (ident (98 ∷ [])) (at 9 10) end))))
 unfolding left is_end lookahead_at sees take_token take_lifetime take_mark take_group before rows_for rows run parse_rule
-field_attribute_behind_pub = not_read unnamed_field _ refl
+field_attribute_behind_pub = not_read unnamed_field _ refl refl
 
 -- `a pub` prints `a` and leaves `pub`
 field_leaves_public : DerivesAs unnamed_field
@@ -661,7 +665,7 @@ field_leaves_public : DerivesAs unnamed_field
     (leaf (ident (97 ∷ [])) call_site end)
     (leaf (ident w_pub) (at 2 5) end)
 unfolding left is_end lookahead_at sees take_token take_lifetime take_mark take_group before rows_for rows run parse_rule
-field_leaves_public = computed unnamed_field _ _ _ refl
+field_leaves_public = computed unnamed_field _ _ _ refl refl
 
 -- `#[a] b` prints `# [ a ] b`
 field_attribute : DerivesAs unnamed_field
@@ -669,77 +673,85 @@ field_attribute : DerivesAs unnamed_field
     (punct 35 false call_site (group Bracket call_site call_site (leaf (ident (97 ∷ [])) call_site end) (leaf (ident (98 ∷ [])) call_site end)))
     (end)
 unfolding left is_end lookahead_at sees take_token take_lifetime take_mark take_group before rows_for rows run parse_rule
-field_attribute = computed unnamed_field _ _ _ refl
+field_attribute = computed unnamed_field _ _ _ refl refl
 
 -- `pub pub a`: nothing is read
 field_two_public : NotDerived (rule unnamed_field)
     (leaf (ident w_pub) (at 0 3) (leaf (ident w_pub) (at 4 7) (leaf (ident (97 ∷ [])) (at 8 9) end)))
 unfolding left is_end lookahead_at sees take_token take_lifetime take_mark take_group before rows_for rows run parse_rule
-field_two_public = not_read unnamed_field _ refl
+field_two_public = not_read unnamed_field _ refl refl
 
 -- `\(\) a` prints `a`
-field_invisible : DerivesAs unnamed_field
+field_invisible : ComputesAs unnamed_field
     (group None (at 0 2) (at 2 4) end (leaf (ident (97 ∷ [])) (at 5 6) end))
     (leaf (ident (97 ∷ [])) call_site end)
     (end)
 unfolding left is_end lookahead_at sees take_token take_lifetime take_mark take_group before rows_for rows run parse_rule
-field_invisible = computed unnamed_field _ _ _ refl
+field_invisible = refl
 
 -- `\(a\)` prints `\( a \)`
-field_invisible_type : DerivesAs unnamed_field
+field_invisible_type : ComputesAs unnamed_field
     (group None (at 0 2) (at 3 5) (leaf (ident (97 ∷ [])) (at 2 3) end) end)
     (group None call_site call_site (leaf (ident (97 ∷ [])) call_site end) end)
     (end)
 unfolding left is_end lookahead_at sees take_token take_lifetime take_mark take_group before rows_for rows run parse_rule
-field_invisible_type = computed unnamed_field _ _ _ refl
+field_invisible_type = refl
 
 -- `\(\) \(a\)` prints `\( a \)`
-field_invisible_before_type : DerivesAs unnamed_field
+field_invisible_before_type : ComputesAs unnamed_field
     (group None (at 0 2) (at 2 4) end (group None (at 5 7) (at 8 10) (leaf (ident (97 ∷ [])) (at 7 8) end) end))
     (group None call_site call_site (leaf (ident (97 ∷ [])) call_site end) end)
     (end)
 unfolding left is_end lookahead_at sees take_token take_lifetime take_mark take_group before rows_for rows run parse_rule
-field_invisible_before_type = computed unnamed_field _ _ _ refl
+field_invisible_before_type = refl
 
 -- `pub \(a\)` prints `pub \( a \)`
-field_public_invisible_type : DerivesAs unnamed_field
+field_public_invisible_type : ComputesAs unnamed_field
     (leaf (ident w_pub) (at 0 3) (group None (at 4 6) (at 7 9) (leaf (ident (97 ∷ [])) (at 6 7) end) end))
     (leaf (ident w_pub) call_site (group None call_site call_site (leaf (ident (97 ∷ [])) call_site end) end))
     (end)
 unfolding left is_end lookahead_at sees take_token take_lifetime take_mark take_group before rows_for rows run parse_rule
-field_public_invisible_type = computed unnamed_field _ _ _ refl
+field_public_invisible_type = refl
 
 -- `\(\)`: nothing is read
-field_invisible_alone : NotDerived (rule unnamed_field)
+field_invisible_alone : ComputesNothing unnamed_field
     (group None (at 0 2) (at 2 4) end end)
 unfolding left is_end lookahead_at sees take_token take_lifetime take_mark take_group before rows_for rows run parse_rule
-field_invisible_alone = not_read unnamed_field _ refl
+field_invisible_alone = refl
 
 -- `\(\) \(\) a`: nothing is read
-field_invisible_twice : NotDerived (rule unnamed_field)
+field_invisible_twice : ComputesNothing unnamed_field
     (group None (at 0 2) (at 2 4) end (group None (at 5 7) (at 7 9) end (leaf (ident (97 ∷ [])) (at 10 11) end)))
 unfolding left is_end lookahead_at sees take_token take_lifetime take_mark take_group before rows_for rows run parse_rule
-field_invisible_twice = not_read unnamed_field _ refl
+field_invisible_twice = refl
 
 -- `\(\) pub a`: nothing is read
-field_invisible_public : NotDerived (rule unnamed_field)
+field_invisible_public : ComputesNothing unnamed_field
     (group None (at 0 2) (at 2 4) end (leaf (ident w_pub) (at 5 8) (leaf (ident (97 ∷ [])) (at 9 10) end)))
 unfolding left is_end lookahead_at sees take_token take_lifetime take_mark take_group before rows_for rows run parse_rule
-field_invisible_public = not_read unnamed_field _ refl
+field_invisible_public = refl
 
 -- `pub \(\) a`: nothing is read
-field_public_invisible : NotDerived (rule unnamed_field)
+field_public_invisible : ComputesNothing unnamed_field
     (leaf (ident w_pub) (at 0 3) (group None (at 4 6) (at 6 8) end (leaf (ident (97 ∷ [])) (at 9 10) end)))
 unfolding left is_end lookahead_at sees take_token take_lifetime take_mark take_group before rows_for rows run parse_rule
-field_public_invisible = not_read unnamed_field _ refl
+field_public_invisible = refl
 
 -- `\(\) ()` prints `( )`
-field_invisible_parentheses : DerivesAs unnamed_field
+field_invisible_parentheses : ComputesAs unnamed_field
     (group None (at 0 2) (at 2 4) end (group Paren (at 5 6) (at 6 7) end end))
     (group Paren call_site call_site end end)
     (end)
 unfolding left is_end lookahead_at sees take_token take_lifetime take_mark take_group before rows_for rows run parse_rule
-field_invisible_parentheses = computed unnamed_field _ _ _ refl
+field_invisible_parentheses = refl
+
+-- `pub\((crate)\) a` prints `pub ( crate ) a`
+field_invisible_restriction : ComputesAs unnamed_field
+    (leaf (ident w_pub) (at 0 3) (group None (at 3 5) (at 12 14) (group Paren (at 5 6) (at 11 12) (leaf (ident w_crate) (at 6 11) end) end) (leaf (ident (97 ∷ [])) (at 15 16) end)))
+    (leaf (ident w_pub) call_site (group Paren call_site call_site (leaf (ident w_crate) call_site end) (leaf (ident (97 ∷ [])) call_site end)))
+    (end)
+unfolding left is_end lookahead_at sees take_token take_lifetime take_mark take_group before rows_for rows run parse_rule
+field_invisible_restriction = refl
 
 -- no tokens prints ``
 list_none : DerivesAs unnamed_fields
@@ -747,7 +759,7 @@ list_none : DerivesAs unnamed_fields
     (end)
     (end)
 unfolding left is_end lookahead_at sees take_token take_lifetime take_mark take_group before rows_for rows run parse_rule
-list_none = computed unnamed_fields _ _ _ refl
+list_none = computed unnamed_fields _ _ _ refl refl
 
 -- `a, b` prints `a , b`
 list_two : DerivesAs unnamed_fields
@@ -755,7 +767,7 @@ list_two : DerivesAs unnamed_fields
     (leaf (ident (97 ∷ [])) call_site (punct 44 false call_site (leaf (ident (98 ∷ [])) call_site end)))
     (end)
 unfolding left is_end lookahead_at sees take_token take_lifetime take_mark take_group before rows_for rows run parse_rule
-list_two = computed unnamed_fields _ _ _ refl
+list_two = computed unnamed_fields _ _ _ refl refl
 
 -- `a, pub b,` prints `a , pub b ,`
 list_last_comma : DerivesAs unnamed_fields
@@ -763,25 +775,25 @@ list_last_comma : DerivesAs unnamed_fields
     (leaf (ident (97 ∷ [])) call_site (punct 44 false call_site (leaf (ident w_pub) call_site (leaf (ident (98 ∷ [])) call_site (punct 44 false call_site end)))))
     (end)
 unfolding left is_end lookahead_at sees take_token take_lifetime take_mark take_group before rows_for rows run parse_rule
-list_last_comma = computed unnamed_fields _ _ _ refl
+list_last_comma = computed unnamed_fields _ _ _ refl refl
 
 -- `,`: nothing is read
 list_comma_alone : NotDerived (rule unnamed_fields)
     (punct 44 false (at 0 1) end)
 unfolding left is_end lookahead_at sees take_token take_lifetime take_mark take_group before rows_for rows run parse_rule
-list_comma_alone = not_read unnamed_fields _ refl
+list_comma_alone = not_read unnamed_fields _ refl refl
 
 -- `a,,`: nothing is read
 list_two_commas : NotDerived (rule unnamed_fields)
     (leaf (ident (97 ∷ [])) (at 0 1) (punct 44 true (at 1 2) (punct 44 false (at 2 3) end)))
 unfolding left is_end lookahead_at sees take_token take_lifetime take_mark take_group before rows_for rows run parse_rule
-list_two_commas = not_read unnamed_fields _ refl
+list_two_commas = not_read unnamed_fields _ refl refl
 
 -- `a b` is refused
 list_no_comma : Refused unnamed_fields
     (leaf (ident (97 ∷ [])) (at 0 1) (leaf (ident (98 ∷ [])) (at 2 3) end))
 unfolding left is_end lookahead_at sees take_token take_lifetime take_mark take_group before rows_for rows run parse_rule
-list_no_comma = not_derived unnamed_fields _ refl
+list_no_comma = not_derived unnamed_fields _ refl refl
 
 -- `a;` prints `a` and leaves `;`
 list_semicolon : DerivesAs unnamed_fields
@@ -789,13 +801,13 @@ list_semicolon : DerivesAs unnamed_fields
     (leaf (ident (97 ∷ [])) call_site end)
     (punct 59 false (at 1 2) end)
 unfolding left is_end lookahead_at sees take_token take_lifetime take_mark take_group before rows_for rows run parse_rule
-list_semicolon = computed unnamed_fields _ _ _ refl
+list_semicolon = computed unnamed_fields _ _ _ refl refl
 
 -- `, a b`: nothing is read
 list_comma_first : NotDerived (rule unnamed_fields)
     (punct 44 false (at 0 1) (leaf (ident (97 ∷ [])) (at 2 3) (leaf (ident (98 ∷ [])) (at 4 5) end)))
 unfolding left is_end lookahead_at sees take_token take_lifetime take_mark take_group before rows_for rows run parse_rule
-list_comma_first = not_read unnamed_fields _ refl
+list_comma_first = not_read unnamed_fields _ refl refl
 
 -- `a, b +` prints `a , b` and leaves `+`
 list_leaves_plus : DerivesAs unnamed_fields
@@ -803,7 +815,7 @@ list_leaves_plus : DerivesAs unnamed_fields
     (leaf (ident (97 ∷ [])) call_site (punct 44 false call_site (leaf (ident (98 ∷ [])) call_site end)))
     (punct 43 false (at 5 6) end)
 unfolding left is_end lookahead_at sees take_token take_lifetime take_mark take_group before rows_for rows run parse_rule
-list_leaves_plus = computed unnamed_fields _ _ _ refl
+list_leaves_plus = computed unnamed_fields _ _ _ refl refl
 
 -- `()` prints `( )`
 fields_none : DerivesAs fields_unnamed
@@ -811,7 +823,7 @@ fields_none : DerivesAs fields_unnamed
     (group Paren call_site call_site end end)
     (end)
 unfolding left is_end lookahead_at sees take_token take_lifetime take_mark take_group before rows_for rows run parse_rule
-fields_none = computed fields_unnamed _ _ _ refl
+fields_none = computed fields_unnamed _ _ _ refl refl
 
 -- `(pub(crate) x::y, z,)` prints `( pub ( crate ) x :: y , z , )`
 fields_public : DerivesAs fields_unnamed
@@ -819,7 +831,7 @@ fields_public : DerivesAs fields_unnamed
     (group Paren call_site call_site (leaf (ident w_pub) call_site (group Paren call_site call_site (leaf (ident w_crate) call_site end) (leaf (ident (120 ∷ [])) call_site (punct 58 true call_site (punct 58 false call_site (leaf (ident (121 ∷ [])) call_site (punct 44 false call_site (leaf (ident (122 ∷ [])) call_site (punct 44 false call_site end))))))))) end)
     (end)
 unfolding left is_end lookahead_at sees take_token take_lifetime take_mark take_group before rows_for rows run parse_rule
-fields_public = computed fields_unnamed _ _ _ refl
+fields_public = computed fields_unnamed _ _ _ refl refl
 
 -- `(a) b` prints `( a )` and leaves `b`
 fields_leave : DerivesAs fields_unnamed
@@ -827,37 +839,37 @@ fields_leave : DerivesAs fields_unnamed
     (group Paren call_site call_site (leaf (ident (97 ∷ [])) call_site end) end)
     (leaf (ident (98 ∷ [])) (at 4 5) end)
 unfolding left is_end lookahead_at sees take_token take_lifetime take_mark take_group before rows_for rows run parse_rule
-fields_leave = computed fields_unnamed _ _ _ refl
+fields_leave = computed fields_unnamed _ _ _ refl refl
 
 -- `{a}`: nothing is read
 fields_braces : NotDerived (rule fields_unnamed)
     (group Brace (at 0 1) (at 2 3) (leaf (ident (97 ∷ [])) (at 1 2) end) end)
 unfolding left is_end lookahead_at sees take_token take_lifetime take_mark take_group before rows_for rows run parse_rule
-fields_braces = not_read fields_unnamed _ refl
+fields_braces = not_read fields_unnamed _ refl refl
 
 -- `(a)(b)` is refused
 fields_two_groups : Refused fields_unnamed
     (group Paren (at 0 1) (at 2 3) (leaf (ident (97 ∷ [])) (at 1 2) end) (group Paren (at 3 4) (at 5 6) (leaf (ident (98 ∷ [])) (at 4 5) end) end))
 unfolding left is_end lookahead_at sees take_token take_lifetime take_mark take_group before rows_for rows run parse_rule
-fields_two_groups = not_derived fields_unnamed _ refl
+fields_two_groups = not_derived fields_unnamed _ refl refl
 
 -- `(a;)`: nothing is read
 fields_inner_rest : NotDerived (rule fields_unnamed)
     (group Paren (at 0 1) (at 3 4) (leaf (ident (97 ∷ [])) (at 1 2) (punct 59 false (at 2 3) end)) end)
 unfolding left is_end lookahead_at sees take_token take_lifetime take_mark take_group before rows_for rows run parse_rule
-fields_inner_rest = not_read fields_unnamed _ refl
+fields_inner_rest = not_read fields_unnamed _ refl refl
 
 -- `[]`: nothing is read
 fields_brackets : NotDerived (rule fields_unnamed)
     (group Bracket (at 0 1) (at 1 2) end end)
 unfolding left is_end lookahead_at sees take_token take_lifetime take_mark take_group before rows_for rows run parse_rule
-fields_brackets = not_read fields_unnamed _ refl
+fields_brackets = not_read fields_unnamed _ refl refl
 
 -- `(a b)`: nothing is read
 fields_two_types : NotDerived (rule fields_unnamed)
     (group Paren (at 0 1) (at 4 5) (leaf (ident (97 ∷ [])) (at 1 2) (leaf (ident (98 ∷ [])) (at 3 4) end)) end)
 unfolding left is_end lookahead_at sees take_token take_lifetime take_mark take_group before rows_for rows run parse_rule
-fields_two_types = not_read fields_unnamed _ refl
+fields_two_types = not_read fields_unnamed _ refl refl
 
 -- `pub A = 1` prints `A = 1`
 variant_hidden : DerivesAs variant
@@ -865,7 +877,7 @@ variant_hidden : DerivesAs variant
     (leaf (ident (65 ∷ [])) call_site (punct 61 false call_site (leaf (literal Int (49 ∷ [])) call_site end)))
     (end)
 unfolding left is_end lookahead_at sees take_token take_lifetime take_mark take_group before rows_for rows run parse_rule
-variant_hidden = computed variant _ _ _ refl
+variant_hidden = computed variant _ _ _ refl refl
 
 -- `#[a] B(pub c,) = 2` prints `# [ a ] B ( pub c , ) = 2`
 variant_fields : DerivesAs variant
@@ -873,13 +885,13 @@ variant_fields : DerivesAs variant
     (punct 35 false call_site (group Bracket call_site call_site (leaf (ident (97 ∷ [])) call_site end) (leaf (ident (66 ∷ [])) call_site (group Paren call_site call_site (leaf (ident w_pub) call_site (leaf (ident (99 ∷ [])) call_site (punct 44 false call_site end))) (punct 61 false call_site (leaf (literal Int (50 ∷ [])) call_site end))))))
     (end)
 unfolding left is_end lookahead_at sees take_token take_lifetime take_mark take_group before rows_for rows run parse_rule
-variant_fields = computed variant _ _ _ refl
+variant_fields = computed variant _ _ _ refl refl
 
 -- `fn`: nothing is read
 variant_keyword : NotDerived (rule variant)
     (leaf (ident w_fn) (at 0 2) end)
 unfolding left is_end lookahead_at sees take_token take_lifetime take_mark take_group before rows_for rows run parse_rule
-variant_keyword = not_read variant _ refl
+variant_keyword = not_read variant _ refl refl
 
 -- `a {} {}` prints `a { }` and leaves `{}`
 variant_leaves_braces : DerivesAs variant
@@ -887,7 +899,7 @@ variant_leaves_braces : DerivesAs variant
     (leaf (ident (97 ∷ [])) call_site (group Brace call_site call_site end end))
     (group Brace (at 5 6) (at 6 7) end end)
 unfolding left is_end lookahead_at sees take_token take_lifetime take_mark take_group before rows_for rows run parse_rule
-variant_leaves_braces = computed variant _ _ _ refl
+variant_leaves_braces = computed variant _ _ _ refl refl
 
 -- `a b` prints `a` and leaves `b`
 variant_leaves_name : DerivesAs variant
@@ -895,7 +907,7 @@ variant_leaves_name : DerivesAs variant
     (leaf (ident (97 ∷ [])) call_site end)
     (leaf (ident (98 ∷ [])) (at 2 3) end)
 unfolding left is_end lookahead_at sees take_token take_lifetime take_mark take_group before rows_for rows run parse_rule
-variant_leaves_name = computed variant _ _ _ refl
+variant_leaves_name = computed variant _ _ _ refl refl
 
 -- `a #` prints `a` and leaves `#`
 variant_leaves_pound : DerivesAs variant
@@ -903,31 +915,31 @@ variant_leaves_pound : DerivesAs variant
     (leaf (ident (97 ∷ [])) call_site end)
     (punct 35 false (at 2 3) end)
 unfolding left is_end lookahead_at sees take_token take_lifetime take_mark take_group before rows_for rows run parse_rule
-variant_leaves_pound = computed variant _ _ _ refl
+variant_leaves_pound = computed variant _ _ _ refl refl
 
 -- `{} a`: nothing is read
 variant_fields_first : NotDerived (rule variant)
     (group Brace (at 0 1) (at 1 2) end (leaf (ident (97 ∷ [])) (at 3 4) end))
 unfolding left is_end lookahead_at sees take_token take_lifetime take_mark take_group before rows_for rows run parse_rule
-variant_fields_first = not_read variant _ refl
+variant_fields_first = not_read variant _ refl refl
 
 -- `= 1 a`: nothing is read
 variant_value_first : NotDerived (rule variant)
     (punct 61 false (at 0 1) (leaf (literal Int (49 ∷ [])) (at 2 3) (leaf (ident (97 ∷ [])) (at 4 5) end)))
 unfolding left is_end lookahead_at sees take_token take_lifetime take_mark take_group before rows_for rows run parse_rule
-variant_value_first = not_read variant _ refl
+variant_value_first = not_read variant _ refl refl
 
 -- `a == 1`: nothing is read
 variant_equals_twice : NotDerived (rule variant)
     (leaf (ident (97 ∷ [])) (at 0 1) (punct 61 true (at 2 3) (punct 61 false (at 3 4) (leaf (literal Int (49 ∷ [])) (at 5 6) end))))
 unfolding left is_end lookahead_at sees take_token take_lifetime take_mark take_group before rows_for rows run parse_rule
-variant_equals_twice = not_read variant _ refl
+variant_equals_twice = not_read variant _ refl refl
 
 -- `a = 1 =`: nothing is read
 variant_value_two_equals : NotDerived (rule variant)
     (leaf (ident (97 ∷ [])) (at 0 1) (punct 61 false (at 2 3) (leaf (literal Int (49 ∷ [])) (at 4 5) (punct 61 false (at 6 7) end))))
 unfolding left is_end lookahead_at sees take_token take_lifetime take_mark take_group before rows_for rows run parse_rule
-variant_value_two_equals = not_read variant _ refl
+variant_value_two_equals = not_read variant _ refl refl
 
 -- `a = 1 + b` prints `a = 1 + b`
 variant_value_sum : DerivesAs variant
@@ -935,7 +947,7 @@ variant_value_sum : DerivesAs variant
     (leaf (ident (97 ∷ [])) call_site (punct 61 false call_site (leaf (literal Int (49 ∷ [])) call_site (punct 43 false call_site (leaf (ident (98 ∷ [])) call_site end)))))
     (end)
 unfolding left is_end lookahead_at sees take_token take_lifetime take_mark take_group before rows_for rows run parse_rule
-variant_value_sum = computed variant _ _ _ refl
+variant_value_sum = computed variant _ _ _ refl refl
 
 -- `a = {b}` prints `a = { b }`
 variant_value_block : DerivesAs variant
@@ -943,7 +955,7 @@ variant_value_block : DerivesAs variant
     (leaf (ident (97 ∷ [])) call_site (punct 61 false call_site (group Brace call_site call_site (leaf (ident (98 ∷ [])) call_site end) end)))
     (end)
 unfolding left is_end lookahead_at sees take_token take_lifetime take_mark take_group before rows_for rows run parse_rule
-variant_value_block = computed variant _ _ _ refl
+variant_value_block = computed variant _ _ _ refl refl
 
 -- `a = b = c` prints `a = b = c`
 variant_value_assigned : DerivesAs variant
@@ -951,7 +963,7 @@ variant_value_assigned : DerivesAs variant
     (leaf (ident (97 ∷ [])) call_site (punct 61 false call_site (leaf (ident (98 ∷ [])) call_site (punct 61 false call_site (leaf (ident (99 ∷ [])) call_site end)))))
     (end)
 unfolding left is_end lookahead_at sees take_token take_lifetime take_mark take_group before rows_for rows run parse_rule
-variant_value_assigned = computed variant _ _ _ refl
+variant_value_assigned = computed variant _ _ _ refl refl
 
 -- `a = 1 {}` prints `a = 1` and leaves `{}`
 variant_value_leaves_braces : DerivesAs variant
@@ -959,7 +971,7 @@ variant_value_leaves_braces : DerivesAs variant
     (leaf (ident (97 ∷ [])) call_site (punct 61 false call_site (leaf (literal Int (49 ∷ [])) call_site end)))
     (group Brace (at 6 7) (at 7 8) end end)
 unfolding left is_end lookahead_at sees take_token take_lifetime take_mark take_group before rows_for rows run parse_rule
-variant_value_leaves_braces = computed variant _ _ _ refl
+variant_value_leaves_braces = computed variant _ _ _ refl refl
 
 -- `a = b as c d` prints `a = b as c` and leaves `d`
 variant_value_leaves_path : DerivesAs variant
@@ -967,7 +979,7 @@ variant_value_leaves_path : DerivesAs variant
     (leaf (ident (97 ∷ [])) call_site (punct 61 false call_site (leaf (ident (98 ∷ [])) call_site (leaf (ident w_as) call_site (leaf (ident (99 ∷ [])) call_site end)))))
     (leaf (ident (100 ∷ [])) (at 11 12) end)
 unfolding left is_end lookahead_at sees take_token take_lifetime take_mark take_group before rows_for rows run parse_rule
-variant_value_leaves_path = computed variant _ _ _ refl
+variant_value_leaves_path = computed variant _ _ _ refl refl
 
 -- `a pub` prints `a` and leaves `pub`
 variant_leaves_public : DerivesAs variant
@@ -975,7 +987,7 @@ variant_leaves_public : DerivesAs variant
     (leaf (ident (97 ∷ [])) call_site end)
     (leaf (ident w_pub) (at 2 5) end)
 unfolding left is_end lookahead_at sees take_token take_lifetime take_mark take_group before rows_for rows run parse_rule
-variant_leaves_public = computed variant _ _ _ refl
+variant_leaves_public = computed variant _ _ _ refl refl
 
 -- `a[]` prints `a` and leaves `[]`
 variant_leaves_brackets : DerivesAs variant
@@ -983,13 +995,13 @@ variant_leaves_brackets : DerivesAs variant
     (leaf (ident (97 ∷ [])) call_site end)
     (group Bracket (at 1 2) (at 2 3) end end)
 unfolding left is_end lookahead_at sees take_token take_lifetime take_mark take_group before rows_for rows run parse_rule
-variant_leaves_brackets = computed variant _ _ _ refl
+variant_leaves_brackets = computed variant _ _ _ refl refl
 
 -- `pub pub a`: nothing is read
 variant_two_public : NotDerived (rule variant)
     (leaf (ident w_pub) (at 0 3) (leaf (ident w_pub) (at 4 7) (leaf (ident (97 ∷ [])) (at 8 9) end)))
 unfolding left is_end lookahead_at sees take_token take_lifetime take_mark take_group before rows_for rows run parse_rule
-variant_two_public = not_read variant _ refl
+variant_two_public = not_read variant _ refl refl
 
 -- `a() ()` prints `a ( )` and leaves `()`
 variant_leaves_parentheses : DerivesAs variant
@@ -997,7 +1009,7 @@ variant_leaves_parentheses : DerivesAs variant
     (leaf (ident (97 ∷ [])) call_site (group Paren call_site call_site end end))
     (group Paren (at 4 5) (at 5 6) end end)
 unfolding left is_end lookahead_at sees take_token take_lifetime take_mark take_group before rows_for rows run parse_rule
-variant_leaves_parentheses = computed variant _ _ _ refl
+variant_leaves_parentheses = computed variant _ _ _ refl refl
 
 -- `safe` prints `safe`
 variant_safe : DerivesAs variant
@@ -1005,31 +1017,31 @@ variant_safe : DerivesAs variant
     (leaf (ident w_safe) call_site end)
     (end)
 unfolding left is_end lookahead_at sees take_token take_lifetime take_mark take_group before rows_for rows run parse_rule
-variant_safe = computed variant _ _ _ refl
+variant_safe = computed variant _ _ _ refl refl
 
 -- `_`: nothing is read
 variant_underscore : NotDerived (rule variant)
     (leaf (ident w_underscore) (at 0 1) end)
 unfolding left is_end lookahead_at sees take_token take_lifetime take_mark take_group before rows_for rows run parse_rule
-variant_underscore = not_read variant _ refl
+variant_underscore = not_read variant _ refl refl
 
 -- `1`: nothing is read
 variant_number : NotDerived (rule variant)
     (leaf (literal Int (49 ∷ [])) (at 0 1) end)
 unfolding left is_end lookahead_at sees take_token take_lifetime take_mark take_group before rows_for rows run parse_rule
-variant_number = not_read variant _ refl
+variant_number = not_read variant _ refl refl
 
 -- `pub #[a] b`: nothing is read
 variant_attribute_behind_pub : NotDerived (rule variant)
     (leaf (ident w_pub) (at 0 3) (punct 35 false (at 4 5) (group Bracket (at 5 6) (at 7 8) (leaf (ident (97 ∷ [])) (at 6 7) end) (leaf (ident (98 ∷ [])) (at 9 10) end))))
 unfolding left is_end lookahead_at sees take_token take_lifetime take_mark take_group before rows_for rows run parse_rule
-variant_attribute_behind_pub = not_read variant _ refl
+variant_attribute_behind_pub = not_read variant _ refl refl
 
 -- `self`: nothing is read
 variant_self : NotDerived (rule variant)
     (leaf (ident w_self) (at 0 4) end)
 unfolding left is_end lookahead_at sees take_token take_lifetime take_mark take_group before rows_for rows run parse_rule
-variant_self = not_read variant _ refl
+variant_self = not_read variant _ refl refl
 
 -- `auto` prints `auto`
 variant_auto : DerivesAs variant
@@ -1037,13 +1049,13 @@ variant_auto : DerivesAs variant
     (leaf (ident w_auto) call_site end)
     (end)
 unfolding left is_end lookahead_at sees take_token take_lifetime take_mark take_group before rows_for rows run parse_rule
-variant_auto = computed variant _ _ _ refl
+variant_auto = computed variant _ _ _ refl refl
 
 -- `Self`: nothing is read
 variant_self_type : NotDerived (rule variant)
     (leaf (ident w_Self_type) (at 0 4) end)
 unfolding left is_end lookahead_at sees take_token take_lifetime take_mark take_group before rows_for rows run parse_rule
-variant_self_type = not_read variant _ refl
+variant_self_type = not_read variant _ refl refl
 
 -- `union` prints `union`
 variant_union : DerivesAs variant
@@ -1051,19 +1063,19 @@ variant_union : DerivesAs variant
     (leaf (ident w_union) call_site end)
     (end)
 unfolding left is_end lookahead_at sees take_token take_lifetime take_mark take_group before rows_for rows run parse_rule
-variant_union = computed variant _ _ _ refl
+variant_union = computed variant _ _ _ refl refl
 
 -- `super`: nothing is read
 variant_super : NotDerived (rule variant)
     (leaf (ident w_super) (at 0 5) end)
 unfolding left is_end lookahead_at sees take_token take_lifetime take_mark take_group before rows_for rows run parse_rule
-variant_super = not_read variant _ refl
+variant_super = not_read variant _ refl refl
 
 -- `crate`: nothing is read
 variant_crate : NotDerived (rule variant)
     (leaf (ident w_crate) (at 0 5) end)
 unfolding left is_end lookahead_at sees take_token take_lifetime take_mark take_group before rows_for rows run parse_rule
-variant_crate = not_read variant _ refl
+variant_crate = not_read variant _ refl refl
 
 -- `a = 1 false` prints `a = 1` and leaves `false`
 variant_value_leaves_false : DerivesAs variant
@@ -1071,7 +1083,7 @@ variant_value_leaves_false : DerivesAs variant
     (leaf (ident (97 ∷ [])) call_site (punct 61 false call_site (leaf (literal Int (49 ∷ [])) call_site end)))
     (leaf (ident w_false) (at 6 11) end)
 unfolding left is_end lookahead_at sees take_token take_lifetime take_mark take_group before rows_for rows run parse_rule
-variant_value_leaves_false = computed variant _ _ _ refl
+variant_value_leaves_false = computed variant _ _ _ refl refl
 
 -- `default` prints `default`
 variant_default : DerivesAs variant
@@ -1079,79 +1091,87 @@ variant_default : DerivesAs variant
     (leaf (ident w_default) call_site end)
     (end)
 unfolding left is_end lookahead_at sees take_token take_lifetime take_mark take_group before rows_for rows run parse_rule
-variant_default = computed variant _ _ _ refl
+variant_default = computed variant _ _ _ refl refl
 
 -- `\(\) a` prints `a`
-variant_invisible : DerivesAs variant
+variant_invisible : ComputesAs variant
     (group None (at 0 2) (at 2 4) end (leaf (ident (97 ∷ [])) (at 5 6) end))
     (leaf (ident (97 ∷ [])) call_site end)
     (end)
 unfolding left is_end lookahead_at sees take_token take_lifetime take_mark take_group before rows_for rows run parse_rule
-variant_invisible = computed variant _ _ _ refl
+variant_invisible = refl
 
 -- `#[a] \(\) B(\(\) c) = 1` prints `# [ a ] B ( c ) = 1`
-variant_invisible_fields : DerivesAs variant
+variant_invisible_fields : ComputesAs variant
     (punct 35 false (at 0 1) (group Bracket (at 1 2) (at 3 4) (leaf (ident (97 ∷ [])) (at 2 3) end) (group None (at 5 7) (at 7 9) end (leaf (ident (66 ∷ [])) (at 10 11) (group Paren (at 11 12) (at 18 19) (group None (at 12 14) (at 14 16) end (leaf (ident (99 ∷ [])) (at 17 18) end)) (punct 61 false (at 20 21) (leaf (literal Int (49 ∷ [])) (at 22 23) end)))))))
     (punct 35 false call_site (group Bracket call_site call_site (leaf (ident (97 ∷ [])) call_site end) (leaf (ident (66 ∷ [])) call_site (group Paren call_site call_site (leaf (ident (99 ∷ [])) call_site end) (punct 61 false call_site (leaf (literal Int (49 ∷ [])) call_site end))))))
     (end)
 unfolding left is_end lookahead_at sees take_token take_lifetime take_mark take_group before rows_for rows run parse_rule
-variant_invisible_fields = computed variant _ _ _ refl
+variant_invisible_fields = refl
 
--- `\(\) \(\) a`: nothing is read
-variant_invisible_twice : NotDerived (rule variant)
+-- `\(\) \(\) a` prints `a`
+variant_invisible_twice : ComputesAs variant
     (group None (at 0 2) (at 2 4) end (group None (at 5 7) (at 7 9) end (leaf (ident (97 ∷ [])) (at 10 11) end)))
+    (leaf (ident (97 ∷ [])) call_site end)
+    (end)
 unfolding left is_end lookahead_at sees take_token take_lifetime take_mark take_group before rows_for rows run parse_rule
-variant_invisible_twice = not_read variant _ refl
+variant_invisible_twice = refl
 
 -- `\(\) pub a`: nothing is read
-variant_invisible_public : NotDerived (rule variant)
+variant_invisible_public : ComputesNothing variant
     (group None (at 0 2) (at 2 4) end (leaf (ident w_pub) (at 5 8) (leaf (ident (97 ∷ [])) (at 9 10) end)))
 unfolding left is_end lookahead_at sees take_token take_lifetime take_mark take_group before rows_for rows run parse_rule
-variant_invisible_public = not_read variant _ refl
+variant_invisible_public = refl
 
--- `pub \(\) a`: nothing is read
-variant_public_invisible : NotDerived (rule variant)
+-- `pub \(\) a` prints `a`
+variant_public_invisible : ComputesAs variant
     (leaf (ident w_pub) (at 0 3) (group None (at 4 6) (at 6 8) end (leaf (ident (97 ∷ [])) (at 9 10) end)))
+    (leaf (ident (97 ∷ [])) call_site end)
+    (end)
 unfolding left is_end lookahead_at sees take_token take_lifetime take_mark take_group before rows_for rows run parse_rule
-variant_public_invisible = not_read variant _ refl
+variant_public_invisible = refl
 
--- `\(pub\) a`: nothing is read
-variant_invisible_word : NotDerived (rule variant)
+-- `\(pub\) a` prints `a`
+variant_invisible_word : ComputesAs variant
     (group None (at 0 2) (at 5 7) (leaf (ident w_pub) (at 2 5) end) (leaf (ident (97 ∷ [])) (at 8 9) end))
+    (leaf (ident (97 ∷ [])) call_site end)
+    (end)
 unfolding left is_end lookahead_at sees take_token take_lifetime take_mark take_group before rows_for rows run parse_rule
-variant_invisible_word = not_read variant _ refl
+variant_invisible_word = refl
 
--- `\(b\) a`: nothing is read
-variant_invisible_name : NotDerived (rule variant)
+-- `\(b\) a` prints `b` and leaves `a`
+variant_invisible_name : ComputesAs variant
     (group None (at 0 2) (at 3 5) (leaf (ident (98 ∷ [])) (at 2 3) end) (leaf (ident (97 ∷ [])) (at 6 7) end))
+    (leaf (ident (98 ∷ [])) call_site end)
+    (leaf (ident (97 ∷ [])) (at 6 7) end)
 unfolding left is_end lookahead_at sees take_token take_lifetime take_mark take_group before rows_for rows run parse_rule
-variant_invisible_name = not_read variant _ refl
+variant_invisible_name = refl
 
 -- `a \(\)` prints `a` and leaves `\(\)`
-variant_leaves_invisible : DerivesAs variant
+variant_leaves_invisible : ComputesAs variant
     (leaf (ident (97 ∷ [])) (at 0 1) (group None (at 2 4) (at 4 6) end end))
     (leaf (ident (97 ∷ [])) call_site end)
     (group None (at 2 4) (at 4 6) end end)
 unfolding left is_end lookahead_at sees take_token take_lifetime take_mark take_group before rows_for rows run parse_rule
-variant_leaves_invisible = computed variant _ _ _ refl
+variant_leaves_invisible = refl
 
 -- `() a`: nothing is read
 variant_parentheses_first : NotDerived (rule variant)
     (group Paren (at 0 1) (at 1 2) end (leaf (ident (97 ∷ [])) (at 3 4) end))
 unfolding left is_end lookahead_at sees take_token take_lifetime take_mark take_group before rows_for rows run parse_rule
-variant_parentheses_first = not_read variant _ refl
+variant_parentheses_first = not_read variant _ refl refl
 
 -- `[] a`: nothing is read
 variant_brackets_first : NotDerived (rule variant)
     (group Bracket (at 0 1) (at 1 2) end (leaf (ident (97 ∷ [])) (at 3 4) end))
 unfolding left is_end lookahead_at sees take_token take_lifetime take_mark take_group before rows_for rows run parse_rule
-variant_brackets_first = not_read variant _ refl
+variant_brackets_first = not_read variant _ refl refl
 
 -- no tokens: nothing is read
 variant_nothing : NotDerived (rule variant)
     (end)
 unfolding left is_end lookahead_at sees take_token take_lifetime take_mark take_group before rows_for rows run parse_rule
-variant_nothing = not_read variant _ refl
+variant_nothing = not_read variant _ refl refl
 
 -- `A, B(u8), C { a: u8 }` prints `A , B ( u8 ) , C { a : u8 }`
 variants_three : DerivesAs variants
@@ -1159,7 +1179,7 @@ variants_three : DerivesAs variants
     (leaf (ident (65 ∷ [])) call_site (punct 44 false call_site (leaf (ident (66 ∷ [])) call_site (group Paren call_site call_site (leaf (ident (117 ∷ 56 ∷ [])) call_site end) (punct 44 false call_site (leaf (ident (67 ∷ [])) call_site (group Brace call_site call_site (leaf (ident (97 ∷ [])) call_site (punct 58 false call_site (leaf (ident (117 ∷ 56 ∷ [])) call_site end))) end)))))))
     (end)
 unfolding left is_end lookahead_at sees take_token take_lifetime take_mark take_group before rows_for rows run parse_rule
-variants_three = computed variants _ _ _ refl
+variants_three = computed variants _ _ _ refl refl
 
 -- `a, b c` prints `a , b` and leaves `c`
 variants_leave_name : DerivesAs variants
@@ -1167,13 +1187,13 @@ variants_leave_name : DerivesAs variants
     (leaf (ident (97 ∷ [])) call_site (punct 44 false call_site (leaf (ident (98 ∷ [])) call_site end)))
     (leaf (ident (99 ∷ [])) (at 5 6) end)
 unfolding left is_end lookahead_at sees take_token take_lifetime take_mark take_group before rows_for rows run parse_rule
-variants_leave_name = computed variants _ _ _ refl
+variants_leave_name = computed variants _ _ _ refl refl
 
 -- `a,,`: nothing is read
 variants_two_commas : NotDerived (rule variants)
     (leaf (ident (97 ∷ [])) (at 0 1) (punct 44 true (at 1 2) (punct 44 false (at 2 3) end)))
 unfolding left is_end lookahead_at sees take_token take_lifetime take_mark take_group before rows_for rows run parse_rule
-variants_two_commas = not_read variants _ refl
+variants_two_commas = not_read variants _ refl refl
 
 -- `a;` prints `a` and leaves `;`
 variants_semicolon : DerivesAs variants
@@ -1181,7 +1201,7 @@ variants_semicolon : DerivesAs variants
     (leaf (ident (97 ∷ [])) call_site end)
     (punct 59 false (at 1 2) end)
 unfolding left is_end lookahead_at sees take_token take_lifetime take_mark take_group before rows_for rows run parse_rule
-variants_semicolon = computed variants _ _ _ refl
+variants_semicolon = computed variants _ _ _ refl refl
 
 -- `a,` prints `a ,`
 variants_last_comma : DerivesAs variants
@@ -1189,10 +1209,10 @@ variants_last_comma : DerivesAs variants
     (leaf (ident (97 ∷ [])) call_site (punct 44 false call_site end))
     (end)
 unfolding left is_end lookahead_at sees take_token take_lifetime take_mark take_group before rows_for rows run parse_rule
-variants_last_comma = computed variants _ _ _ refl
+variants_last_comma = computed variants _ _ _ refl refl
 
 -- `, a b`: nothing is read
 variants_comma_first : NotDerived (rule variants)
     (punct 44 false (at 0 1) (leaf (ident (97 ∷ [])) (at 2 3) (leaf (ident (98 ∷ [])) (at 4 5) end)))
 unfolding left is_end lookahead_at sees take_token take_lifetime take_mark take_group before rows_for rows run parse_rule
-variants_comma_first = not_read variants _ refl
+variants_comma_first = not_read variants _ refl refl

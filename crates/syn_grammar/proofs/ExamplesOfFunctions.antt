@@ -5,7 +5,7 @@ use Rattle.syn_grammar.specs.Words.{w_underscore, w_async, w_const, w_crate, w_e
 use Rattle.syn_grammar.specs.Tokens.{call_site, Paren, Brace, Bracket, Str, ByteStr, ident, literal, end, leaf, punct, group}
 use Rattle.syn_grammar.specs.Rules.{no_attributes, receiver, receiver_rest, argument, inputs, later_inputs, input_rest, variadic, abi, unsafe_only, safe_or_unsafe, signature, signature_rest, function, function_rest}
 use Rattle.syn_grammar.specs.Grammar.{rule}
-use Rattle.syn_grammar.specs.Take.{left, is_end, lookahead_at, sees, take_token, take_lifetime, take_mark, take_group, before, first_span}
+use Rattle.syn_grammar.specs.Take.{left, is_end, take_token, take_lifetime, take_mark, take_group, lookahead_at, sees, before, first_span}
 use Rattle.syn_grammar.specs.Run.{rows_for, rows, run, parse_rule}
 use Rattle.syn_grammar.specs.Promises.{Refused, NotDerived}
 use Rattle.syn_grammar.proofs.Means.{not_derived}
@@ -17,13 +17,13 @@ no_attributes_none : DerivesAs no_attributes
     (end)
     (leaf (ident (97 ∷ [])) (at 0 1) end)
 unfolding left is_end lookahead_at sees take_token take_lifetime take_mark take_group before rows_for rows run parse_rule
-no_attributes_none = computed no_attributes _ _ _ refl
+no_attributes_none = computed no_attributes _ _ _ refl refl
 
 -- `#[a]`: nothing is read
 no_attributes_some : NotDerived (rule no_attributes)
     (punct 35 false (at 0 1) (group Bracket (at 1 2) (at 3 4) (leaf (ident (97 ∷ [])) (at 2 3) end) end))
 unfolding left is_end lookahead_at sees take_token take_lifetime take_mark take_group before rows_for rows run parse_rule
-no_attributes_some = not_read no_attributes _ refl
+no_attributes_some = not_read no_attributes _ refl refl
 
 -- `&'a mut self` prints `& 'a mut self`
 receiver_reference : DerivesAs receiver
@@ -31,7 +31,7 @@ receiver_reference : DerivesAs receiver
     (punct 38 false call_site (punct 39 true call_site (leaf (ident (97 ∷ [])) call_site (leaf (ident w_mut) call_site (leaf (ident w_self) call_site end)))))
     (end)
 unfolding left is_end lookahead_at sees take_token take_lifetime take_mark take_group before rows_for rows run parse_rule
-receiver_reference = computed receiver _ _ _ refl
+receiver_reference = computed receiver _ _ _ refl refl
 
 -- `mut self` prints `mut self`
 receiver_value : DerivesAs receiver
@@ -39,7 +39,7 @@ receiver_value : DerivesAs receiver
     (leaf (ident w_mut) call_site (leaf (ident w_self) call_site end))
     (end)
 unfolding left is_end lookahead_at sees take_token take_lifetime take_mark take_group before rows_for rows run parse_rule
-receiver_value = computed receiver _ _ _ refl
+receiver_value = computed receiver _ _ _ refl refl
 
 -- `self: Box<Self>` prints `self : Box < Self >`
 receiver_typed : DerivesAs receiver
@@ -47,19 +47,19 @@ receiver_typed : DerivesAs receiver
     (leaf (ident w_self) call_site (punct 58 false call_site (leaf (ident (66 ∷ 111 ∷ 120 ∷ [])) call_site (punct 60 false call_site (leaf (ident w_Self_type) call_site (punct 62 false call_site end))))))
     (end)
 unfolding left is_end lookahead_at sees take_token take_lifetime take_mark take_group before rows_for rows run parse_rule
-receiver_typed = computed receiver _ _ _ refl
+receiver_typed = computed receiver _ _ _ refl refl
 
 -- `self::a`: nothing is read
 receiver_colons : NotDerived (rule receiver)
     (leaf (ident w_self) (at 0 4) (punct 58 true (at 4 5) (punct 58 false (at 5 6) (leaf (ident (97 ∷ [])) (at 6 7) end))))
 unfolding left is_end lookahead_at sees take_token take_lifetime take_mark take_group before rows_for rows run parse_rule
-receiver_colons = not_read receiver _ refl
+receiver_colons = not_read receiver _ refl refl
 
 -- `#[a] self`: nothing is read
 receiver_attribute : NotDerived (rule receiver)
     (punct 35 false (at 0 1) (group Bracket (at 1 2) (at 3 4) (leaf (ident (97 ∷ [])) (at 2 3) end) (leaf (ident w_self) (at 5 9) end)))
 unfolding left is_end lookahead_at sees take_token take_lifetime take_mark take_group before rows_for rows run parse_rule
-receiver_attribute = not_read receiver _ refl
+receiver_attribute = not_read receiver _ refl refl
 
 -- `&self` prints `& self`
 receiver_rest_reference : DerivesAs receiver_rest
@@ -67,13 +67,13 @@ receiver_rest_reference : DerivesAs receiver_rest
     (punct 38 false call_site (leaf (ident w_self) call_site end))
     (end)
 unfolding left is_end lookahead_at sees take_token take_lifetime take_mark take_group before rows_for rows run parse_rule
-receiver_rest_reference = computed receiver_rest _ _ _ refl
+receiver_rest_reference = computed receiver_rest _ _ _ refl refl
 
 -- `&self::a`: nothing is read
 receiver_rest_colons : NotDerived (rule receiver_rest)
     (punct 38 false (at 0 1) (leaf (ident w_self) (at 1 5) (punct 58 true (at 5 6) (punct 58 false (at 6 7) (leaf (ident (97 ∷ [])) (at 7 8) end)))))
 unfolding left is_end lookahead_at sees take_token take_lifetime take_mark take_group before rows_for rows run parse_rule
-receiver_rest_colons = not_read receiver_rest _ refl
+receiver_rest_colons = not_read receiver_rest _ refl refl
 
 -- `&self: a` prints `& self` and leaves `: a`
 receiver_rest_type : DerivesAs receiver_rest
@@ -81,7 +81,7 @@ receiver_rest_type : DerivesAs receiver_rest
     (punct 38 false call_site (leaf (ident w_self) call_site end))
     (punct 58 false (at 5 6) (leaf (ident (97 ∷ [])) (at 7 8) end))
 unfolding left is_end lookahead_at sees take_token take_lifetime take_mark take_group before rows_for rows run parse_rule
-receiver_rest_type = computed receiver_rest _ _ _ refl
+receiver_rest_type = computed receiver_rest _ _ _ refl refl
 
 -- `#[a] &self` prints `# [a] & self`
 argument_receiver : DerivesAs argument
@@ -89,7 +89,7 @@ argument_receiver : DerivesAs argument
     (punct 35 false call_site (group Bracket call_site call_site (leaf (ident (97 ∷ [])) call_site end) (punct 38 false call_site (leaf (ident w_self) call_site end))))
     (end)
 unfolding left is_end lookahead_at sees take_token take_lifetime take_mark take_group before first_span rows_for rows run parse_rule
-argument_receiver = computed argument _ _ _ refl
+argument_receiver = computed argument _ _ _ refl refl
 
 -- `self::a: u8` prints `self :: a : u8`
 argument_path : DerivesAs argument
@@ -97,7 +97,7 @@ argument_path : DerivesAs argument
     (leaf (ident w_self) call_site (punct 58 true call_site (punct 58 false call_site (leaf (ident (97 ∷ [])) call_site (punct 58 false call_site (leaf (ident (117 ∷ 56 ∷ [])) call_site end))))))
     (end)
 unfolding left is_end lookahead_at sees take_token take_lifetime take_mark take_group before first_span rows_for rows run parse_rule
-argument_path = computed argument _ _ _ refl
+argument_path = computed argument _ _ _ refl refl
 
 -- `mut a: &b` prints `mut a : & b`
 argument_typed : DerivesAs argument
@@ -105,7 +105,7 @@ argument_typed : DerivesAs argument
     (leaf (ident w_mut) call_site (leaf (ident (97 ∷ [])) call_site (punct 58 false call_site (punct 38 false call_site (leaf (ident (98 ∷ [])) call_site end)))))
     (end)
 unfolding left is_end lookahead_at sees take_token take_lifetime take_mark take_group before first_span rows_for rows run parse_rule
-argument_typed = computed argument _ _ _ refl
+argument_typed = computed argument _ _ _ refl refl
 
 -- `a<b>` prints `_ : a < b >`
 argument_nameless : DerivesAs argument
@@ -113,19 +113,19 @@ argument_nameless : DerivesAs argument
     (leaf (ident w_underscore) call_site (punct 58 false call_site (leaf (ident (97 ∷ [])) call_site (punct 60 false call_site (leaf (ident (98 ∷ [])) call_site (punct 62 false call_site end))))))
     (end)
 unfolding left is_end lookahead_at sees take_token take_lifetime take_mark take_group before first_span rows_for rows run parse_rule
-argument_nameless = computed argument _ _ _ refl
+argument_nameless = computed argument _ _ _ refl refl
 
 -- `a`: nothing is read
 argument_no_type : NotDerived (rule argument)
     (leaf (ident (97 ∷ [])) (at 0 1) end)
 unfolding left is_end lookahead_at sees take_token take_lifetime take_mark take_group before first_span rows_for rows run parse_rule
-argument_no_type = not_read argument _ refl
+argument_no_type = not_read argument _ refl refl
 
 -- `a: ...`: nothing is read
 argument_variadic : NotDerived (rule argument)
     (leaf (ident (97 ∷ [])) (at 0 1) (punct 58 false (at 1 2) (punct 46 true (at 3 4) (punct 46 true (at 4 5) (punct 46 false (at 5 6) end)))))
 unfolding left is_end lookahead_at sees take_token take_lifetime take_mark take_group before first_span rows_for rows run parse_rule
-argument_variadic = not_read argument _ refl
+argument_variadic = not_read argument _ refl refl
 
 -- no tokens prints ``
 inputs_none : DerivesAs inputs
@@ -133,7 +133,7 @@ inputs_none : DerivesAs inputs
     (end)
     (end)
 unfolding left is_end lookahead_at sees take_token take_lifetime take_mark take_group before first_span rows_for rows run parse_rule
-inputs_none = computed inputs _ _ _ refl
+inputs_none = computed inputs _ _ _ refl refl
 
 -- `self, a: b,` prints `self , a : b ,`
 inputs_receiver : DerivesAs inputs
@@ -141,7 +141,7 @@ inputs_receiver : DerivesAs inputs
     (leaf (ident w_self) call_site (punct 44 false call_site (leaf (ident (97 ∷ [])) call_site (punct 58 false call_site (leaf (ident (98 ∷ [])) call_site (punct 44 false call_site end))))))
     (end)
 unfolding left is_end lookahead_at sees take_token take_lifetime take_mark take_group before first_span rows_for rows run parse_rule
-inputs_receiver = computed inputs _ _ _ refl
+inputs_receiver = computed inputs _ _ _ refl refl
 
 -- `#[a] b: u8, ...,` prints `# [a] b : u8 , ... ,`
 inputs_variadic : DerivesAs inputs
@@ -149,7 +149,7 @@ inputs_variadic : DerivesAs inputs
     (punct 35 false call_site (group Bracket call_site call_site (leaf (ident (97 ∷ [])) call_site end) (leaf (ident (98 ∷ [])) call_site (punct 58 false call_site (leaf (ident (117 ∷ 56 ∷ [])) call_site (punct 44 false call_site (punct 46 true call_site (punct 46 true call_site (punct 46 false call_site (punct 44 false call_site end))))))))))
     (end)
 unfolding left is_end lookahead_at sees take_token take_lifetime take_mark take_group before first_span rows_for rows run parse_rule
-inputs_variadic = computed inputs _ _ _ refl
+inputs_variadic = computed inputs _ _ _ refl refl
 
 -- `a: ...` prints `a : ...`
 inputs_named_variadic : DerivesAs inputs
@@ -157,19 +157,19 @@ inputs_named_variadic : DerivesAs inputs
     (leaf (ident (97 ∷ [])) call_site (punct 58 false call_site (punct 46 true call_site (punct 46 true call_site (punct 46 false call_site end)))))
     (end)
 unfolding left is_end lookahead_at sees take_token take_lifetime take_mark take_group before first_span rows_for rows run parse_rule
-inputs_named_variadic = computed inputs _ _ _ refl
+inputs_named_variadic = computed inputs _ _ _ refl refl
 
 -- `a: b, self`: nothing is read
 inputs_second_receiver : NotDerived (rule inputs)
     (leaf (ident (97 ∷ [])) (at 0 1) (punct 58 false (at 1 2) (leaf (ident (98 ∷ [])) (at 3 4) (punct 44 false (at 4 5) (leaf (ident w_self) (at 6 10) end)))))
 unfolding left is_end lookahead_at sees take_token take_lifetime take_mark take_group before first_span rows_for rows run parse_rule
-inputs_second_receiver = not_read inputs _ refl
+inputs_second_receiver = not_read inputs _ refl refl
 
 -- `..., a: b`: nothing is read
 inputs_behind_variadic : NotDerived (rule inputs)
     (punct 46 true (at 0 1) (punct 46 true (at 1 2) (punct 46 true (at 2 3) (punct 44 false (at 3 4) (leaf (ident (97 ∷ [])) (at 5 6) (punct 58 false (at 6 7) (leaf (ident (98 ∷ [])) (at 8 9) end)))))))
 unfolding left is_end lookahead_at sees take_token take_lifetime take_mark take_group before first_span rows_for rows run parse_rule
-inputs_behind_variadic = not_read inputs _ refl
+inputs_behind_variadic = not_read inputs _ refl refl
 
 -- `a: b, c<d>` prints `a : b , _ : c < d >`
 later_inputs_two : DerivesAs later_inputs
@@ -177,13 +177,13 @@ later_inputs_two : DerivesAs later_inputs
     (leaf (ident (97 ∷ [])) call_site (punct 58 false call_site (leaf (ident (98 ∷ [])) call_site (punct 44 false call_site (leaf (ident w_underscore) call_site (punct 58 false call_site (leaf (ident (99 ∷ [])) call_site (punct 60 false call_site (leaf (ident (100 ∷ [])) call_site (punct 62 false call_site end))))))))))
     (end)
 unfolding left is_end lookahead_at sees take_token take_lifetime take_mark take_group before first_span rows_for rows run parse_rule
-later_inputs_two = computed later_inputs _ _ _ refl
+later_inputs_two = computed later_inputs _ _ _ refl refl
 
 -- `&self`: nothing is read
 later_inputs_receiver : NotDerived (rule later_inputs)
     (punct 38 false (at 0 1) (leaf (ident w_self) (at 1 5) end))
 unfolding left is_end lookahead_at sees take_token take_lifetime take_mark take_group before first_span rows_for rows run parse_rule
-later_inputs_receiver = not_read later_inputs _ refl
+later_inputs_receiver = not_read later_inputs _ refl refl
 
 -- `a: b, c: d` prints `a : b , c : d`
 input_rest_typed : DerivesAs input_rest
@@ -191,13 +191,13 @@ input_rest_typed : DerivesAs input_rest
     (leaf (ident (97 ∷ [])) call_site (punct 58 false call_site (leaf (ident (98 ∷ [])) call_site (punct 44 false call_site (leaf (ident (99 ∷ [])) call_site (punct 58 false call_site (leaf (ident (100 ∷ [])) call_site end)))))))
     (end)
 unfolding left is_end lookahead_at sees take_token take_lifetime take_mark take_group before first_span rows_for rows run parse_rule
-input_rest_typed = computed input_rest _ _ _ refl
+input_rest_typed = computed input_rest _ _ _ refl refl
 
 -- `a b`: nothing is read
 input_rest_no_colon : NotDerived (rule input_rest)
     (leaf (ident (97 ∷ [])) (at 0 1) (leaf (ident (98 ∷ [])) (at 2 3) end))
 unfolding left is_end lookahead_at sees take_token take_lifetime take_mark take_group before first_span rows_for rows run parse_rule
-input_rest_no_colon = not_read input_rest _ refl
+input_rest_no_colon = not_read input_rest _ refl refl
 
 -- `...` prints `...`
 variadic_alone : DerivesAs variadic
@@ -205,7 +205,7 @@ variadic_alone : DerivesAs variadic
     (punct 46 true call_site (punct 46 true call_site (punct 46 false call_site end)))
     (end)
 unfolding left is_end lookahead_at sees take_token take_lifetime take_mark take_group before rows_for rows run parse_rule
-variadic_alone = computed variadic _ _ _ refl
+variadic_alone = computed variadic _ _ _ refl refl
 
 -- `...,` prints `... ,`
 variadic_comma : DerivesAs variadic
@@ -213,13 +213,13 @@ variadic_comma : DerivesAs variadic
     (punct 46 true call_site (punct 46 true call_site (punct 46 false call_site (punct 44 false call_site end))))
     (end)
 unfolding left is_end lookahead_at sees take_token take_lifetime take_mark take_group before rows_for rows run parse_rule
-variadic_comma = computed variadic _ _ _ refl
+variadic_comma = computed variadic _ _ _ refl refl
 
 -- `..., a`: nothing is read
 variadic_more : NotDerived (rule variadic)
     (punct 46 true (at 0 1) (punct 46 true (at 1 2) (punct 46 true (at 2 3) (punct 44 false (at 3 4) (leaf (ident (97 ∷ [])) (at 5 6) end)))))
 unfolding left is_end lookahead_at sees take_token take_lifetime take_mark take_group before rows_for rows run parse_rule
-variadic_more = not_read variadic _ refl
+variadic_more = not_read variadic _ refl refl
 
 -- `extern "C"` prints `extern "C"`
 abi_named : DerivesAs abi
@@ -227,7 +227,7 @@ abi_named : DerivesAs abi
     (leaf (ident w_extern) call_site (leaf (literal Str (34 ∷ 67 ∷ 34 ∷ [])) call_site end))
     (end)
 unfolding left is_end lookahead_at sees take_token take_lifetime take_mark take_group before rows_for rows run parse_rule
-abi_named = computed abi _ _ _ refl
+abi_named = computed abi _ _ _ refl refl
 
 -- `extern` prints `extern`
 abi_bare : DerivesAs abi
@@ -235,7 +235,7 @@ abi_bare : DerivesAs abi
     (leaf (ident w_extern) call_site end)
     (end)
 unfolding left is_end lookahead_at sees take_token take_lifetime take_mark take_group before rows_for rows run parse_rule
-abi_bare = computed abi _ _ _ refl
+abi_bare = computed abi _ _ _ refl refl
 
 -- `extern b"C"` prints `extern` and leaves `b"C"`
 abi_bytes : DerivesAs abi
@@ -243,13 +243,13 @@ abi_bytes : DerivesAs abi
     (leaf (ident w_extern) call_site end)
     (leaf (literal ByteStr (98 ∷ 34 ∷ 67 ∷ 34 ∷ [])) (at 7 11) end)
 unfolding left is_end lookahead_at sees take_token take_lifetime take_mark take_group before rows_for rows run parse_rule
-abi_bytes = computed abi _ _ _ refl
+abi_bytes = computed abi _ _ _ refl refl
 
 -- `fn`: nothing is read
 abi_word : NotDerived (rule abi)
     (leaf (ident w_fn) (at 0 2) end)
 unfolding left is_end lookahead_at sees take_token take_lifetime take_mark take_group before rows_for rows run parse_rule
-abi_word = not_read abi _ refl
+abi_word = not_read abi _ refl refl
 
 -- `unsafe` prints `unsafe`
 unsafe_only_unsafe : DerivesAs unsafe_only
@@ -257,7 +257,7 @@ unsafe_only_unsafe : DerivesAs unsafe_only
     (leaf (ident w_unsafe) call_site end)
     (end)
 unfolding left is_end lookahead_at sees take_token take_lifetime take_mark take_group before rows_for rows run parse_rule
-unsafe_only_unsafe = computed unsafe_only _ _ _ refl
+unsafe_only_unsafe = computed unsafe_only _ _ _ refl refl
 
 -- `safe` prints `` and leaves `safe`
 unsafe_only_safe : DerivesAs unsafe_only
@@ -265,7 +265,7 @@ unsafe_only_safe : DerivesAs unsafe_only
     (end)
     (leaf (ident w_safe) (at 0 4) end)
 unfolding left is_end lookahead_at sees take_token take_lifetime take_mark take_group before rows_for rows run parse_rule
-unsafe_only_safe = computed unsafe_only _ _ _ refl
+unsafe_only_safe = computed unsafe_only _ _ _ refl refl
 
 -- no tokens prints ``
 unsafe_only_none : DerivesAs unsafe_only
@@ -273,13 +273,13 @@ unsafe_only_none : DerivesAs unsafe_only
     (end)
     (end)
 unfolding left is_end lookahead_at sees take_token take_lifetime take_mark take_group before rows_for rows run parse_rule
-unsafe_only_none = computed unsafe_only _ _ _ refl
+unsafe_only_none = computed unsafe_only _ _ _ refl refl
 
 -- `safe` is refused
 unsafe_only_safe_whole : Refused unsafe_only
     (leaf (ident w_safe) (at 0 4) end)
 unfolding left is_end lookahead_at sees take_token take_lifetime take_mark take_group before rows_for rows run parse_rule
-unsafe_only_safe_whole = not_derived unsafe_only _ refl
+unsafe_only_safe_whole = not_derived unsafe_only _ refl refl
 
 -- `safe` prints `safe`
 safe_or_unsafe_safe : DerivesAs safe_or_unsafe
@@ -287,7 +287,7 @@ safe_or_unsafe_safe : DerivesAs safe_or_unsafe
     (leaf (ident w_safe) call_site end)
     (end)
 unfolding left is_end lookahead_at sees take_token take_lifetime take_mark take_group before rows_for rows run parse_rule
-safe_or_unsafe_safe = computed safe_or_unsafe _ _ _ refl
+safe_or_unsafe_safe = computed safe_or_unsafe _ _ _ refl refl
 
 -- `unsafe` prints `unsafe`
 safe_or_unsafe_unsafe : DerivesAs safe_or_unsafe
@@ -295,7 +295,7 @@ safe_or_unsafe_unsafe : DerivesAs safe_or_unsafe
     (leaf (ident w_unsafe) call_site end)
     (end)
 unfolding left is_end lookahead_at sees take_token take_lifetime take_mark take_group before rows_for rows run parse_rule
-safe_or_unsafe_unsafe = computed safe_or_unsafe _ _ _ refl
+safe_or_unsafe_unsafe = computed safe_or_unsafe _ _ _ refl refl
 
 -- `fn` prints `` and leaves `fn`
 safe_or_unsafe_none : DerivesAs safe_or_unsafe
@@ -303,13 +303,13 @@ safe_or_unsafe_none : DerivesAs safe_or_unsafe
     (end)
     (leaf (ident w_fn) (at 0 2) end)
 unfolding left is_end lookahead_at sees take_token take_lifetime take_mark take_group before rows_for rows run parse_rule
-safe_or_unsafe_none = computed safe_or_unsafe _ _ _ refl
+safe_or_unsafe_none = computed safe_or_unsafe _ _ _ refl refl
 
 -- `fn` is refused
 safe_or_unsafe_whole : Refused safe_or_unsafe
     (leaf (ident w_fn) (at 0 2) end)
 unfolding left is_end lookahead_at sees take_token take_lifetime take_mark take_group before rows_for rows run parse_rule
-safe_or_unsafe_whole = not_derived safe_or_unsafe _ refl
+safe_or_unsafe_whole = not_derived safe_or_unsafe _ refl refl
 
 -- `const async unsafe extern "C" fn a<'b>(c: d) -> ! where e: f` prints `const async unsafe extern "C" fn a < 'b > (c : d) -> ! where e : f`
 signature_all : DerivesAs signature
@@ -317,7 +317,7 @@ signature_all : DerivesAs signature
     (leaf (ident w_const) call_site (leaf (ident w_async) call_site (leaf (ident w_unsafe) call_site (leaf (ident w_extern) call_site (leaf (literal Str (34 ∷ 67 ∷ 34 ∷ [])) call_site (leaf (ident w_fn) call_site (leaf (ident (97 ∷ [])) call_site (punct 60 false call_site (punct 39 true call_site (leaf (ident (98 ∷ [])) call_site (punct 62 false call_site (group Paren call_site call_site (leaf (ident (99 ∷ [])) call_site (punct 58 false call_site (leaf (ident (100 ∷ [])) call_site end))) (punct 45 true call_site (punct 62 false call_site (punct 33 false call_site (leaf (ident w_where) call_site (leaf (ident (101 ∷ [])) call_site (punct 58 false call_site (leaf (ident (102 ∷ [])) call_site end)))))))))))))))))))
     (end)
 unfolding left is_end lookahead_at sees take_token take_lifetime take_mark take_group before first_span rows_for rows run parse_rule
-signature_all = computed signature _ _ _ refl
+signature_all = computed signature _ _ _ refl refl
 
 -- `fn a() where` prints `fn a ()`
 signature_where : DerivesAs signature
@@ -325,19 +325,19 @@ signature_where : DerivesAs signature
     (leaf (ident w_fn) call_site (leaf (ident (97 ∷ [])) call_site (group Paren call_site call_site end end)))
     (end)
 unfolding left is_end lookahead_at sees take_token take_lifetime take_mark take_group before first_span rows_for rows run parse_rule
-signature_where = computed signature _ _ _ refl
+signature_where = computed signature _ _ _ refl refl
 
 -- `async const fn a()`: nothing is read
 signature_order : NotDerived (rule signature)
     (leaf (ident w_async) (at 0 5) (leaf (ident w_const) (at 6 11) (leaf (ident w_fn) (at 12 14) (leaf (ident (97 ∷ [])) (at 15 16) (group Paren (at 16 17) (at 17 18) end end)))))
 unfolding left is_end lookahead_at sees take_token take_lifetime take_mark take_group before first_span rows_for rows run parse_rule
-signature_order = not_read signature _ refl
+signature_order = not_read signature _ refl refl
 
 -- `safe fn a()`: nothing is read
 signature_safe : NotDerived (rule signature)
     (leaf (ident w_safe) (at 0 4) (leaf (ident w_fn) (at 5 7) (leaf (ident (97 ∷ [])) (at 8 9) (group Paren (at 9 10) (at 10 11) end end))))
 unfolding left is_end lookahead_at sees take_token take_lifetime take_mark take_group before first_span rows_for rows run parse_rule
-signature_safe = not_read signature _ refl
+signature_safe = not_read signature _ refl refl
 
 -- `fn a()` prints `fn a ()`
 signature_rest_plain : DerivesAs signature_rest
@@ -345,13 +345,13 @@ signature_rest_plain : DerivesAs signature_rest
     (leaf (ident w_fn) call_site (leaf (ident (97 ∷ [])) call_site (group Paren call_site call_site end end)))
     (end)
 unfolding left is_end lookahead_at sees take_token take_lifetime take_mark take_group before first_span rows_for rows run parse_rule
-signature_rest_plain = computed signature_rest _ _ _ refl
+signature_rest_plain = computed signature_rest _ _ _ refl refl
 
 -- `fn ()`: nothing is read
 signature_rest_no_name : NotDerived (rule signature_rest)
     (leaf (ident w_fn) (at 0 2) (group Paren (at 3 4) (at 4 5) end end))
 unfolding left is_end lookahead_at sees take_token take_lifetime take_mark take_group before first_span rows_for rows run parse_rule
-signature_rest_no_name = not_read signature_rest _ refl
+signature_rest_no_name = not_read signature_rest _ refl refl
 
 -- `#[a] pub fn b(c: d) -> e { #![f] g }` prints `# [a] pub fn b (c : d) -> e {# ! [f] g}`
 function_whole : DerivesAs function
@@ -359,13 +359,13 @@ function_whole : DerivesAs function
     (punct 35 false call_site (group Bracket call_site call_site (leaf (ident (97 ∷ [])) call_site end) (leaf (ident w_pub) call_site (leaf (ident w_fn) call_site (leaf (ident (98 ∷ [])) call_site (group Paren call_site call_site (leaf (ident (99 ∷ [])) call_site (punct 58 false call_site (leaf (ident (100 ∷ [])) call_site end))) (punct 45 true call_site (punct 62 false call_site (leaf (ident (101 ∷ [])) call_site (group Brace call_site call_site (punct 35 false call_site (punct 33 false call_site (group Bracket call_site call_site (leaf (ident (102 ∷ [])) call_site end) (leaf (ident (103 ∷ [])) call_site end)))) end))))))))))
     (end)
 unfolding left is_end lookahead_at sees take_token take_lifetime take_mark take_group before first_span rows_for rows run parse_rule
-function_whole = computed function _ _ _ refl
+function_whole = computed function _ _ _ refl refl
 
 -- `fn a();`: nothing is read
 function_no_body : NotDerived (rule function)
     (leaf (ident w_fn) (at 0 2) (leaf (ident (97 ∷ [])) (at 3 4) (group Paren (at 4 5) (at 5 6) end (punct 59 false (at 6 7) end))))
 unfolding left is_end lookahead_at sees take_token take_lifetime take_mark take_group before first_span rows_for rows run parse_rule
-function_no_body = not_read function _ refl
+function_no_body = not_read function _ refl refl
 
 -- `pub(crate) async fn a() {}` prints `pub (crate) async fn a () {}`
 function_rest_plain : DerivesAs function_rest
@@ -373,10 +373,10 @@ function_rest_plain : DerivesAs function_rest
     (leaf (ident w_pub) call_site (group Paren call_site call_site (leaf (ident w_crate) call_site end) (leaf (ident w_async) call_site (leaf (ident w_fn) call_site (leaf (ident (97 ∷ [])) call_site (group Paren call_site call_site end (group Brace call_site call_site end end)))))))
     (end)
 unfolding left is_end lookahead_at sees take_token take_lifetime take_mark take_group before first_span rows_for rows run parse_rule
-function_rest_plain = computed function_rest _ _ _ refl
+function_rest_plain = computed function_rest _ _ _ refl refl
 
 -- `#[a] fn b() {}`: nothing is read
 function_rest_attribute : NotDerived (rule function_rest)
     (punct 35 false (at 0 1) (group Bracket (at 1 2) (at 3 4) (leaf (ident (97 ∷ [])) (at 2 3) end) (leaf (ident w_fn) (at 5 7) (leaf (ident (98 ∷ [])) (at 8 9) (group Paren (at 9 10) (at 10 11) end (group Brace (at 12 13) (at 13 14) end end))))))
 unfolding left is_end lookahead_at sees take_token take_lifetime take_mark take_group before first_span rows_for rows run parse_rule
-function_rest_attribute = not_read function_rest _ refl
+function_rest_attribute = not_read function_rest _ refl refl

@@ -5,11 +5,11 @@ use Rattle.syn_grammar.specs.Words.{w_underscore, w_crate, w_fn, w_in, w_pub, w_
 use Rattle.syn_grammar.specs.Tokens.{call_site, Paren, Brace, Bracket, None, Int, ident, literal, end, leaf, punct, group}
 use Rattle.syn_grammar.specs.Rules.{module_path, module_words, visibility, restriction}
 use Rattle.syn_grammar.specs.Grammar.{rule}
-use Rattle.syn_grammar.specs.Take.{left, is_end, lookahead_at, sees, take_token, take_lifetime, take_mark, take_group, before}
+use Rattle.syn_grammar.specs.Take.{left, is_end, take_token, take_lifetime, take_mark, take_group, lookahead_at, sees, before}
 use Rattle.syn_grammar.specs.Run.{rows_for, rows, run, parse_rule}
 use Rattle.syn_grammar.specs.Promises.{Refused, NotDerived}
 use Rattle.syn_grammar.proofs.Means.{not_derived}
-use Rattle.syn_grammar.proofs.Shown.{at, DerivesAs, computed, not_read}
+use Rattle.syn_grammar.proofs.Shown.{at, DerivesAs, computed, not_read, ComputesAs, ComputesNothing}
 
 -- `a` prints `a`
 path_word : DerivesAs module_path
@@ -17,7 +17,7 @@ path_word : DerivesAs module_path
     (leaf (ident (97 ∷ [])) call_site end)
     (end)
 unfolding left is_end lookahead_at sees take_token take_lifetime take_mark take_group before rows_for rows run parse_rule
-path_word = computed module_path _ _ _ refl
+path_word = computed module_path _ _ _ refl refl
 
 -- `self::Self::super::crate` prints `self :: Self :: super :: crate`
 path_keywords : DerivesAs module_path
@@ -25,7 +25,7 @@ path_keywords : DerivesAs module_path
     (leaf (ident w_self) call_site (punct 58 true call_site (punct 58 false call_site (leaf (ident w_Self_type) call_site (punct 58 true call_site (punct 58 false call_site (leaf (ident w_super) call_site (punct 58 true call_site (punct 58 false call_site (leaf (ident w_crate) call_site end))))))))))
     (end)
 unfolding left is_end lookahead_at sees take_token take_lifetime take_mark take_group before rows_for rows run parse_rule
-path_keywords = computed module_path _ _ _ refl
+path_keywords = computed module_path _ _ _ refl refl
 
 -- `::a::b` prints `:: a :: b`
 path_rooted : DerivesAs module_path
@@ -33,7 +33,7 @@ path_rooted : DerivesAs module_path
     (punct 58 true call_site (punct 58 false call_site (leaf (ident (97 ∷ [])) call_site (punct 58 true call_site (punct 58 false call_site (leaf (ident (98 ∷ [])) call_site end))))))
     (end)
 unfolding left is_end lookahead_at sees take_token take_lifetime take_mark take_group before rows_for rows run parse_rule
-path_rooted = computed module_path _ _ _ refl
+path_rooted = computed module_path _ _ _ refl refl
 
 -- `union::auto` prints `union :: auto`
 path_contextual : DerivesAs module_path
@@ -41,7 +41,7 @@ path_contextual : DerivesAs module_path
     (leaf (ident w_union) call_site (punct 58 true call_site (punct 58 false call_site (leaf (ident w_auto) call_site end))))
     (end)
 unfolding left is_end lookahead_at sees take_token take_lifetime take_mark take_group before rows_for rows run parse_rule
-path_contextual = computed module_path _ _ _ refl
+path_contextual = computed module_path _ _ _ refl refl
 
 -- `a : : b` prints `a` and leaves `: : b`
 path_split_colons : DerivesAs module_path
@@ -49,7 +49,7 @@ path_split_colons : DerivesAs module_path
     (leaf (ident (97 ∷ [])) call_site end)
     (punct 58 false (at 2 3) (punct 58 false (at 4 5) (leaf (ident (98 ∷ [])) (at 6 7) end)))
 unfolding left is_end lookahead_at sees take_token take_lifetime take_mark take_group before rows_for rows run parse_rule
-path_split_colons = computed module_path _ _ _ refl
+path_split_colons = computed module_path _ _ _ refl refl
 
 -- `a<b>` prints `a` and leaves `<b>`
 path_leaves_arguments : DerivesAs module_path
@@ -57,49 +57,49 @@ path_leaves_arguments : DerivesAs module_path
     (leaf (ident (97 ∷ [])) call_site end)
     (punct 60 false (at 1 2) (leaf (ident (98 ∷ [])) (at 2 3) (punct 62 false (at 3 4) end)))
 unfolding left is_end lookahead_at sees take_token take_lifetime take_mark take_group before rows_for rows run parse_rule
-path_leaves_arguments = computed module_path _ _ _ refl
+path_leaves_arguments = computed module_path _ _ _ refl refl
 
 -- `a::fn`: nothing is read
 path_of_keyword : NotDerived (rule module_path)
     (leaf (ident (97 ∷ [])) (at 0 1) (punct 58 true (at 1 2) (punct 58 false (at 2 3) (leaf (ident w_fn) (at 3 5) end))))
 unfolding left is_end lookahead_at sees take_token take_lifetime take_mark take_group before rows_for rows run parse_rule
-path_of_keyword = not_read module_path _ refl
+path_of_keyword = not_read module_path _ refl refl
 
 -- `a::`: nothing is read
 path_ends_with_colons : NotDerived (rule module_path)
     (leaf (ident (97 ∷ [])) (at 0 1) (punct 58 true (at 1 2) (punct 58 false (at 2 3) end)))
 unfolding left is_end lookahead_at sees take_token take_lifetime take_mark take_group before rows_for rows run parse_rule
-path_ends_with_colons = not_read module_path _ refl
+path_ends_with_colons = not_read module_path _ refl refl
 
 -- `_`: nothing is read
 path_underscore : NotDerived (rule module_path)
     (leaf (ident w_underscore) (at 0 1) end)
 unfolding left is_end lookahead_at sees take_token take_lifetime take_mark take_group before rows_for rows run parse_rule
-path_underscore = not_read module_path _ refl
+path_underscore = not_read module_path _ refl refl
 
 -- no tokens: nothing is read
 path_empty : NotDerived (rule module_path)
     (end)
 unfolding left is_end lookahead_at sees take_token take_lifetime take_mark take_group before rows_for rows run parse_rule
-path_empty = not_read module_path _ refl
+path_empty = not_read module_path _ refl refl
 
 -- `::::a`: nothing is read
 path_rooted_twice : NotDerived (rule module_path)
     (punct 58 true (at 0 1) (punct 58 true (at 1 2) (punct 58 true (at 2 3) (punct 58 false (at 3 4) (leaf (ident (97 ∷ [])) (at 4 5) end)))))
 unfolding left is_end lookahead_at sees take_token take_lifetime take_mark take_group before rows_for rows run parse_rule
-path_rooted_twice = not_read module_path _ refl
+path_rooted_twice = not_read module_path _ refl refl
 
 -- `:a`: nothing is read
 path_one_colon : NotDerived (rule module_path)
     (punct 58 false (at 0 1) (leaf (ident (97 ∷ [])) (at 1 2) end))
 unfolding left is_end lookahead_at sees take_token take_lifetime take_mark take_group before rows_for rows run parse_rule
-path_one_colon = not_read module_path _ refl
+path_one_colon = not_read module_path _ refl refl
 
 -- `.a`: nothing is read
 path_dot : NotDerived (rule module_path)
     (punct 46 false (at 0 1) (leaf (ident (97 ∷ [])) (at 1 2) end))
 unfolding left is_end lookahead_at sees take_token take_lifetime take_mark take_group before rows_for rows run parse_rule
-path_dot = not_read module_path _ refl
+path_dot = not_read module_path _ refl refl
 
 -- `a b` prints `a` and leaves `b`
 path_leaves_word : DerivesAs module_path
@@ -107,7 +107,7 @@ path_leaves_word : DerivesAs module_path
     (leaf (ident (97 ∷ [])) call_site end)
     (leaf (ident (98 ∷ [])) (at 2 3) end)
 unfolding left is_end lookahead_at sees take_token take_lifetime take_mark take_group before rows_for rows run parse_rule
-path_leaves_word = computed module_path _ _ _ refl
+path_leaves_word = computed module_path _ _ _ refl refl
 
 -- `a.b` prints `a` and leaves `.b`
 path_leaves_dot : DerivesAs module_path
@@ -115,7 +115,7 @@ path_leaves_dot : DerivesAs module_path
     (leaf (ident (97 ∷ [])) call_site end)
     (punct 46 false (at 1 2) (leaf (ident (98 ∷ [])) (at 2 3) end))
 unfolding left is_end lookahead_at sees take_token take_lifetime take_mark take_group before rows_for rows run parse_rule
-path_leaves_dot = computed module_path _ _ _ refl
+path_leaves_dot = computed module_path _ _ _ refl refl
 
 -- `a!` prints `a` and leaves `!`
 path_leaves_bang : DerivesAs module_path
@@ -123,13 +123,13 @@ path_leaves_bang : DerivesAs module_path
     (leaf (ident (97 ∷ [])) call_site end)
     (punct 33 false (at 1 2) end)
 unfolding left is_end lookahead_at sees take_token take_lifetime take_mark take_group before rows_for rows run parse_rule
-path_leaves_bang = computed module_path _ _ _ refl
+path_leaves_bang = computed module_path _ _ _ refl refl
 
 -- `a::(b)`: nothing is read
 path_group_behind : NotDerived (rule module_path)
     (leaf (ident (97 ∷ [])) (at 0 1) (punct 58 true (at 1 2) (punct 58 false (at 2 3) (group Paren (at 3 4) (at 5 6) (leaf (ident (98 ∷ [])) (at 4 5) end) end))))
 unfolding left is_end lookahead_at sees take_token take_lifetime take_mark take_group before rows_for rows run parse_rule
-path_group_behind = not_read module_path _ refl
+path_group_behind = not_read module_path _ refl refl
 
 -- `a::b::c` prints `a :: b :: c`
 words_three : DerivesAs module_words
@@ -137,19 +137,19 @@ words_three : DerivesAs module_words
     (leaf (ident (97 ∷ [])) call_site (punct 58 true call_site (punct 58 false call_site (leaf (ident (98 ∷ [])) call_site (punct 58 true call_site (punct 58 false call_site (leaf (ident (99 ∷ [])) call_site end)))))))
     (end)
 unfolding left is_end lookahead_at sees take_token take_lifetime take_mark take_group before rows_for rows run parse_rule
-words_three = computed module_words _ _ _ refl
+words_three = computed module_words _ _ _ refl refl
 
 -- `::a`: nothing is read
 words_rooted : NotDerived (rule module_words)
     (punct 58 true (at 0 1) (punct 58 false (at 1 2) (leaf (ident (97 ∷ [])) (at 2 3) end)))
 unfolding left is_end lookahead_at sees take_token take_lifetime take_mark take_group before rows_for rows run parse_rule
-words_rooted = not_read module_words _ refl
+words_rooted = not_read module_words _ refl refl
 
 -- `a:::b`: nothing is read
 words_three_colons : NotDerived (rule module_words)
     (leaf (ident (97 ∷ [])) (at 0 1) (punct 58 true (at 1 2) (punct 58 true (at 2 3) (punct 58 false (at 3 4) (leaf (ident (98 ∷ [])) (at 4 5) end)))))
 unfolding left is_end lookahead_at sees take_token take_lifetime take_mark take_group before rows_for rows run parse_rule
-words_three_colons = not_read module_words _ refl
+words_three_colons = not_read module_words _ refl refl
 
 -- `self::Self::super::crate` prints `self :: Self :: super :: crate`
 words_every : DerivesAs module_words
@@ -157,7 +157,7 @@ words_every : DerivesAs module_words
     (leaf (ident w_self) call_site (punct 58 true call_site (punct 58 false call_site (leaf (ident w_Self_type) call_site (punct 58 true call_site (punct 58 false call_site (leaf (ident w_super) call_site (punct 58 true call_site (punct 58 false call_site (leaf (ident w_crate) call_site end))))))))))
     (end)
 unfolding left is_end lookahead_at sees take_token take_lifetime take_mark take_group before rows_for rows run parse_rule
-words_every = computed module_words _ _ _ refl
+words_every = computed module_words _ _ _ refl refl
 
 -- `union::auto::default::safe` prints `union :: auto :: default :: safe`
 words_contextual : DerivesAs module_words
@@ -165,13 +165,13 @@ words_contextual : DerivesAs module_words
     (leaf (ident w_union) call_site (punct 58 true call_site (punct 58 false call_site (leaf (ident w_auto) call_site (punct 58 true call_site (punct 58 false call_site (leaf (ident w_default) call_site (punct 58 true call_site (punct 58 false call_site (leaf (ident w_safe) call_site end))))))))))
     (end)
 unfolding left is_end lookahead_at sees take_token take_lifetime take_mark take_group before rows_for rows run parse_rule
-words_contextual = computed module_words _ _ _ refl
+words_contextual = computed module_words _ _ _ refl refl
 
 -- `a::::b`: nothing is read
 words_two_colons : NotDerived (rule module_words)
     (leaf (ident (97 ∷ [])) (at 0 1) (punct 58 true (at 1 2) (punct 58 true (at 2 3) (punct 58 true (at 3 4) (punct 58 false (at 4 5) (leaf (ident (98 ∷ [])) (at 5 6) end))))))
 unfolding left is_end lookahead_at sees take_token take_lifetime take_mark take_group before rows_for rows run parse_rule
-words_two_colons = not_read module_words _ refl
+words_two_colons = not_read module_words _ refl refl
 
 -- `a b` prints `a` and leaves `b`
 words_leave_word : DerivesAs module_words
@@ -179,7 +179,7 @@ words_leave_word : DerivesAs module_words
     (leaf (ident (97 ∷ [])) call_site end)
     (leaf (ident (98 ∷ [])) (at 2 3) end)
 unfolding left is_end lookahead_at sees take_token take_lifetime take_mark take_group before rows_for rows run parse_rule
-words_leave_word = computed module_words _ _ _ refl
+words_leave_word = computed module_words _ _ _ refl refl
 
 -- `a::b c::d` prints `a :: b` and leaves `c::d`
 words_leave_rooted : DerivesAs module_words
@@ -187,13 +187,13 @@ words_leave_rooted : DerivesAs module_words
     (leaf (ident (97 ∷ [])) call_site (punct 58 true call_site (punct 58 false call_site (leaf (ident (98 ∷ [])) call_site end))))
     (leaf (ident (99 ∷ [])) (at 5 6) (punct 58 true (at 6 7) (punct 58 false (at 7 8) (leaf (ident (100 ∷ [])) (at 8 9) end))))
 unfolding left is_end lookahead_at sees take_token take_lifetime take_mark take_group before rows_for rows run parse_rule
-words_leave_rooted = computed module_words _ _ _ refl
+words_leave_rooted = computed module_words _ _ _ refl refl
 
 -- `::a b`: nothing is read
 words_rooted_more : NotDerived (rule module_words)
     (punct 58 true (at 0 1) (punct 58 false (at 1 2) (leaf (ident (97 ∷ [])) (at 2 3) (leaf (ident (98 ∷ [])) (at 4 5) end))))
 unfolding left is_end lookahead_at sees take_token take_lifetime take_mark take_group before rows_for rows run parse_rule
-words_rooted_more = not_read module_words _ refl
+words_rooted_more = not_read module_words _ refl refl
 
 -- `a:b` prints `a` and leaves `:b`
 words_one_colon : DerivesAs module_words
@@ -201,7 +201,7 @@ words_one_colon : DerivesAs module_words
     (leaf (ident (97 ∷ [])) call_site end)
     (punct 58 false (at 1 2) (leaf (ident (98 ∷ [])) (at 2 3) end))
 unfolding left is_end lookahead_at sees take_token take_lifetime take_mark take_group before rows_for rows run parse_rule
-words_one_colon = computed module_words _ _ _ refl
+words_one_colon = computed module_words _ _ _ refl refl
 
 -- `a.b` prints `a` and leaves `.b`
 words_dot : DerivesAs module_words
@@ -209,43 +209,43 @@ words_dot : DerivesAs module_words
     (leaf (ident (97 ∷ [])) call_site end)
     (punct 46 false (at 1 2) (leaf (ident (98 ∷ [])) (at 2 3) end))
 unfolding left is_end lookahead_at sees take_token take_lifetime take_mark take_group before rows_for rows run parse_rule
-words_dot = computed module_words _ _ _ refl
+words_dot = computed module_words _ _ _ refl refl
 
 -- `fn`: nothing is read
 words_keyword : NotDerived (rule module_words)
     (leaf (ident w_fn) (at 0 2) end)
 unfolding left is_end lookahead_at sees take_token take_lifetime take_mark take_group before rows_for rows run parse_rule
-words_keyword = not_read module_words _ refl
+words_keyword = not_read module_words _ refl refl
 
 -- `a::_`: nothing is read
 words_underscore : NotDerived (rule module_words)
     (leaf (ident (97 ∷ [])) (at 0 1) (punct 58 true (at 1 2) (punct 58 false (at 2 3) (leaf (ident w_underscore) (at 3 4) end))))
 unfolding left is_end lookahead_at sees take_token take_lifetime take_mark take_group before rows_for rows run parse_rule
-words_underscore = not_read module_words _ refl
+words_underscore = not_read module_words _ refl refl
 
 -- `in`: nothing is read
 words_in : NotDerived (rule module_words)
     (leaf (ident w_in) (at 0 2) end)
 unfolding left is_end lookahead_at sees take_token take_lifetime take_mark take_group before rows_for rows run parse_rule
-words_in = not_read module_words _ refl
+words_in = not_read module_words _ refl refl
 
 -- `1`: nothing is read
 words_literal : NotDerived (rule module_words)
     (leaf (literal Int (49 ∷ [])) (at 0 1) end)
 unfolding left is_end lookahead_at sees take_token take_lifetime take_mark take_group before rows_for rows run parse_rule
-words_literal = not_read module_words _ refl
+words_literal = not_read module_words _ refl refl
 
 -- `a::1`: nothing is read
 words_literal_behind : NotDerived (rule module_words)
     (leaf (ident (97 ∷ [])) (at 0 1) (punct 58 true (at 1 2) (punct 58 false (at 2 3) (leaf (literal Int (49 ∷ [])) (at 3 4) end))))
 unfolding left is_end lookahead_at sees take_token take_lifetime take_mark take_group before rows_for rows run parse_rule
-words_literal_behind = not_read module_words _ refl
+words_literal_behind = not_read module_words _ refl refl
 
 -- `(a)`: nothing is read
 words_group : NotDerived (rule module_words)
     (group Paren (at 0 1) (at 2 3) (leaf (ident (97 ∷ [])) (at 1 2) end) end)
 unfolding left is_end lookahead_at sees take_token take_lifetime take_mark take_group before rows_for rows run parse_rule
-words_group = not_read module_words _ refl
+words_group = not_read module_words _ refl refl
 
 -- `pub` prints `pub`
 vis_public : DerivesAs visibility
@@ -253,7 +253,7 @@ vis_public : DerivesAs visibility
     (leaf (ident w_pub) call_site end)
     (end)
 unfolding left is_end lookahead_at sees take_token take_lifetime take_mark take_group before rows_for rows run parse_rule
-vis_public = computed visibility _ _ _ refl
+vis_public = computed visibility _ _ _ refl refl
 
 -- no tokens prints ``
 vis_inherited : DerivesAs visibility
@@ -261,7 +261,7 @@ vis_inherited : DerivesAs visibility
     (end)
     (end)
 unfolding left is_end lookahead_at sees take_token take_lifetime take_mark take_group before rows_for rows run parse_rule
-vis_inherited = computed visibility _ _ _ refl
+vis_inherited = computed visibility _ _ _ refl refl
 
 -- `pub(crate)` prints `pub ( crate )`
 vis_crate : DerivesAs visibility
@@ -269,7 +269,7 @@ vis_crate : DerivesAs visibility
     (leaf (ident w_pub) call_site (group Paren call_site call_site (leaf (ident w_crate) call_site end) end))
     (end)
 unfolding left is_end lookahead_at sees take_token take_lifetime take_mark take_group before rows_for rows run parse_rule
-vis_crate = computed visibility _ _ _ refl
+vis_crate = computed visibility _ _ _ refl refl
 
 -- `pub (self)` prints `pub ( self )`
 vis_self : DerivesAs visibility
@@ -277,7 +277,7 @@ vis_self : DerivesAs visibility
     (leaf (ident w_pub) call_site (group Paren call_site call_site (leaf (ident w_self) call_site end) end))
     (end)
 unfolding left is_end lookahead_at sees take_token take_lifetime take_mark take_group before rows_for rows run parse_rule
-vis_self = computed visibility _ _ _ refl
+vis_self = computed visibility _ _ _ refl refl
 
 -- `pub(super)` prints `pub ( super )`
 vis_super : DerivesAs visibility
@@ -285,7 +285,7 @@ vis_super : DerivesAs visibility
     (leaf (ident w_pub) call_site (group Paren call_site call_site (leaf (ident w_super) call_site end) end))
     (end)
 unfolding left is_end lookahead_at sees take_token take_lifetime take_mark take_group before rows_for rows run parse_rule
-vis_super = computed visibility _ _ _ refl
+vis_super = computed visibility _ _ _ refl refl
 
 -- `pub(in foo::bar)` prints `pub ( in foo :: bar )`
 vis_in_path : DerivesAs visibility
@@ -293,7 +293,7 @@ vis_in_path : DerivesAs visibility
     (leaf (ident w_pub) call_site (group Paren call_site call_site (leaf (ident w_in) call_site (leaf (ident (102 ∷ 111 ∷ 111 ∷ [])) call_site (punct 58 true call_site (punct 58 false call_site (leaf (ident (98 ∷ 97 ∷ 114 ∷ [])) call_site end))))) end))
     (end)
 unfolding left is_end lookahead_at sees take_token take_lifetime take_mark take_group before rows_for rows run parse_rule
-vis_in_path = computed visibility _ _ _ refl
+vis_in_path = computed visibility _ _ _ refl refl
 
 -- `pub(in crate)` prints `pub ( in crate )`
 vis_in_crate : DerivesAs visibility
@@ -301,7 +301,7 @@ vis_in_crate : DerivesAs visibility
     (leaf (ident w_pub) call_site (group Paren call_site call_site (leaf (ident w_in) call_site (leaf (ident w_crate) call_site end)) end))
     (end)
 unfolding left is_end lookahead_at sees take_token take_lifetime take_mark take_group before rows_for rows run parse_rule
-vis_in_crate = computed visibility _ _ _ refl
+vis_in_crate = computed visibility _ _ _ refl refl
 
 -- `pub(in ::a)` prints `pub ( in :: a )`
 vis_in_rooted : DerivesAs visibility
@@ -309,7 +309,7 @@ vis_in_rooted : DerivesAs visibility
     (leaf (ident w_pub) call_site (group Paren call_site call_site (leaf (ident w_in) call_site (punct 58 true call_site (punct 58 false call_site (leaf (ident (97 ∷ [])) call_site end)))) end))
     (end)
 unfolding left is_end lookahead_at sees take_token take_lifetime take_mark take_group before rows_for rows run parse_rule
-vis_in_rooted = computed visibility _ _ _ refl
+vis_in_rooted = computed visibility _ _ _ refl refl
 
 -- `pub (crate::A, crate::B)` prints `pub` and leaves `(crate::A, crate::B)`
 vis_leaves_tuple : DerivesAs visibility
@@ -317,7 +317,7 @@ vis_leaves_tuple : DerivesAs visibility
     (leaf (ident w_pub) call_site end)
     (group Paren (at 4 5) (at 23 24) (leaf (ident w_crate) (at 5 10) (punct 58 true (at 10 11) (punct 58 false (at 11 12) (leaf (ident (65 ∷ [])) (at 12 13) (punct 44 false (at 13 14) (leaf (ident w_crate) (at 15 20) (punct 58 true (at 20 21) (punct 58 false (at 21 22) (leaf (ident (66 ∷ [])) (at 22 23) end))))))))) end)
 unfolding left is_end lookahead_at sees take_token take_lifetime take_mark take_group before rows_for rows run parse_rule
-vis_leaves_tuple = computed visibility _ _ _ refl
+vis_leaves_tuple = computed visibility _ _ _ refl refl
 
 -- `pub(foo::bar)` prints `pub` and leaves `(foo::bar)`
 vis_leaves_path : DerivesAs visibility
@@ -325,7 +325,7 @@ vis_leaves_path : DerivesAs visibility
     (leaf (ident w_pub) call_site end)
     (group Paren (at 3 4) (at 12 13) (leaf (ident (102 ∷ 111 ∷ 111 ∷ [])) (at 4 7) (punct 58 true (at 7 8) (punct 58 false (at 8 9) (leaf (ident (98 ∷ 97 ∷ 114 ∷ [])) (at 9 12) end)))) end)
 unfolding left is_end lookahead_at sees take_token take_lifetime take_mark take_group before rows_for rows run parse_rule
-vis_leaves_path = computed visibility _ _ _ refl
+vis_leaves_path = computed visibility _ _ _ refl refl
 
 -- `pub()` prints `pub` and leaves `()`
 vis_leaves_unit : DerivesAs visibility
@@ -333,7 +333,7 @@ vis_leaves_unit : DerivesAs visibility
     (leaf (ident w_pub) call_site end)
     (group Paren (at 3 4) (at 4 5) end end)
 unfolding left is_end lookahead_at sees take_token take_lifetime take_mark take_group before rows_for rows run parse_rule
-vis_leaves_unit = computed visibility _ _ _ refl
+vis_leaves_unit = computed visibility _ _ _ refl refl
 
 -- `pub[crate]` prints `pub` and leaves `[crate]`
 vis_leaves_brackets : DerivesAs visibility
@@ -341,7 +341,7 @@ vis_leaves_brackets : DerivesAs visibility
     (leaf (ident w_pub) call_site end)
     (group Bracket (at 3 4) (at 9 10) (leaf (ident w_crate) (at 4 9) end) end)
 unfolding left is_end lookahead_at sees take_token take_lifetime take_mark take_group before rows_for rows run parse_rule
-vis_leaves_brackets = computed visibility _ _ _ refl
+vis_leaves_brackets = computed visibility _ _ _ refl refl
 
 -- `crate` prints `` and leaves `crate`
 vis_leaves_others : DerivesAs visibility
@@ -349,37 +349,37 @@ vis_leaves_others : DerivesAs visibility
     (end)
     (leaf (ident w_crate) (at 0 5) end)
 unfolding left is_end lookahead_at sees take_token take_lifetime take_mark take_group before rows_for rows run parse_rule
-vis_leaves_others = computed visibility _ _ _ refl
+vis_leaves_others = computed visibility _ _ _ refl refl
 
 -- `pub(foo::bar)` is refused
 vis_path_whole : Refused visibility
     (leaf (ident w_pub) (at 0 3) (group Paren (at 3 4) (at 12 13) (leaf (ident (102 ∷ 111 ∷ 111 ∷ [])) (at 4 7) (punct 58 true (at 7 8) (punct 58 false (at 8 9) (leaf (ident (98 ∷ 97 ∷ 114 ∷ [])) (at 9 12) end)))) end))
 unfolding left is_end lookahead_at sees take_token take_lifetime take_mark take_group before rows_for rows run parse_rule
-vis_path_whole = not_derived visibility _ refl
+vis_path_whole = not_derived visibility _ refl refl
 
 -- `pub(in)`: nothing is read
 vis_in_nothing : NotDerived (rule visibility)
     (leaf (ident w_pub) (at 0 3) (group Paren (at 3 4) (at 6 7) (leaf (ident w_in) (at 4 6) end) end))
 unfolding left is_end lookahead_at sees take_token take_lifetime take_mark take_group before rows_for rows run parse_rule
-vis_in_nothing = not_read visibility _ refl
+vis_in_nothing = not_read visibility _ refl refl
 
 -- `pub(in some::path @@garbage)`: nothing is read
 vis_in_more : NotDerived (rule visibility)
     (leaf (ident w_pub) (at 0 3) (group Paren (at 3 4) (at 27 28) (leaf (ident w_in) (at 4 6) (leaf (ident (115 ∷ 111 ∷ 109 ∷ 101 ∷ [])) (at 7 11) (punct 58 true (at 11 12) (punct 58 false (at 12 13) (leaf (ident (112 ∷ 97 ∷ 116 ∷ 104 ∷ [])) (at 13 17) (punct 64 true (at 18 19) (punct 64 false (at 19 20) (leaf (ident (103 ∷ 97 ∷ 114 ∷ 98 ∷ 97 ∷ 103 ∷ 101 ∷ [])) (at 20 27) end)))))))) end))
 unfolding left is_end lookahead_at sees take_token take_lifetime take_mark take_group before rows_for rows run parse_rule
-vis_in_more = not_read visibility _ refl
+vis_in_more = not_read visibility _ refl refl
 
 -- `pub(in in a)`: nothing is read
 vis_in_twice : NotDerived (rule visibility)
     (leaf (ident w_pub) (at 0 3) (group Paren (at 3 4) (at 11 12) (leaf (ident w_in) (at 4 6) (leaf (ident w_in) (at 7 9) (leaf (ident (97 ∷ [])) (at 10 11) end))) end))
 unfolding left is_end lookahead_at sees take_token take_lifetime take_mark take_group before rows_for rows run parse_rule
-vis_in_twice = not_read visibility _ refl
+vis_in_twice = not_read visibility _ refl refl
 
 -- `crate pub` is refused
 vis_word_first : Refused visibility
     (leaf (ident w_crate) (at 0 5) (leaf (ident w_pub) (at 6 9) end))
 unfolding left is_end lookahead_at sees take_token take_lifetime take_mark take_group before rows_for rows run parse_rule
-vis_word_first = not_derived visibility _ refl
+vis_word_first = not_derived visibility _ refl refl
 
 -- `pub pub` prints `pub` and leaves `pub`
 vis_twice : DerivesAs visibility
@@ -387,7 +387,7 @@ vis_twice : DerivesAs visibility
     (leaf (ident w_pub) call_site end)
     (leaf (ident w_pub) (at 4 7) end)
 unfolding left is_end lookahead_at sees take_token take_lifetime take_mark take_group before rows_for rows run parse_rule
-vis_twice = computed visibility _ _ _ refl
+vis_twice = computed visibility _ _ _ refl refl
 
 -- `a` prints `` and leaves `a`
 vis_leaves_name : DerivesAs visibility
@@ -395,7 +395,7 @@ vis_leaves_name : DerivesAs visibility
     (end)
     (leaf (ident (97 ∷ [])) (at 0 1) end)
 unfolding left is_end lookahead_at sees take_token take_lifetime take_mark take_group before rows_for rows run parse_rule
-vis_leaves_name = computed visibility _ _ _ refl
+vis_leaves_name = computed visibility _ _ _ refl refl
 
 -- `pub crate` prints `pub` and leaves `crate`
 vis_leaves_word : DerivesAs visibility
@@ -403,7 +403,7 @@ vis_leaves_word : DerivesAs visibility
     (leaf (ident w_pub) call_site end)
     (leaf (ident w_crate) (at 4 9) end)
 unfolding left is_end lookahead_at sees take_token take_lifetime take_mark take_group before rows_for rows run parse_rule
-vis_leaves_word = computed visibility _ _ _ refl
+vis_leaves_word = computed visibility _ _ _ refl refl
 
 -- `pub in a` prints `pub` and leaves `in a`
 vis_leaves_in : DerivesAs visibility
@@ -411,7 +411,7 @@ vis_leaves_in : DerivesAs visibility
     (leaf (ident w_pub) call_site end)
     (leaf (ident w_in) (at 4 6) (leaf (ident (97 ∷ [])) (at 7 8) end))
 unfolding left is_end lookahead_at sees take_token take_lifetime take_mark take_group before rows_for rows run parse_rule
-vis_leaves_in = computed visibility _ _ _ refl
+vis_leaves_in = computed visibility _ _ _ refl refl
 
 -- `pub(crate)(crate)` prints `pub ( crate )` and leaves `(crate)`
 vis_two_groups : DerivesAs visibility
@@ -419,7 +419,7 @@ vis_two_groups : DerivesAs visibility
     (leaf (ident w_pub) call_site (group Paren call_site call_site (leaf (ident w_crate) call_site end) end))
     (group Paren (at 10 11) (at 16 17) (leaf (ident w_crate) (at 11 16) end) end)
 unfolding left is_end lookahead_at sees take_token take_lifetime take_mark take_group before rows_for rows run parse_rule
-vis_two_groups = computed visibility _ _ _ refl
+vis_two_groups = computed visibility _ _ _ refl refl
 
 -- `pub(crate) pub` prints `pub ( crate )` and leaves `pub`
 vis_public_behind : DerivesAs visibility
@@ -427,7 +427,7 @@ vis_public_behind : DerivesAs visibility
     (leaf (ident w_pub) call_site (group Paren call_site call_site (leaf (ident w_crate) call_site end) end))
     (leaf (ident w_pub) (at 11 14) end)
 unfolding left is_end lookahead_at sees take_token take_lifetime take_mark take_group before rows_for rows run parse_rule
-vis_public_behind = computed visibility _ _ _ refl
+vis_public_behind = computed visibility _ _ _ refl refl
 
 -- `pub{crate}` prints `pub` and leaves `{crate}`
 vis_leaves_braces : DerivesAs visibility
@@ -435,7 +435,7 @@ vis_leaves_braces : DerivesAs visibility
     (leaf (ident w_pub) call_site end)
     (group Brace (at 3 4) (at 9 10) (leaf (ident w_crate) (at 4 9) end) end)
 unfolding left is_end lookahead_at sees take_token take_lifetime take_mark take_group before rows_for rows run parse_rule
-vis_leaves_braces = computed visibility _ _ _ refl
+vis_leaves_braces = computed visibility _ _ _ refl refl
 
 -- `pub(crate crate)` prints `pub` and leaves `(crate crate)`
 vis_leaves_two_words : DerivesAs visibility
@@ -443,7 +443,7 @@ vis_leaves_two_words : DerivesAs visibility
     (leaf (ident w_pub) call_site end)
     (group Paren (at 3 4) (at 15 16) (leaf (ident w_crate) (at 4 9) (leaf (ident w_crate) (at 10 15) end)) end)
 unfolding left is_end lookahead_at sees take_token take_lifetime take_mark take_group before rows_for rows run parse_rule
-vis_leaves_two_words = computed visibility _ _ _ refl
+vis_leaves_two_words = computed visibility _ _ _ refl refl
 
 -- `pub(self,)` prints `pub` and leaves `(self,)`
 vis_leaves_comma : DerivesAs visibility
@@ -451,7 +451,7 @@ vis_leaves_comma : DerivesAs visibility
     (leaf (ident w_pub) call_site end)
     (group Paren (at 3 4) (at 9 10) (leaf (ident w_self) (at 4 8) (punct 44 false (at 8 9) end)) end)
 unfolding left is_end lookahead_at sees take_token take_lifetime take_mark take_group before rows_for rows run parse_rule
-vis_leaves_comma = computed visibility _ _ _ refl
+vis_leaves_comma = computed visibility _ _ _ refl refl
 
 -- `pub(super::a)` prints `pub` and leaves `(super::a)`
 vis_leaves_super_path : DerivesAs visibility
@@ -459,7 +459,7 @@ vis_leaves_super_path : DerivesAs visibility
     (leaf (ident w_pub) call_site end)
     (group Paren (at 3 4) (at 12 13) (leaf (ident w_super) (at 4 9) (punct 58 true (at 9 10) (punct 58 false (at 10 11) (leaf (ident (97 ∷ [])) (at 11 12) end)))) end)
 unfolding left is_end lookahead_at sees take_token take_lifetime take_mark take_group before rows_for rows run parse_rule
-vis_leaves_super_path = computed visibility _ _ _ refl
+vis_leaves_super_path = computed visibility _ _ _ refl refl
 
 -- `pub(Self)` prints `pub` and leaves `(Self)`
 vis_leaves_self_type : DerivesAs visibility
@@ -467,7 +467,7 @@ vis_leaves_self_type : DerivesAs visibility
     (leaf (ident w_pub) call_site end)
     (group Paren (at 3 4) (at 8 9) (leaf (ident w_Self_type) (at 4 8) end) end)
 unfolding left is_end lookahead_at sees take_token take_lifetime take_mark take_group before rows_for rows run parse_rule
-vis_leaves_self_type = computed visibility _ _ _ refl
+vis_leaves_self_type = computed visibility _ _ _ refl refl
 
 -- `pub((crate))` prints `pub` and leaves `((crate))`
 vis_leaves_inner_group : DerivesAs visibility
@@ -475,7 +475,7 @@ vis_leaves_inner_group : DerivesAs visibility
     (leaf (ident w_pub) call_site end)
     (group Paren (at 3 4) (at 11 12) (group Paren (at 4 5) (at 10 11) (leaf (ident w_crate) (at 5 10) end) end) end)
 unfolding left is_end lookahead_at sees take_token take_lifetime take_mark take_group before rows_for rows run parse_rule
-vis_leaves_inner_group = computed visibility _ _ _ refl
+vis_leaves_inner_group = computed visibility _ _ _ refl refl
 
 -- `pub(pub)` prints `pub` and leaves `(pub)`
 vis_leaves_own_word : DerivesAs visibility
@@ -483,7 +483,7 @@ vis_leaves_own_word : DerivesAs visibility
     (leaf (ident w_pub) call_site end)
     (group Paren (at 3 4) (at 7 8) (leaf (ident w_pub) (at 4 7) end) end)
 unfolding left is_end lookahead_at sees take_token take_lifetime take_mark take_group before rows_for rows run parse_rule
-vis_leaves_own_word = computed visibility _ _ _ refl
+vis_leaves_own_word = computed visibility _ _ _ refl refl
 
 -- `(crate) pub` prints `` and leaves `(crate) pub`
 vis_group_first : DerivesAs visibility
@@ -491,127 +491,127 @@ vis_group_first : DerivesAs visibility
     (end)
     (group Paren (at 0 1) (at 6 7) (leaf (ident w_crate) (at 1 6) end) (leaf (ident w_pub) (at 8 11) end))
 unfolding left is_end lookahead_at sees take_token take_lifetime take_mark take_group before rows_for rows run parse_rule
-vis_group_first = computed visibility _ _ _ refl
+vis_group_first = computed visibility _ _ _ refl refl
 
 -- `pub(in a in b)`: nothing is read
 vis_in_two_paths : NotDerived (rule visibility)
     (leaf (ident w_pub) (at 0 3) (group Paren (at 3 4) (at 13 14) (leaf (ident w_in) (at 4 6) (leaf (ident (97 ∷ [])) (at 7 8) (leaf (ident w_in) (at 9 11) (leaf (ident (98 ∷ [])) (at 12 13) end)))) end))
 unfolding left is_end lookahead_at sees take_token take_lifetime take_mark take_group before rows_for rows run parse_rule
-vis_in_two_paths = not_read visibility _ refl
+vis_in_two_paths = not_read visibility _ refl refl
 
 -- `pub(in a b)`: nothing is read
 vis_in_path_and_word : NotDerived (rule visibility)
     (leaf (ident w_pub) (at 0 3) (group Paren (at 3 4) (at 10 11) (leaf (ident w_in) (at 4 6) (leaf (ident (97 ∷ [])) (at 7 8) (leaf (ident (98 ∷ [])) (at 9 10) end))) end))
 unfolding left is_end lookahead_at sees take_token take_lifetime take_mark take_group before rows_for rows run parse_rule
-vis_in_path_and_word = not_read visibility _ refl
+vis_in_path_and_word = not_read visibility _ refl refl
 
 -- `pub(in a,)`: nothing is read
 vis_in_comma : NotDerived (rule visibility)
     (leaf (ident w_pub) (at 0 3) (group Paren (at 3 4) (at 9 10) (leaf (ident w_in) (at 4 6) (leaf (ident (97 ∷ [])) (at 7 8) (punct 44 false (at 8 9) end))) end))
 unfolding left is_end lookahead_at sees take_token take_lifetime take_mark take_group before rows_for rows run parse_rule
-vis_in_comma = not_read visibility _ refl
+vis_in_comma = not_read visibility _ refl refl
 
 -- `pub(in fn)`: nothing is read
 vis_in_keyword : NotDerived (rule visibility)
     (leaf (ident w_pub) (at 0 3) (group Paren (at 3 4) (at 9 10) (leaf (ident w_in) (at 4 6) (leaf (ident w_fn) (at 7 9) end)) end))
 unfolding left is_end lookahead_at sees take_token take_lifetime take_mark take_group before rows_for rows run parse_rule
-vis_in_keyword = not_read visibility _ refl
+vis_in_keyword = not_read visibility _ refl refl
 
 -- `\(\)` prints ``
-vis_invisible : DerivesAs visibility
+vis_invisible : ComputesAs visibility
     (group None (at 0 2) (at 2 4) end end)
     (end)
     (end)
 unfolding left is_end lookahead_at sees take_token take_lifetime take_mark take_group before rows_for rows run parse_rule
-vis_invisible = computed visibility _ _ _ refl
+vis_invisible = refl
 
 -- `\(\) a` prints `` and leaves `a`
-vis_invisible_leaves_name : DerivesAs visibility
+vis_invisible_leaves_name : ComputesAs visibility
     (group None (at 0 2) (at 2 4) end (leaf (ident (97 ∷ [])) (at 5 6) end))
     (end)
     (leaf (ident (97 ∷ [])) (at 5 6) end)
 unfolding left is_end lookahead_at sees take_token take_lifetime take_mark take_group before rows_for rows run parse_rule
-vis_invisible_leaves_name = computed visibility _ _ _ refl
+vis_invisible_leaves_name = refl
 
 -- `\(\) ()` prints `` and leaves `()`
-vis_invisible_leaves_group : DerivesAs visibility
+vis_invisible_leaves_group : ComputesAs visibility
     (group None (at 0 2) (at 2 4) end (group Paren (at 5 6) (at 6 7) end end))
     (end)
     (group Paren (at 5 6) (at 6 7) end end)
 unfolding left is_end lookahead_at sees take_token take_lifetime take_mark take_group before rows_for rows run parse_rule
-vis_invisible_leaves_group = computed visibility _ _ _ refl
+vis_invisible_leaves_group = refl
 
 -- `\(\) \(\)` prints `` and leaves `\(\)`
-vis_invisible_twice : DerivesAs visibility
+vis_invisible_twice : ComputesAs visibility
     (group None (at 0 2) (at 2 4) end (group None (at 5 7) (at 7 9) end end))
     (end)
     (group None (at 5 7) (at 7 9) end end)
 unfolding left is_end lookahead_at sees take_token take_lifetime take_mark take_group before rows_for rows run parse_rule
-vis_invisible_twice = computed visibility _ _ _ refl
+vis_invisible_twice = refl
 
 -- `\(\) pub` prints `` and leaves `pub`
-vis_invisible_before_public : DerivesAs visibility
+vis_invisible_before_public : ComputesAs visibility
     (group None (at 0 2) (at 2 4) end (leaf (ident w_pub) (at 5 8) end))
     (end)
     (leaf (ident w_pub) (at 5 8) end)
 unfolding left is_end lookahead_at sees take_token take_lifetime take_mark take_group before rows_for rows run parse_rule
-vis_invisible_before_public = computed visibility _ _ _ refl
+vis_invisible_before_public = refl
 
 -- `\(\) pub(crate)` prints `` and leaves `pub(crate)`
-vis_invisible_before_restricted : DerivesAs visibility
+vis_invisible_before_restricted : ComputesAs visibility
     (group None (at 0 2) (at 2 4) end (leaf (ident w_pub) (at 5 8) (group Paren (at 8 9) (at 14 15) (leaf (ident w_crate) (at 9 14) end) end)))
     (end)
     (leaf (ident w_pub) (at 5 8) (group Paren (at 8 9) (at 14 15) (leaf (ident w_crate) (at 9 14) end) end))
 unfolding left is_end lookahead_at sees take_token take_lifetime take_mark take_group before rows_for rows run parse_rule
-vis_invisible_before_restricted = computed visibility _ _ _ refl
+vis_invisible_before_restricted = refl
 
 -- `pub \(\)` prints `pub` and leaves `\(\)`
-vis_invisible_behind_public : DerivesAs visibility
+vis_invisible_behind_public : ComputesAs visibility
     (leaf (ident w_pub) (at 0 3) (group None (at 4 6) (at 6 8) end end))
     (leaf (ident w_pub) call_site end)
     (group None (at 4 6) (at 6 8) end end)
 unfolding left is_end lookahead_at sees take_token take_lifetime take_mark take_group before rows_for rows run parse_rule
-vis_invisible_behind_public = computed visibility _ _ _ refl
+vis_invisible_behind_public = refl
 
 -- `pub(crate) \(\)` prints `pub ( crate )` and leaves `\(\)`
-vis_invisible_behind_restricted : DerivesAs visibility
+vis_invisible_behind_restricted : ComputesAs visibility
     (leaf (ident w_pub) (at 0 3) (group Paren (at 3 4) (at 9 10) (leaf (ident w_crate) (at 4 9) end) (group None (at 11 13) (at 13 15) end end)))
     (leaf (ident w_pub) call_site (group Paren call_site call_site (leaf (ident w_crate) call_site end) end))
     (group None (at 11 13) (at 13 15) end end)
 unfolding left is_end lookahead_at sees take_token take_lifetime take_mark take_group before rows_for rows run parse_rule
-vis_invisible_behind_restricted = computed visibility _ _ _ refl
+vis_invisible_behind_restricted = refl
 
 -- `pub(\(\))` prints `pub` and leaves `(\(\))`
-vis_invisible_inside : DerivesAs visibility
+vis_invisible_inside : ComputesAs visibility
     (leaf (ident w_pub) (at 0 3) (group Paren (at 3 4) (at 8 9) (group None (at 4 6) (at 6 8) end end) end))
     (leaf (ident w_pub) call_site end)
     (group Paren (at 3 4) (at 8 9) (group None (at 4 6) (at 6 8) end end) end)
 unfolding left is_end lookahead_at sees take_token take_lifetime take_mark take_group before rows_for rows run parse_rule
-vis_invisible_inside = computed visibility _ _ _ refl
+vis_invisible_inside = refl
 
 -- `\(a\)` prints `` and leaves `\(a\)`
-vis_invisible_name : DerivesAs visibility
+vis_invisible_name : ComputesAs visibility
     (group None (at 0 2) (at 3 5) (leaf (ident (97 ∷ [])) (at 2 3) end) end)
     (end)
     (group None (at 0 2) (at 3 5) (leaf (ident (97 ∷ [])) (at 2 3) end) end)
 unfolding left is_end lookahead_at sees take_token take_lifetime take_mark take_group before rows_for rows run parse_rule
-vis_invisible_name = computed visibility _ _ _ refl
+vis_invisible_name = refl
 
--- `\(pub\)` prints `` and leaves `\(pub\)`
-vis_invisible_public : DerivesAs visibility
+-- `\(pub\)` prints `pub`
+vis_invisible_public : ComputesAs visibility
     (group None (at 0 2) (at 5 7) (leaf (ident w_pub) (at 2 5) end) end)
+    (leaf (ident w_pub) call_site end)
     (end)
-    (group None (at 0 2) (at 5 7) (leaf (ident w_pub) (at 2 5) end) end)
 unfolding left is_end lookahead_at sees take_token take_lifetime take_mark take_group before rows_for rows run parse_rule
-vis_invisible_public = computed visibility _ _ _ refl
+vis_invisible_public = refl
 
--- `\(\(\)\)` prints `` and leaves `\(\(\)\)`
-vis_invisible_in_invisible : DerivesAs visibility
+-- `\(\(\)\)` prints ``
+vis_invisible_in_invisible : ComputesAs visibility
     (group None (at 0 2) (at 6 8) (group None (at 2 4) (at 4 6) end end) end)
     (end)
-    (group None (at 0 2) (at 6 8) (group None (at 2 4) (at 4 6) end end) end)
+    (end)
 unfolding left is_end lookahead_at sees take_token take_lifetime take_mark take_group before rows_for rows run parse_rule
-vis_invisible_in_invisible = computed visibility _ _ _ refl
+vis_invisible_in_invisible = refl
 
 -- `()` prints `` and leaves `()`
 vis_empty_parentheses : DerivesAs visibility
@@ -619,7 +619,7 @@ vis_empty_parentheses : DerivesAs visibility
     (end)
     (group Paren (at 0 1) (at 1 2) end end)
 unfolding left is_end lookahead_at sees take_token take_lifetime take_mark take_group before rows_for rows run parse_rule
-vis_empty_parentheses = computed visibility _ _ _ refl
+vis_empty_parentheses = computed visibility _ _ _ refl refl
 
 -- `{}` prints `` and leaves `{}`
 vis_empty_braces : DerivesAs visibility
@@ -627,7 +627,7 @@ vis_empty_braces : DerivesAs visibility
     (end)
     (group Brace (at 0 1) (at 1 2) end end)
 unfolding left is_end lookahead_at sees take_token take_lifetime take_mark take_group before rows_for rows run parse_rule
-vis_empty_braces = computed visibility _ _ _ refl
+vis_empty_braces = computed visibility _ _ _ refl refl
 
 -- `[]` prints `` and leaves `[]`
 vis_empty_brackets : DerivesAs visibility
@@ -635,7 +635,7 @@ vis_empty_brackets : DerivesAs visibility
     (end)
     (group Bracket (at 0 1) (at 1 2) end end)
 unfolding left is_end lookahead_at sees take_token take_lifetime take_mark take_group before rows_for rows run parse_rule
-vis_empty_brackets = computed visibility _ _ _ refl
+vis_empty_brackets = computed visibility _ _ _ refl refl
 
 -- `super` prints `super`
 restriction_super : DerivesAs restriction
@@ -643,7 +643,7 @@ restriction_super : DerivesAs restriction
     (leaf (ident w_super) call_site end)
     (end)
 unfolding left is_end lookahead_at sees take_token take_lifetime take_mark take_group before rows_for rows run parse_rule
-restriction_super = computed restriction _ _ _ refl
+restriction_super = computed restriction _ _ _ refl refl
 
 -- `in a::b` prints `in a :: b`
 restriction_in : DerivesAs restriction
@@ -651,13 +651,13 @@ restriction_in : DerivesAs restriction
     (leaf (ident w_in) call_site (leaf (ident (97 ∷ [])) call_site (punct 58 true call_site (punct 58 false call_site (leaf (ident (98 ∷ [])) call_site end)))))
     (end)
 unfolding left is_end lookahead_at sees take_token take_lifetime take_mark take_group before rows_for rows run parse_rule
-restriction_in = computed restriction _ _ _ refl
+restriction_in = computed restriction _ _ _ refl refl
 
 -- `in`: nothing is read
 restriction_in_alone : NotDerived (rule restriction)
     (leaf (ident w_in) (at 0 2) end)
 unfolding left is_end lookahead_at sees take_token take_lifetime take_mark take_group before rows_for rows run parse_rule
-restriction_in_alone = not_read restriction _ refl
+restriction_in_alone = not_read restriction _ refl refl
 
 -- `a` prints `a`
 restriction_path : DerivesAs restriction
@@ -665,7 +665,7 @@ restriction_path : DerivesAs restriction
     (leaf (ident (97 ∷ [])) call_site end)
     (end)
 unfolding left is_end lookahead_at sees take_token take_lifetime take_mark take_group before rows_for rows run parse_rule
-restriction_path = computed restriction _ _ _ refl
+restriction_path = computed restriction _ _ _ refl refl
 
 -- `in ::a` prints `in :: a`
 restriction_in_rooted : DerivesAs restriction
@@ -673,13 +673,13 @@ restriction_in_rooted : DerivesAs restriction
     (leaf (ident w_in) call_site (punct 58 true call_site (punct 58 false call_site (leaf (ident (97 ∷ [])) call_site end))))
     (end)
 unfolding left is_end lookahead_at sees take_token take_lifetime take_mark take_group before rows_for rows run parse_rule
-restriction_in_rooted = computed restriction _ _ _ refl
+restriction_in_rooted = computed restriction _ _ _ refl refl
 
 -- `in in a`: nothing is read
 restriction_in_twice : NotDerived (rule restriction)
     (leaf (ident w_in) (at 0 2) (leaf (ident w_in) (at 3 5) (leaf (ident (97 ∷ [])) (at 6 7) end)))
 unfolding left is_end lookahead_at sees take_token take_lifetime take_mark take_group before rows_for rows run parse_rule
-restriction_in_twice = not_read restriction _ refl
+restriction_in_twice = not_read restriction _ refl refl
 
 -- `in a in b` prints `in a` and leaves `in b`
 restriction_leaves_in : DerivesAs restriction
@@ -687,7 +687,7 @@ restriction_leaves_in : DerivesAs restriction
     (leaf (ident w_in) call_site (leaf (ident (97 ∷ [])) call_site end))
     (leaf (ident w_in) (at 5 7) (leaf (ident (98 ∷ [])) (at 8 9) end))
 unfolding left is_end lookahead_at sees take_token take_lifetime take_mark take_group before rows_for rows run parse_rule
-restriction_leaves_in = computed restriction _ _ _ refl
+restriction_leaves_in = computed restriction _ _ _ refl refl
 
 -- `crate crate` prints `crate` and leaves `crate`
 restriction_leaves_word : DerivesAs restriction
@@ -695,7 +695,7 @@ restriction_leaves_word : DerivesAs restriction
     (leaf (ident w_crate) call_site end)
     (leaf (ident w_crate) (at 6 11) end)
 unfolding left is_end lookahead_at sees take_token take_lifetime take_mark take_group before rows_for rows run parse_rule
-restriction_leaves_word = computed restriction _ _ _ refl
+restriction_leaves_word = computed restriction _ _ _ refl refl
 
 -- `crate in` prints `crate` and leaves `in`
 restriction_in_behind : DerivesAs restriction
@@ -703,22 +703,22 @@ restriction_in_behind : DerivesAs restriction
     (leaf (ident w_crate) call_site end)
     (leaf (ident w_in) (at 6 8) end)
 unfolding left is_end lookahead_at sees take_token take_lifetime take_mark take_group before rows_for rows run parse_rule
-restriction_in_behind = computed restriction _ _ _ refl
+restriction_in_behind = computed restriction _ _ _ refl refl
 
 -- no tokens: nothing is read
 restriction_nothing : NotDerived (rule restriction)
     (end)
 unfolding left is_end lookahead_at sees take_token take_lifetime take_mark take_group before rows_for rows run parse_rule
-restriction_nothing = not_read restriction _ refl
+restriction_nothing = not_read restriction _ refl refl
 
 -- `pub`: nothing is read
 restriction_keyword : NotDerived (rule restriction)
     (leaf (ident w_pub) (at 0 3) end)
 unfolding left is_end lookahead_at sees take_token take_lifetime take_mark take_group before rows_for rows run parse_rule
-restriction_keyword = not_read restriction _ refl
+restriction_keyword = not_read restriction _ refl refl
 
 -- `\(\)`: nothing is read
-restriction_invisible : NotDerived (rule restriction)
+restriction_invisible : ComputesNothing restriction
     (group None (at 0 2) (at 2 4) end end)
 unfolding left is_end lookahead_at sees take_token take_lifetime take_mark take_group before rows_for rows run parse_rule
-restriction_invisible = not_read restriction _ refl
+restriction_invisible = refl

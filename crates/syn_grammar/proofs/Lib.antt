@@ -25,6 +25,7 @@ pub mod Run
 pub mod Each
 pub mod Means
 pub mod Outcomes
+pub mod Made
 pub mod Looks
 pub mod Rows
 pub mod Begins

@@ -2,12 +2,12 @@
 use Rattle.std.proofs.Common.{◌≡◌, ℕ, Bool, true, false, List, [], ◌∷◌, ◌++◌, map, nat_eq, Option, Some, None, ◌⊎◌, inl, inr, refl, sym, ap, ap₂, ◌∙◌, subst, true≢false}
 use Rattle.std.proofs.lemmas.Bool.{eqb-true, eq-eqb}
 use Rattle.syn_grammar.specs.Words.{Text, keywords, contextual, long_marks, lifetime_mark}
-use Rattle.syn_grammar.specs.Tokens.{Span, Delimiter, Paren, Brace, Bracket, None as Invisible, LitKind, kind_number, Leaf, ident, literal, Stream, end, leaf, punct, group, and, or, no, pick, same_text, one_of_texts, begins_text, Terminal, Name, Word, Punctuation, Literal, mem, is_ended, is_group, is_empty_group, is_name, is_word, is_literal, starts_mark, leaf_terminal, before_identifier, join, char_terminal, longest, Look, ended, at_name, at_word, at_mark, at_literal, at_group, at_empty_group, at_lifetime, ◌or_else◌, ◌and_also◌, ◌but_not◌, lookahead}
+use Rattle.syn_grammar.specs.Tokens.{Span, Delimiter, Paren, Brace, Bracket, None as Invisible, LitKind, kind_number, Leaf, ident, literal, Stream, end, leaf, punct, group, and, or, no, pick, same_text, one_of_texts, begins_text, Terminal, Name, Word, Punctuation, Literal, mem, is_ended, is_group, is_empty_group, is_name, is_word, is_literal, starts_mark, leaf_terminal, before_identifier, join, char_terminal, longest, Look, ended, at_name, at_word, at_mark, at_literal, at_group, at_empty_group, at_lifetime, ◌or_else◌, ◌and_also◌, ◌but_not◌, answers, lookahead, visible, is_visible}
 use Rattle.syn_grammar.specs.Grammar.{name, word, literal_of, terminals, Token, Lifetime}
-use Rattle.syn_grammar.specs.Take.{only, is_end, lookahead_at, sees, take_token, Chars, add_char, take_chars, marked, take_mark, take_lifetime, Opened, take_group, same_delimiter, taken}
+use Rattle.syn_grammar.specs.Take.{only, front, flat, ended_at, is_end, lookahead_at, opened_empty, sees, token_of, take_token, Chars, add_char, take_chars, marked, take_mark, take_lifetime, Opened, group_of, before_group, take_group, same_delimiter, taken}
 use Rattle.syn_grammar.proofs.Sets.{and_left, and_right, no_true, or_split, same_text_eq}
 use Rattle.syn_grammar.proofs.Streams.{lookahead_end}
-use Rattle.syn_grammar.proofs.Takes.{TreeAndRest}
+use Rattle.syn_grammar.proofs.Takes.{TreeAndRest, front_seen, flat_visible, flat_rest, taken_flat, taken_flat_group, end_flat, token_flat, lifetime_flat, mark_flat, group_flat}
 
 -- ---- conditions are made of conditions
 pub sees_or : (a b : Look) (ts : Stream) → sees (a or_else b) ts ≡ or (sees a ts) (sees b ts)
@@ -50,20 +50,26 @@ and_true : (b : Bool) → and b true ≡ b
 and_true true = refl
 and_true false = refl
 
-pub sees_ended : (ts : Stream) → sees ended ts ≡ is_end ts
-unfolding sees lookahead_at is_end
-sees_ended end = refl
-sees_ended (leaf x sp m) = go (is_ended (lookahead (leaf x sp m)).terminal) refl
+-- (first of visible streams, of which no group is invisible)
+ended_seen : (ts : Stream) → visible ts ≡ true → answers ended (lookahead ts) ≡ is_end ts
+unfolding is_end
+ended_seen (group Invisible o c i m) v = absurd (true≢false (sym v))
+ended_seen end v = refl
+ended_seen (leaf x sp m) v = go (is_ended (lookahead (leaf x sp m)).terminal) refl
   where
     go : (b : Bool) → is_ended (lookahead (leaf x sp m)).terminal ≡ b → b ≡ false
     go true e = absurd (cc (lookahead_end (leaf x sp m) e))
     go false e = refl
-sees_ended (punct c j sp m) = go (is_ended (lookahead (punct c j sp m)).terminal) refl
+ended_seen (punct c j sp m) v = go (is_ended (lookahead (punct c j sp m)).terminal) refl
   where
     go : (b : Bool) → is_ended (lookahead (punct c j sp m)).terminal ≡ b → b ≡ false
     go true e = absurd (cc (lookahead_end (punct c j sp m) e))
     go false e = refl
-sees_ended (group d o c i m) = refl
+ended_seen (group d o c i m) v = refl
+
+pub sees_ended : (ts : Stream) → sees ended ts ≡ is_end ts
+unfolding sees lookahead_at
+sees_ended ts = ended_seen (flat ts) (flat_visible ts) ∙ end_flat ts
 
 -- a mark isn't a name, a word, a literal or a group
 not_punctuation : (p : Terminal → Bool) → ((x : Text) → p (Punctuation x) ≡ false) → (c : ℕ) (j : Bool) (f : Terminal) → p (char_terminal c j f) ≡ false
@@ -71,10 +77,11 @@ not_punctuation p u c false f = u _
 not_punctuation p u c true (Punctuation l) = u _
 not_punctuation p u c true _ = u _
 
-pub sees_name : (ts : Stream) → sees at_name ts ≡ taken (take_token name ts)
-unfolding sees lookahead_at take_token
-sees_name end = refl
-sees_name (leaf (ident x) sp m) = go (one_of_texts x (keywords ++ contextual))
+name_seen : (ts : Stream) → visible ts ≡ true → answers at_name (lookahead ts) ≡ taken (take_token name ts)
+unfolding take_token
+name_seen (group Invisible o c i m) v = absurd (true≢false (sym v))
+name_seen end v = refl
+name_seen (leaf (ident x) sp m) v = go (one_of_texts x (keywords ++ contextual))
   where
     go : (b : Bool) → is_name (pick b (Word x) Name) ≡ taken {A = TreeAndRest} (only (mem (pick b (Word x) Name) (terminals name)) (Some (Token (ident x) sp, m)))
     go true = sym (taken_only {A = TreeAndRest} (mem (Word x) (terminals name)) (Some (Token (ident x) sp, m)) ∙ and_true (mem (Word x) (terminals name)) ∙ of_words x contextual)
@@ -83,51 +90,87 @@ sees_name (leaf (ident x) sp m) = go (one_of_texts x (keywords ++ contextual))
         of_words x [] = refl
         of_words x (y ∷ l) = ap (or (same_text x y)) (of_words x l)
     go false = refl
-sees_name (leaf (literal k x) sp m) = sym (taken_only {A = TreeAndRest} (mem (Literal k) (terminals name)) (Some (Token (literal k x) sp, m)) ∙ and_true (mem (Literal k) (terminals name)) ∙ of_words contextual)
+name_seen (leaf (literal k x) sp m) v = sym (taken_only {A = TreeAndRest} (mem (Literal k) (terminals name)) (Some (Token (literal k x) sp, m)) ∙ and_true (mem (Literal k) (terminals name)) ∙ of_words contextual)
   where
     of_words : (l : List Text) → mem (Literal k) (map Word l) ≡ false
     of_words [] = refl
     of_words (y ∷ l) = of_words l
-sees_name (punct c j sp m) = not_punctuation is_name (λ x. refl) c j (lookahead m).terminal
-sees_name (group d o c i m) = refl
+name_seen (punct c j sp m) v = not_punctuation is_name (λ x. refl) c j (lookahead m).terminal
+name_seen (group d o c i m) v = refl
 
-pub sees_word : (w : Text) (ts : Stream) → sees (at_word w) ts ≡ taken (take_token (word w) ts)
-unfolding sees lookahead_at take_token
-sees_word w end = refl
-sees_word w (leaf (ident x) sp m) = go (one_of_texts x (keywords ++ contextual))
+pub sees_name : (ts : Stream) → sees at_name ts ≡ taken (take_token name ts)
+unfolding sees lookahead_at
+sees_name ts = name_seen (flat ts) (flat_visible ts) ∙ ap taken (token_flat name ts) ∙ taken_flat (take_token name ts)
+
+word_seen : (w : Text) (ts : Stream) → visible ts ≡ true → answers (at_word w) (lookahead ts) ≡ taken (take_token (word w) ts)
+unfolding take_token
+word_seen w (group Invisible o c i m) v = absurd (true≢false (sym v))
+word_seen w end v = refl
+word_seen w (leaf (ident x) sp m) v = go (one_of_texts x (keywords ++ contextual))
   where
     go : (b : Bool) → is_word w (pick b (Word x) Name) ≡ taken {A = TreeAndRest} (only (mem (pick b (Word x) Name) (terminals (word w))) (Some (Token (ident x) sp, m)))
     go true = same_texts w x ∙ sym (taken_only {A = TreeAndRest} (or (same_text x w) false) (Some (Token (ident x) sp, m)) ∙ and_true (or (same_text x w) false) ∙ or_false (same_text x w))
     go false = refl
-sees_word w (leaf (literal k x) sp m) = refl
-sees_word w (punct c j sp m) = not_punctuation (is_word w) (λ x. refl) c j (lookahead m).terminal
-sees_word w (group d o c i m) = refl
+word_seen w (leaf (literal k x) sp m) v = refl
+word_seen w (punct c j sp m) v = not_punctuation (is_word w) (λ x. refl) c j (lookahead m).terminal
+word_seen w (group d o c i m) v = refl
 
-pub sees_literal : (k : LitKind) (ts : Stream) → sees (at_literal k) ts ≡ taken (take_token (literal_of (k ∷ [])) ts)
-unfolding sees lookahead_at take_token
-sees_literal k end = refl
-sees_literal k (leaf (ident x) sp m) = go (one_of_texts x (keywords ++ contextual))
+pub sees_word : (w : Text) (ts : Stream) → sees (at_word w) ts ≡ taken (take_token (word w) ts)
+unfolding sees lookahead_at
+sees_word w ts = word_seen w (flat ts) (flat_visible ts) ∙ ap taken (token_flat (word w) ts) ∙ taken_flat (take_token (word w) ts)
+
+literal_seen : (k : LitKind) (ts : Stream) → visible ts ≡ true → answers (at_literal k) (lookahead ts) ≡ taken (take_token (literal_of (k ∷ [])) ts)
+unfolding take_token
+literal_seen k (group Invisible o c i m) v = absurd (true≢false (sym v))
+literal_seen k end v = refl
+literal_seen k (leaf (ident x) sp m) v = go (one_of_texts x (keywords ++ contextual))
   where
     go : (b : Bool) → is_literal k (pick b (Word x) Name) ≡ taken {A = TreeAndRest} (only (mem (pick b (Word x) Name) (terminals (literal_of (k ∷ [])))) (Some (Token (ident x) sp, m)))
     go true = refl
     go false = refl
-sees_literal k (leaf (literal l x) sp m) =
+literal_seen k (leaf (literal l x) sp m) v =
     same_eq (kind_number k) (kind_number l)
     ∙ sym (taken_only {A = TreeAndRest} (or (nat_eq (kind_number l) (kind_number k)) false) (Some (Token (literal l x) sp, m)) ∙ and_true (or (nat_eq (kind_number l) (kind_number k)) false) ∙ or_false (nat_eq (kind_number l) (kind_number k)))
-sees_literal k (punct c j sp m) = not_punctuation (is_literal k) (λ x. refl) c j (lookahead m).terminal
-sees_literal k (group d o c i m) = refl
+literal_seen k (punct c j sp m) v = not_punctuation (is_literal k) (λ x. refl) c j (lookahead m).terminal
+literal_seen k (group d o c i m) v = refl
 
-pub sees_group : (d : Delimiter) (ts : Stream) → sees (at_group d) ts ≡ taken (take_group d ts)
-unfolding sees lookahead_at take_group
-sees_group d end = refl
-sees_group d (leaf (ident x) sp m) = go (one_of_texts x (keywords ++ contextual))
+pub sees_literal : (k : LitKind) (ts : Stream) → sees (at_literal k) ts ≡ taken (take_token (literal_of (k ∷ [])) ts)
+unfolding sees lookahead_at
+sees_literal k ts = literal_seen k (flat ts) (flat_visible ts) ∙ ap taken (token_flat (literal_of (k ∷ [])) ts) ∙ taken_flat (take_token (literal_of (k ∷ [])) ts)
+
+group_seen : (d : Delimiter) (ts : Stream) → answers (at_group d) (lookahead ts) ≡ taken (group_of d ts)
+group_seen d end = refl
+group_seen d (leaf (ident x) sp m) = go (one_of_texts x (keywords ++ contextual))
   where
     go : (b : Bool) → is_group d (pick b (Word x) Name) ≡ false
     go true = refl
     go false = refl
-sees_group d (leaf (literal k x) sp m) = refl
-sees_group d (punct c j sp m) = not_punctuation (is_group d) (λ x. refl) c j (lookahead m).terminal
-sees_group d (group d' o c i m) = sym (taken_only (same_delimiter d d') _ ∙ and_true (same_delimiter d d'))
+group_seen d (leaf (literal k x) sp m) = refl
+group_seen d (punct c j sp m) = not_punctuation (is_group d) (λ x. refl) c j (lookahead m).terminal
+group_seen d (group d' o c i m) = sym (taken_only (same_delimiter d d') _ ∙ and_true (same_delimiter d d'))
+
+group_taken_seen : (d : Delimiter) (ts : Stream) → visible ts ≡ true → taken (group_of d ts) ≡ taken (take_group d ts)
+unfolding take_group
+group_taken_seen Invisible ts v = refl
+group_taken_seen Paren ts v = ap (λ z. taken (group_of Paren z)) (sym (front_seen ts v))
+group_taken_seen Brace ts v = ap (λ z. taken (group_of Brace z)) (sym (front_seen ts v))
+group_taken_seen Bracket ts v = ap (λ z. taken (group_of Bracket z)) (sym (front_seen ts v))
+
+group_through : (d : Delimiter) (ts : Stream) → is_visible d ≡ true → answers (at_group d) (lookahead (flat ts)) ≡ taken (take_group d ts)
+group_through d ts w =
+    group_seen d (flat ts) ∙ group_taken_seen d (flat ts) (flat_visible ts) ∙ ap taken (group_flat d ts w) ∙ taken_flat_group (take_group d ts)
+
+-- an invisible group is the very next tree
+pub sees_group : (d : Delimiter) (ts : Stream) → sees (at_group d) ts ≡ taken (take_group d ts)
+unfolding sees lookahead_at take_group
+sees_group Invisible ts = refl
+sees_group Paren ts = group_through Paren ts refl
+sees_group Brace ts = group_through Brace ts refl
+sees_group Bracket ts = group_through Bracket ts refl
+
+end_is : (ts : Stream) → ended_at (front ts) ≡ is_end ts
+unfolding is_end
+end_is ts = refl
 
 -- of an invisible group that was opened: it holds nothing
 abbrev pub holds_nothing_of : Option Opened → Bool
@@ -135,19 +178,12 @@ holds_nothing_of (Some g) = sees ended g.content
 holds_nothing_of None = false
 
 pub sees_empty_group : (ts : Stream) → sees at_empty_group ts ≡ holds_nothing_of (take_group Invisible ts)
-unfolding sees lookahead_at take_group
-sees_empty_group end = refl
-sees_empty_group (leaf (ident x) sp m) = go (one_of_texts x (keywords ++ contextual))
+unfolding sees take_group
+sees_empty_group ts = go (group_of Invisible ts)
   where
-    go : (b : Bool) → is_empty_group (pick b (Word x) Name) ≡ false
-    go true = refl
-    go false = refl
-sees_empty_group (leaf (literal k x) sp m) = refl
-sees_empty_group (punct c j sp m) = not_punctuation is_empty_group (λ x. refl) c j (lookahead m).terminal
-sees_empty_group (group Paren o c i m) = refl
-sees_empty_group (group Brace o c i m) = refl
-sees_empty_group (group Bracket o c i m) = refl
-sees_empty_group (group Invisible o c i m) = refl
+    go : (o : Option Opened) → opened_empty o ≡ holds_nothing_of o
+    go None = refl
+    go (Some g) = end_is g.content ∙ sym (sees_ended g.content)
 
 -- ---- of a mark
 abbrev pub no_longer : Text → Text → Bool
@@ -290,29 +326,35 @@ leaf_mark cs (ident x) = go (one_of_texts x (keywords ++ contextual))
     go false = refl
 leaf_mark cs (literal k x) = refl
 
-sees_chars : (cs : Text) → known_mark cs ≡ true → (ts : Stream) → starts_mark cs (lookahead ts).terminal ≡ taken (take_chars cs ts)
-sees_chars [] w ts = absurd (true≢false (sym w))
-sees_chars (c ∷ []) w (punct d j sp r) = one_char c d j (lookahead r).terminal ∙ same_eq c d ∙ sym (taken_only (nat_eq d c) (Some ((d, sp) ∷ [], r)) ∙ and_true (nat_eq d c))
-sees_chars (c ∷ e ∷ l) w (punct d true sp r) =
+sees_chars : (cs : Text) → known_mark cs ≡ true → (ts : Stream) → visible ts ≡ true → starts_mark cs (lookahead ts).terminal ≡ taken (take_chars cs ts)
+sees_chars [] w ts v = absurd (true≢false (sym w))
+sees_chars (c ∷ []) w (group Invisible o q i m) v = absurd (true≢false (sym v))
+sees_chars (c ∷ e ∷ l) w (group Invisible o q i m) v = absurd (true≢false (sym v))
+sees_chars (c ∷ []) w (punct d j sp r) v = one_char c d j (lookahead r).terminal ∙ same_eq c d ∙ sym (taken_only (nat_eq d c) (Some ((d, sp) ∷ [], r)) ∙ and_true (nat_eq d c))
+sees_chars (c ∷ e ∷ l) w (punct d true sp r) v =
     more_chars c e d l true (lookahead r).terminal (and_left (reaches (c ∷ e ∷ l) long_marks) _ w)
-    ∙ ap₂ and (same_eq c d) (sees_chars (e ∷ l) (and_right (reaches (c ∷ e ∷ l) long_marks) _ w) r)
+    ∙ ap₂ and (same_eq c d) (sees_chars (e ∷ l) (and_right (reaches (c ∷ e ∷ l) long_marks) _ w) r v)
     ∙ sym (taken_only (nat_eq d c) (add_char d sp (take_chars (e ∷ l) r)) ∙ ap (and (nat_eq d c)) (taken_more d sp (take_chars (e ∷ l) r)))
-sees_chars (c ∷ e ∷ l) w (punct d false sp r) = more_chars c e d l false (lookahead r).terminal (and_left (reaches (c ∷ e ∷ l) long_marks) _ w)
-sees_chars (c ∷ []) w end = refl
-sees_chars (c ∷ e ∷ l) w end = refl
-sees_chars (c ∷ []) w (leaf x sp m) = leaf_mark (c ∷ []) x
-sees_chars (c ∷ e ∷ l) w (leaf x sp m) = leaf_mark (c ∷ e ∷ l) x
-sees_chars (c ∷ []) w (group d o q i m) = refl
-sees_chars (c ∷ e ∷ l) w (group d o q i m) = refl
+sees_chars (c ∷ e ∷ l) w (punct d false sp r) v = more_chars c e d l false (lookahead r).terminal (and_left (reaches (c ∷ e ∷ l) long_marks) _ w)
+sees_chars (c ∷ []) w end v = refl
+sees_chars (c ∷ e ∷ l) w end v = refl
+sees_chars (c ∷ []) w (leaf x sp m) v = leaf_mark (c ∷ []) x
+sees_chars (c ∷ e ∷ l) w (leaf x sp m) v = leaf_mark (c ∷ e ∷ l) x
+sees_chars (c ∷ []) w (group d o q i m) v = refl
+sees_chars (c ∷ e ∷ l) w (group d o q i m) v = refl
 
 -- a mark stands next where it can be taken, however the characters behind it are joined
-pub sees_mark : (cs : Text) → known_mark cs ≡ true → (ts : Stream) → sees (at_mark cs) ts ≡ taken (take_mark cs ts)
-unfolding sees lookahead_at take_mark
-sees_mark cs w ts = sees_chars cs w ts ∙ of_marked (take_chars cs ts)
+mark_seen : (cs : Text) → known_mark cs ≡ true → (ts : Stream) → visible ts ≡ true → answers (at_mark cs) (lookahead ts) ≡ taken (take_mark cs ts)
+unfolding take_mark
+mark_seen cs w ts v = sees_chars cs w ts v ∙ of_marked (take_chars cs ts)
   where
     of_marked : (o : Chars) → taken o ≡ taken (marked o)
     of_marked None = refl
     of_marked (Some p) = refl
+
+pub sees_mark : (cs : Text) → known_mark cs ≡ true → (ts : Stream) → sees (at_mark cs) ts ≡ taken (take_mark cs ts)
+unfolding sees lookahead_at
+sees_mark cs w ts = mark_seen cs w (flat ts) (flat_visible ts) ∙ ap taken (mark_flat cs ts) ∙ taken_flat (take_mark cs ts)
 
 pub sees_one : (c : ℕ) (ts : Stream) → sees (at_mark (c ∷ [])) ts ≡ taken (take_mark (c ∷ []) ts)
 sees_one c ts = sees_mark (c ∷ []) refl ts
@@ -331,18 +373,20 @@ longest_off m (x ∷ ms) t one w e = go (begins_text x t) (longest_off m ms t on
     go false ih = ih
 
 -- a lifetime stands next where it can be taken: its `'` is joined to an identifier
-pub sees_lifetime : (ts : Stream) → sees at_lifetime ts ≡ taken (take_lifetime ts)
-unfolding sees lookahead_at take_lifetime
-sees_lifetime end = refl
-sees_lifetime (leaf x sp m) = leaf_mark lifetime_mark x
-sees_lifetime (group d o q i m) = refl
-sees_lifetime (punct c false sp m) = and_off (nat_eq 39 c)
-sees_lifetime (punct c true sp end) = and_off (nat_eq 39 c)
-sees_lifetime (punct c true sp (group d o q i m)) = and_off (nat_eq 39 c)
-sees_lifetime (punct c true sp (leaf (literal k x) sq m)) = and_off (nat_eq 39 c)
-sees_lifetime (punct c true sp (punct d j sq m)) =
+lifetime_seen : (ts : Stream) → visible ts ≡ true → answers at_lifetime (lookahead ts) ≡ taken (take_lifetime ts)
+unfolding take_lifetime
+lifetime_seen (group Invisible o q i m) v = absurd (true≢false (sym v))
+lifetime_seen (punct c true sp (group Invisible o q i m)) v = absurd (true≢false (sym v))
+lifetime_seen end v = refl
+lifetime_seen (leaf x sp m) v = leaf_mark lifetime_mark x
+lifetime_seen (group d o q i m) v = refl
+lifetime_seen (punct c false sp m) v = and_off (nat_eq 39 c)
+lifetime_seen (punct c true sp end) v = and_off (nat_eq 39 c)
+lifetime_seen (punct c true sp (group d o q i m)) v = and_off (nat_eq 39 c)
+lifetime_seen (punct c true sp (leaf (literal k x) sq m)) v = and_off (nat_eq 39 c)
+lifetime_seen (punct c true sp (punct d j sq m)) v =
     not_punctuation (λ f. starts_mark lifetime_mark (join c f)) (λ l. longest_off lifetime_mark long_marks (c ∷ l) (c ∷ []) refl (and_off (nat_eq 39 c))) d j (lookahead m).terminal
-sees_lifetime (punct c true sp (leaf (ident x) sq m)) = go (one_of_texts x (keywords ++ contextual))
+lifetime_seen (punct c true sp (leaf (ident x) sq m)) v = go (one_of_texts x (keywords ++ contextual))
   where
     joined : (v : Bool) → nat_eq c 39 ≡ v → begins_text lifetime_mark (pick v lifetime_mark (c ∷ [])) ≡ taken {A = TreeAndRest} (only v (Some (Lifetime sp x sq, m)))
     joined true e = refl
@@ -351,3 +395,7 @@ sees_lifetime (punct c true sp (leaf (ident x) sq m)) = go (one_of_texts x (keyw
     go : (b : Bool) → starts_mark lifetime_mark (join c (pick b (Word x) Name)) ≡ taken {A = TreeAndRest} (only (nat_eq c 39) (Some (Lifetime sp x sq, m)))
     go true = joined (nat_eq c 39) refl
     go false = joined (nat_eq c 39) refl
+
+pub sees_lifetime : (ts : Stream) → sees at_lifetime ts ≡ taken (take_lifetime ts)
+unfolding sees lookahead_at
+sees_lifetime ts = lifetime_seen (flat ts) (flat_visible ts) ∙ ap taken (lifetime_flat ts) ∙ taken_flat (take_lifetime ts)

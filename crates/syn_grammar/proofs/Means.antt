@@ -3,7 +3,7 @@ use Rattle.std.proofs.Common.{◌≡◌, ℕ, zero, suc, Bool, true, false, Some
 use Rattle.std.specs.Prelude.{List, [], ◌∷◌, ◌↔◌}
 use Rattle.std.proofs.lemmas.Bool.{eq-eqb}
 use Rattle.syn_grammar.specs.Words.{colon, comma, less, greater}
-use Rattle.syn_grammar.specs.Tokens.{Span, Brace, Stream, end, punct, group, and, or, no, pick, visible, Terminal, Punctuation, char_terminal, starts_mark, stands, lookahead, at_generics}
+use Rattle.syn_grammar.specs.Tokens.{Span, Delimiter, Brace, Stream, end, punct, group, and, or, no, pick, is_visible, visible, Terminal, Punctuation, char_terminal, starts_mark, stands, lookahead, at_generics}
 use Rattle.syn_grammar.specs.Rules.{Rule}
 use Rattle.syn_grammar.specs.RuleNumbers.{place, same_rule}
 use Rattle.syn_grammar.specs.Grammar.{Test, trailing_brace, no_trailing_brace, has, has_no, one_where, has_part, no_where, at_most_one_where, vacant, ends_brace, unshown, supplied, Unshown, at_unnamed, underscore, holds, Grammar, empty, token, mark, lifetime, ◌&◌, when◌then◌else◌, vanishing, inside, raw, rest_after, either, one_of, rule, such, captured, row, ordered, choose, among, Syntax, Nothing, Token, Mark, Lifetime, Both, Left, Right, Node, Vanishing, Group, Raw, Rest, Case, Such, Captured, Done, Last, More, Order, chars, Spelled, DerivesPrefix, at_row_end, at_row_comma, Shaped, shaped, Impl, generics_before, opt_generics}
@@ -20,7 +20,7 @@ use Rattle.syn_grammar.proofs.Visible.{read_seen}
 use Rattle.syn_grammar.proofs.Apart.{sound, apart, steps}
 use Rattle.syn_grammar.proofs.Unique.{unique}
 use Rattle.syn_grammar.proofs.Said.{start_of, starts_hold, never_follow_hold, unions_hold}
-use Rattle.syn_grammar.proofs.Takes.{TreeAndRest, sees_stands, end_is, end_found, tree_is, token_told, token_found, lifetime_told, lifetime_found, mark_told, mark_found, group_taken, group_takes, before_is, span_told, span_found}
+use Rattle.syn_grammar.proofs.Takes.{TreeAndRest, sees_is, end_told, end_found, tree_is, token_told, token_found, lifetime_told, lifetime_found, mark_told, mark_found, group_told, group_found, before_is, span_told, span_found}
 use Rattle.syn_grammar.proofs.Run.{inv_wrap, inv_then, inv_vanish, inv_within, inv_raw, inv_rest, inv_first, inv_rule, inv_such, inv_caught, inv_supplied, inv_row, Stepped, inv_ordered, parse_rule_is, row_is, inv_impl}
 
 -- ---- tests see what is kept
@@ -94,7 +94,17 @@ abbrev pub Told : Grammar → Stream → TreeAndRest → Type 0
 Told g ts x = (t : Syntax) × DerivesPrefix table g t ts x.1 × (value_of t ≡ x.0)
 
 abbrev pub Tells : Parser → Grammar → Type 0
-Tells p g = (ts : Stream) (x : TreeAndRest) → p ts ≡ Some x → Told g ts x
+Tells p g = (ts : Stream) (x : TreeAndRest) → visible ts ≡ true → p ts ≡ Some x → Told g ts x
+
+-- what is left of a visible stream is visible
+pub rest_seen : (g : Grammar) (t : Syntax) (ts r : Stream) → DerivesPrefix table g t ts r → visible ts ≡ true → visible r ≡ true
+rest_seen g t ts r a v = (read_seen table g t ts r a v).1
+
+content_seen : (d : Delimiter) (o c : Span) (ts i r : Stream) → ts ≡ group d o c i r → visible ts ≡ true → visible i ≡ true
+content_seen d o c ts i r e v = and_left (visible i) _ (and_right (is_visible d) _ (ap visible (sym e) ∙ v))
+
+spelled_seen : (xs : List (ℕ × Span)) (ts r : Stream) → Spelled xs ts r → visible ts ≡ true → visible r ≡ true
+spelled_seen xs ts r h v = rest_seen (mark false (chars xs)) (Mark xs) ts r (refl, h) v
 
 comma_is : (m r : Stream) (s : Syntax) (xs : List (ℕ × Span)) → s ≡ Mark xs → chars xs ≡ comma → Spelled xs m r → Spelled ((44, span_of s) ∷ []) m r
 comma_is m r s [] q e h = elim h [ ]
@@ -126,31 +136,33 @@ module _ (g h : Grammar) where
 
   rows_told : (p : Parser) → Tells p (either g h) → (n : ℕ) → Tells (rows_for n p) (row g h)
   unfolding rows_for
-  rows_told p law zero ts x e = absurd (cc e)
-  rows_told p law (suc n) ts x e = go (rows_told p law n) (inv_row p (rows_for n p) ts x e)
+  rows_told p law zero ts x v e = absurd (cc e)
+  rows_told p law (suc n) ts x v e = go (rows_told p law n) (inv_row p (rows_for n p) ts x e)
     where
       after : Tells (rows_for n p) (row g h) → stands at_row_end ts ≡ false → (y : TreeAndRest) → Member ts y →
           ((sees at_row_comma y.1 ≡ false) × (x ≡ (last y.0, y.1))) ⊎ ((c z : TreeAndRest) × (take_mark comma y.1 ≡ Some c) × (rows_for n p c.1 ≡ Some z) × (x ≡ (more y.0 (span_of c.0) z.0, z.1))) → Told (row g h) ts x
       after ih q y (k, s, a, l, m) (inl (f, e)) =
-          subst (Told (row g h) ts) (sym e) (Last k s, (q, a, sym (sees_stands at_row_comma y.1) ∙ f), sym l)
+          let w = rest_seen (choose k g h) s ts y.1 a v in
+          subst (Told (row g h) ts) (sym e) (Last k s, (q, a, sym (sees_is at_row_comma y.1 w) ∙ f), sym l)
       after ih q y (k, s, a, l, m) (inr (c, z, f, i, e)) =
-          let d = mark_told comma y.1 c f in
+          let w = rest_seen (choose k g h) s ts y.1 a v in
+          let d = mark_told comma y.1 c w f in
           let sp = comma_is y.1 c.1 c.0 d.0 d.1 d.2 d.3 in
-          let b = ih c.1 z i in
+          let b = ih c.1 z (spelled_seen d.0 y.1 c.1 d.3 w) i in
           subst (Told (row g h) ts) (sym e) (More k s (span_of c.0) b.0, (q, y.1, a, c.1, sp, b.1), sym (ap (more y.0 (span_of c.0)) (sym b.2) ∙ m (span_of c.0) b.0))
 
       go : Tells (rows_for n p) (row g h) → Stepped p (rows_for n p) ts x → Told (row g h) ts x
-      go ih (inl (q, e)) = subst (Told (row g h) ts) (sym e) (Done, (sym (sees_stands at_row_end ts) ∙ q, refl), refl)
+      go ih (inl (q, e)) = subst (Told (row g h) ts) (sym e) (Done, (sym (sees_is at_row_end ts v) ∙ q, refl), refl)
       go ih (inr (q, y, k, m)) =
-          let t = law ts y k in
-          after ih (sym (sees_stands at_row_end ts) ∙ q) y (member_of ts y.1 y.0 t.0 t.2 t.1) m
+          let t = law ts y v k in
+          after ih (sym (sees_is at_row_end ts v) ∙ q) y (member_of ts y.1 y.0 t.0 t.2 t.1) m
 
   union_told : (p q : Parser) → Tells p g → Tells q h → Tells (union p q) (either g h)
-  union_told p q u w ts x e = go (inv_first (p ts) (q ts) x e)
+  union_told p q u w ts x v e = go (inv_first (p ts) (q ts) x e)
     where
       go : ((y : TreeAndRest) × (p ts ≡ Some y) × (x ≡ (Left y.0, y.1))) ⊎ ((y : TreeAndRest) × (q ts ≡ Some y) × (x ≡ (Right y.0, y.1))) → Told (either g h) ts x
-      go (inl (y, k, e)) = let t = u ts y k in subst (Told (either g h) ts) (sym e) (Left t.0, t.1, ap Left t.2)
-      go (inr (y, k, e)) = let t = w ts y k in subst (Told (either g h) ts) (sym e) (Right t.0, t.1, ap Right t.2)
+      go (inl (y, k, e)) = let t = u ts y v k in subst (Told (either g h) ts) (sym e) (Left t.0, t.1, ap Left t.2)
+      go (inr (y, k, e)) = let t = w ts y v k in subst (Told (either g h) ts) (sym e) (Right t.0, t.1, ap Right t.2)
 
   list_told : (p q : Parser) → Tells p g → Tells q h → (n : ℕ) → Tells (rows_for n (union p q)) (row g h)
   list_told p q u w n = rows_told (union p q) (union_told p q u w) n
@@ -159,13 +171,14 @@ rule_told : (k : Rule) (ts r : Stream) (s : Syntax) (t : Syntax) → value_of t 
 rule_told k ts r s (Node t) e a = (t, a, ap unwrapped e)
 rule_told k ts r s _ e a = elim a [ ]
 
-ordered_told : (g h : Grammar) (p q : Parser) → Tells p g → Tells q h → (ts : Stream) (x : TreeAndRest) → row_opened (take_mark less ts) (rows (union p q)) ≡ Some x → Told (ordered g h) ts x
+ordered_told : (g h : Grammar) (p q : Parser) → Tells p g → Tells q h → (ts : Stream) (x : TreeAndRest) → visible ts ≡ true → row_opened (take_mark less ts) (rows (union p q)) ≡ Some x → Told (ordered g h) ts x
 unfolding rows
-ordered_told g h p q u w ts x e =
+ordered_told g h p q u w' ts x v e =
     let z = inv_ordered (take_mark less ts) (rows (union p q)) x e in
-    let a = mark_told less ts z.0 z.3 in
-    let b = list_told g h p q u w _ z.0.1 z.1 z.4 in
-    let c = mark_told greater z.1.1 z.2 z.5 in
+    let a = mark_told less ts z.0 v z.3 in
+    let w = spelled_seen a.0 ts z.0.1 a.3 v in
+    let b = list_told g h p q u w' _ z.0.1 z.1 w z.4 in
+    let c = mark_told greater z.1.1 z.2 (rest_seen (row g h) b.0 z.0.1 z.1.1 b.1 w) z.5 in
     subst (Told (ordered g h) ts) (sym z.6) (
       Order a.0 b.0 c.0,
       (z.0.1, a.2, a.3, z.1.1, b.1, c.2, c.3),
@@ -174,122 +187,125 @@ ordered_told g h p q u w ts x e =
 
 runs_told : (P : Rule → Parser) → ((k : Rule) → Tells (P k) (rule k)) → (g : Grammar) → Tells (runs P g) g
 unfolding rows
-runs_told P law empty ts x e = let a : (Nothing, ts) ≡ x = cc e in subst (Told empty ts) a (Nothing, refl, refl)
-runs_told P law (token b k) ts x e =
-    let h = token_told k ts x e in
+runs_told P law empty ts x v e = let a : (Nothing, ts) ≡ x = cc e in subst (Told empty ts) a (Nothing, refl, refl)
+runs_told P law (token b k) ts x v e =
+    let h = token_told k ts x v e in
     (Token h.0 h.1, (h.3, h.4), sym h.2)
-runs_told P law (mark b cs) ts x e =
-    let h = mark_told cs ts x e in
+runs_told P law (mark b cs) ts x v e =
+    let h = mark_told cs ts x v e in
     (Mark h.0, (h.2, h.3), sym h.1)
-runs_told P law lifetime ts x e =
-    let h = lifetime_told ts x e in
+runs_told P law lifetime ts x v e =
+    let h = lifetime_told ts x v e in
     (Lifetime h.0 h.1 h.2, h.4, sym h.3)
-runs_told P law (g & h) ts x e =
+runs_told P law (g & h) ts x v e =
     let z = inv_then (runs P g ts) (runs P h) x e in
-    let a = runs_told P law g ts z.0 z.2 in
-    let b = runs_told P law h z.0.1 z.1 z.3 in
+    let a = runs_told P law g ts z.0 v z.2 in
+    let b = runs_told P law h z.0.1 z.1 (rest_seen g a.0 ts z.0.1 a.1 v) z.3 in
     subst (Told (g & h) ts) (sym z.4) (Both a.0 b.0, (z.0.1, a.1, b.1), ap₂ Both a.2 b.2)
-runs_told P law (when c then g else h) ts x e = go (sees c ts) refl (runs_told P law g ts) (runs_told P law h ts) e
+runs_told P law (when c then g else h) ts x v e = go (sees c ts) refl (runs_told P law g ts) (runs_told P law h ts) e
   where
-    go : (b : Bool) → sees c ts ≡ b → ((x : TreeAndRest) → runs P g ts ≡ Some x → Told g ts x) → ((x : TreeAndRest) → runs P h ts ≡ Some x → Told h ts x) → branch b (runs P g ts) (runs P h ts) ≡ Some x → Told (when c then g else h) ts x
-    go true q u w e = let z = inv_wrap Left (runs P g ts) x e in let t = u z.0 z.1 in subst (Told (when c then g else h) ts) (sym z.2) (Left t.0, (sym (sees_stands c ts) ∙ q, t.1), ap Left t.2)
-    go false q u w e = let z = inv_wrap Right (runs P h ts) x e in let t = w z.0 z.1 in subst (Told (when c then g else h) ts) (sym z.2) (Right t.0, (sym (sees_stands c ts) ∙ q, t.1), ap Right t.2)
-runs_told P law (vanishing b' c g) ts x e =
+    go : (b : Bool) → sees c ts ≡ b → ((x : TreeAndRest) → visible ts ≡ true → runs P g ts ≡ Some x → Told g ts x) → ((x : TreeAndRest) → visible ts ≡ true → runs P h ts ≡ Some x → Told h ts x) → branch b (runs P g ts) (runs P h ts) ≡ Some x → Told (when c then g else h) ts x
+    go true q u w e = let z = inv_wrap Left (runs P g ts) x e in let t = u z.0 v z.1 in subst (Told (when c then g else h) ts) (sym z.2) (Left t.0, (sym (sees_is c ts v) ∙ q, t.1), ap Left t.2)
+    go false q u w e = let z = inv_wrap Right (runs P h ts) x e in let t = w z.0 v z.1 in subst (Told (when c then g else h) ts) (sym z.2) (Right t.0, (sym (sees_is c ts v) ∙ q, t.1), ap Right t.2)
+runs_told P law (vanishing b' c g) ts x v e =
     let y = inv_vanish b' _ x e in
     let t = go (sees c ts) refl (runs_told P law g ts) y.0 y.1 in
     subst (Told (vanishing b' c g) ts) (sym y.2) (Vanishing b' t.0, (refl, t.1), ap (λ s. Vanishing b' (pick b' (Right Nothing) s)) t.2)
   where
-    go : (b : Bool) → sees c ts ≡ b → ((x : TreeAndRest) → runs P g ts ≡ Some x → Told g ts x) → (x : TreeAndRest) → branch b (runs P g ts) (Some (Nothing, ts)) ≡ Some x → Told (when c then g else empty) ts x
-    go true q u x e = let z = inv_wrap Left (runs P g ts) x e in let t = u z.0 z.1 in subst (Told (when c then g else empty) ts) (sym z.2) (Left t.0, (sym (sees_stands c ts) ∙ q, t.1), ap Left t.2)
-    go false q u x e = let a : (Right Nothing, ts) ≡ x = cc e in subst (Told (when c then g else empty) ts) a (Right Nothing, (sym (sees_stands c ts) ∙ q, refl), refl)
-runs_told P law (inside d g) ts x e =
+    go : (b : Bool) → sees c ts ≡ b → ((x : TreeAndRest) → visible ts ≡ true → runs P g ts ≡ Some x → Told g ts x) → (x : TreeAndRest) → branch b (runs P g ts) (Some (Nothing, ts)) ≡ Some x → Told (when c then g else empty) ts x
+    go true q u x e = let z = inv_wrap Left (runs P g ts) x e in let t = u z.0 v z.1 in subst (Told (when c then g else empty) ts) (sym z.2) (Left t.0, (sym (sees_is c ts v) ∙ q, t.1), ap Left t.2)
+    go false q u x e = let a : (Right Nothing, ts) ≡ x = cc e in subst (Told (when c then g else empty) ts) a (Right Nothing, (sym (sees_is c ts v) ∙ q, refl), refl)
+runs_told P law (inside d g) ts x v e =
     let z = inv_within d (take_group d ts) (runs P g) x e in
-    let f = group_taken d ts z.0 z.2 in
-    let t = runs_told P law g z.0.content z.1 z.3 in
-    let n = end_is z.1.1 z.4 in
+    let f = group_told d ts z.0 v z.2 in
+    let w = content_seen d z.0.opening z.0.closing ts z.0.content z.0.rest f v in
+    let t = runs_told P law g z.0.content z.1 w z.3 in
+    let n = end_told z.1.1 (rest_seen g t.0 z.0.content z.1.1 t.1 w) z.4 in
     subst (Told (inside d g) ts) (sym z.5) (Group d z.0.opening z.0.closing t.0, (refl, z.0.content, f, subst (DerivesPrefix table g t.0 z.0.content) n t.1), ap (Group d z.0.opening z.0.closing) t.2)
-runs_told P law (raw d) ts x e =
+runs_told P law (raw d) ts x v e =
     let z = inv_raw d (take_group d ts) x e in
-    subst (Told (raw d) ts) (sym z.2) (Raw d z.0.opening z.0.closing z.0.content, (refl, group_taken d ts z.0 z.1), refl)
-runs_told P law (rest_after cs) ts x e =
+    subst (Told (raw d) ts) (sym z.2) (Raw d z.0.opening z.0.closing z.0.content, (refl, group_told d ts z.0 v z.1), refl)
+runs_told P law (rest_after cs) ts x v e =
     let z = inv_rest (take_mark cs ts) x e in
-    let h = mark_told cs ts z.0 z.1 in
-    subst (Told (rest_after cs) ts) (sym z.3) (Rest h.0 z.0.1, (h.2, h.3, sym (tree_is z.0.1) ∙ z.2, refl), ap (λ s. Rest (marks_of s) z.0.1) (sym h.1))
-runs_told P law (either g h) ts x e = union_told g h (runs P g) (runs P h) (runs_told P law g) (runs_told P law h) ts x e
-runs_told P law (one_of ks) ts x e =
+    let h = mark_told cs ts z.0 v z.1 in
+    let w = spelled_seen h.0 ts z.0.1 h.3 v in
+    subst (Told (rest_after cs) ts) (sym z.3) (Rest h.0 z.0.1, (h.2, h.3, sym (tree_is z.0.1 w) ∙ z.2, refl), ap (λ s. Rest (marks_of s) z.0.1) (sym h.1))
+runs_told P law (either g h) ts x v e = union_told g h (runs P g) (runs P h) (runs_told P law g) (runs_told P law h) ts x v e
+runs_told P law (one_of ks) ts x v e =
     let z = inv_rule P ks ts x e in
-    let t = law z.0 ts z.1 z.3 in
+    let t = law z.0 ts z.1 v z.3 in
     let u = rule_told z.0 ts z.1.1 z.1.0 t.0 t.2 t.1 in
     subst (Told (one_of ks) ts) (sym z.4) (Case z.0 u.0, (z.2, u.1), ap (Case z.0) u.2)
-runs_told P law (rule k) ts x e = law k ts x e
-runs_told P law (such q g) ts x e =
+runs_told P law (rule k) ts x v e = law k ts x v e
+runs_told P law (such q g) ts x v e =
     let z = inv_such q (runs P g ts) x e in
-    let t = runs_told P law g ts z.0 z.1 in
+    let t = runs_told P law g ts z.0 v z.1 in
     subst (Told (such q g) ts) (sym z.3) (Such t.0, (sym (holds_value q t.0) ∙ ap (holds q) t.2 ∙ z.2, t.1), ap Such t.2)
-runs_told P law (shaped j g) ts x e =
+runs_told P law (shaped j g) ts x v e =
     let z = inv_wrap (shape j) (runs P g ts) x e in
-    let t = runs_told P law g ts z.0 z.1 in
+    let t = runs_told P law g ts z.0 v z.1 in
     subst (Told (shaped j g) ts) (sym z.2) (Shaped j t.0, (refl, t.1), ap (shape j) t.2)
-runs_told P law (generics_before f g h) ts x e =
+runs_told P law (generics_before f g h) ts x v e =
     let l = rows (union (runs P f) (runs P g)) in
     let z = inv_impl (generics l ts) (runs P h) x e in
     let a = go (sees at_generics ts) refl (runs_told P law f) (runs_told P law g) z.0 z.2 in
-    let b = runs_told P law h z.0.1 z.1 z.3 in
+    let b = runs_told P law h z.0.1 z.1 (rest_seen (opt_generics f g) a.0 ts z.0.1 a.1 v) z.3 in
     subst (Told (generics_before f g h) ts) (sym z.4) (Impl a.0 b.0, (z.0.1, a.1, b.1), ap₂ Impl a.2 b.2)
   where
     go : (b : Bool) → sees at_generics ts ≡ b → Tells (runs P f) f → Tells (runs P g) g → (x : TreeAndRest) → branch b (row_opened (take_mark less ts) (rows (union (runs P f) (runs P g)))) (Some (Nothing, ts)) ≡ Some x → Told (opt_generics f g) ts x
     go true q u w x e =
         let z = inv_wrap Left (row_opened (take_mark less ts) (rows (union (runs P f) (runs P g)))) x e in
-        let t = ordered_told f g (runs P f) (runs P g) u w ts z.0 z.1 in
-        subst (Told (opt_generics f g) ts) (sym z.2) (Left t.0, (sym (sees_stands at_generics ts) ∙ q, t.1), ap Left t.2)
-    go false q u w x e = let a : (Right Nothing, ts) ≡ x = cc e in subst (Told (opt_generics f g) ts) a (Right Nothing, (sym (sees_stands at_generics ts) ∙ q, refl), refl)
-runs_told P law unshown ts x e = let a : (Unshown Nothing, ts) ≡ x = cc e in subst (Told unshown ts) a (Unshown Nothing, (refl, refl), refl)
-runs_told P law (supplied n p t) ts x e = go (sees (at_unnamed n) ts) refl (runs_told P law p) (runs_told P law t) e
+        let t = ordered_told f g (runs P f) (runs P g) u w ts z.0 v z.1 in
+        subst (Told (opt_generics f g) ts) (sym z.2) (Left t.0, (sym (sees_is at_generics ts v) ∙ q, t.1), ap Left t.2)
+    go false q u w x e = let a : (Right Nothing, ts) ≡ x = cc e in subst (Told (opt_generics f g) ts) a (Right Nothing, (sym (sees_is at_generics ts v) ∙ q, refl), refl)
+runs_told P law unshown ts x v e = let a : (Unshown Nothing, ts) ≡ x = cc e in subst (Told unshown ts) a (Unshown Nothing, (refl, refl), refl)
+runs_told P law (supplied n p t) ts x v e = go (sees (at_unnamed n) ts) refl (runs_told P law p) (runs_told P law t) e
   where
     go : (b : Bool) → sees (at_unnamed n) ts ≡ b → Tells (runs P p) p → Tells (runs P t) t → named_or_not b (runs P p) (runs P t) ts ≡ Some x → Told (supplied n p t) ts x
     go true q u w e =
         let z = inv_supplied ts (runs P t ts) (runs P p) x e in
-        let s = w ts z.0 z.3 in
+        let s = w ts z.0 v z.3 in
         let (c, f, k) = carried table t s.0 ts z.0.1 s.1 in
-        let d = span_told ts c z.0.1 z.2 f z.4 in
-        let a = u (underscore z.2) z.1 z.5 in
-        let m = end_is z.1.1 z.6 in
+        let d = span_told ts c z.0.1 z.2 v f z.4 in
+        let a = u (underscore z.2) z.1 refl z.5 in
+        let m = end_told z.1.1 (rest_seen p a.0 (underscore z.2) z.1.1 a.1 refl) z.6 in
         subst (Told (supplied n p t) ts) (sym z.7) (
           Both a.0 (Both (Mark ((58, z.2) ∷ [])) s.0),
-          inl (sym (sees_stands (at_unnamed n) ts) ∙ q, d.0, z.2, d.1, d.2, subst (DerivesPrefix table p a.0 (underscore z.2)) m a.1, refl, s.1),
+          inl (sym (sees_is (at_unnamed n) ts v) ∙ q, d.0, z.2, d.1, d.2, subst (DerivesPrefix table p a.0 (underscore z.2)) m a.1, refl, s.1),
           ap₂ (λ y r. Both y (Both (Mark ((58, z.2) ∷ [])) r)) a.2 s.2,
         )
     go false q u w e =
         let z = inv_then (runs P p ts) (λ m. and_then (take_mark colon m) (runs P t)) x e in
         let y = inv_then (take_mark colon z.0.1) (runs P t) z.1 z.3 in
-        let a = u ts z.0 z.2 in
-        let c = mark_told colon z.0.1 y.0 y.2 in
-        let b = w y.0.1 y.1 y.3 in
+        let a = u ts z.0 v z.2 in
+        let va = rest_seen p a.0 ts z.0.1 a.1 v in
+        let c = mark_told colon z.0.1 y.0 va y.2 in
+        let b = w y.0.1 y.1 (spelled_seen c.0 z.0.1 y.0.1 c.3 va) y.3 in
         let f : ◌≡◌ {A = TreeAndRest} x (Both z.0.0 (Both y.0.0 y.1.0), y.1.1) = z.4 ∙ ap (λ r. (Both z.0.0 r.0, r.1)) y.4 in
         subst (Told (supplied n p t) ts) (sym f) (
           Both a.0 (Both (Mark c.0) b.0),
-          inr (sym (sees_stands (at_unnamed n) ts) ∙ q, z.0.1, a.1, c.2, y.0.1, c.3, b.1),
+          inr (sym (sees_is (at_unnamed n) ts v) ∙ q, z.0.1, a.1, c.2, y.0.1, c.3, b.1),
           ap₂ Both a.2 (ap₂ Both (sym c.1) b.2),
         )
-runs_told P law (captured g) ts x e =
+runs_told P law (captured g) ts x v e =
     let z = inv_caught ts (runs P g ts) x e in
-    let t = runs_told P law g ts z.0 z.1 in
+    let t = runs_told P law g ts z.0 v z.1 in
     let (c, f, k) = carried table g t.0 ts z.0.1 t.1 in
     subst (Told (captured g) ts) (sym z.2) (Captured t.0 c, (f, t.1), ap (Captured Nothing) (sym (before_is ts c z.0.1 f)))
-runs_told P law (row g h) ts x e = list_told g h (runs P g) (runs P h) (runs_told P law g) (runs_told P law h) _ ts x e
-runs_told P law (ordered g h) ts x e = ordered_told g h (runs P g) (runs P h) (runs_told P law g) (runs_told P law h) ts x e
+runs_told P law (row g h) ts x v e = list_told g h (runs P g) (runs P h) (runs_told P law g) (runs_told P law h) _ ts x v e
+runs_told P law (ordered g h) ts x v e = ordered_told g h (runs P g) (runs P h) (runs_told P law g) (runs_told P law h) ts x v e
 
 run_told : (n : ℕ) (k : Rule) → Tells (run n k) (rule k)
 unfolding run
-run_told zero k ts x e = absurd (cc e)
-run_told (suc n) k ts x e =
+run_told zero k ts x v e = absurd (cc e)
+run_told (suc n) k ts x v e =
     let z = inv_wrap Node (runs (run n) (table k) ts) x e in
-    let t = runs_told (run n) (run_told n) (table k) ts z.0 z.1 in
+    let t = runs_told (run n) (run_told n) (table k) ts z.0 v z.1 in
     subst (Told (rule k) ts) (sym z.2) (Node t.0, t.1, ap Node t.2)
 
 pub parse_rule_told : (k : Rule) → Tells (parse_rule k) (rule k)
 unfolding parse_rule
-parse_rule_told k ts x e = run_told _ k ts x e
+parse_rule_told k ts x v e = run_told _ k ts x v e
 
 pub told : (g : Grammar) → Tells (runs parse_rule g) g
 told g = runs_told parse_rule parse_rule_told g
@@ -299,20 +315,20 @@ abbrev Found : Grammar → Syntax → Stream → Stream → Type 0
 Found g s ts r = runs parse_rule g ts ≡ Some (value_of s, r)
 
 -- a union's second form is computed where its first isn't read
-second_found : (g h : Grammar) (s : Syntax) (ts r : Stream) → sound table start_of (either g h) ≡ true → DerivesPrefix table h s ts r → Found h s ts r → Found (either g h) (Right s) ts r
-second_found g h s ts r w a e = go (runs parse_rule g ts) refl
+second_found : (g h : Grammar) (s : Syntax) (ts r : Stream) → sound table start_of (either g h) ≡ true → visible ts ≡ true → DerivesPrefix table h s ts r → Found h s ts r → Found (either g h) (Right s) ts r
+second_found g h s ts r w v a e = go (runs parse_rule g ts) refl
   where
     go : (o : Out) → runs parse_rule g ts ≡ o → first_of o (runs parse_rule h ts) ≡ Some (Right (value_of s), r)
     go None q = ap (wrap Right) e
     go (Some p) q =
-        let t = told g ts p q in
+        let t = told g ts p v q in
         absurd (cc ((unique table start_of starts_hold never_follow_hold unions_hold (either g h) w ts (Left t.0) p.1 (Right s) r t.1 a).0))
 
 -- of a union of rules the one that reads is found
-rule_found : (ks : List Rule) → sound table start_of (one_of ks) ≡ true → (k : Rule) (s : Syntax) (ts r : Stream) → among k ks ≡ true → DerivesPrefix table (table k) s ts r → parse_rule k ts ≡ Some (Node (value_of s), r) →
+rule_found : (ks : List Rule) → sound table start_of (one_of ks) ≡ true → (k : Rule) (s : Syntax) (ts r : Stream) → visible ts ≡ true → among k ks ≡ true → DerivesPrefix table (table k) s ts r → parse_rule k ts ≡ Some (Node (value_of s), r) →
     (ls : List Rule) → ((l : Rule) → among l ls ≡ true → among l ks ≡ true) → among k ls ≡ true → first_rule parse_rule ls ts ≡ Some (Case k (value_of s), r)
-rule_found ks w k s ts r i a e [] u j = absurd (true≢false (sym j))
-rule_found ks w k s ts r i a e (l ∷ ls) u j = go (parse_rule l ts) refl (or_split (same_rule k l) (among k ls) j) (rule_found ks w k s ts r i a e ls (λ m h. u m (later m h)))
+rule_found ks w k s ts r v i a e [] u j = absurd (true≢false (sym j))
+rule_found ks w k s ts r v i a e (l ∷ ls) u j = go (parse_rule l ts) refl (or_split (same_rule k l) (among k ls) j) (rule_found ks w k s ts r v i a e ls (λ m h. u m (later m h)))
   where
     later : (m : Rule) → among m ls ≡ true → or (same_rule m l) (among m ls) ≡ true
     later m h = after (same_rule m l)
@@ -328,7 +344,7 @@ rule_found ks w k s ts r i a e (l ∷ ls) u j = go (parse_rule l ts) refl (or_sp
     go None q (inl h) ih = absurd (cc (sym q ∙ ap (λ m. parse_rule m ts) (sym (same_rule_eq k l h)) ∙ e))
     go None q (inr h) ih = ih h
     go (Some p) q h ih =
-        let t = parse_rule_told l ts p q in
+        let t = parse_rule_told l ts p v q in
         let x = rule_told l ts p.1 p.0 t.0 t.2 t.1 in
         let y = unique table start_of starts_hold never_follow_hold unions_hold (one_of ks) w ts (Case l x.0) p.1 (Case k s) r (u l (here l (eq-eqb (place l) (place l) refl)), x.1) (i, a) in
         let n : l ≡ k = cc y.0 in
@@ -340,9 +356,9 @@ module _ (g h : Grammar) (w : sound table start_of (row g h) ≡ true) where
   sound_member true = and_left (sound table start_of g) _ (and_right (apart table start_of (steps table start_of) g h) _ w)
   sound_member false = and_right (sound table start_of g) _ (and_right (apart table start_of (steps table start_of) g h) _ w)
 
-  member_found : (k : Bool) (s : Syntax) (ts m : Stream) → DerivesPrefix table (choose k g h) s ts m → Found (choose k g h) s ts m → union (runs parse_rule g) (runs parse_rule h) ts ≡ Some (side k (value_of s), m)
-  member_found true s ts m a e = ap (λ o. first_of o (runs parse_rule h ts)) e
-  member_found false s ts m a e = second_found g h s ts m w a e
+  member_found : (k : Bool) (s : Syntax) (ts m : Stream) → visible ts ≡ true → DerivesPrefix table (choose k g h) s ts m → Found (choose k g h) s ts m → union (runs parse_rule g) (runs parse_rule h) ts ≡ Some (side k (value_of s), m)
+  member_found true s ts m v a e = ap (λ o. first_of o (runs parse_rule h ts)) e
+  member_found false s ts m v a e = second_found g h s ts m w v a e
 
   last_side : (k : Bool) (s : Syntax) → last (side k s) ≡ Last k s
   last_side true s = refl
@@ -352,111 +368,110 @@ module _ (g h : Grammar) (w : sound table start_of (row g h) ≡ true) where
   more_side true s sp t = refl
   more_side false s sp t = refl
 
-  row_last : (k : Bool) (s : Syntax) (ts r : Stream) → stands at_row_end ts ≡ false → DerivesPrefix table (choose k g h) s ts r → stands at_row_comma r ≡ false → Found (choose k g h) s ts r → Found (row g h) (Last k s) ts r
-  row_last k s ts r n a m e =
+  row_last : (k : Bool) (s : Syntax) (ts r : Stream) → visible ts ≡ true → stands at_row_end ts ≡ false → DerivesPrefix table (choose k g h) s ts r → stands at_row_comma r ≡ false → Found (choose k g h) s ts r → Found (row g h) (Last k s) ts r
+  row_last k s ts r v n a m e =
       row_is g h ts
-      ∙ ap (λ b. row_from b (union (runs parse_rule g) (runs parse_rule h)) (runs parse_rule (row g h)) ts) (sees_stands at_row_end ts ∙ n)
-      ∙ ap (λ o. row_member o (runs parse_rule (row g h))) (member_found k s ts r a e)
-      ∙ ap (λ b. row_after b (side k (value_of s)) r (runs parse_rule (row g h))) (sees_stands at_row_comma r ∙ m)
+      ∙ ap (λ b. row_from b (union (runs parse_rule g) (runs parse_rule h)) (runs parse_rule (row g h)) ts) (sees_is at_row_end ts v ∙ n)
+      ∙ ap (λ o. row_member o (runs parse_rule (row g h))) (member_found k s ts r v a e)
+      ∙ ap (λ b. row_after b (side k (value_of s)) r (runs parse_rule (row g h))) (sees_is at_row_comma r (rest_seen (choose k g h) s ts r a v) ∙ m)
       ∙ ap (λ x. Some (x, r)) (last_side k (value_of s))
 
-  row_more : (k : Bool) (s : Syntax) (sp : Span) (t : Syntax) (ts m m' r : Stream) → stands at_row_end ts ≡ false → DerivesPrefix table (choose k g h) s ts m → Spelled ((44, sp) ∷ []) m m' →
+  row_more : (k : Bool) (s : Syntax) (sp : Span) (t : Syntax) (ts m m' r : Stream) → visible ts ≡ true → stands at_row_end ts ≡ false → DerivesPrefix table (choose k g h) s ts m → Spelled ((44, sp) ∷ []) m m' →
       Found (choose k g h) s ts m → Found (row g h) t m' r → Found (row g h) (More k s sp t) ts r
-  row_more k s sp t ts m m' r n a c e f =
+  row_more k s sp t ts m m' r v n a c e f =
+      let w' = rest_seen (choose k g h) s ts m a v in
       row_is g h ts
-      ∙ ap (λ b. row_from b (union (runs parse_rule g) (runs parse_rule h)) (runs parse_rule (row g h)) ts) (sees_stands at_row_end ts ∙ n)
-      ∙ ap (λ o. row_member o (runs parse_rule (row g h))) (member_found k s ts m a e)
-      ∙ ap (λ b. row_after b (side k (value_of s)) m (runs parse_rule (row g h))) (sees_stands at_row_comma m ∙ ap (stands at_row_comma) c.1 ∙ comma_seen c.0 (lookahead m').terminal)
-      ∙ ap (λ o. row_comma (side k (value_of s)) o (runs parse_rule (row g h))) (mark_found ((44, sp) ∷ []) comma m m' refl c)
+      ∙ ap (λ b. row_from b (union (runs parse_rule g) (runs parse_rule h)) (runs parse_rule (row g h)) ts) (sees_is at_row_end ts v ∙ n)
+      ∙ ap (λ o. row_member o (runs parse_rule (row g h))) (member_found k s ts m v a e)
+      ∙ ap (λ b. row_after b (side k (value_of s)) m (runs parse_rule (row g h))) (sees_is at_row_comma m w' ∙ ap (stands at_row_comma) c.1 ∙ comma_seen c.0 (lookahead m').terminal)
+      ∙ ap (λ o. row_comma (side k (value_of s)) o (runs parse_rule (row g h))) (mark_found ((44, sp) ∷ []) comma m m' w' refl c)
       ∙ ap (wrap (more (side k (value_of s)) sp)) f
       ∙ ap (λ x. Some (x, r)) (more_side k (value_of s) sp (value_of t))
 
-pub found : (g : Grammar) (s : Syntax) (ts r : Stream) → sound table start_of g ≡ true → DerivesPrefix table g s ts r → runs parse_rule g ts ≡ Some (value_of s, r)
-found empty Nothing ts r w a = ap (λ t. Some (Nothing, t)) a
-found (token b k) (Token x sp) ts r w a = token_found k x sp ts r a.0 a.1
-found (mark b cs) (Mark xs) ts r w a = mark_found xs cs ts r a.0 a.1
-found lifetime (Lifetime sp x sq) ts r w a = lifetime_found sp x sq ts r a
-found (g & h) (Both s t) ts r w (m, a, b) =
-    ap (λ o. and_then o (runs parse_rule h)) (found g s ts m (and_left (sound table start_of g) _ w) a)
-    ∙ ap (wrap (Both (value_of s))) (found h t m r (and_right (sound table start_of g) _ w) b)
-found (when c then g else h) (Left s) ts r w a =
-    ap (λ b. branch b (runs parse_rule g ts) (runs parse_rule h ts)) (sees_stands c ts ∙ a.0) ∙ ap (wrap Left) (found g s ts r (and_left (sound table start_of g) _ w) a.1)
-found (when c then g else h) (Right s) ts r w a =
-    ap (λ b. branch b (runs parse_rule g ts) (runs parse_rule h ts)) (sees_stands c ts ∙ a.0) ∙ ap (wrap Right) (found h s ts r (and_right (sound table start_of g) _ w) a.1)
-found (vanishing b c g) (Vanishing b' s) ts r w a =
-    ap (vanish b) (found (when c then g else empty) s ts r (with_true (sound table start_of g) w) a.1) ∙ ap (λ d. Some (Vanishing d (pick d (Right Nothing) (value_of s)), r)) a.0
+pub found : (g : Grammar) (s : Syntax) (ts r : Stream) → visible ts ≡ true → sound table start_of g ≡ true → DerivesPrefix table g s ts r → runs parse_rule g ts ≡ Some (value_of s, r)
+found empty Nothing ts r v w a = ap (λ t. Some (Nothing, t)) a
+found (token b k) (Token x sp) ts r v w a = token_found k x sp ts r v a.0 a.1
+found (mark b cs) (Mark xs) ts r v w a = mark_found xs cs ts r v a.0 a.1
+found lifetime (Lifetime sp x sq) ts r v w a = lifetime_found sp x sq ts r v a
+found (g & h) (Both s t) ts r v w (m, a, b) =
+    ap (λ o. and_then o (runs parse_rule h)) (found g s ts m v (and_left (sound table start_of g) _ w) a)
+    ∙ ap (wrap (Both (value_of s))) (found h t m r (rest_seen g s ts m a v) (and_right (sound table start_of g) _ w) b)
+found (when c then g else h) (Left s) ts r v w a =
+    ap (λ b. branch b (runs parse_rule g ts) (runs parse_rule h ts)) (sees_is c ts v ∙ a.0) ∙ ap (wrap Left) (found g s ts r v (and_left (sound table start_of g) _ w) a.1)
+found (when c then g else h) (Right s) ts r v w a =
+    ap (λ b. branch b (runs parse_rule g ts) (runs parse_rule h ts)) (sees_is c ts v ∙ a.0) ∙ ap (wrap Right) (found h s ts r v (and_right (sound table start_of g) _ w) a.1)
+found (vanishing b c g) (Vanishing b' s) ts r v w a =
+    ap (vanish b) (found (when c then g else empty) s ts r v (with_true (sound table start_of g) w) a.1) ∙ ap (λ d. Some (Vanishing d (pick d (Right Nothing) (value_of s)), r)) a.0
   where
     with_true : (b : Bool) → b ≡ true → and b true ≡ true
     with_true true e = refl
     with_true false e = e
-found (inside d g) (Group d' o c s) ts r w (e, i, f, a) =
+found (inside d g) (Group d' o c s) ts r v w (e, i, f, a) =
     let f' : ts ≡ group d o c i r = f ∙ ap (λ z. group z o c i r) (sym e) in
-    ap (λ z. within d z (runs parse_rule g)) (group_takes d o c i ts r f')
-    ∙ ap (close d (record { opening = o; closing = c; content = i; rest = r })) (found g s i end w a)
+    ap (λ z. within d z (runs parse_rule g)) (group_found d o c i ts r v f')
+    ∙ ap (close d (record { opening = o; closing = c; content = i; rest = r })) (found g s i end (content_seen d o c ts i r f' v) w a)
     ∙ ap (λ b. only b (Some (Group d o c (value_of s), r))) end_found
     ∙ ap (λ z. Some (Group z o c (value_of s), r)) e
-found (raw d) (Raw d' o c i) ts r w (e, f) =
-    ap (raw_of d) (group_takes d o c i ts r (f ∙ ap (λ z. group z o c i r) (sym e))) ∙ ap (λ z. Some (Raw z o c i, r)) e
-found (rest_after cs) (Rest xs i) ts r w (e, h, n, f) =
-    ap rest_of (mark_found xs cs ts i e h)
-    ∙ ap (λ b. only b (Some (Rest xs i, end))) (tree_is i ∙ n)
+found (raw d) (Raw d' o c i) ts r v w (e, f) =
+    ap (raw_of d) (group_found d o c i ts r v (f ∙ ap (λ z. group z o c i r) (sym e))) ∙ ap (λ z. Some (Raw z o c i, r)) e
+found (rest_after cs) (Rest xs i) ts r v w (e, h, n, f) =
+    ap rest_of (mark_found xs cs ts i v e h)
+    ∙ ap (λ b. only b (Some (Rest xs i, end))) (tree_is i (spelled_seen xs ts i h v) ∙ n)
     ∙ ap (λ z. Some (Rest xs i, z)) (sym f)
-found (either g h) (Left s) ts r w a =
-    ap (λ o. first_of o (runs parse_rule h ts)) (found g s ts r (and_left (sound table start_of g) _ (and_right (apart table start_of (steps table start_of) g h) _ w)) a)
-found (either g h) (Right s) ts r w a =
-    second_found g h s ts r w a (found h s ts r (and_right (sound table start_of g) _ (and_right (apart table start_of (steps table start_of) g h) _ w)) a)
-found (one_of ks) (Case k s) ts r w (i, a) =
-    rule_found ks w k s ts r i a (parse_rule_is k ts ∙ ap (wrap Node) (found (table k) s ts r (unions_hold k) a)) ks (λ l h. h) i
-found (rule k) (Node s) ts r w a = parse_rule_is k ts ∙ ap (wrap Node) (found (table k) s ts r (unions_hold k) a)
-found (such q g) (Such s) ts r w a = ap (such_as q) (found g s ts r w a.1) ∙ ap (λ b. only b (Some (Such (value_of s), r))) (holds_value q s ∙ a.0)
-found (shaped j g) (Shaped i s) ts r w (e, a) = ap (wrap (shape j)) (found g s ts r w a) ∙ ap (λ k. Some (shape k (value_of s), r)) e
-found (generics_before f g h) (Impl l s) ts r w (m, a, b) =
-    ap (λ o. and_impl o (runs parse_rule h)) (found (opt_generics f g) l ts m (and_left (sound table start_of (opt_generics f g)) _ w) a)
-    ∙ ap (wrap (Impl (value_of l))) (found h s m r (and_right (sound table start_of (opt_generics f g)) _ w) b)
-found unshown (Unshown s) ts r w (e, f) = ap₂ (λ a t. Some (Unshown a, t)) (sym (ap value_of e)) f
-found (supplied n p t) (Both a (Both (Mark xs) s)) ts r w (inl (h, x, sp, c, e, pa, f, q)) =
-    ap (λ b. named_or_not b (runs parse_rule p) (runs parse_rule t) ts) (sees_stands (at_unnamed n) ts ∙ h)
-    ∙ ap (λ o. supplied_to ts o (runs parse_rule p)) (found t s ts r (and_right (sound table start_of p) _ w) q)
-    ∙ ap (λ o. supplied_at (value_of s) r o (runs parse_rule p)) (span_found x sp ts c r e)
-    ∙ ap (name_supplied (value_of s) r sp) (found p a (underscore sp) end (and_left (sound table start_of p) _ w) pa)
+found (either g h) (Left s) ts r v w a =
+    ap (λ o. first_of o (runs parse_rule h ts)) (found g s ts r v (and_left (sound table start_of g) _ (and_right (apart table start_of (steps table start_of) g h) _ w)) a)
+found (either g h) (Right s) ts r v w a =
+    second_found g h s ts r w v a (found h s ts r v (and_right (sound table start_of g) _ (and_right (apart table start_of (steps table start_of) g h) _ w)) a)
+found (one_of ks) (Case k s) ts r v w (i, a) =
+    rule_found ks w k s ts r v i a (parse_rule_is k ts ∙ ap (wrap Node) (found (table k) s ts r v (unions_hold k) a)) ks (λ l h. h) i
+found (rule k) (Node s) ts r v w a = parse_rule_is k ts ∙ ap (wrap Node) (found (table k) s ts r v (unions_hold k) a)
+found (such q g) (Such s) ts r v w a = ap (such_as q) (found g s ts r v w a.1) ∙ ap (λ b. only b (Some (Such (value_of s), r))) (holds_value q s ∙ a.0)
+found (shaped j g) (Shaped i s) ts r v w (e, a) = ap (wrap (shape j)) (found g s ts r v w a) ∙ ap (λ k. Some (shape k (value_of s), r)) e
+found (generics_before f g h) (Impl l s) ts r v w (m, a, b) =
+    ap (λ o. and_impl o (runs parse_rule h)) (found (opt_generics f g) l ts m v (and_left (sound table start_of (opt_generics f g)) _ w) a)
+    ∙ ap (wrap (Impl (value_of l))) (found h s m r (rest_seen (opt_generics f g) l ts m a v) (and_right (sound table start_of (opt_generics f g)) _ w) b)
+found unshown (Unshown s) ts r v w (e, f) = ap₂ (λ a t. Some (Unshown a, t)) (sym (ap value_of e)) f
+found (supplied n p t) (Both a (Both (Mark xs) s)) ts r v w (inl (h, x, sp, c, e, pa, f, q)) =
+    ap (λ b. named_or_not b (runs parse_rule p) (runs parse_rule t) ts) (sees_is (at_unnamed n) ts v ∙ h)
+    ∙ ap (λ o. supplied_to ts o (runs parse_rule p)) (found t s ts r v (and_right (sound table start_of p) _ w) q)
+    ∙ ap (λ o. supplied_at (value_of s) r o (runs parse_rule p)) (span_found x sp ts c r v e)
+    ∙ ap (name_supplied (value_of s) r sp) (found p a (underscore sp) end refl (and_left (sound table start_of p) _ w) pa)
     ∙ ap (λ b. only b (Some (Both (value_of a) (Both (Mark ((58, sp) ∷ [])) (value_of s)), r))) end_found
     ∙ ap (λ l. Some (Both (value_of a) (Both (Mark l) (value_of s)), r)) (sym f)
-found (supplied n p t) (Both a (Both (Mark xs) s)) ts r w (inr (h, m, pa, f, m', d, q)) =
-    ap (λ b. named_or_not b (runs parse_rule p) (runs parse_rule t) ts) (sees_stands (at_unnamed n) ts ∙ h)
-    ∙ ap (λ o. and_then o (λ m. and_then (take_mark colon m) (runs parse_rule t))) (found p a ts m (and_left (sound table start_of p) _ w) pa)
-    ∙ ap (λ o. wrap (Both (value_of a)) (and_then o (runs parse_rule t))) (mark_found xs colon m m' f d)
-    ∙ ap (λ o. wrap (Both (value_of a)) (wrap (Both (Mark xs)) o)) (found t s m' r (and_right (sound table start_of p) _ w) q)
-found (captured g) (Captured s i) ts r w a =
-    ap (caught ts) (found g s ts r w a.1) ∙ ap (λ c. Some (Captured Nothing c, r)) (before_is ts i r a.0)
-found (row g h) Done ts r w (n, e) =
+found (supplied n p t) (Both a (Both (Mark xs) s)) ts r v w (inr (h, m, pa, f, m', d, q)) =
+    let vm = rest_seen p a ts m pa v in
+    ap (λ b. named_or_not b (runs parse_rule p) (runs parse_rule t) ts) (sees_is (at_unnamed n) ts v ∙ h)
+    ∙ ap (λ o. and_then o (λ m. and_then (take_mark colon m) (runs parse_rule t))) (found p a ts m v (and_left (sound table start_of p) _ w) pa)
+    ∙ ap (λ o. wrap (Both (value_of a)) (and_then o (runs parse_rule t))) (mark_found xs colon m m' vm f d)
+    ∙ ap (λ o. wrap (Both (value_of a)) (wrap (Both (Mark xs)) o)) (found t s m' r (spelled_seen xs m m' d vm) (and_right (sound table start_of p) _ w) q)
+found (captured g) (Captured s i) ts r v w a =
+    ap (caught ts) (found g s ts r v w a.1) ∙ ap (λ c. Some (Captured Nothing c, r)) (before_is ts i r a.0)
+found (row g h) Done ts r v w (n, e) =
     row_is g h ts
-    ∙ ap (λ b. row_from b (union (runs parse_rule g) (runs parse_rule h)) (runs parse_rule (row g h)) ts) (sees_stands at_row_end ts ∙ n)
+    ∙ ap (λ b. row_from b (union (runs parse_rule g) (runs parse_rule h)) (runs parse_rule (row g h)) ts) (sees_is at_row_end ts v ∙ n)
     ∙ ap (λ t. Some (Done, t)) e
-found (row g h) (Last k s) ts r w (n, a, m) =
-    row_last g h w k s ts r n a m (found (choose k g h) s ts r (sound_member g h w k) a)
-found (row g h) (More k s sp t) ts r w (n, m, a, m', c, b) =
-    row_more g h w k s sp t ts m m' r n a c (found (choose k g h) s ts m (sound_member g h w k) a)
-    (found (row g h) t m' r w b)
-found (ordered g h) (Order xs l ys) ts r w (m, e, c, m', a, e', c') =
-    ap (λ o. row_opened o (runs parse_rule (row g h))) (mark_found xs less ts m e c)
-    ∙ ap (row_closed (Mark xs)) (found (row g h) l m m' w a)
-    ∙ ap (close_row (Mark xs) (value_of l)) (mark_found ys greater m' r e' c')
-found _ _ ts r w a = elim a [ ]
+found (row g h) (Last k s) ts r v w (n, a, m) =
+    row_last g h w k s ts r v n a m (found (choose k g h) s ts r v (sound_member g h w k) a)
+found (row g h) (More k s sp t) ts r v w (n, m, a, m', c, b) =
+    row_more g h w k s sp t ts m m' r v n a c (found (choose k g h) s ts m v (sound_member g h w k) a)
+    (found (row g h) t m' r (spelled_seen ((44, sp) ∷ []) m m' c (rest_seen (choose k g h) s ts m a v)) w b)
+found (ordered g h) (Order xs l ys) ts r v w (m, e, c, m', a, e', c') =
+    let w' = spelled_seen xs ts m c v in
+    ap (λ o. row_opened o (runs parse_rule (row g h))) (mark_found xs less ts m v e c)
+    ∙ ap (row_closed (Mark xs)) (found (row g h) l m m' w' w a)
+    ∙ ap (close_row (Mark xs) (value_of l)) (mark_found ys greater m' r (rest_seen (row g h) l m m' a w') e' c')
+found _ _ ts r v w a = elim a [ ]
 
-pub parse_rule_found : (k : Rule) (ts : Stream) (s : Syntax) (r : Stream) → DerivesPrefix table (rule k) s ts r → parse_rule k ts ≡ Some (value_of s, r)
-parse_rule_found k ts s r a = found (rule k) s ts r refl a
+pub parse_rule_found : (k : Rule) (ts : Stream) (s : Syntax) (r : Stream) → visible ts ≡ true → DerivesPrefix table (rule k) s ts r → parse_rule k ts ≡ Some (value_of s, r)
+parse_rule_found k ts s r v a = found (rule k) s ts r v refl a
 
 -- exactly what is kept of a reading
-pub means : (k : Rule) (ts : Stream) (s : Syntax) (r : Stream) → (parse_rule k ts ≡ Some (s, r)) ↔ ((t : Syntax) × DerivesPrefix table (rule k) t ts r × (value_of t ≡ s))
-means k ts s r = (λ e. parse_rule_told k ts (s, r) e, λ (t, a, f). parse_rule_found k ts t r a ∙ ap (λ z. Some (z, r)) f)
+pub means : (k : Rule) (ts : Stream) (s : Syntax) (r : Stream) → visible ts ≡ true → (parse_rule k ts ≡ Some (s, r)) ↔ ((t : Syntax) × DerivesPrefix table (rule k) t ts r × (value_of t ≡ s))
+means k ts s r v = (λ e. parse_rule_told k ts (s, r) v e, λ (t, a, f). parse_rule_found k ts t r v a ∙ ap (λ z. Some (z, r)) f)
 
 -- and nothing, exactly where no reading is
-pub refused : (k : Rule) (ts : Stream) → parse_rule k ts ≡ None → (s : Syntax) (r : Stream) → DerivesPrefix table (rule k) s ts r → ⊥
-refused k ts e s r a = absurd (cc (sym e ∙ parse_rule_found k ts s r a))
-
--- ---- what is left of a visible stream is visible
-pub rest_seen : (g : Grammar) (t : Syntax) (ts r : Stream) → DerivesPrefix table g t ts r → visible ts ≡ true → visible r ≡ true
-rest_seen g t ts r a v = (read_seen table g t ts r a v).1
+pub refused : (k : Rule) (ts : Stream) → visible ts ≡ true → parse_rule k ts ≡ None → (s : Syntax) (r : Stream) → DerivesPrefix table (rule k) s ts r → ⊥
+refused k ts v e s r a = absurd (cc (sym e ∙ parse_rule_found k ts s r v a))
 
 -- ---- the whole of a stream
 abbrev pub whole : Out → Out
@@ -464,5 +479,5 @@ whole (Some p) = only (is_end p.1) (Some p)
 whole None = None
 
 -- it isn't derived where its reading refuses it, or leaves something
-pub not_derived : (k : Rule) (ts : Stream) → whole (parse_rule k ts) ≡ None → Refused k ts
-not_derived k ts e s a = absurd (cc (sym e ∙ ap whole (parse_rule_found k ts s end a) ∙ ap (λ b. only b (Some (value_of s, end))) end_found))
+pub not_derived : (k : Rule) (ts : Stream) → visible ts ≡ true → whole (parse_rule k ts) ≡ None → Refused k ts
+not_derived k ts v e s a = absurd (cc (sym e ∙ ap whole (parse_rule_found k ts s end v a) ∙ ap (λ b. only b (Some (value_of s, end))) end_found))

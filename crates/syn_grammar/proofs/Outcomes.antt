@@ -13,22 +13,22 @@ use Rattle.syn_grammar.proofs.Apart.{sound}
 use Rattle.syn_grammar.proofs.Proved.{one_tree}
 use Rattle.syn_grammar.proofs.Said.{start_of}
 use Rattle.syn_grammar.proofs.Run.{parse_rule_is, row_is, weaker, parse_rule_less}
-use Rattle.syn_grammar.proofs.Takes.{sees_is, end_found}
-use Rattle.syn_grammar.proofs.Means.{told, found}
+use Rattle.syn_grammar.proofs.Takes.{sees_is, end_told, end_found}
+use Rattle.syn_grammar.proofs.Means.{told, found, rest_seen}
 
 -- nothing is computed where nothing is read
-computes_none : (g : Grammar) (ts : Stream) → NotDerived g ts → parse_form g ts ≡ None
-computes_none g ts u = go (parse_form g ts) refl
+computes_none : (g : Grammar) (ts : Stream) → visible ts ≡ true → NotDerived g ts → parse_form g ts ≡ None
+computes_none g ts v u = go (parse_form g ts) refl
   where
     go : (o : Out) → parse_form g ts ≡ o → o ≡ None
     go None e = refl
-    go (Some p) e = let t = told g ts p e in absurd (u t.0 p.1 t.1)
+    go (Some p) e = let t = told g ts p v e in absurd (u t.0 p.1 t.1)
 
 -- every form whose unions are apart means what is computed of it
 pub meaning_of : (g : Grammar) → sound table start_of g ≡ true → Meaning g
 meaning_of g w ts v = (
-  λ s r. (λ e. told g ts (s, r) e, λ (t, a, f). found g t ts r w a ∙ ap (λ z. Some (z, r)) f),
-  (λ e s r a. absurd (cc (sym e ∙ found g s ts r w a)), computes_none g ts),
+  λ s r. (λ e. told g ts (s, r) v e, λ (t, a, f). found g t ts r v w a ∙ ap (λ z. Some (z, r)) f),
+  (λ e s r a. absurd (cc (sym e ∙ found g s ts r v w a)), computes_none g ts v),
 )
 
 pub meaning_of_rule : (k : Rule) → Meaning (rule k)
@@ -136,6 +136,12 @@ meaning_of_optional c g m ts v = (λ s r. (told_of s r, found_of s r), (none_of,
 -- OF A WHOLE STREAM: the parser answered, and nothing is left
 pub whole_ok : (g : Grammar) → Meaning g → (ts : Stream) (s : Syntax) → visible ts ≡ true → parse_form g ts ≡ Some (s, end) → DerivesWholeValue g s ts
 whole_ok g m ts s v e = ((m ts v).0 s end).0 e
+
+-- the same where nothing is left: of a visible stream that is the end
+pub whole_ended : (g : Grammar) → Meaning g → (ts : Stream) (s : Syntax) (r : Stream) → visible ts ≡ true → parse_form g ts ≡ Some (s, r) → is_end r ≡ true → DerivesWholeValue g s ts
+whole_ended g m ts s r v e n =
+    let (t, a, h) = ((m ts v).0 s r).0 e in
+    (t, subst (DerivesPrefix table g t ts) (end_told r (rest_seen g t ts r a v) n) a, h)
 
 -- or it refused
 pub whole_refused : (g : Grammar) → Meaning g → (ts : Stream) → visible ts ≡ true → parse_form g ts ≡ None → NotDerivedWhole g ts

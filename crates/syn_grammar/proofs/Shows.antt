@@ -1,11 +1,13 @@
 -- What is shown of a value is read again as the same value.
 use Rattle.std.proofs.Common.{◌≡◌, Bool, true, false, List, [], ◌∷◌, Some, None, refl, sym, ap, ◌∙◌, subst, true≢false, ◌⊎◌, inl, inr}
 use Rattle.syn_grammar.specs.Words.{Text}
-use Rattle.syn_grammar.specs.Tokens.{Stream, end, ◌⧺◌, and, or, no, same_text, one_of_texts, mem, Ended, Look, at_mark, Lookahead, lookahead}
+use Rattle.syn_grammar.specs.Tokens.{Stream, end, ◌⧺◌, visible, is_visible, pick, and, or, no, same_text, one_of_texts, mem, Ended, Look, at_mark, Lookahead, lookahead}
 use Rattle.syn_grammar.specs.Rules.{Rule}
-use Rattle.syn_grammar.specs.Grammar.{Syntax, DerivesPrefix, rule, show, renew}
+use Rattle.syn_grammar.specs.Grammar.{Syntax, Nothing, Both, Left, Right, Node, Vanishing, Group, Case, Such, Shaped, Impl, Unshown, Last, More, Order, DerivesPrefix, rule, show, renew}
 use Rattle.syn_grammar.specs.Table.{table}
 use Rattle.syn_grammar.specs.Take.{Out, sees, take_mark, taken}
+use Rattle.syn_grammar.specs.Shape.{Shape}
+use Rattle.syn_grammar.specs.Values.{shape}
 use Rattle.syn_grammar.specs.Run.{parse_rule, value_of}
 use Rattle.syn_grammar.specs.StandsAlone.{reads_shown, stands_alone, stands_before}
 use Rattle.syn_grammar.specs.Alone.{ShowIsRead, ShowStandsAlone, ShowStandsBefore, SameShow}
@@ -21,7 +23,9 @@ use Rattle.syn_grammar.proofs.Reprint.{summary, fine, IsSummary, again}
 use Rattle.syn_grammar.proofs.Said.{start_of, shown_summary_of, shown_heard_of, closed_of, cut_of, spaced_of}
 use Rattle.syn_grammar.proofs.Takes.{mark_told}
 use Rattle.syn_grammar.proofs.Looks.{known_mark, sees_mark}
-use Rattle.syn_grammar.proofs.Means.{parse_rule_told, parse_rule_found}
+use Rattle.syn_grammar.proofs.Means.{parse_rule_told, parse_rule_found, rest_seen}
+use Rattle.syn_grammar.proofs.Visible.{seen, visible_show, both_true, read_seen}
+use Rattle.syn_grammar.proofs.Shapes.{sum_shape, show_sum}
 use Rattle.syn_grammar.proofs.Alone.{of_every_rule, implies, by_implied, like_values}
 use Rattle.syn_grammar.proofs.Full.{full_table, full_tree, full_read, full_back, show_full, shown_well}
 use Rattle.syn_grammar.proofs.Cut.{cut, shown_unjoined}
@@ -65,16 +69,45 @@ shown_again k s ts r r' w d R =
     let y = subst (λ z. DerivesPrefix full_table (rule k) (renew (full_tree s)) (z ⧺ r') r') (show_full s) x.0 in
     full_back shown_hold (rule k) s ts r (show (value_of s) ⧺ r') r' w d y
 
+-- what is kept of a visible tree is visible
+seen_shape : (j : Shape) (s : Syntax) → seen (shape j s) ≡ seen s
+seen_shape j s = sym (visible_show (shape j s)) ∙ ap visible (sum_shape show_sum j s) ∙ visible_show s
+
+seen_value : (s : Syntax) → seen s ≡ true → seen (value_of s) ≡ true
+seen_value (Both s t) e = both_true (seen (value_of s)) _ (seen_value s (and_left (seen s) _ e)) (seen_value t (and_right (seen s) _ e))
+seen_value (Left s) e = seen_value s e
+seen_value (Right s) e = seen_value s e
+seen_value (Node s) e = seen_value s e
+seen_value (Vanishing b s) e = go b (seen_value s e)
+  where
+    go : (b : Bool) → seen (value_of s) ≡ true → seen (pick b (Right Nothing) (value_of s)) ≡ true
+    go true h = refl
+    go false h = h
+seen_value (Group d o c s) e = both_true (is_visible d) _ (and_left (is_visible d) _ e) (seen_value s (and_right (is_visible d) _ e))
+seen_value (Case k s) e = seen_value s e
+seen_value (Such s) e = seen_value s e
+seen_value (Shaped j s) e = seen_shape j (value_of s) ∙ seen_value s e
+seen_value (Impl l s) e = both_true (seen (value_of l)) _ (seen_value l (and_left (seen l) _ e)) (seen_value s (and_right (seen l) _ e))
+seen_value (Unshown s) e = refl
+seen_value (Last k s) e = seen_value s e
+seen_value (More k s sp t) e = both_true (seen (value_of s)) _ (seen_value s (and_left (seen s) _ e)) (seen_value t (and_right (seen s) _ e))
+seen_value (Order xs l ys) e = seen_value l e
+seen_value _ e = e
+
+-- what is shown of a value that was read of a visible stream is visible
+pub shown_seen : (k : Rule) (t : Syntax) (ts r : Stream) (s : Syntax) → DerivesPrefix table (rule k) t ts r → value_of t ≡ s → visible ts ≡ true → visible (show s) ≡ true
+shown_seen k t ts r s a h q = ap (λ z. visible (show z)) (sym h) ∙ visible_show (value_of t) ∙ seen_value t (read_seen table (rule k) t ts r a q).0
+
 -- so it is computed at the end, where that changes nothing
-shown_alone : (k : Rule) (ts : Stream) (s : Syntax) (r : Stream) → reads_shown k ≡ true → parse_rule k ts ≡ Some (s, r) → Ready (shown_summary_of false k) (lookahead r) (lookahead end) → parse_rule k (show s) ≡ Some (s, end)
-shown_alone k ts s r w e R =
-    let (t, a, h) = parse_rule_told k ts (s, r) e in
+shown_alone : (k : Rule) (ts : Stream) (s : Syntax) (r : Stream) → visible ts ≡ true → reads_shown k ≡ true → parse_rule k ts ≡ Some (s, r) → Ready (shown_summary_of false k) (lookahead r) (lookahead end) → parse_rule k (show s) ≡ Some (s, end)
+shown_alone k ts s r q w e R =
+    let (t, a, h) = parse_rule_told k ts (s, r) q e in
     let (u, d, i) = shown_again k t ts r end w a R in
     let b : DerivesPrefix table (rule k) u (show s) end = subst (λ z. DerivesPrefix table (rule k) u z end) (append_end (show (value_of t)) ∙ ap show h) d in
-    parse_rule_found k (show s) u end b ∙ ap (λ z. Some (z, end)) (i ∙ h)
+    parse_rule_found k (show s) u end (shown_seen k t ts r s a h q) b ∙ ap (λ z. Some (z, end)) (i ∙ h)
 
 pub show_is_read : ShowIsRead
-show_is_read k w ts s e = shown_alone k ts s end w e (at_end (shown_summary_of false k) (full_ends k))
+show_is_read k w ts s q e = shown_alone k ts s end q w e (at_end (shown_summary_of false k) (full_ends k))
 
 -- ---- before the end, whatever stood behind
 abbrev no_looks : List Look → Bool
@@ -107,14 +140,14 @@ cut_off k = and (no_looks (shown_summary_of false k).shuns) (and (cut_of k) (spa
 ready_there : (p : Summary) (a : Lookahead) → no_looks p.shuns ≡ true → Ready p a a
 ready_there p a w = ready p a a (agree_same p.ends a a refl) (stay_off_same p.halts a a refl) (none_off p.shuns a w)
 
-shown_cut : (k : Rule) (ts : Stream) (s : Syntax) (r : Stream) → reads_shown k ≡ true → cut_off k ≡ true → parse_rule k ts ≡ Some (s, r) → parse_rule k (show s) ≡ Some (s, end)
-shown_cut k ts s r w v e =
-    let (t, a, h) = parse_rule_told k ts (s, r) e in
+shown_cut : (k : Rule) (ts : Stream) (s : Syntax) (r : Stream) → visible ts ≡ true → reads_shown k ≡ true → cut_off k ≡ true → parse_rule k ts ≡ Some (s, r) → parse_rule k (show s) ≡ Some (s, end)
+shown_cut k ts s r q w v e =
+    let (t, a, h) = parse_rule_told k ts (s, r) q e in
     let v' = and_right (no_looks (shown_summary_of false k).shuns) _ v in
     let (u, d, i) = shown_again k t ts r r w a (ready_there (shown_summary_of false k) (lookahead r) (and_left (no_looks (shown_summary_of false k).shuns) _ v)) in
     let c = cut (rule k) u (show (value_of t)) end r (or_right (closed_of k) (cut_of k) (and_left (cut_of k) _ v')) (shown_unjoined (rule k) t ts r (and_right (cut_of k) _ v') a) d in
     let b : DerivesPrefix table (rule k) u (show s) end = subst (λ z. DerivesPrefix table (rule k) u z end) (ap show h) c in
-    parse_rule_found k (show s) u end b ∙ ap (λ z. Some (z, end)) (i ∙ h)
+    parse_rule_found k (show s) u end (shown_seen k t ts r s a h q) b ∙ ap (λ z. Some (z, end)) (i ∙ h)
 
 abbrev stands_well : Rule → Bool
 stands_well k = and (reads_shown k) (or (cut_well (shown_summary_of false k)) (cut_off k))
@@ -123,11 +156,11 @@ cut_holds : (k : Rule) → stands_alone k ≡ true → stands_well k ≡ true
 cut_holds k = by_implied (stands_alone k) _ (of_every_rule (λ k. implies (stands_alone k) (stands_well k)) refl refl k)
 
 pub show_stands_alone : ShowStandsAlone
-show_stands_alone k w ts s r e = go (or_split (cut_well (shown_summary_of false k)) _ (and_right (reads_shown k) _ (cut_holds k w)))
+show_stands_alone k w ts s r q e = go (or_split (cut_well (shown_summary_of false k)) _ (and_right (reads_shown k) _ (cut_holds k w)))
   where
     go : (cut_well (shown_summary_of false k) ≡ true) ⊎ (cut_off k ≡ true) → parse_rule k (show s) ≡ Some (s, end)
-    go (inl v) = shown_alone k ts s r (and_left (reads_shown k) _ (cut_holds k w)) e (ready_at_end (shown_summary_of false k) (lookahead r) v)
-    go (inr v) = shown_cut k ts s r (and_left (reads_shown k) _ (cut_holds k w)) v e
+    go (inl v) = shown_alone k ts s r q (and_left (reads_shown k) _ (cut_holds k w)) e (ready_at_end (shown_summary_of false k) (lookahead r) v)
+    go (inr v) = shown_cut k ts s r q (and_left (reads_shown k) _ (cut_holds k w)) v e
 
 -- ---- and before a mark
 -- a form with this summary stands before the end as before this mark
@@ -145,14 +178,14 @@ ready_before p m a w e =
     ready p a (lookahead end) (agree_sound a (lookahead end) [] tt p.ends (and_left (agree p.ends n) _ v))
     (stay_off_sound a (lookahead end) [] tt p.halts (and_left (stay_off p.halts n) _ x)) (clear_sound p.shuns (lookahead end) (and_right (stay_off p.halts n) _ x))
 
-mark_stands : (m : Text) (r : Stream) → known_mark m ≡ true → sees (at_mark m) r ≡ true → mem (lookahead r).terminal (mark_first_set m) ≡ true
-mark_stands m r w e = go (take_mark m r) refl (sym (sees_mark m w r) ∙ e)
+mark_stands : (m : Text) (r : Stream) → visible r ≡ true → known_mark m ≡ true → sees (at_mark m) r ≡ true → mem (lookahead r).terminal (mark_first_set m) ≡ true
+mark_stands m r q w e = go (take_mark m r) refl (sym (sees_mark m w r) ∙ e)
   where
     go : (o : Out) → take_mark m r ≡ o → taken o ≡ true → mem (lookahead r).terminal (mark_first_set m) ≡ true
     go None f e = absurd (true≢false (sym e))
     go (Some x) f e =
-        let (xs, i, q, h) = mark_told m r x f in
-        ap (λ l. mem (lookahead r).terminal (mark_first_set l)) (sym q) ∙ mark_head xs r x.1 h
+        let (xs, i, p, h) = mark_told m r x q f in
+        ap (λ l. mem (lookahead r).terminal (mark_first_set l)) (sym p) ∙ mark_head xs r x.1 h
 
 abbrev every_text : (Text → Bool) → List Text → Bool
 every_text p [] = true
@@ -169,17 +202,24 @@ text_at p m (x ∷ l) w e = go (or_split (same_text m x) (one_of_texts m l) e) (
 marks_hold : (k : Rule) → every_text (shown_before k) (stands_before k) ≡ true
 marks_hold k = of_every_rule (λ k. every_text (shown_before k) (stands_before k)) refl refl k
 
+rest_is_seen : (k : Rule) (ts : Stream) (s : Syntax) (r : Stream) → visible ts ≡ true → parse_rule k ts ≡ Some (s, r) → visible r ≡ true
+rest_is_seen k ts s r q e = let (t, a, h) = parse_rule_told k ts (s, r) q e in rest_seen (rule k) t ts r a q
+
 pub show_stands_before : ShowStandsBefore
-show_stands_before k m w ts s r e f =
+show_stands_before k m w ts s r q e f =
     let u = text_at (shown_before k) m (stands_before k) (marks_hold k) w in
     go (and_left (reads_shown k) _ u) (or_split (ends_as (shown_summary_of false k) m) _ (and_right (reads_shown k) _ u))
   where
     go : reads_shown k ≡ true → (ends_as (shown_summary_of false k) m ≡ true) ⊎ (cut_off k ≡ true) → parse_rule k (show s) ≡ Some (s, end)
-    go u (inl v) = shown_alone k ts s r u e (ready_before (shown_summary_of false k) m (lookahead r) v (mark_stands m r (and_left (known_mark m) _ v) f))
-    go u (inr v) = shown_cut k ts s r u v e
+    go u (inl v) = shown_alone k ts s r q u e (ready_before (shown_summary_of false k) m (lookahead r) v (mark_stands m r (rest_is_seen k ts s r q e) (and_left (known_mark m) _ v) f))
+    go u (inr v) = shown_cut k ts s r q u v e
+
+-- what is shown of what is read of a visible stream
+whole_seen : (k : Rule) (ts : Stream) (s : Syntax) → visible ts ≡ true → parse_rule k ts ≡ Some (s, end) → visible (show s) ≡ true
+whole_seen k ts s q e = let (t, a, h) = parse_rule_told k ts (s, end) q e in shown_seen k t ts end s a h q
 
 pub same_show : SameShow
-same_show k w a b s t e f = (
-  λ p. like_values k (show s) (show t) s t p (show_is_read k w a s e) (show_is_read k w b t f),
-  λ p. sym (show_plain s) ∙ ap show p ∙ show_plain t,
+same_show k w a b s t q p e f = (
+  λ h. like_values k (show s) (show t) s t (whole_seen k a s q e) h (show_is_read k w a s q e) (show_is_read k w b t p f),
+  λ h. sym (show_plain s) ∙ ap show h ∙ show_plain t,
 )

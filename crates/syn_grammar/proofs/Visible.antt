@@ -7,7 +7,7 @@ use Rattle.syn_grammar.proofs.Sets.{and_left, and_right}
 use Rattle.syn_grammar.proofs.Streams.{visible_append}
 
 -- no invisible group stands in what was read
-abbrev seen : Syntax → Bool
+abbrev pub seen : Syntax → Bool
 seen (Both s t) = and (seen s) (seen t)
 seen (Left s) = seen s
 seen (Right s) = seen s
@@ -40,7 +40,7 @@ and_true : (b : Bool) → and b true ≡ b
 and_true true = refl
 and_true false = refl
 
-visible_show : (s : Syntax) → visible (show s) ≡ seen s
+pub visible_show : (s : Syntax) → visible (show s) ≡ seen s
 visible_show Nothing = refl
 visible_show (Token x sp) = refl
 visible_show (Mark xs) = visible_spell xs end
@@ -65,7 +65,7 @@ visible_show (Last k s) = visible_show s
 visible_show (More k s sp t) = visible_append (show s) (punct 44 false sp (show t)) ∙ ap₂ and (visible_show s) (visible_show t)
 visible_show (Order xs l ys) = visible_spell xs (show l ⧺ spell ys end) ∙ visible_append (show l) (spell ys end) ∙ ap₂ and (visible_show l) (visible_spell ys end) ∙ and_true (seen l)
 
-both_true : (a b : Bool) → a ≡ true → b ≡ true → and a b ≡ true
+pub both_true : (a b : Bool) → a ≡ true → b ≡ true → and a b ≡ true
 both_true a b e f = ap₂ and e f
 
 seen_behind : (s : Syntax) (sp : Span) (t : Syntax) → seen s ≡ true → seen t ≡ true → seen (behind s sp t) ≡ true

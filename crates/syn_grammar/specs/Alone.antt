@@ -1,7 +1,7 @@
--- TOKENS THAT ARE KEPT TO BE READ AGAIN. The laws hold of every token stream, visible or not.
+-- TOKENS THAT ARE KEPT TO BE READ AGAIN. The laws speak of visible token streams.
 use Rattle.std.specs.Prelude.{◌≡◌, ◌↔◌, ℕ, zero, suc, Bool, true, false, List, [], ◌∷◌, Some, nat_eq}
 use Rattle.syn_grammar.specs.Words.{Text, long_marks}
-use Rattle.syn_grammar.specs.Tokens.{Stream, end, plain, or, and, no, begins_text, one_of_texts, Punctuation, Asked, asked, Look, at_mark, ahead, ◌or_else◌, ◌and_also◌, ◌but_not◌, lookahead, answers}
+use Rattle.syn_grammar.specs.Tokens.{Stream, end, plain, or, and, no, begins_text, one_of_texts, Punctuation, Asked, asked, Look, at_mark, visible, ahead, ◌or_else◌, ◌and_also◌, ◌but_not◌, lookahead, answers}
 use Rattle.syn_grammar.specs.Rules.{Rule}
 use Rattle.syn_grammar.specs.StandsAlone.{reads_shown, stands_alone, stands_before}
 use Rattle.syn_grammar.specs.Grammar.{Syntax, show, plain_syntax, Grammar, empty, token, mark, ◌&◌, when◌then◌else◌, inside, raw, either, one_of, rule, such, shaped, captured, unshown, generics_before}
@@ -108,26 +108,26 @@ reads_alone k = rule_reads_at_end 4 false k
 
 -- What a rule that passes the test reads in front of a rest it reads alone, as the same value, with nothing left.
 abbrev pub ReadAlone : Type 0
-ReadAlone = (k : Rule) → reads_alone k ≡ true → (ts : Stream) (s : Syntax) (r : Stream) → parse_rule k ts ≡ Some (s, r) → parse_rule k (before ts r) ≡ Some (s, end)
+ReadAlone = (k : Rule) → reads_alone k ≡ true → (ts : Stream) (s : Syntax) (r : Stream) → visible ts ≡ true → parse_rule k ts ≡ Some (s, r) → parse_rule k (before ts r) ≡ Some (s, end)
 
 -- Of token streams that are equal but for their spans, a rule reads values that are equal but for their spans.
 abbrev pub ValuesForgetSpans : Type 0
-ValuesForgetSpans = (k : Rule) (a b : Stream) (s t : Syntax) → plain a ≡ plain b → parse_rule k a ≡ Some (s, end) → parse_rule k b ≡ Some (t, end) → plain_syntax s ≡ plain_syntax t
+ValuesForgetSpans = (k : Rule) (a b : Stream) (s t : Syntax) → visible a ≡ true → plain a ≡ plain b → parse_rule k a ≡ Some (s, end) → parse_rule k b ≡ Some (t, end) → plain_syntax s ≡ plain_syntax t
 
 -- WHAT IS SHOWN OF A VALUE (`show`): its tokens in their order, no empty list left out and nothing sorted, each mark's last character Alone.
 
 -- Of what such a rule (`reads_shown`) reads as a whole, the tokens that are shown are read as a whole, as the same value with the same spans.
 abbrev pub ShowIsRead : Type 0
-ShowIsRead = (k : Rule) → reads_shown k ≡ true → (ts : Stream) (s : Syntax) → parse_rule k ts ≡ Some (s, end) → parse_rule k (show s) ≡ Some (s, end)
+ShowIsRead = (k : Rule) → reads_shown k ≡ true → (ts : Stream) (s : Syntax) → visible ts ≡ true → parse_rule k ts ≡ Some (s, end) → parse_rule k (show s) ≡ Some (s, end)
 
 -- And what a rule that stands alone reads in front of a rest, shown, is read as a whole, as the same value with the same spans.
 abbrev pub ShowStandsAlone : Type 0
-ShowStandsAlone = (k : Rule) → stands_alone k ≡ true → (ts : Stream) (s : Syntax) (r : Stream) → parse_rule k ts ≡ Some (s, r) → parse_rule k (show s) ≡ Some (s, end)
+ShowStandsAlone = (k : Rule) → stands_alone k ≡ true → (ts : Stream) (s : Syntax) (r : Stream) → visible ts ≡ true → parse_rule k ts ≡ Some (s, r) → parse_rule k (show s) ≡ Some (s, end)
 
 -- So is what a rule reads in front of such a mark.
 abbrev pub ShowStandsBefore : Type 0
-ShowStandsBefore = (k : Rule) (m : Text) → one_of_texts m (stands_before k) ≡ true → (ts : Stream) (s : Syntax) (r : Stream) → parse_rule k ts ≡ Some (s, r) → sees (at_mark m) r ≡ true → parse_rule k (show s) ≡ Some (s, end)
+ShowStandsBefore = (k : Rule) (m : Text) → one_of_texts m (stands_before k) ≡ true → (ts : Stream) (s : Syntax) (r : Stream) → visible ts ≡ true → parse_rule k ts ≡ Some (s, r) → sees (at_mark m) r ≡ true → parse_rule k (show s) ≡ Some (s, end)
 
 -- Of two token streams that such a rule reads as a whole, the values are equal, spans aside, exactly where the tokens that are shown are.
 abbrev pub SameShow : Type 0
-SameShow = (k : Rule) → reads_shown k ≡ true → (a b : Stream) (s t : Syntax) → parse_rule k a ≡ Some (s, end) → parse_rule k b ≡ Some (t, end) → (plain (show s) ≡ plain (show t)) ↔ (plain_syntax s ≡ plain_syntax t)
+SameShow = (k : Rule) → reads_shown k ≡ true → (a b : Stream) (s t : Syntax) → visible a ≡ true → visible b ≡ true → parse_rule k a ≡ Some (s, end) → parse_rule k b ≡ Some (t, end) → (plain (show s) ≡ plain (show t)) ↔ (plain_syntax s ≡ plain_syntax t)

@@ -34,3 +34,4 @@ pub mod Leads
 pub mod EntryPoints
 pub mod Listed
 pub mod Joined
+pub mod Made

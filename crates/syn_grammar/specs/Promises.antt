@@ -49,9 +49,10 @@ MayHere may n old = (ts : Stream) → left ts ≤ left old → may n ts
 abbrev pub itself : Syntax → Syntax
 itself s = s
 
--- at the end of a group or stream: nothing was left; or something was, so a form that ends there reads nothing
+-- at the end of a group or stream: nothing was left (but invisible groups that hold nothing); or something was, so a form that ends
+-- there reads nothing
 abbrev pub Finished : {X E : Type 0} → (E → Type 0) → Stream → Result X E → Type 0
-Finished refusal ts (Ok x) = ts ≡ end
+Finished refusal ts (Ok x) = is_end ts ≡ true
 Finished refusal ts (Err e) = refusal e × ((p : Out) → only (is_end ts) p ≡ None)
 
 -- the answer has this property, or memory was short

@@ -97,6 +97,10 @@ at_bracket = at_group Bracket
 abbrev pub at_invisible : Look
 at_invisible = at_group None
 
+-- `pub` stands next, and no invisible group without content before it.
+abbrev pub at_public : Look
+at_public = at_word w_pub but_not at_empty_group
+
 -- `pub` stands next, or an invisible group without content, which stands for a visibility that isn't written.
 abbrev pub at_visibility : Look
 at_visibility = at_word w_pub or_else at_empty_group
@@ -466,7 +470,7 @@ table module_words =
 -- where they hold `crate`, `self` or `super` alone, or begin with `in`; then they must hold a restriction. Any others are left.
 -- An invisible group without content stands for one that isn't written, and is never printed.
 table visibility =
-    when at_word w_pub
+    when at_public
     then plainly (word w_pub) & (when at_restriction then inside Paren (rule restriction) else empty)
     else vanishing true at_empty_group (inside None empty)
 --
@@ -530,15 +534,15 @@ table path_as_type =
     when at_less then rule qualified_path
     else rule type_path
 --
--- A type: a reference, perhaps with a lifetime and `mut`; a pointer, `const` or `mut`; a tuple or a type in parentheses; a slice,
--- or an array with an expression as its length; the never type; an invisible group that holds a type; or a path, qualified or not.
+-- A type: an invisible group that holds one; a reference, perhaps with a lifetime and `mut`; a pointer, `const` or `mut`; a tuple or a
+-- type in parentheses; a slice, or an array with an expression as its length; the never type; or a path, qualified or not.
 table type =
-    when at_ampersand then punctuation ampersand & (when at_lifetime then lifetime else empty) & optional w_mut & rule type
+    when at_invisible then inside None (rule type)
+    else when at_ampersand then punctuation ampersand & (when at_lifetime then lifetime else empty) & optional w_mut & rule type
     else when at_star then punctuation star & (when at_word w_const then plainly (word w_const) else plainly (word w_mut)) & rule type
     else when at_paren then inside Paren (rule types)
     else when at_bracket then inside Bracket (rule type & (when at_semicolon then punctuation semicolon & rule whole_expression else empty))
     else when at_exclamation then punctuation exclamation
-    else when at_invisible then inside None (rule type)
     else rule path_as_type
 --
 -- Types, separated by commas; the last comma may stand or not.
@@ -660,7 +664,7 @@ table fields_unnamed =
 -- and perhaps a value behind `=`.
 table variant =
     rule attributes
-    & vanishing true at_visibility (when at_word w_pub then rule visibility else inside None empty)
+    & vanishing true at_visibility (when at_public then rule visibility else inside None empty)
     & plainly name
     & (when at_brace then rule fields_named else when at_paren then rule fields_unnamed else empty)
     & (when at_equals then punctuation equals & rule whole_expression else empty)
@@ -801,13 +805,13 @@ table no_inner_attributes =
 -- with a lifetime or without it, or a path, with the fields of a struct literal in braces behind it or without them. Behind `break` and its
 -- lifetime nothing stands that an expression may begin with.
 table primary =
-    shaped choice (when at_word w_true then shaped (operand Lit) (plainly (word w_true))
+    shaped choice (when at_invisible then shaped (operand Grouped) (inside None (rule whole_expression))
+    else when at_word w_true then shaped (operand Lit) (plainly (word w_true))
     else when at_word w_false then shaped (operand Lit) (plainly (word w_false))
     else when at_any_literal then shaped (operand Lit) (plainly any_literal)
     else when at_macro then shaped (operand Macro) (rule macro_invocation)
     else when at_paren then shaped bracketed (inside Paren (rule expressions))
     else when at_bracket then shaped bracketed (inside Bracket (rule array_content))
-    else when at_invisible then shaped (operand Grouped) (inside None (rule whole_expression))
     else when at_block_like then rule block_like
     else when at_word w_return then shaped (operand Return) (plainly (word w_return) & (when at_whole_expression then rule whole_expression else empty))
     else when at_word w_break then shaped (operand Break) (plainly (word w_break) & (when at_lifetime then lifetime else empty) & (when at_whole_expression then never else empty))
@@ -862,12 +866,13 @@ table member =
 -- A unary level: attributes, which belong to all of it; and `-`, `!`, `*`, `&` or `&mut` before another, or an expression with what goes
 -- on it.
 table unary =
-    shaped leading (rule attributes
+    shaped choice (when at_invisible then shaped chain (rule primary & rule postfixes)
+    else shaped leading (rule attributes
     & (when at_minus then shaped (operand Unary) (punctuation minus & rule unary)
     else when at_exclamation then shaped (operand Unary) (punctuation exclamation & rule unary)
     else when at_star then shaped (operand Unary) (punctuation star & rule unary)
     else when at_ampersand then shaped (operand Reference) (punctuation ampersand & optional w_mut & rule unary)
-    else shaped chain (rule primary & rule postfixes)))
+    else shaped chain (rule primary & rule postfixes))))
 --
 -- Casts, any number of them: `as` and a type.
 table casts =
@@ -989,13 +994,13 @@ table whole_expression =
 --
 -- The same as `primary`, in the head of an `if`, a `while` or a `for`: there a path takes no braces.
 table primary_head =
-    shaped choice (when at_word w_true then shaped (operand Lit) (plainly (word w_true))
+    shaped choice (when at_invisible then shaped (operand Grouped) (inside None (rule whole_expression))
+    else when at_word w_true then shaped (operand Lit) (plainly (word w_true))
     else when at_word w_false then shaped (operand Lit) (plainly (word w_false))
     else when at_any_literal then shaped (operand Lit) (plainly any_literal)
     else when at_macro then shaped (operand Macro) (rule macro_invocation)
     else when at_paren then shaped bracketed (inside Paren (rule expressions))
     else when at_bracket then shaped bracketed (inside Bracket (rule array_content))
-    else when at_invisible then shaped (operand Grouped) (inside None (rule whole_expression))
     else when at_block_like then rule block_like
     else when at_word w_return then shaped (operand Return) (plainly (word w_return) & (when at_whole_expression then rule whole_expression_head else empty))
     else when at_word w_break then shaped (operand Break) (plainly (word w_break) & (when at_lifetime then lifetime else empty) & (when at_whole_expression then never else empty))
@@ -1004,12 +1009,13 @@ table primary_head =
 --
 -- The same as `unary`, in the head of an `if`, a `while` or a `for`: there a path takes no braces.
 table unary_head =
-    shaped leading (rule attributes
+    shaped choice (when at_invisible then shaped chain (rule primary_head & rule postfixes)
+    else shaped leading (rule attributes
     & (when at_minus then shaped (operand Unary) (punctuation minus & rule unary_head)
     else when at_exclamation then shaped (operand Unary) (punctuation exclamation & rule unary_head)
     else when at_star then shaped (operand Unary) (punctuation star & rule unary_head)
     else when at_ampersand then shaped (operand Reference) (punctuation ampersand & optional w_mut & rule unary_head)
-    else shaped chain (rule primary_head & rule postfixes)))
+    else shaped chain (rule primary_head & rule postfixes))))
 --
 -- The same as `cast`, in the head of an `if`, a `while` or a `for`: there a path takes no braces.
 table cast_head =
@@ -1148,10 +1154,11 @@ table statements =
     else shaped listed (either (shaped an_item (rule kept_in_block) & rule statements) (rule attributes & (when at_item then shaped an_item (rule item_rest & rule statements) else rule statement_rest))))
 --
 -- A statement that is no item, behind its attributes, and the statements that follow: a macro in braces, a local, a block or what ends with
--- one, or an expression.
+-- one, or an expression, which an invisible group always begins.
 table statement_rest =
     when at_crate_macro then shaped said_macro (shaped (operand Macro) (rule macro_invocation) & (when at_postfix_mark then never else rule after_block))
     else when at_brace_macro then shaped said_macro (shaped (operand Macro) (rule macro_invocation) & rule after_block)
+    else when at_invisible then shaped said (rule whole_expression & rule after_expression)
     else when at_word w_let then shaped a_local (rule local & rule statements)
     else when at_block_like then shaped said (rule block_like & rule after_block)
     else shaped said (rule whole_expression & rule after_expression)
@@ -1175,6 +1182,7 @@ table statement =
     & (when at_item then shaped an_item (rule item_rest)
     else when at_crate_macro then rule crate_macro
     else when at_brace_macro then shaped said_macro (shaped (operand Macro) (rule macro_invocation) & rule statement_end)
+    else when at_invisible then shaped said (rule whole_expression & punctuation semicolon)
     else when at_word w_let then shaped a_local (rule local)
     else when at_block_like then shaped said (rule block_like & rule statement_end)
     else shaped said (rule whole_expression & punctuation semicolon)))))
@@ -1627,7 +1635,7 @@ table odd_impl =
 --
 -- An impl with a visibility and `const`, behind its attributes, with any first type. It is kept as tokens by itself, as another.
 table visible_const_impl =
-    captured (plainly (word w_pub)
+    captured ((when at_empty_group then never else plainly (word w_pub))
     & (when at_restriction then inside Paren (rule restriction) else empty)
     & item_word w_const
     & optional w_unsafe

@@ -11,6 +11,7 @@ ghost use Rattle.syn_grammar.specs.AlonePlans.{UseAlone, TypeAlone, ImplAlone};
 ghost use Rattle.syn_grammar.specs.ToldByTokens.{OneWhereTold, RootMarkTold};
 ghost use Rattle.syn_grammar.specs.Leads.{TypeLeads, ImplLed};
 ghost use Rattle.syn_grammar.specs.StatementPlans.{StatementPlan, StatementsPlan, CrateMacroPlan};
+ghost use Rattle.syn_grammar.specs.Made.{ComputedIsMade};
 ghost use Rattle.syn_grammar.specs.Alone.{ReadAlone, ValuesForgetSpans, ShowIsRead, ShowStandsAlone, ShowStandsBefore, SameShow};
 
 /// The computed reading answers exactly what the grammar derives: a value and a rest where a tree is
@@ -36,6 +37,12 @@ pub fn parse_onward()
     ensures no_more_left { ParseOnward }
 {}
 
+/// What is computed of a rule is the value of a tree that the rule's form is made of. Holds of every token
+/// stream, also of one with invisible groups.
+pub fn computed_is_made()
+    ensures as_made { ComputedIsMade }
+{}
+
 /// What a value holds of a syntax tree prints as the tree does. Holds of every tree.
 pub fn value_prints()
     ensures same_print { ValuePrints }
@@ -54,38 +61,44 @@ pub fn captured_is_some()
 {}
 
 /// What a rule that passes the test `reads_alone` reads in front of a rest it reads alone, as the same
-/// value, with nothing left. Every rule that ends by itself passes. Holds of every token stream.
+/// value, with nothing left. Every rule that ends by itself passes. Holds of every visible
+/// token stream.
 pub fn read_alone()
     ensures read_alone { ReadAlone }
 {}
 
 /// Of token streams that are equal but for their spans (in bytes), a rule reads values that are equal
-/// but for their spans. Holds of every token stream.
+/// but for their spans. Holds of every visible
+/// token stream.
 pub fn values_forget_spans()
     ensures like_values { ValuesForgetSpans }
 {}
 
 /// Of what a rule of `reads_shown` reads as a whole, the tokens that are shown (in their order, no empty
-/// list left out) are read as a whole, as the same value with the same spans. Holds of every token stream.
+/// list left out) are read as a whole, as the same value with the same spans. Holds of every visible
+/// token stream.
 pub fn show_is_read()
     ensures as_the_same { ShowIsRead }
 {}
 
 /// What a rule that stands alone (`stands_alone`: nothing is read otherwise where what follows is cut
 /// off) reads in front of a rest, shown, is read as a whole, as the same value with the
-/// same spans. Holds of every token stream.
+/// same spans. Holds of every visible
+/// token stream.
 pub fn show_stands_alone()
     ensures as_the_same { ShowStandsAlone }
 {}
 
 /// What a rule reads in front of a mark of `stands_before` (before which it stands as before the end),
-/// shown, is read as a whole, as the same value with the same spans. Holds of every token stream.
+/// shown, is read as a whole, as the same value with the same spans. Holds of every visible
+/// token stream.
 pub fn show_stands_before()
     ensures as_the_same { ShowStandsBefore }
 {}
 
 /// Of two token streams that a rule of `reads_shown` reads as a whole, the values are equal, spans (in
-/// bytes) aside, exactly where the tokens that are shown of them are. Holds of every token stream.
+/// bytes) aside, exactly where the tokens that are shown of them are. Holds of every visible
+/// token stream.
 pub fn same_show()
     ensures exactly { SameShow }
 {}

@@ -1,21 +1,25 @@
 -- Where a literal of some kind stands next.
-use Rattle.std.proofs.Common.{◌≡◌, false, true, [], ◌∷◌, refl, ap, ap₂, ◌∙◌}
+use Rattle.std.proofs.Common.{◌≡◌, false, true, [], ◌∷◌, refl, sym, ap, ap₂, ◌∙◌}
 use Rattle.syn_grammar.specs.Words.{Text}
-use Rattle.syn_grammar.specs.Tokens.{Span, LitKind, Str, ByteStr, CStr, Byte, Char, Int, Float, literal, Stream, leaf, or, Look, at_literal, ◌or_else◌}
+use Rattle.syn_grammar.specs.Tokens.{Span, LitKind, Str, ByteStr, CStr, Byte, Char, Int, Float, literal, Stream, leaf, or, Look, at_literal, ◌or_else◌, answers, lookahead}
 use Rattle.syn_grammar.specs.Grammar.{literal_of}
-use Rattle.syn_grammar.specs.Take.{lookahead_at, sees, taken}
+use Rattle.syn_grammar.specs.Take.{front, flat, sees, taken}
+use Rattle.syn_grammar.proofs.Takes.{flat_front, sees_flat}
 use Rattle.syn_grammar.proofs.Looks.{sees_or, sees_literal}
 use Rattle.syn_parse.specs.FirstTokens.{at_any_literal, NoLiteral}
 
-pub literal_seen : (k : LitKind) (x : Text) (sp : Span) (r : Stream) → sees at_any_literal (leaf (literal k x) sp r) ≡ true
-unfolding sees lookahead_at
-literal_seen Str x sp r = refl
-literal_seen ByteStr x sp r = refl
-literal_seen CStr x sp r = refl
-literal_seen Byte x sp r = refl
-literal_seen Char x sp r = refl
-literal_seen Int x sp r = refl
-literal_seen Float x sp r = refl
+literal_here : (k : LitKind) (x : Text) (sp : Span) (r : Stream) → answers at_any_literal (lookahead (leaf (literal k x) sp r)) ≡ true
+literal_here Str x sp r = refl
+literal_here ByteStr x sp r = refl
+literal_here CStr x sp r = refl
+literal_here Byte x sp r = refl
+literal_here Char x sp r = refl
+literal_here Int x sp r = refl
+literal_here Float x sp r = refl
+
+pub literal_seen : (k : LitKind) (x : Text) (sp : Span) (ts r : Stream) → front ts ≡ leaf (literal k x) sp r → sees at_any_literal ts ≡ true
+literal_seen k x sp ts r h =
+    sees_flat at_any_literal ts refl ∙ ap (λ z. answers at_any_literal (lookahead z)) (sym (flat_front ts) ∙ ap flat h) ∙ literal_here k x sp (flat r)
 
 pub no_literal_seen : (ts : Stream) → NoLiteral ts → sees at_any_literal ts ≡ false
 no_literal_seen ts n =

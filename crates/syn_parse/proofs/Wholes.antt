@@ -5,7 +5,8 @@ use Rattle.syn_grammar.specs.Tokens.{Stream, end, visible}
 use Rattle.syn_grammar.specs.Grammar.{Syntax}
 use Rattle.syn_grammar.specs.Take.{Out, is_end, only}
 use Rattle.syn_grammar.specs.Run.{value_of}
-use Rattle.syn_grammar.proofs.Takes.{end_found}
+use Rattle.syn_grammar.proofs.Takes.{end_told, end_found}
+use Rattle.syn_parse.specs.Meanings.{seen}
 use Rattle.syn_parse.specs.Form.{Form, of, keyword, ◌followed_by◌, choice, in_group, list, such_that, parse, Derives, Meaning, NotDerivedWhole, WholeOutcome}
 
 -- an error that is passed on
@@ -42,3 +43,9 @@ whole_left f m ts s r v e n = whole_unread f ts (λ t d.
     let k : parse f ts ≡ Some (t, end) = (m.derived ts v t end).1 d in
     let same : r ≡ end = ap (λ o. rest_or o r) (sym e ∙ k) in
     none_some (sym (n (Some (s, r))) ∙ ap (λ z. only (is_end z) (Some (s, r))) same ∙ ap (λ b. only b (Some (s, r))) end_found))
+
+-- or nothing is left
+pub whole_ended : (f : Form) → Meaning f → (ts : Stream) (s : Syntax) (r : Stream) → visible ts ≡ true → parse f ts ≡ Some (s, r) → is_end r ≡ true → Derives f s ts end
+whole_ended f m ts s r v e n =
+    let d : Derives f s ts r = (m.derived ts v s r).0 e in
+    subst (Derives f s ts) (end_told r (seen f s ts r d v) n) d

@@ -1,13 +1,13 @@
 -- Which identifiers are names and words, of their texts.
 use Rattle.std.proofs.Common.{◌≡◌, Bool, true, false, List, [], ◌∷◌, ◌++◌, map, Some, None, refl, sym, ap, ◌∙◌, true≢false}
 use Rattle.syn_grammar.specs.Words.{Text, keywords, contextual}
-use Rattle.syn_grammar.specs.Tokens.{Span, LitKind, Str, ByteStr, CStr, Byte, Char, Int, Float, ident, literal, Stream, end, leaf, punct, group, and, or, no, pick, same_text, one_of_texts, Name, Word, mem}
-use Rattle.syn_grammar.specs.Grammar.{name, identifier, word, name_or, any_literal, fits, Syntax, Token}
-use Rattle.syn_grammar.specs.Take.{Out, only, take_token}
+use Rattle.syn_grammar.specs.Tokens.{Span, LitKind, Str, ByteStr, CStr, Byte, Char, Int, Float, Leaf, ident, literal, Stream, end, leaf, punct, group, and, or, no, pick, same_text, one_of_texts, Name, Word, mem}
+use Rattle.syn_grammar.specs.Grammar.{Kind, name, identifier, word, name_or, any_literal, fits, Syntax, Token}
+use Rattle.syn_grammar.specs.Take.{Out, only, front, token_of, take_token}
 use Rattle.syn_grammar.proofs.Sets.{same_text_eq}
 use Rattle.syn_tokens.specs.Idents.{is_keyword}
 use Rattle.syn_tokens.specs.Leaves.{is_known_word}
-use Rattle.syn_parse.specs.Form.{take_keyword}
+use Rattle.syn_parse.specs.Form.{keyword_of, take_keyword}
 use Rattle.syn_parse.specs.FirstTokens.{NoIdent}
 
 or_assoc : (a b c : Bool) → or (or a b) c ≡ or a (or b c)
@@ -87,33 +87,59 @@ fits_identifier x = go (one_of_texts x (keywords ++ contextual)) refl
 abbrev taken_if : Bool → Syntax → Stream → Out
 taken_if b s r = only b (Some (s, r))
 
-pub take_identifier : (x : Text) (sp : Span) (r : Stream) → take_token identifier (leaf (ident x) sp r) ≡ Some (Token (ident x) sp, r)
+-- what stands next behind invisible groups is taken as what stands first
+through : (k : Kind) (x : Leaf) (sp : Span) (ts r : Stream) → front ts ≡ leaf x sp r → take_token k ts ≡ take_token k (leaf x sp r)
 unfolding take_token
-take_identifier x sp r = ap (λ b. taken_if b (Token (ident x) sp) r) (fits_identifier x)
+through k x sp ts r h = ap (token_of k) h
 
-pub take_name : (x : Text) (sp : Span) (r : Stream) → is_keyword x ≡ false → take_token name (leaf (ident x) sp r) ≡ Some (Token (ident x) sp, r)
+take_identifier_here : (x : Text) (sp : Span) (r : Stream) → take_token identifier (leaf (ident x) sp r) ≡ Some (Token (ident x) sp, r)
 unfolding take_token
-take_name x sp r e = ap (λ b. taken_if b (Token (ident x) sp) r) (fits_name x ∙ ap no e)
+take_identifier_here x sp r = ap (λ b. taken_if b (Token (ident x) sp) r) (fits_identifier x)
 
-pub take_no_name : (x : Text) (sp : Span) (r : Stream) → is_keyword x ≡ true → take_token name (leaf (ident x) sp r) ≡ None
-unfolding take_token
-take_no_name x sp r e = ap (λ b. taken_if b (Token (ident x) sp) r) (fits_name x ∙ ap no e)
+pub take_identifier : (x : Text) (sp : Span) (ts r : Stream) → front ts ≡ leaf (ident x) sp r → take_token identifier ts ≡ Some (Token (ident x) sp, r)
+take_identifier x sp ts r h = through identifier (ident x) sp ts r h ∙ take_identifier_here x sp r
 
-pub take_name_or : (l : List Text) (x : Text) (sp : Span) (r : Stream) → or (no (is_keyword x)) (one_of_texts x l) ≡ true → take_token (name_or l) (leaf (ident x) sp r) ≡ Some (Token (ident x) sp, r)
+take_name_here : (x : Text) (sp : Span) (r : Stream) → is_keyword x ≡ false → take_token name (leaf (ident x) sp r) ≡ Some (Token (ident x) sp, r)
 unfolding take_token
-take_name_or l x sp r e = ap (λ b. taken_if b (Token (ident x) sp) r) (fits_name_or l x ∙ e)
+take_name_here x sp r e = ap (λ b. taken_if b (Token (ident x) sp) r) (fits_name x ∙ ap no e)
 
-pub take_no_name_or : (l : List Text) (x : Text) (sp : Span) (r : Stream) → or (no (is_keyword x)) (one_of_texts x l) ≡ false → take_token (name_or l) (leaf (ident x) sp r) ≡ None
-unfolding take_token
-take_no_name_or l x sp r e = ap (λ b. taken_if b (Token (ident x) sp) r) (fits_name_or l x ∙ e)
+pub take_name : (x : Text) (sp : Span) (ts r : Stream) → front ts ≡ leaf (ident x) sp r → is_keyword x ≡ false → take_token name ts ≡ Some (Token (ident x) sp, r)
+take_name x sp ts r h e = through name (ident x) sp ts r h ∙ take_name_here x sp r e
 
-pub take_word : (w x : Text) (sp : Span) (r : Stream) → is_known_word w ≡ true → same_text x w ≡ true → take_token (word w) (leaf (ident x) sp r) ≡ Some (Token (ident w) sp, r)
+take_no_name_here : (x : Text) (sp : Span) (r : Stream) → is_keyword x ≡ true → take_token name (leaf (ident x) sp r) ≡ None
 unfolding take_token
-take_word w x sp r k e = ap (λ b. taken_if b (Token (ident x) sp) r) (fits_word w x k ∙ e) ∙ ap (λ z. Some (Token (ident z) sp, r)) (same_text_eq x w e)
+take_no_name_here x sp r e = ap (λ b. taken_if b (Token (ident x) sp) r) (fits_name x ∙ ap no e)
 
-pub take_no_word : (w x : Text) (sp : Span) (r : Stream) → is_known_word w ≡ true → same_text x w ≡ false → take_token (word w) (leaf (ident x) sp r) ≡ None
+pub take_no_name : (x : Text) (sp : Span) (ts r : Stream) → front ts ≡ leaf (ident x) sp r → is_keyword x ≡ true → take_token name ts ≡ None
+take_no_name x sp ts r h e = through name (ident x) sp ts r h ∙ take_no_name_here x sp r e
+
+take_name_or_here : (l : List Text) (x : Text) (sp : Span) (r : Stream) → or (no (is_keyword x)) (one_of_texts x l) ≡ true → take_token (name_or l) (leaf (ident x) sp r) ≡ Some (Token (ident x) sp, r)
 unfolding take_token
-take_no_word w x sp r k e = ap (λ b. taken_if b (Token (ident x) sp) r) (fits_word w x k ∙ e)
+take_name_or_here l x sp r e = ap (λ b. taken_if b (Token (ident x) sp) r) (fits_name_or l x ∙ e)
+
+pub take_name_or : (l : List Text) (x : Text) (sp : Span) (ts r : Stream) → front ts ≡ leaf (ident x) sp r → or (no (is_keyword x)) (one_of_texts x l) ≡ true → take_token (name_or l) ts ≡ Some (Token (ident x) sp, r)
+take_name_or l x sp ts r h e = through (name_or l) (ident x) sp ts r h ∙ take_name_or_here l x sp r e
+
+take_no_name_or_here : (l : List Text) (x : Text) (sp : Span) (r : Stream) → or (no (is_keyword x)) (one_of_texts x l) ≡ false → take_token (name_or l) (leaf (ident x) sp r) ≡ None
+unfolding take_token
+take_no_name_or_here l x sp r e = ap (λ b. taken_if b (Token (ident x) sp) r) (fits_name_or l x ∙ e)
+
+pub take_no_name_or : (l : List Text) (x : Text) (sp : Span) (ts r : Stream) → front ts ≡ leaf (ident x) sp r → or (no (is_keyword x)) (one_of_texts x l) ≡ false → take_token (name_or l) ts ≡ None
+take_no_name_or l x sp ts r h e = through (name_or l) (ident x) sp ts r h ∙ take_no_name_or_here l x sp r e
+
+take_word_here : (w x : Text) (sp : Span) (r : Stream) → is_known_word w ≡ true → same_text x w ≡ true → take_token (word w) (leaf (ident x) sp r) ≡ Some (Token (ident w) sp, r)
+unfolding take_token
+take_word_here w x sp r k e = ap (λ b. taken_if b (Token (ident x) sp) r) (fits_word w x k ∙ e) ∙ ap (λ z. Some (Token (ident z) sp, r)) (same_text_eq x w e)
+
+pub take_word : (w x : Text) (sp : Span) (ts r : Stream) → front ts ≡ leaf (ident x) sp r → is_known_word w ≡ true → same_text x w ≡ true → take_token (word w) ts ≡ Some (Token (ident w) sp, r)
+take_word w x sp ts r h k e = through (word w) (ident x) sp ts r h ∙ take_word_here w x sp r k e
+
+take_no_word_here : (w x : Text) (sp : Span) (r : Stream) → is_known_word w ≡ true → same_text x w ≡ false → take_token (word w) (leaf (ident x) sp r) ≡ None
+unfolding take_token
+take_no_word_here w x sp r k e = ap (λ b. taken_if b (Token (ident x) sp) r) (fits_word w x k ∙ e)
+
+pub take_no_word : (w x : Text) (sp : Span) (ts r : Stream) → front ts ≡ leaf (ident x) sp r → is_known_word w ≡ true → same_text x w ≡ false → take_token (word w) ts ≡ None
+take_no_word w x sp ts r h k e = through (word w) (ident x) sp ts r h ∙ take_no_word_here w x sp r k e
 
 fits_literal : (k : LitKind) (x : Text) → fits any_literal (literal k x) ≡ true
 fits_literal Str x = refl
@@ -124,23 +150,29 @@ fits_literal Char x = refl
 fits_literal Int x = refl
 fits_literal Float x = refl
 
-pub take_literal : (k : LitKind) (x : Text) (sp : Span) (r : Stream) → take_token any_literal (leaf (literal k x) sp r) ≡ Some (Token (literal k x) sp, r)
+take_literal_here : (k : LitKind) (x : Text) (sp : Span) (r : Stream) → take_token any_literal (leaf (literal k x) sp r) ≡ Some (Token (literal k x) sp, r)
 unfolding take_token
-take_literal k x sp r = ap (λ b. taken_if b (Token (literal k x) sp) r) (fits_literal k x)
+take_literal_here k x sp r = ap (λ b. taken_if b (Token (literal k x) sp) r) (fits_literal k x)
+
+pub take_literal : (k : LitKind) (x : Text) (sp : Span) (ts r : Stream) → front ts ≡ leaf (literal k x) sp r → take_token any_literal ts ≡ Some (Token (literal k x) sp, r)
+take_literal k x sp ts r h = through any_literal (literal k x) sp ts r h ∙ take_literal_here k x sp r
 
 -- KEYWORDS OF OWN SYNTAXES
-pub take_the_keyword : (w x : Text) (sp : Span) (r : Stream) → same_text x w ≡ true → take_keyword w (leaf (ident x) sp r) ≡ Some (Token (ident w) sp, r)
+pub take_the_keyword : (w x : Text) (sp : Span) (ts r : Stream) → front ts ≡ leaf (ident x) sp r → same_text x w ≡ true → take_keyword w ts ≡ Some (Token (ident w) sp, r)
 unfolding take_keyword
-take_the_keyword w x sp r e = ap (λ b. taken_if b (Token (ident x) sp) r) e ∙ ap (λ z. Some (Token (ident z) sp, r)) (same_text_eq x w e)
+take_the_keyword w x sp ts r h e = ap (keyword_of w) h ∙ ap (λ b. taken_if b (Token (ident x) sp) r) e ∙ ap (λ z. Some (Token (ident z) sp, r)) (same_text_eq x w e)
 
-pub take_no_keyword : (w x : Text) (sp : Span) (r : Stream) → same_text x w ≡ false → take_keyword w (leaf (ident x) sp r) ≡ None
+pub take_no_keyword : (w x : Text) (sp : Span) (ts r : Stream) → front ts ≡ leaf (ident x) sp r → same_text x w ≡ false → take_keyword w ts ≡ None
 unfolding take_keyword
-take_no_keyword w x sp r e = ap (λ b. taken_if b (Token (ident x) sp) r) e
+take_no_keyword w x sp ts r h e = ap (keyword_of w) h ∙ ap (λ b. taken_if b (Token (ident x) sp) r) e
+
+no_keyword_of : (w : Text) (f : Stream) → token_of identifier f ≡ None → keyword_of w f ≡ None
+no_keyword_of w end n = refl
+no_keyword_of w (leaf (ident x) sp r) n = absurd (cc (sym (ap (λ b. taken_if b (Token (ident x) sp) r) (fits_identifier x)) ∙ n))
+no_keyword_of w (leaf (literal k x) sp r) n = refl
+no_keyword_of w (punct c j sp m) n = refl
+no_keyword_of w (group d o c i m) n = refl
 
 pub no_keyword : (w : Text) (ts : Stream) → NoIdent ts → take_keyword w ts ≡ None
-unfolding take_keyword
-no_keyword w end n = refl
-no_keyword w (leaf (ident x) sp r) n = absurd (cc (sym (take_identifier x sp r) ∙ n identifier refl))
-no_keyword w (leaf (literal k x) sp r) n = refl
-no_keyword w (punct c j sp m) n = refl
-no_keyword w (group d o c i m) n = refl
+unfolding take_keyword take_token
+no_keyword w ts n = no_keyword_of w (front ts) (n identifier refl)

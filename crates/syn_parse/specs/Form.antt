@@ -6,7 +6,7 @@ use Rattle.syn_grammar.specs.Tokens.{Span, Delimiter, ident, Stream, end, leaf, 
 use Rattle.syn_grammar.specs.Grammar as grammar
 use Rattle.syn_grammar.specs.Grammar.{Grammar, Syntax, Nothing, Token, Both, Left, Right, Group}
 use Rattle.syn_grammar.specs.Table.{table}
-use Rattle.syn_grammar.specs.Take.{Out, Parser, only, left, sees, take_mark, take_group, taken}
+use Rattle.syn_grammar.specs.Take.{Out, Parser, only, left, front, sees, take_mark, take_group, taken}
 use Rattle.syn_grammar.specs.Run as run
 use Rattle.syn_grammar.specs.Run.{and_then, branch, within}
 use Rattle.syn_grammar.specs.Promises as says
@@ -27,9 +27,12 @@ pub data Condition : Type 0 where
   at_punctuation : Text → Condition  -- these characters, all but the last Joint, whether or not they are a mark of the grammar
 
 -- the identifier of this text
+abbrev pub keyword_of : Text → Parser
+keyword_of x (leaf (ident y) sp r) = only (same_text y x) (Some (Token (ident y) sp, r))
+keyword_of x _ = None
+
 unfoldable pub take_keyword : Text → Parser
-take_keyword x (leaf (ident y) sp r) = only (same_text y x) (Some (Token (ident y) sp, r))
-take_keyword x _ = None
+take_keyword x ts = keyword_of x (front ts)
 
 -- as it is computed
 abbrev pub meets : Condition → Stream → Bool

@@ -4,45 +4,52 @@ use Rattle.syn_grammar.specs.Words.{Text}
 use Rattle.syn_grammar.specs.Tokens.{Span, Delimiter, ident, literal, Stream, end, leaf, punct, group, and, or, no, is_visible, visible, same_text}
 use Rattle.syn_grammar.specs.Rules.{Rule}
 use Rattle.syn_grammar.specs.Grammar.{rule, empty, Syntax, Nothing, Token, Both, Left, Right, Group}
-use Rattle.syn_grammar.specs.Take.{Out, Parser, only, left, take_group}
+use Rattle.syn_grammar.specs.Take.{Out, Parser, only, left, front, take_group}
 use Rattle.syn_grammar.specs.Run.{and_then, branch, wrap, close, within, parse_rule}
 use Rattle.syn_grammar.specs.Promises as says
 use Rattle.syn_grammar.proofs.FirstSets.{nullable}
 use Rattle.syn_grammar.proofs.Said.{start_of}
 use Rattle.syn_grammar.proofs.Sets.{and_left, and_right, same_text_eq, same_text_refl}
-use Rattle.syn_grammar.proofs.Takes.{TreeAndRest, inv_only, sees_is, end_told, end_found, group_less, group_told, group_found}
+use Rattle.syn_grammar.proofs.Takes.{TreeAndRest, inv_only, sees_is, end_told, end_found, group_less, group_told, group_found, front_seen, front_left}
 use Rattle.syn_grammar.proofs.Means.{rest_seen}
 use Rattle.syn_grammar.proofs.Run.{Falls, Less, inv_wrap, inv_then, inv_within, parse_falls, runs_shrinks, parse_rule_less}
 use Rattle.syn_grammar.proofs.Outcomes.{meaning_of as grammar_means}
-use Rattle.syn_parse.specs.Form.{Condition, by, at_keyword, at_punctuation, take_keyword, meets, stands_next, Form, of, keyword, ◌followed_by◌, choice, in_group, list, such_that, optional, if_tree, parse, Derives, NotDerived, reads_some, is_sound, Meaning}
+use Rattle.syn_parse.specs.Form.{Condition, by, at_keyword, at_punctuation, keyword_of, take_keyword, meets, stands_next, Form, of, keyword, ◌followed_by◌, choice, in_group, list, such_that, optional, if_tree, parse, Derives, NotDerived, reads_some, is_sound, Meaning}
 use Rattle.syn_parse.specs.TerminatedLists.{Shorter, Law, terminated_is, list_split, list_found, list_falls}
 
 -- what a form reads of which token
-pub keyword_less : (x : Text) (ts : Stream) (y : TreeAndRest) → take_keyword x ts ≡ Some y → left y.1 < left ts
-unfolding take_keyword left
-keyword_less x end y e = absurd (cc e)
-keyword_less x (leaf (ident z) sp r) y e = let a : y.1 ≡ r = cc (inv_only (same_text z x) _ y e).1 in rw a (omega arith)
-keyword_less x (leaf (literal k z) sp r) y e = absurd (cc e)
-keyword_less x (punct c j sp m) y e = absurd (cc e)
-keyword_less x (group d o c i m) y e = absurd (cc e)
+less_of : (x : Text) (ts : Stream) (y : TreeAndRest) → keyword_of x ts ≡ Some y → left y.1 < left ts
+unfolding left
+less_of x end y e = absurd (cc e)
+less_of x (leaf (ident z) sp r) y e = let a : y.1 ≡ r = cc (inv_only (same_text z x) _ y e).1 in rw a (omega arith)
+less_of x (leaf (literal k z) sp r) y e = absurd (cc e)
+less_of x (punct c j sp m) y e = absurd (cc e)
+less_of x (group d o c i m) y e = absurd (cc e)
 
-keyword_told : (x : Text) (ts : Stream) (s : Syntax) (r : Stream) → take_keyword x ts ≡ Some (s, r) → Derives (keyword x) s ts r
+pub keyword_less : (x : Text) (ts : Stream) (y : TreeAndRest) → take_keyword x ts ≡ Some y → left y.1 < left ts
 unfolding take_keyword
-keyword_told x end s r e = absurd (cc e)
-keyword_told x (leaf (ident z) sp m) s r e =
+keyword_less x ts y e = let a = less_of x (front ts) y e in let b = front_left ts in omega (arith, a, b)
+
+told_of : (x : Text) (ts : Stream) (s : Syntax) (r : Stream) → keyword_of x ts ≡ Some (s, r) → Derives (keyword x) s ts r
+told_of x end s r e = absurd (cc e)
+told_of x (leaf (ident z) sp m) s r e =
     let h = inv_only (same_text z x) _ _ e in
     let a : z ≡ x = same_text_eq z x h.0 in
     let i : ◌≡◌ {A = TreeAndRest} (Token (ident z) sp, m) (s, r) = cc h.1 in
     let b : s ≡ Token (ident z) sp = sym (ap (λ (y : TreeAndRest). y.0) i) in
     let c : m ≡ r = ap (λ (y : TreeAndRest). y.1) i in
     (sp, b ∙ ap (λ w. Token (ident w) sp) a, ap (λ w. leaf (ident w) sp m) a ∙ ap (leaf (ident x) sp) c)
-keyword_told x (leaf (literal k z) sp m) s r e = absurd (cc e)
-keyword_told x (punct c j sp m) s r e = absurd (cc e)
-keyword_told x (group d o c i m) s r e = absurd (cc e)
+told_of x (leaf (literal k z) sp m) s r e = absurd (cc e)
+told_of x (punct c j sp m) s r e = absurd (cc e)
+told_of x (group d o c i m) s r e = absurd (cc e)
+
+keyword_told : (x : Text) (ts : Stream) (s : Syntax) (r : Stream) → visible ts ≡ true → take_keyword x ts ≡ Some (s, r) → Derives (keyword x) s ts r
+unfolding take_keyword
+keyword_told x ts s r v e = told_of x ts s r (ap (keyword_of x) (sym (front_seen ts v)) ∙ e)
 
 keyword_found : (x : Text) (ts : Stream) (s : Syntax) (r : Stream) → Derives (keyword x) s ts r → take_keyword x ts ≡ Some (s, r)
 unfolding take_keyword
-keyword_found x ts s r (sp, a, b) = ap (take_keyword x) b ∙ ap (λ w. only w (Some (Token (ident x) sp, r))) (same_text_refl x) ∙ ap (λ w. Some (w, r)) (sym a)
+keyword_found x ts s r (sp, a, b) = ap (λ z. keyword_of x (front z)) b ∙ ap (λ w. only w (Some (Token (ident x) sp, r))) (same_text_refl x) ∙ ap (λ w. Some (w, r)) (sym a)
 
 -- as it is computed, so it stands
 meets_is : (c : Condition) (ts : Stream) → visible ts ≡ true → meets c ts ≡ stands_next c ts
@@ -180,7 +187,7 @@ law_of (of g) w = record {
   seen = seen (of g);
 }
 law_of (keyword x) w = record {
-  told = λ ts s r v e. keyword_told x ts s r e;
+  told = λ ts s r v e. keyword_told x ts s r v e;
   found = λ ts s r v d. keyword_found x ts s r d;
   falls = falls_of (keyword x) w;
   seen = seen (keyword x);

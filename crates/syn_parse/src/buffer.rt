@@ -8,7 +8,7 @@ ghost use Rattle.syn_grammar.specs.Promises.{Computes, Takes, Finished};
 ghost use Rattle.syn_parse.specs.Refusals.{IsSyntax};
 ghost use Rattle.syn_parse.specs.Nexts.{StandsNext, RefusedNext};
 ghost use Rattle.syn_tokens.specs.Punct.{is_joint};
-ghost use Rattle.syn_parse.specs.Peeks.{past};
+ghost use Rattle.syn_parse.specs.Peeks.{past, past_first};
 ghost use Rattle.syn_parse.specs.Peeks as peeks;
 ghost use Rattle.syn_tokens.specs.Cursors.{before_next};
 ghost use Rattle.syn_parse.specs.Opened.{ComputesOpened, content_of};
@@ -21,8 +21,9 @@ use std::marker::Model;
 use syn_tokens::punct::{Punct, Spacing};
 use syn_tokens::span::Span;
 use syn_tokens::stream::TokenStream;
-use syn_tokens::stream::cursor::{Cursor, TokenTreeRef};
+use syn_tokens::stream::cursor::TokenTreeRef;
 use syn_tokens::stream::entry::Entry;
+use syn_tokens::stream::place::Place;
 use syn_tokens::token::{DelimiterKind, Delimiters};
 
 pub mod call;
@@ -37,7 +38,7 @@ mod public;
 /// The token trees that are left to read, and where they end.
 #[derive(Drop)]
 pub struct ParseBuffer<'a> {
-    tokens: Cursor<'a>,
+    tokens: Place<'a>,
     end: Span,
     alloc: Global,
 }
@@ -63,8 +64,8 @@ fn end_of(entries: &[Entry]) -> Span {
 }
 
 /// What is left past a tree; where that is the `'` of a lifetime, past its identifier too.
-fn past_next<'a>(next: &TokenTreeRef<'_>, rest: Cursor<'a>) -> Cursor<'a>
-    ensures { result ≡ past (before_next next.now rest.entry) }
+fn past_next<'a>(next: &TokenTreeRef<'_>, rest: Place<'a>) -> Place<'a>
+    ensures { result ≡ past_first (before_next next.now rest.entry) }
 {
     match next {
         TokenTreeRef::Ident(_) => rest,
@@ -75,7 +76,7 @@ fn past_next<'a>(next: &TokenTreeRef<'_>, rest: Cursor<'a>) -> Cursor<'a>
 }
 
 /// What is left past a mark's character; where that makes a lifetime, past its identifier too.
-fn past_mark<'a>(punct: &Punct, rest: Cursor<'a>) -> Cursor<'a>
+fn past_mark<'a>(punct: &Punct, rest: Place<'a>) -> Place<'a>
     ensures { result ≡ peeks.past_mark punct.now.character (is_joint punct.now.spacing) rest.entry }
 {
     if punct.character() != '\'' || punct.spacing != Spacing::Joint {
@@ -96,7 +97,7 @@ impl<'a> ParseBuffer<'a> {
         ensures { result ≡ stream.now }
     {
         ParseBuffer {
-            tokens: stream.cursor(),
+            tokens: Place::new(&stream.cursor()),
             end: end_of(stream.entries()),
             alloc: stream.alloc(),
         }
@@ -143,7 +144,7 @@ impl<'a> ParseBuffer<'a> {
 
     /// Where the next token stands; at the end of a group its closing delimiter, at the end of a stream the empty span
     /// behind its last tree.
-    #[tactic(auto, using(crate::proofs::Nexts::first_stands))]
+    #[tactic(auto, using(crate::proofs::Nexts::first_stands, crate::proofs::Nexts::none_stands))]
     pub fn span(&self) -> Span
         ensures { StandsNext self.now result }
     {
@@ -186,12 +187,13 @@ impl<'a> ParseBuffer<'a> {
     }
 
     /// What is left past the next tree, where a lifetime counts as one.
+    #[tactic(auto, unfolding(crate::specs::Peeks::past))]
     fn past(&self) -> ParseBuffer<'a>
         ensures { result ≡ past self.now }
     {
         let tokens = match self.tokens.split() {
             Some((next, rest)) => past_next(&next, rest),
-            None => Cursor::none(),
+            None => Place::none(),
         };
         ParseBuffer {
             tokens,
@@ -230,7 +232,7 @@ impl<'a> ParseBuffer<'a> {
         };
         self.tokens = rest;
         let content = ParseBuffer {
-            tokens: group.content,
+            tokens: Place::new(&group.content),
             end: group.closing,
             alloc: self.alloc,
         };
@@ -243,24 +245,21 @@ impl<'a> ParseBuffer<'a> {
     {
         let (group, _) = split_group(&self.tokens, K::delimiter())?;
         Some(ParseBuffer {
-            tokens: group.content,
+            tokens: Place::new(&group.content),
             end: group.closing,
             alloc: self.alloc,
         })
     }
 
     /// The end of a group or stream; refused where something is left.
-    #[tactic(auto, unfolding(syn_grammar::specs::Take::is_end))]
     pub fn read_end(&self) -> Parsed<()>
         ensures end { Finished IsSyntax self.now result }
         ensures fault { IfErr result (RefusedNext self.now (codes "unexpected token")) }
     {
-        match self.tokens.split() {
-            None => Ok(()),
-            Some((TokenTreeRef::Ident(_), _)) => Err(self.refusal("unexpected token")),
-            Some((TokenTreeRef::Literal(_), _)) => Err(self.refusal("unexpected token")),
-            Some((TokenTreeRef::Punct(_), _)) => Err(self.refusal("unexpected token")),
-            Some((TokenTreeRef::Group(_), _)) => Err(self.refusal("unexpected token")),
+        if self.tokens.is_empty() {
+            Ok(())
+        } else {
+            Err(self.refusal("unexpected token"))
         }
     }
 }

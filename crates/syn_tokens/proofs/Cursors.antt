@@ -50,7 +50,7 @@ closes o rest n flat =
     record { content = encode b.inner; closing = b.closing; rest = encode b.after; is = b.whole; long = b.skip }
 
 -- two lists that are cut at the same place
-cut_left : (ws xs ys zs : List Entry) → ws ++ xs ≡ ys ++ zs → length ws ≡ length ys → ws ≡ ys
+pub cut_left : (ws xs ys zs : List Entry) → ws ++ xs ≡ ys ++ zs → length ws ≡ length ys → ws ≡ ys
 cut_left [] xs [] zs e h = refl
 cut_left [] xs (c ∷ ys) zs e h = absurd (omega arith)
 cut_left (a ∷ ws) xs [] zs e h = absurd (omega arith)
@@ -59,7 +59,7 @@ cut_left (a ∷ ws) xs (c ∷ ys) zs e h =
     let rest : ws ++ xs ≡ ys ++ zs = cc in
     λ i. first i ∷ cut_left ws xs ys zs rest (omega arith) i
 
-cut_right : (ws xs ys zs : List Entry) → ws ++ xs ≡ ys ++ zs → length ws ≡ length ys → xs ≡ zs
+pub cut_right : (ws xs ys zs : List Entry) → ws ++ xs ≡ ys ++ zs → length ws ≡ length ys → xs ≡ zs
 cut_right [] xs [] zs e h = e
 cut_right [] xs (c ∷ ys) zs e h = absurd (omega arith)
 cut_right (a ∷ ws) xs [] zs e h = absurd (omega arith)

@@ -14,4 +14,5 @@ pub mod Prints
 pub mod Rows
 pub mod SameEntries
 pub mod Streams
+pub mod Through
 pub mod Walks

@@ -29,5 +29,6 @@ pub mod SameStreams
 pub mod Spans
 pub mod Spelled
 pub mod Texts
+pub mod Through
 pub mod Trees
 pub mod Walks

@@ -4,7 +4,7 @@ ghost use Rattle.syn_grammar.specs.Tokens.{end, group, ◌⧺◌};
 ghost use Rattle.syn_tokens.specs.Spans.{at};
 ghost use Rattle.syn_tokens.specs.Delimiters.{delimiter_of};
 ghost use Rattle.syn_tokens.specs.Entries.{encode, decode, IsFlat, IsToken};
-ghost use Rattle.syn_grammar.specs.Take.{first, length, is_end};
+ghost use Rattle.syn_grammar.specs.Take.{first, length, ended_at};
 
 use crate::error::Result;
 use crate::span::Span;
@@ -20,6 +20,7 @@ mod copies;
 pub mod cursor;
 pub mod entry;
 pub mod iter;
+pub mod place;
 mod same;
 pub mod tree;
 mod words;
@@ -151,7 +152,7 @@ impl TokenStream {
     /// Whether it has none.
     #[tactic(auto, using(crate::proofs::Streams::is_end_of))]
     pub fn is_empty(&self) -> bool
-        ensures { result ≡ is_end self.now }
+        ensures { result ≡ ended_at self.now }
     {
         self.trees == 0
     }

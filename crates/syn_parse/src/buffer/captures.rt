@@ -6,18 +6,16 @@ ghost use Rattle.syn_grammar.specs.Take.{before};
 use crate::buffer::ParseBuffer;
 use syn_tokens::error::Result;
 use syn_tokens::stream::TokenStream;
-use syn_tokens::stream::cursor::Cursor;
+use syn_tokens::stream::place::Place;
 
 impl<'a> ParseBuffer<'a> {
-    /// A copy of what was read from this buffer up to the other, where that reads on from this one. Refused only where
-    /// memory is.
-    #[tactic(auto, unfolding(syn_grammar::specs::Take::before))]
+    /// A copy of what was read from this buffer up to the other, where that reads on from this one: an invisible group that was
+    /// entered or left within is replaced by the part of its content that was read. Refused only where memory is.
     pub fn between(&self, end: &ParseBuffer<'a>) -> Result<TokenStream>
         ensures ok { IfOk result (λ copy. copy ≡ before self.now end.now) }
         ensures err { IfErr result (λ e. e ≡ []) }
     {
-        let count = self.tokens.len().saturating_sub(end.tokens.len());
-        Ok(self.tokens.first_to_stream(count, self.alloc)?)
+        Ok(self.tokens.between(&end.tokens, self.alloc)?)
     }
 
     /// A copy of all that is left, which then counts as read. Refused only where memory is; then nothing is read.
@@ -28,7 +26,7 @@ impl<'a> ParseBuffer<'a> {
         ensures memory { IfErr result (λ e. e ≡ []) }
     {
         let copy = self.tokens.to_stream(self.alloc)?;
-        self.tokens = Cursor::none();
+        self.tokens = Place::none();
         Ok(copy)
     }
 }

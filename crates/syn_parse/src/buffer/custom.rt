@@ -14,7 +14,7 @@ use syn_tokens::span::Span;
 
 impl<'a> ParseBuffer<'a> {
     /// The identifier of this text, whether or not the grammar knows it.
-    #[tactic(auto, using(crate::proofs::Words::take_the_keyword, crate::proofs::Words::take_no_keyword, crate::proofs::Words::no_keyword), unfolding(syn_grammar::specs::Take::left))]
+    #[tactic(auto, using(crate::proofs::Words::take_the_keyword, crate::proofs::Words::take_no_keyword, crate::proofs::Words::no_keyword, syn_grammar::proofs::Takes::leaf_left))]
     pub(crate) fn read_keyword(&mut self, text: &str, expected: &'static str) -> Parsed<Span>
         ensures reads { Computes IsSyntax (syntax_of_word text.now) (take_keyword text.now self.old) result self.new }
         ensures moved { Takes 1 self.old result self.new }

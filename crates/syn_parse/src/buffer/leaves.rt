@@ -29,7 +29,7 @@ fn is_path_word(ident: &IdentRef<'_>) -> bool
 
 impl<'a> ParseBuffer<'a> {
     /// An identifier that is no keyword.
-    #[tactic(auto, using(crate::proofs::Words::take_name, crate::proofs::Words::take_no_name), unfolding(syn_grammar::specs::Take::left))]
+    #[tactic(auto, using(crate::proofs::Words::take_name, crate::proofs::Words::take_no_name, syn_grammar::proofs::Takes::leaf_left))]
     pub(crate) fn read_name(&mut self) -> Parsed<Ident>
         ensures reads { Computes IsSyntax syntax_of_ident (take_token name self.old) result self.new }
         ensures moved { Takes 1 self.old result self.new }
@@ -46,7 +46,7 @@ impl<'a> ParseBuffer<'a> {
     }
 
     /// Any identifier.
-    #[tactic(auto, using(crate::proofs::Words::take_identifier), unfolding(syn_grammar::specs::Take::left))]
+    #[tactic(auto, using(crate::proofs::Words::take_identifier, syn_grammar::proofs::Takes::leaf_left))]
     pub fn read_identifier(&mut self) -> Parsed<Ident>
         ensures reads { Computes IsSyntax syntax_of_ident (take_token identifier self.old) result self.new }
         ensures moved { Takes 1 self.old result self.new }
@@ -60,7 +60,7 @@ impl<'a> ParseBuffer<'a> {
     }
 
     /// An identifier that is no keyword, or one of the keywords of paths: `self`, `Self`, `super`, `crate`.
-    #[tactic(auto, using(crate::proofs::Words::take_name_or, crate::proofs::Words::take_no_name_or), unfolding(syn_grammar::specs::Take::left))]
+    #[tactic(auto, using(crate::proofs::Words::take_name_or, crate::proofs::Words::take_no_name_or, syn_grammar::proofs::Takes::leaf_left))]
     pub fn read_path_word(&mut self) -> Parsed<Ident>
         ensures reads { Computes IsSyntax syntax_of_ident (take_token (name_or path_words) self.old) result self.new }
         ensures moved { Takes 1 self.old result self.new }
@@ -78,7 +78,7 @@ impl<'a> ParseBuffer<'a> {
 
     /// The identifier of this text, which some rule of the grammar may ask for: its span. Where it doesn't stand next it is
     /// refused there, with the fault that is handed in.
-    #[tactic(auto, using(crate::proofs::Words::take_word, crate::proofs::Words::take_no_word), unfolding(syn_grammar::specs::Take::left))]
+    #[tactic(auto, using(crate::proofs::Words::take_word, crate::proofs::Words::take_no_word, syn_grammar::proofs::Takes::leaf_left))]
     pub fn read_word(&mut self, text: &str, expected: &'static str) -> Parsed<Span>
         requires { is_known_word text.now ≡ true }
         ensures reads { Computes IsSyntax (syntax_of_word text.now) (take_token (word text.now) self.old) result self.new }
@@ -96,7 +96,7 @@ impl<'a> ParseBuffer<'a> {
     }
 
     /// A literal of any kind.
-    #[tactic(auto, using(crate::proofs::Words::take_literal), unfolding(syn_grammar::specs::Take::left))]
+    #[tactic(auto, using(crate::proofs::Words::take_literal, syn_grammar::proofs::Takes::leaf_left))]
     pub(crate) fn read_literal(&mut self) -> Parsed<Literal>
         ensures reads { Computes IsSyntax syntax_of_literal (take_token any_literal self.old) result self.new }
         ensures moved { Takes 1 self.old result self.new }
@@ -110,7 +110,6 @@ impl<'a> ParseBuffer<'a> {
     }
 
     /// A `'` directly before an identifier: its span, and the identifier.
-    #[tactic(auto, unfolding(syn_grammar::specs::Take::take_lifetime, syn_grammar::specs::Take::left))]
     pub(crate) fn read_lifetime(&mut self) -> Parsed<(Span, Ident)>
         ensures reads { Computes IsSyntax syntax_of_apostrophe (take_lifetime self.old) result self.new }
         ensures moved { Takes 1 self.old result self.new }
@@ -124,7 +123,7 @@ impl<'a> ParseBuffer<'a> {
     }
 
     /// Whether a lifetime stands next.
-    #[tactic(auto, using(syn_grammar::proofs::Looks::sees_lifetime), unfolding(syn_grammar::specs::Take::take_lifetime))]
+    #[tactic(auto, using(syn_grammar::proofs::Looks::sees_lifetime))]
     pub(crate) fn is_at_lifetime(&self) -> bool
         ensures { result ≡ sees at_lifetime self.now }
     {
@@ -166,10 +165,15 @@ impl<'a> ParseBuffer<'a> {
     }
 
     /// Whether a group with these delimiters stands next.
-    #[tactic(auto, using(syn_grammar::proofs::Looks::sees_group))]
+    #[tactic(auto, using(syn_grammar::proofs::Looks::sees_group), unfolding(syn_grammar::specs::Take::take_group))]
     pub(crate) fn is_at_group(&self, delimiter: Delimiter) -> bool
         ensures { result ≡ sees (at_group (delimiter_of delimiter)) self.now }
     {
-        self.tokens.is_at_group(delimiter)
+        match delimiter {
+            Delimiter::Paren => self.tokens.is_at_group(Delimiter::Paren),
+            Delimiter::Brace => self.tokens.is_at_group(Delimiter::Brace),
+            Delimiter::Bracket => self.tokens.is_at_group(Delimiter::Bracket),
+            Delimiter::None => self.tokens.is_at_invisible(),
+        }
     }
 }

@@ -2,7 +2,7 @@
 ghost use Rattle.std.specs.Prelude.{◌≡◌, ◌<◌, ◌^◌, [], ◌∷◌, ◌++◌, length, MatchOption};
 ghost use Rattle.syn_grammar.specs.Tokens.{end, ident, leaf, punct};
 ghost use Rattle.syn_grammar.specs.Take as grammar;
-ghost use Rattle.syn_grammar.specs.Take.{is_end, taken, take_group};
+ghost use Rattle.syn_grammar.specs.Take.{ended_at, taken, group_of};
 ghost use Rattle.syn_tokens.specs.Entries.{encode, decode, IsFlat};
 ghost use Rattle.syn_tokens.specs.Places.{after};
 ghost use Rattle.syn_tokens.specs.Cursors.{before_next, next_span, Closes};
@@ -65,7 +65,7 @@ pub enum TokenTreeRef<'a> {
 
 /// The first entry, and the others.
 #[inline(always)]
-fn split_first(entries: &[Entry]) -> Option<(&Entry, &[Entry])>
+pub(crate) fn split_first(entries: &[Entry]) -> Option<(&Entry, &[Entry])>
     ensures { MatchOption result (entries.now ≡ []) (λ p. entries.now ≡ p.0.now ∷ p.1.now) }
 {
     entries.split_first()
@@ -73,7 +73,7 @@ fn split_first(entries: &[Entry]) -> Option<(&Entry, &[Entry])>
 
 /// So many entries, the closing delimiter behind them, and the others.
 #[inline(always)]
-fn split_close(entries: &[Entry], count: usize) -> Option<(&[Entry], Close, &[Entry])>
+pub(crate) fn split_close(entries: &[Entry], count: usize) -> Option<(&[Entry], Close, &[Entry])>
     ensures { MatchOption result (Closes entries.now count → ⊥)
         (λ p. (entries.now ≡ p.0.now ++ E.Close p.1 ∷ p.2.now) × (length p.0.now ≡ count)) }
 {
@@ -178,7 +178,7 @@ impl<'a> Cursor<'a> {
     #[tactic(auto, using(crate::proofs::Streams::is_end_of))]
     #[inline(always)]
     pub fn is_empty(&self) -> bool
-        ensures { result ≡ is_end self.now }
+        ensures { result ≡ ended_at self.now }
     {
         self.trees == 0
     }
@@ -208,7 +208,7 @@ impl<'a> Cursor<'a> {
     /// Whether a group with these delimiters is the first tree. It doesn't look for the end of the group.
     #[inline(always)]
     pub fn is_at_group(&self, delimiter: Delimiter) -> bool
-        ensures { result ≡ taken (take_group (delimiter_of delimiter) self.now) }
+        ensures { result ≡ taken (group_of (delimiter_of delimiter) self.now) }
     {
         match split_first(self.entries) {
             Some((first, _)) => first.opens(delimiter),

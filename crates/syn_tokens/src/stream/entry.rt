@@ -2,6 +2,7 @@
 ghost use Rattle.std.specs.Prelude.{◌≡◌, IfOk, MatchOption};
 ghost use Rattle.syn_tokens.specs.Entries.{entry_span};
 ghost use Rattle.syn_tokens.specs.Firsts as firsts;
+ghost use Rattle.syn_tokens.specs.Through as through;
 ghost use Rattle.syn_tokens.specs.Firsts.{IsNoIdent, IsNoPunct};
 ghost use Rattle.syn_tokens.specs.declared.stream.entry.Token.TheVariants as E;
 
@@ -128,6 +129,20 @@ impl Far {
             Far::Punct(punct) => Some(*punct),
             Far::Open(_) => None,
             Far::Close(_) => None,
+        }
+    }
+
+    /// Whether it is a closing delimiter.
+    #[cold]
+    fn closes(&self) -> bool
+        ensures { result ≡ through.closes (far_token self.now) }
+    {
+        match self {
+            Far::Ident(_) => false,
+            Far::Literal(_) => false,
+            Far::Punct(_) => false,
+            Far::Open(_) => false,
+            Far::Close(_) => true,
         }
     }
 
@@ -300,6 +315,37 @@ impl Entry {
             Packed::Close(_, _, _) => false,
             Packed::Far(far) => far.opens(delimiter),
         }
+    }
+
+    /// Whether it is a closing delimiter.
+    #[inline(always)]
+    pub(crate) fn closes(&self) -> bool
+        ensures { result ≡ through.closes self.now }
+    {
+        match &self.inner {
+            Packed::Ident(_, _, _) => false,
+            Packed::Literal(_, _, _) => false,
+            Packed::Punct(_, _, _) => false,
+            Packed::Open(_, _, _) => false,
+            Packed::Close(_, _, _) => true,
+            Packed::Far(far) => far.closes(),
+        }
+    }
+
+    /// Whether it is passed where invisible groups are looked through: it is a delimiter of one, or a closing delimiter of any.
+    #[inline(always)]
+    pub(crate) fn is_passed(&self) -> bool
+        ensures { result ≡ through.passed self.now }
+    {
+        self.opens(Delimiter::None) || self.closes()
+    }
+
+    /// The extent of the group that it opens, without what it holds; of what is passed else, which is a closing delimiter, none.
+    #[inline(always)]
+    pub(crate) fn size(&self) -> usize
+        ensures { result ≡ through.passed_size self.now }
+    {
+        if self.opens(Delimiter::None) { 2 } else { 0 }
     }
 
     /// The same entry once more, with the same span. It takes no memory, and is refused only where 2^64 - 1 copies of it or

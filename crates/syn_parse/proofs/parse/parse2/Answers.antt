@@ -1,6 +1,6 @@
 use Rattle.std.proofs.Common.{◌≡◌, Some, None, rules}
 use Rattle.syn_parse.specs.Form.{parse}
-use Rattle.syn_parse.proofs.Wholes.{whole_err, whole_refused, whole_left}
+use Rattle.syn_parse.proofs.Wholes.{whole_err, whole_refused, whole_left, whole_ended}
 use Rattle.syn_parse.proofs.parse.parse2.Goals as goal
 
 pub returns-in_err-value : goal.returns-in_err-value
@@ -12,3 +12,8 @@ pub returns-in_err-finish : goal.returns-in_err-finish
 returns-in_err-finish g c = whole_err _ _ _ c.args.tokens c.from_residual-in_err-finish.result c.in_err-finish.field-0.0 c.from_residual-in_err-finish.ensures.1 (λ v s.
     let said : parse g.T.Parse.form c.args.tokens ≡ Some (g.T.Syntactic.syntax c.in_ok-value.value, c.parse.new.input) = search rules in
     whole_left g.T.Parse.form g.met.T.Parse.meaning c.args.tokens (g.T.Syntactic.syntax c.in_ok-value.value) c.parse.new.input v said c.in_err-finish.ensures.end.1)
+
+pub returns : goal.returns
+returns g c = λ v.
+    let said : parse g.T.Parse.form c.args.tokens ≡ Some (g.T.Syntactic.syntax c.in_ok-value.value, c.parse.new.input) = search rules in
+    whole_ended g.T.Parse.form g.met.T.Parse.meaning c.args.tokens (g.T.Syntactic.syntax c.in_ok-value.value) c.parse.new.input v said c.in_ok-finish.ensures.end

@@ -1,5 +1,5 @@
 use Rattle.std.proofs.Common.{rules, ◌≡◌, [], ◌∷◌, sym, ap, ◌∙◌}
-use Rattle.syn_grammar.specs.Take.{taken, take_group}
+use Rattle.syn_grammar.specs.Take.{taken, group_of}
 use Rattle.syn_tokens.specs.Delimiters.{delimiter_of}
 use Rattle.syn_tokens.specs.Entries.{encode, decode}
 use Rattle.syn_tokens.proofs.Firsts.{group_first, no_group_ended}
@@ -13,4 +13,4 @@ returns-in-Some c =
 pub returns-in-None : goal.returns-in-None
 returns-in-None c =
     let none : c.self.inside.entries.now ≡ [] = search rules in
-    sym (ap (λ ts. taken (take_group (delimiter_of c.args.delimiter) ts)) (sym c.self.view_is ∙ ap decode none) ∙ no_group_ended c.args.delimiter)
+    sym (ap (λ ts. taken (group_of (delimiter_of c.args.delimiter) ts)) (sym c.self.view_is ∙ ap decode none) ∙ no_group_ended c.args.delimiter)
