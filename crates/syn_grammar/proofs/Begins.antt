@@ -3,7 +3,7 @@
 use Rattle.std.proofs.Common.{◌≡◌, Bool, true, false, [], Some, None, refl, sym, ap, ap₂, ◌∙◌, subst, true≢false, ◌⊎◌, inl, inr}
 use Rattle.syn_grammar.specs.Words.{less}
 use Rattle.syn_grammar.specs.Tokens.{Stream, and, or, no, pick, is_visible, mem, Look}
-use Rattle.syn_grammar.specs.Grammar.{Nothing, Left, Right, Grammar, empty, token, mark, lifetime, ◌&◌, when◌then◌else◌, vanishing, inside, raw, rest_after, either, such, captured, unshown, ordered, shaped}
+use Rattle.syn_grammar.specs.Grammar.{Nothing, Left, Right, Grammar, empty, token, mark, lifetime, ◌&◌, when◌then◌else◌, vanishing, inside, raw, rest_after, either, one_of, such, captured, unshown, ordered, shaped}
 use Rattle.syn_grammar.specs.Rules.{Rule}
 use Rattle.syn_grammar.specs.Take.{Out, Parser, lookahead_at, sees, take_mark, take_group}
 use Rattle.syn_grammar.specs.Values.{shape}
@@ -29,6 +29,7 @@ begins_through (rest_after cs) = true
 begins_through (either g h) = and (begins_through g) (begins_through h)
 begins_through (such q g) = begins_through g
 begins_through (shaped j g) = begins_through g
+begins_through (one_of []) = true
 begins_through unshown = true
 begins_through (captured g) = begins_through g
 begins_through (ordered g h) = true
@@ -113,6 +114,7 @@ runs_start P (rest_after cs) w ts x e = let z = inv_rest (take_mark cs ts) x e i
 runs_start P (either g h) w ts x e = one_side g h (runs P g) (runs P h) (runs_start P g (and_left (begins_through g) _ w)) (runs_start P h (and_right (begins_through g) _ w)) ts x e
 runs_start P (such q g) w ts x e = let z = inv_such q (runs P g ts) x e in through g ts z.0.1 x.1 (ap (λ v. v.1) z.3) (runs_start P g w ts z.0 z.1)
 runs_start P (shaped j g) w ts x e = let z = inv_wrap (shape j) (runs P g ts) x e in through g ts z.0.1 x.1 (ap (λ v. v.1) z.2) (runs_start P g w ts z.0 z.1)
+runs_start P (one_of []) w ts x e = absurd (cc e)
 runs_start P unshown w ts x e = let a : x.1 ≡ ts = cc e in inr (refl, sym a)
 runs_start P (captured g) w ts x e = let z = inv_caught ts (runs P g ts) x e in through g ts z.0.1 x.1 (ap (λ v. v.1) z.2) (runs_start P g w ts z.0 z.1)
 runs_start P (ordered g h) w ts x e = let z = inv_ordered (take_mark less ts) (rows (union (runs P g) (runs P h))) x e in inl (mark_begins less ts z.0 z.3)

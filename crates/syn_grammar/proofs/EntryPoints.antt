@@ -1,7 +1,7 @@
 -- A union of rules reads what the rules of its kinds read.
 use Rattle.std.proofs.Common.{◌≡◌, Bool, true, false, Some, refl, sym, ap, ◌∙◌, subst}
-use Rattle.std.specs.Prelude.{List, ◌↔◌}
-use Rattle.syn_grammar.specs.Tokens.{Stream, ◌⧺◌, or}
+use Rattle.std.specs.Prelude.{List}
+use Rattle.syn_grammar.specs.Tokens.{Stream, ◌⧺◌, visible, or}
 use Rattle.syn_grammar.specs.Rules.{Rule, structure, enumeration, union_item, item, trait_item, impl_item, foreign_item, derive_input}
 use Rattle.syn_grammar.specs.RuleNumbers.{same_rule}
 use Rattle.syn_grammar.specs.Grammar.{Grammar, one_of, captured, among, Syntax, Node, Case, Captured, Nothing, DerivesPrefix, rule, print}
@@ -59,37 +59,37 @@ module _ (u : Rule) (ks : List Rule) (q : table u ≡ one_of ks) where
       let c : (k, s) ≡ (l, t) = ap (λ v. case_of (unwrapped v)) b in
       (subst IsOne (sym (ap (λ p. p.0) c)) i, ap (λ p. parse_rule p.0 ts) c ∙ a ∙ ap (λ p. Some (Node p.1, r)) (sym c))
 
-  agrees_found : (k : Rule) (ts : Stream) (s : Syntax) (r : Stream) → IsOne k → parse_rule k ts ≡ Some (Node s, r) → parse_rule u ts ≡ Some (Node (Case k s), r)
-  agrees_found k ts s r i e = go ((means k ts (Node s) r).0 e)
+  agrees_found : (k : Rule) (ts : Stream) (s : Syntax) (r : Stream) → visible ts ≡ true → IsOne k → parse_rule k ts ≡ Some (Node s, r) → parse_rule u ts ≡ Some (Node (Case k s), r)
+  agrees_found k ts s r seen i e = go ((means k ts (Node s) r seen).0 e)
     where
       go : ((t : Syntax) × DerivesPrefix table (rule k) t ts r × (value_of t ≡ Node s)) → parse_rule u ts ≡ Some (Node (Case k s), r)
       go (Node t, d, v) =
           let w : value_of t ≡ s = ap unwrapped v in
-          parse_rule_found u ts (Node (Case k t)) r (subst (λ g. DerivesPrefix table g (Case k t) ts r) (sym q) (i, d)) ∙ ap (λ z. Some (Node (Case k z), r)) w
+          parse_rule_found u ts (Node (Case k t)) r seen (subst (λ g. DerivesPrefix table g (Case k t) ts r) (sym q) (i, d)) ∙ ap (λ z. Some (Node (Case k z), r)) w
       go (_, d, v) = elim d [ ]
 
   -- the laws of this union
-  pub agree : (k : Rule) (ts : Stream) (s : Syntax) (r : Stream) → (parse_rule u ts ≡ Some (Node (Case k s), r)) ↔ (IsOne k × (parse_rule k ts ≡ Some (Node s, r)))
-  agree k ts s r = (agrees_told k ts s r, λ (i, e). agrees_found k ts s r i e)
+  pub agree : (k : Rule) (ts : Stream) (s : Syntax) (r : Stream) → (parse_rule u ts ≡ Some (Node (Case k s), r) → IsOne k × (parse_rule k ts ≡ Some (Node s, r)))
+      × (visible ts ≡ true → IsOne k → parse_rule k ts ≡ Some (Node s, r) → parse_rule u ts ≡ Some (Node (Case k s), r))
+  agree k ts s r = (agrees_told k ts s r, agrees_found k ts s r)
 
   pub some_kind : (ts : Stream) (s : Syntax) (r : Stream) → parse_rule u ts ≡ Some (s, r) → (k : Rule) × (t : Syntax) × IsOne k × (s ≡ Node (Case k t))
   some_kind ts s r e = let (l, t, i, a, b) = kind_of_read ts (s, r) e in (l, t, i, b)
 
   pub kept_as_read : (k : Rule) (ts : Stream) (s : Syntax) (r : Stream) → is_kept (table k) ≡ true → parse_rule u ts ≡ Some (Node (Case k s), r) →
-      (s ≡ Captured Nothing (before ts r)) × (ts ≡ before ts r ⧺ r) × (print (Node (Case k s)) ≡ before ts r)
+      (s ≡ Captured Nothing (before ts r)) × (visible ts ≡ true → ts ≡ before ts r ⧺ r) × (print (Node (Case k s)) ≡ before ts r)
   kept_as_read k ts s r h e = go (table k) refl h
     where
       a : parse_rule k ts ≡ Some (Node s, r)
       a = (agrees_told k ts s r e).1
 
-      go : (g : Grammar) → table k ≡ g → is_kept g ≡ true → (s ≡ Captured Nothing (before ts r)) × (ts ≡ before ts r ⧺ r) × (print (Node (Case k s)) ≡ before ts r)
+      go : (g : Grammar) → table k ≡ g → is_kept g ≡ true → (s ≡ Captured Nothing (before ts r)) × (visible ts ≡ true → ts ≡ before ts r ⧺ r) × (print (Node (Case k s)) ≡ before ts r)
       go (captured g) p h =
           let z = inv_wrap Node (caught ts (parse_form g ts)) (Node s, r) (sym (ap (λ g. wrap Node (parse_form g ts)) p) ∙ sym (parse_rule_is k ts) ∙ a) in
           let w = inv_caught ts (parse_form g ts) z.0 z.1 in
           let n : r ≡ w.0.1 = ap (λ v. v.1) z.2 ∙ ap (λ v. v.1) w.2 in
           let c : s ≡ Captured Nothing (before ts r) = ap (λ v. unwrapped v.0) z.2 ∙ ap (λ v. v.0) w.2 ∙ ap (λ m. Captured Nothing (before ts m)) (sym n) in
-          let t = (means k ts (Node s) r).0 a in
-          (c, cut g t.0 ts r (subst (λ g. DerivesNode g t.0 ts r) p (node_derived k t.0 ts r t.1)), ap (λ t. print (Node (Case k t))) c)
+          (c, λ seen. let t = (means k ts (Node s) r seen).0 a in cut g t.0 ts r (subst (λ g. DerivesNode g t.0 ts r) p (node_derived k t.0 ts r t.1)), ap (λ t. print (Node (Case k t))) c)
       go _ p h = absurd (cc h)
 
 -- what the input of a derive is, an item may be
@@ -160,7 +160,7 @@ pub inputs_derive : KindsDerive derive_input
 inputs_derive k ts s = (λ d. d, λ d. d)
 
 pub inputs_are_items : InputsAreItems
-inputs_are_items k ts s r i = (λ e. (item_agrees k ts s r).1 (input_kind k i, ((inputs_agree k ts s r).0 e).1), λ e. (inputs_agree k ts s r).1 (i, ((item_agrees k ts s r).0 e).1))
+inputs_are_items k ts s r seen i = (λ e. (item_agrees k ts s r).1 seen (input_kind k i) ((inputs_agree k ts s r).0 e).1, λ e. (inputs_agree k ts s r).1 seen i ((item_agrees k ts s r).0 e).1)
 
 pub inputs_derive_items : InputsDeriveItems
 inputs_derive_items k ts s i = (λ d. (input_kind k i, d.1), λ d. (i, d.1))

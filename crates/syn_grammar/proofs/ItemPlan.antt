@@ -1,39 +1,35 @@
 -- The plan of an item reads what the rule `item` reads.
-use Rattle.std.proofs.Common.{◌≡◌, Bool, true, false, List, [], ◌∷◌, ◌++◌, map, Option, Some, None, refl, sym, ap, ap₂, ◌∙◌}
-use Rattle.syn_grammar.specs.Words.{w_crate, w_const, w_extern, w_pub, w_impl, w_struct, w_enum, w_union, w_type, w_static, w_use, w_mod, w_trait, w_auto, w_macro, w_fn, w_async, w_unsafe}
-use Rattle.syn_grammar.specs.Tokens.{Stream, end, Paren, and, or, Begins_item, Begins_in, Lone_word, at_word, at_empty_group, ahead, ◌or_else◌, ◌and_also◌}
-use Rattle.syn_grammar.specs.Rules.{Rule, attributes, visibility, restriction, signature, type, structure, enumeration, union_item, function, const_item, static_item, extern_crate, use_item, module_item, trait_alias, type_item, macro_as_item, trait_definition, impl_definition, foreign_module, bodiless_function, rooted_use, untyped_static, valueless_static, odd_const, macro_definition, odd_type, const_alias, restricted_trait, odd_impl, visible_const_impl, bare_trait, kept_item, kept_item_rest, item}
-use Rattle.syn_grammar.specs.Grammar.{word, Grammar, Left, Right, Both, when◌then◌else◌, inside, rule, Syntax, Node}
-use Rattle.syn_grammar.specs.Forms.{plainly, never, optional}
-use Rattle.syn_grammar.specs.Table.{at_extern, at_paren, at_restriction, item_word}
-use Rattle.syn_grammar.specs.Take.{Out, Parser, sees}
-use Rattle.syn_grammar.specs.Run.{wrap, and_then, branch, first_rule, parse_rule, parse_form}
+use Rattle.std.proofs.Common.{◌≡◌, true, false, List, [], ◌∷◌, ◌++◌, map, Option, Some, None, refl, sym, ap, ap₂, ◌∙◌}
+use Rattle.syn_grammar.specs.Words.{w_crate, w_const, w_extern, w_impl, w_struct, w_enum, w_union, w_type, w_static, w_use, w_mod, w_trait, w_auto, w_macro, w_fn, w_async, w_unsafe}
+use Rattle.syn_grammar.specs.Tokens.{Stream, end, Begins_item, at_word, ahead, ◌or_else◌, ◌and_also◌}
+use Rattle.syn_grammar.specs.Rules.{Rule, attributes, visibility, signature, structure, enumeration, union_item, function, const_item, static_item, extern_crate, use_item, module_item, trait_alias, type_item, macro_as_item, trait_definition, impl_definition, foreign_module, bodiless_function, rooted_use, untyped_static, valueless_static, odd_const, macro_definition, odd_type, const_alias, restricted_trait, odd_impl, visible_const_impl, kept_item, kept_item_rest, item}
+use Rattle.syn_grammar.specs.Grammar.{word, rule, Syntax, Both, Left, Node}
+use Rattle.syn_grammar.specs.Forms.{plainly}
+use Rattle.syn_grammar.specs.Table.{at_public, at_extern, item_word}
+use Rattle.syn_grammar.specs.Take.{Out, Parser}
+use Rattle.syn_grammar.specs.Run.{and_then, first_rule, parse_rule}
 use Rattle.syn_grammar.specs.Plan.{reads, turns}
-use Rattle.syn_grammar.specs.ItemPlan.{public, unwritten, plain, absent, inherited, at_in_restriction, at_lone_word, kept_end, function_end, signature_end, abi_and_signature, struct_plan, enum_plan, union_plan, type_plan, static_plan, use_plan, module_plan, trait_end, trait_plan, trait_or_alias, const_trait_or_alias, const_plan, definition_plan, kept_impl, impl_types, impl_generics, impl_plan, visible_impl, const_impl_plan, extern_plan, extern_crate_plan, restricted_end, bare_impl_plan, unsafe_plan, behind_const, macro_plan, other_plan, behind_visibility, item_behind, item_plan, ItemPlan}
+use Rattle.syn_grammar.specs.ItemPlan.{public, plain, absent, inherited, kept_end, function_end, signature_end, abi_and_signature, struct_plan, enum_plan, union_plan, type_plan, static_plan, use_plan, module_plan, trait_end, trait_plan, trait_or_alias, const_trait_or_alias, const_plan, definition_plan, kept_impl, impl_types, impl_generics, impl_plan, visible_impl, const_impl_plan, extern_plan, extern_crate_plan, restricted_end, bare_impl_plan, unsafe_plan, behind_const, macro_plan, other_plan, behind_visibility, item_behind, item_plan, ItemPlan}
 use Rattle.syn_grammar.proofs.Run.{parse_rule_is}
 use Rattle.syn_grammar.proofs.Known.{Known, noted}
-use Rattle.syn_grammar.proofs.Threads.{Thread, listed, eaten, alive, Fits, fits_is, answer, answer_all, first, keep, rest, rest_wrap, onward, recog}
+use Rattle.syn_grammar.proofs.Threads.{Thread, eaten, past_all, alive, Fits, fits_is, answer_all, first, keep, rest, rest_wrap}
 use Rattle.syn_grammar.proofs.PlanShows.{Shown}
-use Rattle.syn_grammar.proofs.LoneWord.{group_alike}
-use Rattle.syn_grammar.proofs.Starts.{kind_thread, kept_thread, listed_thread, kinds_start, kept_union, all_kept, Kept, listed_is, first_rest, keep_first, onward_first, first_none, first_first}
+use Rattle.syn_grammar.proofs.Starts.{kind_thread, kept_thread, listed_thread, kinds_start, kept_union, all_kept, Kept, listed_is}
 
-abbrev kinds : List Rule
+abbrev pub kinds : List Rule
 kinds = structure ∷ enumeration ∷ union_item ∷ function ∷ const_item ∷ static_item ∷ extern_crate ∷ use_item ∷ module_item ∷ trait_alias ∷ type_item ∷ macro_as_item ∷ trait_definition ∷ impl_definition ∷ foreign_module ∷ []
 
--- a trait behind a restriction, by what stands in the parentheses
-abbrev in_trait : Thread
-in_trait = listed (rule attributes ∷ rule visibility ∷ plainly (word w_impl) ∷ (when at_in_restriction then inside Paren (rule restriction) else never) ∷ optional w_const ∷ rule bare_trait ∷ [])
-
-abbrev lone_trait : Thread
-lone_trait = listed (rule attributes ∷ rule visibility ∷ plainly (word w_impl) ∷ (when at_in_restriction then never else when at_lone_word then rule type else never) ∷ optional w_const ∷ rule bare_trait ∷ [])
-
-abbrev kept : List Thread
+abbrev pub kept : List Thread
 kept =
     kept_thread bodiless_function ∷ kept_thread rooted_use ∷ kept_thread untyped_static ∷ kept_thread valueless_static ∷ kept_thread odd_const ∷ kept_thread macro_definition ∷ listed_thread odd_type ∷ kept_thread const_alias
-    ∷ in_trait ∷ lone_trait ∷ listed_thread odd_impl ∷ listed_thread visible_const_impl ∷ []
+    ∷ listed_thread restricted_trait ∷ listed_thread odd_impl ∷ listed_thread visible_const_impl ∷ []
 
 abbrev pub threads : List Thread
 threads = map kind_thread kinds ++ kept
+
+abbrev passed_by : Option (List Thread) → List Thread
+passed_by (Some l) = l
+passed_by None = []
 
 -- behind a piece
 abbrev got : Option (Syntax → List Thread) → Syntax → List Thread
@@ -44,31 +40,22 @@ abbrev behind_attributes : Syntax → List Thread
 behind_attributes a = got (eaten [] (rule attributes) threads) a
 
 abbrev public_known : Known
-public_known = noted (at_word w_pub) true []
+public_known = noted at_public true []
 
 abbrev not_public : Known
-not_public = noted (at_word w_pub) false []
-
-abbrev unwritten_known : Known
-unwritten_known = noted at_empty_group true not_public
+not_public = noted at_public false []
 
 abbrev plain_0 : Known
-plain_0 = noted at_empty_group false not_public
+plain_0 = []
 
 abbrev public_0 : Known
 public_0 = []
 
-abbrev unwritten_0 : Known
-unwritten_0 = []
-
 abbrev public_threads_0 : Syntax → Syntax → List Thread
 public_threads_0 a v = got (eaten public_known (rule visibility) (alive public_known (behind_attributes a))) v
 
-abbrev unwritten_threads_0 : Syntax → Syntax → List Thread
-unwritten_threads_0 a v = got (eaten unwritten_known (rule visibility) (alive unwritten_known (alive not_public (behind_attributes a)))) v
-
 abbrev plain_threads_0 : Syntax → List Thread
-plain_threads_0 a = alive plain_0 (alive not_public (behind_attributes a))
+plain_threads_0 a = passed_by (past_all not_public (alive not_public (behind_attributes a)))
 
 abbrev public_struct : Known
 public_struct = noted (at_word w_struct) true public_0
@@ -277,214 +264,6 @@ public_other_fits a v = tt
 public_fits : (a v : Syntax) → Fits (behind_visibility public a v) public_0 (public_threads_0 a v)
 unfolding behind_visibility
 public_fits a v = (public_struct_fits a v, (public_enum_fits a v, (public_union_fits a v, (public_type_fits a v, (public_static_fits a v, (public_use_fits a v, (public_mod_fits a v, (public_trait_fits a v, (public_auto_fits a v, (public_macro_fits a v, (public_fn_fits a v, (public_extern_fits a v, (public_unsafe_fits a v, (public_const_fits a v, (public_impl_fits a v, public_other_fits a v)))))))))))))))
-
-abbrev unwritten_struct : Known
-unwritten_struct = noted (at_word w_struct) true unwritten_0
-
-abbrev unwritten_1 : Known
-unwritten_1 = noted (at_word w_struct) false unwritten_0
-
-abbrev unwritten_threads_1 : Syntax → Syntax → List Thread
-unwritten_threads_1 a v = alive unwritten_1 (unwritten_threads_0 a v)
-
-unwritten_struct_fits : (a v : Syntax) → Fits (struct_plan a v) unwritten_struct (alive unwritten_struct (unwritten_threads_0 a v))
-unfolding kept_end function_end signature_end abi_and_signature struct_plan enum_plan union_plan type_plan static_plan use_plan module_plan trait_end trait_plan trait_or_alias const_trait_or_alias const_plan definition_plan kept_impl impl_types impl_generics impl_plan visible_impl const_impl_plan extern_plan extern_crate_plan restricted_end bare_impl_plan unsafe_plan behind_const macro_plan other_plan
-unwritten_struct_fits a v = λ k. λ n. λ g. λ b. refl
-
-abbrev unwritten_enum : Known
-unwritten_enum = noted (at_word w_enum) true unwritten_1
-
-abbrev unwritten_2 : Known
-unwritten_2 = noted (at_word w_enum) false unwritten_1
-
-abbrev unwritten_threads_2 : Syntax → Syntax → List Thread
-unwritten_threads_2 a v = alive unwritten_2 (unwritten_threads_1 a v)
-
-unwritten_enum_fits : (a v : Syntax) → Fits (enum_plan a v) unwritten_enum (alive unwritten_enum (unwritten_threads_1 a v))
-unfolding kept_end function_end signature_end abi_and_signature struct_plan enum_plan union_plan type_plan static_plan use_plan module_plan trait_end trait_plan trait_or_alias const_trait_or_alias const_plan definition_plan kept_impl impl_types impl_generics impl_plan visible_impl const_impl_plan extern_plan extern_crate_plan restricted_end bare_impl_plan unsafe_plan behind_const macro_plan other_plan
-unwritten_enum_fits a v = λ k. λ n. λ g. λ w. λ b. refl
-
-abbrev unwritten_union : Known
-unwritten_union = noted (at_word w_union and_also ahead Begins_item) true unwritten_2
-
-abbrev unwritten_3 : Known
-unwritten_3 = noted (at_word w_union and_also ahead Begins_item) false unwritten_2
-
-abbrev unwritten_threads_3 : Syntax → Syntax → List Thread
-unwritten_threads_3 a v = alive unwritten_3 (unwritten_threads_2 a v)
-
-unwritten_union_fits : (a v : Syntax) → Fits (union_plan a v) unwritten_union (alive unwritten_union (unwritten_threads_2 a v))
-unfolding kept_end function_end signature_end abi_and_signature struct_plan enum_plan union_plan type_plan static_plan use_plan module_plan trait_end trait_plan trait_or_alias const_trait_or_alias const_plan definition_plan kept_impl impl_types impl_generics impl_plan visible_impl const_impl_plan extern_plan extern_crate_plan restricted_end bare_impl_plan unsafe_plan behind_const macro_plan other_plan
-unwritten_union_fits a v = λ k. λ n. λ g. λ w. λ b. refl
-
-abbrev unwritten_type : Known
-unwritten_type = noted (at_word w_type) true unwritten_3
-
-abbrev unwritten_4 : Known
-unwritten_4 = noted (at_word w_type) false unwritten_3
-
-abbrev unwritten_threads_4 : Syntax → Syntax → List Thread
-unwritten_threads_4 a v = alive unwritten_4 (unwritten_threads_3 a v)
-
-unwritten_type_fits : (a v : Syntax) → Fits (type_plan a v) unwritten_type (alive unwritten_type (unwritten_threads_3 a v))
-unfolding kept_end function_end signature_end abi_and_signature struct_plan enum_plan union_plan type_plan static_plan use_plan module_plan trait_end trait_plan trait_or_alias const_trait_or_alias const_plan definition_plan kept_impl impl_types impl_generics impl_plan visible_impl const_impl_plan extern_plan extern_crate_plan restricted_end bare_impl_plan unsafe_plan behind_const macro_plan other_plan
-unwritten_type_fits a v = λ k. λ n. λ g. ((refl, λ c. λ b. λ t. λ z. refl), λ w. (λ q. λ t. λ x. (((refl, refl), tt), (λ z. refl, tt)), (refl, λ z. refl)))
-
-abbrev unwritten_static : Known
-unwritten_static = noted (at_word w_static) true unwritten_4
-
-abbrev unwritten_5 : Known
-unwritten_5 = noted (at_word w_static) false unwritten_4
-
-abbrev unwritten_threads_5 : Syntax → Syntax → List Thread
-unwritten_threads_5 a v = alive unwritten_5 (unwritten_threads_4 a v)
-
-unwritten_static_fits : (a v : Syntax) → Fits (static_plan a v) unwritten_static (alive unwritten_static (unwritten_threads_4 a v))
-unfolding kept_end function_end signature_end abi_and_signature struct_plan enum_plan union_plan type_plan static_plan use_plan module_plan trait_end trait_plan trait_or_alias const_trait_or_alias const_plan definition_plan kept_impl impl_types impl_generics impl_plan visible_impl const_impl_plan extern_plan extern_crate_plan restricted_end bare_impl_plan unsafe_plan behind_const macro_plan other_plan
-unwritten_static_fits a v = λ k. λ u. λ n. (λ c. λ t. (λ q. λ e. λ z. refl, (refl, λ z. refl)), (refl, λ q. λ e. λ z. refl))
-
-abbrev unwritten_use : Known
-unwritten_use = noted (at_word w_use) true unwritten_5
-
-abbrev unwritten_6 : Known
-unwritten_6 = noted (at_word w_use) false unwritten_5
-
-abbrev unwritten_threads_6 : Syntax → Syntax → List Thread
-unwritten_threads_6 a v = alive unwritten_6 (unwritten_threads_5 a v)
-
-unwritten_use_fits : (a v : Syntax) → Fits (use_plan a v) unwritten_use (alive unwritten_use (unwritten_threads_5 a v))
-unfolding kept_end function_end signature_end abi_and_signature struct_plan enum_plan union_plan type_plan static_plan use_plan module_plan trait_end trait_plan trait_or_alias const_trait_or_alias const_plan definition_plan kept_impl impl_types impl_generics impl_plan visible_impl const_impl_plan extern_plan extern_crate_plan restricted_end bare_impl_plan unsafe_plan behind_const macro_plan other_plan
-unwritten_use_fits a v = λ k. (λ t. (((refl, refl), ((refl, refl), tt)), ((refl, λ z. refl), λ z. refl)), λ c. λ t. λ z. refl)
-
-abbrev unwritten_mod : Known
-unwritten_mod = noted (at_word w_mod) true unwritten_6
-
-abbrev unwritten_7 : Known
-unwritten_7 = noted (at_word w_mod) false unwritten_6
-
-abbrev unwritten_threads_7 : Syntax → Syntax → List Thread
-unwritten_threads_7 a v = alive unwritten_7 (unwritten_threads_6 a v)
-
-unwritten_mod_fits : (a v : Syntax) → Fits (module_plan a v absent) unwritten_mod (alive unwritten_mod (unwritten_threads_6 a v))
-unfolding kept_end function_end signature_end abi_and_signature struct_plan enum_plan union_plan type_plan static_plan use_plan module_plan trait_end trait_plan trait_or_alias const_trait_or_alias const_plan definition_plan kept_impl impl_types impl_generics impl_plan visible_impl const_impl_plan extern_plan extern_crate_plan restricted_end bare_impl_plan unsafe_plan behind_const macro_plan other_plan
-unwritten_mod_fits a v = λ k. λ n. (λ z. refl, λ b. refl)
-
-abbrev unwritten_trait : Known
-unwritten_trait = noted (at_word w_trait) true unwritten_7
-
-abbrev unwritten_8 : Known
-unwritten_8 = noted (at_word w_trait) false unwritten_7
-
-abbrev unwritten_threads_8 : Syntax → Syntax → List Thread
-unwritten_threads_8 a v = alive unwritten_8 (unwritten_threads_7 a v)
-
-unwritten_trait_fits : (a v : Syntax) → Fits (trait_or_alias a v) unwritten_trait (alive unwritten_trait (unwritten_threads_7 a v))
-unfolding kept_end function_end signature_end abi_and_signature struct_plan enum_plan union_plan type_plan static_plan use_plan module_plan trait_end trait_plan trait_or_alias const_trait_or_alias const_plan definition_plan kept_impl impl_types impl_generics impl_plan visible_impl const_impl_plan extern_plan extern_crate_plan restricted_end bare_impl_plan unsafe_plan behind_const macro_plan other_plan
-unwritten_trait_fits a v = λ k. λ n. λ g. (λ q. λ b. λ w. λ z. refl, λ b. λ w. λ m. refl)
-
-abbrev unwritten_auto : Known
-unwritten_auto = noted (at_word w_auto and_also ahead Begins_item) true unwritten_8
-
-abbrev unwritten_9 : Known
-unwritten_9 = noted (at_word w_auto and_also ahead Begins_item) false unwritten_8
-
-abbrev unwritten_threads_9 : Syntax → Syntax → List Thread
-unwritten_threads_9 a v = alive unwritten_9 (unwritten_threads_8 a v)
-
-unwritten_auto_fits : (a v : Syntax) → Fits (trait_plan a v absent absent) unwritten_auto (alive unwritten_auto (unwritten_threads_8 a v))
-unfolding kept_end function_end signature_end abi_and_signature struct_plan enum_plan union_plan type_plan static_plan use_plan module_plan trait_end trait_plan trait_or_alias const_trait_or_alias const_plan definition_plan kept_impl impl_types impl_generics impl_plan visible_impl const_impl_plan extern_plan extern_crate_plan restricted_end bare_impl_plan unsafe_plan behind_const macro_plan other_plan
-unwritten_auto_fits a v = λ o. λ k. λ n. λ g. λ b. λ w. λ m. refl
-
-abbrev unwritten_macro : Known
-unwritten_macro = noted (at_word w_macro) true unwritten_9
-
-abbrev unwritten_10 : Known
-unwritten_10 = noted (at_word w_macro) false unwritten_9
-
-abbrev unwritten_threads_10 : Syntax → Syntax → List Thread
-unwritten_threads_10 a v = alive unwritten_10 (unwritten_threads_9 a v)
-
-unwritten_macro_fits : (a v : Syntax) → Fits (definition_plan) unwritten_macro (alive unwritten_macro (unwritten_threads_9 a v))
-unfolding kept_end function_end signature_end abi_and_signature struct_plan enum_plan union_plan type_plan static_plan use_plan module_plan trait_end trait_plan trait_or_alias const_trait_or_alias const_plan definition_plan kept_impl impl_types impl_generics impl_plan visible_impl const_impl_plan extern_plan extern_crate_plan restricted_end bare_impl_plan unsafe_plan behind_const macro_plan other_plan
-unwritten_macro_fits a v = (refl, λ k. λ n. λ p. λ b. refl)
-
-abbrev unwritten_fn : Known
-unwritten_fn = noted (at_word w_fn or_else at_word w_async) true unwritten_10
-
-abbrev unwritten_11 : Known
-unwritten_11 = noted (at_word w_fn or_else at_word w_async) false unwritten_10
-
-abbrev unwritten_threads_11 : Syntax → Syntax → List Thread
-unwritten_threads_11 a v = alive unwritten_11 (unwritten_threads_10 a v)
-
-unwritten_fn_fits : (a v : Syntax) → Fits (reads (rule signature) λ s. function_end a v s) unwritten_fn (alive unwritten_fn (unwritten_threads_10 a v))
-unfolding kept_end function_end signature_end abi_and_signature struct_plan enum_plan union_plan type_plan static_plan use_plan module_plan trait_end trait_plan trait_or_alias const_trait_or_alias const_plan definition_plan kept_impl impl_types impl_generics impl_plan visible_impl const_impl_plan extern_plan extern_crate_plan restricted_end bare_impl_plan unsafe_plan behind_const macro_plan other_plan
-unwritten_fn_fits a v = λ s. ((refl, λ z. refl), λ b. refl)
-
-abbrev unwritten_extern : Known
-unwritten_extern = noted (at_extern) true unwritten_11
-
-abbrev unwritten_12 : Known
-unwritten_12 = noted (at_extern) false unwritten_11
-
-abbrev unwritten_threads_12 : Syntax → Syntax → List Thread
-unwritten_threads_12 a v = alive unwritten_12 (unwritten_threads_11 a v)
-
-unwritten_extern_fits : (a v : Syntax) → Fits (reads (plainly (word w_extern)) λ e.
-    turns (at_word w_crate) (extern_crate_plan a v e)
-    (extern_plan unwritten a v absent (Node absent) e)) unwritten_extern (alive unwritten_extern (unwritten_threads_11 a v))
-unfolding kept_end function_end signature_end abi_and_signature struct_plan enum_plan union_plan type_plan static_plan use_plan module_plan trait_end trait_plan trait_or_alias const_trait_or_alias const_plan definition_plan kept_impl impl_types impl_generics impl_plan visible_impl const_impl_plan extern_plan extern_crate_plan restricted_end bare_impl_plan unsafe_plan behind_const macro_plan other_plan
-unwritten_extern_fits a v = λ e. (λ k. λ n. λ r. λ z. refl, λ l. λ s. ((refl, λ z. refl), λ b. refl))
-
-abbrev unwritten_unsafe : Known
-unwritten_unsafe = noted (at_word w_unsafe) true unwritten_12
-
-abbrev unwritten_13 : Known
-unwritten_13 = noted (at_word w_unsafe) false unwritten_12
-
-abbrev unwritten_threads_13 : Syntax → Syntax → List Thread
-unwritten_threads_13 a v = alive unwritten_13 (unwritten_threads_12 a v)
-
-unwritten_unsafe_fits : (a v : Syntax) → Fits (reads (item_word w_unsafe) λ u.
-    turns (at_word w_mod) (module_plan a v (Left u))
-    (turns (at_word w_trait or_else at_word w_auto) (trait_plan a v absent (Left u))
-    (unsafe_plan unwritten a v u))) unwritten_unsafe (alive unwritten_unsafe (unwritten_threads_12 a v))
-unfolding kept_end function_end signature_end abi_and_signature struct_plan enum_plan union_plan type_plan static_plan use_plan module_plan trait_end trait_plan trait_or_alias const_trait_or_alias const_plan definition_plan kept_impl impl_types impl_generics impl_plan visible_impl const_impl_plan extern_plan extern_crate_plan restricted_end bare_impl_plan unsafe_plan behind_const macro_plan other_plan
-unwritten_unsafe_fits a v = λ u. (λ k. λ n. (λ z. refl, λ b. refl), (λ o. λ k. λ n. λ g. λ b. λ w. λ m. refl, (λ e. λ l. λ s. ((refl, λ z. refl), λ b. refl), λ s. ((refl, λ z. refl), λ b. refl))))
-
-abbrev unwritten_const : Known
-unwritten_const = noted (at_word w_const) true unwritten_13
-
-abbrev unwritten_14 : Known
-unwritten_14 = noted (at_word w_const) false unwritten_13
-
-abbrev unwritten_threads_14 : Syntax → Syntax → List Thread
-unwritten_threads_14 a v = alive unwritten_14 (unwritten_threads_13 a v)
-
-unwritten_const_fits : (a v : Syntax) → Fits (reads (item_word w_const) λ c. behind_const unwritten a v c) unwritten_const (alive unwritten_const (unwritten_threads_13 a v))
-unfolding kept_end function_end signature_end abi_and_signature struct_plan enum_plan union_plan type_plan static_plan use_plan module_plan trait_end trait_plan trait_or_alias const_trait_or_alias const_plan definition_plan kept_impl impl_types impl_generics impl_plan visible_impl const_impl_plan extern_plan extern_crate_plan restricted_end bare_impl_plan unsafe_plan behind_const macro_plan other_plan
-unwritten_const_fits a v = λ c. (λ u. (λ o. λ k. λ n. λ g. λ b. λ w. λ m. refl, (tt, λ e. λ s. ((refl, λ z. refl), λ b. refl))), (λ k. λ n. λ g. ((refl, λ q. λ b. λ w. λ z. refl), λ b. λ w. λ m. refl), (λ o. λ k. λ n. λ g. λ b. λ w. λ m. refl, (tt, (λ y. λ u. λ e. λ s. ((refl, λ z. refl), λ b. refl), λ n. ((refl, λ g. λ c. λ t. λ e. λ w. λ z. refl), λ c. λ t. (λ q. λ e. (λ z. refl, (refl, λ w. λ z. refl)), (refl, λ w. λ z. refl))))))))
-
-abbrev unwritten_impl : Known
-unwritten_impl = noted (at_word w_impl) true unwritten_14
-
-abbrev unwritten_15 : Known
-unwritten_15 = noted (at_word w_impl) false unwritten_14
-
-abbrev unwritten_threads_15 : Syntax → Syntax → List Thread
-unwritten_threads_15 a v = alive unwritten_15 (unwritten_threads_14 a v)
-
-unwritten_impl_fits : (a v : Syntax) → Fits (bare_impl_plan unwritten a) unwritten_impl (alive unwritten_impl (unwritten_threads_14 a v))
-unfolding kept_end function_end signature_end abi_and_signature struct_plan enum_plan union_plan type_plan static_plan use_plan module_plan trait_end trait_plan trait_or_alias const_trait_or_alias const_plan definition_plan kept_impl impl_types impl_generics impl_plan visible_impl const_impl_plan extern_plan extern_crate_plan restricted_end bare_impl_plan unsafe_plan behind_const macro_plan other_plan
-unwritten_impl_fits a v = (refl, λ k. (λ r. λ c. λ t. refl, (λ t. λ c. λ t. refl, tt)))
-
-unwritten_other_fits : (a v : Syntax) → Fits (other_plan unwritten a) unwritten_15 (unwritten_threads_15 a v)
-unfolding kept_end function_end signature_end abi_and_signature struct_plan enum_plan union_plan type_plan static_plan use_plan module_plan trait_end trait_plan trait_or_alias const_trait_or_alias const_plan definition_plan kept_impl impl_types impl_generics impl_plan visible_impl const_impl_plan extern_plan extern_crate_plan restricted_end bare_impl_plan unsafe_plan behind_const macro_plan other_plan
-unwritten_other_fits a v = tt
-
-unwritten_fits : (a v : Syntax) → Fits (behind_visibility unwritten a v) unwritten_0 (unwritten_threads_0 a v)
-unfolding behind_visibility
-unwritten_fits a v = (unwritten_struct_fits a v, (unwritten_enum_fits a v, (unwritten_union_fits a v, (unwritten_type_fits a v, (unwritten_static_fits a v, (unwritten_use_fits a v, (unwritten_mod_fits a v, (unwritten_trait_fits a v, (unwritten_auto_fits a v, (unwritten_macro_fits a v, (unwritten_fn_fits a v, (unwritten_extern_fits a v, (unwritten_unsafe_fits a v, (unwritten_const_fits a v, (unwritten_impl_fits a v, unwritten_other_fits a v)))))))))))))))
 
 abbrev plain_struct : Known
 plain_struct = noted (at_word w_struct) true plain_0
@@ -696,45 +475,9 @@ plain_fits a = (plain_struct_fits a, (plain_enum_fits a, (plain_union_fits a, (p
 
 pub item_fits : Fits item_plan [] threads
 unfolding item_plan item_behind
-item_fits = λ a. ((λ v. public_fits a v), ((λ v. unwritten_fits a v), plain_fits a))
+item_fits = λ a. ((λ v. public_fits a v), plain_fits a)
 
 -- ---- THE UNION IS THESE ALTERNATIVES
-
--- what stands in the parentheses of a restriction: by whether parentheses stand there, and what they begin with
-module _ (m : Stream) (fs : List Grammar) where
-  abbrev R : Out
-  R = parse_form (inside Paren (rule restriction)) m
-
-  abbrev T : Out
-  T = parse_rule type m
-
-  abbrev Whole : Bool → Bool → Bool → Option Stream
-  Whole p w i = onward (rest (branch (and p (or w i)) R None)) (recog fs)
-
-  abbrev In : Bool → Bool → Option Stream
-  In p i = onward (rest (branch (and p i) R None)) (recog fs)
-
-  abbrev Lone : Bool → Bool → Bool → Option Stream
-  Lone p w i = onward (rest (branch (and p i) None (branch (and p w) T None))) (recog fs)
-
-  by_content : (p w i : Bool) → (and p w ≡ true → rest R ≡ rest T) → Whole p w i ≡ first_rest (In p i) (Lone p w i)
-  by_content false w i h = refl
-  by_content true true true h = sym (first_none (onward (rest (wrap Left R)) (recog fs)))
-  by_content true false true h = sym (first_none (onward (rest (wrap Left R)) (recog fs)))
-  by_content true true false h = ap (λ z. onward z (recog fs)) (rest_wrap Left R ∙ h refl ∙ sym (rest_wrap Left T) ∙ sym (rest_wrap Right (wrap Left T)))
-  by_content true false false h = refl
-
-restricted_rest : (m : Stream) (fs : List Grammar) → recog ((when at_restriction then inside Paren (rule restriction) else never) ∷ fs) m
-    ≡ first_rest (recog ((when at_in_restriction then inside Paren (rule restriction) else never) ∷ fs) m) (recog ((when at_in_restriction then never else when at_lone_word then rule type else never) ∷ fs) m)
-unfolding sees
-restricted_rest m fs = by_content m fs (sees at_paren m) (sees (ahead Lone_word) m) (sees (ahead Begins_in) m) (group_alike m)
-
-restricted_is : (ts : Stream) → Kept kept_item ts restricted_trait ≡ first (answer kept_item ts in_trait ts) (answer kept_item ts lone_trait ts)
-restricted_is ts =
-    listed_is kept_item ts restricted_trait
-    ∙ ap (keep kept_item ts)
-    (onward_first (rest (parse_rule attributes ts)) _ _ _ (λ a. onward_first (rest (parse_rule visibility a)) _ _ _ (λ b. onward_first (rest (parse_form (plainly (word w_impl)) b)) _ _ _ (λ m. restricted_rest m (optional w_const ∷ rule bare_trait ∷ [])))))
-    ∙ keep_first kept_item ts _ _
 
 abbrev kept_rules : List Rule
 kept_rules = bodiless_function ∷ rooted_use ∷ untyped_static ∷ valueless_static ∷ odd_const ∷ macro_definition ∷ odd_type ∷ const_alias ∷ restricted_trait ∷ odd_impl ∷ visible_const_impl ∷ []
@@ -747,17 +490,15 @@ module _ (ts : Stream) where
   abbrev K : Rule → Out
   K = Kept kept_item ts
 
-  last_three : all_kept kept_item ts (restricted_trait ∷ odd_impl ∷ visible_const_impl ∷ []) ≡ answer_all kept_item ts (in_trait ∷ lone_trait ∷ listed_thread odd_impl ∷ listed_thread visible_const_impl ∷ []) ts
-  last_three =
-      ap₂ first (restricted_is ts) (ap₂ first (listed_is kept_item ts odd_impl) (ap (λ z. first z None) (listed_is kept_item ts visible_const_impl)))
-      ∙ first_first (answer kept_item ts in_trait ts) (answer kept_item ts lone_trait ts) (answer_all kept_item ts (listed_thread odd_impl ∷ listed_thread visible_const_impl ∷ []) ts)
+  last_three : all_kept kept_item ts (restricted_trait ∷ odd_impl ∷ visible_const_impl ∷ []) ≡ answer_all kept_item ts (listed_thread restricted_trait ∷ listed_thread odd_impl ∷ listed_thread visible_const_impl ∷ []) ts
+  last_three = ap₂ first (listed_is kept_item ts restricted_trait) (ap₂ first (listed_is kept_item ts odd_impl) (ap (λ z. first z None) (listed_is kept_item ts visible_const_impl)))
 
   all_kept_are : all_kept kept_item ts kept_rules ≡ answer_all kept_item ts kept ts
   all_kept_are =
       ap (λ z. first (K bodiless_function) (first (K rooted_use) (first (K untyped_static) (first (K valueless_static) (first (K odd_const) (first (K macro_definition) z))))))
       (ap₂ (λ y z. first y (first (K const_alias) z)) (listed_is kept_item ts odd_type) last_three)
 
-  kept_start : keep kept_item ts (rest (and_then (parse_rule attributes ts) (parse_rule kept_item_rest))) ≡ answer_all kept_item ts kept ts
+  pub kept_start : keep kept_item ts (rest (and_then (parse_rule attributes ts) (parse_rule kept_item_rest))) ≡ answer_all kept_item ts kept ts
   kept_start =
       ap (keep kept_item ts) (one_behind (parse_rule attributes ts) (parse_rule kept_item_rest) (first_rule parse_rule kept_rules) (λ r. ap rest (parse_rule_is kept_item_rest r) ∙ rest_wrap Node (first_rule parse_rule kept_rules r)))
       ∙ kept_union kept_item ts kept_rules ∙ all_kept_are

@@ -1,18 +1,20 @@
 -- An item as a statement is the item that the rule `item` reads of the same tokens.
-use Rattle.std.proofs.Common.{◌≡◌, true, false, List, [], ◌∷◌, Some, None, refl, sym, ap, ap₂, ◌∙◌, subst}
-use Rattle.syn_grammar.specs.Tokens.{Stream, ended, stands}
+use Rattle.std.proofs.Common.{◌≡◌, Bool, true, false, List, [], ◌∷◌, ◌++◌, map, Some, None, refl, sym, ap, ap₂, ◌∙◌, subst, true≢false, inl, inr}
+use Rattle.syn_grammar.specs.Tokens.{Stream, ended}
 use Rattle.syn_grammar.specs.Rules.{Rule, attributes, structure, structure_rest, enumeration, enumeration_rest, union_item, union_item_rest, function, function_rest, const_item, const_item_rest, static_item, static_item_rest, extern_crate, extern_crate_rest, use_item, use_item_rest, module_item, module_item_rest, trait_alias, trait_alias_rest, type_item, type_item_rest, macro_as_item, macro_as_item_rest, trait_definition, trait_definition_rest, impl_definition, impl_definition_rest, foreign_module, foreign_module_rest, kept_item, kept_item_rest, kept_in_block, item_rest, item, statement, statements}
-use Rattle.syn_grammar.specs.Shape.{an_item, attributed, single}
+use Rattle.syn_grammar.specs.Shape.{an_item}
 use Rattle.syn_grammar.specs.Grammar.{Syntax, Nothing, Both, Left, Right, Node, Case, Captured, Shaped}
 use Rattle.syn_grammar.specs.Table.{table, at_semicolon, at_item}
 use Rattle.syn_grammar.specs.Values.{whole_item, with_outer, core, stated, in_list, shape}
 use Rattle.syn_grammar.specs.Take.{Out, Parser, sees, before}
 use Rattle.syn_grammar.specs.Run.{wrap, and_then, branch, first_of, named, unwrapped, first_rule, caught, parse_form, parse_rule}
+use Rattle.syn_grammar.specs.ItemPlan.{item_plan}
 use Rattle.syn_grammar.specs.ItemStatements.{item_statement, item_listed, ItemStatements}
 use Rattle.syn_grammar.proofs.Run.{parse_rule_is}
-use Rattle.syn_grammar.proofs.Takes.{sees_stands}
-use Rattle.syn_grammar.proofs.Means.{parse_rule_told}
-use Rattle.syn_grammar.proofs.Proved.{one_tree}
+use Rattle.syn_grammar.proofs.Threads.{Thread, of_kind, of_kept, listed, answer, answer_all, first, keep, rest, all_kept}
+use Rattle.syn_grammar.proofs.Starts.{kind_thread}
+use Rattle.syn_grammar.proofs.Sole.{Silent, Sole, sole}
+use Rattle.syn_grammar.proofs.ItemPlan.{kept, threads, item_fits, kept_start}
 
 -- an item's rule, and the rule of what stands behind its attributes
 abbrev Pair : Type 0
@@ -21,6 +23,10 @@ Pair = Rule × Rule
 abbrev wholes : List Pair → List Rule
 wholes [] = kept_item ∷ []
 wholes (p ∷ l) = p.0 ∷ wholes l
+
+abbrev firsts : List Pair → List Rule
+firsts [] = []
+firsts (p ∷ l) = p.0 ∷ firsts l
 
 abbrev rests : List Pair → List Rule
 rests [] = []
@@ -119,15 +125,50 @@ module _ (ts m : Stream) (a : Syntax) (outer : parse_rule attributes ts ≡ Some
       go None = refl
       go (Some c) = refl
 
+  -- where no alternative of a kind reads something, no rule of what stands behind attributes does
+  abbrev SilentKinds : List Pair → Type 0
+  SilentKinds l = Silent kept_item ts true (map kind_thread (firsts l)) ts
+
+  no_kind : (l : List Pair) → ArePairs l → SilentKinds l → first_rule parse_rule (rests l) m ≡ None
+  no_kind [] w h = refl
+  no_kind (p ∷ l) w h = ap₂ (named p.1) (go (parse_rule p.1 m) (alone_is p.0 p.1 (w.0.1 ts) ∙ h.0 refl)) (no_kind l w.1 h.1)
+    where
+      alone_is : (k r : Rule) → parse_rule k ts ≡ wrap Node (and_then (parse_rule attributes ts) (parse_rule r)) → wrap Node (wrap (Case k) (wrap unwrapped (wrap Node (wrap (Both a) (parse_rule r m))))) ≡ answer kept_item ts (kind_thread k) ts
+      alone_is k r e = ap (λ o. wrap Node (wrap (Case k) (wrap unwrapped o))) (sym (e ∙ ap (λ o. wrap Node (and_then o (parse_rule r))) outer) ∙ parse_rule_is k ts) ∙ ap (λ o. wrap Node (wrap (Case k) o)) (bare (parse_form (table k) ts))
+        where
+          bare : (o : Out) → wrap unwrapped (wrap Node o) ≡ o
+          bare (Some x) = refl
+          bare None = refl
+
+      go : (o : Out) → wrap Node (wrap (Case p.0) (wrap unwrapped (wrap Node (wrap (Both a) o)))) ≡ None → o ≡ None
+      go None e = refl
+      go (Some x) e = absurd (cc e)
+
+  -- and what is kept as tokens is none where none of its alternatives reads something
+  no_kept : (ths : List Thread) → Silent kept_item ts false ths ts → all_kept ths ≡ true → answer_all kept_item ts ths ts ≡ None
+  no_kept [] h e = refl
+  no_kept (of_kind t ∷ ths) h e = absurd (true≢false (sym e))
+  no_kept (of_kept t ∷ ths) h e = ap₂ first (h.0 refl) (no_kept ths h.1 e)
+  no_kept (listed fs ∷ ths) h e = ap₂ first (h.0 refl) (no_kept ths h.1 e)
+
+  parted : (b : Bool) (l n : List Thread) → Silent kept_item ts b (l ++ n) ts → Silent kept_item ts b l ts × Silent kept_item ts b n ts
+  parted b [] n h = (tt, h)
+  parted b (t ∷ l) n h = let i = parted b l n h.1 in ((h.0, i.0), i.1)
+
   -- no item is of a kind and kept as tokens
   not_both : (c f : Syntax × Stream) → C ≡ Some c → F ≡ Some f → ⊥
-  not_both c f e i =
-      let (t, d, x) = parse_rule_told kept_in_block ts (Node c.0, c.1) (blocked ∙ ap (wrap Node) e) in
-      let (u, b, y) = parse_rule_told item_rest m (Node f.0, f.1) (rest_is ∙ ap (wrap Node) i) in
-      let (v, q, z) = parse_rule_told attributes ts (a, m) outer in
-      let h : stands at_item m ≡ true = sym (sees_stands at_item m) ∙ starts in
-      let k = (one_tree statement ts (Node (Shaped single (Left (Shaped an_item t)))) (Node (Shaped single (Right (Shaped attributed (Both v (Left (Shaped an_item u))))))) c.1 f.1 (refl, (refl, d)) (refl, (refl, (m, q, (h, (refl, b)))))).0 in
-      absurd (cc k)
+  not_both c f e i = go (sole kept_item ts item_plan [] threads ts item_fits tt)
+    where
+      go : Sole kept_item ts threads ts → ⊥
+      go (inl h) = absurd (cc (sym (no_kind kinds are_pairs (parted true (map kind_thread (firsts kinds)) kept h).0) ∙ i))
+      go (inr h) = which (parse_rule kept_item_rest m) refl e
+        where
+          which : (o : Out) → parse_rule kept_item_rest m ≡ o → caught ts o ≡ Some c → ⊥
+          which None p q = cc q
+          which (Some x) p q =
+              let k = no_kept kept (parted false (map kind_thread (firsts kinds)) kept h).1 refl in
+              let s : keep kept_item ts (rest (and_then (Some (a, m)) (parse_rule kept_item_rest))) ≡ None = ap (λ o. keep kept_item ts (rest (and_then o (parse_rule kept_item_rest)))) (sym outer) ∙ kept_start ts ∙ k in
+              cc (sym (ap (λ o. keep kept_item ts (rest (wrap (Both a) o))) p) ∙ s)
 
   -- the two sides of a statement
   alone : (o p : Out) → C ≡ o → F ≡ p → wrap core (first_of (wrap (shape an_item) (wrap Node o)) (wrap stated (wrap (Both a) (wrap Left (wrap (shape an_item) (wrap Node p))))))

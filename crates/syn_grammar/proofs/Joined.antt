@@ -2,7 +2,7 @@
 use Rattle.std.proofs.Common.{◌≡◌, Bool, true, false, Some, None, refl, sym, ap, ap₂, ◌∙◌, ◌⊎◌, inl, inr, arith, ◌<◌}
 use Rattle.std.specs.Prelude.{List, [], ◌∷◌, map}
 use Rattle.syn_grammar.specs.Words.{pound}
-use Rattle.syn_grammar.specs.Tokens.{Span, Delimiter, Bracket, Stream, punct, group, ◌⧺◌, and, ended, stands, has_fact, Before_bang, lookahead}
+use Rattle.syn_grammar.specs.Tokens.{Span, Delimiter, Bracket, Stream, punct, group, ◌⧺◌, visible, and, ended, stands, has_fact, Before_bang, lookahead}
 use Rattle.syn_grammar.specs.Rules.{attributes, meta, item, items}
 use Rattle.syn_grammar.specs.Grammar.{rule, ◌&◌, inside, unshown, Syntax, Nothing, Mark, Group, Node, Both, Left, Right, Unshown, DerivesPrefix, print, normal}
 use Rattle.syn_grammar.specs.Forms.{asking_punctuation}
@@ -14,7 +14,7 @@ use Rattle.syn_grammar.specs.Plan.{follow, run_plan}
 use Rattle.syn_grammar.specs.ItemPlan.{item_plan, item_behind}
 use Rattle.syn_grammar.specs.Rules.{kept_item}
 use Rattle.syn_grammar.specs.Listed.{first_part, other_parts, of_rule, of_choice}
-use Rattle.syn_grammar.specs.Joined.{items_among, prints, AllDerived, JoinedItems, JoinedIsVisible}
+use Rattle.syn_grammar.specs.Joined.{items_among, prints, AllDerived, AllVisible, JoinedItems, JoinedIsVisible}
 use Rattle.syn_grammar.proofs.Means.{means, parse_rule_found}
 use Rattle.syn_grammar.proofs.Run.{parse_rule_less}
 use Rattle.syn_grammar.proofs.Takes.{TreeAndRest}
@@ -61,16 +61,16 @@ begins_with ts x e = go (parse_rule attributes ts) refl (sym (item_plan_is ts) �
     go (Some a) q f = (a, q)
     go None q f = absurd (cc f)
 
-item_not_inner : (s : Syntax) (ts r : Stream) → DerivesPrefix table (rule item) s ts r → stands at_inner_attribute ts ≡ false
-item_not_inner s ts r d =
-    let (a, e) = begins_with ts (value_of s, r) (parse_rule_found item ts s r d) in
-    let (t, b, v) = (means attributes ts a.0 a.1).0 e in
+item_not_inner : (s : Syntax) (ts r : Stream) → visible ts ≡ true → DerivesPrefix table (rule item) s ts r → stands at_inner_attribute ts ≡ false
+item_not_inner s ts r seen d =
+    let (a, e) = begins_with ts (value_of s, r) (parse_rule_found item ts s r seen d) in
+    let (t, b, v) = (means attributes ts a.0 a.1 seen).0 e in
     not_inner t ts a.1 b
 
 -- something is left where an item is read
-item_not_ended : (s : Syntax) (ts r : Stream) → DerivesPrefix table (rule item) s ts r → stands ended ts ≡ false
+item_not_ended : (s : Syntax) (ts r : Stream) → visible ts ≡ true → DerivesPrefix table (rule item) s ts r → stands ended ts ≡ false
 unfolding left
-item_not_ended s ts r d = go (stands ended ts) refl (parse_rule_less item ts (value_of s, r) (parse_rule_found item ts s r d))
+item_not_ended s ts r seen d = go (stands ended ts) refl (parse_rule_less item ts (value_of s, r) (parse_rule_found item ts s r seen d))
   where
     go : (b : Bool) → stands ended ts ≡ b → left r < left ts → b ≡ false
     go false e h = refl
@@ -80,38 +80,38 @@ item_not_ended s ts r d = go (stands ended ts) refl (parse_rule_less item ts (va
 abbrev Row : Stream → List Syntax → Type 0
 Row p trees = (t : Syntax) × Derives items p t × (map normal (items_among t) ≡ map normal trees)
 
-row_of : (pieces : List Stream) (trees : List Syntax) → AllDerived pieces trees → Row (prints trees) trees
-row_of [] [] d = (Node (Left Nothing), (refl, refl), refl)
-row_of (a ∷ l) (s ∷ m) (d, ds) =
-    let (t, e, n) = row_of l m ds in
-    let (u, b, q) = print_is_read item a s d in
-    let c = item_ends (print s) (prints m) u b in
-    (Node (Right (Both u t)), (item_not_ended u (print s ⧺ prints m) (prints m) c, (prints m, c, e)), ap₂ ◌∷◌ q n)
-row_of [] (s ∷ m) d = absurd d
-row_of (a ∷ l) [] d = absurd d
-
-first_not_inner : (pieces : List Stream) (trees : List Syntax) → AllDerived pieces trees → stands at_inner_attribute (prints trees) ≡ false
-first_not_inner [] [] d = refl
-first_not_inner (a ∷ l) (s ∷ m) (d, ds) =
-    let (u, b, q) = print_is_read item a s d in
-    item_not_inner u (print s ⧺ prints m) (prints m) (item_ends (print s) (prints m) u b)
-first_not_inner [] (s ∷ m) d = absurd d
-first_not_inner (a ∷ l) [] d = absurd d
-
-pub joined_items : JoinedItems
-joined_items pieces trees d =
-    let p = prints trees in
-    let (t, e, n) = row_of pieces trees d in
-    let none = Node (Right (Unshown Nothing)) in
-    record {
-      tree = Node (Both (Unshown Nothing) (Both (Unshown Nothing) (Both none t)));
-      derived = (p, (refl, refl), (p, (refl, refl), (p, (first_not_inner pieces trees d, (refl, refl)), e)));
-      no_attributes = refl;
-      same_normal = n;
-    }
-
 pub joined_is_visible : JoinedIsVisible
 joined_is_visible [] [] v d = refl
 joined_is_visible (a ∷ l) (s ∷ m) (v, vs) (d, ds) = visible_append (print s) (prints m) ∙ ap₂ and (print_is_visible item a s v d) (joined_is_visible l m vs ds)
 joined_is_visible [] (s ∷ m) v d = absurd d
 joined_is_visible (a ∷ l) [] v d = absurd d
+
+row_of : (pieces : List Stream) (trees : List Syntax) → AllVisible pieces → AllDerived pieces trees → Row (prints trees) trees
+row_of [] [] w d = (Node (Left Nothing), (refl, refl), refl)
+row_of (a ∷ l) (s ∷ m) w (d, ds) =
+    let (t, e, n) = row_of l m w.1 ds in
+    let (u, b, q) = print_is_read item a s d in
+    let c = item_ends (print s) (prints m) u b in
+    (Node (Right (Both u t)), (item_not_ended u (print s ⧺ prints m) (prints m) (joined_is_visible (a ∷ l) (s ∷ m) w (d, ds)) c, (prints m, c, e)), ap₂ ◌∷◌ q n)
+row_of [] (s ∷ m) w d = absurd d
+row_of (a ∷ l) [] w d = absurd d
+
+first_not_inner : (pieces : List Stream) (trees : List Syntax) → AllVisible pieces → AllDerived pieces trees → stands at_inner_attribute (prints trees) ≡ false
+first_not_inner [] [] w d = refl
+first_not_inner (a ∷ l) (s ∷ m) w (d, ds) =
+    let (u, b, q) = print_is_read item a s d in
+    item_not_inner u (print s ⧺ prints m) (prints m) (joined_is_visible (a ∷ l) (s ∷ m) w (d, ds)) (item_ends (print s) (prints m) u b)
+first_not_inner [] (s ∷ m) w d = absurd d
+first_not_inner (a ∷ l) [] w d = absurd d
+
+pub joined_items : JoinedItems
+joined_items pieces trees w d =
+    let p = prints trees in
+    let (t, e, n) = row_of pieces trees w d in
+    let none = Node (Right (Unshown Nothing)) in
+    record {
+      tree = Node (Both (Unshown Nothing) (Both (Unshown Nothing) (Both none t)));
+      derived = (p, (refl, refl), (p, (refl, refl), (p, (first_not_inner pieces trees w d, (refl, refl)), e)));
+      no_attributes = refl;
+      same_normal = n;
+    }

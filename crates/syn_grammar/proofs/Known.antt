@@ -1,11 +1,14 @@
--- What is known of what stands next: what looks say of one another, and of what stands behind a word or in a group.
+-- What is known of what stands next: what looks say of one another, and of what stands behind a word or in a group. Most looks look through
+-- invisible groups; what is known of the others is only that they hold or don't.
 use Rattle.std.proofs.Common.{◌≡◌, Bool, true, false, List, [], ◌∷◌, ◌++◌, map, Option, Some, None, refl, sym, ap, ap₂, ◌∙◌, true≢false, ◌⊎◌, inl, inr}
 use Rattle.std.proofs.lemmas.Bool.{eqb-true, eq-eqb}
 use Rattle.std.proofs.Common.{nat_eq}
 use Rattle.syn_grammar.specs.Words.{Text, contextual}
-use Rattle.syn_grammar.specs.Tokens.{Delimiter, Span, Leaf, Stream, leaf, and, or, no, pick, Fact, has_fact, same_fact, same_text, Terminal, Ended, Name, Word, Delimited, mem, same_terminal, is_name, is_word, is_ended, is_group, starts_mark, Punctuation, begins_text, one_of_texts, Lookahead, lookahead, Look, ended, at_name, at_word, at_mark, at_literal, at_group, at_empty_group, ahead, ◌or_else◌, ◌and_also◌, ◌but_not◌, answers, Asked, asked, asked_inside, facts_for, leaf_terminal}
+use Rattle.syn_grammar.specs.Tokens.{Delimiter, None as Invisible, Paren, Brace, Bracket, is_visible, Span, Leaf, Stream, leaf, and, or, no, pick, Fact, has_fact, same_fact, same_text, Terminal, Ended, Name, Word, Delimited, mem, same_terminal, is_name, is_word, is_ended, is_group, starts_mark, Punctuation, begins_text, one_of_texts, Lookahead, lookahead, Look, ended, at_name, at_word, at_mark, at_literal, at_group, at_empty_group, ahead, ◌or_else◌, ◌and_also◌, ◌but_not◌, answers, Asked, asked, asked_inside, facts_for, leaf_terminal}
+use Rattle.syn_grammar.specs.Take.{group_of, taken, opened_empty, lookahead_at, seen, sees}
 use Rattle.syn_grammar.specs.Grammar.{Kind, name, identifier, word, name_or, literal_of, index, fits}
 use Rattle.syn_grammar.proofs.Sets.{or_left, or_right, or_split, and_left, and_right, no_true, no_false, same_text_eq, same_text_refl, same_delimiter_eq, every, every_at, same_terminal_of, same_terminal_eq, mem_here, mem_left, mem_right, may, must, may_of, on_of, same_look, same_look_eq}
+use Rattle.syn_grammar.proofs.Takes.{looks_through}
 
 -- ---- WHAT ONE LOOK SAYS OF ANOTHER
 
@@ -213,12 +216,63 @@ excludes_is c (ahead x) f e h i = never_with_is c (ahead x) f e h i
 
 -- ---- WHAT IS KNOWN OF WHAT STANDS NEXT
 
+-- what stands next, invisible groups looked through; whether one is the very next tree, and whether that one holds nothing
+abbrev pub Sight : Type 0
+Sight = Lookahead × Bool × Bool
+
+abbrev pub sight : Stream → Sight
+sight m = (lookahead_at m, taken (group_of Invisible m), opened_empty (group_of Invisible m))
+
+abbrev pub views : Look → Sight → Bool
+views (at_group Invisible) s = s.1
+views at_empty_group s = s.2
+views (a or_else b) s = or (views a s) (views b s)
+views (a and_also b) s = and (views a s) (views b s)
+views (a but_not b) s = and (views a s) (no (views b s))
+views c s = answers c s.0
+
+seen_views : (c : Look) (m : Stream) → seen c m (lookahead_at m) ≡ views c (sight m)
+seen_views (a or_else b) m = ap₂ or (seen_views a m) (seen_views b m)
+seen_views (a and_also b) m = ap₂ and (seen_views a m) (seen_views b m)
+seen_views (a but_not b) m = ap₂ (λ x y. and x (no y)) (seen_views a m) (seen_views b m)
+seen_views (at_group Invisible) m = refl
+seen_views (at_group Paren) m = refl
+seen_views (at_group Brace) m = refl
+seen_views (at_group Bracket) m = refl
+seen_views at_empty_group m = refl
+seen_views ended m = refl
+seen_views at_name m = refl
+seen_views (at_word x) m = refl
+seen_views (at_mark x) m = refl
+seen_views (at_literal k) m = refl
+seen_views (ahead n) m = refl
+
+pub sees_views : (c : Look) (m : Stream) → sees c m ≡ views c (sight m)
+unfolding sees
+sees_views c m = seen_views c m
+
+pub views_through : (c : Look) (s : Sight) → looks_through c ≡ true → views c s ≡ answers c s.0
+views_through (at_group Invisible) s w = absurd (true≢false (sym w))
+views_through at_empty_group s w = absurd (true≢false (sym w))
+views_through (a or_else b) s w = ap₂ or (views_through a s (and_left (looks_through a) _ w)) (views_through b s (and_right (looks_through a) _ w))
+views_through (a and_also b) s w = ap₂ and (views_through a s (and_left (looks_through a) _ w)) (views_through b s (and_right (looks_through a) _ w))
+views_through (a but_not b) s w = ap₂ (λ x y. and x (no y)) (views_through a s (and_left (looks_through a) _ w)) (views_through b s (and_right (looks_through a) _ w))
+views_through (at_group Paren) s w = refl
+views_through (at_group Brace) s w = refl
+views_through (at_group Bracket) s w = refl
+views_through ended s w = refl
+views_through at_name s w = refl
+views_through (at_word x) s w = refl
+views_through (at_mark x) s w = refl
+views_through (at_literal k) s w = refl
+views_through (ahead n) s w = refl
+
 abbrev pub Known : Type 0
 Known = List (Look × Bool)
 
-abbrev pub Holds : Known → Lookahead → Type 0
-Holds [] f = Unit {0}
-Holds (p ∷ l) f = (answers p.0 f ≡ p.1) × Holds l f
+abbrev pub Holds : Known → Sight → Type 0
+Holds [] s = Unit {0}
+Holds (p ∷ l) s = (views p.0 s ≡ p.1) × Holds l s
 
 -- not both
 abbrev pub against : Look → Bool → Look → Bool → Bool
@@ -237,28 +291,6 @@ against_is c true d false f e a b = true≢false (sym (implies_is c d f e a) ∙
 against_is c false d true f e a b = true≢false (sym (implies_is d c f e b) ∙ a)
 against_is c false d false f e a b = true≢false (sym e)
 
-abbrev pub clash : Look → Bool → Known → Bool
-clash c v [] = false
-clash c v (p ∷ l) = or (against c v p.0 p.1) (clash c v l)
-
-pub clash_is : (c : Look) (v : Bool) (l : Known) (f : Lookahead) → clash c v l ≡ true → Holds l f → answers c f ≡ v → ⊥
-clash_is c v [] f e h a = true≢false (sym e)
-clash_is c v (p ∷ l) f e h a = go (or_split (against c v p.0 p.1) (clash c v l) e) (λ q. clash_is c v l f q h.1 a)
-  where
-    go : (against c v p.0 p.1 ≡ true) ⊎ (clash c v l ≡ true) → (clash c v l ≡ true → ⊥) → ⊥
-    go (inl q) u = against_is c v p.0 p.1 f q a h.0
-    go (inr q) u = u q
-
--- what is known where this look holds, or doesn't
-abbrev pub noted : Look → Bool → Known → Known
-noted (a and_also b) true l = (a and_also b, true) ∷ noted a true (noted b true l)
-noted (a but_not b) true l = (a but_not b, true) ∷ noted a true (noted b false l)
-noted (a or_else b) false l = (a or_else b, false) ∷ noted a false (noted b false l)
-noted (a and_also b) false l = (a and_also b, false) ∷ pick (clash a false l) (noted b false l) l
-noted (a but_not b) false l = (a but_not b, false) ∷ pick (clash a false l) (noted b true l) l
-noted (a or_else b) true l = (a or_else b, true) ∷ pick (clash a true l) (noted b true l) l
-noted c v l = (c, v) ∷ l
-
 pub not_false : (b : Bool) → (b ≡ false → ⊥) → b ≡ true
 not_false true h = refl
 not_false false h = absurd (h refl)
@@ -271,19 +303,135 @@ pub or_off : (a b : Bool) → or a b ≡ false → (a ≡ false) × (b ≡ false
 or_off false b e = (refl, e)
 or_off true b e = absurd (true≢false e)
 
-pub either_way : (w : Bool) (l m : Known) (f : Lookahead) → (w ≡ true → Holds l f) → Holds m f → Holds (pick w l m) f
+abbrev pub unlike : Bool → Bool → Bool
+unlike true v = no v
+unlike false v = v
+
+unlike_is : (v w : Bool) → unlike v w ≡ true → v ≡ w → ⊥
+unlike_is true true e a = true≢false (sym e)
+unlike_is true false e a = true≢false a
+unlike_is false true e a = true≢false (sym a)
+unlike_is false false e a = true≢false (sym e)
+
+-- of looks that don't look through, only that the same one can't hold and not hold
+abbrev pub opposed : Look → Bool → Look → Bool → Bool
+opposed c v d w = or (and (and (looks_through c) (looks_through d)) (against c v d w)) (and (same_look c d) (unlike v w))
+
+pub opposed_is : (c : Look) (v : Bool) (d : Look) (w : Bool) (s : Sight) → opposed c v d w ≡ true → views c s ≡ v → views d s ≡ w → ⊥
+opposed_is c v d w s e a b = go (or_split (and (and (looks_through c) (looks_through d)) (against c v d w)) _ e)
+  where
+    go : (and (and (looks_through c) (looks_through d)) (against c v d w) ≡ true) ⊎ (and (same_look c d) (unlike v w) ≡ true) → ⊥
+    go (inl q) =
+        let t = and_left (and (looks_through c) (looks_through d)) _ q in
+        against_is c v d w s.0 (and_right (and (looks_through c) (looks_through d)) _ q) (sym (views_through c s (and_left (looks_through c) _ t)) ∙ a) (sym (views_through d s (and_right (looks_through c) _ t)) ∙ b)
+    go (inr q) = unlike_is v w (and_right (same_look c d) _ q) (sym a ∙ ap (λ z. views z s) (same_look_eq c d (and_left (same_look c d) _ q)) ∙ b)
+
+abbrev pub clashes : Look → Bool → Known → Bool
+clashes c v [] = false
+clashes c v (p ∷ l) = or (opposed c v p.0 p.1) (clashes c v l)
+
+pub clashes_is : (c : Look) (v : Bool) (l : Known) (s : Sight) → clashes c v l ≡ true → Holds l s → views c s ≡ v → ⊥
+clashes_is c v [] s e h a = true≢false (sym e)
+clashes_is c v (p ∷ l) s e h a = go (or_split (opposed c v p.0 p.1) (clashes c v l) e) (λ q. clashes_is c v l s q h.1 a)
+  where
+    go : (opposed c v p.0 p.1 ≡ true) ⊎ (clashes c v l ≡ true) → (clashes c v l ≡ true → ⊥) → ⊥
+    go (inl q) u = opposed_is c v p.0 p.1 s q a h.0
+    go (inr q) u = u q
+
+-- what is known says that the look doesn't answer so
+abbrev pub clash : Look → Bool → Known → Bool
+clash (a or_else b) true l = or (clashes (a or_else b) true l) (and (clash a true l) (clash b true l))
+clash (a or_else b) false l = or (clashes (a or_else b) false l) (or (clash a false l) (clash b false l))
+clash (a and_also b) true l = or (clashes (a and_also b) true l) (or (clash a true l) (clash b true l))
+clash (a and_also b) false l = or (clashes (a and_also b) false l) (and (clash a false l) (clash b false l))
+clash (a but_not b) true l = or (clashes (a but_not b) true l) (or (clash a true l) (clash b false l))
+clash (a but_not b) false l = or (clashes (a but_not b) false l) (and (clash a false l) (clash b true l))
+clash c v l = clashes c v l
+
+-- by what the two parts of a look answer
+module _ (a b : Bool) where
+  both_on : and a b ≡ true → (a ≡ true) × (b ≡ true)
+  both_on e = (and_left a b e, and_right a b e)
+
+  both_off : or a b ≡ false → (a ≡ false) × (b ≡ false)
+  both_off = or_off a b
+
+  one_on : or a b ≡ true → (a ≡ true → ⊥) → (b ≡ true → ⊥) → ⊥
+  one_on e f g = go (or_split a b e)
+    where
+      go : (a ≡ true) ⊎ (b ≡ true) → ⊥
+      go (inl q) = f q
+      go (inr q) = g q
+
+  one_off : and a b ≡ false → (a ≡ false → ⊥) → (b ≡ false → ⊥) → ⊥
+  one_off e f g = true≢false (sym (ap₂ and (not_false a f) (not_false b g)) ∙ e)
+
+-- both of these, or one of them, can't be
+module _ (p q : Bool) where
+  in_both : and p q ≡ true → (p ≡ true) × (q ≡ true)
+  in_both e = (and_left p q e, and_right p q e)
+
+  in_one : or p q ≡ true → (p ≡ true → ⊥) → (q ≡ true → ⊥) → ⊥
+  in_one e f g = go (or_split p q e)
+    where
+      go : (p ≡ true) ⊎ (q ≡ true) → ⊥
+      go (inl i) = f i
+      go (inr i) = g i
+
+pub clash_is : (c : Look) (v : Bool) (l : Known) (s : Sight) → clash c v l ≡ true → Holds l s → views c s ≡ v → ⊥
+clash_is (a or_else b) true l s e h x =
+    in_one (clashes (a or_else b) true l) _ e (λ q. clashes_is (a or_else b) true l s q h x)
+    (λ q. one_on (views a s) (views b s) x (clash_is a true l s (in_both (clash a true l) _ q).0 h) (clash_is b true l s (in_both (clash a true l) _ q).1 h))
+clash_is (a or_else b) false l s e h x =
+    let y = both_off (views a s) (views b s) x in
+    in_one (clashes (a or_else b) false l) _ e (λ q. clashes_is (a or_else b) false l s q h x)
+    (λ q. in_one (clash a false l) _ q (λ i. clash_is a false l s i h y.0) (λ i. clash_is b false l s i h y.1))
+clash_is (a and_also b) true l s e h x =
+    let y = both_on (views a s) (views b s) x in
+    in_one (clashes (a and_also b) true l) _ e (λ q. clashes_is (a and_also b) true l s q h x)
+    (λ q. in_one (clash a true l) _ q (λ i. clash_is a true l s i h y.0) (λ i. clash_is b true l s i h y.1))
+clash_is (a and_also b) false l s e h x =
+    in_one (clashes (a and_also b) false l) _ e (λ q. clashes_is (a and_also b) false l s q h x)
+    (λ q. one_off (views a s) (views b s) x (clash_is a false l s (in_both (clash a false l) _ q).0 h) (clash_is b false l s (in_both (clash a false l) _ q).1 h))
+clash_is (a but_not b) true l s e h x =
+    let y = both_on (views a s) (no (views b s)) x in
+    in_one (clashes (a but_not b) true l) _ e (λ q. clashes_is (a but_not b) true l s q h x)
+    (λ q. in_one (clash a true l) _ q (λ i. clash_is a true l s i h y.0) (λ i. clash_is b false l s i h (no_true (views b s) y.1)))
+clash_is (a but_not b) false l s e h x =
+    in_one (clashes (a but_not b) false l) _ e (λ q. clashes_is (a but_not b) false l s q h x)
+    (λ q. one_off (views a s) (no (views b s)) x (clash_is a false l s (in_both (clash a false l) _ q).0 h) (λ i. clash_is b true l s (in_both (clash a false l) _ q).1 h (no_false (views b s) i)))
+clash_is ended v l s e h x = clashes_is ended v l s e h x
+clash_is at_name v l s e h x = clashes_is at_name v l s e h x
+clash_is (at_word y) v l s e h x = clashes_is (at_word y) v l s e h x
+clash_is (at_mark y) v l s e h x = clashes_is (at_mark y) v l s e h x
+clash_is (at_literal y) v l s e h x = clashes_is (at_literal y) v l s e h x
+clash_is (at_group y) v l s e h x = clashes_is (at_group y) v l s e h x
+clash_is at_empty_group v l s e h x = clashes_is at_empty_group v l s e h x
+clash_is (ahead y) v l s e h x = clashes_is (ahead y) v l s e h x
+
+-- what is known where this look holds, or doesn't
+abbrev pub noted : Look → Bool → Known → Known
+noted (a and_also b) true l = (a and_also b, true) ∷ noted a true (noted b true l)
+noted (a but_not b) true l = (a but_not b, true) ∷ noted a true (noted b false l)
+noted (a or_else b) false l = (a or_else b, false) ∷ noted a false (noted b false l)
+noted (a and_also b) false l = (a and_also b, false) ∷ pick (clash a false l) (noted b false l) l
+noted (a but_not b) false l = (a but_not b, false) ∷ pick (clash a false l) (noted b true l) l
+noted (a or_else b) true l = (a or_else b, true) ∷ pick (clash a true l) (noted b true l) l
+noted c v l = (c, v) ∷ l
+
+pub either_way : (w : Bool) (l m : Known) (f : Sight) → (w ≡ true → Holds l f) → Holds m f → Holds (pick w l m) f
 either_way true l m f u h = u refl
 either_way false l m f u h = h
 
-pub noted_is : (c : Look) (v : Bool) (l : Known) (f : Lookahead) → Holds l f → answers c f ≡ v → Holds (noted c v l) f
-noted_is (a and_also b) true l f h e = (e, noted_is a true (noted b true l) f (noted_is b true l f h (and_right (answers a f) (answers b f) e)) (and_left (answers a f) (answers b f) e))
-noted_is (a but_not b) true l f h e = (e, noted_is a true (noted b false l) f (noted_is b false l f h (no_true (answers b f) (and_right (answers a f) _ e))) (and_left (answers a f) _ e))
+pub noted_is : (c : Look) (v : Bool) (l : Known) (f : Sight) → Holds l f → views c f ≡ v → Holds (noted c v l) f
+noted_is (a and_also b) true l f h e = (e, noted_is a true (noted b true l) f (noted_is b true l f h (and_right (views a f) (views b f) e)) (and_left (views a f) (views b f) e))
+noted_is (a but_not b) true l f h e = (e, noted_is a true (noted b false l) f (noted_is b false l f h (no_true (views b f) (and_right (views a f) _ e))) (and_left (views a f) _ e))
 noted_is (a or_else b) false l f h e =
-    let p = or_off (answers a f) (answers b f) e in
+    let p = or_off (views a f) (views b f) e in
     (e, noted_is a false (noted b false l) f (noted_is b false l f h p.1) p.0)
-noted_is (a and_also b) false l f h e = (e, either_way (clash a false l) (noted b false l) l f (λ q. noted_is b false l f h (ap (λ v. and v (answers b f)) (sym (not_false (answers a f) (clash_is a false l f q h))) ∙ e)) h)
-noted_is (a but_not b) false l f h e = (e, either_way (clash a false l) (noted b true l) l f (λ q. noted_is b true l f h (no_false (answers b f) (ap (λ v. and v (no (answers b f))) (sym (not_false (answers a f) (clash_is a false l f q h))) ∙ e))) h)
-noted_is (a or_else b) true l f h e = (e, either_way (clash a true l) (noted b true l) l f (λ q. noted_is b true l f h (ap (λ v. or v (answers b f)) (sym (not_true (answers a f) (clash_is a true l f q h))) ∙ e)) h)
+noted_is (a and_also b) false l f h e = (e, either_way (clash a false l) (noted b false l) l f (λ q. noted_is b false l f h (ap (λ v. and v (views b f)) (sym (not_false (views a f) (clash_is a false l f q h))) ∙ e)) h)
+noted_is (a but_not b) false l f h e = (e, either_way (clash a false l) (noted b true l) l f (λ q. noted_is b true l f h (no_false (views b f) (ap (λ v. and v (no (views b f))) (sym (not_false (views a f) (clash_is a false l f q h))) ∙ e))) h)
+noted_is (a or_else b) true l f h e = (e, either_way (clash a true l) (noted b true l) l f (λ q. noted_is b true l f h (ap (λ v. or v (views b f)) (sym (not_true (views a f) (clash_is a true l f q h))) ∙ e)) h)
 noted_is ended v l f h e = (e, h)
 noted_is at_name v l f h e = (e, h)
 noted_is (at_word x) v l f h e = (e, h)
@@ -318,13 +466,16 @@ asked_for_is n (p ∷ l) f = go (same_fact n p.1) (answers p.0 f) refl refl (ask
 -- what is known behind this word
 abbrev pub behind_word : Text → Known → Known
 behind_word x [] = []
-behind_word x ((ahead n, v) ∷ l) = noted (asked_for n (asked (Word x))) v (behind_word x l)
+behind_word x ((ahead n, v) ∷ l) = pick (looks_through (asked_for n (asked (Word x)))) (noted (asked_for n (asked (Word x))) v (behind_word x l)) (behind_word x l)
 behind_word x ((c, v) ∷ l) = behind_word x l
 
-pub behind_word_is : (x : Text) (l : Known) (f g : Lookahead) → f.terminal ≡ Word x → f.facts ≡ facts_for (asked f.terminal) g → Holds l f → Holds (behind_word x l) g
+pub behind_word_is : (x : Text) (l : Known) (f g : Sight) → f.0.terminal ≡ Word x → f.0.facts ≡ facts_for (asked f.0.terminal) g.0 → Holds l f → Holds (behind_word x l) g
 behind_word_is x [] f g e q h = tt
 behind_word_is x ((ahead n, v) ∷ l) f g e q h =
-    noted_is (asked_for n (asked (Word x))) v (behind_word x l) g (behind_word_is x l f g e q h.1) (asked_for_is n (asked (Word x)) g ∙ ap (λ t. has_fact n (facts_for (asked t) g)) (sym e) ∙ ap (has_fact n) (sym q) ∙ h.0)
+    either_way (looks_through (asked_for n (asked (Word x)))) (noted (asked_for n (asked (Word x))) v (behind_word x l)) (behind_word x l) g
+    (λ w. noted_is (asked_for n (asked (Word x))) v (behind_word x l) g (behind_word_is x l f g e q h.1)
+    (views_through (asked_for n (asked (Word x))) g w ∙ asked_for_is n (asked (Word x)) g.0 ∙ ap (λ t. has_fact n (facts_for (asked t) g.0)) (sym e) ∙ ap (has_fact n) (sym q) ∙ h.0))
+    (behind_word_is x l f g e q h.1)
 behind_word_is x ((ended, v) ∷ l) f g e q h = behind_word_is x l f g e q h.1
 behind_word_is x ((at_name, v) ∷ l) f g e q h = behind_word_is x l f g e q h.1
 behind_word_is x ((at_word y, v) ∷ l) f g e q h = behind_word_is x l f g e q h.1
@@ -341,7 +492,7 @@ abbrev pub again : Known → Known → Known
 again base [] = base
 again base (p ∷ l) = noted p.0 p.1 (again base l)
 
-pub again_is : (base l : Known) (f : Lookahead) → Holds base f → Holds l f → Holds (again base l) f
+pub again_is : (base l : Known) (f : Sight) → Holds base f → Holds l f → Holds (again base l) f
 again_is base [] f h i = h
 again_is base (p ∷ l) f h i = noted_is p.0 p.1 (again base l) f (again_is base l f h i.1) i.0
 
@@ -351,12 +502,12 @@ known_word [] = None
 known_word ((at_word x, true) ∷ l) = Some x
 known_word (p ∷ l) = known_word l
 
-abbrev pub Stood : Option Text → Lookahead → Type 0
-Stood o f = (x : Text) → o ≡ Some x → f.terminal ≡ Word x
+abbrev pub Stood : Option Text → Sight → Type 0
+Stood o f = (x : Text) → o ≡ Some x → f.0.terminal ≡ Word x
 
-pub known_word_is : (l : Known) (f : Lookahead) → Holds l f → Stood (known_word l) f
+pub known_word_is : (l : Known) (f : Sight) → Holds l f → Stood (known_word l) f
 known_word_is [] f h x e = absurd (cc e)
-known_word_is ((at_word y, true) ∷ l) f h x e = word_within y f.terminal h.0 ∙ ap Word (some_is y x e)
+known_word_is ((at_word y, true) ∷ l) f h x e = word_within y f.0.terminal h.0 ∙ ap Word (some_is y x e)
 known_word_is ((at_word y, false) ∷ l) f h x e = known_word_is l f h.1 x e
 known_word_is ((ended, v) ∷ l) f h x e = known_word_is l f h.1 x e
 known_word_is ((at_name, v) ∷ l) f h x e = known_word_is l f h.1 x e
@@ -378,10 +529,14 @@ abbrev pub after_token : Kind → Known → Known
 after_token (word x) l = after_word (Some x) l
 after_token k l = after_word (known_word l) l
 
-pub after_word_is : (o : Option Text) (l : Known) (y : Leaf) (sp : Span) (r : Stream) → Holds l (lookahead (leaf y sp r)) → Stood o (lookahead (leaf y sp r)) → Holds (after_word o l) (lookahead r)
-after_word_is (Some x) l y sp r h w =
-    behind_word_is x (again ((at_word x, true) ∷ []) l) (lookahead (leaf y sp r)) (lookahead r) (w x refl) refl (again_is ((at_word x, true) ∷ []) l (lookahead (leaf y sp r)) (ap (is_word x) (w x refl) ∙ same_text_refl x, tt) h)
-after_word_is None l y sp r h w = tt
+-- these two stand one behind the other: the first is this token's, the second that of what follows it
+abbrev pub Behind : Leaf → Sight → Sight → Type 0
+Behind y f g = (f.0.terminal ≡ leaf_terminal y) × (f.0.facts ≡ facts_for (asked f.0.terminal) g.0)
+
+pub after_word_is : (o : Option Text) (l : Known) (y : Leaf) (f g : Sight) → Behind y f g → Holds l f → Stood o f → Holds (after_word o l) g
+after_word_is (Some x) l y f g q h w =
+    behind_word_is x (again ((at_word x, true) ∷ []) l) f g (w x refl) q.1 (again_is ((at_word x, true) ∷ []) l f (ap (is_word x) (w x refl) ∙ same_text_refl x, tt) h)
+after_word_is None l y f g q h w = tt
 
 pub only_word : (x : Text) (t : Terminal) → or (same_terminal t (Word x)) false ≡ true → t ≡ Word x
 only_word x t e = same_terminal_eq t (Word x) (go (same_terminal t (Word x)) e)
@@ -390,23 +545,27 @@ only_word x t e = same_terminal_eq t (Word x) (go (same_terminal t (Word x)) e)
     go true e = refl
     go false e = e
 
-pub after_token_is : (k : Kind) (l : Known) (y : Leaf) (sp : Span) (r : Stream) → fits k y ≡ true → Holds l (lookahead (leaf y sp r)) → Holds (after_token k l) (lookahead r)
-after_token_is (word x) l y sp r e h = after_word_is (Some x) l y sp r h (λ z q. only_word x (leaf_terminal y) e ∙ ap Word (some_is x z q))
-after_token_is name l y sp r e h = after_word_is (known_word l) l y sp r h (known_word_is l (lookahead (leaf y sp r)) h)
-after_token_is identifier l y sp r e h = after_word_is (known_word l) l y sp r h (known_word_is l (lookahead (leaf y sp r)) h)
-after_token_is (name_or xs) l y sp r e h = after_word_is (known_word l) l y sp r h (known_word_is l (lookahead (leaf y sp r)) h)
-after_token_is (literal_of ks) l y sp r e h = after_word_is (known_word l) l y sp r h (known_word_is l (lookahead (leaf y sp r)) h)
-after_token_is index l y sp r e h = after_word_is (known_word l) l y sp r h (known_word_is l (lookahead (leaf y sp r)) h)
+pub after_token_is : (k : Kind) (l : Known) (y : Leaf) (f g : Sight) → fits k y ≡ true → Behind y f g → Holds l f → Holds (after_token k l) g
+after_token_is (word x) l y f g e q h = after_word_is (Some x) l y f g q h (λ z i. q.0 ∙ only_word x (leaf_terminal y) e ∙ ap Word (some_is x z i))
+after_token_is name l y f g e q h = after_word_is (known_word l) l y f g q h (known_word_is l f h)
+after_token_is identifier l y f g e q h = after_word_is (known_word l) l y f g q h (known_word_is l f h)
+after_token_is (name_or xs) l y f g e q h = after_word_is (known_word l) l y f g q h (known_word_is l f h)
+after_token_is (literal_of ks) l y f g e q h = after_word_is (known_word l) l y f g q h (known_word_is l f h)
+after_token_is index l y f g e q h = after_word_is (known_word l) l y f g q h (known_word_is l f h)
 
 -- what is known of the content of a group with this delimiter
 abbrev pub inside_group : Delimiter → Known → Known
 inside_group d [] = []
-inside_group d ((ahead n, v) ∷ l) = noted (asked_for n (asked_inside d)) v (inside_group d l)
+inside_group d ((ahead n, v) ∷ l) = pick (looks_through (asked_for n (asked_inside d))) (noted (asked_for n (asked_inside d)) v (inside_group d l)) (inside_group d l)
 inside_group d ((c, v) ∷ l) = inside_group d l
 
-pub inside_group_is : (d : Delimiter) (l : Known) (f g : Lookahead) → f.facts ≡ facts_for (asked_inside d) g → Holds l f → Holds (inside_group d l) g
+pub inside_group_is : (d : Delimiter) (l : Known) (f g : Sight) → f.0.facts ≡ facts_for (asked_inside d) g.0 → Holds l f → Holds (inside_group d l) g
 inside_group_is d [] f g q h = tt
-inside_group_is d ((ahead n, v) ∷ l) f g q h = noted_is (asked_for n (asked_inside d)) v (inside_group d l) g (inside_group_is d l f g q h.1) (asked_for_is n (asked_inside d) g ∙ ap (has_fact n) (sym q) ∙ h.0)
+inside_group_is d ((ahead n, v) ∷ l) f g q h =
+    either_way (looks_through (asked_for n (asked_inside d))) (noted (asked_for n (asked_inside d)) v (inside_group d l)) (inside_group d l) g
+    (λ w. noted_is (asked_for n (asked_inside d)) v (inside_group d l) g (inside_group_is d l f g q h.1)
+    (views_through (asked_for n (asked_inside d)) g w ∙ asked_for_is n (asked_inside d) g.0 ∙ ap (has_fact n) (sym q) ∙ h.0))
+    (inside_group_is d l f g q h.1)
 inside_group_is d ((ended, v) ∷ l) f g q h = inside_group_is d l f g q h.1
 inside_group_is d ((at_name, v) ∷ l) f g q h = inside_group_is d l f g q h.1
 inside_group_is d ((at_word y, v) ∷ l) f g q h = inside_group_is d l f g q h.1

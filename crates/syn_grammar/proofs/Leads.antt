@@ -2,7 +2,7 @@
 use Rattle.std.proofs.Common.{◌≡◌, ℕ, Bool, true, false, List, [], ◌∷◌, ◌++◌, Some, None, refl, sym, ap, ap₂, ◌∙◌, subst, true≢false, ◌⊎◌, inl, inr}
 use Rattle.std.specs.Prelude.{nat_eq}
 use Rattle.syn_grammar.specs.Words.{Text, keywords, contextual, w_as, w_const, w_for, w_self, w_super, w_crate, w_Self_type, long_marks, less, less_equals, greater, pound, lifetime_mark, colon, colons, exclamation}
-use Rattle.syn_grammar.specs.Tokens.{Span, Delimiter, Paren, starts_mark, is_word, is_name, is_group, one_of_texts, Leaf, ident, literal, Stream, end, leaf, punct, group, ◌⧺◌, or, and, no, pick, Terminal, Ended, Name, Word, Punctuation, Literal, Delimited, Lookahead, lookahead_with, Fact, has_fact, same_fact, Before_parameter, Before_type_rest, Before_less, Asked, asked, facts_for, leaf_terminal, char_terminal, punctuation_facts, longest, lookahead, stands, answers, Look, at_name, at_word, at_mark, at_group, ahead, ◌or_else◌, ◌and_also◌, ◌but_not◌, at_lifetime, at_parameter, at_generics}
+use Rattle.syn_grammar.specs.Tokens.{Span, Delimiter, Paren, starts_mark, is_word, is_name, is_group, one_of_texts, Leaf, ident, literal, Stream, end, leaf, punct, group, ◌⧺◌, or, and, no, pick, Terminal, Ended, Name, Word, Punctuation, Literal, Delimited, Lookahead, lookahead_with, Fact, has_fact, same_fact, Before_parameter, Before_type_rest, Before_less, Asked, asked, facts_for, leaf_terminal, char_terminal, punctuation_facts, longest, lookahead, visible, stands, answers, Look, at_name, at_word, at_mark, at_group, ahead, ◌or_else◌, ◌and_also◌, ◌but_not◌, at_lifetime, at_parameter, at_generics}
 use Rattle.syn_grammar.specs.Rules.{Rule, type, type_path, type_words, more_type_words, type_arguments, generic_arguments, path_as_type, qualified_path, self_type, for_self_type, impl_body}
 use Rattle.syn_grammar.specs.RuleNumbers.{same_rule}
 use Rattle.syn_grammar.specs.SelfTypes.{self_types}
@@ -10,18 +10,21 @@ use Rattle.syn_grammar.specs.Grammar.{Kind, underscore, rest_after, Rest, suits,
 use Rattle.syn_grammar.specs.Table.{table, at_colons, at_less_only, at_paren, at_arguments, at_named_word, first_type_facts, no_arguments, at_for}
 use Rattle.syn_grammar.specs.Forms.{plainly, asking_punctuation, punctuation}
 use Rattle.syn_grammar.specs.Shape.{untagged}
-use Rattle.syn_grammar.specs.Take.{Out, sees, only, marked, add_char, take_chars, take_token, take_lifetime, take_mark, taken}
+use Rattle.syn_grammar.specs.Take.{Out, sees, take_token}
+use Rattle.syn_grammar.specs.Made.{Made}
+use Rattle.syn_grammar.specs.Run.{value_of}
 use Rattle.syn_grammar.specs.Alone.{all_of}
 use Rattle.syn_grammar.specs.Leads.{generics_behind, leads_on, Reads, TypeLeads, NeverLed, NotLed, PathLed, TypeLed, ImplLed}
 use Rattle.syn_grammar.proofs.Sets.{or_split, or_left, or_right, and_left, and_right, no_true, every, every_at, same_look, same_look_eq}
 use Rattle.syn_grammar.proofs.RuleLemmas.{same_rule_eq}
 use Rattle.syn_grammar.proofs.Streams.{append_append, append_end, append_spell}
-use Rattle.syn_grammar.proofs.Takes.{sees_stands, token_told, token_found, mark_found}
-use Rattle.syn_grammar.proofs.Looks.{sees_mark, sees_one, sees_lifetime}
+use Rattle.syn_grammar.proofs.Takes.{sees_is, token_told, token_found}
+use Rattle.syn_grammar.proofs.Looks.{same_eq, begins_trans, one_char, more_chars}
 use Rattle.syn_grammar.proofs.Known.{asked_for, asked_for_is}
 use Rattle.syn_grammar.proofs.Marks.{heard_or_none, spell_spelled}
 use Rattle.syn_grammar.proofs.PrintedValues.{print_value, led_part_value}
-use Rattle.syn_grammar.proofs.Means.{told, parse_rule_told}
+use Rattle.syn_grammar.proofs.Means.{told, parse_rule_told, parse_rule_found, rest_seen}
+use Rattle.syn_grammar.proofs.Made.{form_made}
 use Rattle.syn_grammar.proofs.Alone.{of_every_rule, one_said}
 use Rattle.syn_grammar.proofs.ToldByTokens.{word_leaf}
 
@@ -36,22 +39,26 @@ abbrev lists_on : Look
 lists_on = at_mark greater or_else at_parameter
 
 one_mark : (d c : ℕ) (j : Bool) (sp : Span) (m : Stream) → nat_eq c d ≡ false → stands (at_mark (d ∷ [])) (punct c j sp m) ≡ false
-unfolding take_mark
-one_mark d c j sp m e = sym (sees_stands (at_mark (d ∷ [])) (punct c j sp m)) ∙ sees_one d (punct c j sp m) ∙ ap (λ v. taken (marked (only v (Some ((c, sp) ∷ [], m))))) e
+one_mark d c j sp m e = one_char d c j (lookahead m).terminal ∙ same_eq d c ∙ e
+
+and_false : (b : Bool) → and b false ≡ false
+and_false true = refl
+and_false false = refl
 
 no_colons : (c : ℕ) (j : Bool) (sp : Span) (m : Stream) → nat_eq c 58 ≡ false → stands (at_mark colons) (punct c j sp m) ≡ false
-unfolding take_mark
-no_colons c false sp m e = sym (sees_stands (at_mark colons) (punct c false sp m)) ∙ sees_mark colons refl (punct c false sp m)
-no_colons c true sp m e = sym (sees_stands (at_mark colons) (punct c true sp m)) ∙ sees_mark colons refl (punct c true sp m) ∙ ap (λ v. taken (marked (only v (add_char c sp (take_chars colon m))))) e
+no_colons c j sp m e =
+    more_chars 58 58 c [] j (lookahead m).terminal refl ∙ ap (λ v. and j (and v (starts_mark colon (lookahead m).terminal))) (same_eq 58 c ∙ e) ∙ and_false j
+
+begins_lifetime : (t : Terminal) → starts_mark lifetime_mark t ≡ true → starts_mark (39 ∷ []) t ≡ true
+begins_lifetime (Punctuation l) e = begins_trans (39 ∷ []) lifetime_mark l refl e
+begins_lifetime _ e = absurd (true≢false (sym e))
 
 no_lifetime : (c : ℕ) (j : Bool) (sp : Span) (m : Stream) → nat_eq c 39 ≡ false → stands at_lifetime (punct c j sp m) ≡ false
-unfolding take_lifetime
-no_lifetime c false sp m e = sym (sees_stands at_lifetime (punct c false sp m)) ∙ sees_lifetime (punct c false sp m)
-no_lifetime c true sp (leaf (ident x) sq m) e = sym (sees_stands at_lifetime (punct c true sp (leaf (ident x) sq m))) ∙ sees_lifetime (punct c true sp (leaf (ident x) sq m)) ∙ ap (λ v. taken {A = Syntax × Stream} (only v (Some (Lifetime sp x sq, m)))) e
-no_lifetime c true sp (leaf (literal k x) sq m) e = sym (sees_stands at_lifetime (punct c true sp (leaf (literal k x) sq m))) ∙ sees_lifetime (punct c true sp (leaf (literal k x) sq m))
-no_lifetime c true sp end e = sym (sees_stands at_lifetime (punct c true sp end)) ∙ sees_lifetime (punct c true sp end)
-no_lifetime c true sp (punct d k sq m) e = sym (sees_stands at_lifetime (punct c true sp (punct d k sq m))) ∙ sees_lifetime (punct c true sp (punct d k sq m))
-no_lifetime c true sp (group d o k i m) e = sym (sees_stands at_lifetime (punct c true sp (group d o k i m))) ∙ sees_lifetime (punct c true sp (group d o k i m))
+no_lifetime c j sp m e = go (starts_mark lifetime_mark (char_terminal c j (lookahead m).terminal)) refl
+  where
+    go : (v : Bool) → starts_mark lifetime_mark (char_terminal c j (lookahead m).terminal) ≡ v → v ≡ false
+    go false q = refl
+    go true q = absurd (true≢false (sym (begins_lifetime (char_terminal c j (lookahead m).terminal) q) ∙ one_mark 39 c j sp m e))
 
 a_mark : (c : ℕ) (j : Bool) (t : Terminal) → (l : Text) × (char_terminal c j t ≡ Punctuation l)
 a_mark c false t = (_, refl)
@@ -165,7 +172,19 @@ abbrev Onward : Stream → Stream → Type 0
 Onward ts us = stands type_goes_on us ≡ stands type_goes_on ts
 
 on_colons : (xs : List (ℕ × Span)) (ts r : Stream) → chars xs ≡ colons → Spelled xs ts r → stands type_goes_on ts ≡ true
-on_colons xs ts r e h = or_left (stands (at_mark colons) ts) _ (sym (sees_stands (at_mark colons) ts) ∙ sees_mark colons refl ts ∙ ap taken (mark_found xs colons ts r e h))
+on_colons xs ts r e h = or_left (stands (at_mark colons) ts) _ (go xs e h)
+  where
+    two : (j : Bool) (sp sq : Span) → stands (at_mark colons) (punct 58 true sp (punct 58 j sq r)) ≡ true
+    two j sp sq = more_chars 58 58 58 [] true (lookahead (punct 58 j sq r)).terminal refl ∙ one_char 58 58 j (lookahead r).terminal
+
+    go : (xs : List (ℕ × Span)) → chars xs ≡ colons → Spelled xs ts r → stands (at_mark colons) ts ≡ true
+    go [] e h = elim h [ ]
+    go (x ∷ []) e h = absurd (cc e)
+    go (x ∷ y ∷ []) e (m, h, (j, i)) =
+        let p : x.0 ≡ 58 = cc e in
+        let q : y.0 ≡ 58 = cc e in
+        ap (stands (at_mark colons)) (h ∙ ap₂ (λ z n. punct z true x.1 n) p (i ∙ ap (λ z. punct z j y.1 r) q)) ∙ two j x.1 y.1
+    go (x ∷ y ∷ z ∷ l) e h = absurd (cc e)
 
 colons_printed : (xs : List (ℕ × Span)) (ts r us : Stream) → chars xs ≡ colons → Spelled xs ts r → stands type_goes_on (spell xs end ⧺ us) ≡ true
 colons_printed xs ts r us e h = ap (stands type_goes_on) (append_spell xs end us) ∙ on_colons xs (spell xs us) us e (spell_spelled xs ts r us h)
@@ -338,7 +357,7 @@ told_or_not false = refl
 behind_less : (j : Bool) (sp : Span) (m : Stream) → stands at_generics (punct 60 j sp m) ≡ stands lists_on m
 unfolding take_mark
 behind_less j sp m =
-    ap (λ z. and z (stands (ahead Before_parameter) (punct 60 j sp m))) (sym (sees_stands (at_mark less) (punct 60 j sp m)) ∙ sees_one 60 (punct 60 j sp m))
+    ap (λ z. and z (stands (ahead Before_parameter) (punct 60 j sp m))) (one_char 60 60 j (lookahead m).terminal)
     ∙ less_facts j (lookahead m).terminal (lookahead m).facts ∙ told_or_not (stands lists_on m)
 
 -- ---- A QUALIFIED PATH, behind its first type
@@ -432,9 +451,9 @@ node_alike (Node s) ts r us x = type_alike s ts r us x
 node_alike _ ts r us x = elim x [ ]
 
 pub type_leads : TypeLeads
-type_leads m r q t e =
-    let (s, d, v) = parse_rule_told type m (t, r) e in
-    ap (λ z. stands at_generics (z ⧺ q)) (sym (ap print v) ∙ print_value s) ∙ node_alike s m r q d ∙ sym (sees_stands at_generics m)
+type_leads m r q t seen e =
+    let (s, d, v) = parse_rule_told type m (t, r) seen e in
+    ap (λ z. stands at_generics (z ⧺ q)) (sym (ap print v) ∙ print_value s) ∙ node_alike s m r q d ∙ sym (sees_is at_generics m seen)
 
 -- ---- NO SELF TYPE of an impl is a part of these, groups and lists aside
 abbrev pub selfless : Grammar → Bool
@@ -454,7 +473,7 @@ rules_selfless k e = go (same_rule k for_self_type) refl (of_every_rule (λ k. o
     go true q h = absurd (true≢false (sym q ∙ no_true (same_rule k for_self_type) e))
     go false q h = ap (λ z. or z (selfless (table k))) (sym q) ∙ h
 
-no_part : (g : Grammar) (s : Syntax) (ts r : Stream) → selfless g ≡ true → DerivesPrefix table g s ts r → led_part (renew s) ≡ false
+no_part : (g : Grammar) (s : Syntax) (ts r : Stream) → selfless g ≡ true → Made g s ts r → led_part (renew s) ≡ false
 no_part empty Nothing ts r e x = refl
 no_part (token b k) (Token y sp) ts r e x = refl
 no_part (mark b cs) (Mark xs) ts r e x = refl
@@ -477,8 +496,8 @@ no_part (such q g) (Such s) ts r e (v, a) = no_part g s ts r e a
 no_part (shaped j g) (Shaped i s) ts r e x = refl
 no_part (captured g) (Captured s i) ts r e x = refl
 no_part unshown (Unshown s) ts r e x = refl
-no_part (supplied z p t) (Both n (Both (Mark xs) s)) ts r e (inl (w, y, sp, c, f, pa, i, q)) = ap₂ or (no_part p n (underscore sp) end (and_left (selfless p) _ e) pa) (no_part t s ts r (and_right (selfless p) _ e) q)
-no_part (supplied z p t) (Both n (Both (Mark xs) s)) ts r e (inr (w, m, pa, f, m', d, q)) = ap₂ or (no_part p n ts m (and_left (selfless p) _ e) pa) (no_part t s m' r (and_right (selfless p) _ e) q)
+no_part (supplied z p t) (Both n (Both (Mark xs) s)) ts r e (inl (w, sp, m, pa, y, i, q)) = ap₂ or (no_part p n (underscore sp) m (and_left (selfless p) _ e) pa) (no_part t s ts r (and_right (selfless p) _ e) q)
+no_part (supplied z p t) (Both n (Both (Mark xs) s)) ts r e (inr (w, m, pa, m', d, q)) = ap₂ or (no_part p n ts m (and_left (selfless p) _ e) pa) (no_part t s m' r (and_right (selfless p) _ e) q)
 no_part (generics_before g h f) (Impl l s) ts r e x = refl
 no_part (row g h) Done ts r e x = refl
 no_part (row g h) (Last b s) ts r e x = refl
@@ -488,84 +507,92 @@ no_part _ _ ts r e x = search false_true
 
 pub no_part_of : (g : Grammar) (m r : Stream) (s : Syntax) → selfless g ≡ true → Reads g m s r → led_part (renew s) ≡ false
 no_part_of g m r s e h =
-    let (t, d, v) = told g m (s, r) h in
+    let (t, d, v) = form_made g m (s, r) h in
     ap (λ z. led_part (renew z)) (sym v) ∙ led_part_value t ∙ no_part g t m r e d
 
 -- ---- `for` AND THE SELF TYPE
-for_read : (y : Leaf) (sp : Span) (ts m : Stream) → fits (word w_for) y ≡ true → ts ≡ leaf y sp m → leads_on ts ≡ stands at_generics m
-for_read y sp ts m e f = ap generics_behind (token_found (word w_for) y sp ts m e f) ∙ sees_stands at_generics m
+for_read : (y : Leaf) (sp : Span) (ts m : Stream) → visible ts ≡ true → fits (word w_for) y ≡ true → ts ≡ leaf y sp m → leads_on ts ≡ stands at_generics m
+for_read y sp ts m seen e f = ap generics_behind (token_found (word w_for) y sp ts m seen e f) ∙ sees_is at_generics m (sym (ap visible f) ∙ seen)
 
-of_type : (s : Syntax) (ts r : Stream) → DerivesPrefix table (rule type) s ts r → (stands at_generics (print s) ≡ stands at_generics ts) × (led_part (renew s) ≡ false)
-of_type s ts r x = (ap (stands at_generics) (sym (append_end (print s))) ∙ node_alike s ts r end x, no_part (rule type) s ts r refl x)
+of_type : (s : Syntax) (ts r : Stream) → visible ts ≡ true → DerivesPrefix table (rule type) s ts r → (stands at_generics (print s) ≡ stands at_generics ts) × (led_part (renew s) ≡ false)
+of_type s ts r seen x = (
+  ap (stands at_generics) (sym (append_end (print s))) ∙ node_alike s ts r end x,
+  sym (led_part_value s) ∙ no_part_of (rule type) ts r (value_of s) refl (parse_rule_found type ts s r seen x),
+)
 
-for_tree : (s : Syntax) (ts r : Stream) → DerivesPrefix table (table for_self_type) s ts r → led_part (renew s) ≡ leads_on ts
-for_tree (Both (Token y sp) (Case k s)) ts r (m, (e, f), (v, x)) =
+for_tree : (s : Syntax) (ts r : Stream) → visible ts ≡ true → DerivesPrefix table (table for_self_type) s ts r → led_part (renew s) ≡ leads_on ts
+for_tree (Both (Token y sp) (Case k s)) ts r seen (m, (e, f), (v, x)) =
     let q = same_rule_eq k self_type (sym (or_none (same_rule k self_type)) ∙ v) in
-    let (a, b) = of_type s m r (subst (λ z. DerivesPrefix table (table z) s m r) q x) in
-    ap (λ z. or (and (among z self_types) (stands at_generics (print s))) (led_part (renew s))) q ∙ ap₂ or a b ∙ or_none (stands at_generics m) ∙ sym (for_read y sp ts m e f)
-for_tree (Both (Token y sp) _) ts r (m, f, x) = elim x [ ]
-for_tree (Both _ s) ts r (m, f, x) = elim f [ ]
-for_tree _ ts r x = elim x [ ]
+    let (a, b) = of_type s m r (sym (ap visible f) ∙ seen) (subst (λ z. DerivesPrefix table (table z) s m r) q x) in
+    ap (λ z. or (and (among z self_types) (stands at_generics (print s))) (led_part (renew s))) q ∙ ap₂ or a b ∙ or_none (stands at_generics m) ∙ sym (for_read y sp ts m seen e f)
+for_tree (Both (Token y sp) _) ts r seen (m, f, x) = elim x [ ]
+for_tree (Both _ s) ts r seen (m, f, x) = elim f [ ]
+for_tree _ ts r seen x = elim x [ ]
 
-for_node : (s : Syntax) (ts r : Stream) → DerivesPrefix table (rule for_self_type) s ts r → led_part (renew s) ≡ leads_on ts
-for_node (Node s) ts r x = for_tree s ts r x
-for_node _ ts r x = elim x [ ]
+for_node : (s : Syntax) (ts r : Stream) → visible ts ≡ true → DerivesPrefix table (rule for_self_type) s ts r → led_part (renew s) ≡ leads_on ts
+for_node (Node s) ts r seen x = for_tree s ts r seen x
+for_node _ ts r seen x = elim x [ ]
 
-for_led : (m r : Stream) (s : Syntax) → Reads (rule for_self_type) m s r → led_part (renew s) ≡ leads_on m
-for_led m r s h =
-    let (t, d, v) = told (rule for_self_type) m (s, r) h in
-    ap (λ z. led_part (renew z)) (sym v) ∙ led_part_value t ∙ for_node t m r d
+for_led : (m r : Stream) (s : Syntax) → visible m ≡ true → Reads (rule for_self_type) m s r → led_part (renew s) ≡ leads_on m
+for_led m r s seen h =
+    let (t, d, v) = told (rule for_self_type) m (s, r) seen h in
+    ap (λ z. led_part (renew z)) (sym v) ∙ led_part_value t ∙ for_node t m r seen d
 
-maybe_node : (s : Syntax) (ts r : Stream) → DerivesPrefix table (when at_for then rule for_self_type else empty) s ts r → led_part (renew s) ≡ leads_on ts
-maybe_node (Left s) ts r (v, x) = for_node s ts r x
-maybe_node (Right Nothing) ts r (v, x) = go (take_token (word w_for) ts) refl
+maybe_node : (s : Syntax) (ts r : Stream) → visible ts ≡ true → DerivesPrefix table (when at_for then rule for_self_type else empty) s ts r → led_part (renew s) ≡ leads_on ts
+maybe_node (Left s) ts r seen (v, x) = for_node s ts r seen x
+maybe_node (Right Nothing) ts r seen (v, x) = go (take_token (word w_for) ts) refl
   where
     go : (o : Out) → take_token (word w_for) ts ≡ o → false ≡ leads_on ts
     go None e = sym (ap generics_behind e)
     go (Some p) e =
-        let (y, sp, a, b, c) = token_told (word w_for) ts p e in
+        let (y, sp, a, b, c) = token_told (word w_for) ts p seen e in
         absurd (true≢false (sym (ap (stands at_for) (c ∙ ap (λ z. leaf z sp p.1) (word_leaf w_for y b))) ∙ v))
-maybe_node (Right _) ts r (v, x) = elim x [ ]
-maybe_node _ ts r x = elim x [ ]
+maybe_node (Right _) ts r seen (v, x) = elim x [ ]
+maybe_node _ ts r seen x = elim x [ ]
 
-maybe_led : (m r : Stream) (s : Syntax) → Reads (when at_for then rule for_self_type else empty) m s r → led_part (renew s) ≡ leads_on m
-maybe_led m r s h =
-    let (t, d, v) = told (when at_for then rule for_self_type else empty) m (s, r) h in
-    ap (λ z. led_part (renew z)) (sym v) ∙ led_part_value t ∙ maybe_node t m r d
+maybe_led : (m r : Stream) (s : Syntax) → visible m ≡ true → Reads (when at_for then rule for_self_type else empty) m s r → led_part (renew s) ≡ leads_on m
+maybe_led m r s seen h =
+    let (t, d, v) = told (when at_for then rule for_self_type else empty) m (s, r) seen h in
+    ap (λ z. led_part (renew z)) (sym v) ∙ led_part_value t ∙ maybe_node t m r seen d
+
+-- behind a piece of a visible stream
+behind_seen : (g : Grammar) (m r : Stream) (s : Syntax) → visible m ≡ true → Reads g m s r → visible r ≡ true
+behind_seen g m r s seen h = let (t, d, v) = told g m (s, r) seen h in rest_seen g t m r d seen
 
 -- ---- AN IMPL
-printed_first : (g : Grammar) (m n : Stream) (s : Syntax) (us : Stream) → ((t : Syntax) → DerivesPrefix table g t m n → (stands at_generics m ≡ false) × (stands at_generics (print t ⧺ us) ≡ false)) → Reads g m s n →
+printed_first : (g : Grammar) (m n : Stream) (s : Syntax) (us : Stream) → visible m ≡ true → ((t : Syntax) → DerivesPrefix table g t m n → (stands at_generics m ≡ false) × (stands at_generics (print t ⧺ us) ≡ false)) → Reads g m s n →
     stands at_generics (print s ⧺ us) ≡ sees at_generics m
-printed_first g m n s us f h =
-    let (t, d, v) = told g m (s, n) h in
+printed_first g m n s us seen f h =
+    let (t, d, v) = told g m (s, n) seen h in
     let (a, b) = f t d in
-    ap (λ z. stands at_generics (z ⧺ us)) (sym (ap print v) ∙ print_value t) ∙ b ∙ sym a ∙ sym (sees_stands at_generics m)
+    ap (λ z. stands at_generics (z ⧺ us)) (sym (ap print v) ∙ print_value t) ∙ b ∙ sym a ∙ sym (sees_is at_generics m seen)
 
-bang_first : (m n : Stream) (x : Syntax) (us : Stream) → Reads (punctuation exclamation) m x n → stands at_generics (print x ⧺ us) ≡ sees at_generics m
-bang_first m n x us = printed_first (punctuation exclamation) m n x us (λ t d. let (e, k) = dull_read off_less (punctuation exclamation) t m n refl d in (less_off m e, less_off (print t ⧺ us) (k us)))
+bang_first : (m n : Stream) (x : Syntax) (us : Stream) → visible m ≡ true → Reads (punctuation exclamation) m x n → stands at_generics (print x ⧺ us) ≡ sees at_generics m
+bang_first m n x us seen = printed_first (punctuation exclamation) m n x us seen (λ t d. let (e, k) = dull_read off_less (punctuation exclamation) t m n refl d in (less_off m e, less_off (print t ⧺ us) (k us)))
 
-path_first : (m n : Stream) (s : Syntax) (us : Stream) → Reads (rule type_path) m s n → stands at_generics (print s ⧺ us) ≡ sees at_generics m
-path_first m n s us = printed_first (rule type_path) m n s us of_node
+path_first : (m n : Stream) (s : Syntax) (us : Stream) → visible m ≡ true → Reads (rule type_path) m s n → stands at_generics (print s ⧺ us) ≡ sees at_generics m
+path_first m n s us seen = printed_first (rule type_path) m n s us seen of_node
   where
     of_node : (t : Syntax) → DerivesPrefix table (rule type_path) t m n → (stands at_generics m ≡ false) × (stands at_generics (print t ⧺ us) ≡ false)
     of_node (Node t) d = path_off t m n us d
     of_node _ d = elim d [ ]
 
 never_led : NeverLed
-never_led m n r x b h i = ap₂ or (bang_first m n x (print b) h) (ap₂ or (no_part_of (punctuation exclamation) m n x refl h) (no_part_of (rule impl_body) n r b refl i)) ∙ or_none (sees at_generics m)
+never_led m n r x b seen h i = ap₂ or (bang_first m n x (print b) seen h) (ap₂ or (no_part_of (punctuation exclamation) m n x refl h) (no_part_of (rule impl_body) n r b refl i)) ∙ or_none (sees at_generics m)
 
 not_led : NotLed
-not_led m n p q r x t f b h i j k =
-    ap₂ or (bang_first m n x (print t ⧺ (print f ⧺ print b)) h)
-    (ap₂ or (no_part_of (punctuation exclamation) m n x refl h) (ap₂ or (no_part_of (rule type_path) n p t refl i) (ap₂ or (for_led p q f j) (no_part_of (rule impl_body) q r b refl k) ∙ or_none (leads_on p))))
+not_led m n p q r x t f b seen h i j k =
+    let ahead_seen = behind_seen (rule type_path) n p t (behind_seen (punctuation exclamation) m n x seen h) i in
+    ap₂ or (bang_first m n x (print t ⧺ (print f ⧺ print b)) seen h)
+    (ap₂ or (no_part_of (punctuation exclamation) m n x refl h) (ap₂ or (no_part_of (rule type_path) n p t refl i) (ap₂ or (for_led p q f ahead_seen j) (no_part_of (rule impl_body) q r b refl k) ∙ or_none (leads_on p))))
 
 path_led : PathLed
-path_led m p q r t f b h i j =
-    ap₂ or (path_first m p t (print f ⧺ print b) h) (ap₂ or (no_part_of (rule type_path) m p t refl h) (ap₂ or (maybe_led p q f i) (no_part_of (rule impl_body) q r b refl j) ∙ or_none (leads_on p)))
+path_led m p q r t f b seen h i j =
+    ap₂ or (path_first m p t (print f ⧺ print b) seen h) (ap₂ or (no_part_of (rule type_path) m p t refl h) (ap₂ or (maybe_led p q f (behind_seen (rule type_path) m p t seen h) i) (no_part_of (rule impl_body) q r b refl j) ∙ or_none (leads_on p)))
 
 type_led : TypeLed
-type_led m p r t b h i =
-    ap₂ or (type_leads m p (print b) t h) (ap₂ or (no_part_of (rule type) m p t refl h) (no_part_of (rule impl_body) p r b refl i)) ∙ or_none (sees at_generics m)
+type_led m p r t b seen h i =
+    ap₂ or (type_leads m p (print b) t seen h) (ap₂ or (no_part_of (rule type) m p t refl h) (no_part_of (rule impl_body) p r b refl i)) ∙ or_none (sees at_generics m)
 
 pub impl_led : ImplLed
 impl_led = (never_led, (not_led, (path_led, type_led)))

@@ -69,12 +69,14 @@ pub mod Shows
 pub mod Grows
 pub mod StillProved
 pub mod ItemStatements
+pub mod Found
 pub mod UseGroups
+pub mod Gaps
 pub mod Known
 pub mod Threads
 pub mod PlanShows
 pub mod Starts
-pub mod LoneWord
+pub mod Sole
 pub mod ItemPlan
 pub mod MemberPlans
 pub mod Marked
@@ -82,6 +84,7 @@ pub mod StatementPlans
 pub mod PlanSteps
 pub mod SmallPlans
 pub mod AlonePlans
+pub mod Parted
 pub mod Spared
 pub mod ToldByTokens
 pub mod Leads

@@ -12,8 +12,8 @@ use Rattle.syn_grammar.specs.Take.{sees}
 use Rattle.syn_grammar.specs.Run.{parse_rule}
 use Rattle.syn_grammar.specs.EntryPoints.{IsKind}
 use Rattle.syn_grammar.specs.Listed.{Listed, first_part, other_parts, of_rule, of_choice, listed_item, listed_items, ListedSoFar, name_ahead, ListingBegins, ListingGoesOn, ListingEnds, ListingRefused}
-use Rattle.syn_grammar.proofs.Means.{means, refused}
-use Rattle.syn_grammar.proofs.Takes.{sees_stands}
+use Rattle.syn_grammar.proofs.Means.{means, refused, rest_seen}
+use Rattle.syn_grammar.proofs.Takes.{sees_is}
 use Rattle.syn_grammar.proofs.Proved.{one_tree}
 use Rattle.syn_grammar.proofs.Streams.{lookahead_end}
 use Rattle.syn_grammar.proofs.Listed.{in_sequence, in_rule, in_choice, names_stand_ahead}
@@ -55,19 +55,21 @@ as_item k (Node s) m r i d = (s, (i, d), ap (λ n. (k, n)) (names_stand_ahead k 
 as_item k _ m r i d = elim d [ ]
 
 pub listing_begins : ListingBegins
-listing_begins ts a m e =
-    let (b, d, v) = (means inner_attributes ts a m).0 e in
+listing_begins ts a m seen e =
+    let (b, d, v) = (means inner_attributes ts a m seen).0 e in
     record {
+      seen = rest_seen (rule inner_attributes) b ts m d seen;
       onward = λ t c. (file_of b t, of_file b t ts m d c, refl);
       back = λ tree f. let (b', t, m', d', c) = in_file tree ts f in (t, subst (λ z. Derives items z t) (one_tree inner_attributes ts b' b m' m d' d).1 c);
     }
 
 pub listing_goes_on : ListingGoesOn
 listing_goes_on ts l m k s r so_far e i p =
-    let (t, d, v) = (means k m s r).0 p in
+    let (t, d, v) = (means k m s r so_far.seen).0 p in
     let (u, b, q) = as_item k t m r i d in
-    let n = sym (sees_stands ended m) ∙ e in
+    let n = sym (sees_is ended m so_far.seen) ∙ e in
     record {
+      seen = rest_seen (rule k) t m r d so_far.seen;
       onward = λ t' c.
           let (tree, f, g) = so_far.onward (Node (Right (Both (Node (Case k u)) t'))) (n, (r, b, c)) in
           (tree, f, g ∙ ap (λ x. l ++ x ∷ listed_items t') q ∙ sym (append_assoc l ((k, name_ahead k m) ∷ []) (listed_items t')));
@@ -78,12 +80,12 @@ listing_goes_on ts l m k s r so_far e i p =
     }
 
 -- at the end the items are none
-no_items : (m : Stream) → sees ended m ≡ true → Derives items m (Node (Left Nothing))
-no_items m e = (sym (sees_stands ended m) ∙ e, lookahead_end m (sym (sees_stands ended m) ∙ e))
+no_items : (m : Stream) → visible m ≡ true → sees ended m ≡ true → Derives items m (Node (Left Nothing))
+no_items m seen e = (sym (sees_is ended m seen) ∙ e, lookahead_end m (sym (sees_is ended m seen) ∙ e))
 
 pub listing_ends : ListingEnds
 listing_ends ts l m so_far e =
-    let (tree, f, g) = so_far.onward (Node (Left Nothing)) (no_items m e) in
+    let (tree, f, g) = so_far.onward (Node (Left Nothing)) (no_items m so_far.seen e) in
     (tree, f, g ∙ append-nil l)
 
 pub listing_refused : ListingRefused
@@ -92,8 +94,8 @@ listing_refused = (no_item, no_attributes)
     no_item : (ts : Stream) (l : List Listed) (m : Stream) → ListedSoFar ts l m → sees ended m ≡ false → parse_rule item m ≡ None → Refused file ts
     no_item ts l m so_far e p tree f =
         let (t, c) = so_far.back tree f in
-        let (s, u, r, a, b) = in_items t m (sym (sees_stands ended m) ∙ e) c in
-        refused item m p s r a
+        let (s, u, r, a, b) = in_items t m (sym (sees_is ended m so_far.seen) ∙ e) c in
+        refused item m so_far.seen p s r a
 
-    no_attributes : (ts : Stream) → parse_rule inner_attributes ts ≡ None → Refused file ts
-    no_attributes ts p tree f = let (a, t, m, b, c) = in_file tree ts f in refused inner_attributes ts p a m b
+    no_attributes : (ts : Stream) → visible ts ≡ true → parse_rule inner_attributes ts ≡ None → Refused file ts
+    no_attributes ts seen p tree f = let (a, t, m, b, c) = in_file tree ts f in refused inner_attributes ts seen p a m b

@@ -23,7 +23,7 @@ unfolding sees
 sees_but a b ts = refl
 
 -- ---- of one token tree
-same_eq : (a b : ℕ) → nat_eq a b ≡ nat_eq b a
+pub same_eq : (a b : ℕ) → nat_eq a b ≡ nat_eq b a
 same_eq a b = go (nat_eq a b) refl (nat_eq b a) refl
   where
     go : (u : Bool) → nat_eq a b ≡ u → (v : Bool) → nat_eq b a ≡ v → u ≡ v
@@ -213,7 +213,7 @@ begins_refl (a ∷ l) [] e = absurd (true≢false (sym e))
 begins_refl (a ∷ l) (b ∷ n) e = ap₂ and (and_left (nat_eq a b) _ e) (begins_refl l n (and_right (nat_eq a b) _ e))
 
 -- what begins what begins a text, begins it
-begins_trans : (m x t : Text) → begins_text m x ≡ true → begins_text x t ≡ true → begins_text m t ≡ true
+pub begins_trans : (m x t : Text) → begins_text m x ≡ true → begins_text x t ≡ true → begins_text m t ≡ true
 begins_trans [] x t e f = refl
 begins_trans (a ∷ l) [] t e f = absurd (true≢false (sym e))
 begins_trans (a ∷ l) (b ∷ n) [] e f = absurd (true≢false (sym f))
@@ -271,7 +271,7 @@ one_before c d = go (nat_eq d 39) refl
     go true e = and_true (nat_eq c 39) ∙ ap (nat_eq c) (sym (eqb-true d 39 e))
     go false e = and_true (nat_eq c d)
 
-one_char : (c d : ℕ) (j : Bool) (f : Terminal) → starts_mark (c ∷ []) (char_terminal d j f) ≡ nat_eq c d
+pub one_char : (c d : ℕ) (j : Bool) (f : Terminal) → starts_mark (c ∷ []) (char_terminal d j f) ≡ nat_eq c d
 one_char c d false f = and_true (nat_eq c d)
 one_char c d true (Punctuation l) = first_of_longest c d long_marks l refl
 one_char c d true Name = one_before c d
@@ -305,7 +305,7 @@ more_before c e d l w = go (nat_eq d 39)
     go false = refl
 
 -- of more: the first character is joined to the rest of the mark
-more_chars : (c e d : ℕ) (l : Text) (j : Bool) (f : Terminal) → reaches (c ∷ e ∷ l) long_marks ≡ true → starts_mark (c ∷ e ∷ l) (char_terminal d j f) ≡ and j (and (nat_eq c d) (starts_mark (e ∷ l) f))
+pub more_chars : (c e d : ℕ) (l : Text) (j : Bool) (f : Terminal) → reaches (c ∷ e ∷ l) long_marks ≡ true → starts_mark (c ∷ e ∷ l) (char_terminal d j f) ≡ and j (and (nat_eq c d) (starts_mark (e ∷ l) f))
 more_chars c e d l false f w = and_off (nat_eq c d)
 more_chars c e d l true (Punctuation y) w =
     same_truth (begins_text (c ∷ e ∷ l) (longest long_marks (d ∷ y) (d ∷ []))) (and (nat_eq c d) (begins_text (e ∷ l) y))

@@ -32,7 +32,7 @@ trait_kept = marked bare_trait_function ∷ marked bare_trait_type ∷ marked an
 
 trait_fits : Fits trait_item_plan [] (map kind_thread trait_kinds ++ trait_kept)
 unfolding kept_end function_after_const kept_const kept_function marked_plan trait_function_end trait_const_plan trait_item_plan impl_function_end impl_const_plan impl_type_plan impl_const_or_function impl_member_plan impl_macro_plan impl_item_plan foreign_function_end foreign_static_plan foreign_type_plan safety_plan foreign_member_plan foreign_macro_plan foreign_item_plan
-trait_fits = λ a. ((refl, λ v. λ d. (λ k. λ n. λ g. λ b. λ t. λ w. λ z. refl, (λ c. (λ y. λ u. λ e. λ s. (λ z. refl, λ b. refl), λ n. λ g. λ c. λ t. λ e. λ w. λ z. refl), λ s. (λ z. refl, λ b. refl)))), ((refl, λ v. (λ d. (λ k. λ n. λ g. λ b. λ t. λ w. λ z. refl, (λ c. (λ y. λ u. λ e. λ s. (λ z. refl, λ b. refl), λ n. λ g. λ c. λ t. λ e. λ w. λ z. refl), λ s. (λ z. refl, λ b. refl))), λ k. λ n. (λ g. λ c. λ t. λ e. λ w. λ z. refl, λ c. λ t. λ e. λ w. λ z. refl))), ((refl, λ d. (λ k. λ n. λ g. λ b. λ t. λ w. λ z. refl, (λ c. (λ y. λ u. λ e. λ s. (λ z. refl, λ b. refl), λ n. λ g. λ c. λ t. λ e. λ w. λ z. refl), λ s. (λ z. refl, λ b. refl)))), (λ k. λ n. λ g. λ b. λ t. λ w. λ z. refl, (λ c. (λ y. λ u. λ e. λ s. (λ z. refl, λ b. refl), λ n. ((refl, λ g. λ c. λ t. λ e. λ w. λ z. refl), λ c. λ t. λ e. (λ z. refl, (refl, λ w. λ z. refl)))), (λ s. (λ z. refl, λ b. refl), (tt, λ p. λ x. λ g. refl)))))))
+trait_fits = λ a. ((refl, λ v. λ d. (λ k. λ n. λ g. λ b. λ t. λ w. λ z. refl, (λ c. (λ y. λ u. λ e. λ s. (λ z. refl, λ b. refl), λ n. λ g. λ c. λ t. λ e. λ w. λ z. refl), λ s. (λ z. refl, λ b. refl)))), ((refl, λ d. (λ k. λ n. λ g. λ b. λ t. λ w. λ z. refl, (λ c. (λ y. λ u. λ e. λ s. (λ z. refl, λ b. refl), λ n. λ g. λ c. λ t. λ e. λ w. λ z. refl), λ s. (λ z. refl, λ b. refl)))), (λ k. λ n. λ g. λ b. λ t. λ w. λ z. refl, (λ c. (λ y. λ u. λ e. λ s. (λ z. refl, λ b. refl), λ n. ((refl, λ g. λ c. λ t. λ e. λ w. λ z. refl), λ c. λ t. λ e. (λ z. refl, (refl, λ w. λ z. refl)))), (λ s. (λ z. refl, λ b. refl), (tt, λ p. λ x. λ g. refl))))))
 
 abbrev impl_kinds : List Rule
 impl_kinds = impl_const ∷ impl_function ∷ impl_type ∷ impl_macro_as_item ∷ []

@@ -7,13 +7,14 @@ use Rattle.syn_grammar.specs.Table.{table}
 use Rattle.syn_grammar.specs.Values.{shape}
 use Rattle.syn_grammar.specs.Take.{Out, only, sees}
 use Rattle.syn_grammar.specs.Run.{parse_form}
-use Rattle.syn_grammar.specs.Plan.{Plan, reads, turns, tests, keeps, ends, done, fails, follow, by_test, run_plan, follow_shown, show_plan, shown_out}
+use Rattle.syn_grammar.specs.Plan.{Plan, reads, turns, tests, passes, keeps, ends, done, fails, follow, by_test, past_empty, run_plan, follow_shown, show_plan, shown_out}
 use Rattle.syn_grammar.proofs.Sets.{and_left, and_right}
 use Rattle.syn_grammar.proofs.FormEquality.{same_test}
 use Rattle.syn_grammar.proofs.Streams.{append_end, append_append}
 use Rattle.syn_grammar.proofs.Shapes.{show_sum, sum_shape}
+use Rattle.syn_grammar.proofs.Takes.{inv_only}
 use Rattle.syn_grammar.proofs.Known.{Known, clash, noted, some_is}
-use Rattle.syn_grammar.proofs.Threads.{Ends, Fits, Frame, Provided, State, Thread, Tried, TriedAll, alive, and_behind, and_next, back, beside, bound, calm, chosen, contrary, dead, eat, eat_list, eat_thread, eaten, finish, frames_is, fuel, holding, in_case, in_left, in_node, in_right, in_shape, in_such, in_vanishing, listed, matches, of_kept, of_kind, only_is, paired, passed, passed_state, reading, state_is, step, verdict, with_generics, with_state}
+use Rattle.syn_grammar.proofs.Threads.{Ends, no_more, Fits, GoesOn, Frame, unwritten, no_part, skips, skips_list, past_thread, past_all, joined, picked, Provided, State, Thread, Tried, TriedAll, alive, and_behind, and_next, back, beside, bound, calm, chosen, contrary, dead, eat, eat_list, eat_thread, eaten, finish, frames_is, fuel, holding, in_case, in_left, in_node, in_right, in_shape, in_such, in_vanishing, listed, matches, of_kept, of_kind, only_is, paired, passed, passed_state, reading, state_is, step, verdict, with_generics, with_state}
 
 -- ---- WHAT IS SHOWN of what a plan reads is what is shown of its pieces, one after another
 
@@ -202,8 +203,39 @@ passed_shows q s b (of_kept t ∷ ths) w u h = go (passed_state q b t) (passed_s
     go (Some x) i = i
 passed_shows q s b (listed fs ∷ ths) w u h = elim u.0 [ ]
 
+past_thread_shows : (l : Known) (t u : Thread) (w : Stream) → past_thread l t ≡ Some u → OneShown w t → OneShown w u
+past_thread_shows l (of_kind t) u w e h = go (skips fuel t) (eat fuel l unwritten t) refl e
+  where
+    go : (b : Bool) (o : Option (List Frame)) → eat fuel l unwritten t ≡ o → picked b (of_kind t) (bound o (λ k. Some (of_kind (back k no_part)))) ≡ Some u → OneShown w u
+    go true o q i = subst (OneShown w) (some_is (of_kind t) u i) h
+    go false (Some k) q i =
+        let j = eat_shows fuel l unwritten t k q in
+        subst (OneShown w) (some_is (of_kind (back k no_part)) u i) (back_shows false k no_part j.1 (λ e. no_way e) ∙ sym j.0 ∙ h)
+    go false None q i = absurd (cc i)
+past_thread_shows l (of_kept t) u w e h = go (skips fuel t) (eat fuel l unwritten t) e
+  where
+    go : (b : Bool) (o : Option (List Frame)) → picked b (of_kept t) (bound o (λ k. Some (of_kept (back k no_part)))) ≡ Some u → OneShown w u
+    go true o i = subst (OneShown w) (some_is (of_kept t) u i) tt
+    go false (Some k) i = subst (OneShown w) (some_is (of_kept (back k no_part)) u i) tt
+    go false None i = absurd (cc i)
+past_thread_shows l (listed fs) u w e h = go (skips_list fuel fs) (eat_list fuel l (unwritten ∷ []) fs) e
+  where
+    go : (b : Bool) (o : Option (List Grammar)) → picked b (listed fs) (bound o (λ gs. Some (listed gs))) ≡ Some u → OneShown w u
+    go true o i = subst (OneShown w) (some_is (listed fs) u i) tt
+    go false (Some gs) i = subst (OneShown w) (some_is (listed gs) u i) tt
+    go false None i = absurd (cc i)
+
+past_all_shows : (l : Known) (ths us : List Thread) (w : Stream) → past_all l ths ≡ Some us → Shown w ths → Shown w us
+past_all_shows l [] us w e h = subst (Shown w) (some_is [] us e) tt
+past_all_shows l (t ∷ ths) us w e h = let i = one_shown w t ths h in go (past_thread l t) refl (past_all l ths) refl (λ us q. past_all_shows l ths us w q i.1) i.0 e
+  where
+    go : (o : Option Thread) → past_thread l t ≡ o → (p : Option (List Thread)) → past_all l ths ≡ p → ((us : List Thread) → past_all l ths ≡ Some us → Shown w us) → OneShown w t → joined o p ≡ Some us → Shown w us
+    go (Some u) p (Some x) q f h i = subst (Shown w) (some_is (u ∷ x) us i) (then_shown w u x (past_thread_shows l t u w p h) (f x q))
+    go (Some u) p None q f h i = absurd (cc i)
+    go None p o q f h i = absurd (cc i)
+
 ends_show : (s : Syntax) (l : Known) (ths : List Thread) (w m : Stream) → Ends s l ths → Shown w ths → ◌≡◌ {A = Option (Stream × Stream)} (Some (w, m)) (Some (show s, m))
-ends_show s l (of_kind t ∷ ths) w m e h = ap {B = Option (Stream × Stream)} (λ z. Some (z, m)) (sym h.0 ∙ finish_shows fuel l t s e)
+ends_show s l (of_kind t ∷ ths) w m e h = ap {B = Option (Stream × Stream)} (λ z. Some (z, m)) (sym h.0 ∙ finish_shows fuel l t s (inv_only (no_more ths) (finish fuel l t) s e).1)
 ends_show s l (of_kept t ∷ ths) w m e h = elim e [ ]
 ends_show s l (listed fs ∷ ths) w m e h = elim e [ ]
 ends_show s l [] w m e h = elim e [ ]
@@ -232,6 +264,12 @@ fits_shows (tests t s p q) l ths k ts w m e h =
     go : (v : Bool) → show_plan p ts w m ≡ shown_out (run_plan p k ts m) → show_plan q ts w m ≡ shown_out (run_plan q k ts m) → pick v (show_plan p ts w m) (show_plan q ts w m) ≡ shown_out (by_test v (run_plan p k ts m) (run_plan q k ts m))
     go true f g = f
     go false f g = g
+fits_shows (passes p) l ths k ts w m e h = go (past_all l ths) refl e (λ us i j. fits_shows p [] us k ts w (past_empty m) i j)
+  where
+    go : (o : Option (List Thread)) → past_all l ths ≡ o → GoesOn o (Fits p []) → ((us : List Thread) → Fits p [] us → Shown w us → show_plan p ts w (past_empty m) ≡ shown_out (run_plan p k ts (past_empty m))) →
+        show_plan p ts w (past_empty m) ≡ shown_out (run_plan p k ts (past_empty m))
+    go None q i ih = elim i [ ]
+    go (Some us) q i ih = ih us i (past_all_shows l ths us w q h)
 fits_shows (keeps p) l ths k ts w m e h = fits_shows p l ths k ts w m e.1 h
 fits_shows (ends s) l ths k ts w m e h = ends_show s l ths w m e h
 fits_shows done l ths k ts w m e h = refl

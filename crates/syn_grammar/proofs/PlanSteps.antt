@@ -1,23 +1,25 @@
 -- How far a plan goes, for who reads by one: what looks answered and what was read.
 use Rattle.std.proofs.Common.{◌≡◌, Bool, true, false, List, [], ◌∷◌, Some, None, refl, sym, ap, ◌∙◌}
-use Rattle.syn_grammar.specs.Words.{w_pub, w_fn, semicolon}
-use Rattle.syn_grammar.specs.Tokens.{Stream, pick, Look, at_word}
+use Rattle.syn_grammar.specs.Words.{w_fn, semicolon}
+use Rattle.syn_grammar.specs.Tokens.{Stream, and, pick, Look, at_word}
 use Rattle.syn_grammar.specs.Rules.{Rule, attributes, visibility, signature, body, function, item, kept_item}
 use Rattle.syn_grammar.specs.Grammar.{holds, Syntax}
 use Rattle.syn_grammar.specs.Forms.{punctuation}
-use Rattle.syn_grammar.specs.Table.{at_semicolon}
+use Rattle.syn_grammar.specs.Table.{at_public, at_semicolon}
 use Rattle.syn_grammar.specs.Take.{lookahead_at, sees}
 use Rattle.syn_grammar.specs.Run.{parse_rule, parse_form}
-use Rattle.syn_grammar.specs.Plan.{Plan, reads, turns, tests, keeps, ends, done, fails, follow, by_test, kept_as, run_plan}
+use Rattle.syn_grammar.specs.Plan.{Plan, reads, turns, tests, passes, keeps, ends, done, fails, follow, by_test, kept_as, past_empty, run_plan}
 use Rattle.syn_grammar.specs.ItemPlan.{parts, item_of, hidden, kept_end, function_end, behind_visibility, item_behind, item_plan}
-use Rattle.syn_grammar.proofs.Takes.{sees_answers}
+use Rattle.syn_grammar.proofs.Sets.{and_left, and_right}
+use Rattle.syn_grammar.proofs.Takes.{looks_through, sees_answers}
 use Rattle.syn_grammar.proofs.Known.{excludes, excludes_is, implies, implies_is, not_true}
 use Rattle.syn_grammar.proofs.ItemPlan.{item_plan_is}
 
--- what happened on the way: a look or a test answered so; a mark was met; or this was read, and this is left
+-- what happened on the way: a look or a test answered so; a mark was met; what stands for no visibility was passed; or this was read, and this is left
 pub data Event : Type 0 where
   went : Bool → Event
   marked : Event
+  went_past : Event
   took : Syntax → Stream → Event
 
 -- on a plan's way from this stream this happens
@@ -26,6 +28,7 @@ Happens [] p m = Unit {0}
 Happens (went v ∷ l) (turns c p q) m = (sees c m ≡ v) × Happens l (pick v p q) m
 Happens (went v ∷ l) (tests t s p q) m = (holds t s ≡ v) × Happens l (pick v p q) m
 Happens (marked ∷ l) (keeps p) m = Happens l p m
+Happens (went_past ∷ l) (passes p) m = Happens l p (past_empty m)
 Happens (took s r ∷ l) (reads g f) m = (parse_form g m ≡ Some (s, r)) × Happens l (f s) r
 Happens _ _ m = ⊥
 
@@ -34,12 +37,14 @@ abbrev pub left_over : List Event → Plan → Plan
 left_over (went v ∷ l) (turns c p q) = left_over l (pick v p q)
 left_over (went v ∷ l) (tests t s p q) = left_over l (pick v p q)
 left_over (marked ∷ l) (keeps p) = left_over l p
+left_over (went_past ∷ l) (passes p) = left_over l p
 left_over (took s r ∷ l) (reads g f) = left_over l (f s)
 left_over _ p = p
 
 abbrev pub behind_all : List Event → Stream → Stream
 behind_all [] m = m
 behind_all (took s r ∷ l) m = behind_all l r
+behind_all (went_past ∷ l) m = behind_all l (past_empty m)
 behind_all (e ∷ l) m = behind_all l m
 
 module _ (k : Rule) (ts : Stream) where
@@ -52,12 +57,23 @@ module _ (k : Rule) (ts : Stream) where
   happened (went v ∷ l) (turns c p q) m h = ap (λ v. by_test v (run_plan p k ts m) (run_plan q k ts m)) h.0 ∙ by_way v p q m ∙ happened l (pick v p q) m h.1
   happened (went v ∷ l) (tests t s p q) m h = ap (λ v. by_test v (run_plan p k ts m) (run_plan q k ts m)) h.0 ∙ by_way v p q m ∙ happened l (pick v p q) m h.1
   happened (marked ∷ l) (keeps p) m h = happened l p m h
+  happened (went_past ∷ l) (passes p) m h = happened l p (past_empty m) h
   happened (took s r ∷ l) (reads g f) m h = ap (follow (λ s r. run_plan (f s) k ts r)) h.0 ∙ happened l (f s) r h.1
   happened (went v ∷ l) (reads g f) m h = elim h [ ]
   happened (went v ∷ l) (keeps p) m h = elim h [ ]
   happened (went v ∷ l) (ends s) m h = elim h [ ]
   happened (went v ∷ l) done m h = elim h [ ]
   happened (went v ∷ l) fails m h = elim h [ ]
+  happened (went v ∷ l) (passes p) m h = elim h [ ]
+  happened (went_past ∷ l) (reads g f) m h = elim h [ ]
+  happened (went_past ∷ l) (turns c p q) m h = elim h [ ]
+  happened (went_past ∷ l) (tests t s p q) m h = elim h [ ]
+  happened (went_past ∷ l) (keeps p) m h = elim h [ ]
+  happened (went_past ∷ l) (ends s) m h = elim h [ ]
+  happened (went_past ∷ l) done m h = elim h [ ]
+  happened (went_past ∷ l) fails m h = elim h [ ]
+  happened (marked ∷ l) (passes p) m h = elim h [ ]
+  happened (took s r ∷ l) (passes p) m h = elim h [ ]
   happened (marked ∷ l) (reads g f) m h = elim h [ ]
   happened (marked ∷ l) (turns c p q) m h = elim h [ ]
   happened (marked ∷ l) (tests t s p q) m h = elim h [ ]
@@ -82,22 +98,38 @@ module _ (k : Rule) (ts : Stream) where
   refused_there fails m h = refl
   refused_there (turns c p q) m h = elim h [ ]
   refused_there (tests t s p q) m h = elim h [ ]
+  refused_there (passes p) m h = elim h [ ]
   refused_there (keeps p) m h = elim h [ ]
   refused_there (ends s) m h = elim h [ ]
   refused_there done m h = elim h [ ]
 
 -- Where the one look holds, the other doesn't: who knows a word needn't ask for those that stand before it in a plan.
-pub seen_apart : (c d : Look) (m : Stream) → excludes c d ≡ true → sees c m ≡ true → sees d m ≡ false
-seen_apart c d m e h = not_true (sees d m) (λ i. excludes_is c d (lookahead_at m) e (sym (sees_answers c m) ∙ h) (sym (sees_answers d m) ∙ i))
+-- (Of looks that look through invisible groups.)
+abbrev pub apart : Look → Look → Bool
+apart c d = and (and (looks_through c) (looks_through d)) (excludes c d)
+
+pub seen_apart : (c d : Look) (m : Stream) → apart c d ≡ true → sees c m ≡ true → sees d m ≡ false
+seen_apart c d m e h =
+    let t = and_left (and (looks_through c) (looks_through d)) _ e in
+    let u = and_left (looks_through c) _ t in
+    let v = and_right (looks_through c) _ t in
+    not_true (sees d m) (λ i. excludes_is c d (lookahead_at m) (and_right (and (looks_through c) (looks_through d)) _ e) (sym (sees_answers c m u) ∙ h) (sym (sees_answers d m v) ∙ i))
 
 -- And where it holds, this one does.
-pub seen_along : (c d : Look) (m : Stream) → implies c d ≡ true → sees c m ≡ true → sees d m ≡ true
-seen_along c d m e h = sees_answers d m ∙ implies_is c d (lookahead_at m) e (sym (sees_answers c m) ∙ h)
+abbrev pub along : Look → Look → Bool
+along c d = and (and (looks_through c) (looks_through d)) (implies c d)
+
+pub seen_along : (c d : Look) (m : Stream) → along c d ≡ true → sees c m ≡ true → sees d m ≡ true
+seen_along c d m e h =
+    let t = and_left (and (looks_through c) (looks_through d)) _ e in
+    let u = and_left (looks_through c) _ t in
+    let v = and_right (looks_through c) _ t in
+    sees_answers d m v ∙ implies_is c d (lookahead_at m) (and_right (and (looks_through c) (looks_through d)) _ e) (sym (sees_answers c m u) ∙ h)
 
 -- ---- AN EXAMPLE: a public function whose parts were read is an item of this value; with `;` in place of its body it is kept as tokens
-module _ (ts m n r z : Stream) (a v s b : Syntax) (outer : parse_rule attributes ts ≡ Some (a, m)) (at_pub : sees (at_word w_pub) m ≡ true) (vis : parse_rule visibility m ≡ Some (v, n))
+module _ (ts m n r z : Stream) (a v s b : Syntax) (outer : parse_rule attributes ts ≡ Some (a, m)) (at_pub : sees at_public m ≡ true) (vis : parse_rule visibility m ≡ Some (v, n))
     (at_fn : sees (at_word w_fn) n ≡ true) (sig : parse_rule signature n ≡ Some (s, r)) where
-  abbrev no : (c : Look) → excludes (at_word w_fn) c ≡ true → sees c n ≡ false
+  abbrev no : (c : Look) → apart (at_word w_fn) c ≡ true → sees c n ≡ false
   no c e = seen_apart (at_word w_fn) c n e at_fn
 
   -- behind the signature: eleven looks are asked before `fn`'s, and none of them holds at `fn`

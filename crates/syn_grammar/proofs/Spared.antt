@@ -1,14 +1,19 @@
--- A form that spares a word doesn't read it outside of groups: for every table whose rules do what is said of them.
-use Rattle.std.proofs.Common.{◌≡◌, ℕ, Bool, true, false, List, [], ◌∷◌, ◌++◌, refl, sym, ap, ◌∙◌, true≢false, inl, inr}
+-- A form that spares a word doesn't read it outside of groups, invisible ones aside.
+use Rattle.std.proofs.Common.{◌≡◌, ℕ, Bool, true, false, List, [], ◌∷◌, ◌++◌, refl, sym, ap, ◌∙◌, subst, true≢false, inl, inr}
 use Rattle.std.specs.Prelude.{nat_eq}
 use Rattle.syn_grammar.specs.Words.{Text, keywords, contextual}
-use Rattle.syn_grammar.specs.Tokens.{Span, Leaf, ident, literal, Stream, end, leaf, punct, group, ◌⧺◌, and, no, pick, same_text, one_of_texts, Word, Name, mem, leaf_terminal}
+use Rattle.syn_grammar.specs.Tokens.{Span, Delimiter, Paren, Brace, Bracket, None as Invisible, is_visible, Leaf, ident, literal, Stream, end, leaf, punct, group, ◌⧺◌, and, or, no, pick, same_text, one_of_texts, Word, Name, mem, leaf_terminal}
 use Rattle.syn_grammar.specs.Rules.{Rule}
-use Rattle.syn_grammar.specs.Grammar.{terminals, suits, fits, Kind, Grammar, empty, token, mark, lifetime, ◌&◌, when◌then◌else◌, vanishing, inside, raw, either, one_of, rule, such, captured, unshown, supplied, row, ordered, shaped, generics_before, opt_generics, choose, chars, Spelled, DerivesPrefix, Syntax, Nothing, Token, Mark, Lifetime, Both, Left, Right, Node, Vanishing, Group, Raw, Case, Such, Shaped, Captured, Unshown, Impl, Done, Last, More, Order}
+use Rattle.syn_grammar.specs.Grammar.{terminals, suits, fits, Kind, Grammar, empty, token, mark, lifetime, ◌&◌, when◌then◌else◌, vanishing, inside, raw, either, one_of, rule, such, captured, unshown, supplied, row, ordered, shaped, generics_before, opt_generics, choose, chars, Syntax, Nothing, Token, Mark, Lifetime, Both, Left, Right, Node, Vanishing, Group, Raw, Case, Such, Shaped, Captured, Unshown, Impl, Done, Last, More, Order}
+use Rattle.syn_grammar.specs.Table.{table}
+use Rattle.syn_grammar.specs.Take.{front, flat, is_end, before_group}
+use Rattle.syn_grammar.specs.Made.{Stands, Made}
 use Rattle.syn_grammar.specs.ToldByTokens.{is_text, opens_lifetime, no_quote, spares}
 use Rattle.syn_grammar.proofs.Sets.{and_left, and_right, no_true, same_text_eq}
-use Rattle.syn_grammar.proofs.Streams.{append_append}
+use Rattle.syn_grammar.proofs.Streams.{append_append, append_end}
 use Rattle.syn_grammar.proofs.Alone.{one_said}
+use Rattle.syn_grammar.proofs.Found.{flat_end}
+use Rattle.syn_grammar.proofs.Parted.{Parted, parted_none, parted_then, parted_leaf, parted_punct, parted_group, parted_hidden}
 
 -- how often
 pub data Often : Type 0 where
@@ -43,22 +48,25 @@ count a x q (leaf y sp m) = pick (and (no q) (is_text x y)) (again (count a x fa
 count a x q (punct c j sp m) = count a x (and a (opens_lifetime c j)) m
 count a x q (group d o c i m) = count a x false m
 
--- tokens in which the word stands so often, whatever stands behind them
+-- tokens before the rest in which the word stands so often, whatever stands behind them; invisible groups count as their content
 abbrev pub Counts : Bool → Text → Often → Stream → Stream → Type 0
-Counts a x n ts r = (c : Stream) × (ts ≡ c ⧺ r) × ((m : Stream) → count a x false (c ⧺ m) ≡ add n (count a x false m))
+Counts a x n ts r = (c : Stream) × Parted c ts r × ((m : Stream) → count a x false (c ⧺ m) ≡ add n (count a x false m))
 
 pub joined : (a : Bool) (x : Text) (n k : Often) (ts m r : Stream) → Counts a x n ts m → Counts a x k m r → Counts a x (add n k) ts r
-joined a x n k ts m r (c, e, f) (d, g, h) = (
-  c ⧺ d,
-  e ∙ ap (λ z. c ⧺ z) g ∙ sym (append_append c d r),
-  λ z. ap (count a x false) (append_append c d z) ∙ f (d ⧺ z) ∙ ap (add n) (h z) ∙ add_add n k (count a x false z),
-)
+joined a x n k ts m r (c, e, f) (d, g, h) =
+    (c ⧺ d, parted_then c d ts m r e g, λ z. ap (count a x false) (append_append c d z) ∙ f (d ⧺ z) ∙ ap (add n) (h z) ∙ add_add n k (count a x false z))
 
 pub counts_none : (a : Bool) (x : Text) (ts r : Stream) → ts ≡ r → Counts a x never ts r
-counts_none a x ts r e = (end, e, λ m. refl)
+counts_none a x ts r e = (end, parted_none ts r e, λ m. refl)
 
-pub counts_group : (a : Bool) (x : Text) (ts i r : Stream) (d : _) (o c : Span) → ts ≡ group d o c i r → Counts a x never ts r
-counts_group a x ts i r d o c e = (group d o c i end, e, λ m. refl)
+pub counts_group : (a : Bool) (x : Text) (ts i r : Stream) (d : Delimiter) (o c : Span) → is_visible d ≡ true → before_group d ts ≡ group d o c i r → Counts a x never ts r
+counts_group a x ts i r d o c v e = (group d o c (flat i) end, parted_group d o c i ts r v e, λ m. refl)
+
+-- the content of an invisible group, read to its end
+pub counts_hidden : (a : Bool) (x : Text) (ts i m r : Stream) (o c : Span) → ts ≡ group Invisible o c i r → is_end m ≡ true → Counts a x never i m → Counts a x never ts r
+counts_hidden a x ts i m r o c e z (d, p, f) =
+    let q : flat i ≡ d = p.0 ∙ ap (λ y. d ⧺ y) (flat_end m z) ∙ append_end d in
+    (d, subst (λ y. Parted y ts r) q (parted_hidden o c i ts r e), f)
 
 not_quote : (c : ℕ) (j a : Bool) → no (nat_eq c 39) ≡ true → and a (opens_lifetime c j) ≡ false
 not_quote c true true e = no_true (nat_eq c 39) e
@@ -66,12 +74,15 @@ not_quote c true false e = refl
 not_quote c false true e = refl
 not_quote c false false e = refl
 
-pub counts_spelled : (a : Bool) (x : Text) (xs : List (ℕ × Span)) (ts r : Stream) → no_quote (chars xs) ≡ true → Spelled xs ts r → Counts a x never ts r
+pub counts_spelled : (a : Bool) (x : Text) (xs : List (ℕ × Span)) (ts r : Stream) → no_quote (chars xs) ≡ true → Stands xs ts r → Counts a x never ts r
 counts_spelled a x [] ts r e h = elim h [ ]
-counts_spelled a x (y ∷ []) ts r e h = (punct y.0 h.0 y.1 end, h.1, λ m. ap (λ z. count a x z m) (not_quote y.0 h.0 a (and_left (no (nat_eq y.0 39)) _ e)))
+counts_spelled a x (y ∷ []) ts r e h = (punct y.0 h.0 y.1 end, parted_punct y.0 h.0 y.1 ts r h.1, λ m. ap (λ z. count a x z m) (not_quote y.0 h.0 a (and_left (no (nat_eq y.0 39)) _ e)))
 counts_spelled a x (y ∷ z ∷ l) ts r e h =
-    let (c, f, k) = counts_spelled a x (z ∷ l) h.0 r (and_right (no (nat_eq y.0 39)) _ e) h.2 in
-    (punct y.0 true y.1 c, h.1 ∙ ap (punct y.0 true y.1) f, λ m. ap (λ v. count a x v (c ⧺ m)) (not_quote y.0 true a (and_left (no (nat_eq y.0 39)) _ e)) ∙ k m)
+    let (c, f, k) = counts_spelled a x (z ∷ l) h.0 r (and_right (no (nat_eq y.0 39)) _ e) h.2 in (
+      punct y.0 true y.1 c,
+      parted_then (punct y.0 true y.1 end) c ts h.0 r (parted_punct y.0 true y.1 ts h.0 h.1) f,
+      λ m. ap (λ v. count a x v (c ⧺ m)) (not_quote y.0 true a (and_left (no (nat_eq y.0 39)) _ e)) ∙ k m,
+    )
 
 module _ (a : Bool) (x : Text) (known : one_of_texts x (keywords ++ contextual) ≡ true) where
   -- no token of this kind is the word
@@ -85,10 +96,10 @@ module _ (a : Bool) (x : Text) (known : one_of_texts x (keywords ++ contextual) 
           let same : leaf_terminal (ident y) ≡ Word x = ap (λ z. leaf_terminal (ident z)) (sym (same_text_eq x y q)) ∙ ap (λ b. pick b (Word x) Name) known in
           absurd (true≢false (sym (and_right (suits k (ident y)) _ h) ∙ ap (λ z. mem z (terminals k)) same ∙ no_true (mem (Word x) (terminals k)) e))
 
-  pub counts_token : (k : Kind) (y : Leaf) (sp : Span) (ts r : Stream) → no (mem (Word x) (terminals k)) ≡ true → fits k y ≡ true → ts ≡ leaf y sp r → Counts a x never ts r
-  counts_token k y sp ts r e h f = (leaf y sp end, f, λ m. ap (λ z. pick z (again (count a x false m)) (count a x false m)) (other_token k y e h))
+  pub counts_token : (k : Kind) (y : Leaf) (sp : Span) (ts r : Stream) → no (mem (Word x) (terminals k)) ≡ true → fits k y ≡ true → front ts ≡ leaf y sp r → Counts a x never ts r
+  counts_token k y sp ts r e h f = (leaf y sp end, parted_leaf y sp ts r f, λ m. ap (λ z. pick z (again (count a x false m)) (count a x false m)) (other_token k y e h))
 
-  module _ (said : Rule → Bool) (table : Rule → Grammar) (holds : (k : Rule) → said k ≡ true → spares a said x (table k) ≡ true) where
+  module _ (said : Rule → Bool) (holds : (k : Rule) → said k ≡ true → spares a said x (table k) ≡ true) where
     abbrev Spared : Stream → Stream → Type 0
     Spared ts r = Counts a x never ts r
 
@@ -107,18 +118,21 @@ module _ (a : Bool) (x : Text) (known : one_of_texts x (keywords ++ contextual) 
     false_true : false ≡ true → ⊥
     false_true e = true≢false (sym e)
 
-    pub spared : (g : Grammar) (s : Syntax) (ts r : Stream) → spares a said x g ≡ true → DerivesPrefix table g s ts r → Counts a x never ts r
+    pub spared : (g : Grammar) (s : Syntax) (ts r : Stream) → spares a said x g ≡ true → Made g s ts r → Counts a x never ts r
     spared empty Nothing ts r e h = counts_none a x ts r h
     spared (token b k) (Token y sp) ts r e h = counts_token k y sp ts r e h.0 h.1
     spared (mark b cs) (Mark xs) ts r e h = counts_spelled a x xs ts r (ap no_quote h.0 ∙ e) h.1
-    spared lifetime (Lifetime sp y sq) ts r e h = (punct 39 true sp (leaf (ident y) sq end), h, λ m. ap (λ v. pick (and (no (and v true)) (is_text x (ident y))) (again (count a x false m)) (count a x false m)) e)
+    spared lifetime (Lifetime sp y sq) ts r e h = (punct 39 true sp (leaf (ident y) sq end), parted_then (punct 39 true sp end) (leaf (ident y) sq end) ts h.0 r (parted_punct 39 true sp ts h.0 h.1) (parted_leaf (ident y) sq h.0 r h.2), λ m. ap (λ v. pick (and (no (and v true)) (is_text x (ident y))) (again (count a x false m)) (count a x false m)) e)
     spared (g & h) (Both s t) ts r e (m, u, b) = both ts m r (spared g s ts m (and_left (spares a said x g) _ e) u) (spared h t m r (and_right (spares a said x g) _ e) b)
     spared (when c then g else h) (Left s) ts r e (v, u) = spared g s ts r (and_left (spares a said x g) _ e) u
     spared (when c then g else h) (Right s) ts r e (v, u) = spared h s ts r (and_right (spares a said x g) _ e) u
     spared (vanishing b c g) (Vanishing b' (Left s)) ts r e (v, (w, u)) = spared g s ts r e u
     spared (vanishing b c g) (Vanishing b' (Right Nothing)) ts r e (v, (w, u)) = counts_none a x ts r u
-    spared (inside d g) (Group d' o c s) ts r e (p, i, f, u) = counts_group a x ts i r d' o c f
-    spared (raw d) (Raw d' o c i) ts r e (p, f) = counts_group a x ts i r d' o c f
+    spared (inside d g) (Group Invisible o c s) ts r e (p, i, m, f, u, z) = counts_hidden a x ts i m r o c f z (spared g s i m (ap (λ v. or (is_visible v) (spares a said x g)) (sym p) ∙ e) u)
+    spared (inside d g) (Group Paren o c s) ts r e (p, i, m, f, u, z) = counts_group a x ts i r Paren o c refl f
+    spared (inside d g) (Group Brace o c s) ts r e (p, i, m, f, u, z) = counts_group a x ts i r Brace o c refl f
+    spared (inside d g) (Group Bracket o c s) ts r e (p, i, m, f, u, z) = counts_group a x ts i r Bracket o c refl f
+    spared (raw d) (Raw d' o c i) ts r e (p, f) = counts_group a x ts i r d' o c (ap is_visible (sym p) ∙ e) f
     spared (either g h) (Left s) ts r e u = spared g s ts r (and_left (spares a said x g) _ e) u
     spared (either g h) (Right s) ts r e u = spared h s ts r (and_right (spares a said x g) _ e) u
     spared (one_of ks) (Case k s) ts r e (v, u) = spared (table k) s ts r (holds k (one_said said k ks v e)) u
@@ -127,15 +141,15 @@ module _ (a : Bool) (x : Text) (known : one_of_texts x (keywords ++ contextual) 
     spared (shaped j g) (Shaped i s) ts r e (v, u) = spared g s ts r e u
     spared (captured g) (Captured s i) ts r e (v, u) = spared g s ts r e u
     spared unshown (Unshown s) ts r e h = counts_none a x ts r h.1
-    spared (supplied z p t) (Both n (Both (Mark xs) s)) ts r e (inl (w, y, sp, c, f, pa, i, q)) = spared t s ts r (and_right (spares a said x p) _ e) q
-    spared (supplied z p t) (Both n (Both (Mark xs) s)) ts r e (inr (w, m, pa, f, m', d, q)) =
-        both ts m r (spared p n ts m (and_left (spares a said x p) _ e) pa) (both m m' r (counts_spelled a x xs m m' (ap no_quote f) d) (spared t s m' r (and_right (spares a said x p) _ e) q))
+    spared (supplied y p t) (Both n (Both (Mark xs) s)) ts r e (inl (w, sp, m, pa, z, i, q)) = spared t s ts r (and_right (spares a said x p) _ e) q
+    spared (supplied y p t) (Both n (Both (Mark xs) s)) ts r e (inr (w, m, pa, m', d, q)) =
+        both ts m r (spared p n ts m (and_left (spares a said x p) _ e) pa) (both m m' r (counts_spelled a x xs m m' (ap no_quote d.0) d.1) (spared t s m' r (and_right (spares a said x p) _ e) q))
     spared (generics_before g h f) (Impl l s) ts r e (m, i, b) =
         both ts m r (spared (opt_generics g h) l ts m (and_pair (spares a said x g) (spares a said x h) _ e) i) (spared f s m r (and_right (spares a said x h) _ (and_right (spares a said x g) _ e)) b)
     spared (row g h) Done ts r e (w, u) = counts_none a x ts r u
     spared (row g h) (Last b s) ts r e (w, u, n) = spared (choose b g h) s ts r (choose_spared b g h e) u
     spared (row g h) (More b s sp t) ts r e (w, m, u, m', d, q) =
-        both ts m r (spared (choose b g h) s ts m (choose_spared b g h e) u) (both m m' r (counts_spelled a x ((44, sp) ∷ []) m m' refl d) (spared (row g h) t m' r e q))
-    spared (ordered g h) (Order xs l ys) ts r e (m, f, d, m', u, f', d') =
-        both ts m r (counts_spelled a x xs ts m (ap no_quote f) d) (both m m' r (spared (row g h) l m m' e u) (counts_spelled a x ys m' r (ap no_quote f') d'))
+        both ts m r (spared (choose b g h) s ts m (choose_spared b g h e) u) (both m m' r (counts_spelled a x ((44, sp) ∷ []) m m' refl d.1) (spared (row g h) t m' r e q))
+    spared (ordered g h) (Order xs l ys) ts r e (m, d, m', u, d') =
+        both ts m r (counts_spelled a x xs ts m (ap no_quote d.0) d.1) (both m m' r (spared (row g h) l m m' e u) (counts_spelled a x ys m' r (ap no_quote d'.0) d'.1))
     spared _ _ ts r e u = search false_true

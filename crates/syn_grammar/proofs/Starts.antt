@@ -14,22 +14,6 @@ abbrev pub first_rest : Option Stream → Option Stream → Option Stream
 first_rest (Some r) o = Some r
 first_rest None o = o
 
-pub keep_first : (k : Rule) (ts : Stream) (o p : Option Stream) → keep k ts (first_rest o p) ≡ first (keep k ts o) (keep k ts p)
-keep_first k ts (Some r) p = refl
-keep_first k ts None p = refl
-
-pub onward_first : (o : Option Stream) (f g h : Stream → Option Stream) → ((r : Stream) → f r ≡ first_rest (g r) (h r)) → onward o f ≡ first_rest (onward o g) (onward o h)
-onward_first (Some r) f g h e = e r
-onward_first None f g h e = refl
-
-pub first_none : (o : Option Stream) → first_rest o None ≡ o
-first_none (Some r) = refl
-first_none None = refl
-
-pub first_first : (a b c : Out) → first (first a b) c ≡ first a (first b c)
-first_first (Some x) b c = refl
-first_first None b c = refl
-
 -- a kind of its own, and what is kept as tokens of this rule
 abbrev pub kind_thread : Rule → Thread
 kind_thread k = of_kind (reading (table k) (in_case k ∷ in_node ∷ []))

@@ -300,7 +300,7 @@ pub sees_is : (c : Look) (ts : Stream) → visible ts ≡ true → sees c ts ≡
 unfolding sees lookahead_at
 sees_is c ts v = ap (λ z. seen c ts (lookahead z)) (flat_seen ts v) ∙ look_is c ts v
 
-end_told_of : (ts : Stream) → ended_at ts ≡ true → ts ≡ end
+pub end_told_of : (ts : Stream) → ended_at ts ≡ true → ts ≡ end
 end_told_of end e = refl
 end_told_of (leaf x sp m) e = absurd (true≢false (sym e))
 end_told_of (punct c j sp m) e = absurd (true≢false (sym e))
@@ -324,7 +324,7 @@ pub tree_is : (ts : Stream) → visible ts ≡ true → no (is_end ts) ≡ some_
 unfolding is_end
 tree_is ts v = ap (λ z. no (ended_at z)) (front_seen ts v) ∙ tree_is_of ts
 
-token_told_of : (k : Kind) (ts : Stream) (x : TreeAndRest) → token_of k ts ≡ Some x → (y : Leaf) × (sp : Span) × (x.0 ≡ Token y sp) × (fits k y ≡ true) × (ts ≡ leaf y sp x.1)
+pub token_told_of : (k : Kind) (ts : Stream) (x : TreeAndRest) → token_of k ts ≡ Some x → (y : Leaf) × (sp : Span) × (x.0 ≡ Token y sp) × (fits k y ≡ true) × (ts ≡ leaf y sp x.1)
 token_told_of k end x e = absurd (cc e)
 token_told_of k (leaf y sp r) x e =
     let h = inv_only (fits k y) _ x e in
@@ -346,7 +346,7 @@ token_taken k y sp ts r h e = ap (token_of k) e ∙ ap (λ b. only b (Some (Toke
 pub token_found : (k : Kind) (y : Leaf) (sp : Span) (ts r : Stream) → visible ts ≡ true → fits k y ≡ true → ts ≡ leaf y sp r → take_token k ts ≡ Some (Token y sp, r)
 token_found k y sp ts r v h e = token_taken k y sp ts r h (front_seen ts v ∙ e)
 
-name_told : (c : ℕ) (sp : Span) (ts : Stream) (x : TreeAndRest) → lifetime_name c sp ts ≡ Some x → (y : Text) × (sq : Span) × (c ≡ 39) × (x.0 ≡ Lifetime sp y sq) × (ts ≡ leaf (ident y) sq x.1)
+pub name_told : (c : ℕ) (sp : Span) (ts : Stream) (x : TreeAndRest) → lifetime_name c sp ts ≡ Some x → (y : Text) × (sq : Span) × (c ≡ 39) × (x.0 ≡ Lifetime sp y sq) × (ts ≡ leaf (ident y) sq x.1)
 name_told c sp (leaf (ident y) sq r) x e =
     let h = inv_only (nat_eq c 39) _ x e in
     let a : x.0 ≡ Lifetime sp y sq = cc h.1 in
@@ -438,7 +438,7 @@ mark_taken xs cs ts r e h = ap (λ l. marked (take_chars l ts)) (sym e) ∙ ap m
 pub mark_found : (xs : List (ℕ × Span)) (cs : Text) (ts r : Stream) → visible ts ≡ true → chars xs ≡ cs → Spelled xs ts r → take_mark cs ts ≡ Some (Mark xs, r)
 mark_found xs cs ts r v e h = mark_taken xs cs ts r e h
 
-group_told_of : (d : Delimiter) (ts : Stream) (g : Opened) → group_of d ts ≡ Some g → ts ≡ group d g.opening g.closing g.content g.rest
+pub group_told_of : (d : Delimiter) (ts : Stream) (g : Opened) → group_of d ts ≡ Some g → ts ≡ group d g.opening g.closing g.content g.rest
 group_told_of d end g e = absurd (cc e)
 group_told_of d (leaf x sp m) g e = absurd (cc e)
 group_told_of d (punct c j sp m) g e = absurd (cc e)
@@ -691,7 +691,7 @@ group_flat_of d (group d' o c i m) e = go (same_delimiter d d')
     go true = refl
     go false = refl
 
-before_group_front : (d : Delimiter) (ts : Stream) → is_visible d ≡ true → before_group d ts ≡ front ts
+pub before_group_front : (d : Delimiter) (ts : Stream) → is_visible d ≡ true → before_group d ts ≡ front ts
 before_group_front Invisible ts v = absurd (true≢false (sym v))
 before_group_front Paren ts v = refl
 before_group_front Brace ts v = refl

@@ -1,22 +1,24 @@
 -- A plan reads what a union does: the alternatives are followed side by side, each as far as the plan has read.
 use Rattle.std.proofs.Common.{◌≡◌, ℕ, zero, suc, Bool, true, false, List, [], ◌∷◌, ◌++◌, Option, Some, None, refl, sym, ap, ap₂, ◌∙◌, subst, true≢false, ◌⊎◌, inl, inr}
-use Rattle.syn_grammar.specs.Tokens.{Delimiter, Span, Leaf, Stream, leaf, group, and, or, no, pick, Fact, same_text, lookahead, Look, answers}
+use Rattle.syn_grammar.specs.Words.{less}
+use Rattle.syn_grammar.specs.Tokens.{Delimiter, Paren, Brace, Bracket, None as Invisible, is_visible, Span, Leaf, Stream, leaf, group, and, or, no, pick, Fact, facts_for, asked, asked_inside, same_text, lookahead, Look, at_empty_group, at_generics}
 use Rattle.syn_grammar.specs.Rules.{Rule}
 use Rattle.syn_grammar.specs.RuleNumbers.{same_rule}
 use Rattle.syn_grammar.specs.Shape.{Shape}
 use Rattle.syn_grammar.specs.Grammar.{Kind, fits, Test, trailing_brace, no_trailing_brace, has, has_no, holds, has_part, ends_brace, Grammar, empty, token, mark, lifetime, ◌&◌, when◌then◌else◌, vanishing, inside, raw, rest_after, either, one_of, rule, such, captured, unshown, supplied, row, ordered, Unshown, Syntax, Nothing, Both, Left, Right, Node, Vanishing, Case, Such, shaped, Impl, generics_before, opt_generics}
 use Rattle.syn_grammar.specs.Table.{table}
 use Rattle.syn_grammar.specs.Values.{shape}
-use Rattle.syn_grammar.specs.Take.{Out, Parser, only, lookahead_at, sees, take_token, take_mark, Opened, take_group}
-use Rattle.syn_grammar.specs.Run.{wrap, and_then, branch, vanish, close, within, such_as, caught, named, and_impl, parse_form}
-use Rattle.syn_grammar.specs.Plan.{Plan, reads, turns, tests, keeps, ends, done, fails, follow, by_test, kept_as, run_plan}
+use Rattle.syn_grammar.specs.Take.{Out, Parser, only, front, flat, lookahead_at, sees, take_token, take_mark, Opened, take_group}
+use Rattle.syn_grammar.specs.Run.{wrap, and_then, branch, vanish, close, within, raw_of, rest_of, row_opened, such_as, caught, named, and_impl, union, rows, parse_rule, parse_form}
+use Rattle.syn_grammar.specs.Plan.{Plan, reads, turns, tests, passes, keeps, ends, done, fails, follow, by_test, kept_as, past_empty, run_plan}
 use Rattle.syn_grammar.proofs.Sets.{or_split, and_left, and_right, same_text_eq, same_look, same_look_eq}
 use Rattle.syn_grammar.proofs.FormEquality.{same, same_eq, same_choice, same_choice_eq, same_test, same_test_eq}
 use Rattle.syn_grammar.proofs.RuleLemmas.{same_rule_eq}
-use Rattle.syn_grammar.proofs.Takes.{token_told, group_taken, sees_answers}
+use Rattle.syn_grammar.proofs.Takes.{inv_only, looks_through, flat_front}
 use Rattle.syn_grammar.proofs.Run.{parse_rule_is}
+use Rattle.syn_grammar.proofs.Gaps.{Gap, take_token_front, take_lifetime_front, take_mark_front, take_group_front, sees_front, front_leaf, front_group, past_gap, unwritten_read}
 use Rattle.syn_grammar.proofs.Begins.{only_at, never_at, not_there, not_here}
-use Rattle.syn_grammar.proofs.Known.{Holds, Known, after_token, after_token_is, clash, clash_is, inside_group, inside_group_is, not_false, not_true, noted, noted_is, some_is}
+use Rattle.syn_grammar.proofs.Known.{Sight, sight, sees_views, Holds, Known, after_token, after_token_is, clash, clash_is, inside_group, inside_group_is, not_false, not_true, noted, noted_is, some_is}
 
 -- ---- FORMS ONE AFTER ANOTHER, of which only the rest is of interest
 
@@ -33,7 +35,7 @@ recog [] m = Some m
 recog (g ∷ l) m = onward (rest (parse_form g m)) (recog l)
 
 abbrev pub At : Known → Stream → Type 0
-At l m = Holds l (lookahead_at m)
+At l m = Holds l (sight m)
 
 -- a form reads nothing here, since it begins otherwise
 abbrev pub bars : Look → Bool → Grammar → Bool
@@ -44,16 +46,16 @@ abbrev pub barred : Known → Grammar → Bool
 barred [] g = false
 barred (p ∷ l) g = or (bars p.0 p.1 g) (barred l g)
 
-pub bars_is : (c : Look) (v : Bool) (g : Grammar) (m : Stream) → bars c v g ≡ true → answers c (lookahead_at m) ≡ v → parse_form g m ≡ None
-bars_is c true g m e h = not_here c g e m (sees_answers c m ∙ h)
-bars_is c false g m e h = not_there c g e m (sees_answers c m ∙ h)
+pub bars_is : (c : Look) (v : Bool) (g : Grammar) (m : Stream) → bars c v g ≡ true → sees c m ≡ v → parse_form g m ≡ None
+bars_is c true g m e h = not_here c g e m h
+bars_is c false g m e h = not_there c g e m h
 
 pub barred_is : (l : Known) (g : Grammar) (m : Stream) → barred l g ≡ true → At l m → parse_form g m ≡ None
 barred_is [] g m e h = absurd (true≢false (sym e))
 barred_is (p ∷ l) g m e h = go (or_split (bars p.0 p.1 g) (barred l g) e) (λ q. barred_is l g m q h.1)
   where
     go : (bars p.0 p.1 g ≡ true) ⊎ (barred l g ≡ true) → (barred l g ≡ true → parse_form g m ≡ None) → parse_form g m ≡ None
-    go (inl q) u = bars_is p.0 p.1 g m q h.0
+    go (inl q) u = bars_is p.0 p.1 g m q (sees_views p.0 m ∙ h.0)
     go (inr q) u = u q
 
 pub some_known : Known → Bool
@@ -82,7 +84,7 @@ gone (suc n) l (captured x ∷ fs) = gone n l (x ∷ fs)
 gone (suc n) l (generics_before x y h ∷ fs) = gone n l (opt_generics x y ∷ h ∷ fs)
 gone (suc n) l (token b k ∷ fs) = let r = gone n (after_token k l) fs in or (barred l (token b k)) r
 gone (suc n) l (one_of (k ∷ []) ∷ fs) = gone n l (table k ∷ fs)
-gone (suc n) l (inside d x ∷ fs) = let r = gone n (inside_group d l) (x ∷ []) in or (barred l (inside d x)) r
+gone (suc n) l (inside d x ∷ fs) = let r = gone n (in_group d l) (x ∷ []) in or (barred l (inside d x)) r
 gone (suc n) l (g ∷ fs) = barred l g
 
 pub no_rest : (o : Out) (f : Stream → Option Stream) → o ≡ None → onward (rest o) f ≡ None
@@ -130,15 +132,17 @@ pub rest_impl : (o : Out) (q : Parser) → rest (and_impl o q) ≡ onward (rest 
 rest_impl (Some p) q = rest_wrap (Impl p.0) (q p.1)
 rest_impl None q = refl
 
-pub at_token : (k : Kind) (l : Known) (y : Leaf) (sp : Span) (m r : Stream) → m ≡ leaf y sp r → fits k y ≡ true → At l m → At (after_token k l) r
+pub at_token : (k : Kind) (l : Known) (y : Leaf) (sp : Span) (m r : Stream) → front m ≡ leaf y sp r → fits k y ≡ true → At l m → At (after_token k l) r
 unfolding lookahead_at
-at_token k l y sp m r e q h = after_token_is k l y sp r q (subst (λ z. Holds l (lookahead z)) e h)
+at_token k l y sp m r e q h =
+    let f : flat m ≡ leaf y sp (flat r) = sym (flat_front m) ∙ ap flat e in
+    after_token_is k l y (sight m) (sight r) q (ap (λ z. (lookahead z).terminal) f, ap (λ z. (lookahead z).facts) f ∙ sym (ap (λ z. facts_for (asked (lookahead z).terminal) (lookahead (flat r))) f)) h
 
 pub at_noted : (c : Look) (v : Bool) (l : Known) (m : Stream) → At l m → sees c m ≡ v → At (noted c v l) m
-at_noted c v l m h e = noted_is c v l (lookahead_at m) h (sym (sees_answers c m) ∙ e)
+at_noted c v l m h e = noted_is c v l (sight m) h (sym (sees_views c m) ∙ e)
 
 pub at_clash : (c : Look) (v : Bool) (l : Known) (m : Stream) → clash c v l ≡ true → At l m → sees c m ≡ v → ⊥
-at_clash c v l m q h e = clash_is c v l (lookahead_at m) q h (sym (sees_answers c m) ∙ e)
+at_clash c v l m q h e = clash_is c v l (sight m) q h (sym (sees_views c m) ∙ e)
 
 -- by whether the look holds
 pub turned : (c : Look) (l : Known) (m : Stream) (a b : Bool) (R : Bool → Type 0) → and (or (clash c true l) a) (or (clash c false l) b) ≡ true → At l m →
@@ -169,17 +173,31 @@ gone_token b k l fs m h f = go (take_token k m) refl
   where
     go : (o : Out) → take_token k m ≡ o → onward (rest o) (recog fs) ≡ None
     go None e = refl
-    go (Some p) e = let t = token_told k m p e in f p.1 (at_token k l t.0 t.1 m p.1 t.4 t.3 h)
+    go (Some p) e = let t = front_leaf k m p e in f p.1 (at_token k l t.0 t.1 m p.1 t.3 t.2 h)
 
 pub named_one : (k : Rule) (o : Out) → named k (wrap Node o) None ≡ wrap (Case k) o
 named_one k (Some x) = refl
 named_one k None = refl
 
-pub at_group_content : (d : Delimiter) (l : Known) (o c : Span) (i r m : Stream) → m ≡ group d o c i r → At l m → At (inside_group d l) i
-unfolding lookahead_at
-at_group_content d l o c i r m e h = inside_group_is d l (lookahead (group d o c i r)) (lookahead i) refl (subst (λ z. Holds l (lookahead z)) e h)
+-- of what is known of a group that is looked for behind invisible groups
+abbrev pub in_group : Delimiter → Known → Known
+in_group Invisible l = []
+in_group d l = inside_group d l
 
-pub group_gone : (d : Delimiter) (x : Grammar) (l : Known) (m : Stream) → At l m → ((i : Stream) → At (inside_group d l) i → recog (x ∷ []) i ≡ None) → parse_form (inside d x) m ≡ None
+content_known : (d : Delimiter) (l : Known) (o c : Span) (i r m : Stream) → front m ≡ group d o c i r → is_visible d ≡ true → (lookahead_at m).facts ≡ facts_for (asked_inside d) (lookahead_at i)
+unfolding lookahead_at
+content_known Paren l o c i r m e w = ap (λ z. (lookahead z).facts) (sym (flat_front m) ∙ ap flat e)
+content_known Brace l o c i r m e w = ap (λ z. (lookahead z).facts) (sym (flat_front m) ∙ ap flat e)
+content_known Bracket l o c i r m e w = ap (λ z. (lookahead z).facts) (sym (flat_front m) ∙ ap flat e)
+content_known Invisible l o c i r m e w = absurd (true≢false (sym w))
+
+pub at_group_content : (d : Delimiter) (l : Known) (g : Opened) (m : Stream) → take_group d m ≡ Some g → At l m → At (in_group d l) g.content
+at_group_content Invisible l g m e h = tt
+at_group_content Paren l g m e h = inside_group_is Paren l (sight m) (sight g.content) (content_known Paren l g.opening g.closing g.content g.rest m (front_group Paren m g refl e) refl) h
+at_group_content Brace l g m e h = inside_group_is Brace l (sight m) (sight g.content) (content_known Brace l g.opening g.closing g.content g.rest m (front_group Brace m g refl e) refl) h
+at_group_content Bracket l g m e h = inside_group_is Bracket l (sight m) (sight g.content) (content_known Bracket l g.opening g.closing g.content g.rest m (front_group Bracket m g refl e) refl) h
+
+pub group_gone : (d : Delimiter) (x : Grammar) (l : Known) (m : Stream) → At l m → ((i : Stream) → At (in_group d l) i → recog (x ∷ []) i ≡ None) → parse_form (inside d x) m ≡ None
 group_gone d x l m h f = go (take_group d m) refl
   where
     content : (i : Stream) → onward (rest (parse_form x i)) (recog []) ≡ None → parse_form x i ≡ None
@@ -191,7 +209,7 @@ group_gone d x l m h f = go (take_group d m) refl
 
     go : (o : Option Opened) → take_group d m ≡ o → within d o (parse_form x) ≡ None
     go None e = refl
-    go (Some g) e = ap (close d g) (content g.content (f g.content (at_group_content d l g.opening g.closing g.content g.rest m (group_taken d m g e) h)))
+    go (Some g) e = ap (close d g) (content g.content (f g.content (at_group_content d l g m e h)))
 
 pub gone_is : (n : ℕ) (l : Known) (fs : List Grammar) (m : Stream) → gone n l fs ≡ true → At l m → recog fs m ≡ None
 gone_is zero l fs m e h = absurd (true≢false (sym e))
@@ -219,7 +237,7 @@ gone_is (suc n) l (generics_before x y h ∷ fs) m e w =
 gone_is (suc n) l (token b k ∷ fs) m e w = bar_or l (token b k) fs m _ e w (λ q. gone_token b k l fs m w (λ r u. gone_is n (after_token k l) fs r q u))
 gone_is (suc n) l (mark v x ∷ fs) m e w = no_rest (parse_form (mark v x) m) (recog fs) (barred_is l (mark v x) m e w)
 gone_is (suc n) l (lifetime ∷ fs) m e w = no_rest (parse_form lifetime m) (recog fs) (barred_is l lifetime m e w)
-gone_is (suc n) l (inside d x ∷ fs) m e w = bar_or l (inside d x) fs m _ e w (λ q. no_rest (parse_form (inside d x) m) (recog fs) (group_gone d x l m w (λ i u. gone_is n (inside_group d l) (x ∷ []) i q u)))
+gone_is (suc n) l (inside d x ∷ fs) m e w = bar_or l (inside d x) fs m _ e w (λ q. no_rest (parse_form (inside d x) m) (recog fs) (group_gone d x l m w (λ i u. gone_is n (in_group d l) (x ∷ []) i q u)))
 gone_is (suc n) l (raw d ∷ fs) m e w = no_rest (parse_form (raw d) m) (recog fs) (barred_is l (raw d) m e w)
 gone_is (suc n) l (rest_after x ∷ fs) m e w = no_rest (parse_form (rest_after x) m) (recog fs) (barred_is l (rest_after x) m e w)
 gone_is (suc n) l (either x y ∷ fs) m e w = no_rest (parse_form (either x y) m) (recog fs) (barred_is l (either x y) m e w)
@@ -794,6 +812,176 @@ alive_is k ts l (t ∷ ths) m w = go (dead l t) refl (alive_is k ts l ths m w)
     go true p i = ap₂ first (dead_is k ts l t m p w) i
     go false p i = ap (first (answer k ts t m)) i
 
+-- ---- PAST AN INVISIBLE GROUP THAT HOLDS NOTHING, which stands for a visibility that isn't written
+
+-- what is read first is no such group, but what stands behind it
+abbrev pub skips : ℕ → State → Bool
+skips zero t = false
+skips (suc n) (reading (token b x) k) = true
+skips (suc n) (reading (mark b x) k) = true
+skips (suc n) (reading lifetime k) = true
+skips (suc n) (reading (inside d x) k) = is_visible d
+skips (suc n) (reading (raw d) k) = is_visible d
+skips (suc n) (reading (rest_after x) k) = true
+skips (suc n) (reading (ordered x y) k) = true
+skips (suc n) (reading (one_of []) k) = true
+skips (suc n) (reading (one_of (r ∷ [])) k) = skips n (reading (table r) (in_case r ∷ k))
+skips (suc n) (reading (g & h) k) = skips n (reading g (and_next h ∷ k))
+skips (suc n) (reading (rule r) k) = skips n (reading (table r) (in_node ∷ k))
+skips (suc n) (reading (when c then x else y) k) = and (looks_through c) (and (skips n (reading x (in_left ∷ k))) (skips n (reading y (in_right ∷ k))))
+skips (suc n) (reading (vanishing b c x) k) = skips n (reading (when c then x else empty) (in_vanishing b ∷ k))
+skips (suc n) (reading empty k) = skips n (back k Nothing)
+skips (suc n) (reading unshown k) = skips n (back k (Unshown Nothing))
+skips (suc n) (reading (shaped j x) k) = skips n (reading x (in_shape j ∷ k))
+skips (suc n) (reading (such q x) k) = skips n (reading x (in_such q ∷ k))
+skips (suc n) (reading (generics_before x y h) k) = skips n (reading (opt_generics x y) (and_behind h ∷ k))
+skips (suc n) t = false
+
+skips_is : (n : ℕ) (t : State) (m r : Stream) → skips n t ≡ true → Gap m r → out t m ≡ out t r
+skips_is zero t m r e w = absurd (true≢false (sym e))
+skips_is (suc n) (holding s k) m r e w = absurd (true≢false (sym e))
+skips_is (suc n) (reading (token b x) k) m r e w = ap (resume k) (take_token_front x m r w.0)
+skips_is (suc n) (reading (mark b x) k) m r e w = ap (resume k) (take_mark_front x m r w.0)
+skips_is (suc n) (reading lifetime k) m r e w = ap (resume k) (take_lifetime_front m r w.0)
+skips_is (suc n) (reading (inside d x) k) m r e w = ap (λ o. resume k (within d o (parse_form x))) (take_group_front d m r e w.0)
+skips_is (suc n) (reading (raw d) k) m r e w = ap (λ o. resume k (raw_of d o)) (take_group_front d m r e w.0)
+skips_is (suc n) (reading (rest_after x) k) m r e w = ap (λ o. resume k (rest_of o)) (take_mark_front x m r w.0)
+skips_is (suc n) (reading (ordered x y) k) m r e w = ap (λ o. resume k (row_opened o (rows (union (parse_form x) (parse_form y))))) (take_mark_front less m r w.0)
+skips_is (suc n) (reading (one_of []) k) m r e w = refl
+skips_is (suc n) (reading (one_of (q ∷ [])) k) m r e w = one m ∙ skips_is n (reading (table q) (in_case q ∷ k)) m r e w ∙ sym (one r)
+  where
+    one : (m : Stream) → resume k (parse_form (one_of (q ∷ [])) m) ≡ resume k (wrap (Case q) (parse_form (table q) m))
+    one m = ap (resume k) (ap (λ z. named q z None) (parse_rule_is q m) ∙ named_one q (parse_form (table q) m))
+skips_is (suc n) (reading (one_of (q ∷ p ∷ l)) k) m r e w = absurd (true≢false (sym e))
+skips_is (suc n) (reading (g & h) k) m r e w = skips_is n (reading g (and_next h ∷ k)) m r e w
+skips_is (suc n) (reading (rule q) k) m r e w = ap (resume k) (parse_rule_is q m) ∙ skips_is n (reading (table q) (in_node ∷ k)) m r e w ∙ sym (ap (resume k) (parse_rule_is q r))
+skips_is (suc n) (reading (when c then x else y) k) m r e w =
+    let v = and_right (looks_through c) _ e in
+    go (sees c r) (sees_front c m r (and_left (looks_through c) _ e) w) (skips_is n (reading x (in_left ∷ k)) m r (and_left (skips n (reading x (in_left ∷ k))) _ v) w) (skips_is n (reading y (in_right ∷ k)) m r (and_right (skips n (reading x (in_left ∷ k))) _ v) w)
+  where
+    go : (v : Bool) → sees c m ≡ v → resume k (wrap Left (parse_form x m)) ≡ resume k (wrap Left (parse_form x r)) → resume k (wrap Right (parse_form y m)) ≡ resume k (wrap Right (parse_form y r)) →
+        resume k (branch (sees c m) (parse_form x m) (parse_form y m)) ≡ resume k (branch v (parse_form x r) (parse_form y r))
+    go true q f g = ap (λ z. resume k (branch z (parse_form x m) (parse_form y m))) q ∙ f
+    go false q f g = ap (λ z. resume k (branch z (parse_form x m) (parse_form y m))) q ∙ g
+skips_is (suc n) (reading (vanishing b c x) k) m r e w = skips_is n (reading (when c then x else empty) (in_vanishing b ∷ k)) m r e w
+skips_is (suc n) (reading empty k) m r e w = sym (back_is k Nothing m) ∙ skips_is n (back k Nothing) m r e w ∙ back_is k Nothing r
+skips_is (suc n) (reading unshown k) m r e w = sym (back_is k (Unshown Nothing) m) ∙ skips_is n (back k (Unshown Nothing)) m r e w ∙ back_is k (Unshown Nothing) r
+skips_is (suc n) (reading (shaped j x) k) m r e w = skips_is n (reading x (in_shape j ∷ k)) m r e w
+skips_is (suc n) (reading (such q x) k) m r e w = skips_is n (reading x (in_such q ∷ k)) m r e w
+skips_is (suc n) (reading (generics_before x y h) k) m r e w = skips_is n (reading (opt_generics x y) (and_behind h ∷ k)) m r e w
+skips_is (suc n) (reading (either x y) k) m r e w = absurd (true≢false (sym e))
+skips_is (suc n) (reading (captured x) k) m r e w = absurd (true≢false (sym e))
+skips_is (suc n) (reading (supplied f x y) k) m r e w = absurd (true≢false (sym e))
+skips_is (suc n) (reading (row x y) k) m r e w = absurd (true≢false (sym e))
+
+-- the same of forms, of which only the rest is of interest
+abbrev pub skips_list : ℕ → List Grammar → Bool
+skips_list zero fs = false
+skips_list (suc n) (token b x ∷ fs) = true
+skips_list (suc n) (mark b x ∷ fs) = true
+skips_list (suc n) (inside d x ∷ fs) = is_visible d
+skips_list (suc n) (one_of [] ∷ fs) = true
+skips_list (suc n) ((g & h) ∷ fs) = skips_list n (g ∷ h ∷ fs)
+skips_list (suc n) (rule k ∷ fs) = skips_list n (table k ∷ fs)
+skips_list (suc n) ((when c then x else y) ∷ fs) = and (looks_through c) (and (skips_list n (x ∷ fs)) (skips_list n (y ∷ fs)))
+skips_list (suc n) (vanishing b c x ∷ fs) = skips_list n ((when c then x else empty) ∷ fs)
+skips_list (suc n) (empty ∷ fs) = skips_list n fs
+skips_list (suc n) (unshown ∷ fs) = skips_list n fs
+skips_list (suc n) (shaped j x ∷ fs) = skips_list n (x ∷ fs)
+skips_list (suc n) (captured x ∷ fs) = skips_list n (x ∷ fs)
+skips_list (suc n) fs = false
+
+skips_list_is : (n : ℕ) (fs : List Grammar) (m r : Stream) → skips_list n fs ≡ true → Gap m r → recog fs m ≡ recog fs r
+skips_list_is zero fs m r e w = absurd (true≢false (sym e))
+skips_list_is (suc n) [] m r e w = absurd (true≢false (sym e))
+skips_list_is (suc n) (token b x ∷ fs) m r e w = ap (λ o. onward (rest o) (recog fs)) (take_token_front x m r w.0)
+skips_list_is (suc n) (mark b x ∷ fs) m r e w = ap (λ o. onward (rest o) (recog fs)) (take_mark_front x m r w.0)
+skips_list_is (suc n) (inside d x ∷ fs) m r e w = ap (λ o. onward (rest (within d o (parse_form x))) (recog fs)) (take_group_front d m r e w.0)
+skips_list_is (suc n) (one_of [] ∷ fs) m r e w = refl
+skips_list_is (suc n) (one_of (q ∷ l) ∷ fs) m r e w = absurd (true≢false (sym e))
+skips_list_is (suc n) ((g & h) ∷ fs) m r e w = recog_then g h fs m ∙ skips_list_is n (g ∷ h ∷ fs) m r e w ∙ sym (recog_then g h fs r)
+skips_list_is (suc n) (rule k ∷ fs) m r e w = recog_rule k fs m ∙ skips_list_is n (table k ∷ fs) m r e w ∙ sym (recog_rule k fs r)
+skips_list_is (suc n) ((when c then x else y) ∷ fs) m r e w =
+    let v = and_right (looks_through c) _ e in
+    go (sees c r) refl (sees_front c m r (and_left (looks_through c) _ e) w) (skips_list_is n (x ∷ fs) m r (and_left (skips_list n (x ∷ fs)) _ v) w) (skips_list_is n (y ∷ fs) m r (and_right (skips_list n (x ∷ fs)) _ v) w)
+  where
+    go : (v : Bool) → sees c r ≡ v → sees c m ≡ sees c r → recog (x ∷ fs) m ≡ recog (x ∷ fs) r → recog (y ∷ fs) m ≡ recog (y ∷ fs) r → recog ((when c then x else y) ∷ fs) m ≡ recog ((when c then x else y) ∷ fs) r
+    go true p q f g = ap (λ z. onward z (recog fs)) (rest_branch true c x y m (q ∙ p)) ∙ f ∙ sym (ap (λ z. onward z (recog fs)) (rest_branch true c x y r p))
+    go false p q f g = ap (λ z. onward z (recog fs)) (rest_branch false c x y m (q ∙ p)) ∙ g ∙ sym (ap (λ z. onward z (recog fs)) (rest_branch false c x y r p))
+skips_list_is (suc n) (vanishing b c x ∷ fs) m r e w =
+    ap (λ z. onward z (recog fs)) (rest_vanish b (parse_form (when c then x else empty) m)) ∙ skips_list_is n ((when c then x else empty) ∷ fs) m r e w
+    ∙ sym (ap (λ z. onward z (recog fs)) (rest_vanish b (parse_form (when c then x else empty) r)))
+skips_list_is (suc n) (empty ∷ fs) m r e w = skips_list_is n fs m r e w
+skips_list_is (suc n) (unshown ∷ fs) m r e w = skips_list_is n fs m r e w
+skips_list_is (suc n) (shaped j x ∷ fs) m r e w = ap (λ z. onward z (recog fs)) (rest_wrap (shape j) (parse_form x m)) ∙ skips_list_is n (x ∷ fs) m r e w ∙ sym (ap (λ z. onward z (recog fs)) (rest_wrap (shape j) (parse_form x r)))
+skips_list_is (suc n) (captured x ∷ fs) m r e w = ap (λ z. onward z (recog fs)) (rest_caught m (parse_form x m)) ∙ skips_list_is n (x ∷ fs) m r e w ∙ sym (ap (λ z. onward z (recog fs)) (rest_caught r (parse_form x r)))
+skips_list_is (suc n) (lifetime ∷ fs) m r e w = absurd (true≢false (sym e))
+skips_list_is (suc n) (raw d ∷ fs) m r e w = absurd (true≢false (sym e))
+skips_list_is (suc n) (rest_after x ∷ fs) m r e w = absurd (true≢false (sym e))
+skips_list_is (suc n) (either x y ∷ fs) m r e w = absurd (true≢false (sym e))
+skips_list_is (suc n) (such q x ∷ fs) m r e w = absurd (true≢false (sym e))
+skips_list_is (suc n) (generics_before x y h ∷ fs) m r e w = absurd (true≢false (sym e))
+skips_list_is (suc n) (supplied f x y ∷ fs) m r e w = absurd (true≢false (sym e))
+skips_list_is (suc n) (row x y ∷ fs) m r e w = absurd (true≢false (sym e))
+skips_list_is (suc n) (ordered x y ∷ fs) m r e w = absurd (true≢false (sym e))
+
+-- the part of a visibility that isn't written, and its value
+abbrev pub unwritten : Grammar
+unwritten = vanishing true at_empty_group (inside Invisible empty)
+
+abbrev pub no_part : Syntax
+no_part = Vanishing true (Right Nothing)
+
+-- an alternative with a visibility reads it; another one skips what stands for it
+abbrev pub past_state : (State → Thread) → Known → State → Option Thread
+past_state f l t = picked (skips fuel t) (f t) (bound (eat fuel l unwritten t) (λ k. Some (f (back k no_part))))
+
+abbrev pub past_thread : Known → Thread → Option Thread
+past_thread l (of_kind t) = past_state of_kind l t
+past_thread l (of_kept t) = past_state of_kept l t
+past_thread l (listed fs) = picked (skips_list fuel fs) (listed fs) (bound (eat_list fuel l (unwritten ∷ []) fs) (λ gs. Some (listed gs)))
+
+thread_is : (a b : Thread) → Some a ≡ Some b → a ≡ b
+thread_is a b e = cc e
+
+past_state_is : (l : Known) (f : State → Thread) (t : State) (u : Thread) (m : Stream) → past_state f l t ≡ Some u → At l m →
+    (v : State) × (f v ≡ u) × (out t m ≡ out v (past_empty m))
+past_state_is l f t u m e w = go (skips fuel t) refl (eat fuel l unwritten t) refl e
+  where
+    go : (b : Bool) → skips fuel t ≡ b → (o : Option (List Frame)) → eat fuel l unwritten t ≡ o → picked b (f t) (bound o (λ k. Some (f (back k no_part)))) ≡ Some u → (v : State) × (f v ≡ u) × (out t m ≡ out v (past_empty m))
+    go true p o q i = (t, thread_is (f t) u i, skips_is fuel t m (past_empty m) p (past_gap m))
+    go false p (Some k) q i = (back k no_part, thread_is (f (back k no_part)) u i, eat_is fuel l unwritten t k m q w ∙ ap (resume k) (unwritten_read m) ∙ sym (back_is k no_part (past_empty m)))
+    go false p None q i = absurd (cc i)
+
+pub past_thread_is : (k : Rule) (ts : Stream) (l : Known) (t u : Thread) (m : Stream) → past_thread l t ≡ Some u → At l m → answer k ts t m ≡ answer k ts u (past_empty m)
+past_thread_is k ts l (of_kind t) u m e w = let (v, q, i) = past_state_is l of_kind t u m e w in i ∙ ap (λ z. answer k ts z (past_empty m)) q
+past_thread_is k ts l (of_kept t) u m e w = let (v, q, i) = past_state_is l of_kept t u m e w in ap (λ z. keep k ts (rest z)) i ∙ ap (λ z. answer k ts z (past_empty m)) q
+past_thread_is k ts l (listed fs) u m e w = go (skips_list fuel fs) refl (eat_list fuel l (unwritten ∷ []) fs) refl e
+  where
+    go : (b : Bool) → skips_list fuel fs ≡ b → (o : Option (List Grammar)) → eat_list fuel l (unwritten ∷ []) fs ≡ o → picked b (listed fs) (bound o (λ gs. Some (listed gs))) ≡ Some u → keep k ts (recog fs m) ≡ answer k ts u (past_empty m)
+    go true p o q i = ap (keep k ts) (skips_list_is fuel fs m (past_empty m) p (past_gap m)) ∙ ap (λ z. answer k ts z (past_empty m)) (thread_is (listed fs) u i)
+    go false p (Some gs) q i =
+        ap (keep k ts) (eat_list_is fuel l (unwritten ∷ []) fs gs m q w ∙ ap (λ o. onward (onward (rest o) (λ r. Some r)) (recog gs)) (unwritten_read m)) ∙ ap (λ z. answer k ts z (past_empty m)) (thread_is (listed gs) u i)
+    go false p None q i = absurd (cc i)
+
+abbrev pub joined : {A : Type 0} → Option A → Option (List A) → Option (List A)
+joined (Some t) (Some l) = Some (t ∷ l)
+joined _ _ = None
+
+abbrev pub past_all : Known → List Thread → Option (List Thread)
+past_all l [] = Some []
+past_all l (t ∷ ths) = joined (past_thread l t) (past_all l ths)
+
+past_all_is : (k : Rule) (ts : Stream) (l : Known) (ths us : List Thread) (m : Stream) → past_all l ths ≡ Some us → At l m → answer_all k ts ths m ≡ answer_all k ts us (past_empty m)
+past_all_is k ts l [] us m e w = ap (λ z. answer_all k ts z (past_empty m)) (some_is [] us e)
+past_all_is k ts l (t ∷ ths) us m e w = go (past_thread l t) refl (past_all l ths) refl (λ us q. past_all_is k ts l ths us m q w) e
+  where
+    go : (o : Option Thread) → past_thread l t ≡ o → (p : Option (List Thread)) → past_all l ths ≡ p → ((us : List Thread) → past_all l ths ≡ Some us → answer_all k ts ths m ≡ answer_all k ts us (past_empty m)) → joined o p ≡ Some us →
+        answer_all k ts (t ∷ ths) m ≡ answer_all k ts us (past_empty m)
+    go (Some u) p (Some x) q f i = ap₂ first (past_thread_is k ts l t u m p w) (f x q) ∙ ap (λ z. answer_all k ts z (past_empty m)) (some_is (u ∷ x) us i)
+    go (Some u) p None q f i = absurd (cc i)
+    go None p o q f i = absurd (cc i)
+
 -- tests
 abbrev pub contrary : Test → Test → Bool
 contrary (has k) (has_no l) = same_rule k l
@@ -896,8 +1084,17 @@ abbrev pub Provided : Option (Syntax → List Thread) → ((Syntax → List Thre
 Provided (Some v) f = f v
 Provided None f = ⊥
 
+abbrev pub GoesOn : Option (List Thread) → (List Thread → Type 0) → Type 0
+GoesOn (Some l) f = f l
+GoesOn None f = ⊥
+
+-- no other alternative may still read something
+abbrev pub no_more : List Thread → Bool
+no_more [] = true
+no_more (t ∷ ths) = false
+
 abbrev pub Ends : Syntax → Known → List Thread → Type 0
-Ends s l (of_kind t ∷ ths) = finish fuel l t ≡ Some s
+Ends s l (of_kind t ∷ ths) = only (no_more ths) (finish fuel l t) ≡ Some s
 Ends s l _ = ⊥
 
 abbrev pub is_finished : Option Syntax → Bool
@@ -905,8 +1102,8 @@ is_finished (Some s) = true
 is_finished None = false
 
 abbrev pub Done : Known → List Thread → Type 0
-Done l (of_kept t ∷ ths) = is_finished (finish fuel l t) ≡ true
-Done l (listed fs ∷ ths) = finish_list fuel l fs ≡ true
+Done l (of_kept t ∷ ths) = and (all_kept ths) (is_finished (finish fuel l t)) ≡ true
+Done l (listed fs ∷ ths) = and (all_kept ths) (finish_list fuel l fs) ≡ true
 Done l _ = ⊥
 
 abbrev pub NoneLeft : List Thread → Type 0
@@ -917,24 +1114,25 @@ abbrev pub Fits : Plan → Known → List Thread → Type 0
 Fits (reads g f) l ths = Provided (eaten l g ths) (λ v. (s : Syntax) → Fits (f s) [] (v s))
 Fits (turns c p q) l ths = Fits p (noted c true l) (alive (noted c true l) ths) × Fits q (noted c false l) (alive (noted c false l) ths)
 Fits (tests t s p q) l ths = TriedAll t s ths × (Fits p l (passed t true ths) × Fits q l (passed t false ths))
+Fits (passes p) l ths = GoesOn (past_all l ths) (Fits p [])
 Fits (keeps p) l ths = (all_kept ths ≡ true) × Fits p l ths
 Fits (ends s) l ths = Ends s l ths
 Fits done l ths = Done l ths
 Fits fails l ths = NoneLeft ths
 
 pub ends_are : (k : Rule) (ts : Stream) (s : Syntax) (l : Known) (ths : List Thread) (m : Stream) → Ends s l ths → At l m → answer_all k ts ths m ≡ Some (s, m)
-ends_are k ts s l (of_kind t ∷ ths) m e w = ap (λ z. first z (answer_all k ts ths m)) (finish_is fuel l t s m e w)
+ends_are k ts s l (of_kind t ∷ ths) m e w = ap (λ z. first z (answer_all k ts ths m)) (finish_is fuel l t s m (inv_only (no_more ths) (finish fuel l t) s e).1 w)
 ends_are k ts s l (of_kept t ∷ ths) m e w = elim e [ ]
 ends_are k ts s l (listed fs ∷ ths) m e w = elim e [ ]
 ends_are k ts s l [] m e w = elim e [ ]
 
 pub done_are : (k : Rule) (ts : Stream) (l : Known) (ths : List Thread) (m : Stream) → Done l ths → At l m → answer_all k ts ths m ≡ Some (kept_as k ts m, m)
-done_are k ts l (of_kept t ∷ ths) m e w = go (finish fuel l t) refl e
+done_are k ts l (of_kept t ∷ ths) m e w = go (finish fuel l t) refl (and_right (all_kept ths) _ e)
   where
     go : (o : Option Syntax) → finish fuel l t ≡ o → is_finished o ≡ true → answer_all k ts (of_kept t ∷ ths) m ≡ Some (kept_as k ts m, m)
     go (Some s) p q = ap (λ z. first (keep k ts (rest z)) (answer_all k ts ths m)) (finish_is fuel l t s m p w)
     go None p q = absurd (true≢false (sym q))
-done_are k ts l (listed fs ∷ ths) m e w = ap (λ z. first (keep k ts z) (answer_all k ts ths m)) (finish_list_is fuel l fs m e w)
+done_are k ts l (listed fs ∷ ths) m e w = ap (λ z. first (keep k ts z) (answer_all k ts ths m)) (finish_list_is fuel l fs m (and_right (all_kept ths) _ e) w)
 done_are k ts l (of_kind t ∷ ths) m e w = elim e [ ]
 done_are k ts l [] m e w = elim e [ ]
 
@@ -968,6 +1166,11 @@ fits_is (tests t s p q) l ths k ts m e w = go (holds t s) refl (fits_is p l (pas
         answer_all k ts ths m ≡ by_test v (run_plan p k ts m) (run_plan q k ts m)
     go true i f g = passed_all_is k ts t s true ths m e.0 i ∙ f
     go false i f g = passed_all_is k ts t s false ths m e.0 i ∙ g
+fits_is (passes p) l ths k ts m e w = go (past_all l ths) refl e (λ us i. fits_is p [] us k ts (past_empty m) i tt)
+  where
+    go : (o : Option (List Thread)) → past_all l ths ≡ o → GoesOn o (Fits p []) → ((us : List Thread) → Fits p [] us → answer_all k ts us (past_empty m) ≡ run_plan p k ts (past_empty m)) → answer_all k ts ths m ≡ run_plan p k ts (past_empty m)
+    go None q i ih = elim i [ ]
+    go (Some us) q i ih = past_all_is k ts l ths us m q w ∙ ih us i
 fits_is (keeps p) l ths k ts m e w = fits_is p l ths k ts m e.1 w
 fits_is (ends s) l ths k ts m e w = ends_are k ts s l ths m e w
 fits_is done l ths k ts m e w = done_are k ts l ths m e w

@@ -2,21 +2,24 @@
 use Rattle.std.proofs.Common.{◌≡◌, ℕ, Bool, true, false, List, [], ◌∷◌, ◌++◌, Some, refl, sym, ap, ap₂, ◌∙◌, subst, true≢false, ◌⊎◌, inl, inr}
 use Rattle.std.specs.Prelude.{nat_eq}
 use Rattle.syn_grammar.specs.Words.{Text, keywords, contextual, w_where, w_use, w_type, w_as, equals, comma, star, colons}
-use Rattle.syn_grammar.specs.Tokens.{Span, Leaf, ident, literal, Stream, end, leaf, punct, group, ◌⧺◌, and, or, no, pick, same_text, Brace, Word, Name, mem, one_of_texts, same_terminal, at_word, stands}
+use Rattle.syn_grammar.specs.Tokens.{Span, Leaf, ident, literal, Stream, end, leaf, punct, group, ◌⧺◌, is_visible, and, or, no, pick, same_text, Brace, Word, Name, mem, one_of_texts, same_terminal, at_word}
 use Rattle.syn_grammar.specs.Rules.{Rule, attributes, visibility, generics, type, where_clause, predicates, use_tree, use_trees, rooted_tree, rooted_trees, root_mark}
 use Rattle.syn_grammar.specs.RuleNumbers.{same_rule}
-use Rattle.syn_grammar.specs.Grammar.{Kind, name, among, terminals, underscore, suits, fits, word, has, one_where, holds, bare_leaf, no_where, at_most_one_where, has_part, Grammar, empty, token, mark, lifetime, ◌&◌, when◌then◌else◌, vanishing, inside, raw, either, one_of, rule, such, captured, unshown, supplied, row, ordered, shaped, generics_before, chars, Spelled, DerivesPrefix, Syntax, Nothing, Token, Mark, Lifetime, Both, Left, Right, Node, Vanishing, Group, Raw, Case, Such, Shaped, Captured, Unshown, Impl, Done, Last, More, Order}
+use Rattle.syn_grammar.specs.Grammar.{Kind, name, among, terminals, underscore, suits, fits, word, has, one_where, holds, bare_leaf, no_where, at_most_one_where, has_part, Grammar, empty, token, mark, lifetime, ◌&◌, when◌then◌else◌, vanishing, inside, raw, either, one_of, rule, such, captured, unshown, supplied, row, ordered, shaped, generics_before, chars, Syntax, Nothing, Token, Mark, Lifetime, Both, Left, Right, Node, Vanishing, Group, Raw, Case, Such, Shaped, Captured, Unshown, Impl, Done, Last, More, Order}
 use Rattle.syn_grammar.specs.Forms.{plainly, punctuation}
 use Rattle.syn_grammar.specs.Table.{table, at_colons, at_comma, name_or_underscore}
-use Rattle.syn_grammar.specs.Take.{before, sees}
+use Rattle.syn_grammar.specs.Take.{front, flat, is_end, before, sees}
+use Rattle.syn_grammar.specs.Made.{Stands, Made}
 use Rattle.syn_grammar.specs.Run.{value_of, parse_form}
 use Rattle.syn_grammar.specs.ItemPlan.{parts}
 use Rattle.syn_grammar.specs.ToldByTokens.{is_text, opens_lifetime, once_at_most, has_one_where, roots, use_roots, wordless, opening, spares, Piece, WasRead, all_spare, OneWhereTold, RootMarkTold}
 use Rattle.syn_grammar.proofs.Sets.{and_left, and_right, or_split, no_true, same_text_eq}
 use Rattle.syn_grammar.proofs.RuleLemmas.{same_rule_eq}
-use Rattle.syn_grammar.proofs.Streams.{append_append, append_end}
-use Rattle.syn_grammar.proofs.Takes.{before_is, sees_stands}
-use Rattle.syn_grammar.proofs.Means.{holds_value, no_where_value, told}
+use Rattle.syn_grammar.proofs.Streams.{append_end}
+use Rattle.syn_grammar.proofs.Means.{holds_value, no_where_value}
+use Rattle.syn_grammar.proofs.Made.{form_made}
+use Rattle.syn_grammar.proofs.Found.{flat_leaf, flat_punct, flat_group, flat_end, only_one}
+use Rattle.syn_grammar.proofs.Parted.{Parted, parted_then, parted_leaf, parted_group, parted_told}
 use Rattle.syn_grammar.proofs.Alone.{of_every_rule, implies, by_implied, one_said}
 use Rattle.syn_grammar.proofs.UseGroups.{bare_parts}
 use Rattle.syn_grammar.proofs.Spared.{Often, never, once, more, again, add, count, Counts, joined, counts_none, spared}
@@ -29,18 +32,18 @@ use_spared : (k : Rule) → opening k ≡ true → spares false opening w_use (t
 use_spared k = by_implied (opening k) _ (of_every_rule (λ k. implies (opening k) (spares false opening w_use (table k))) refl refl k)
 
 -- ---- what was read piece by piece holds no such word
-module _ (a : Bool) (x : Text) (said : Rule → Bool) (spared_form : (g : Grammar) (s : Syntax) (ts r : Stream) → spares a said x g ≡ true → DerivesPrefix table g s ts r → Counts a x never ts r) where
+module _ (a : Bool) (x : Text) (said : Rule → Bool) (spared_form : (g : Grammar) (s : Syntax) (ts r : Stream) → spares a said x g ≡ true → Made g s ts r → Counts a x never ts r) where
   pieces_spared : (l : List Piece) (b m : Stream) → all_spare a said x l ≡ true → WasRead l b m → Counts a x never b m
   pieces_spared [] b m e h = counts_none a x b m h
   pieces_spared (p ∷ l) b m e (n, h, i) =
-      let (t, d, v) = told p.0 n (p.1, m) i in
+      let (t, d, v) = form_made p.0 n (p.1, m) i in
       joined a x never never b n m (pieces_spared l b n (and_right (spares a said x p.0) _ e) h) (spared_form p.0 t n m (and_left (spares a said x p.0) _ e) d)
 
-no_word : (g : Grammar) (s : Syntax) (ts r : Stream) → spares true wordless w_where g ≡ true → DerivesPrefix table g s ts r → Counts true w_where never ts r
-no_word g s ts r e d = spared true w_where refl wordless table where_spared g s ts r e d
+no_word : (g : Grammar) (s : Syntax) (ts r : Stream) → spares true wordless w_where g ≡ true → Made g s ts r → Counts true w_where never ts r
+no_word g s ts r e d = spared true w_where refl wordless where_spared g s ts r e d
 
-no_use : (g : Grammar) (s : Syntax) (ts r : Stream) → spares false opening w_use g ≡ true → DerivesPrefix table g s ts r → Counts false w_use never ts r
-no_use g s ts r e d = spared false w_use refl opening table use_spared g s ts r e d
+no_use : (g : Grammar) (s : Syntax) (ts r : Stream) → spares false opening w_use g ≡ true → Made g s ts r → Counts false w_use never ts r
+no_use g s ts r e d = spared false w_use refl opening use_spared g s ts r e d
 
 -- ---- so often, or once at most
 abbrev is_never : Often → Bool
@@ -108,7 +111,7 @@ or_true false = refl
 abbrev Spares : Grammar → Bool
 Spares g = spares true wordless w_where g
 
-whereless : (g : Grammar) (s : Syntax) (ts r : Stream) → Spares g ≡ true → DerivesPrefix table g s ts r → no_where s ≡ true
+whereless : (g : Grammar) (s : Syntax) (ts r : Stream) → Spares g ≡ true → Made g s ts r → no_where s ≡ true
 whereless empty Nothing ts r e h = refl
 whereless (token b k) (Token y sp) ts r e h = ap no (not_bare y k e h.0)
 whereless (mark b cs) (Mark xs) ts r e h = refl
@@ -128,9 +131,9 @@ whereless (such q g) (Such s) ts r e (v, a) = whereless g s ts r e a
 whereless (shaped j g) (Shaped i s) ts r e a = refl
 whereless (captured g) (Captured s i) ts r e a = refl
 whereless unshown (Unshown s) ts r e h = refl
-whereless (supplied z p t) (Both n (Both (Mark xs) s)) ts r e (inl (w, y, sp, c, f, pa, i, q)) =
-    ap₂ and (whereless p n (underscore sp) end (and_left (Spares p) _ e) pa) (whereless t s ts r (and_right (Spares p) _ e) q)
-whereless (supplied z p t) (Both n (Both (Mark xs) s)) ts r e (inr (w, m, pa, f, m', d, q)) = ap₂ and (whereless p n ts m (and_left (Spares p) _ e) pa) (whereless t s m' r (and_right (Spares p) _ e) q)
+whereless (supplied z p t) (Both n (Both (Mark xs) s)) ts r e (inl (w, sp, m, pa, y, i, q)) =
+    ap₂ and (whereless p n (underscore sp) m (and_left (Spares p) _ e) pa) (whereless t s ts r (and_right (Spares p) _ e) q)
+whereless (supplied z p t) (Both n (Both (Mark xs) s)) ts r e (inr (w, m, pa, m', d, q)) = ap₂ and (whereless p n ts m (and_left (Spares p) _ e) pa) (whereless t s m' r (and_right (Spares p) _ e) q)
 whereless (generics_before g h f) (Impl l s) ts r e a = refl
 whereless (row g h) Done ts r e a = refl
 whereless (row g h) (Last b s) ts r e a = refl
@@ -161,7 +164,7 @@ often true = once
 often false = never
 
 abbrev Clause : Syntax → Stream → Stream → Type 0
-Clause w ts r = (b : Bool) × Counts true w_where (often b) ts r × (no_where w ≡ no b) × (at_most_one_where w ≡ true) × (stands (at_word w_where) ts ≡ b)
+Clause w ts r = (b : Bool) × Counts true w_where (often b) ts r × (no_where w ≡ no b) × (at_most_one_where w ≡ true) × (sees (at_word w_where) ts ≡ b)
 
 pub word_leaf : (x : Text) (y : Leaf) → fits (word x) y ≡ true → y ≡ ident x
 word_leaf x (literal k z) e = absurd (true≢false (sym e))
@@ -175,17 +178,17 @@ word_leaf x (ident z) e = go (one_of_texts z (keywords ++ contextual)) e
         which (inr i) = absurd (true≢false (sym i))
     go false q = absurd (true≢false (sym q))
 
-clause_tree : (t : Syntax) (ts r : Stream) → DerivesPrefix table (rule where_clause) t ts r → Clause (value_of t) ts r
+clause_tree : (t : Syntax) (ts r : Stream) → Made (rule where_clause) t ts r → Clause (value_of t) ts r
 clause_tree (Node (Vanishing b (Left (Both (Token y sp) (Node p))))) ts r (v, (w, (m, (f, g), h))) = go b v y (word_leaf w_where y f) g
   where
     none : no_where (value_of p) ≡ true
     none = no_where_value p ∙ whereless (table predicates) p m r refl h
 
-    go : (b : Bool) → false ≡ b → (y : Leaf) → y ≡ ident w_where → ts ≡ leaf y sp m → Clause (value_of (Node (Vanishing b (Left (Both (Token y sp) (Node p)))))) ts r
+    go : (b : Bool) → false ≡ b → (y : Leaf) → y ≡ ident w_where → front ts ≡ leaf y sp m → Clause (value_of (Node (Vanishing b (Left (Both (Token y sp) (Node p)))))) ts r
     go true q y i k = absurd (true≢false (sym q))
     go false q y i k = subst (λ z. Clause (value_of (Node (Vanishing false (Left (Both (Token z sp) (Node p)))))) ts r) (sym i) (
       true,
-      joined true w_where once never ts m r (leaf (ident w_where) sp end, k ∙ ap (λ z. leaf z sp m) i, λ n. refl) (no_word (rule predicates) (Node p) m r refl h),
+      joined true w_where once never ts m r (leaf (ident w_where) sp end, parted_leaf (ident w_where) sp ts m (k ∙ ap (λ z. leaf z sp m) i), λ n. refl) (no_word (rule predicates) (Node p) m r refl h),
       refl,
       none,
       w,
@@ -198,12 +201,12 @@ clause_tree (Node (Vanishing b (Right Nothing))) ts r (v, (w, a)) = go b v
 clause_tree _ ts r a = search false_true
 
 clause_told : (w : Syntax) (ts r : Stream) → parse_form (rule where_clause) ts ≡ Some (w, r) → Clause w ts r
-clause_told w ts r e = let (t, d, v) = told (rule where_clause) ts (w, r) e in subst (λ z. Clause z ts r) v (clause_tree t ts r d)
+clause_told w ts r e = let (t, d, v) = form_made (rule where_clause) ts (w, r) e in subst (λ z. Clause z ts r) v (clause_tree t ts r d)
 
 -- what else is read has none
 other_told : (g : Grammar) (w : Syntax) (ts r : Stream) → Spares g ≡ true → parse_form g ts ≡ Some (w, r) → Counts true w_where never ts r × (no_where w ≡ true)
 other_told g w ts r e h =
-    let (t, d, v) = told g ts (w, r) h in
+    let (t, d, v) = form_made g ts (w, r) h in
     (no_word g t ts r e d, ap no_where (sym v) ∙ no_where_value t ∙ whereless g t ts r e d)
 
 -- ---- a type alias
@@ -232,34 +235,35 @@ one_where_told l b m w q t x e (m3, (m2, (m1, (m0, h, iw), iq), it), ix) =
     let behind_type = joined true w_where never (often v) m2 m3 m ct cv in
     let behind_clause = joined true w_where never (add never (often v)) m1 m2 m cq behind_type in
     let (c, f, k) = joined true w_where never _ b m0 m lead (joined true w_where (often u) _ m0 m1 m cu behind_clause) in
-    ap has_one_where (before_is b c m f) ∙ few_is w_where false c ∙ ap is_few (ap (count true w_where false) (sym (append_end c)) ∙ k end) ∙ sym (tests_alike u v) ∙ sym (of_parts w q t x u v nu ou nq nt nv ov)
+    ap has_one_where (parted_told c b m f) ∙ few_is w_where false c ∙ ap is_few (ap (count true w_where false) (sym (append_end c)) ∙ k end) ∙ sym (tests_alike u v) ∙ sym (of_parts w q t x u v nu ou nq nt nv ov)
 
 -- ---- `::` before trees of a use, among tokens
 at_no_colon : (c : ℕ) (b : Bool) → nat_eq c 58 ≡ false → and b (nat_eq c 58) ≡ false
 at_no_colon c true e = e
 at_no_colon c false e = refl
 
-star_roots : (xs : List (ℕ × Span)) (b : Bool) (ts r : Stream) → chars xs ≡ star → Spelled xs ts r → roots b ts ≡ roots false r
+star_roots : (xs : List (ℕ × Span)) (b : Bool) (ts r : Stream) → chars xs ≡ star → Stands xs ts r → roots b (flat ts) ≡ roots false (flat r)
 star_roots [] b ts r e h = elim h [ ]
 star_roots (x ∷ []) b ts r e h =
     let n : x.0 ≡ 42 = cc e in
-    ap (roots b) h.1 ∙ ap (λ z. or (and b (nat_eq z 58)) (roots (nat_eq z 44) r)) n ∙ ap (λ z. or z (roots false r)) (at_no_colon 42 b refl)
+    ap (roots b) (flat_punct x.0 h.0 x.1 ts r h.1) ∙ ap (λ z. or (and b (nat_eq z 58)) (roots (nat_eq z 44) (flat r))) n ∙ ap (λ z. or z (roots false (flat r))) (at_no_colon 42 b refl)
 star_roots (x ∷ y ∷ l) b ts r e h = absurd (cc e)
 
-comma_roots : (xs : List (ℕ × Span)) (ts r : Stream) → chars xs ≡ comma → Spelled xs ts r → roots false ts ≡ roots true r
+comma_roots : (xs : List (ℕ × Span)) (ts r : Stream) → chars xs ≡ comma → Stands xs ts r → roots false (flat ts) ≡ roots true (flat r)
 comma_roots [] ts r e h = elim h [ ]
 comma_roots (x ∷ []) ts r e h =
     let n : x.0 ≡ 44 = cc e in
-    ap (roots false) h.1 ∙ ap (λ z. roots (nat_eq z 44) r) n
+    ap (roots false) (flat_punct x.0 h.0 x.1 ts r h.1) ∙ ap (λ z. roots (nat_eq z 44) (flat r)) n
 comma_roots (x ∷ y ∷ l) ts r e h = absurd (cc e)
 
-colons_roots : (xs : List (ℕ × Span)) (b : Bool) (ts r : Stream) → chars xs ≡ colons → Spelled xs ts r → roots b ts ≡ or b (roots false r)
+colons_roots : (xs : List (ℕ × Span)) (b : Bool) (ts r : Stream) → chars xs ≡ colons → Stands xs ts r → roots b (flat ts) ≡ or b (roots false (flat r))
 colons_roots [] b ts r e h = elim h [ ]
 colons_roots (x ∷ []) b ts r e h = absurd (cc e)
 colons_roots (x ∷ y ∷ []) b ts r e (m, h, (j, i)) =
     let p : x.0 ≡ 58 = cc e in
     let q : y.0 ≡ 58 = cc e in
-    ap (roots b) (h ∙ ap₂ (λ z n. punct z true x.1 n) p i) ∙ ap (λ z. or (and b true) (roots false (punct z j y.1 r))) q ∙ ap (λ z. or z (roots false r)) (and_true b)
+    ap (roots b) (flat_punct x.0 true x.1 ts m h ∙ ap₂ (λ z n. punct z true x.1 n) p (flat_punct y.0 j y.1 m r i))
+    ∙ ap (λ z. or (and b true) (roots false (punct z j y.1 (flat r)))) q ∙ ap (λ z. or z (roots false (flat r))) (and_true b)
 colons_roots (x ∷ y ∷ z ∷ l) b ts r e h = absurd (cc e)
 
 -- what stands behind the first word of a tree
@@ -270,29 +274,29 @@ behind_word = when at_colons then punctuation colons & rule use_tree else when a
 abbrev behind_tree : Rule → Grammar
 behind_tree k = when at_comma then punctuation comma & rule k else empty
 
-renamed_roots : (t : Syntax) (m r : Stream) → DerivesPrefix table (when at_word w_as then plainly (word w_as) & name_or_underscore else empty) t m r → roots false m ≡ roots false r
-renamed_roots (Left (Both (Token z sq) (Token x q))) m r (k, (n, g, h)) = ap (roots false) (g.1 ∙ ap (leaf z sq) h.1)
+renamed_roots : (t : Syntax) (m r : Stream) → Made (when at_word w_as then plainly (word w_as) & name_or_underscore else empty) t m r → roots false (flat m) ≡ roots false (flat r)
+renamed_roots (Left (Both (Token z sq) (Token x q))) m r (k, (n, g, h)) = ap (roots false) (flat_leaf z sq m n g.1 ∙ ap (leaf z sq) (flat_leaf x q n r h.1))
 renamed_roots (Left (Both (Token z sq) _)) m r (k, (n, g, h)) = elim h [ ]
 renamed_roots (Left (Both _ x)) m r (k, (n, g, h)) = elim g [ ]
 renamed_roots (Left _) m r (k, x) = elim x [ ]
-renamed_roots (Right Nothing) m r (k, x) = ap (roots false) x
+renamed_roots (Right Nothing) m r (k, x) = ap (λ z. roots false (flat z)) x
 renamed_roots (Right _) m r (k, x) = elim x [ ]
 renamed_roots _ m r x = elim x [ ]
 
 mutual
-  tree_roots : (s : Syntax) (ts r : Stream) (b : Bool) → DerivesPrefix table (table use_tree) s ts r → roots b ts ≡ roots false r
+  tree_roots : (s : Syntax) (ts r : Stream) (b : Bool) → Made (table use_tree) s ts r → roots b (flat ts) ≡ roots false (flat r)
   tree_roots (Left (Mark xs)) ts r b (v, x) = star_roots xs b ts r x.0 x.1
   tree_roots (Left _) ts r b (v, x) = elim x [ ]
-  tree_roots (Right (Left (Group d o c (Node l)))) ts r b (v, (w, (p, i, q, x))) = ap (roots b) q ∙ ap (λ z. or z (roots false r)) (trees_roots l i x)
-  tree_roots (Right (Left (Group d o c _))) ts r b (v, (w, (p, i, q, x))) = elim x [ ]
+  tree_roots (Right (Left (Group d o c (Node l)))) ts r b (v, (w, (p, i, n, q, x, z))) = ap (roots b) (flat_group d o c i ts r (ap is_visible (sym p)) q) ∙ ap (λ y. or y (roots false (flat r))) (trees_roots l i n x z)
+  tree_roots (Right (Left (Group d o c _))) ts r b (v, (w, (p, i, n, q, x, z))) = elim x [ ]
   tree_roots (Right (Left _)) ts r b (v, (w, x)) = elim x [ ]
-  tree_roots (Right (Right (Both (Token y sp) t))) ts r b (v, (w, (m, f, x))) = ap (roots b) f.1 ∙ word_roots t m r x
+  tree_roots (Right (Right (Both (Token y sp) t))) ts r b (v, (w, (m, f, x))) = ap (roots b) (flat_leaf y sp ts m f.1) ∙ word_roots t m r x
   tree_roots (Right (Right (Both _ t))) ts r b (v, (w, (m, f, x))) = elim f [ ]
   tree_roots (Right (Right _)) ts r b (v, (w, x)) = elim x [ ]
   tree_roots (Right _) ts r b (v, x) = elim x [ ]
   tree_roots _ ts r b x = elim x [ ]
 
-  word_roots : (s : Syntax) (m r : Stream) → DerivesPrefix table behind_word s m r → roots false m ≡ roots false r
+  word_roots : (s : Syntax) (m r : Stream) → Made behind_word s m r → roots false (flat m) ≡ roots false (flat r)
   word_roots (Left (Both (Mark xs) (Node t))) m r (u, (n, g, d)) = colons_roots xs false m n g.0 g.1 ∙ tree_roots t n r false d
   word_roots (Left (Both (Mark xs) _)) m r (u, (n, g, d)) = elim d [ ]
   word_roots (Left (Both _ t)) m r (u, (n, g, d)) = elim g [ ]
@@ -300,32 +304,24 @@ mutual
   word_roots (Right t) m r (u, x) = renamed_roots t m r x
   word_roots _ m r x = elim x [ ]
 
-  trees_roots : (s : Syntax) (i : Stream) → DerivesPrefix table (table use_trees) s i end → roots true i ≡ false
-  trees_roots (Left Nothing) i (v, x) = ap (roots true) x
-  trees_roots (Left _) i (v, x) = elim x [ ]
-  trees_roots (Right (Both (Node t) l)) i (v, (m, x, y)) = tree_roots t i m true x ∙ more_roots l m y
-  trees_roots (Right (Both _ l)) i (v, (m, x, y)) = elim x [ ]
-  trees_roots (Right _) i (v, x) = elim x [ ]
-  trees_roots _ i x = elim x [ ]
+  trees_roots : (s : Syntax) (i n : Stream) → Made (table use_trees) s i n → is_end n ≡ true → roots true (flat i) ≡ false
+  trees_roots (Left Nothing) i n (v, x) z = ap (λ y. roots true (flat y)) x ∙ ap (roots true) (flat_end n z)
+  trees_roots (Left _) i n (v, x) z = elim x [ ]
+  trees_roots (Right (Both (Node t) l)) i n (v, (m, x, y)) z = tree_roots t i m true x ∙ more_roots l m n y z
+  trees_roots (Right (Both _ l)) i n (v, (m, x, y)) z = elim x [ ]
+  trees_roots (Right _) i n (v, x) z = elim x [ ]
+  trees_roots _ i n x z = elim x [ ]
 
-  more_roots : (s : Syntax) (m : Stream) → DerivesPrefix table (behind_tree use_trees) s m end → roots false m ≡ false
-  more_roots (Left (Both (Mark xs) (Node l))) m (w, (n, a, b)) = comma_roots xs m n a.0 a.1 ∙ trees_roots l n b
-  more_roots (Left (Both (Mark xs) _)) m (w, (n, a, b)) = elim b [ ]
-  more_roots (Left (Both _ l)) m (w, (n, a, b)) = elim a [ ]
-  more_roots (Left _) m (w, y) = elim y [ ]
-  more_roots (Right Nothing) m (w, y) = ap (roots false) y
-  more_roots (Right _) m (w, y) = elim y [ ]
-  more_roots _ m y = elim y [ ]
+  more_roots : (s : Syntax) (m r : Stream) → Made (behind_tree use_trees) s m r → is_end r ≡ true → roots false (flat m) ≡ false
+  more_roots (Left (Both (Mark xs) (Node l))) m r (w, (n, a, b)) z = comma_roots xs m n a.0 a.1 ∙ trees_roots l n r b z
+  more_roots (Left (Both (Mark xs) _)) m r (w, (n, a, b)) z = elim b [ ]
+  more_roots (Left (Both _ l)) m r (w, (n, a, b)) z = elim a [ ]
+  more_roots (Left _) m r (w, y) z = elim y [ ]
+  more_roots (Right Nothing) m r (w, y) z = ap (λ v. roots false (flat v)) y ∙ ap (roots false) (flat_end r z)
+  more_roots (Right _) m r (w, y) z = elim y [ ]
+  more_roots _ m r y z = elim y [ ]
 
--- a rule of these is this rule
-of_one : (k l : Rule) → among k (l ∷ []) ≡ true → k ≡ l
-of_one k l e = go (or_split (same_rule k l) false e)
-  where
-    go : (same_rule k l ≡ true) ⊎ (false ≡ true) → k ≡ l
-    go (inl q) = same_rule_eq k l q
-    go (inr q) = absurd (true≢false (sym q))
-
-mark_roots : (c : Syntax) (ts m : Stream) → DerivesPrefix table (table root_mark) c ts m → roots true ts ≡ true
+mark_roots : (c : Syntax) (ts m : Stream) → Made (table root_mark) c ts m → roots true (flat ts) ≡ true
 mark_roots (Mark xs) ts m x = colons_roots xs true ts m x.0 x.1
 mark_roots _ ts m x = elim x [ ]
 
@@ -333,40 +329,40 @@ mark_roots _ ts m x = elim x [ ]
 abbrev with_mark : Grammar
 with_mark = one_of (root_mark ∷ []) & rule use_tree
 
-marked_roots : (s : Syntax) (ts r : Stream) → DerivesPrefix table with_mark s ts r → roots true ts ≡ or (has_part root_mark s) (roots false r)
+marked_roots : (s : Syntax) (ts r : Stream) → Made with_mark s ts r → roots true (flat ts) ≡ or (has_part root_mark s) (roots false (flat r))
 marked_roots (Both (Case k c) t) ts r (m, (e, x), y) =
-    let q = of_one k root_mark e in
-    mark_roots c ts m (subst (λ z. DerivesPrefix table (table z) c ts m) q x) ∙ sym (ap (λ z. or (or (or (same_rule root_mark z) (has_part root_mark c)) (has_part root_mark t)) (roots false r)) q)
+    let q = only_one k root_mark e in
+    mark_roots c ts m (subst (λ z. Made (table z) c ts m) q x) ∙ sym (ap (λ z. or (or (or (same_rule root_mark z) (has_part root_mark c)) (has_part root_mark t)) (roots false (flat r))) q)
 marked_roots (Both _ t) ts r (m, x, y) = elim x [ ]
 marked_roots _ ts r x = elim x [ ]
 
 mutual
-  rooted_roots : (s : Syntax) (ts r : Stream) → DerivesPrefix table (table rooted_tree) s ts r → roots true ts ≡ or (has_part root_mark s) (roots false r)
+  rooted_roots : (s : Syntax) (ts r : Stream) → Made (table rooted_tree) s ts r → roots true (flat ts) ≡ or (has_part root_mark s) (roots false (flat r))
   rooted_roots (Left s) ts r (v, x) = marked_roots s ts r x
-  rooted_roots (Right (Left (Group d o c (Node l)))) ts r (v, (w, (p, i, q, x))) = ap (roots true) q ∙ ap (λ z. or z (roots false r)) (all_roots l i x)
-  rooted_roots (Right (Left (Group d o c _))) ts r (v, (w, (p, i, q, x))) = elim x [ ]
+  rooted_roots (Right (Left (Group d o c (Node l)))) ts r (v, (w, (p, i, n, q, x, z))) = ap (roots true) (flat_group d o c i ts r (ap is_visible (sym p)) q) ∙ ap (λ y. or y (roots false (flat r))) (all_roots l i n x z)
+  rooted_roots (Right (Left (Group d o c _))) ts r (v, (w, (p, i, n, q, x, z))) = elim x [ ]
   rooted_roots (Right (Left _)) ts r (v, (w, x)) = elim x [ ]
-  rooted_roots (Right (Right (Node t))) ts r (v, (w, x)) = tree_roots t ts r true x ∙ sym (ap (λ z. or z (roots false r)) (bare_parts t ts r x))
+  rooted_roots (Right (Right (Node t))) ts r (v, (w, x)) = tree_roots t ts r true x ∙ sym (ap (λ z. or z (roots false (flat r))) (bare_parts t ts r x))
   rooted_roots (Right (Right _)) ts r (v, (w, x)) = elim x [ ]
   rooted_roots (Right _) ts r (v, x) = elim x [ ]
   rooted_roots _ ts r x = elim x [ ]
 
-  all_roots : (s : Syntax) (i : Stream) → DerivesPrefix table (table rooted_trees) s i end → roots true i ≡ has_part root_mark s
-  all_roots (Left Nothing) i (v, x) = ap (roots true) x
-  all_roots (Left _) i (v, x) = elim x [ ]
-  all_roots (Right (Both (Node t) l)) i (v, (m, x, y)) = rooted_roots t i m x ∙ ap (or (has_part root_mark t)) (other_roots l m y)
-  all_roots (Right (Both _ l)) i (v, (m, x, y)) = elim x [ ]
-  all_roots (Right _) i (v, x) = elim x [ ]
-  all_roots _ i x = elim x [ ]
+  all_roots : (s : Syntax) (i n : Stream) → Made (table rooted_trees) s i n → is_end n ≡ true → roots true (flat i) ≡ has_part root_mark s
+  all_roots (Left Nothing) i n (v, x) z = ap (λ y. roots true (flat y)) x ∙ ap (roots true) (flat_end n z)
+  all_roots (Left _) i n (v, x) z = elim x [ ]
+  all_roots (Right (Both (Node t) l)) i n (v, (m, x, y)) z = rooted_roots t i m x ∙ ap (or (has_part root_mark t)) (other_roots l m n y z)
+  all_roots (Right (Both _ l)) i n (v, (m, x, y)) z = elim x [ ]
+  all_roots (Right _) i n (v, x) z = elim x [ ]
+  all_roots _ i n x z = elim x [ ]
 
-  other_roots : (s : Syntax) (m : Stream) → DerivesPrefix table (behind_tree rooted_trees) s m end → roots false m ≡ has_part root_mark s
-  other_roots (Left (Both (Mark xs) (Node l))) m (w, (n, a, b)) = comma_roots xs m n a.0 a.1 ∙ all_roots l n b
-  other_roots (Left (Both (Mark xs) _)) m (w, (n, a, b)) = elim b [ ]
-  other_roots (Left (Both _ l)) m (w, (n, a, b)) = elim a [ ]
-  other_roots (Left _) m (w, y) = elim y [ ]
-  other_roots (Right Nothing) m (w, y) = ap (roots false) y
-  other_roots (Right _) m (w, y) = elim y [ ]
-  other_roots _ m y = elim y [ ]
+  other_roots : (s : Syntax) (m r : Stream) → Made (behind_tree rooted_trees) s m r → is_end r ≡ true → roots false (flat m) ≡ has_part root_mark s
+  other_roots (Left (Both (Mark xs) (Node l))) m r (w, (n, a, b)) z = comma_roots xs m n a.0 a.1 ∙ all_roots l n r b z
+  other_roots (Left (Both (Mark xs) _)) m r (w, (n, a, b)) z = elim b [ ]
+  other_roots (Left (Both _ l)) m r (w, (n, a, b)) z = elim a [ ]
+  other_roots (Left _) m r (w, y) z = elim y [ ]
+  other_roots (Right Nothing) m r (w, y) z = ap (λ v. roots false (flat v)) y ∙ ap (roots false) (flat_end r z)
+  other_roots (Right _) m r (w, y) z = elim y [ ]
+  other_roots _ m r y z = elim y [ ]
 
 -- ---- behind attributes and a visibility, no `use` among them
 skipped : (c m : Stream) → count false w_use false c ≡ never → use_roots (c ⧺ m) ≡ use_roots m
@@ -379,29 +375,31 @@ skipped (leaf y sp c) m e = go (is_text w_use y) e (skipped c m)
 skipped (punct p j sp c) m e = skipped c m e
 skipped (group d o k i c) m e = skipped c m e
 
-group_roots : (t : Syntax) (n m : Stream) → DerivesPrefix table (inside Brace (rule rooted_trees)) t n m → (c : Stream) × (n ≡ c ⧺ m) × (roots false c ≡ has_part root_mark t)
-group_roots (Group d o c (Node l)) n m (p, i, q, x) = (group d o c i end, q, ap (λ z. or z false) (all_roots l i x) ∙ or_none (has_part root_mark l))
+group_roots : (t : Syntax) (n m : Stream) → Made (inside Brace (rule rooted_trees)) t n m → (c : Stream) × Parted c n m × (roots false c ≡ has_part root_mark t)
+group_roots (Group d o c (Node l)) n m (p, i, r, q, x, z) =
+    (group d o c (flat i) end, parted_group d o c i n m (ap is_visible (sym p)) q, ap (λ y. or y false) (all_roots l i r x z) ∙ or_none (has_part root_mark l))
   where
     or_none : (b : Bool) → or b false ≡ b
     or_none true = refl
     or_none false = refl
-group_roots (Group d o c _) n m (p, i, q, x) = elim x [ ]
+group_roots (Group d o c _) n m (p, i, r, q, x, z) = elim x [ ]
 group_roots _ n m x = elim x [ ]
 
-use_word : (t : Syntax) (b m : Stream) → DerivesPrefix table (plainly (word w_use)) t b m → (sp : Span) × (b ≡ leaf (ident w_use) sp m)
+use_word : (t : Syntax) (b m : Stream) → Made (plainly (word w_use)) t b m → (sp : Span) × (front b ≡ leaf (ident w_use) sp m)
 use_word (Token y sp) b m (e, f) = (sp, f ∙ ap (λ z. leaf z sp m) (word_leaf w_use y e))
 use_word _ b m x = elim x [ ]
 
 pub root_mark_told : RootMarkTold
 root_mark_told l b m k t e (n, (m0, h, ik), it) =
     let (c, f, q) = pieces_spared false w_use opening no_use l b m0 e h in
-    let (kt, kd, kv) = told (plainly (word w_use)) m0 (k, n) ik in
-    let (tt, td, tv) = told (inside Brace (rule rooted_trees)) n (t, m) it in
+    let (kt, kd, kv) = form_made (plainly (word w_use)) m0 (k, n) ik in
+    let (tt, td, tv) = form_made (inside Brace (rule rooted_trees)) n (t, m) it in
     let (sp, w) = use_word kt m0 n kd in
     let (i, g, z) = group_roots tt n m td in
     let none : count false w_use false c ≡ never = ap (count false w_use false) (sym (append_end c)) ∙ q end in
-    let all : b ≡ (c ⧺ leaf (ident w_use) sp i) ⧺ m = f ∙ ap (λ x. c ⧺ x) (w ∙ ap (leaf (ident w_use) sp) g) ∙ sym (append_append c (leaf (ident w_use) sp i) m) in
-    ap use_roots (before_is b (c ⧺ leaf (ident w_use) sp i) m all) ∙ skipped c (leaf (ident w_use) sp i) none ∙ z ∙ sym (holds_value (has root_mark) tt) ∙ ap (has_part root_mark) tv
+    let behind : Parted (leaf (ident w_use) sp i) m0 m = parted_then (leaf (ident w_use) sp end) i m0 n m (parted_leaf (ident w_use) sp m0 n w) g in
+    let all : Parted (c ⧺ leaf (ident w_use) sp i) b m = parted_then c (leaf (ident w_use) sp i) b m0 m f behind in
+    ap use_roots (parted_told (c ⧺ leaf (ident w_use) sp i) b m all) ∙ skipped c (leaf (ident w_use) sp i) none ∙ z ∙ sym (holds_value (has root_mark) tt) ∙ ap (has_part root_mark) tv
 
 -- ---- by what is seen: where each of the two clauses would stand, `where` or not
 pub one_where_seen : (m0 m1 m2 m3 m : Stream) (w q t x : Syntax) → parse_form (rule where_clause) m0 ≡ Some (w, m1) → parse_form (punctuation equals) m1 ≡ Some (q, m2) → parse_form (rule type) m2 ≡ Some (t, m3) →
@@ -411,14 +409,14 @@ one_where_seen m0 m1 m2 m3 m w q t x iw iq it ix =
     let (v, cv, nv, ov, sv) = clause_told x m3 m ix in
     let (cq, nq) = other_told (punctuation equals) q m1 m2 refl iq in
     let (ct, nt) = other_told (rule type) t m2 m3 refl it in
-    of_parts w q t x u v nu ou nq nt nv ov ∙ sym (ap₂ (λ a b. or (no a) (no b)) (sees_stands (at_word w_where) m0 ∙ su) (sees_stands (at_word w_where) m3 ∙ sv))
+    of_parts w q t x u v nu ou nq nt nv ov ∙ sym (ap₂ (λ a b. or (no a) (no b)) su sv)
 
 -- ---- the tokens of trees in braces
-pub trees_told : (n m : Stream) (t : Syntax) → parse_form (inside Brace (rule rooted_trees)) n ≡ Some (t, m) → roots false (before n m) ≡ holds (has root_mark) t
+pub trees_told : (n m : Stream) (t : Syntax) → parse_form (inside Brace (rule rooted_trees)) n ≡ Some (t, m) → roots false (flat (before n m)) ≡ holds (has root_mark) t
 trees_told n m t it =
-    let (tt, td, tv) = told (inside Brace (rule rooted_trees)) n (t, m) it in
+    let (tt, td, tv) = form_made (inside Brace (rule rooted_trees)) n (t, m) it in
     let (i, g, z) = group_roots tt n m td in
-    ap (roots false) (before_is n i m g) ∙ z ∙ sym (holds_value (has root_mark) tt) ∙ ap (has_part root_mark) tv
+    ap (roots false) (parted_told i n m g) ∙ z ∙ sym (holds_value (has root_mark) tt) ∙ ap (has_part root_mark) tv
 
 -- ---- what stands before these in an alias and in a use
 pub alias_spared : (a v k n g : Syntax) → all_spare true wordless w_where ((rule generics, g) ∷ (plainly name, n) ∷ (plainly (word w_type), k) ∷ (rule visibility, v) ∷ (rule attributes, a) ∷ []) ≡ true

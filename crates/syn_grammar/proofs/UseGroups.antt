@@ -1,37 +1,49 @@
 -- Trees of a use in braces, of which none has `::` before it, are read alike by the two rules of them.
 use Rattle.std.proofs.Common.{◌≡◌, Bool, true, false, Some, refl, sym, ap, ap₂, ◌∙◌, true≢false, ◌⊎◌, inl, inr}
-use Rattle.syn_grammar.specs.Tokens.{Stream, end, or, and, stands, lookahead}
+use Rattle.syn_grammar.specs.Tokens.{Stream, or, and, lookahead}
 use Rattle.syn_grammar.specs.Rules.{Rule, use_tree, use_trees, rooted_tree, rooted_trees, root_mark}
 use Rattle.syn_grammar.specs.RuleNumbers.{same_rule}
-use Rattle.syn_grammar.specs.Grammar.{Grammar, Syntax, Nothing, Token, Mark, Both, Left, Right, Node, Case, Group, DerivesPrefix, empty, token, mark, ◌&◌, when◌then◌else◌, inside, rule, has, has_part}
+use Rattle.syn_grammar.specs.Grammar.{Grammar, Syntax, Nothing, Token, Mark, Both, Left, Right, Node, Case, Group, empty, token, mark, ◌&◌, when◌then◌else◌, inside, rule, has, has_part}
 use Rattle.syn_grammar.specs.Table.{table, at_colons, at_brace, at_star}
-use Rattle.syn_grammar.specs.Run.{wrap, value_of, parse_rule}
+use Rattle.syn_grammar.specs.Take.{flat, sees}
+use Rattle.syn_grammar.specs.Made.{Made}
+use Rattle.syn_grammar.specs.Run.{value_of, parse_rule}
 use Rattle.syn_grammar.specs.UseGroups.{rooted, unrooted, UseGroups}
 use Rattle.syn_grammar.proofs.RuleLemmas.{same_rule_eq}
 use Rattle.syn_grammar.proofs.Sets.{or_split, and_left, and_right}
-use Rattle.syn_grammar.proofs.Run.{parse_rule_is}
-use Rattle.syn_grammar.proofs.Takes.{sees_stands}
+use Rattle.syn_grammar.proofs.Takes.{sees_flat}
 use Rattle.syn_grammar.proofs.Alone.{of_every_rule, implies, by_implied}
 use Rattle.syn_grammar.proofs.Begins.{not_here}
-use Rattle.syn_grammar.proofs.Means.{holds_value, parse_rule_told, parse_rule_found}
+use Rattle.syn_grammar.proofs.Means.{holds_value}
+use Rattle.syn_grammar.proofs.Made.{computed_is_made}
+use Rattle.syn_grammar.proofs.Found.{simple, found, rule_found}
 use Rattle.syn_grammar.proofs.Grows.{brace_terminal}
 
+-- the rules of both, which have no unions
+abbrev both_rules : Rule → Bool
+both_rules k = or (same_rule k use_tree) (or (same_rule k use_trees) (or (same_rule k rooted_tree) (or (same_rule k rooted_trees) (same_rule k root_mark))))
+
+simples : (k : Rule) → both_rules k ≡ true → simple both_rules (table k) ≡ true
+simples k = by_implied (both_rules k) _ (of_every_rule (λ k. implies (both_rules k) (simple both_rules (table k))) refl refl k)
+
 -- no tree begins with `::`
-not_colons : (s : Syntax) (ts r : Stream) → DerivesPrefix table (table use_tree) s ts r → stands at_colons ts ≡ false
-not_colons s ts r d = go (stands at_colons ts) refl
+not_colons : (s : Syntax) (ts r : Stream) → Made (table use_tree) s ts r → sees at_colons ts ≡ false
+not_colons s ts r d = go (sees at_colons ts) refl
   where
-    go : (v : Bool) → stands at_colons ts ≡ v → v ≡ false
+    go : (v : Bool) → sees at_colons ts ≡ v → v ≡ false
     go false e = refl
-    go true e = absurd (cc (sym (parse_rule_found use_tree ts (Node s) r d) ∙ parse_rule_is use_tree ts ∙ ap (wrap Node) (not_here at_colons (table use_tree) refl ts (sees_stands at_colons ts ∙ e))))
+    go true e = absurd (cc (sym (found both_rules simples (table use_tree) s ts r refl d) ∙ not_here at_colons (table use_tree) refl ts e))
 
 -- where braces stand, no mark does
-no_star : (ts : Stream) → stands at_brace ts ≡ true → stands at_star ts ≡ false
-no_star ts e = let (v, f) = brace_terminal (lookahead ts).terminal e in cc (f)
+no_star : (ts : Stream) → sees at_brace ts ≡ true → sees at_star ts ≡ false
+no_star ts e =
+    let (v, f) = brace_terminal (lookahead (flat ts)).terminal (sym (sees_flat at_brace ts refl) ∙ e) in
+    sees_flat at_star ts refl ∙ cc (f)
 
-no_brace : (ts : Stream) → stands at_star ts ≡ true → stands at_brace ts ≡ false
-no_brace ts e = go (stands at_brace ts) refl
+no_brace : (ts : Stream) → sees at_star ts ≡ true → sees at_brace ts ≡ false
+no_brace ts e = go (sees at_brace ts) refl
   where
-    go : (v : Bool) → stands at_brace ts ≡ v → v ≡ false
+    go : (v : Bool) → sees at_brace ts ≡ v → v ≡ false
     go false q = refl
     go true q = absurd (true≢false (sym e ∙ no_star ts q))
 
@@ -49,7 +61,7 @@ of_trees _ = false
 rules_of_trees : (k : Rule) → or (same_rule k use_tree) (same_rule k use_trees) ≡ true → of_trees (table k) ≡ true
 rules_of_trees k = by_implied (or (same_rule k use_tree) (same_rule k use_trees)) _ (of_every_rule (λ k. implies (or (same_rule k use_tree) (same_rule k use_trees)) (of_trees (table k))) refl refl k)
 
-bare : (g : Grammar) (s : Syntax) (ts r : Stream) → of_trees g ≡ true → DerivesPrefix table g s ts r → has_part root_mark s ≡ false
+bare : (g : Grammar) (s : Syntax) (ts r : Stream) → of_trees g ≡ true → Made g s ts r → has_part root_mark s ≡ false
 bare empty Nothing ts r e x = refl
 bare empty _ ts r e x = elim x [ ]
 bare (token b k) (Token y sp) ts r e x = refl
@@ -61,16 +73,16 @@ bare (g & h) _ ts r e x = elim x [ ]
 bare (when c then g else h) (Left s) ts r e (v, x) = bare g s ts r (and_left (of_trees g) _ e) x
 bare (when c then g else h) (Right s) ts r e (v, x) = bare h s ts r (and_right (of_trees g) _ e) x
 bare (when c then g else h) _ ts r e x = elim x [ ]
-bare (inside d g) (Group d' o c s) ts r e (p, i, q, x) = bare g s i end e x
+bare (inside d g) (Group d' o c s) ts r e (p, i, m, q, x, z) = bare g s i m e x
 bare (inside d g) _ ts r e x = elim x [ ]
 bare (rule k) (Node s) ts r e x = bare (table k) s ts r (rules_of_trees k e) x
 bare (rule k) _ ts r e x = elim x [ ]
 bare _ s ts r e x = absurd (true≢false (sym e))
 
-pub bare_parts : (s : Syntax) (ts r : Stream) → DerivesPrefix table (table use_tree) s ts r → has_part root_mark s ≡ false
+pub bare_parts : (s : Syntax) (ts r : Stream) → Made (table use_tree) s ts r → has_part root_mark s ≡ false
 bare_parts s ts r x = bare (table use_tree) s ts r refl x
 
-bare_tree : (s : Syntax) (ts r : Stream) → DerivesPrefix table (table use_tree) s ts r → has_part root_mark (value_of s) ≡ false
+bare_tree : (s : Syntax) (ts r : Stream) → Made (table use_tree) s ts r → has_part root_mark (value_of s) ≡ false
 bare_tree s ts r x = holds_value (has root_mark) s ∙ bare (table use_tree) s ts r refl x
 
 -- what is read by the first rule
@@ -78,21 +90,21 @@ abbrev Rooted : Syntax → Type 0
 Rooted s = (value_of (rooted s) ≡ rooted (value_of s)) × ((has_part root_mark (rooted (value_of s)) ≡ false) × (unrooted (rooted (value_of s)) ≡ value_of s))
 
 mutual
-  up : (s : Syntax) (ts r : Stream) → DerivesPrefix table (table use_tree) s ts r → DerivesPrefix table (table rooted_tree) (rooted s) ts r × Rooted s
+  up : (s : Syntax) (ts r : Stream) → Made (table use_tree) s ts r → Made (table rooted_tree) (rooted s) ts r × Rooted s
   up (Left (Mark xs)) ts r (v, x) = ((not_colons (Left (Mark xs)) ts r (v, x), (no_brace ts v, (v, x))), (refl, (refl, refl)))
   up (Left _) ts r (v, x) = elim x [ ]
-  up (Right (Left (Group d o c (Node l)))) ts r (v, (w, (p, i, q, x))) =
-      let u = ups l i end x in (
-        (not_colons (Right (Left (Group d o c (Node l)))) ts r (v, (w, (p, i, q, x))), (w, (p, i, q, u.0))),
-        (ap (λ z. Right (Left (Group d o c (Node z)))) u.1.0, (u.1.1.0, ap (λ z. Right (Left (Group d o c (Node z)))) u.1.1.1)),
+  up (Right (Left (Group d o c (Node l)))) ts r (v, (w, (p, i, n, q, x, z))) =
+      let u = ups l i n x in (
+        (not_colons (Right (Left (Group d o c (Node l)))) ts r (v, (w, (p, i, n, q, x, z))), (w, (p, i, n, q, u.0, z))),
+        (ap (λ w. Right (Left (Group d o c (Node w)))) u.1.0, (u.1.1.0, ap (λ w. Right (Left (Group d o c (Node w)))) u.1.1.1)),
       )
-  up (Right (Left (Group d o c _))) ts r (v, (w, (p, i, q, x))) = elim x [ ]
+  up (Right (Left (Group d o c _))) ts r (v, (w, (p, i, n, q, x, z))) = elim x [ ]
   up (Right (Left _)) ts r (v, (w, x)) = elim x [ ]
   up (Right (Right s)) ts r (v, (w, h)) = ((not_colons (Right (Right s)) ts r (v, (w, h)), (w, (v, (w, h)))), (refl, (bare_tree (Right (Right s)) ts r (v, (w, h)), refl)))
   up (Right _) ts r (v, x) = elim x [ ]
   up _ ts r x = elim x [ ]
 
-  ups : (s : Syntax) (ts r : Stream) → DerivesPrefix table (table use_trees) s ts r → DerivesPrefix table (table rooted_trees) (rooted s) ts r × Rooted s
+  ups : (s : Syntax) (ts r : Stream) → Made (table use_trees) s ts r → Made (table rooted_trees) (rooted s) ts r × Rooted s
   ups (Left Nothing) ts r (v, x) = ((v, x), (refl, (refl, refl)))
   ups (Left _) ts r (v, x) = elim x [ ]
   ups (Right (Both (Node t) (Left (Both (Mark xs) (Node l))))) ts r (v, (m, x, (w, (m', a, b)))) =
@@ -127,7 +139,7 @@ abbrev Unrooted : Syntax → Type 0
 Unrooted s = (value_of (unrooted s) ≡ unrooted (value_of s)) × (rooted (unrooted (value_of s)) ≡ value_of s)
 
 mutual
-  down : (s : Syntax) (ts r : Stream) → DerivesPrefix table (table rooted_tree) s ts r → has_part root_mark (value_of s) ≡ false → DerivesPrefix table (table use_tree) (unrooted s) ts r × Unrooted s
+  down : (s : Syntax) (ts r : Stream) → Made (table rooted_tree) s ts r → has_part root_mark (value_of s) ≡ false → Made (table use_tree) (unrooted s) ts r × Unrooted s
   down (Left (Both (Case k c) t)) ts r (v, (m, (n, x), y)) e =
       let q = same_rule_eq k root_mark (one (or_split (same_rule k root_mark) false n)) in
       absurd (true≢false (ap (λ z. or (or (same_rule root_mark z) (has_part root_mark (value_of c))) (has_part root_mark (value_of t))) (sym q) ∙ e))
@@ -137,10 +149,10 @@ mutual
       one (inr q) = absurd (true≢false (sym q))
   down (Left (Both _ t)) ts r (v, (m, x, y)) e = elim x [ ]
   down (Left _) ts r (v, x) e = elim x [ ]
-  down (Right (Left (Group d o c (Node l)))) ts r (v, (w, (p, i, q, x))) e =
-      let u = downs l i end x e in
-      ((no_star ts w, (w, (p, i, q, u.0))), (ap (λ z. Right (Left (Group d o c (Node z)))) u.1.0, ap (λ z. Right (Left (Group d o c (Node z)))) u.1.1))
-  down (Right (Left (Group d o c _))) ts r (v, (w, (p, i, q, x))) e = elim x [ ]
+  down (Right (Left (Group d o c (Node l)))) ts r (v, (w, (p, i, n, q, x, z))) e =
+      let u = downs l i n x e in
+      ((no_star ts w, (w, (p, i, n, q, u.0, z))), (ap (λ w. Right (Left (Group d o c (Node w)))) u.1.0, ap (λ w. Right (Left (Group d o c (Node w)))) u.1.1))
+  down (Right (Left (Group d o c _))) ts r (v, (w, (p, i, n, q, x, z))) e = elim x [ ]
   down (Right (Left _)) ts r (v, (w, x)) e = elim x [ ]
   down (Right (Right (Node (Left (Mark xs))))) ts r (v, (w, h)) e = (h, (refl, refl))
   down (Right (Right (Node (Left _)))) ts r (v, (w, (a, b))) e = elim b [ ]
@@ -152,7 +164,7 @@ mutual
   down (Right _) ts r (v, x) e = elim x [ ]
   down _ ts r x e = elim x [ ]
 
-  downs : (s : Syntax) (ts r : Stream) → DerivesPrefix table (table rooted_trees) s ts r → has_part root_mark (value_of s) ≡ false → DerivesPrefix table (table use_trees) (unrooted s) ts r × Unrooted s
+  downs : (s : Syntax) (ts r : Stream) → Made (table rooted_trees) s ts r → has_part root_mark (value_of s) ≡ false → Made (table use_trees) (unrooted s) ts r × Unrooted s
   downs (Left Nothing) ts r (v, x) e = ((v, x), (refl, refl))
   downs (Left _) ts r (v, x) e = elim x [ ]
   downs (Right (Both (Node t) (Left (Both (Mark xs) (Node l))))) ts r (v, (m, x, (w, (m', a, b)))) e =
@@ -177,25 +189,25 @@ pub use_groups : UseGroups
 use_groups ts s r = (first, second)
   where
     first : parse_rule use_trees ts ≡ Some (Node s, r) → (parse_rule rooted_trees ts ≡ Some (Node (rooted s), r)) × ((has_part root_mark (rooted s) ≡ false) × (unrooted (rooted s) ≡ s))
-    first e = let (t, d, h) = parse_rule_told use_trees ts (Node s, r) e in go t d h
+    first e = let (t, d, h) = computed_is_made use_trees ts (Node s) r e in go t d h
       where
-        go : (t : Syntax) → DerivesPrefix table (rule use_trees) t ts r → value_of t ≡ Node s → (parse_rule rooted_trees ts ≡ Some (Node (rooted s), r)) × ((has_part root_mark (rooted s) ≡ false) × (unrooted (rooted s) ≡ s))
+        go : (t : Syntax) → Made (rule use_trees) t ts r → value_of t ≡ Node s → (parse_rule rooted_trees ts ≡ Some (Node (rooted s), r)) × ((has_part root_mark (rooted s) ≡ false) × (unrooted (rooted s) ≡ s))
         go (Node t) d h =
             let i : value_of t ≡ s = cc (h) in
             let u = ups t ts r d in (
-              parse_rule_found rooted_trees ts (Node (rooted t)) r u.0 ∙ ap (λ z. Some (Node z, r)) (u.1.0 ∙ ap rooted i),
+              rule_found both_rules simples rooted_trees (Node (rooted t)) ts r refl u.0 ∙ ap (λ z. Some (Node z, r)) (u.1.0 ∙ ap rooted i),
               (ap (λ z. has_part root_mark (rooted z)) (sym i) ∙ u.1.1.0, ap (λ z. unrooted (rooted z)) (sym i) ∙ u.1.1.1 ∙ i),
             )
         go _ d h = elim d [ ]
 
     second : parse_rule rooted_trees ts ≡ Some (Node s, r) → has_part root_mark s ≡ false → (parse_rule use_trees ts ≡ Some (Node (unrooted s), r)) × (rooted (unrooted s) ≡ s)
-    second e w = let (t, d, h) = parse_rule_told rooted_trees ts (Node s, r) e in go t d h
+    second e w = let (t, d, h) = computed_is_made rooted_trees ts (Node s) r e in go t d h
       where
-        go : (t : Syntax) → DerivesPrefix table (rule rooted_trees) t ts r → value_of t ≡ Node s → (parse_rule use_trees ts ≡ Some (Node (unrooted s), r)) × (rooted (unrooted s) ≡ s)
+        go : (t : Syntax) → Made (rule rooted_trees) t ts r → value_of t ≡ Node s → (parse_rule use_trees ts ≡ Some (Node (unrooted s), r)) × (rooted (unrooted s) ≡ s)
         go (Node t) d h =
             let i : value_of t ≡ s = cc (h) in
             let u = downs t ts r d (ap (has_part root_mark) i ∙ w) in (
-              parse_rule_found use_trees ts (Node (unrooted t)) r u.0 ∙ ap (λ z. Some (Node z, r)) (u.1.0 ∙ ap unrooted i),
+              rule_found both_rules simples use_trees (Node (unrooted t)) ts r refl u.0 ∙ ap (λ z. Some (Node z, r)) (u.1.0 ∙ ap unrooted i),
               ap (λ z. rooted (unrooted z)) (sym i) ∙ u.1.1 ∙ i,
             )
         go _ d h = elim d [ ]

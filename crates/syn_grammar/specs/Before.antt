@@ -34,13 +34,13 @@ with_const = when at_word w_const then item_word w_const else never
 abbrev pub before : Rule → Grammar
 -- A path with no braces behind it; where braces stand there, a side is chosen, and nothing is read.
 before primary =
-    shaped choice (when at_word w_true then shaped (operand Lit) (plainly (word w_true))
+    shaped choice (when at_invisible then shaped (operand Grouped) (inside None (rule whole_expression))
+    else when at_word w_true then shaped (operand Lit) (plainly (word w_true))
     else when at_word w_false then shaped (operand Lit) (plainly (word w_false))
     else when at_any_literal then shaped (operand Lit) (plainly any_literal)
     else when at_macro then shaped (operand Macro) (rule macro_invocation)
     else when at_paren then shaped bracketed (inside Paren (rule expressions))
     else when at_bracket then shaped bracketed (inside Bracket (rule array_content))
-    else when at_invisible then shaped (operand Grouped) (inside None (rule whole_expression))
     else when at_block_like then rule block_like
     else when at_word w_return then shaped (operand Return) (plainly (word w_return) & (when at_whole_expression then rule whole_expression else empty))
     else when at_word w_break then shaped (operand Break) (plainly (word w_break) & (when at_lifetime then lifetime else empty) & (when at_whole_expression then never else empty))

@@ -1,6 +1,7 @@
--- THE ENTRY POINTS AGREE: what a union of rules reads, and what the rules of its kinds read. Hold of every stream.
+-- THE ENTRY POINTS AGREE: what a union of rules reads, and what the rules of its kinds read. Hold of every stream, but for what is said of
+-- visible ones alone.
 use Rattle.std.specs.Prelude.{◌≡◌, ◌↔◌, Bool, true, false, List, [], Some}
-use Rattle.syn_grammar.specs.Tokens.{Stream, ◌⧺◌}
+use Rattle.syn_grammar.specs.Tokens.{Stream, ◌⧺◌, visible}
 use Rattle.syn_grammar.specs.Rules.{Rule, item, derive_input}
 use Rattle.syn_grammar.specs.Grammar.{Grammar, one_of, captured, among, Syntax, Node, Case, Captured, Nothing, print}
 use Rattle.syn_grammar.specs.Table.{table}
@@ -22,9 +23,10 @@ is_kept _ = false
 abbrev pub IsKind : Rule → Rule → Type 0
 IsKind u k = among k (kinds_of (table u)) ≡ true
 
--- The union reads a value as this kind of it exactly where the rule of the kind reads it, with the same rest.
+-- What the union reads as this kind of it, the rule of the kind reads, with the same rest; of a visible stream also the other way round.
 abbrev pub KindsAgree : Rule → Type 0
-KindsAgree u = (k : Rule) (ts : Stream) (s : Syntax) (r : Stream) → (parse_rule u ts ≡ Some (Node (Case k s), r)) ↔ (IsKind u k × (parse_rule k ts ≡ Some (Node s, r)))
+KindsAgree u = (k : Rule) (ts : Stream) (s : Syntax) (r : Stream) → (parse_rule u ts ≡ Some (Node (Case k s), r) → IsKind u k × (parse_rule k ts ≡ Some (Node s, r)))
+    × (visible ts ≡ true → IsKind u k → parse_rule k ts ≡ Some (Node s, r) → parse_rule u ts ≡ Some (Node (Case k s), r))
 
 -- It derives a tree as this kind of it exactly where the rule of the kind derives it.
 abbrev pub KindsDerive : Rule → Type 0
@@ -34,14 +36,15 @@ KindsDerive u = (k : Rule) (ts : Stream) (s : Syntax) → Derives u ts (Node (Ca
 abbrev pub SomeKind : Rule → Type 0
 SomeKind u = (ts : Stream) (s : Syntax) (r : Stream) → parse_rule u ts ≡ Some (s, r) → (k : Rule) × (t : Syntax) × IsKind u k × (s ≡ Node (Case k t))
 
--- Of a kind that is kept as its tokens, these are exactly the ones that are read, and they are its print.
+-- Of a kind that is kept as its tokens, these are its print, and those that stood before the rest: of a visible stream exactly.
 abbrev pub KeptAsRead : Rule → Type 0
 KeptAsRead u = (k : Rule) (ts : Stream) (s : Syntax) (r : Stream) → is_kept (table k) ≡ true → parse_rule u ts ≡ Some (Node (Case k s), r) →
-    (s ≡ Captured Nothing (before ts r)) × (ts ≡ before ts r ⧺ r) × (print (Node (Case k s)) ≡ before ts r)
+    (s ≡ Captured Nothing (before ts r)) × (visible ts ≡ true → ts ≡ before ts r ⧺ r) × (print (Node (Case k s)) ≡ before ts r)
 
--- The input of a derive is read exactly where an item of one of its three kinds is, as the same value (so it prints alike), with the same rest.
+-- The input of a derive is read of a visible stream exactly where an item of one of its three kinds is, as the same value (so it prints
+-- alike), with the same rest.
 abbrev pub InputsAreItems : Type 0
-InputsAreItems = (k : Rule) (ts : Stream) (s : Syntax) (r : Stream) → IsKind derive_input k → (parse_rule derive_input ts ≡ Some (Node (Case k s), r)) ↔ (parse_rule item ts ≡ Some (Node (Case k s), r))
+InputsAreItems = (k : Rule) (ts : Stream) (s : Syntax) (r : Stream) → visible ts ≡ true → IsKind derive_input k → (parse_rule derive_input ts ≡ Some (Node (Case k s), r)) ↔ (parse_rule item ts ≡ Some (Node (Case k s), r))
 
 -- It is derived exactly where the item is, as the same tree.
 abbrev pub InputsDeriveItems : Type 0

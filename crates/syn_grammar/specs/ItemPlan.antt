@@ -1,15 +1,15 @@
 -- THE PLAN OF AN ITEM: the rule `item` without a union. Attributes and visibility are read once; the words that stand next then say what
 -- it is, and behind the last part that several forms have in common stands what tells them apart.
 use Rattle.std.specs.Prelude.{◌≡◌, true, false, List, [], ◌∷◌}
-use Rattle.syn_grammar.specs.Words.{w_as, w_async, w_const, w_crate, w_enum, w_extern, w_fn, w_impl, w_macro, w_mod, w_mut, w_pub, w_self, w_static, w_struct, w_trait, w_try, w_type, w_unsafe, w_use, w_union, w_auto, w_default, semicolon, colon, equals, exclamation, colons}
-use Rattle.syn_grammar.specs.Tokens.{Stream, Paren, Brace, Str, Begins_item, Before_macro, Begins_in, Lone_word, Look, at_word, at_literal, at_empty_group, ahead, ◌or_else◌, ◌and_also◌, at_generics}
-use Rattle.syn_grammar.specs.Rules.{Rule, attributes, inner_attributes, visibility, restriction, type_path, type, generics, where_clause, fields_named, variants, structure, structure_body, enumeration, union_item, body, whole_expression, abi, unsafe_only, signature, signature_rest, function, const_item, static_item, extern_crate, use_tree, root_mark, rooted_trees, use_item, module_item, alias_bounds, type_bounds, trait_alias, type_item, macro_end, macro_as_item, supertraits, bare_trait, trait_definition, for_self_type, impl_body, impl_definition, foreign_module, trait_items, foreign_items, module_path, kept_item, item, items}
+use Rattle.syn_grammar.specs.Words.{w_as, w_async, w_const, w_crate, w_enum, w_extern, w_fn, w_impl, w_macro, w_mod, w_mut, w_self, w_static, w_struct, w_trait, w_try, w_type, w_unsafe, w_use, w_union, w_auto, w_default, semicolon, colon, equals, exclamation, colons}
+use Rattle.syn_grammar.specs.Tokens.{Stream, Paren, Brace, Str, Begins_item, Before_macro, at_word, at_literal, ahead, ◌or_else◌, ◌and_also◌, at_generics}
+use Rattle.syn_grammar.specs.Rules.{Rule, attributes, inner_attributes, visibility, restriction, type_path, type, types, generics, where_clause, fields_named, variants, structure, structure_body, enumeration, union_item, body, whole_expression, abi, unsafe_only, signature, signature_rest, function, const_item, static_item, extern_crate, use_tree, root_mark, rooted_trees, use_item, module_item, alias_bounds, type_bounds, trait_alias, type_item, macro_end, macro_as_item, supertraits, bare_trait, trait_definition, for_self_type, impl_body, impl_definition, foreign_module, trait_items, foreign_items, module_path, kept_item, item, items}
 use Rattle.syn_grammar.specs.Grammar.{name, word, name_or, literal_of, has, one_where, empty, ◌&◌, when◌then◌else◌, vanishing, inside, raw, rule, Syntax, Nothing, Both, Left, Right, Node, Vanishing, Case, Such, Unshown, Impl}
 use Rattle.syn_grammar.specs.Forms.{plainly, asking_punctuation, punctuation, never, optional}
-use Rattle.syn_grammar.specs.Table.{at_colon, at_colons, at_equals, at_semicolon, at_brace, at_paren, at_less, at_bang, at_exclamation, at_module_path, at_extern, at_where, at_for, at_macro_name, at_no_macro_item, item_word, optional_item_word, name_or_underscore, optional_value, kept_where_clause, optional_where_clause, kept_generics, type_and_clause}
+use Rattle.syn_grammar.specs.Table.{at_public, at_in_restriction, at_lone_word, at_colon, at_colons, at_equals, at_semicolon, at_brace, at_paren, at_less, at_bang, at_exclamation, at_module_path, at_extern, at_where, at_for, at_macro_name, at_no_macro_item, item_word, optional_item_word, name_or_underscore, optional_value, kept_where_clause, optional_where_clause, kept_generics, type_and_clause}
 use Rattle.syn_grammar.specs.Values.{untag}
 use Rattle.syn_grammar.specs.Run.{parse_rule}
-use Rattle.syn_grammar.specs.Plan.{Plan, reads, turns, tests, keeps, ends, done, fails, run_plan}
+use Rattle.syn_grammar.specs.Plan.{Plan, reads, turns, tests, passes, keeps, ends, done, fails, run_plan}
 
 -- parts one after another, as a sequence has them
 abbrev pub parts : List Syntax → Syntax
@@ -25,6 +25,10 @@ item_of k a s = Node (Case k (Both a (Node s)))
 abbrev pub impl_of : Syntax → Syntax → Syntax → Syntax → Syntax → Syntax → Syntax → Syntax
 impl_of a d c u k g s = item_of impl_definition a (parts (d ∷ c ∷ u ∷ k ∷ Impl g s ∷ []))
 
+-- a tuple or a type in parentheses
+abbrev pub in_parentheses : Syntax → Syntax
+in_parentheses t = Node (Right (Right (Right (Left t))))
+
 -- what isn't there
 abbrev pub absent : Syntax
 absent = Right Nothing
@@ -37,18 +41,9 @@ hidden = Unshown Nothing
 abbrev pub inherited : Syntax
 inherited = Node (Right (Vanishing true absent))
 
--- where an item stands, behind its attributes: behind `pub`; behind an invisible group, which stands for no visibility; or with no
--- visibility before it
+-- where an item stands, behind its attributes: behind `pub`, or with no visibility that is written before it
 pub data Place : Type 0 where
-  public unwritten plain : Place
-
--- Parentheses that begin with `in` stand next: behind `impl` they are a restriction.
-abbrev pub at_in_restriction : Look
-at_in_restriction = at_paren and_also ahead Begins_in
-
--- Parentheses that hold `crate`, `self` or `super` alone stand next: behind `impl` they are a restriction or a type.
-abbrev pub at_lone_word : Look
-at_lone_word = at_paren and_also ahead Lone_word
+  public plain : Place
 
 -- A semicolon ends what is kept as tokens.
 unfoldable pub kept_end : Plan
@@ -203,8 +198,6 @@ visible_impl =
 unfoldable pub const_impl_plan : Place → Syntax → Syntax → Syntax → Plan
 const_impl_plan public a c u =
     visible_impl
-const_impl_plan unwritten a c u =
-    fails
 const_impl_plan plain a c u =
     impl_plan a absent c u
 
@@ -228,20 +221,20 @@ restricted_end =
     reads (optional w_const) λ c. reads (rule bare_trait) λ t. done
 
 -- `impl`, with nothing before it but perhaps a visibility: a trait behind a restriction, or an impl, which has no visibility.
--- Behind parentheses that hold one word, which the rule of types reads as a type, `for`, `where` or braces stand in an impl alone.
+-- Behind parentheses that hold one word, which are read as a type, `for`, `where` or braces stand in an impl alone.
 unfoldable pub bare_impl_plan : Place → Syntax → Plan
 bare_impl_plan plain a =
     reads (plainly (word w_impl)) λ k.
     turns at_in_restriction (keeps (reads (inside Paren (rule restriction)) λ r. restricted_end))
-    (turns at_lone_word (reads (rule type) λ t.
+    (turns at_lone_word (reads (inside Paren (rule types)) λ t.
     turns at_for kept_impl
-    (turns (at_where or_else at_brace) (reads (rule impl_body) λ b. ends (impl_of a absent absent absent k absent (Right (Right (Both t b)))))
+    (turns (at_where or_else at_brace) (reads (rule impl_body) λ b. ends (impl_of a absent absent absent k absent (Right (Right (Both (in_parentheses t) b)))))
     (keeps restricted_end)))
     (impl_generics a absent absent absent k))
 bare_impl_plan p a =
     keeps (reads (plainly (word w_impl)) λ k.
     turns at_in_restriction (reads (inside Paren (rule restriction)) λ r. restricted_end)
-    (turns at_lone_word (reads (rule type) λ t. restricted_end)
+    (turns at_lone_word (reads (inside Paren (rule types)) λ t. restricted_end)
     fails))
 
 -- Behind `unsafe`: no module and no trait.
@@ -310,9 +303,8 @@ behind_visibility p a v =
 -- AN ITEM behind its attributes: its visibility, and what stands behind it.
 unfoldable pub item_behind : Syntax → Plan
 item_behind a =
-    turns (at_word w_pub) (reads (rule visibility) λ v. behind_visibility public a v)
-    (turns at_empty_group (reads (rule visibility) λ v. behind_visibility unwritten a v)
-    (behind_visibility plain a inherited))
+    turns at_public (reads (rule visibility) λ v. behind_visibility public a v)
+    (passes (behind_visibility plain a inherited))
 
 -- AN ITEM: its attributes, and what stands behind them.
 unfoldable pub item_plan : Plan

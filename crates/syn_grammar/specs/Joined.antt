@@ -1,4 +1,4 @@
--- FILES THAT ARE JOINED OF ITEMS. What is said holds of every stream.
+-- FILES THAT ARE JOINED OF ITEMS. What is said holds of visible streams.
 use Rattle.std.specs.Prelude.{◌≡◌, true, List, [], ◌∷◌, map}
 use Rattle.syn_grammar.specs.Tokens.{Stream, end, ◌⧺◌, visible}
 use Rattle.syn_grammar.specs.Rules.{item, file}
@@ -41,9 +41,9 @@ pub record IsFileOf (p : Stream) (trees : List Syntax) : Type 0 where
   pub no_attributes : vacant (attributes_of_file tree) ≡ true
   pub same_normal : map normal (items_of_file tree) ≡ map normal trees
 
--- The prints of items, one behind the other, are such a file of them.
+-- The prints of items that were derived of visible streams, one behind the other, are such a file of them.
 abbrev pub JoinedItems : Type 0
-JoinedItems = (pieces : List Stream) (trees : List Syntax) → AllDerived pieces trees → IsFileOf (prints trees) trees
+JoinedItems = (pieces : List Stream) (trees : List Syntax) → AllVisible pieces → AllDerived pieces trees → IsFileOf (prints trees) trees
 
 -- They are visible where the items were derived of visible streams.
 abbrev pub JoinedIsVisible : Type 0

@@ -1,7 +1,7 @@
 -- WHAT A FILE LISTS: the kind of each of its items, and its name.
 use Rattle.std.specs.Prelude.{◌≡◌, ℕ, zero, suc, Bool, true, false, List, [], ◌∷◌, ◌++◌, Option, Some, None, nat_eq}
 use Rattle.syn_grammar.specs.Words.{Text, w_const, w_crate, w_enum, w_fn, w_mod, w_mut, w_static, w_struct, w_trait, w_type, w_union}
-use Rattle.syn_grammar.specs.Tokens.{Span, Leaf, ident, Stream, end, leaf, punct, group, pick, same_text, ended}
+use Rattle.syn_grammar.specs.Tokens.{Span, Leaf, ident, Stream, end, leaf, punct, group, pick, same_text, visible, ended}
 use Rattle.syn_grammar.specs.Rules.{Rule, structure, enumeration, union_item, function, const_item, static_item, extern_crate, module_item, trait_alias, type_item, macro_as_item, trait_definition, inner_attributes, item, items, file}
 use Rattle.syn_grammar.specs.Grammar.{Syntax, Nothing, Token, Both, Left, Right, Node, Case, DerivesPrefix, rule}
 use Rattle.syn_grammar.specs.Table.{table}
@@ -99,8 +99,9 @@ abbrev pub FileLists : Stream → List Listed → Type 0
 FileLists ts l = (tree : Syntax) × Derives file ts tree × (listed tree ≡ l)
 
 -- These are listed of a stream so far, and this is left: whatever items are derived of the rest, a file is derived of the stream, and they
--- are listed behind these; and where a file is derived of the stream, items are of the rest.
+-- are listed behind these; and where a file is derived of the stream, items are of the rest, which is visible.
 pub record ListedSoFar (ts : Stream) (l : List Listed) (m : Stream) : Type 0 where
+  pub seen : visible m ≡ true
   pub onward : (t : Syntax) → Derives items m t → (tree : Syntax) × Derives file ts tree × (listed tree ≡ l ++ listed_items t)
   pub back : (tree : Syntax) → Derives file ts tree → (t : Syntax) × Derives items m t
 
@@ -158,11 +159,11 @@ name_ahead _ ts = None
 abbrev pub NamesStandAhead : Type 0
 NamesStandAhead = (k : Rule) (ts : Stream) (s : Syntax) (r : Stream) → IsKind item k → DerivesPrefix table (rule k) (Node s) ts r → name_in k (behind_attributes s) ≡ name_ahead k ts
 
--- A FILE IS LISTED ITEM BY ITEM. Hold of every stream.
+-- A FILE IS LISTED ITEM BY ITEM. Hold of every visible stream.
 
 -- Behind inner attributes nothing is listed so far.
 abbrev pub ListingBegins : Type 0
-ListingBegins = (ts : Stream) (a : Syntax) (m : Stream) → parse_rule inner_attributes ts ≡ Some (a, m) → ListedSoFar ts [] m
+ListingBegins = (ts : Stream) (a : Syntax) (m : Stream) → visible ts ≡ true → parse_rule inner_attributes ts ≡ Some (a, m) → ListedSoFar ts [] m
 
 -- Where the rule of a kind reads an item, it is listed by this kind, and by the name that stands ahead.
 abbrev pub ListingGoesOn : Type 0
@@ -176,4 +177,4 @@ ListingEnds = (ts : Stream) (l : List Listed) (m : Stream) → ListedSoFar ts l 
 -- Where something is left and no item is read, no file is derived; nor where inner attributes are refused.
 abbrev pub ListingRefused : Type 0
 ListingRefused = ((ts : Stream) (l : List Listed) (m : Stream) → ListedSoFar ts l m → sees ended m ≡ false → parse_rule item m ≡ None → Refused file ts)
-    × ((ts : Stream) → parse_rule inner_attributes ts ≡ None → Refused file ts)
+    × ((ts : Stream) → visible ts ≡ true → parse_rule inner_attributes ts ≡ None → Refused file ts)

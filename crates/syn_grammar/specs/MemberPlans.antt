@@ -1,13 +1,13 @@
 -- THE PLANS OF MEMBERS of traits, impls and foreign modules: the rules `trait_item`, `impl_item` and `foreign_item` without a union.
 use Rattle.std.specs.Prelude.{◌≡◌, false, List, [], ◌∷◌}
 use Rattle.syn_grammar.specs.Words.{w_async, w_const, w_fn, w_mut, w_pub, w_Self_type, w_static, w_type, w_unsafe, w_default, w_safe, semicolon, colon, equals, exclamation}
-use Rattle.syn_grammar.specs.Tokens.{Stream, end, Before_macro, Before_colons, Look, at_word, at_empty_group, ahead, ◌or_else◌}
+use Rattle.syn_grammar.specs.Tokens.{Stream, end, Before_macro, Before_colons, Look, at_word, ahead, ◌or_else◌}
 use Rattle.syn_grammar.specs.Rules.{Rule, attributes, visibility, type, generics, where_clause, type_bounds, body, whole_expression, abi, unsafe_only, safe_or_unsafe, signature, signature_rest, foreign_signature, macro_end, module_path, trait_const, trait_function, trait_type, trait_macro_as_item, kept_trait_item, trait_item, impl_const, impl_function, impl_type, impl_macro_as_item, kept_impl_item, impl_item, foreign_function, foreign_static, foreign_type, foreign_macro_as_item, kept_foreign_item, foreign_item, item}
 use Rattle.syn_grammar.specs.Grammar.{name, word, empty, ◌&◌, when◌then◌else◌, vanishing, rule, Syntax, Both, Left, Right, Node, Vanishing, Case}
 use Rattle.syn_grammar.specs.Forms.{plainly, asking_punctuation, punctuation, never, optional}
-use Rattle.syn_grammar.specs.Table.{at_colon, at_equals, at_semicolon, at_less, at_bang, at_extern, at_where, at_visibility, at_no_macro_item, at_no_trait_macro, optional_item_word, name_or_underscore, optional_value, optional_type, kept_where_clause, optional_where_clause, kept_generics, type_and_clause}
+use Rattle.syn_grammar.specs.Table.{at_colon, at_equals, at_semicolon, at_less, at_bang, at_extern, at_where, at_public, at_no_macro_item, at_no_trait_macro, optional_item_word, name_or_underscore, optional_value, optional_type, kept_where_clause, optional_where_clause, kept_generics, type_and_clause}
 use Rattle.syn_grammar.specs.Run.{parse_rule}
-use Rattle.syn_grammar.specs.Plan.{Plan, reads, turns, keeps, ends, done, fails, run_plan, show_plan, shown_out, Marked}
+use Rattle.syn_grammar.specs.Plan.{Plan, reads, turns, passes, keeps, ends, done, fails, run_plan, show_plan, shown_out, Marked}
 use Rattle.syn_grammar.specs.ItemPlan.{parts, item_of, absent, hidden, inherited, kept_end, item_plan}
 
 -- a member of a kind of its own, whose parts stand in one sequence
@@ -67,12 +67,7 @@ unfoldable pub trait_item_plan : Plan
 trait_item_plan =
     reads (rule attributes) λ a.
     turns (at_word w_pub) (keeps (reads (rule visibility) λ v. reads (optional w_default) λ d. marked_plan))
-    (turns at_empty_group (keeps (reads (rule visibility) λ v.
-    turns (at_word w_default) (reads (plainly (word w_default)) λ d. marked_plan)
-    (reads (plainly (word w_const)) λ k. reads name_or_underscore λ n.
-    turns at_less (reads kept_generics λ g. reads (punctuation colon) λ c. reads (rule type) λ t. reads optional_value λ e. reads optional_where_clause λ w. kept_end)
-    (reads (punctuation colon) λ c. reads (rule type) λ t. reads optional_value λ e. reads kept_where_clause λ w. kept_end))))
-    (turns (at_word w_default) (keeps (reads (plainly (word w_default)) λ d. marked_plan))
+    (passes (turns (at_word w_default) (keeps (reads (plainly (word w_default)) λ d. marked_plan))
     (turns (at_word w_type) (reads (plainly (word w_type)) λ k. reads (plainly name) λ n. reads (rule generics) λ g. reads (vanishing false at_colon (punctuation colon & rule type_bounds)) λ b. reads optional_type λ t. reads (rule where_clause) λ w. reads (punctuation semicolon) λ z. ends (item_of trait_type a (parts (hidden ∷ k ∷ n ∷ g ∷ b ∷ t ∷ w ∷ z ∷ []))))
     (turns (at_word w_const) (reads (plainly (word w_const)) λ c.
     turns at_function (function_after_const (trait_function_end a) (Left c))
@@ -130,13 +125,13 @@ impl_macro_plan a =
 unfoldable pub impl_item_plan : Plan
 impl_item_plan =
     reads (rule attributes) λ a.
-    turns at_visibility (reads (rule visibility) λ v. reads (optional w_default) λ d. impl_member_plan a v d)
-    (turns (at_word w_default) (turns (ahead Before_macro) (impl_macro_plan a)
+    turns at_public (reads (rule visibility) λ v. reads (optional w_default) λ d. impl_member_plan a v d)
+    (passes (turns (at_word w_default) (turns (ahead Before_macro) (impl_macro_plan a)
     (reads (plainly (word w_default)) λ d. impl_member_plan a inherited (Left d)))
     (turns (at_word w_type) (impl_type_plan a inherited absent)
     (turns (at_word w_const) (impl_const_or_function a inherited absent)
     (turns at_function (reads (rule signature) λ s. impl_function_end a inherited absent s)
-    (impl_macro_plan a)))))
+    (impl_macro_plan a))))))
 
 -- A foreign function, behind its signature: with a body it is kept as tokens.
 unfoldable pub foreign_function_end : Syntax → Syntax → Syntax → Plan
@@ -188,13 +183,13 @@ foreign_macro_plan a =
 unfoldable pub foreign_item_plan : Plan
 foreign_item_plan =
     reads (rule attributes) λ a.
-    turns at_visibility (reads (rule visibility) λ v.
+    turns at_public (reads (rule visibility) λ v.
     turns (at_word w_safe) (safety_plan a v)
     (foreign_member_plan a v fails))
-    (turns (at_word w_safe) (turns (ahead Before_macro) (foreign_macro_plan a)
+    (passes (turns (at_word w_safe) (turns (ahead Before_macro) (foreign_macro_plan a)
     (turns (ahead Before_colons) (foreign_macro_plan a)
     (safety_plan a inherited)))
-    (foreign_member_plan a inherited (foreign_macro_plan a)))
+    (foreign_member_plan a inherited (foreign_macro_plan a))))
 
 -- The plans read what the rules read, with the same value. Hold of every stream.
 abbrev pub TraitItemPlan : Type 0

@@ -6,7 +6,7 @@ use Rattle.syn_grammar.specs.Rules.{attributes, module_path, macro_invocation, w
 use Rattle.syn_grammar.specs.Shape.{Macro, operand, said, said_macro, a_local, an_item}
 use Rattle.syn_grammar.specs.Grammar.{Grammar, empty, ◌&◌, when◌then◌else◌, raw, rule, shaped, Syntax, Nothing, Both, Left, Right, Node, Case, Shaped, name_or}
 use Rattle.syn_grammar.specs.Forms.{plainly, asking_punctuation, punctuation, never}
-use Rattle.syn_grammar.specs.Table.{at_semicolon, at_item, at_crate_macro, at_brace_macro, at_block_like, at_bang, at_brace, at_postfix_mark, at_no_macro_item, at_macro_name}
+use Rattle.syn_grammar.specs.Table.{at_semicolon, at_item, at_crate_macro, at_brace_macro, at_invisible, at_block_like, at_bang, at_brace, at_postfix_mark, at_no_macro_item, at_macro_name}
 use Rattle.syn_grammar.specs.Values.{core, stated, in_list, new}
 use Rattle.syn_grammar.specs.Take.{sees}
 use Rattle.syn_grammar.specs.Run.{wrap, and_then, parse_rule, parse_form}
@@ -19,6 +19,7 @@ abbrev pub other_statement : Grammar
 other_statement =
     when at_crate_macro then rule crate_macro
     else when at_brace_macro then shaped said_macro (shaped (operand Macro) (rule macro_invocation) & rule statement_end)
+    else when at_invisible then shaped said (rule whole_expression & punctuation semicolon)
     else when at_word w_let then shaped a_local (rule local)
     else when at_block_like then shaped said (rule block_like & rule statement_end)
     else shaped said (rule whole_expression & punctuation semicolon)

@@ -125,6 +125,14 @@ at_arguments = at_less_only or_else at_paren or_else (at_colons and_also ahead B
 abbrev pub at_restriction : Look
 at_restriction = at_paren and_also (ahead Lone_word or_else ahead Begins_in)
 
+-- A group in parentheses stands next whose content begins with `in`.
+abbrev pub at_in_restriction : Look
+at_in_restriction = at_paren and_also ahead Begins_in
+
+-- A group in parentheses stands next whose content is `crate`, `self` or `super` alone, and no invisible group before it.
+abbrev pub at_lone_word : Look
+at_lone_word = at_paren and_also (ahead Lone_word but_not at_invisible)
+
 -- An identifier that isn't a keyword, or `Self`, stands next: a word of a path behind which arguments may stand.
 abbrev pub at_named_word : Look
 at_named_word = at_name or_else at_word w_Self_type
@@ -1581,12 +1589,12 @@ table const_alias =
     & item_word w_const
     & rule alias
 --
--- A trait with a restriction, which is kept as tokens, behind its attributes: a visibility, `impl`, the restriction in parentheses, perhaps
--- `const`, and the trait.
+-- A trait with a restriction, which is kept as tokens, behind its attributes: a visibility, `impl`, the restriction in parentheses (which is
+-- read as a type where it is one word), perhaps `const`, and the trait.
 table restricted_trait =
     rule visibility
     & plainly (word w_impl)
-    & (when at_restriction then inside Paren (rule restriction) else never)
+    & (when at_in_restriction then inside Paren (rule restriction) else when at_lone_word then inside Paren (rule types) else never)
     & optional w_const
     & rule bare_trait
 --
@@ -1635,7 +1643,7 @@ table odd_impl =
 --
 -- An impl with a visibility and `const`, behind its attributes, with any first type. It is kept as tokens by itself, as another.
 table visible_const_impl =
-    captured ((when at_empty_group then never else plainly (word w_pub))
+    captured ((when at_public then plainly (word w_pub) else never)
     & (when at_restriction then inside Paren (rule restriction) else empty)
     & item_word w_const
     & optional w_unsafe

@@ -1,12 +1,13 @@
 -- WHAT THE TESTS OF PLANS SAY OF TOKENS: who reads by a plan and keeps no values counts words, and looks for marks, among the tokens that were read.
+-- Invisible groups count as their content.
 use Rattle.std.specs.Prelude.{◌≡◌, ℕ, Bool, true, false, List, [], ◌∷◌, Some, nat_eq}
 use Rattle.syn_grammar.specs.Words.{Text, w_where, w_use, equals}
-use Rattle.syn_grammar.specs.Tokens.{Leaf, ident, literal, Stream, end, leaf, punct, group, or, and, no, pick, same_text, Brace, Word, mem}
+use Rattle.syn_grammar.specs.Tokens.{Leaf, ident, literal, Stream, end, leaf, punct, group, is_visible, or, and, no, pick, same_text, Brace, Word, mem}
 use Rattle.syn_grammar.specs.Rules.{Rule, type, attributes, visibility, rooted_trees, root_mark, meta, meta_value, where_clause, structure, structure_rest, structure_body, enumeration, enumeration_rest, union_item, union_item_rest, derive_input, statements, statement_rest, after_block, after_expression, statement, signature, signature_rest, function, function_rest, alias, trait_alias, trait_alias_rest, type_item, type_item_rest, bodiless_function, odd_const, odd_type, bare_trait, trait_definition, trait_definition_rest, const_alias, restricted_trait, impl_body, impl_definition, impl_definition_rest, odd_impl, visible_const_impl, bare_trait_function, bare_trait_type, trait_function, trait_type, any_const, marked_member, odd_trait_const, kept_trait_item, trait_item, trait_items, impl_function, impl_type, bodiless_impl_function, odd_impl_const, odd_impl_type, kept_impl_item, impl_item, impl_items, foreign_signature, foreign_function, foreign_type, foreign_body, odd_foreign_type, kept_foreign_item, foreign_item, foreign_items, kept_item_rest, kept_item, kept_in_block, item_rest, item, items, file}
 use Rattle.syn_grammar.specs.RuleNumbers.{same_rule}
 use Rattle.syn_grammar.specs.Grammar.{word, terminals, has, one_where, holds, among, Grammar, empty, token, mark, lifetime, ◌&◌, when◌then◌else◌, vanishing, inside, raw, rest_after, either, one_of, rule, such, captured, unshown, supplied, row, ordered, shaped, generics_before, Syntax}
 use Rattle.syn_grammar.specs.Forms.{plainly, punctuation}
-use Rattle.syn_grammar.specs.Take.{before}
+use Rattle.syn_grammar.specs.Take.{flat, before}
 use Rattle.syn_grammar.specs.Run.{parse_form}
 use Rattle.syn_grammar.specs.Alone.{all_of}
 use Rattle.syn_grammar.specs.ItemPlan.{parts}
@@ -71,8 +72,8 @@ spares a said x lifetime = a
 spares a said x (g & h) = and (spares a said x g) (spares a said x h)
 spares a said x (when c then g else h) = and (spares a said x g) (spares a said x h)
 spares a said x (vanishing b c g) = spares a said x g
-spares a said x (inside d g) = true
-spares a said x (raw d) = true
+spares a said x (inside d g) = or (is_visible d) (spares a said x g)
+spares a said x (raw d) = is_visible d
 spares a said x (rest_after cs) = false
 spares a said x (either g h) = and (spares a said x g) (spares a said x h)
 spares a said x (one_of ks) = all_of said ks
@@ -102,10 +103,10 @@ all_spare a said x (p ∷ l) = and (spares a said x p.0) (all_spare a said x l)
 -- stands once at most among all tokens that were read. Holds of every stream.
 abbrev pub OneWhereTold : Type 0
 OneWhereTold = (l : List Piece) (b m : Stream) (w q t x : Syntax) → all_spare true wordless w_where l ≡ true →
-    WasRead ((rule where_clause, x) ∷ (rule type, t) ∷ (punctuation equals, q) ∷ (rule where_clause, w) ∷ l) b m → has_one_where (before b m) ≡ holds one_where (parts (w ∷ q ∷ t ∷ x ∷ []))
+    WasRead ((rule where_clause, x) ∷ (rule type, t) ∷ (punctuation equals, q) ∷ (rule where_clause, w) ∷ l) b m → has_one_where (flat (before b m)) ≡ holds one_where (parts (w ∷ q ∷ t ∷ x ∷ []))
 
 -- A USE, behind attributes and a visibility (or either of them): one of the trees in its braces has `::` before it exactly where such a `:` stands among the tokens.
 -- Holds of every stream.
 abbrev pub RootMarkTold : Type 0
 RootMarkTold = (l : List Piece) (b m : Stream) (k t : Syntax) → all_spare false opening w_use l ≡ true →
-    WasRead ((inside Brace (rule rooted_trees), t) ∷ (plainly (word w_use), k) ∷ l) b m → use_roots (before b m) ≡ holds (has root_mark) t
+    WasRead ((inside Brace (rule rooted_trees), t) ∷ (plainly (word w_use), k) ∷ l) b m → use_roots (flat (before b m)) ≡ holds (has root_mark) t

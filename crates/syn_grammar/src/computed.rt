@@ -37,8 +37,8 @@ pub fn parse_onward()
     ensures no_more_left { ParseOnward }
 {}
 
-/// What is computed of a rule is the value of a tree that the rule's form is made of. Holds of every token
-/// stream, also of one with invisible groups.
+/// What is computed of a rule is the value of a tree that the rule's form makes of the stream, invisible
+/// groups looked through (specs/Made). Holds of every token stream.
 pub fn computed_is_made()
     ensures as_made { ComputedIsMade }
 {}
@@ -61,44 +61,44 @@ pub fn captured_is_some()
 {}
 
 /// What a rule that passes the test `reads_alone` reads in front of a rest it reads alone, as the same
-/// value, with nothing left. Every rule that ends by itself passes. Holds of every visible
-/// token stream.
+/// value, with nothing left. Every rule that ends by itself passes. Holds of every
+/// visible token stream.
 pub fn read_alone()
     ensures read_alone { ReadAlone }
 {}
 
 /// Of token streams that are equal but for their spans (in bytes), a rule reads values that are equal
-/// but for their spans. Holds of every visible
-/// token stream.
+/// but for their spans. Holds of every
+/// visible token stream.
 pub fn values_forget_spans()
     ensures like_values { ValuesForgetSpans }
 {}
 
 /// Of what a rule of `reads_shown` reads as a whole, the tokens that are shown (in their order, no empty
-/// list left out) are read as a whole, as the same value with the same spans. Holds of every visible
-/// token stream.
+/// list left out) are read as a whole, as the same value with the same spans. Holds of every
+/// visible token stream.
 pub fn show_is_read()
     ensures as_the_same { ShowIsRead }
 {}
 
 /// What a rule that stands alone (`stands_alone`: nothing is read otherwise where what follows is cut
 /// off) reads in front of a rest, shown, is read as a whole, as the same value with the
-/// same spans. Holds of every visible
-/// token stream.
+/// same spans. Holds of every
+/// visible token stream.
 pub fn show_stands_alone()
     ensures as_the_same { ShowStandsAlone }
 {}
 
 /// What a rule reads in front of a mark of `stands_before` (before which it stands as before the end),
-/// shown, is read as a whole, as the same value with the same spans. Holds of every visible
-/// token stream.
+/// shown, is read as a whole, as the same value with the same spans. Holds of every
+/// visible token stream.
 pub fn show_stands_before()
     ensures as_the_same { ShowStandsBefore }
 {}
 
 /// Of two token streams that a rule of `reads_shown` reads as a whole, the values are equal, spans (in
-/// bytes) aside, exactly where the tokens that are shown of them are. Holds of every visible
-/// token stream.
+/// bytes) aside, exactly where the tokens that are shown of them are. Holds of every
+/// visible token stream.
 pub fn same_show()
     ensures exactly { SameShow }
 {}
@@ -215,13 +215,13 @@ pub fn root_mark_told()
 {}
 
 /// A type, printed before anything, would be read as generics exactly where its tokens would be. Holds
-/// of every stream.
+/// of every visible stream.
 pub fn type_leads()
     ensures by_tokens { TypeLeads }
 {}
 
 /// Whether empty generics of an impl are printed (`led`) is told by the tokens behind its generics, and
-/// by those of its self type behind `for`. Holds of every stream.
+/// by those of its self type behind `for`. Holds of every visible stream.
 pub fn impl_led()
     ensures by_tokens { ImplLed }
 {}

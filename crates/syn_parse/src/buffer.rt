@@ -122,8 +122,8 @@ impl<'a> ParseBuffer<'a> {
         self.end = fork.end;
     }
 
-    /// What is left, as a cursor, which sees one token tree after another and reads nothing.
-    pub fn cursor(&self) -> Cursor<'a>
+    /// The place where it stands, from which one token after another is seen, and nothing is read.
+    pub fn place(&self) -> Place<'a>
         ensures { result ≡ self.now }
     {
         self.tokens.fork()

@@ -1,10 +1,12 @@
-//! What stands next, as far as one look at one token tree tells it.
+//! What stands next, as far as one look at one token or visible group tells it.
+ghost use Rattle.syn_grammar.specs.Take.{front};
 ghost use Rattle.syn_tokens.specs.Cursors.{before_next};
 ghost use Rattle.syn_parse.specs.Firsts.{Begins};
 
 use crate::buffer::ParseBuffer;
 use syn_tokens::delimiter::Delimiter;
-use syn_tokens::stream::cursor::{Cursor, TokenTreeRef};
+use syn_tokens::stream::cursor::TokenTreeRef;
+use syn_tokens::stream::place::Place;
 
 /// What the next token tree is.
 #[derive(Clone, Copy)]
@@ -22,7 +24,7 @@ pub enum First {
 }
 
 /// What a token tree is.
-fn first_of(next: &TokenTreeRef<'_>, rest: &Cursor<'_>) -> First
+fn first_of(next: &TokenTreeRef<'_>, rest: &Place<'_>) -> First
     ensures { Begins result (before_next next.now rest.now) }
 {
     match next {
@@ -40,9 +42,10 @@ fn first_of(next: &TokenTreeRef<'_>, rest: &Cursor<'_>) -> First
 }
 
 impl<'a> ParseBuffer<'a> {
-    /// What stands next: a caller asks it once, and tells many conditions by it without looking again.
+    /// What stands next, invisible groups looked through: a caller asks it once, and tells many conditions by it without looking
+    /// again.
     pub fn first(&self) -> First
-        ensures { Begins result self.now }
+        ensures { Begins result (front self.now) }
     {
         match self.tokens.split() {
             Some((next, rest)) => first_of(&next, &rest),
