@@ -8,7 +8,9 @@ import re
 from . import antt
 
 FILES = ['ItemPlan', 'MemberPlans', 'StatementPlans', 'SmallPlans', 'AlonePlans']
-WORDS = ('reads', 'apart', 'turns', 'tests', 'keeps', 'ends', 'done', 'fails')
+# what a plan passes: the part of a visibility that isn't written
+PASSED = ['(', 'vanishing', 'true', 'at_empty_group', '(', 'inside', 'None', 'empty', ')', ')']
+WORDS = ('reads', 'apart', 'turns', 'tests', 'passes', 'keeps', 'ends', 'done', 'fails')
 
 
 class Plans:
@@ -21,7 +23,7 @@ class Plans:
         known, self.clauses = self.clauses, {}
         self.read(more)
         self.clauses = {**known, **self.clauses}
-        self.places = ('public', 'unwritten', 'plain')
+        self.places = ('public', 'plain')
         self.reader, self.called = Reader, set()
 
     def read(self, text):
@@ -162,6 +164,8 @@ class Reader:
             test = self.form()
             self.skip()
             return ('tests', test, self.atom_plan(), self.atom_plan())
+        if word == 'passes':
+            return ('reads', self.plans.value(PASSED), self.atom_plan())
         if word == 'keeps':
             return self.atom_plan()
         if word == 'ends':

@@ -1464,11 +1464,9 @@ restricted_trait_border_8 : NotDerived (rule restricted_trait)
 unfolding left is_end lookahead_at sees take_token take_lifetime take_mark take_group before first_span rows_for rows run parse_rule
 restricted_trait_border_8 = not_read restricted_trait _ refl refl
 
--- `impl \(\) (super) trait union {}` prints `impl (super) trait union {}`
-restricted_trait_border_9 : ComputesAs restricted_trait
+-- `impl \(\) (super) trait union {}`: nothing is read
+restricted_trait_border_9 : ComputesNothing restricted_trait
     (leaf (ident w_impl) (at 0 4) (group None (at 5 7) (at 7 9) end (group Paren (at 10 11) (at 16 17) (leaf (ident w_super) (at 11 16) end) (leaf (ident w_trait) (at 18 23) (leaf (ident w_union) (at 24 29) (group Brace (at 30 31) (at 31 32) end end))))))
-    (leaf (ident w_impl) call_site (group Paren call_site call_site (leaf (ident w_super) call_site end) (leaf (ident w_trait) call_site (leaf (ident w_union) call_site (group Brace call_site call_site end end)))))
-    (end)
 unfolding left is_end lookahead_at sees take_token take_lifetime take_mark take_group before rows_for rows run parse_rule
 restricted_trait_border_9 = refl
 
