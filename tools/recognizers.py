@@ -136,7 +136,8 @@ ALSO_TOLD = {
     ('and_also', ('at_mark', '<'), ('ahead', ('Before_parameter',))): 'Generics',
     ('at_literal', ('Str',)): 'StrLiteral', ('ahead', ('Before_colons',)): 'BeforeColons', ('ahead', ('Before_macro',)): 'BeforeMacro',
     ('and_also', ('at_word', 'union'), ('ahead', ('Begins_item',))): 'MarkedUnion', ('and_also', ('at_word', 'auto'), ('ahead', ('Begins_item',))): 'MarkedAuto',
-    ('and_also', ('at_group', ('Paren',)), ('ahead', ('Begins_in',))): 'InRestriction', ('and_also', ('at_group', ('Paren',)), ('ahead', ('Lone_word',))): 'LoneWord',
+    ('and_also', ('at_group', ('Paren',)), ('ahead', ('Begins_in',))): 'InRestriction',
+    ('and_also', ('at_group', ('Paren',)), ('but_not', ('ahead', ('Lone_word',)), ('at_group', ('None',)))): 'LoneWord',
 }
 
 TOKENS = {
@@ -677,7 +678,7 @@ class Writer:
         variants = sorted(self.variants)
         return [
             f'-- {WRITTEN}', '-- WHAT WORDS, MARKS, LOOKS, SHAPES AND RULES AS DATA STAND FOR.', 'use Rattle.syn_grammar.specs.Words.{Text, ' + ', '.join(name for _, name in texts + marks) + '}',
-            'use Rattle.syn_grammar.specs.Words.{w_union, w_auto}', 'use Rattle.syn_grammar.specs.ItemPlan.{at_in_restriction, at_lone_word}',
+            'use Rattle.syn_grammar.specs.Words.{w_union, w_auto}', 'use Rattle.syn_grammar.specs.Table.{at_in_restriction, at_lone_word}',
             'use Rattle.syn_grammar.specs.Tokens.{Int, Str, Before_colons, Before_macro, Begins_item, Look, ended, at_name, at_word, at_mark, at_group, at_literal, at_empty_group, ahead, ◌or_else◌, ◌and_also◌, ◌but_not◌, at_lifetime, at_path_word, at_generics}',
             'use Rattle.syn_grammar.specs.Table.{' + ', '.join(told[:-2]) + '}',
             'use Rattle.syn_grammar.specs.Rules as rules', 'use Rattle.syn_grammar.specs.Rules.{Rule}',

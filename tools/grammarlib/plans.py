@@ -189,6 +189,8 @@ def endings(plan):
         return endings(plan[2]) | endings(plan[3])
     if kind == 'tests':
         return {'tests'} | endings(plan[2]) | endings(plan[3])
+    if kind == 'passes':
+        return endings(plan[1])
     if kind == 'then':
         return {'then'} | endings(plan[1])
     if kind in ('lists', 'self'):
@@ -287,7 +289,8 @@ class Values:
 
 
 class Prover(Reader):
-    """Reads a plan with its values: ('reads', form, plan, number), ('ends', parts, text), ('impl', parts, texts) (an impl behind its word)."""
+    """Reads a plan with its values: ('reads', form, plan, number), ('ends', parts, text), ('impl', parts, texts) (an impl behind its word).
+    What a plan passes has no value: ('passes', plan)."""
     count = 0
 
     def plan(self):
@@ -318,6 +321,9 @@ class Prover(Reader):
             self.skip()
             given = [self.names[x] for x in self.skip()[2:6]]
             return ('alone', both([x[1] for x in given]), [x[2] for x in given])
+        if word == 'passes':
+            self.at += 1
+            return ('passes', self.atom_plan())
         if word == 'impl_generics':
             self.at += 1
             given = self.arguments()
@@ -380,6 +386,8 @@ class Proofs:
             if 'tests' in ends and plan[1] == ('rule', ('where_clause',)):
                 return self.clause(plan, at)
             return f'(refl, λ x{n} r{n} e{n}. {self.of(plan[2], f"r{n}")})'
+        if kind == 'passes':
+            return f'(refl, {self.of(plan[1], f"(past_empty {at})")})'
         assert kind == 'turns', plan
         return f'(refl, {self.both_turns(plan, at, self.of)})'
 
@@ -403,6 +411,8 @@ class Proofs:
         if plan[0] == 'reads':
             n = plan[3]
             return f'(refl, (refl, λ x{n} r{n} e{n}. {self.flat(plan[2], f"r{n}")}))'
+        if plan[0] == 'passes':
+            return f'(refl, (refl, {self.flat(plan[1], f"(past_empty {at})")}))'
         if plan[0] == 'turns':
             return f'(refl, {self.both_turns(plan, at, self.flat)})'
         if plan[0] == 'fails':
@@ -422,6 +432,8 @@ class Proofs:
     def kept(self, plan):
         if plan[0] == 'reads':
             return f'(refl, (refl, λ x{plan[3]}. {self.kept(plan[2])}))'
+        if plan[0] == 'passes':
+            return f'(refl, (refl, {self.kept(plan[1])}))'
         if plan[0] == 'turns':
             return f'(refl, ({self.kept(plan[2])}, {self.kept(plan[3])}))'
         return 'refl'

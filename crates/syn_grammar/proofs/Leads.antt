@@ -10,7 +10,7 @@ use Rattle.syn_grammar.specs.Grammar.{Kind, underscore, rest_after, Rest, suits,
 use Rattle.syn_grammar.specs.Table.{table, at_colons, at_less_only, at_paren, at_arguments, at_named_word, first_type_facts, no_arguments, at_for}
 use Rattle.syn_grammar.specs.Forms.{plainly, asking_punctuation, punctuation}
 use Rattle.syn_grammar.specs.Shape.{untagged}
-use Rattle.syn_grammar.specs.Take.{Out, sees, take_token}
+use Rattle.syn_grammar.specs.Take.{Out, sees, take_token, take_mark}
 use Rattle.syn_grammar.specs.Made.{Made}
 use Rattle.syn_grammar.specs.Run.{value_of}
 use Rattle.syn_grammar.specs.Alone.{all_of}

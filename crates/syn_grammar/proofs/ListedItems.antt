@@ -2,7 +2,7 @@
 use Rattle.std.proofs.Common.{◌≡◌, true, false, None, refl, sym, ap, ◌∙◌, subst, true≢false, ◌⊎◌, inl, inr}
 use Rattle.std.specs.Prelude.{List, [], ◌∷◌, ◌++◌}
 use Rattle.std.proofs.lemmas.List.{append-nil, append_assoc}
-use Rattle.syn_grammar.specs.Tokens.{Stream, end, ended, stands}
+use Rattle.syn_grammar.specs.Tokens.{Stream, end, ended, stands, visible}
 use Rattle.syn_grammar.specs.Rules.{Rule, inner_attributes, item, items, file}
 use Rattle.syn_grammar.specs.Grammar.{rule, ◌&◌, empty, unshown, Syntax, Nothing, Node, Case, Both, Left, Right, Unshown, DerivesPrefix}
 use Rattle.syn_grammar.specs.Table.{table}

@@ -62,6 +62,11 @@ pub some_known : Known → Bool
 some_known [] = false
 some_known (p ∷ l) = true
 
+-- of what is known of a group that is looked for behind invisible groups
+abbrev pub in_group : Delimiter → Known → Known
+in_group Invisible l = []
+in_group d l = inside_group d l
+
 -- nothing is read by these forms
 abbrev pub gone : ℕ → Known → List Grammar → Bool
 gone zero l fs = false
@@ -178,11 +183,6 @@ gone_token b k l fs m h f = go (take_token k m) refl
 pub named_one : (k : Rule) (o : Out) → named k (wrap Node o) None ≡ wrap (Case k) o
 named_one k (Some x) = refl
 named_one k None = refl
-
--- of what is known of a group that is looked for behind invisible groups
-abbrev pub in_group : Delimiter → Known → Known
-in_group Invisible l = []
-in_group d l = inside_group d l
 
 content_known : (d : Delimiter) (l : Known) (o c : Span) (i r m : Stream) → front m ≡ group d o c i r → is_visible d ≡ true → (lookahead_at m).facts ≡ facts_for (asked_inside d) (lookahead_at i)
 unfolding lookahead_at

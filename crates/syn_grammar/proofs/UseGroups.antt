@@ -1,6 +1,7 @@
 -- Trees of a use in braces, of which none has `::` before it, are read alike by the two rules of them.
 use Rattle.std.proofs.Common.{◌≡◌, Bool, true, false, Some, refl, sym, ap, ap₂, ◌∙◌, true≢false, ◌⊎◌, inl, inr}
-use Rattle.syn_grammar.specs.Tokens.{Stream, or, and, lookahead}
+use Rattle.syn_grammar.specs.Words.{star}
+use Rattle.syn_grammar.specs.Tokens.{Stream, or, and, starts_mark, lookahead}
 use Rattle.syn_grammar.specs.Rules.{Rule, use_tree, use_trees, rooted_tree, rooted_trees, root_mark}
 use Rattle.syn_grammar.specs.RuleNumbers.{same_rule}
 use Rattle.syn_grammar.specs.Grammar.{Grammar, Syntax, Nothing, Token, Mark, Both, Left, Right, Node, Case, Group, empty, token, mark, ◌&◌, when◌then◌else◌, inside, rule, has, has_part}
@@ -38,7 +39,7 @@ not_colons s ts r d = go (sees at_colons ts) refl
 no_star : (ts : Stream) → sees at_brace ts ≡ true → sees at_star ts ≡ false
 no_star ts e =
     let (v, f) = brace_terminal (lookahead (flat ts)).terminal (sym (sees_flat at_brace ts refl) ∙ e) in
-    sees_flat at_star ts refl ∙ cc (f)
+    sees_flat at_star ts refl ∙ ap (starts_mark star) f
 
 no_brace : (ts : Stream) → sees at_star ts ≡ true → sees at_brace ts ≡ false
 no_brace ts e = go (sees at_brace ts) refl

@@ -1,6 +1,6 @@
 -- WHAT LEADS AN IMPL: whether what stands behind its generics, or its self type behind `for`, would be read as generics. The print of empty generics
 -- asks that of what is printed (`led`); who reads an impl sees it in the tokens, where they are visible.
-use Rattle.std.specs.Prelude.{◌≡◌, Bool, false, [], ◌∷◌, Some, None}
+use Rattle.std.specs.Prelude.{◌≡◌, Bool, true, false, [], ◌∷◌, Some, None}
 use Rattle.syn_grammar.specs.Words.{w_for, exclamation}
 use Rattle.syn_grammar.specs.Tokens.{Stream, ◌⧺◌, visible, or, at_generics, stands}
 use Rattle.syn_grammar.specs.Rules.{type, type_path, for_self_type, impl_body}

@@ -1,12 +1,13 @@
 -- What is written on a course is what is written of what its plan reads.
 use Rattle.std.proofs.Common.{◌≡◌, Bool, true, false, Option, [], ◌∷◌, Some, None, refl, sym, ap, ◌∙◌, subst}
-use Rattle.syn_grammar.specs.Tokens.{Stream, end, ◌⧺◌, pick, Look}
+use Rattle.syn_grammar.specs.Tokens.{Stream, None as Invisible, end, ◌⧺◌, pick, Look, at_empty_group}
 use Rattle.syn_grammar.specs.Rules.{Rule}
-use Rattle.syn_grammar.specs.Grammar.{Syntax, Nothing, Node, Case, Captured, Grammar, empty, ◌&◌, when◌then◌else◌, one_of}
+use Rattle.syn_grammar.specs.Grammar.{Syntax, Nothing, Right, Vanishing, Node, Case, Captured, Grammar, empty, ◌&◌, when◌then◌else◌, vanishing, inside, one_of}
 use Rattle.syn_grammar.specs.Take.{Out, Parser, sees, before}
 use Rattle.syn_grammar.specs.Run.{parse_form}
 use Rattle.syn_grammar.specs.Plan as plan
-use Rattle.syn_grammar.specs.Plan.{Plan, follow, by_test, run_plan, kept_as}
+use Rattle.syn_grammar.specs.Plan.{Plan, follow, by_test, past_empty, run_plan, kept_as}
+use Rattle.syn_grammar.proofs.Gaps.{unwritten_read}
 use Rattle.syn_grammar.proofs.Streams.{append_end, append_append}
 use Rattle.syn_recognize.specs.Within.{first, second}
 use Rattle.syn_recognize.specs.PrintedRows.{way}
@@ -22,10 +23,27 @@ use Rattle.syn_recognize.proofs.Ways.{way_shape}
 use Rattle.syn_recognize.proofs.Writes.{adds_more, adds_nothing}
 use Rattle.syn_recognize.proofs.Todo.{leads_same}
 
+-- the form of what a plan passes: a visibility that isn't written; and its value, of which nothing is written
+abbrev passed : Grammar
+passed = vanishing true at_empty_group (inside Invisible empty)
+
+abbrev unwritten : Syntax
+unwritten = Vanishing true (Right Nothing)
+
+way_unwritten : (a : Bool) → way a unwritten ≡ end
+way_unwritten true = refl
+way_unwritten false = refl
+
+passes_nothing : (w : Written) (i m : Stream) (f : Written → Stream → Copy) → next (copied (adds w i) (parse_form passed m)) f ≡ f (adds w i) (past_empty m)
+passes_nothing w i m f =
+    ap (λ o. next (copied (adds w i) o) f) (unwritten_read m)
+    ∙ ap (λ v. f v (past_empty m)) (adds_more w i (way w.printing unwritten) ∙ ap (adds w) (ap (λ z. i ⧺ z) (way_unwritten w.printing) ∙ append_end i))
+
 -- A FORM reads as a plan that keeps nothing: behind what was written (i), at its end the text of the plan's value was written
 abbrev pub Flat : Bool → Grammar → Plan → Stream → Stream → Type 0
 Flat a g (plan.reads h f) i m = (g ≡ first g & second g) × ((parse_form (first g) ≡ parse_form h) × ((s : Syntax) (r : Stream) → parse_form h m ≡ Some (s, r) → Flat a (second g) (f s) (i ⧺ way a s) r))
 Flat a g (plan.turns c p q) i m = (g ≡ when c then first g else second g) × ((sees c m ≡ true → Flat a (first g) p i m) × (sees c m ≡ false → Flat a (second g) q i m))
+Flat a g (plan.passes p) i m = (g ≡ first g & second g) × ((first g ≡ passed) × Flat a (second g) p i (past_empty m))
 Flat a g (plan.ends s) i m = (g ≡ empty) × (way a s ≡ i)
 Flat a g plan.fails i m = g ≡ one_of []
 Flat a g (plan.tests t s p q) i m = ⊥
@@ -49,6 +67,9 @@ module _ (k : Rule) (b : Stream) (w : Written) where
           pick v (copy_form (first g) (adds w i) m) (copy_form (second g) (adds w i) m) ≡ copied w (by_test v (run_plan p k b m) (run_plan q k b m))
       go true x y = x refl
       go false x y = y refl
+  flat_is g (plan.passes p) i m e =
+      ap (λ x. copy_form x (adds w i) m) e.0 ∙ then_is (first g) (second g) (adds w i) m
+      ∙ ap (λ x. next (copied (adds w i) (parse_form x m)) (copy_form (second g))) e.1.0 ∙ passes_nothing w i m (copy_form (second g)) ∙ flat_is (second g) p i (past_empty m) e.1.1
   flat_is g (plan.ends s) i m e = ap (λ x. copy_form x (adds w i) m) e.0 ∙ empty_is (adds w i) m ∙ ap (λ z. Reached (adds w z) m) (sym e.1)
   flat_is g plan.fails i m e = ap (λ x. copy_form x (adds w i) m) e
   flat_is g (plan.tests t s p q) i m e = absurd e
@@ -59,6 +80,7 @@ module _ (k : Rule) (b : Stream) (w : Written) where
 abbrev pub Kept : Grammar → Plan → Type 0
 Kept g (plan.reads h f) = (g ≡ first g & second g) × ((parse_form (first g) ≡ parse_form h) × ((s : Syntax) → Kept (second g) (f s)))
 Kept g (plan.turns c p q) = (g ≡ when c then first g else second g) × (Kept (first g) p × Kept (second g) q)
+Kept g (plan.passes p) = (g ≡ first g & second g) × ((first g ≡ passed) × Kept (second g) p)
 Kept g (plan.keeps p) = Kept g p
 Kept g plan.done = g ≡ empty
 Kept g plan.fails = g ≡ one_of []
@@ -86,6 +108,10 @@ module _ (k : Rule) (b : Stream) (u : Written) where
           next (pick v (copy_form (first g) w m) (copy_form (second g) w m)) (capturing u b) ≡ copied u (by_test v (run_plan p k b m) (run_plan q k b m))
       go true x y = x
       go false x y = y
+  kept_is g (plan.passes p) w m e =
+      ap (λ x. next (copy_form x w m) (capturing u b)) e.0 ∙ ap (λ x. next x (capturing u b)) (then_is (first g) (second g) w m)
+      ∙ ap (λ o. next (next (copied w o) (copy_form (second g))) (capturing u b)) (ap (λ x. parse_form x m) e.1.0 ∙ unwritten_read m)
+      ∙ kept_is (second g) p (adds w (way w.printing unwritten)) (past_empty m) e.1.1
   kept_is g (plan.keeps p) w m e = kept_is g p w m e
   kept_is g plan.done w m e =
       ap (λ x. next (copy_form x w m) (capturing u b)) e ∙ ap (λ x. next x (capturing u b)) (empty_is w m) ∙ ap (λ z. Reached (adds u z) m) (sym (way_kept u.printing k b m))
@@ -141,6 +167,11 @@ module _ (k : Rule) (b : Stream) (w : Written) where
       go true x y = x refl
       go false x y = y refl
 
+  -- what is passed, and what follows it
+  pub passes_written : (d : Course) (p : Plan) (l : Option Bool) (i m : Stream) → Written-as d p l i (past_empty m) → Written-as (reads passed d) (plan.passes p) l i m
+  unfolding copy_form
+  passes_written d p l i m h = subst (Leads (copied w (run_plan p k b (past_empty m)))) (sym (passes_nothing w i m (copy_course d l))) h
+
   pub rest_written : (g : Grammar) (p : Plan) (l : Option Bool) (i m : Stream) → Flat w.printing g p i m → Written-as (rest g) p l i m
   rest_written g p None i m e = leads_same (copied w (run_plan p k b m)) (copy_form g (adds w i) m) (sym (flat_is k b w g p i m e))
   rest_written g p (Some true) i m e = tt
@@ -173,6 +204,11 @@ module _ (k : Rule) (b : Stream) (w : Written) where
       go None ih = refl
       go (Some x) ih = ih x.0 x.1 (adds v (way v.printing x.0)) refl
 
+  pub passes_kept : (d : Course) (p : Plan) (v : Written) (m : Stream) → ((v : Written) → Kept-as d p v (past_empty m)) → Kept-as (reads passed d) (plan.passes p) v m
+  unfolding copy_form
+  passes_kept d p v m h =
+      subst (λ o. Leads (copied w (run_plan p k b (past_empty m))) (next (next (copied v o) (copy_kept d)) (capturing w b))) (sym (unwritten_read m)) (h (adds v (way v.printing unwritten)))
+
   pub turns_kept : (c : Look) (d e : Course) (p q : Plan) (v : Written) (m : Stream) → (sees c m ≡ true → Kept-as d p v m) → (sees c m ≡ false → Kept-as e q v m) → Kept-as (turns c d e) (plan.turns c p q) v m
   turns_kept c d e p q v m x y = go (sees c m) x y
     where
@@ -190,6 +226,7 @@ abbrev pub Goes : Bool → Course → Plan → Stream → Stream → Type 0
 Goes a (rest g) p i m = Flat a g p i m
 Goes a (kept g) p i m = Kept g p
 Goes a (reads g d) (plan.reads h f) i m = (parse_form g ≡ parse_form h) × ((s : Syntax) (r : Stream) → parse_form h m ≡ Some (s, r) → Goes a d (f s) (i ⧺ way a s) r)
+Goes a (reads g d) (plan.passes p) i m = (g ≡ passed) × Goes a d p i (past_empty m)
 Goes a (turns c d e) (plan.turns h p q) i m = (c ≡ h) × ((sees h m ≡ true → Goes a d p i m) × (sees h m ≡ false → Goes a e q i m))
 Goes a (turns c d e) (plan.reads h f) i m = Meets a (turns c d e) (plan.reads h f) i m
 Goes a (rooted d e) p i m = Meets a (rooted d e) p i m
@@ -201,6 +238,8 @@ module _ (k : Rule) (b : Stream) (w : Written) where
   goes_written (rest g) p l i m fair e = rest_written k b w g p l i m e
   goes_written (kept g) p l i m fair e = kept_written k b w g p l i m e
   goes_written (reads g d) (plan.reads h f) l i m fair e = reads_written k b w g h d f l i m e.0 (λ s r q. goes_written d (f s) l (i ⧺ way w.printing s) r fair (e.1 s r q))
+  goes_written (reads g d) (plan.passes p) l i m fair e =
+      subst (λ z. Written-as k b w (reads z d) (plan.passes p) l i m) (sym e.0) (passes_written k b w d p l i m (goes_written d p l i (past_empty m) fair e.1))
   goes_written (turns c d e') (plan.turns h p q) l i m fair e =
       subst (λ z. Written-as k b w (turns z d e') (plan.turns h p q) l i m) (sym e.0) (turns_written k b w h d e' p q l i m (λ s. goes_written d p l i m fair (e.1.0 s)) (λ s. goes_written e' q l i m fair (e.1.1 s)))
   goes_written (turns c d e') (plan.reads h f) l i m fair e = e.written k b w refl l fair
@@ -212,6 +251,8 @@ module _ (k : Rule) (b : Stream) (w : Written) where
   goes_kept (rest g) p i v m e = tt
   goes_kept (kept g) p i v m e = leads_same (copied w (run_plan p k b m)) (next (copy_form g v m) (capturing w b)) (sym (kept_is k b w g p v m e))
   goes_kept (reads g d) (plan.reads h f) i v m e = reads_kept k b w g h d f v m e.0 (λ s r z q. goes_kept d (f s) (i ⧺ way w.printing s) z r (e.1 s r q))
+  goes_kept (reads g d) (plan.passes p) i v m e =
+      subst (λ z. Kept-as k b w (reads z d) (plan.passes p) v m) (sym e.0) (passes_kept k b w d p v m (λ v. goes_kept d p i v (past_empty m) e.1))
   goes_kept (turns c d e') (plan.turns h p q) i v m e =
       subst (λ z. Kept-as k b w (turns z d e') (plan.turns h p q) v m) (sym e.0) (turns_kept k b w h d e' p q v m (λ s. goes_kept d p i v m (e.1.0 s)) (λ s. goes_kept e' q i v m (e.1.1 s)))
   goes_kept (turns c d e') (plan.reads h f) i v m e = e.all_kept k b w refl v

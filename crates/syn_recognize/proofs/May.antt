@@ -1,18 +1,21 @@
 -- What one look at the next token tree tells of conditions.
-use Rattle.std.proofs.Common.{◌≡◌, ℕ, Bool, true, false, List, [], ◌∷◌, ◌++◌, nat_eq, refl, sym, ap, ap₂, ◌∙◌, subst, true≢false}
+use Rattle.std.proofs.Common.{◌≡◌, ℕ, Bool, true, false, None as Option-none, List, [], ◌∷◌, ◌++◌, nat_eq, refl, sym, ap, ap₂, ◌∙◌, subst, true≢false}
 use Rattle.std.proofs.lemmas.Bool.{eqb-true}
 use Rattle.syn_grammar.specs.Words.{Text, keywords, contextual, long_marks, lifetime_mark}
-use Rattle.syn_grammar.specs.Tokens.{LitKind, Stream, end, leaf, ident, literal, punct, group, or, and, no, pick, same_text, one_of_texts, begins_text, starts_mark, longest, char_terminal, Terminal, Ended, Name, Word, Punctuation, Literal, Delimited, answers, lookahead, lookahead_with, Look, ended, at_name, at_word, at_mark, at_literal, at_group, at_empty_group, ahead, ◌or_else◌, ◌and_also◌, ◌but_not◌}
+use Rattle.syn_grammar.specs.Tokens.{LitKind, Paren, Brace, Bracket, None as Invisible, delimiter_number, Stream, end, leaf, ident, literal, punct, group, or, and, no, pick, same_text, one_of_texts, begins_text, starts_mark, longest, char_terminal, Terminal, Ended, Name, Word, Punctuation, Literal, Delimited, answers, lookahead, lookahead_with, Look, ended, at_name, at_word, at_mark, at_literal, at_group, at_empty_group, ahead, ◌or_else◌, ◌and_also◌, ◌but_not◌}
 use Rattle.syn_grammar.specs.Tokens as grammar
-use Rattle.syn_grammar.specs.Take.{sees, lookahead_at, taken}
+use Rattle.syn_grammar.specs.Take.{flat, group_of, opened_empty, sees, lookahead_at, taken}
+use Rattle.syn_grammar.proofs.Takes.{sees_flat}
 use Rattle.syn_grammar.proofs.Looks.{sees_name}
 use Rattle.syn_grammar.proofs.Sets.{same_text_eq, no_true, and_left, and_right}
 use Rattle.syn_tokens.specs.Idents.{is_keyword}
 use Rattle.syn_tokens.specs.Delimiters.{delimiter_of}
+use Rattle.syn_tokens.specs.declared.delimiter.Delimiter.{Delimiter}
+use Rattle.syn_tokens.specs.declared.delimiter.Delimiter.TheVariants as D
 use Rattle.syn_parse.specs.Firsts.{Begins}
 use Rattle.syn_parse.specs.declared.buffer.first.First.{First}
 use Rattle.syn_parse.specs.declared.buffer.first.First.TheVariants as F
-use Rattle.syn_recognize.specs.May.{sure, head_of, is_literal, is_mark, is_one, is_word, may, may_hold, tells}
+use Rattle.syn_recognize.specs.May.{sure, head_of, is_empty_text, is_group, is_hidden, is_invisible, is_literal, is_mark, is_one, is_word, may, may_hold, tells}
 use Rattle.syn_recognize.specs.Names.{look_of, mark_text}
 use Rattle.syn_recognize.specs.declared.look.Look as look
 use Rattle.syn_recognize.specs.declared.look.Look.TheVariants as Look-m
@@ -22,14 +25,14 @@ use Rattle.syn_recognize.proofs.Known.{known_mark}
 
 -- THE TERMINALS OF WHAT STANDS NEXT
 
--- none of those that it may have passes the test
+-- none of those that it may have passes the test; of an invisible group, nothing is known
 abbrev None : First → (Terminal → Bool) → Type 0
 None F.Ended p = p Ended ≡ false
 None F.Name p = (p Name ≡ false) × ((x : Text) → one_of_texts x keywords ≡ false → p (Word x) ≡ false)
 None F.Keyword p = (x : Text) → one_of_texts x keywords ≡ true → p (Word x) ≡ false
 None F.Literal p = (k : LitKind) → p (Literal k) ≡ false
 None (F.Mark c) p = (l : Text) → p (Punctuation (c ∷ l)) ≡ false
-None (F.Group d) p = (v : Bool) → p (Delimited (delimiter_of d) v) ≡ false
+None (F.Group d) p = (is_invisible (delimiter_of d) ≡ false) × ((v : Bool) → p (Delimited (delimiter_of d) v) ≡ false)
 
 abbrev full_marks : List Text → Bool
 full_marks [] = true
@@ -69,7 +72,7 @@ listed x (y ∷ l) m e = go (listed x l m) (same_text x y) e
     go i true e = refl
     go i false e = i e
 
-at_front : (f : First) (ts : Stream) (p : Terminal → Bool) → Begins f ts → None f p → p (lookahead ts).terminal ≡ false
+at_front : (f : First) (ts : Stream) (p : Terminal → Bool) → Begins f ts → None f p → p (lookahead (flat ts)).terminal ≡ false
 unfolding is_keyword
 at_front F.Ended end p b h = h
 at_front F.Name (leaf (ident x) sp m) p b h = go (one_of_texts x (keywords ++ contextual))
@@ -79,11 +82,26 @@ at_front F.Name (leaf (ident x) sp m) p b h = go (one_of_texts x (keywords ++ co
     go false = h.0
 at_front F.Keyword (leaf (ident x) sp m) p b h = ap (λ v. p (pick v (Word x) Name)) (listed x keywords contextual b) ∙ h x b
 at_front F.Literal (leaf (literal k x) sp m) p b h = h k
-at_front (F.Mark c) (punct d j sp m) p b h = subst (λ e. p (char_terminal e j (lookahead m).terminal) ≡ false) (sym b) (mark_head c p h j (lookahead m).terminal)
-at_front (F.Group d) (group e o c i m) p b h = subst (λ g. p (Delimited g (grammar.holds_nothing g (lookahead i).terminal)) ≡ false) (sym b) (h _)
+at_front (F.Mark c) (punct d j sp m) p b h = subst (λ e. p (char_terminal e j (lookahead (flat m)).terminal) ≡ false) (sym b) (mark_head c p h j (lookahead (flat m)).terminal)
+at_front (F.Group d) (group Invisible o c i m) p b h = absurd (true≢false (ap is_invisible b ∙ h.0))
+at_front (F.Group d) (group Paren o c i m) p b h = subst (λ g. p (Delimited g (grammar.holds_nothing g (lookahead (flat i)).terminal)) ≡ false) (sym b) (h.1 _)
+at_front (F.Group d) (group Brace o c i m) p b h = subst (λ g. p (Delimited g (grammar.holds_nothing g (lookahead (flat i)).terminal)) ≡ false) (sym b) (h.1 _)
+at_front (F.Group d) (group Bracket o c i m) p b h = subst (λ g. p (Delimited g (grammar.holds_nothing g (lookahead (flat i)).terminal)) ≡ false) (sym b) (h.1 _)
 at_front f ts p b h = elim b [ ]
 
 -- ONE CONDITION
+
+pub or_left : (a b : Bool) → or a b ≡ false → a ≡ false
+or_left true b e = e
+or_left false b e = refl
+
+pub or_right : (a b : Bool) → or a b ≡ false → b ≡ false
+or_right true b e = absurd (true≢false e)
+or_right false b e = e
+
+none_hidden : (v : Bool) (d : Delimiter) → is_word v (F.Group d) ≡ false → is_invisible (delimiter_of d) ≡ false
+none_hidden true d m = m
+none_hidden false d m = m
 
 no_ended : (f : First) → may ended f ≡ false → None f grammar.is_ended
 no_ended F.Ended m = absurd (true≢false m)
@@ -91,7 +109,7 @@ no_ended F.Name m = (refl, λ x h. refl)
 no_ended F.Keyword m = λ x h. refl
 no_ended F.Literal m = λ k. refl
 no_ended (F.Mark c) m = λ l. refl
-no_ended (F.Group d) m = λ v. refl
+no_ended (F.Group d) m = (m, λ v. refl)
 
 abbrev none_known : List Text → Bool
 none_known [] = true
@@ -114,7 +132,7 @@ no_name F.Name m = absurd (true≢false m)
 no_name F.Keyword m = λ x h. apart contextual x no_contextual h
 no_name F.Literal m = λ k. refl
 no_name (F.Mark c) m = λ l. refl
-no_name (F.Group d) m = λ v. refl
+no_name (F.Group d) m = (m, λ v. refl)
 
 -- a keyword's text isn't another's
 other : (x y : Text) (a b : Bool) → one_of_texts x keywords ≡ a → one_of_texts y keywords ≡ b → (a ≡ b → ⊥) → same_text x y ≡ false
@@ -138,7 +156,7 @@ no_word w F.Keyword m = λ x h. go (one_of_texts w keywords) refl m x h
     go false e m x h = other w x false true e h (λ z. true≢false (sym z))
 no_word w F.Literal m = λ k. refl
 no_word w (F.Mark c) m = λ l. refl
-no_word w (F.Group d) m = λ v. refl
+no_word w (F.Group d) m = (none_hidden (one_of_texts w keywords) d m, λ v. refl)
 
 no_mark : (x : Text) (f : First) → may (at_mark x) f ≡ false → None f (starts_mark x)
 no_mark x F.Ended m = refl
@@ -147,7 +165,7 @@ no_mark x F.Keyword m = λ y h. refl
 no_mark x F.Literal m = λ k. refl
 no_mark [] (F.Mark c) m = absurd (true≢false m)
 no_mark (e ∷ x) (F.Mark c) m = λ l. ap (λ z. and z (begins_text x l)) m
-no_mark x (F.Group d) m = λ v. refl
+no_mark x (F.Group d) m = (or_right (is_empty_text x) _ m, λ v. refl)
 
 no_literal : (k : LitKind) (f : First) → may (at_literal k) f ≡ false → None f (grammar.is_literal k)
 no_literal k F.Ended m = refl
@@ -155,7 +173,7 @@ no_literal k F.Name m = (refl, λ x h. refl)
 no_literal k F.Keyword m = λ x h. refl
 no_literal k F.Literal m = absurd (true≢false m)
 no_literal k (F.Mark c) m = λ l. refl
-no_literal k (F.Group d) m = λ v. refl
+no_literal k (F.Group d) m = (m, λ v. refl)
 
 no_group : (e : grammar.Delimiter) (f : First) → may (at_group e) f ≡ false → None f (grammar.is_group e)
 no_group e F.Ended m = refl
@@ -163,23 +181,29 @@ no_group e F.Name m = (refl, λ x h. refl)
 no_group e F.Keyword m = λ x h. refl
 no_group e F.Literal m = λ k. refl
 no_group e (F.Mark c) m = λ l. refl
-no_group e (F.Group d) m = λ v. m
+no_group e (F.Group d) m = (or_left _ _ m, λ v. or_right (is_invisible (delimiter_of d)) _ m)
 
-no_empty_group : (f : First) → may at_empty_group f ≡ false → None f grammar.is_empty_group
-no_empty_group F.Ended m = refl
-no_empty_group F.Name m = (refl, λ x h. refl)
-no_empty_group F.Keyword m = λ x h. refl
-no_empty_group F.Literal m = λ k. refl
-no_empty_group (F.Mark c) m = λ l. refl
-no_empty_group (F.Group d) m = absurd (true≢false m)
+-- no invisible group is the next tree
+none_opened : (f : First) (ts : Stream) → Begins f ts → is_hidden f ≡ false → group_of Invisible ts ≡ Option-none
+none_opened F.Ended end b m = refl
+none_opened F.Name (leaf (ident x) sp r) b m = refl
+none_opened F.Keyword (leaf (ident x) sp r) b m = refl
+none_opened F.Literal (leaf (literal k x) sp r) b m = refl
+none_opened (F.Mark c) (punct d j sp r) b m = refl
+none_opened (F.Group d) (group Invisible o c i r) b m = absurd (true≢false (ap is_invisible b ∙ m))
+none_opened (F.Group d) (group Paren o c i r) b m = refl
+none_opened (F.Group d) (group Brace o c i r) b m = refl
+none_opened (F.Group d) (group Bracket o c i r) b m = refl
+none_opened f ts b m = elim b [ ]
 
-pub or_left : (a b : Bool) → or a b ≡ false → a ≡ false
-or_left true b e = e
-or_left false b e = refl
-
-pub or_right : (a b : Bool) → or a b ≡ false → b ≡ false
-or_right true b e = absurd (true≢false e)
-or_right false b e = e
+-- where one is looked for, it is the next tree
+never_hidden : (f : First) → is_group Invisible f ≡ false → is_hidden f ≡ false
+never_hidden (F.Group d) m = or_left _ _ m
+never_hidden F.Ended m = refl
+never_hidden F.Name m = refl
+never_hidden F.Keyword m = refl
+never_hidden F.Literal m = refl
+never_hidden (F.Mark c) m = refl
 
 -- ANY CONDITION that one look rules out doesn't hold
 pub never : (c : Look) (f : First) (ts : Stream) → Begins f ts → may c f ≡ false → sees c ts ≡ false
@@ -189,8 +213,11 @@ never at_name f ts b m = at_front f ts grammar.is_name b (no_name f m)
 never (at_word x) f ts b m = at_front f ts (grammar.is_word x) b (no_word x f m)
 never (at_mark x) f ts b m = at_front f ts (starts_mark x) b (no_mark x f m)
 never (at_literal k) f ts b m = at_front f ts (grammar.is_literal k) b (no_literal k f m)
-never (at_group d) f ts b m = at_front f ts (grammar.is_group d) b (no_group d f m)
-never at_empty_group f ts b m = at_front f ts grammar.is_empty_group b (no_empty_group f m)
+never (at_group Invisible) f ts b m = ap taken (none_opened f ts b (never_hidden f m))
+never (at_group Paren) f ts b m = at_front f ts (grammar.is_group Paren) b (no_group Paren f m)
+never (at_group Brace) f ts b m = at_front f ts (grammar.is_group Brace) b (no_group Brace f m)
+never (at_group Bracket) f ts b m = at_front f ts (grammar.is_group Bracket) b (no_group Bracket f m)
+never at_empty_group f ts b m = ap opened_empty (none_opened f ts b m)
 never (ahead n) f ts b m = absurd (true≢false m)
 never (c or_else d) f ts b m = ap₂ or (never c f ts b (or_left (may c f) (may d f) m)) (never d f ts b (or_right (may c f) (may d f) m))
 never (c and_also d) f ts b m = ap (λ z. and z (sees d ts)) (never c f ts b m)
@@ -212,7 +239,10 @@ covers Look-m.AnyLiteral F.Ended m = refl
 covers Look-m.AnyLiteral F.Name m = refl
 covers Look-m.AnyLiteral F.Keyword m = refl
 covers Look-m.AnyLiteral (F.Mark c) m = refl
-covers Look-m.AnyLiteral (F.Group d) m = refl
+covers Look-m.AnyLiteral (F.Group D.Paren) m = refl
+covers Look-m.AnyLiteral (F.Group D.Brace) m = refl
+covers Look-m.AnyLiteral (F.Group D.Bracket) m = refl
+covers Look-m.AnyLiteral (F.Group D.None) m = absurd (true≢false m)
 covers Look-m.Lifetime f m = m
 covers Look-m.InnerAttribute f m = m
 covers Look-m.Arguments f m = m
@@ -223,25 +253,37 @@ covers Look-m.PathWord F.Name m = absurd (true≢false m)
 covers Look-m.PathWord F.Keyword m = absurd (true≢false m)
 covers Look-m.PathWord F.Literal m = refl
 covers Look-m.PathWord (F.Mark c) m = refl
-covers Look-m.PathWord (F.Group d) m = refl
+covers Look-m.PathWord (F.Group D.Paren) m = refl
+covers Look-m.PathWord (F.Group D.Brace) m = refl
+covers Look-m.PathWord (F.Group D.Bracket) m = refl
+covers Look-m.PathWord (F.Group D.None) m = absurd (true≢false m)
 covers Look-m.PatternPath F.Ended m = refl
 covers Look-m.PatternPath F.Name m = absurd (true≢false m)
 covers Look-m.PatternPath F.Keyword m = absurd (true≢false m)
 covers Look-m.PatternPath F.Literal m = refl
 covers Look-m.PatternPath (F.Mark c) m = m
-covers Look-m.PatternPath (F.Group d) m = refl
+covers Look-m.PatternPath (F.Group D.Paren) m = refl
+covers Look-m.PatternPath (F.Group D.Brace) m = refl
+covers Look-m.PatternPath (F.Group D.Bracket) m = refl
+covers Look-m.PatternPath (F.Group D.None) m = absurd (true≢false m)
 covers Look-m.Macro F.Ended m = refl
 covers Look-m.Macro F.Name m = absurd (true≢false m)
 covers Look-m.Macro F.Keyword m = absurd (true≢false m)
 covers Look-m.Macro F.Literal m = refl
 covers Look-m.Macro (F.Mark c) m = m
-covers Look-m.Macro (F.Group d) m = refl
+covers Look-m.Macro (F.Group D.Paren) m = refl
+covers Look-m.Macro (F.Group D.Brace) m = refl
+covers Look-m.Macro (F.Group D.Bracket) m = refl
+covers Look-m.Macro (F.Group D.None) m = absurd (true≢false m)
 covers Look-m.BraceMacro F.Ended m = refl
 covers Look-m.BraceMacro F.Name m = absurd (true≢false m)
 covers Look-m.BraceMacro F.Keyword m = absurd (true≢false m)
 covers Look-m.BraceMacro F.Literal m = refl
 covers Look-m.BraceMacro (F.Mark c) m = m
-covers Look-m.BraceMacro (F.Group d) m = refl
+covers Look-m.BraceMacro (F.Group D.Paren) m = refl
+covers Look-m.BraceMacro (F.Group D.Brace) m = refl
+covers Look-m.BraceMacro (F.Group D.Bracket) m = refl
+covers Look-m.BraceMacro (F.Group D.None) m = absurd (true≢false m)
 covers Look-m.LoneCrate f m = m
 covers Look-m.CrateMacro f m = m
 covers Look-m.Bang f m = m
@@ -251,7 +293,10 @@ covers Look-m.BlockLike F.Name m = refl
 covers Look-m.BlockLike F.Keyword m = absurd (true≢false m)
 covers Look-m.BlockLike F.Literal m = refl
 covers Look-m.BlockLike (F.Mark c) m = ap (λ b. or b false) (or_left _ _ m)
-covers Look-m.BlockLike (F.Group d) m = ap (λ b. or b false) (or_left _ _ m)
+covers Look-m.BlockLike (F.Group D.Paren) m = refl
+covers Look-m.BlockLike (F.Group D.Brace) m = absurd (true≢false m)
+covers Look-m.BlockLike (F.Group D.Bracket) m = refl
+covers Look-m.BlockLike (F.Group D.None) m = absurd (true≢false m)
 covers Look-m.WholeExpression f m = absurd (true≢false m)
 covers Look-m.Unfinished f m = m
 covers Look-m.EmptyGroup f m = m
@@ -264,13 +309,19 @@ covers Look-m.Item F.Name m = absurd (true≢false m)
 covers Look-m.Item F.Keyword m = absurd (true≢false m)
 covers Look-m.Item F.Literal m = refl
 covers Look-m.Item (F.Mark c) m = m
-covers Look-m.Item (F.Group d) m = refl
+covers Look-m.Item (F.Group D.Paren) m = refl
+covers Look-m.Item (F.Group D.Brace) m = refl
+covers Look-m.Item (F.Group D.Bracket) m = refl
+covers Look-m.Item (F.Group D.None) m = absurd (true≢false m)
 covers Look-m.Receiver F.Ended m = refl
 covers Look-m.Receiver F.Name m = refl
 covers Look-m.Receiver F.Keyword m = absurd (true≢false m)
 covers Look-m.Receiver F.Literal m = refl
 covers Look-m.Receiver (F.Mark c) m = m
-covers Look-m.Receiver (F.Group d) m = refl
+covers Look-m.Receiver (F.Group D.Paren) m = refl
+covers Look-m.Receiver (F.Group D.Brace) m = refl
+covers Look-m.Receiver (F.Group D.Bracket) m = refl
+covers Look-m.Receiver (F.Group D.None) m = absurd (true≢false m)
 covers Look-m.Generics f m = m
 covers Look-m.NoMacroItem f m = m
 covers Look-m.StrLiteral f m = m
@@ -290,8 +341,8 @@ no_false : (a : Bool) → no a ≡ false → a ≡ true
 no_false true e = refl
 no_false false e = absurd (true≢false e)
 
-front_sure : (f : First) (ts : Stream) (p : Terminal → Bool) → Begins f ts → None f (λ t. no (p t)) → p (lookahead ts).terminal ≡ true
-front_sure f ts p b h = no_false (p (lookahead ts).terminal) (at_front f ts (λ t. no (p t)) b h)
+front_sure : (f : First) (ts : Stream) (p : Terminal → Bool) → Begins f ts → None f (λ t. no (p t)) → p (lookahead (flat ts)).terminal ≡ true
+front_sure f ts p b h = no_false (p (lookahead (flat ts)).terminal) (at_front f ts (λ t. no (p t)) b h)
 
 or_true : (a : Bool) → or a true ≡ true
 or_true true = refl
@@ -304,49 +355,71 @@ or_sure false d x y h k m = ap (or x) (k m) ∙ or_true x
 not_so : {X : Type 0} → false ≡ true → X
 not_so e = absurd (true≢false (sym e))
 
-ended_sure : (f : First) → may ended f ≡ true → None f (λ t. no (grammar.is_ended t))
-ended_sure F.Ended m = refl
-ended_sure F.Name m = not_so m
-ended_sure F.Keyword m = not_so m
-ended_sure F.Literal m = not_so m
-ended_sure (F.Mark c) m = not_so m
-ended_sure (F.Group d) m = not_so m
+not_both : {X : Type 0} (a : Bool) → a ≡ false → a ≡ true → X
+not_both a h m = absurd (true≢false (sym m ∙ h))
 
-name_sure : (f : First) (ts : Stream) → Begins f ts → may at_name f ≡ true → sees at_name ts ≡ true
-name_sure F.Name (leaf (ident x) sp r) b m = sees_name (leaf (ident x) sp r) ∙ ap taken (take_name x sp r b)
-name_sure F.Name (leaf (literal k x) sp r) b m = absurd b
-name_sure F.Name end b m = absurd b
-name_sure F.Name (punct c j sp r) b m = absurd b
-name_sure F.Name (group d o c i r) b m = absurd b
-name_sure F.Ended ts b m = not_so m
-name_sure F.Keyword ts b m = not_so m
-name_sure F.Literal ts b m = not_so m
-name_sure (F.Mark c) ts b m = not_so m
-name_sure (F.Group d) ts b m = not_so m
+ended_sure : (f : First) → is_hidden f ≡ false → may ended f ≡ true → None f (λ t. no (grammar.is_ended t))
+ended_sure F.Ended h m = refl
+ended_sure F.Name h m = not_so m
+ended_sure F.Keyword h m = not_so m
+ended_sure F.Literal h m = not_so m
+ended_sure (F.Mark c) h m = not_so m
+ended_sure (F.Group d) h m = not_both (is_invisible (delimiter_of d)) h m
 
-group_sure : (e : grammar.Delimiter) (f : First) → may (at_group e) f ≡ true → None f (λ t. no (grammar.is_group e t))
-group_sure e (F.Group d) m = λ v. ap no m
-group_sure e F.Ended m = not_so m
-group_sure e F.Name m = not_so m
-group_sure e F.Keyword m = not_so m
-group_sure e F.Literal m = not_so m
-group_sure e (F.Mark c) m = not_so m
+name_sure : (f : First) (ts : Stream) → Begins f ts → is_hidden f ≡ false → may at_name f ≡ true → sees at_name ts ≡ true
+name_sure F.Name (leaf (ident x) sp r) b h m = sees_name (leaf (ident x) sp r) ∙ ap taken (take_name x sp (leaf (ident x) sp r) r refl b)
+name_sure F.Name (leaf (literal k x) sp r) b h m = absurd b
+name_sure F.Name end b h m = absurd b
+name_sure F.Name (punct c j sp r) b h m = absurd b
+name_sure F.Name (group d o c i r) b h m = absurd b
+name_sure F.Ended ts b h m = not_so m
+name_sure F.Keyword ts b h m = not_so m
+name_sure F.Literal ts b h m = not_so m
+name_sure (F.Mark c) ts b h m = not_so m
+name_sure (F.Group d) ts b h m = not_both (is_invisible (delimiter_of d)) h m
+
+group_sure : (e : grammar.Delimiter) (f : First) → is_hidden f ≡ false → is_group e f ≡ true → None f (λ t. no (grammar.is_group e t))
+group_sure e (F.Group d) h m = (h, λ v. ap no (ap (λ b. or b (nat_eq (delimiter_number e) (delimiter_number (delimiter_of d)))) (sym h) ∙ m))
+group_sure e F.Ended h m = not_so m
+group_sure e F.Name h m = not_so m
+group_sure e F.Keyword h m = not_so m
+group_sure e F.Literal h m = not_so m
+group_sure e (F.Mark c) h m = not_so m
+
+group_stands : (e : grammar.Delimiter) (f : First) (ts : Stream) → Begins f ts → is_hidden f ≡ false → is_group e f ≡ true → sees (at_group e) ts ≡ true
+unfolding lookahead_at
+group_stands Paren f ts b h m = sees_flat (at_group Paren) ts refl ∙ front_sure f ts (grammar.is_group Paren) b (group_sure Paren f h m)
+group_stands Brace f ts b h m = sees_flat (at_group Brace) ts refl ∙ front_sure f ts (grammar.is_group Brace) b (group_sure Brace f h m)
+group_stands Bracket f ts b h m = sees_flat (at_group Bracket) ts refl ∙ front_sure f ts (grammar.is_group Bracket) b (group_sure Bracket f h m)
+group_stands Invisible (F.Group D.Paren) ts b h m = not_so m
+group_stands Invisible (F.Group D.Brace) ts b h m = not_so m
+group_stands Invisible (F.Group D.Bracket) ts b h m = not_so m
+group_stands Invisible (F.Group D.None) ts b h m = absurd (true≢false h)
+group_stands Invisible F.Ended ts b h m = not_so m
+group_stands Invisible F.Name ts b h m = not_so m
+group_stands Invisible F.Keyword ts b h m = not_so m
+group_stands Invisible F.Literal ts b h m = not_so m
+group_stands Invisible (F.Mark c) ts b h m = not_so m
+
+-- what is told for sure, and of no invisible group
+shown : (f : First) (x : Bool) → and (no (is_hidden f)) x ≡ true → is_hidden f ≡ false
+shown f x m = no_true (is_hidden f) (and_left (no (is_hidden f)) x m)
 
 -- ANY CONDITION of which one look says that it holds
 pub surely : (c : Look) (f : First) (ts : Stream) → Begins f ts → sure c f ≡ true → sees c ts ≡ true
 unfolding sees lookahead_at
-surely ended f ts b m = front_sure f ts grammar.is_ended b (ended_sure f m)
-surely at_name f ts b m = name_sure f ts b m
-surely (at_group d) f ts b m = front_sure f ts (grammar.is_group d) b (group_sure d f m)
+surely ended f ts b m = front_sure f ts grammar.is_ended b (ended_sure f (shown f _ m) (and_right (no (is_hidden f)) _ m))
+surely at_name f ts b m = name_sure f ts b (shown f _ m) (and_right (no (is_hidden f)) _ m)
+surely (at_group d) f ts b m = group_stands d f ts b (shown f _ m) (and_right (no (is_hidden f)) _ m)
 surely (c or_else d) f ts b m = or_sure (sure c f) (sure d f) (sees c ts) (sees d ts) (surely c f ts b) (surely d f ts b) m
 surely c f ts b m = not_so m
 
 any_literal : Terminal → Bool
 any_literal t = answers at_any_literal (lookahead_with t [])
 
-literal_sure : (f : First) → is_literal f ≡ true → None f (λ t. no (any_literal t))
+literal_sure : (f : First) → is_hidden f ≡ false → is_literal f ≡ true → None f (λ t. no (any_literal t))
 unfolding any_literal
-literal_sure F.Literal m = each
+literal_sure F.Literal h m = each
   where
     each : (k : LitKind) → no (any_literal (Literal k)) ≡ false
     each grammar.Str = refl
@@ -356,27 +429,27 @@ literal_sure F.Literal m = each
     each grammar.Char = refl
     each grammar.Int = refl
     each grammar.Float = refl
-literal_sure F.Ended m = not_so m
-literal_sure F.Name m = not_so m
-literal_sure F.Keyword m = not_so m
-literal_sure (F.Mark c) m = not_so m
-literal_sure (F.Group d) m = not_so m
+literal_sure F.Ended h m = not_so m
+literal_sure F.Name h m = not_so m
+literal_sure F.Keyword h m = not_so m
+literal_sure (F.Mark c) h m = not_so m
+literal_sure (F.Group d) h m = not_both (is_invisible (delimiter_of d)) h m
 
-mark_sure : (x : Text) (f : First) → is_one x ≡ true → is_mark (head_of x) f ≡ true → None f (λ t. no (starts_mark x t))
-mark_sure (e ∷ []) (F.Mark c) o m = λ l. ap (λ z. no (and z true)) m
-mark_sure x F.Ended o m = not_so m
-mark_sure x F.Name o m = not_so m
-mark_sure x F.Keyword o m = not_so m
-mark_sure x F.Literal o m = not_so m
-mark_sure x (F.Group d) o m = not_so m
-mark_sure [] (F.Mark c) o m = not_so o
-mark_sure (e ∷ g ∷ l) (F.Mark c) o m = not_so o
+mark_sure : (x : Text) (f : First) → is_hidden f ≡ false → is_one x ≡ true → is_mark (head_of x) f ≡ true → None f (λ t. no (starts_mark x t))
+mark_sure (e ∷ []) (F.Mark c) h o m = λ l. ap (λ z. no (and z true)) m
+mark_sure x F.Ended h o m = not_so m
+mark_sure x F.Name h o m = not_so m
+mark_sure x F.Keyword h o m = not_so m
+mark_sure x F.Literal h o m = not_so m
+mark_sure x (F.Group d) h o m = not_both (is_invisible (delimiter_of d)) h m
+mark_sure [] (F.Mark c) h o m = not_so o
+mark_sure (e ∷ g ∷ l) (F.Mark c) h o m = not_so o
 
-pub look_sure : (l : look.Look) (f : First) (ts : Stream) → Begins f ts → may_hold l f ≡ true → tells l ≡ true → sees (look_of l) ts ≡ true
+pub look_sure : (l : look.Look) (f : First) (ts : Stream) → Begins f ts → may_hold l f ≡ true → is_hidden f ≡ false → tells l ≡ true → sees (look_of l) ts ≡ true
 unfolding sees lookahead_at any_literal
-look_sure Look-m.Ended f ts b m t = front_sure f ts grammar.is_ended b (ended_sure f m)
-look_sure Look-m.Name f ts b m t = name_sure f ts b m
-look_sure Look-m.AnyLiteral f ts b m t = front_sure f ts any_literal b (literal_sure f m)
-look_sure (Look-m.Group d) f ts b m t = front_sure f ts (grammar.is_group (delimiter_of d)) b (group_sure (delimiter_of d) f m)
-look_sure (Look-m.Mark k) f ts b m t = front_sure f ts (starts_mark (mark_text k)) b (mark_sure (mark_text k) f t m)
-look_sure l f ts b m t = not_so t
+look_sure Look-m.Ended f ts b m h t = front_sure f ts grammar.is_ended b (ended_sure f h m)
+look_sure Look-m.Name f ts b m h t = name_sure f ts b h m
+look_sure Look-m.AnyLiteral f ts b m h t = front_sure f ts any_literal b (literal_sure f h m)
+look_sure (Look-m.Group d) f ts b m h t = group_stands (delimiter_of d) f ts b h m
+look_sure (Look-m.Mark k) f ts b m h t = front_sure f ts (starts_mark (mark_text k)) b (mark_sure (mark_text k) f h t m)
+look_sure l f ts b m h t = not_so t

@@ -1,7 +1,8 @@
--- WHAT ONE LOOK AT THE NEXT TOKEN TREE TELLS of conditions on what stands next.
+-- WHAT ONE LOOK AT THE NEXT TOKEN TREE TELLS of conditions on what stands next. Invisible groups are looked through: where one is the next
+-- tree, any condition may hold.
 use Rattle.std.specs.Prelude.{ℕ, Bool, true, false, [], ◌∷◌, nat_eq}
 use Rattle.syn_grammar.specs.Words.{Text, keywords}
-use Rattle.syn_grammar.specs.Tokens.{Delimiter, Paren, Brace, Bracket, delimiter_number, or, one_of_texts, Look, ended, at_name, at_word, at_mark, at_literal, at_group, at_empty_group, ahead, ◌or_else◌, ◌and_also◌, ◌but_not◌}
+use Rattle.syn_grammar.specs.Tokens.{Delimiter, Paren, Brace, Bracket, None as Invisible, delimiter_number, or, and, no, one_of_texts, Look, ended, at_name, at_word, at_mark, at_literal, at_group, at_empty_group, ahead, ◌or_else◌, ◌and_also◌, ◌but_not◌}
 use Rattle.syn_tokens.specs.Delimiters.{delimiter_of}
 use Rattle.syn_parse.specs.declared.buffer.first.First.{First}
 use Rattle.syn_parse.specs.declared.buffer.first.First.TheVariants as F
@@ -9,34 +10,43 @@ use Rattle.syn_recognize.specs.Names.{word_text, mark_text}
 use Rattle.syn_recognize.specs.declared.look.Look as look
 use Rattle.syn_recognize.specs.declared.look.Look.TheVariants as Look-m
 
+abbrev pub is_invisible : Delimiter → Bool
+is_invisible d = nat_eq (delimiter_number d) (delimiter_number Invisible)
+
+-- an invisible group is the next tree
+abbrev pub is_hidden : First → Bool
+is_hidden (F.Group e) = is_invisible (delimiter_of e)
+is_hidden _ = false
+
+-- it may be, or stand in an invisible group: the end
 abbrev pub is_ended : First → Bool
 is_ended F.Ended = true
-is_ended _ = false
+is_ended f = is_hidden f
 
+-- an identifier that is no keyword
 abbrev pub is_name : First → Bool
 is_name F.Name = true
-is_name _ = false
+is_name f = is_hidden f
 
+-- a keyword
 abbrev pub is_keyword : First → Bool
 is_keyword F.Keyword = true
-is_keyword _ = false
+is_keyword f = is_hidden f
 
+-- a literal
 abbrev pub is_literal : First → Bool
 is_literal F.Literal = true
-is_literal _ = false
+is_literal f = is_hidden f
 
 -- this character of a mark
 abbrev pub is_mark : ℕ → First → Bool
 is_mark e (F.Mark c) = nat_eq e c
-is_mark e _ = false
+is_mark e f = is_hidden f
 
+-- a group with this delimiter
 abbrev pub is_group : Delimiter → First → Bool
-is_group d (F.Group e) = nat_eq (delimiter_number d) (delimiter_number (delimiter_of e))
+is_group d (F.Group e) = or (is_invisible (delimiter_of e)) (nat_eq (delimiter_number d) (delimiter_number (delimiter_of e)))
 is_group d _ = false
-
-abbrev pub is_any_group : First → Bool
-is_any_group (F.Group e) = true
-is_any_group _ = false
 
 abbrev pub head_of : Text → ℕ
 head_of [] = 0
@@ -59,7 +69,7 @@ may (at_word x) f = is_word (one_of_texts x keywords) f
 may (at_mark x) f = or (is_empty_text x) (is_mark (head_of x) f)
 may (at_literal k) f = is_literal f
 may (at_group d) f = is_group d f
-may at_empty_group f = is_any_group f
+may at_empty_group f = is_hidden f
 may (ahead n) f = true
 may (c or_else d) f = or (may c f) (may d f)
 may (c and_also d) f = may c f
@@ -67,9 +77,9 @@ may (c but_not d) f = may c f
 
 -- the condition holds there for sure
 abbrev pub sure : Look → First → Bool
-sure ended f = is_ended f
-sure at_name f = is_name f
-sure (at_group d) f = is_group d f
+sure ended f = and (no (is_hidden f)) (is_ended f)
+sure at_name f = and (no (is_hidden f)) (is_name f)
+sure (at_group d) f = and (no (is_hidden f)) (is_group d f)
 sure (c or_else d) f = or (sure c f) (sure d f)
 sure _ f = false
 
@@ -100,7 +110,7 @@ may_hold Look-m.PostfixMark f = or (is_mark 63 f) (is_mark 46 f)
 may_hold Look-m.BlockLike f = or (is_group Brace f) (or (is_mark 39 f) (is_keyword f))
 may_hold Look-m.WholeExpression f = true
 may_hold Look-m.Unfinished f = or (is_group Paren f) (or (is_group Bracket f) (or (is_mark 63 f) (or (is_mark 46 f) (or (is_mark 61 f) (or (is_mark 33 f) (or (is_mark 60 f) (is_mark 62 f)))))))
-may_hold Look-m.EmptyGroup f = is_any_group f
+may_hold Look-m.EmptyGroup f = is_hidden f
 may_hold Look-m.Restriction f = is_group Paren f
 may_hold Look-m.NamelessFields f = or (is_keyword f) (is_name f)
 may_hold Look-m.ParameterEnd f = or (is_mark 44 f) (or (is_mark 62 f) (is_mark 61 f))
@@ -117,7 +127,7 @@ may_hold Look-m.MarkedAuto f = is_name f
 may_hold Look-m.InRestriction f = is_group Paren f
 may_hold Look-m.LoneWord f = is_group Paren f
 
--- and whether it holds there for sure
+-- and whether it holds there for sure, unless an invisible group is the next tree
 abbrev pub is_one : Text → Bool
 is_one (c ∷ []) = true
 is_one _ = false

@@ -2,7 +2,7 @@
 -- WHAT WORDS, MARKS, LOOKS, SHAPES AND RULES AS DATA STAND FOR.
 use Rattle.syn_grammar.specs.Words.{Text, w_as, w_async, w_auto, w_break, w_const, w_continue, w_crate, w_default, w_else, w_enum, w_extern, w_false, w_fn, w_for, w_if, w_impl, w_in, w_let, w_loop, w_macro, w_mod, w_mut, w_pub, w_ref, w_return, w_safe, w_Self_type, w_self, w_static, w_struct, w_trait, w_true, w_try, w_type, w_underscore, w_union, w_unsafe, w_use, w_where, w_while, ampersand, and_and, ampersand_equals, caret, caret_equals, colon, comma, dot, dots, ellipsis, equals, equal_equal, greater_equals, greater, less_equals, less, minus, minus_equals, not_equals, exclamation, bar, bar_equals, or_or, colons, percent, percent_equals, plus, plus_equals, pound, question, arrow, semicolon, less_less, less_less_equals, greater_greater, greater_greater_equals, slash, slash_equals, star, star_equals}
 use Rattle.syn_grammar.specs.Words.{w_union, w_auto}
-use Rattle.syn_grammar.specs.ItemPlan.{at_in_restriction, at_lone_word}
+use Rattle.syn_grammar.specs.Table.{at_in_restriction, at_lone_word}
 use Rattle.syn_grammar.specs.Tokens.{Int, Str, Before_colons, Before_macro, Begins_item, Look, ended, at_name, at_word, at_mark, at_group, at_literal, at_empty_group, ahead, ◌or_else◌, ◌and_also◌, ◌but_not◌, at_lifetime, at_path_word, at_generics}
 use Rattle.syn_grammar.specs.Table.{at_any_literal, at_inner_attribute, at_arguments, at_association, at_turbofish, at_pattern_path, at_macro, at_brace_macro, at_lone_crate, at_crate_macro, at_bang, at_postfix_mark, at_block_like, at_whole_expression, at_unfinished, at_restriction, at_nameless_fields, at_parameter_end, at_predicate_end, at_item, at_receiver, at_no_macro_item}
 use Rattle.syn_grammar.specs.Rules as rules

@@ -2,8 +2,8 @@
 -- THE COURSES OF PLANS, and the forms of which they are.
 use Rattle.std.specs.Prelude.{true, false, [], ◌∷◌}
 use Rattle.syn_grammar.specs.Words.{colon, colons, equals, exclamation, semicolon, w_Self_type, w_as, w_async, w_auto, w_const, w_crate, w_default, w_enum, w_extern, w_fn, w_impl, w_let, w_macro, w_mod, w_mut, w_pub, w_safe, w_self, w_static, w_struct, w_trait, w_try, w_type, w_underscore, w_union, w_unsafe, w_use, w_where}
-use Rattle.syn_grammar.specs.Tokens.{Paren, Brace, Str, Before_colons, Before_macro, Begins_item, Begins_in, Lone_word, at_word, at_literal, at_empty_group, ahead, at_generics, ◌or_else◌, ◌and_also◌, ◌but_not◌}
-use Rattle.syn_grammar.specs.Table.{table, at_bang, at_block_like, at_brace, at_brace_macro, at_colon, at_colons, at_crate_macro, at_equals, at_exclamation, at_extern, at_for, at_item, at_less, at_macro_name, at_module_path, at_no_macro_item, at_no_trait_macro, at_paren, at_postfix_mark, at_semicolon, at_supertraits_end, at_visibility, at_where}
+use Rattle.syn_grammar.specs.Tokens.{Paren, Brace, None, Str, Before_colons, Before_macro, Begins_item, at_word, at_literal, at_empty_group, ahead, at_generics, ◌or_else◌, ◌and_also◌, ◌but_not◌}
+use Rattle.syn_grammar.specs.Table.{table, at_bang, at_block_like, at_brace, at_brace_macro, at_colon, at_colons, at_crate_macro, at_equals, at_exclamation, at_extern, at_for, at_in_restriction, at_invisible, at_item, at_less, at_lone_word, at_macro_name, at_module_path, at_no_macro_item, at_no_trait_macro, at_paren, at_postfix_mark, at_public, at_semicolon, at_supertraits_end, at_where}
 use Rattle.syn_grammar.specs.Rules as rules
 use Rattle.syn_grammar.specs.Shape as shapes
 use Rattle.syn_grammar.specs.Grammar.{name, word, name_or, literal_of, Grammar, empty, token, mark, ◌&◌, when◌then◌else◌, inside, raw, rule, one_of, shaped, vanishing, ordered}
@@ -104,331 +104,301 @@ abbrev pub stage_29 : Course
 stage_29 = reads (when (at_literal Str) then (token [] (literal_of (Str ∷ []))) else empty) stage_28
 
 abbrev pub stage_30 : Course
-stage_30 = reads (token [] (word w_extern)) (turns (at_word w_crate) stage_27 stage_29)
+stage_30 = turns ((at_word w_trait) or_else (at_word w_auto)) stage_23 (turns at_extern (reads (token [] (word w_extern)) stage_29) stage_28)
 
 abbrev pub stage_31 : Course
-stage_31 = turns ((at_word w_trait) or_else (at_word w_auto)) stage_23 (turns at_extern (reads (token [] (word w_extern)) stage_29) stage_28)
+stage_31 = kept ((token [] (word w_impl)) & ((when at_generics then (ordered (first_form List-m.Parameters) (other_form List-m.Parameters)) else empty) & (when at_exclamation then ((mark false exclamation) & (when at_brace then ((rule rules.impl_body) & empty) else ((rule rules.type) & ((rule rules.for_self_type) & ((rule rules.impl_body) & empty))))) else ((rule rules.type) & ((when at_for then (rule rules.for_self_type) else empty) & ((rule rules.impl_body) & empty))))))
 
 abbrev pub stage_32 : Course
-stage_32 = reads (token [] (word w_unsafe)) (turns (at_word w_mod) stage_21 stage_31)
+stage_32 = reads (when at_extern then (rule rules.abi) else empty) stage_28
 
 abbrev pub stage_33 : Course
-stage_33 = kept ((token [] (word w_impl)) & ((when at_generics then (ordered (first_form List-m.Parameters) (other_form List-m.Parameters)) else empty) & (when at_exclamation then ((mark false exclamation) & (when at_brace then ((rule rules.impl_body) & empty) else ((rule rules.type) & ((rule rules.for_self_type) & ((rule rules.impl_body) & empty))))) else ((rule rules.type) & ((when at_for then (rule rules.for_self_type) else empty) & ((rule rules.impl_body) & empty))))))
+stage_33 = turns ((at_word w_trait) or_else (at_word w_auto)) stage_23 (turns (at_word w_impl) stage_31 stage_32)
 
 abbrev pub stage_34 : Course
-stage_34 = reads (when at_extern then (rule rules.abi) else empty) stage_28
+stage_34 = kept ((mark false equals) & ((rule rules.alias_bounds) & ((rule rules.where_clause) & ((mark false semicolon) & empty))))
 
 abbrev pub stage_35 : Course
-stage_35 = turns ((at_word w_trait) or_else (at_word w_auto)) stage_23 (turns (at_word w_impl) stage_33 stage_34)
+stage_35 = reads (rule rules.generics) (turns at_equals stage_34 (rest ((vanishing false at_colon ((mark false colon) & (rule rules.supertraits))) & ((rule rules.where_clause) & ((inside Brace ((rule rules.inner_attributes) & (rule rules.trait_items))) & empty)))))
 
 abbrev pub stage_36 : Course
-stage_36 = kept ((mark false equals) & ((rule rules.alias_bounds) & ((rule rules.where_clause) & ((mark false semicolon) & empty))))
+stage_36 = reads (token [] (word w_trait)) (reads (token [] (name)) stage_35)
 
 abbrev pub stage_37 : Course
-stage_37 = reads (rule rules.generics) (turns at_equals stage_36 (rest ((vanishing false at_colon ((mark false colon) & (rule rules.supertraits))) & ((rule rules.where_clause) & ((inside Brace ((rule rules.inner_attributes) & (rule rules.trait_items))) & empty)))))
+stage_37 = reads (when (at_word w_async) then (token [] (word w_async)) else empty) (reads (rule rules.unsafe_only) stage_32)
 
 abbrev pub stage_38 : Course
-stage_38 = reads (token [] (word w_trait)) (reads (token [] (name)) stage_37)
+stage_38 = kept ((ordered (first_form List-m.Parameters) (other_form List-m.Parameters)) & ((mark false colon) & ((rule rules.type) & ((when at_equals then ((mark false equals) & (rule rules.whole_expression)) else empty) & ((when at_where then ((token [] (word w_where)) & (rule rules.predicates)) else empty) & ((mark false semicolon) & empty))))))
 
 abbrev pub stage_39 : Course
-stage_39 = reads (when (at_word w_async) then (token [] (word w_async)) else empty) (reads (rule rules.unsafe_only) stage_34)
+stage_39 = kept (((token [] (word w_where)) & (rule rules.predicates)) & ((mark false semicolon) & empty))
 
 abbrev pub stage_40 : Course
-stage_40 = kept ((ordered (first_form List-m.Parameters) (other_form List-m.Parameters)) & ((mark false colon) & ((rule rules.type) & ((when at_equals then ((mark false equals) & (rule rules.whole_expression)) else empty) & ((when at_where then ((token [] (word w_where)) & (rule rules.predicates)) else empty) & ((mark false semicolon) & empty))))))
+stage_40 = turns at_semicolon stage_6 stage_39
 
 abbrev pub stage_41 : Course
-stage_41 = kept (((token [] (word w_where)) & (rule rules.predicates)) & ((mark false semicolon) & empty))
+stage_41 = kept ((when at_where then ((token [] (word w_where)) & (rule rules.predicates)) else empty) & ((mark false semicolon) & empty))
 
 abbrev pub stage_42 : Course
-stage_42 = turns at_semicolon stage_6 stage_41
+stage_42 = turns at_equals (reads (mark false equals) (reads (rule rules.whole_expression) stage_40)) stage_41
 
 abbrev pub stage_43 : Course
-stage_43 = kept ((when at_where then ((token [] (word w_where)) & (rule rules.predicates)) else empty) & ((mark false semicolon) & empty))
+stage_43 = turns at_less stage_38 (reads (mark false colon) (reads (rule rules.type) stage_42))
 
 abbrev pub stage_44 : Course
-stage_44 = turns at_equals (reads (mark false equals) (reads (rule rules.whole_expression) stage_42)) stage_43
+stage_44 = reads (token [] (name_or (w_underscore ∷ []))) stage_43
 
 abbrev pub stage_45 : Course
-stage_45 = turns at_less stage_40 (reads (mark false colon) (reads (rule rules.type) stage_44))
+stage_45 = turns ((at_word w_async) or_else (at_extern or_else (at_word w_fn))) stage_37 stage_44
 
 abbrev pub stage_46 : Course
-stage_46 = reads (token [] (name_or (w_underscore ∷ []))) stage_45
+stage_46 = turns (at_word w_trait) stage_36 (turns ((at_word w_auto) and_also (ahead Begins_item)) stage_23 (turns (at_word w_impl) stage_31 stage_45))
 
 abbrev pub stage_47 : Course
-stage_47 = turns ((at_word w_async) or_else (at_extern or_else (at_word w_fn))) stage_39 stage_46
+stage_47 = reads (token [] (word w_const)) (turns (at_word w_unsafe) (reads (token [] (word w_unsafe)) stage_33) stage_46)
 
 abbrev pub stage_48 : Course
-stage_48 = turns (at_word w_trait) stage_38 (turns ((at_word w_auto) and_also (ahead Begins_item)) stage_23 (turns (at_word w_impl) stage_33 stage_47))
+stage_48 = turns (at_word w_unsafe) (reads (token [] (word w_unsafe)) (turns (at_word w_mod) stage_21 stage_30)) (turns (at_word w_const) stage_47 (kept (when (at_word w_impl) then ((token [] (word w_impl)) & (when at_in_restriction then ((inside Paren (rule rules.restriction)) & ((when (at_word w_const) then (token [] (word w_const)) else empty) & ((rule rules.bare_trait) & empty))) else (when at_lone_word then ((inside Paren (rule rules.types)) & ((when (at_word w_const) then (token [] (word w_const)) else empty) & ((rule rules.bare_trait) & empty))) else (one_of ([]))))) else (one_of ([])))))
 
 abbrev pub stage_49 : Course
-stage_49 = reads (token [] (word w_const)) (turns (at_word w_unsafe) (reads (token [] (word w_unsafe)) stage_35) stage_48)
+stage_49 = turns at_extern (reads (token [] (word w_extern)) (turns (at_word w_crate) stage_27 stage_29)) stage_48
 
 abbrev pub stage_50 : Course
-stage_50 = kept (when (at_word w_impl) then ((token [] (word w_impl)) & (when (at_paren and_also (ahead Begins_in)) then ((inside Paren (rule rules.restriction)) & ((when (at_word w_const) then (token [] (word w_const)) else empty) & ((rule rules.bare_trait) & empty))) else (when (at_paren and_also (ahead Lone_word)) then ((rule rules.type) & ((when (at_word w_const) then (token [] (word w_const)) else empty) & ((rule rules.bare_trait) & empty))) else (one_of ([]))))) else (one_of ([])))
+stage_50 = turns (at_word w_macro) stage_24 (turns ((at_word w_fn) or_else (at_word w_async)) stage_26 stage_49)
 
 abbrev pub stage_51 : Course
-stage_51 = turns at_extern stage_30 (turns (at_word w_unsafe) stage_32 (turns (at_word w_const) stage_49 stage_50))
+stage_51 = turns (at_word w_mod) stage_21 (turns (at_word w_trait) stage_22 (turns ((at_word w_auto) and_also (ahead Begins_item)) stage_23 stage_50))
 
 abbrev pub stage_52 : Course
-stage_52 = turns (at_word w_macro) stage_24 (turns ((at_word w_fn) or_else (at_word w_async)) stage_26 stage_51)
+stage_52 = turns (at_word w_type) stage_13 (turns (at_word w_static) stage_18 (turns (at_word w_use) stage_20 stage_51))
 
 abbrev pub stage_53 : Course
-stage_53 = turns (at_word w_mod) stage_21 (turns (at_word w_trait) stage_22 (turns ((at_word w_auto) and_also (ahead Begins_item)) stage_23 stage_52))
+stage_53 = turns (at_word w_struct) stage_1 (turns (at_word w_enum) stage_2 (turns ((at_word w_union) and_also (ahead Begins_item)) stage_3 stage_52))
 
 abbrev pub stage_54 : Course
-stage_54 = turns (at_word w_type) stage_13 (turns (at_word w_static) stage_18 (turns (at_word w_use) stage_20 stage_53))
+stage_54 = rest ((inside Brace ((rule rules.inner_attributes) & (rule rules.foreign_items))) & empty)
 
 abbrev pub stage_55 : Course
-stage_55 = turns (at_word w_struct) stage_1 (turns (at_word w_enum) stage_2 (turns ((at_word w_union) and_also (ahead Begins_item)) stage_3 stage_54))
+stage_55 = reads (when (at_literal Str) then (token [] (literal_of (Str ∷ []))) else empty) (turns at_brace stage_54 stage_28)
 
 abbrev pub stage_56 : Course
-stage_56 = turns ((at_word w_trait) or_else (at_word w_auto)) stage_23 (turns (at_word w_impl) stage_5 stage_34)
+stage_56 = rest ((rule rules.impl_body) & empty)
 
 abbrev pub stage_57 : Course
-stage_57 = turns (at_word w_trait) stage_38 (turns ((at_word w_auto) and_also (ahead Begins_item)) stage_23 (turns (at_word w_impl) stage_5 stage_47))
+stage_57 = self_type stage_56
 
 abbrev pub stage_58 : Course
-stage_58 = reads (token [] (word w_const)) (turns (at_word w_unsafe) (reads (token [] (word w_unsafe)) stage_56) stage_57)
+stage_58 = reads (rule rules.type_path) stage_57
 
 abbrev pub stage_59 : Course
-stage_59 = turns at_extern stage_30 (turns (at_word w_unsafe) stage_32 (turns (at_word w_const) stage_58 stage_50))
+stage_59 = kept ((rule rules.type) & ((rule rules.for_self_type) & ((rule rules.impl_body) & empty)))
 
 abbrev pub stage_60 : Course
-stage_60 = turns (at_word w_macro) stage_24 (turns ((at_word w_fn) or_else (at_word w_async)) stage_26 stage_59)
+stage_60 = turns at_brace stage_56 (turns at_module_path stage_58 stage_59)
 
 abbrev pub stage_61 : Course
-stage_61 = turns (at_word w_mod) stage_21 (turns (at_word w_trait) stage_22 (turns ((at_word w_auto) and_also (ahead Begins_item)) stage_23 stage_60))
+stage_61 = reads (rule rules.type_path) (turns at_for stage_57 stage_56)
 
 abbrev pub stage_62 : Course
-stage_62 = turns (at_word w_type) stage_13 (turns (at_word w_static) stage_18 (turns (at_word w_use) stage_20 stage_61))
+stage_62 = kept ((rule rules.for_self_type) & ((rule rules.impl_body) & empty))
 
 abbrev pub stage_63 : Course
-stage_63 = turns (at_word w_struct) stage_1 (turns (at_word w_enum) stage_2 (turns ((at_word w_union) and_also (ahead Begins_item)) stage_3 stage_62))
+stage_63 = turns at_module_path stage_61 (reads (rule rules.type) (turns at_for stage_62 stage_56))
 
 abbrev pub stage_64 : Course
-stage_64 = rest ((inside Brace ((rule rules.inner_attributes) & (rule rules.foreign_items))) & empty)
+stage_64 = lists (led (turns at_exclamation (reads (mark false exclamation) stage_60) stage_63))
 
 abbrev pub stage_65 : Course
-stage_65 = reads (when (at_literal Str) then (token [] (literal_of (Str ∷ []))) else empty) (turns at_brace stage_64 stage_28)
+stage_65 = reads (token [] (word w_impl)) stage_64
 
 abbrev pub stage_66 : Course
-stage_66 = rest ((rule rules.impl_body) & empty)
+stage_66 = turns (at_word w_impl) stage_65 (turns at_extern (reads (token [] (word w_extern)) stage_55) stage_28)
 
 abbrev pub stage_67 : Course
-stage_67 = self_type stage_66
+stage_67 = turns (at_word w_mod) stage_21 (turns ((at_word w_trait) or_else (at_word w_auto)) stage_23 stage_66)
 
 abbrev pub stage_68 : Course
-stage_68 = reads (rule rules.type_path) stage_67
+stage_68 = turns ((at_word w_trait) or_else (at_word w_auto)) stage_23 (turns (at_word w_impl) stage_65 stage_32)
 
 abbrev pub stage_69 : Course
-stage_69 = kept ((rule rules.type) & ((rule rules.for_self_type) & ((rule rules.impl_body) & empty)))
+stage_69 = turns (at_word w_trait) stage_36 (turns ((at_word w_auto) and_also (ahead Begins_item)) stage_23 (turns (at_word w_impl) stage_65 stage_45))
 
 abbrev pub stage_70 : Course
-stage_70 = turns at_brace stage_66 (turns at_module_path stage_68 stage_69)
+stage_70 = reads (token [] (word w_const)) (turns (at_word w_unsafe) (reads (token [] (word w_unsafe)) stage_68) stage_69)
 
 abbrev pub stage_71 : Course
-stage_71 = reads (rule rules.type_path) (turns at_for stage_67 stage_66)
+stage_71 = kept ((when (at_word w_const) then (token [] (word w_const)) else empty) & ((rule rules.bare_trait) & empty))
 
 abbrev pub stage_72 : Course
-stage_72 = kept ((rule rules.for_self_type) & ((rule rules.impl_body) & empty))
+stage_72 = turns at_for stage_62 (turns at_supertraits_end stage_56 stage_71)
 
 abbrev pub stage_73 : Course
-stage_73 = turns at_module_path stage_71 (reads (rule rules.type) (turns at_for stage_72 stage_66))
+stage_73 = turns at_in_restriction (kept ((inside Paren (rule rules.restriction)) & ((when (at_word w_const) then (token [] (word w_const)) else empty) & ((rule rules.bare_trait) & empty)))) (turns at_lone_word (reads (inside Paren (rule rules.types)) stage_72) stage_64)
 
 abbrev pub stage_74 : Course
-stage_74 = lists (led (turns at_exclamation (reads (mark false exclamation) stage_70) stage_73))
+stage_74 = rest (when at_no_macro_item then (one_of ([])) else ((rule rules.module_path) & ((when at_bang then (mark false exclamation) else (one_of ([]))) & ((when at_macro_name then (token [] (name_or (w_try ∷ []))) else empty) & ((rule rules.macro_end) & empty)))))
 
 abbrev pub stage_75 : Course
-stage_75 = reads (token [] (word w_impl)) stage_74
+stage_75 = reads (when (at_word w_const) then (token [] (word w_const)) else empty) (reads (when (at_word w_unsafe) then (token [] (word w_unsafe)) else empty) stage_65)
 
 abbrev pub stage_76 : Course
-stage_76 = turns (at_word w_impl) stage_75 (turns at_extern (reads (token [] (word w_extern)) stage_65) stage_28)
+stage_76 = turns (at_word w_default) (turns (ahead Before_macro) stage_74 (reads (token [] (word w_default)) stage_75)) stage_74
 
 abbrev pub stage_77 : Course
-stage_77 = turns (at_word w_mod) stage_21 (turns ((at_word w_trait) or_else (at_word w_auto)) stage_23 stage_76)
+stage_77 = turns (at_word w_const) stage_70 (turns (at_word w_impl) (reads (token [] (word w_impl)) stage_73) stage_76)
 
 abbrev pub stage_78 : Course
-stage_78 = turns ((at_word w_trait) or_else (at_word w_auto)) stage_23 (turns (at_word w_impl) stage_75 stage_34)
+stage_78 = turns at_extern (reads (token [] (word w_extern)) (turns (at_word w_crate) stage_27 stage_55)) (turns (at_word w_unsafe) (reads (token [] (word w_unsafe)) stage_67) stage_77)
 
 abbrev pub stage_79 : Course
-stage_79 = turns (at_word w_trait) stage_38 (turns ((at_word w_auto) and_also (ahead Begins_item)) stage_23 (turns (at_word w_impl) stage_75 stage_47))
+stage_79 = turns (at_word w_macro) stage_24 (turns ((at_word w_fn) or_else (at_word w_async)) stage_26 stage_78)
 
 abbrev pub stage_80 : Course
-stage_80 = reads (token [] (word w_const)) (turns (at_word w_unsafe) (reads (token [] (word w_unsafe)) stage_78) stage_79)
+stage_80 = turns (at_word w_mod) stage_21 (turns (at_word w_trait) stage_22 (turns ((at_word w_auto) and_also (ahead Begins_item)) stage_23 stage_79))
 
 abbrev pub stage_81 : Course
-stage_81 = kept ((when (at_word w_const) then (token [] (word w_const)) else empty) & ((rule rules.bare_trait) & empty))
+stage_81 = turns (at_word w_type) stage_13 (turns (at_word w_static) stage_18 (turns (at_word w_use) stage_20 stage_80))
 
 abbrev pub stage_82 : Course
-stage_82 = turns at_for stage_72 (turns at_supertraits_end stage_66 stage_81)
+stage_82 = turns (at_word w_struct) stage_1 (turns (at_word w_enum) stage_2 (turns ((at_word w_union) and_also (ahead Begins_item)) stage_3 stage_81))
 
 abbrev pub stage_83 : Course
-stage_83 = turns (at_paren and_also (ahead Begins_in)) (kept ((inside Paren (rule rules.restriction)) & ((when (at_word w_const) then (token [] (word w_const)) else empty) & ((rule rules.bare_trait) & empty)))) (turns (at_paren and_also (ahead Lone_word)) (reads (rule rules.type) stage_82) stage_74)
+stage_83 = turns at_public (reads (rule rules.visibility) stage_53) (reads (vanishing true at_empty_group (inside None empty)) stage_82)
 
 abbrev pub stage_84 : Course
-stage_84 = rest (when at_no_macro_item then (one_of ([])) else ((rule rules.module_path) & ((when at_bang then (mark false exclamation) else (one_of ([]))) & ((when at_macro_name then (token [] (name_or (w_try ∷ []))) else empty) & ((rule rules.macro_end) & empty)))))
+stage_84 = kept ((rule rules.visibility) & ((when (at_word w_default) then (token [] (word w_default)) else empty) & (when (at_word w_type) then ((token [] (word w_type)) & ((token [] (name)) & ((rule rules.generics) & ((vanishing false at_colon ((mark false colon) & (rule rules.type_bounds))) & ((when at_equals then ((mark false equals) & (rule rules.type)) else empty) & ((rule rules.where_clause) & ((mark false semicolon) & empty))))))) else (when (at_word w_const) then ((token [] (word w_const)) & (when ((at_word w_async) or_else ((at_word w_unsafe) or_else (at_extern or_else (at_word w_fn)))) then ((when (at_word w_async) then (token [] (word w_async)) else empty) & ((rule rules.unsafe_only) & ((when at_extern then (rule rules.abi) else empty) & ((rule rules.signature_rest) & (when at_semicolon then ((mark false semicolon) & empty) else ((rule rules.body) & empty)))))) else ((token [] (name_or (w_underscore ∷ []))) & ((when at_less then (ordered (first_form List-m.Parameters) (other_form List-m.Parameters)) else empty) & ((mark false colon) & ((rule rules.type) & ((when at_equals then ((mark false equals) & (rule rules.whole_expression)) else empty) & ((when at_where then ((token [] (word w_where)) & (rule rules.predicates)) else empty) & ((mark false semicolon) & empty))))))))) else ((rule rules.signature) & (when at_semicolon then ((mark false semicolon) & empty) else ((rule rules.body) & empty)))))))
 
 abbrev pub stage_85 : Course
-stage_85 = reads (when (at_word w_const) then (token [] (word w_const)) else empty) (reads (when (at_word w_unsafe) then (token [] (word w_unsafe)) else empty) stage_75)
+stage_85 = kept ((token [] (word w_default)) & (when (at_word w_type) then ((token [] (word w_type)) & ((token [] (name)) & ((rule rules.generics) & ((vanishing false at_colon ((mark false colon) & (rule rules.type_bounds))) & ((when at_equals then ((mark false equals) & (rule rules.type)) else empty) & ((rule rules.where_clause) & ((mark false semicolon) & empty))))))) else (when (at_word w_const) then ((token [] (word w_const)) & (when ((at_word w_async) or_else ((at_word w_unsafe) or_else (at_extern or_else (at_word w_fn)))) then ((when (at_word w_async) then (token [] (word w_async)) else empty) & ((rule rules.unsafe_only) & ((when at_extern then (rule rules.abi) else empty) & ((rule rules.signature_rest) & (when at_semicolon then ((mark false semicolon) & empty) else ((rule rules.body) & empty)))))) else ((token [] (name_or (w_underscore ∷ []))) & ((when at_less then (ordered (first_form List-m.Parameters) (other_form List-m.Parameters)) else empty) & ((mark false colon) & ((rule rules.type) & ((when at_equals then ((mark false equals) & (rule rules.whole_expression)) else empty) & ((when at_where then ((token [] (word w_where)) & (rule rules.predicates)) else empty) & ((mark false semicolon) & empty))))))))) else ((rule rules.signature) & (when at_semicolon then ((mark false semicolon) & empty) else ((rule rules.body) & empty))))))
 
 abbrev pub stage_86 : Course
-stage_86 = turns (at_word w_default) (turns (ahead Before_macro) stage_84 (reads (token [] (word w_default)) stage_85)) stage_84
+stage_86 = rest ((token [] (word w_type)) & ((token [] (name)) & ((rule rules.generics) & ((vanishing false at_colon ((mark false colon) & (rule rules.type_bounds))) & ((when at_equals then ((mark false equals) & (rule rules.type)) else empty) & ((rule rules.where_clause) & ((mark false semicolon) & empty)))))))
 
 abbrev pub stage_87 : Course
-stage_87 = turns (at_word w_const) stage_80 (turns (at_word w_impl) (reads (token [] (word w_impl)) stage_83) stage_86)
+stage_87 = reads (when at_equals then ((mark false equals) & (rule rules.whole_expression)) else empty) stage_40
 
 abbrev pub stage_88 : Course
-stage_88 = turns at_extern (reads (token [] (word w_extern)) (turns (at_word w_crate) stage_27 stage_65)) (turns (at_word w_unsafe) (reads (token [] (word w_unsafe)) stage_77) stage_87)
+stage_88 = turns at_less stage_38 (reads (mark false colon) (reads (rule rules.type) stage_87))
 
 abbrev pub stage_89 : Course
-stage_89 = turns (at_word w_macro) stage_24 (turns ((at_word w_fn) or_else (at_word w_async)) stage_26 stage_88)
+stage_89 = turns ((at_word w_async) or_else ((at_word w_unsafe) or_else (at_extern or_else (at_word w_fn)))) (rest ((when (at_word w_async) then (token [] (word w_async)) else empty) & ((rule rules.unsafe_only) & ((when at_extern then (rule rules.abi) else empty) & ((rule rules.signature_rest) & (when at_semicolon then ((mark false semicolon) & empty) else ((rule rules.body) & empty))))))) (reads (token [] (name_or (w_underscore ∷ []))) stage_88)
 
 abbrev pub stage_90 : Course
-stage_90 = turns (at_word w_mod) stage_21 (turns (at_word w_trait) stage_22 (turns ((at_word w_auto) and_also (ahead Begins_item)) stage_23 stage_89))
+stage_90 = rest (when ((at_word w_async) or_else ((at_word w_unsafe) or_else (at_extern or_else (at_word w_fn)))) then ((rule rules.signature) & (when at_semicolon then ((mark false semicolon) & empty) else ((rule rules.body) & empty))) else (when at_no_trait_macro then (one_of ([])) else ((rule rules.module_path) & ((when at_bang then (mark false exclamation) else (one_of ([]))) & ((rule rules.macro_end) & empty)))))
 
 abbrev pub stage_91 : Course
-stage_91 = turns (at_word w_type) stage_13 (turns (at_word w_static) stage_18 (turns (at_word w_use) stage_20 stage_90))
+stage_91 = turns (at_word w_type) stage_86 (turns (at_word w_const) (reads (token [] (word w_const)) stage_89) stage_90)
 
 abbrev pub stage_92 : Course
-stage_92 = turns (at_word w_struct) stage_1 (turns (at_word w_enum) stage_2 (turns ((at_word w_union) and_also (ahead Begins_item)) stage_3 stage_91))
+stage_92 = reads (vanishing true at_empty_group (inside None empty)) (turns (at_word w_default) stage_85 stage_91)
 
 abbrev pub stage_93 : Course
-stage_93 = turns (at_word w_pub) (reads (rule rules.visibility) stage_55) (turns at_empty_group (reads (rule rules.visibility) stage_63) stage_92)
+stage_93 = rest ((mark false equals) & ((rule rules.type) & ((rule rules.where_clause) & ((mark false semicolon) & empty))))
 
 abbrev pub stage_94 : Course
-stage_94 = kept ((rule rules.visibility) & ((when (at_word w_default) then (token [] (word w_default)) else empty) & (when (at_word w_type) then ((token [] (word w_type)) & ((token [] (name)) & ((rule rules.generics) & ((vanishing false at_colon ((mark false colon) & (rule rules.type_bounds))) & ((when at_equals then ((mark false equals) & (rule rules.type)) else empty) & ((rule rules.where_clause) & ((mark false semicolon) & empty))))))) else (when (at_word w_const) then ((token [] (word w_const)) & (when ((at_word w_async) or_else ((at_word w_unsafe) or_else (at_extern or_else (at_word w_fn)))) then ((when (at_word w_async) then (token [] (word w_async)) else empty) & ((rule rules.unsafe_only) & ((when at_extern then (rule rules.abi) else empty) & ((rule rules.signature_rest) & (when at_semicolon then ((mark false semicolon) & empty) else ((rule rules.body) & empty)))))) else ((token [] (name_or (w_underscore ∷ []))) & ((when at_less then (ordered (first_form List-m.Parameters) (other_form List-m.Parameters)) else empty) & ((mark false colon) & ((rule rules.type) & ((when at_equals then ((mark false equals) & (rule rules.whole_expression)) else empty) & ((when at_where then ((token [] (word w_where)) & (rule rules.predicates)) else empty) & ((mark false semicolon) & empty))))))))) else ((rule rules.signature) & (when at_semicolon then ((mark false semicolon) & empty) else ((rule rules.body) & empty)))))))
+stage_94 = turns at_equals stage_93 (kept (when at_colon then ((mark false colon) & ((rule rules.type_bounds) & ((when at_equals then ((mark false equals) & (rule rules.type)) else empty) & ((when at_where then ((token [] (word w_where)) & (rule rules.predicates)) else empty) & ((mark false semicolon) & empty))))) else ((when at_where then ((token [] (word w_where)) & (rule rules.predicates)) else empty) & ((mark false semicolon) & empty))))
 
 abbrev pub stage_95 : Course
-stage_95 = kept ((rule rules.visibility) & (when (at_word w_default) then ((token [] (word w_default)) & (when (at_word w_type) then ((token [] (word w_type)) & ((token [] (name)) & ((rule rules.generics) & ((vanishing false at_colon ((mark false colon) & (rule rules.type_bounds))) & ((when at_equals then ((mark false equals) & (rule rules.type)) else empty) & ((rule rules.where_clause) & ((mark false semicolon) & empty))))))) else (when (at_word w_const) then ((token [] (word w_const)) & (when ((at_word w_async) or_else ((at_word w_unsafe) or_else (at_extern or_else (at_word w_fn)))) then ((when (at_word w_async) then (token [] (word w_async)) else empty) & ((rule rules.unsafe_only) & ((when at_extern then (rule rules.abi) else empty) & ((rule rules.signature_rest) & (when at_semicolon then ((mark false semicolon) & empty) else ((rule rules.body) & empty)))))) else ((token [] (name_or (w_underscore ∷ []))) & ((when at_less then (ordered (first_form List-m.Parameters) (other_form List-m.Parameters)) else empty) & ((mark false colon) & ((rule rules.type) & ((when at_equals then ((mark false equals) & (rule rules.whole_expression)) else empty) & ((when at_where then ((token [] (word w_where)) & (rule rules.predicates)) else empty) & ((mark false semicolon) & empty))))))))) else ((rule rules.signature) & (when at_semicolon then ((mark false semicolon) & empty) else ((rule rules.body) & empty)))))) else ((token [] (word w_const)) & ((token [] (name_or (w_underscore ∷ []))) & (when at_less then ((ordered (first_form List-m.Parameters) (other_form List-m.Parameters)) & ((mark false colon) & ((rule rules.type) & ((when at_equals then ((mark false equals) & (rule rules.whole_expression)) else empty) & ((when at_where then ((token [] (word w_where)) & (rule rules.predicates)) else empty) & ((mark false semicolon) & empty)))))) else ((mark false colon) & ((rule rules.type) & ((when at_equals then ((mark false equals) & (rule rules.whole_expression)) else empty) & (((token [] (word w_where)) & (rule rules.predicates)) & ((mark false semicolon) & empty))))))))))
+stage_95 = reads (token [] (word w_type)) (reads (token [] (name)) (reads (rule rules.generics) stage_94))
 
 abbrev pub stage_96 : Course
-stage_96 = kept ((token [] (word w_default)) & (when (at_word w_type) then ((token [] (word w_type)) & ((token [] (name)) & ((rule rules.generics) & ((vanishing false at_colon ((mark false colon) & (rule rules.type_bounds))) & ((when at_equals then ((mark false equals) & (rule rules.type)) else empty) & ((rule rules.where_clause) & ((mark false semicolon) & empty))))))) else (when (at_word w_const) then ((token [] (word w_const)) & (when ((at_word w_async) or_else ((at_word w_unsafe) or_else (at_extern or_else (at_word w_fn)))) then ((when (at_word w_async) then (token [] (word w_async)) else empty) & ((rule rules.unsafe_only) & ((when at_extern then (rule rules.abi) else empty) & ((rule rules.signature_rest) & (when at_semicolon then ((mark false semicolon) & empty) else ((rule rules.body) & empty)))))) else ((token [] (name_or (w_underscore ∷ []))) & ((when at_less then (ordered (first_form List-m.Parameters) (other_form List-m.Parameters)) else empty) & ((mark false colon) & ((rule rules.type) & ((when at_equals then ((mark false equals) & (rule rules.whole_expression)) else empty) & ((when at_where then ((token [] (word w_where)) & (rule rules.predicates)) else empty) & ((mark false semicolon) & empty))))))))) else ((rule rules.signature) & (when at_semicolon then ((mark false semicolon) & empty) else ((rule rules.body) & empty))))))
+stage_96 = turns ((at_word w_async) or_else ((at_word w_unsafe) or_else (at_extern or_else (at_word w_fn)))) stage_37 stage_44
 
 abbrev pub stage_97 : Course
-stage_97 = rest ((token [] (word w_type)) & ((token [] (name)) & ((rule rules.generics) & ((vanishing false at_colon ((mark false colon) & (rule rules.type_bounds))) & ((when at_equals then ((mark false equals) & (rule rules.type)) else empty) & ((rule rules.where_clause) & ((mark false semicolon) & empty)))))))
+stage_97 = reads (token [] (word w_const)) stage_96
 
 abbrev pub stage_98 : Course
-stage_98 = reads (when at_equals then ((mark false equals) & (rule rules.whole_expression)) else empty) stage_42
+stage_98 = turns (at_word w_type) stage_95 (turns (at_word w_const) stage_97 stage_26)
 
 abbrev pub stage_99 : Course
-stage_99 = turns at_less stage_40 (reads (mark false colon) (reads (rule rules.type) stage_98))
+stage_99 = reads (rule rules.visibility) (reads (when (at_word w_default) then (token [] (word w_default)) else empty) stage_98)
 
 abbrev pub stage_100 : Course
-stage_100 = turns ((at_word w_async) or_else ((at_word w_unsafe) or_else (at_extern or_else (at_word w_fn)))) (rest ((when (at_word w_async) then (token [] (word w_async)) else empty) & ((rule rules.unsafe_only) & ((when at_extern then (rule rules.abi) else empty) & ((rule rules.signature_rest) & (when at_semicolon then ((mark false semicolon) & empty) else ((rule rules.body) & empty))))))) (reads (token [] (name_or (w_underscore ∷ []))) stage_99)
+stage_100 = rest (when at_no_macro_item then (one_of ([])) else ((rule rules.module_path) & ((when at_bang then (mark false exclamation) else (one_of ([]))) & ((rule rules.macro_end) & empty))))
 
 abbrev pub stage_101 : Course
-stage_101 = rest (when ((at_word w_async) or_else ((at_word w_unsafe) or_else (at_extern or_else (at_word w_fn)))) then ((rule rules.signature) & (when at_semicolon then ((mark false semicolon) & empty) else ((rule rules.body) & empty))) else (when at_no_trait_macro then (one_of ([])) else ((rule rules.module_path) & ((when at_bang then (mark false exclamation) else (one_of ([]))) & ((rule rules.macro_end) & empty)))))
+stage_101 = turns ((at_word w_async) or_else ((at_word w_unsafe) or_else (at_extern or_else (at_word w_fn)))) stage_26 stage_100
 
 abbrev pub stage_102 : Course
-stage_102 = turns (at_word w_type) stage_97 (turns (at_word w_const) (reads (token [] (word w_const)) stage_100) stage_101)
+stage_102 = turns (at_word w_default) (turns (ahead Before_macro) stage_100 (reads (token [] (word w_default)) stage_98)) (turns (at_word w_type) stage_95 (turns (at_word w_const) stage_97 stage_101))
 
 abbrev pub stage_103 : Course
-stage_103 = turns (at_word w_pub) stage_94 (turns at_empty_group stage_95 (turns (at_word w_default) stage_96 stage_102))
+stage_103 = turns at_public stage_99 (reads (vanishing true at_empty_group (inside None empty)) stage_102)
 
 abbrev pub stage_104 : Course
-stage_104 = rest ((mark false equals) & ((rule rules.type) & ((rule rules.where_clause) & ((mark false semicolon) & empty))))
+stage_104 = reads (mark false colon) (reads (rule rules.type) (turns at_semicolon stage_6 stage_16))
 
 abbrev pub stage_105 : Course
-stage_105 = turns at_equals stage_104 (kept (when at_colon then ((mark false colon) & ((rule rules.type_bounds) & ((when at_equals then ((mark false equals) & (rule rules.type)) else empty) & ((when at_where then ((token [] (word w_where)) & (rule rules.predicates)) else empty) & ((mark false semicolon) & empty))))) else ((when at_where then ((token [] (word w_where)) & (rule rules.predicates)) else empty) & ((mark false semicolon) & empty))))
+stage_105 = reads (when (at_word w_mut) then (token [] (word w_mut)) else empty) (reads (token [] (name)) stage_104)
 
 abbrev pub stage_106 : Course
-stage_106 = reads (token [] (word w_type)) (reads (token [] (name)) (reads (rule rules.generics) stage_105))
+stage_106 = reads (token [] (word w_static)) stage_105
 
 abbrev pub stage_107 : Course
-stage_107 = turns ((at_word w_async) or_else ((at_word w_unsafe) or_else (at_extern or_else (at_word w_fn)))) stage_39 stage_46
+stage_107 = turns at_semicolon stage_6 (kept ((rule rules.body) & empty))
 
 abbrev pub stage_108 : Course
-stage_108 = reads (token [] (word w_const)) stage_107
+stage_108 = reads (when at_extern then (rule rules.abi) else empty) (reads (rule rules.signature_rest) stage_107)
 
 abbrev pub stage_109 : Course
-stage_109 = turns (at_word w_type) stage_106 (turns (at_word w_const) stage_108 stage_26)
+stage_109 = reads (rule rules.safe_or_unsafe) (turns (at_word w_static) stage_106 stage_108)
 
 abbrev pub stage_110 : Course
-stage_110 = reads (rule rules.visibility) (reads (when (at_word w_default) then (token [] (word w_default)) else empty) stage_109)
+stage_110 = kept ((mark false equals) & ((rule rules.type) & ((mark false semicolon) & empty)))
 
 abbrev pub stage_111 : Course
-stage_111 = rest (when at_no_macro_item then (one_of ([])) else ((rule rules.module_path) & ((when at_bang then (mark false exclamation) else (one_of ([]))) & ((rule rules.macro_end) & empty))))
+stage_111 = turns at_semicolon stage_6 (kept ((mark false equals) & ((rule rules.type) & ((when at_where then ((token [] (word w_where)) & (rule rules.predicates)) else empty) & ((mark false semicolon) & empty)))))
 
 abbrev pub stage_112 : Course
-stage_112 = turns ((at_word w_async) or_else ((at_word w_unsafe) or_else (at_extern or_else (at_word w_fn)))) stage_26 stage_111
+stage_112 = turns at_where (reads (rule rules.where_clause) (turns at_semicolon stage_6 stage_110)) stage_111
 
 abbrev pub stage_113 : Course
-stage_113 = turns (at_word w_default) (turns (ahead Before_macro) stage_111 (reads (token [] (word w_default)) stage_109)) (turns (at_word w_type) stage_106 (turns (at_word w_const) stage_108 stage_112))
+stage_113 = reads (token [] (name)) (reads (rule rules.generics) (turns at_colon stage_4 stage_112))
 
 abbrev pub stage_114 : Course
-stage_114 = reads (mark false colon) (reads (rule rules.type) (turns at_semicolon stage_6 stage_16))
+stage_114 = reads (token [] (word w_type)) stage_113
 
 abbrev pub stage_115 : Course
-stage_115 = reads (when (at_word w_mut) then (token [] (word w_mut)) else empty) (reads (token [] (name)) stage_114)
+stage_115 = reads (rule rules.foreign_signature) stage_107
 
 abbrev pub stage_116 : Course
-stage_116 = reads (token [] (word w_static)) stage_115
+stage_116 = turns ((at_word w_const) or_else ((at_word w_async) or_else (at_extern or_else (at_word w_fn)))) stage_115 stage_5
 
 abbrev pub stage_117 : Course
-stage_117 = turns at_semicolon stage_6 (kept ((rule rules.body) & empty))
+stage_117 = turns (at_word w_type) stage_114 (turns (at_word w_static) stage_106 (turns (at_word w_unsafe) stage_109 stage_116))
 
 abbrev pub stage_118 : Course
-stage_118 = reads (when at_extern then (rule rules.abi) else empty) (reads (rule rules.signature_rest) stage_117)
+stage_118 = rest (when (at_word w_Self_type) then (one_of ([])) else ((rule rules.module_path) & ((when at_bang then (mark false exclamation) else (one_of ([]))) & ((rule rules.macro_end) & empty))))
 
 abbrev pub stage_119 : Course
-stage_119 = reads (rule rules.safe_or_unsafe) (turns (at_word w_static) stage_116 stage_118)
+stage_119 = turns ((at_word w_const) or_else ((at_word w_async) or_else (at_extern or_else (at_word w_fn)))) stage_115 stage_118
 
 abbrev pub stage_120 : Course
-stage_120 = kept ((mark false equals) & ((rule rules.type) & ((mark false semicolon) & empty)))
+stage_120 = turns (at_word w_type) stage_114 (turns (at_word w_static) stage_106 (turns (at_word w_unsafe) stage_109 stage_119))
 
 abbrev pub stage_121 : Course
-stage_121 = turns at_semicolon stage_6 (kept ((mark false equals) & ((rule rules.type) & ((when at_where then ((token [] (word w_where)) & (rule rules.predicates)) else empty) & ((mark false semicolon) & empty)))))
+stage_121 = turns (at_word w_safe) (turns (ahead Before_macro) stage_118 (turns (ahead Before_colons) stage_118 stage_109)) stage_120
 
 abbrev pub stage_122 : Course
-stage_122 = turns at_where (reads (rule rules.where_clause) (turns at_semicolon stage_6 stage_120)) stage_121
+stage_122 = turns at_public (reads (rule rules.visibility) (turns (at_word w_safe) stage_109 stage_117)) (reads (vanishing true at_empty_group (inside None empty)) stage_121)
 
 abbrev pub stage_123 : Course
-stage_123 = reads (token [] (name)) (reads (rule rules.generics) (turns at_colon stage_4 stage_122))
+stage_123 = turns at_item (followed stage_83 (rule rules.statements)) (rest ((rule rules.statement_rest) & empty))
 
 abbrev pub stage_124 : Course
-stage_124 = reads (token [] (word w_type)) stage_123
+stage_124 = reads (token [] (word w_use)) (turns at_brace (rooted stage_5 stage_6) stage_19)
 
 abbrev pub stage_125 : Course
-stage_125 = reads (rule rules.foreign_signature) stage_117
+stage_125 = reads (rule rules.generics) (turns at_where (reads (rule rules.where_clause) stage_8) stage_10)
 
 abbrev pub stage_126 : Course
-stage_126 = turns ((at_word w_const) or_else ((at_word w_async) or_else (at_extern or_else (at_word w_fn)))) stage_125 stage_5
+stage_126 = turns at_module_path stage_61 (rest ((rule rules.type) & ((rule rules.impl_body) & empty)))
 
 abbrev pub stage_127 : Course
-stage_127 = turns (at_word w_type) stage_124 (turns (at_word w_static) stage_116 (turns (at_word w_unsafe) stage_119 stage_126))
+stage_127 = turns at_exclamation (reads (mark false exclamation) (turns at_brace stage_56 stage_58)) stage_126
 
 abbrev pub stage_128 : Course
-stage_128 = rest (when (at_word w_Self_type) then (one_of ([])) else ((rule rules.module_path) & ((when at_bang then (mark false exclamation) else (one_of ([]))) & ((rule rules.macro_end) & empty))))
-
-abbrev pub stage_129 : Course
-stage_129 = turns ((at_word w_const) or_else ((at_word w_async) or_else (at_extern or_else (at_word w_fn)))) stage_125 stage_128
-
-abbrev pub stage_130 : Course
-stage_130 = turns (at_word w_type) stage_124 (turns (at_word w_static) stage_116 (turns (at_word w_unsafe) stage_119 stage_129))
-
-abbrev pub stage_131 : Course
-stage_131 = turns (at_word w_safe) (turns (ahead Before_macro) stage_128 (turns (ahead Before_colons) stage_128 stage_119)) stage_130
-
-abbrev pub stage_132 : Course
-stage_132 = turns at_visibility (reads (rule rules.visibility) (turns (at_word w_safe) stage_119 stage_127)) stage_131
-
-abbrev pub stage_133 : Course
-stage_133 = turns at_item (followed stage_93 (rule rules.statements)) (rest ((rule rules.statement_rest) & empty))
-
-abbrev pub stage_134 : Course
-stage_134 = reads (token [] (word w_use)) (turns at_brace (rooted stage_5 stage_6) stage_19)
-
-abbrev pub stage_135 : Course
-stage_135 = reads (rule rules.generics) (turns at_where (reads (rule rules.where_clause) stage_8) stage_10)
-
-abbrev pub stage_136 : Course
-stage_136 = turns at_module_path stage_71 (rest ((rule rules.type) & ((rule rules.impl_body) & empty)))
-
-abbrev pub stage_137 : Course
-stage_137 = turns at_exclamation (reads (mark false exclamation) (turns at_brace stage_66 stage_68)) stage_136
-
-abbrev pub stage_138 : Course
-stage_138 = reads (when (at_word w_unsafe) then (token [] (word w_unsafe)) else empty) (reads (token [] (word w_impl)) (lists (led stage_137)))
+stage_128 = reads (when (at_word w_unsafe) then (token [] (word w_unsafe)) else empty) (reads (token [] (word w_impl)) (lists (led stage_127)))
 
 abbrev pub stage_course : Stage → Course
 stage_course Stage-m.Stage1 = stage_1
@@ -559,29 +529,19 @@ stage_course Stage-m.Stage125 = stage_125
 stage_course Stage-m.Stage126 = stage_126
 stage_course Stage-m.Stage127 = stage_127
 stage_course Stage-m.Stage128 = stage_128
-stage_course Stage-m.Stage129 = stage_129
-stage_course Stage-m.Stage130 = stage_130
-stage_course Stage-m.Stage131 = stage_131
-stage_course Stage-m.Stage132 = stage_132
-stage_course Stage-m.Stage133 = stage_133
-stage_course Stage-m.Stage134 = stage_134
-stage_course Stage-m.Stage135 = stage_135
-stage_course Stage-m.Stage136 = stage_136
-stage_course Stage-m.Stage137 = stage_137
-stage_course Stage-m.Stage138 = stage_138
 
 abbrev pub planned_course : Planned → Course
-planned_course Planned-m.Item = reads (rule rules.attributes) stage_93
-planned_course Planned-m.TraitItem = reads (rule rules.attributes) stage_103
-planned_course Planned-m.ImplItem = reads (rule rules.attributes) (turns at_visibility stage_110 stage_113)
-planned_course Planned-m.ForeignItem = reads (rule rules.attributes) stage_132
+planned_course Planned-m.Item = reads (rule rules.attributes) stage_83
+planned_course Planned-m.TraitItem = reads (rule rules.attributes) (turns (at_word w_pub) stage_84 stage_92)
+planned_course Planned-m.ImplItem = reads (rule rules.attributes) stage_103
+planned_course Planned-m.ForeignItem = reads (rule rules.attributes) stage_122
 planned_course Planned-m.CrateMacro = rest (when at_no_macro_item then ((rule rules.module_path) & ((when at_bang then (mark false exclamation) else (one_of ([]))) & (when at_brace then ((raw Brace) & (when at_postfix_mark then (one_of ([])) else ((rule rules.statement_end) & empty))) else (one_of ([]))))) else ((rule rules.module_path) & ((when at_bang then (mark false exclamation) else (one_of ([]))) & (when at_brace then ((raw Brace) & (when at_postfix_mark then empty else ((rule rules.statement_end) & empty))) else ((when at_macro_name then (token [] (name_or (w_try ∷ []))) else empty) & ((rule rules.macro_end) & (when at_postfix_mark then empty else (one_of ([])))))))))
 planned_course Planned-m.DeriveInput = rest ((rule rules.attributes) & ((rule rules.visibility) & (when (at_word w_struct) then ((token [] (word w_struct)) & ((token [] (name)) & ((rule rules.generics) & ((rule rules.structure_body) & empty)))) else (when (at_word w_enum) then ((token [] (word w_enum)) & ((token [] (name)) & ((rule rules.generics) & ((rule rules.where_clause) & ((inside Brace (rule rules.variants)) & empty))))) else ((token [] (word w_union)) & ((token [] (name)) & ((rule rules.generics) & ((rule rules.where_clause) & ((rule rules.fields_named) & empty)))))))))
-planned_course Planned-m.Statements = reads (rule rules.attributes) stage_133
-planned_course Planned-m.Statement = reads (rule rules.attributes) (turns at_item stage_93 (rest ((when at_crate_macro then (rule rules.crate_macro) else (when at_brace_macro then (shaped (shapes.said_macro) ((shaped (shapes.operand shapes.Macro) (rule rules.macro_invocation)) & (rule rules.statement_end))) else (when (at_word w_let) then (shaped (shapes.a_local) (rule rules.local)) else (when at_block_like then (shaped (shapes.said) ((rule rules.block_like) & (rule rules.statement_end))) else (shaped (shapes.said) ((rule rules.whole_expression) & (mark false semicolon))))))) & empty)))
-planned_course Planned-m.UseItemRest = reads (rule rules.visibility) stage_134
-planned_course Planned-m.TypeItemRest = reads (rule rules.visibility) (reads (token [] (word w_type)) (reads (token [] (name)) stage_135))
-planned_course Planned-m.ImplDefinitionRest = reads (when (at_word w_default) then (token [] (word w_default)) else empty) (reads (when (at_word w_const) then (token [] (word w_const)) else empty) stage_138)
+planned_course Planned-m.Statements = reads (rule rules.attributes) stage_123
+planned_course Planned-m.Statement = reads (rule rules.attributes) (turns at_item stage_83 (rest ((when at_crate_macro then (rule rules.crate_macro) else (when at_brace_macro then (shaped (shapes.said_macro) ((shaped (shapes.operand shapes.Macro) (rule rules.macro_invocation)) & (rule rules.statement_end))) else (when at_invisible then (shaped (shapes.said) ((rule rules.whole_expression) & (mark false semicolon))) else (when (at_word w_let) then (shaped (shapes.a_local) (rule rules.local)) else (when at_block_like then (shaped (shapes.said) ((rule rules.block_like) & (rule rules.statement_end))) else (shaped (shapes.said) ((rule rules.whole_expression) & (mark false semicolon)))))))) & empty)))
+planned_course Planned-m.UseItemRest = reads (rule rules.visibility) stage_124
+planned_course Planned-m.TypeItemRest = reads (rule rules.visibility) (reads (token [] (word w_type)) (reads (token [] (name)) stage_125))
+planned_course Planned-m.ImplDefinitionRest = reads (when (at_word w_default) then (token [] (word w_default)) else empty) (reads (when (at_word w_const) then (token [] (word w_const)) else empty) stage_128)
 
 -- the form that is read by a plan
 abbrev pub planned_form : Planned → Grammar

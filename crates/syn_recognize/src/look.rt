@@ -180,9 +180,9 @@ pub(crate) fn at_lone_colon(input: &ParseBuffer<'_>) -> bool
     input.peek::<token::Colon>() && !input.peek::<token::PathSep>()
 }
 
-// WHAT ONE LOOK TELLS
+// WHAT ONE LOOK TELLS: of an invisible group, nothing
 
-/// Whether this character of a mark stands next.
+/// Whether this character of a mark may stand next.
 pub(crate) fn is_mark(character: char, next: First) -> bool
     ensures { result ≡ may.is_mark character next }
 {
@@ -192,11 +192,11 @@ pub(crate) fn is_mark(character: char, next: First) -> bool
         First::Name => false,
         First::Keyword => false,
         First::Literal => false,
-        First::Group(_) => false,
+        First::Group(d) => d == Delimiter::None,
     }
 }
 
-/// Whether a keyword stands next.
+/// Whether a keyword may stand next.
 pub(crate) fn is_keyword(next: First) -> bool
     ensures { result ≡ may.is_keyword next }
 {
@@ -206,11 +206,11 @@ pub(crate) fn is_keyword(next: First) -> bool
         First::Name => false,
         First::Literal => false,
         First::Mark(_) => false,
-        First::Group(_) => false,
+        First::Group(d) => d == Delimiter::None,
     }
 }
 
-/// Whether an identifier that is no keyword stands next.
+/// Whether an identifier that is no keyword may stand next.
 fn is_name(next: First) -> bool
     ensures { result ≡ may.is_name next }
 {
@@ -220,11 +220,11 @@ fn is_name(next: First) -> bool
         First::Keyword => false,
         First::Literal => false,
         First::Mark(_) => false,
-        First::Group(_) => false,
+        First::Group(d) => d == Delimiter::None,
     }
 }
 
-/// Whether a literal stands next.
+/// Whether a literal may stand next.
 fn is_literal(next: First) -> bool
     ensures { result ≡ may.is_literal next }
 {
@@ -234,11 +234,11 @@ fn is_literal(next: First) -> bool
         First::Name => false,
         First::Keyword => false,
         First::Mark(_) => false,
-        First::Group(_) => false,
+        First::Group(d) => d == Delimiter::None,
     }
 }
 
-/// Whether nothing stands next.
+/// Whether nothing may stand next.
 fn is_ended(next: First) -> bool
     ensures { result ≡ may.is_ended next }
 {
@@ -248,16 +248,16 @@ fn is_ended(next: First) -> bool
         First::Keyword => false,
         First::Literal => false,
         First::Mark(_) => false,
-        First::Group(_) => false,
+        First::Group(d) => d == Delimiter::None,
     }
 }
 
-/// Whether a group with these delimiters stands next.
+/// Whether a group with these delimiters may stand next.
 pub(crate) fn is_group(delimiter: Delimiter, next: First) -> bool
     ensures { result ≡ may.is_group (delimiter_of delimiter) next }
 {
     match next {
-        First::Group(d) => delimiter == d,
+        First::Group(d) => d == Delimiter::None || delimiter == d,
         First::Ended => false,
         First::Name => false,
         First::Keyword => false,
@@ -266,12 +266,12 @@ pub(crate) fn is_group(delimiter: Delimiter, next: First) -> bool
     }
 }
 
-/// Whether a group stands next.
-pub(crate) fn is_any_group(next: First) -> bool
-    ensures { result ≡ may.is_any_group next }
+/// Whether an invisible group is the next tree.
+pub(crate) fn is_hidden(next: First) -> bool
+    ensures { result ≡ may.is_hidden next }
 {
     match next {
-        First::Group(_) => true,
+        First::Group(d) => d == Delimiter::None,
         First::Ended => false,
         First::Name => false,
         First::Keyword => false,
@@ -280,7 +280,7 @@ pub(crate) fn is_any_group(next: First) -> bool
     }
 }
 
-/// Whether a keyword stands next, where this word is one; else whether another name does.
+/// Whether a keyword may stand next, where this word is one; else whether another name may.
 fn is_of_kind(word: Word, next: First) -> bool
     ensures { result ≡ may.is_word (one_of_texts (word_text word) keywords) next }
 {
@@ -291,7 +291,7 @@ fn is_of_kind(word: Word, next: First) -> bool
     }
 }
 
-/// Whether a mark stands next that begins as this one does.
+/// Whether a mark may stand next that begins as this one does.
 fn is_begun(mark: Mark, next: First) -> bool
     ensures { result ≡ may.is_mark (head_of (mark_text mark)) next }
 {
@@ -334,7 +334,7 @@ fn may_hold(look: &Look, next: First) -> bool
         }
         Look::WholeExpression => true,
         Look::Unfinished => may_go_on(next),
-        Look::EmptyGroup => is_any_group(next),
+        Look::EmptyGroup => is_hidden(next),
         Look::Restriction => is_group(Delimiter::Paren, next),
         Look::NamelessFields => is_keyword(next) || is_name(next),
         Look::ParameterEnd => is_mark(',', next) || is_mark('>', next) || is_mark('=', next),
@@ -379,7 +379,7 @@ fn may_end_predicate(next: First) -> bool
         || is_mark(':', next)
 }
 
-/// Whether one look tells of the condition all that there is to tell.
+/// Whether one look tells of the condition all that there is to tell, where it finds no invisible group.
 fn tells(look: &Look) -> bool
     ensures { result ≡ may.tells look.now }
 {
@@ -436,6 +436,9 @@ pub(crate) fn holds_next(look: &Look, next: First, input: &ParseBuffer<'_>) -> P
 {
     if !may_hold(look, next) {
         return Ok(false);
+    }
+    if is_hidden(next) {
+        return holds(look, input);
     }
     if tells(look) {
         return Ok(true);

@@ -9,7 +9,7 @@ ghost use Rattle.syn_recognize.specs.Names.{rule_of};
 ghost use Rattle.syn_recognize.specs.Opens.{Opens};
 
 use crate::form::Form;
-use crate::look::{Look, is_any_group, is_group, is_keyword, is_mark};
+use crate::look::{Look, is_group, is_hidden, is_keyword, is_mark};
 use crate::plan::Planned;
 use crate::rules::{Part, Rule, form_of, form_of_part};
 use crate::shape::Shape;
@@ -452,7 +452,7 @@ fn may_be_attribute(next: First) -> bool
 fn may_be_visibility(next: First) -> bool
     ensures { result ≡ loud (table visibility) next }
 {
-    is_keyword(next) || is_any_group(next)
+    is_keyword(next) || is_hidden(next)
 }
 
 /// A form that is read as the words of an expression's path are.

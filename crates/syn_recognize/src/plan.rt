@@ -188,16 +188,6 @@ pub enum Stage {
     Stage126,
     Stage127,
     Stage128,
-    Stage129,
-    Stage130,
-    Stage131,
-    Stage132,
-    Stage133,
-    Stage134,
-    Stage135,
-    Stage136,
-    Stage137,
-    Stage138,
 }
 
 pub(crate) static PLANNED_1: Form = Form::Then(
@@ -443,31 +433,6 @@ pub(crate) static PLANNED_20: Form = Form::Then(
 );
 
 pub(crate) static PLANNED_21: Form = Form::Then(
-    &Form::Rule(Rule::Type),
-    &Form::Then(
-        &Form::When(
-            Look::Word(Word::Const),
-            &Form::Token(Token::Word(Word::Const)),
-            &Form::Empty,
-        ),
-        &Form::Then(&Form::Rule(Rule::BareTrait), &Form::Empty),
-    ),
-);
-
-pub(crate) static PLANNED_22: Form = Form::When(
-    Look::InRestriction,
-    &Form::Then(
-        &Form::Inside(Delimiter::Paren, &Form::Rule(Rule::Restriction)),
-        &Form::Part(Part::Planned20),
-    ),
-    &Form::When(
-        Look::LoneWord,
-        &Form::Part(Part::Planned21),
-        &Form::Never(Fault::Unexpected),
-    ),
-);
-
-pub(crate) static PLANNED_23: Form = Form::Then(
     &Form::When(
         Look::Word(Word::Const),
         &Form::Token(Token::Word(Word::Const)),
@@ -476,7 +441,37 @@ pub(crate) static PLANNED_23: Form = Form::Then(
     &Form::Then(&Form::Rule(Rule::BareTrait), &Form::Empty),
 );
 
+pub(crate) static PLANNED_22: Form = Form::When(
+    Look::LoneWord,
+    &Form::Then(
+        &Form::Inside(Delimiter::Paren, &Form::Rule(Rule::Types)),
+        &Form::Part(Part::Planned21),
+    ),
+    &Form::Never(Fault::Unexpected),
+);
+
+pub(crate) static PLANNED_23: Form = Form::Then(
+    &Form::Token(Token::Word(Word::Impl)),
+    &Form::When(
+        Look::InRestriction,
+        &Form::Then(
+            &Form::Inside(Delimiter::Paren, &Form::Rule(Rule::Restriction)),
+            &Form::Part(Part::Planned20),
+        ),
+        &Form::Part(Part::Planned22),
+    ),
+);
+
 pub(crate) static PLANNED_24: Form = Form::Then(
+    &Form::When(
+        Look::Word(Word::Const),
+        &Form::Token(Token::Word(Word::Const)),
+        &Form::Empty,
+    ),
+    &Form::Then(&Form::Rule(Rule::BareTrait), &Form::Empty),
+);
+
+pub(crate) static PLANNED_25: Form = Form::Then(
     &Form::When(
         Look::Or(&Look::Name, &Look::Word(Word::Try)),
         &Form::Token(Token::NameOrTry),
@@ -485,100 +480,100 @@ pub(crate) static PLANNED_24: Form = Form::Then(
     &Form::Then(&Form::Rule(Rule::MacroEnd), &Form::Empty),
 );
 
-pub(crate) static PLANNED_25: Form = Form::When(
+pub(crate) static PLANNED_26: Form = Form::When(
     Look::Mark(Mark::Eq),
     &Form::Then(&Form::Mark(Mark::Eq), &Form::Rule(Rule::Type)),
     &Form::Empty,
 );
 
-pub(crate) static PLANNED_26: Form = Form::Then(
+pub(crate) static PLANNED_27: Form = Form::Then(
     &Form::Fading(Fading::TypeBounds),
     &Form::Then(
-        &Form::Part(Part::Planned25),
+        &Form::Part(Part::Planned26),
         &Form::Then(
             &Form::Rule(Rule::WhereClause),
             &Form::Then(&Form::Mark(Mark::Semi), &Form::Empty),
         ),
-    ),
-);
-
-pub(crate) static PLANNED_27: Form = Form::Then(
-    &Form::Rule(Rule::SignatureRest),
-    &Form::When(
-        Look::Mark(Mark::Semi),
-        &Form::Then(&Form::Mark(Mark::Semi), &Form::Empty),
-        &Form::Then(&Form::Rule(Rule::Body), &Form::Empty),
     ),
 );
 
 pub(crate) static PLANNED_28: Form = Form::Then(
-    &Form::Rule(Rule::UnsafeOnly),
-    &Form::Then(
-        &Form::When(
-            Look::Word(Word::Extern),
-            &Form::Rule(Rule::Abi),
-            &Form::Empty,
-        ),
-        &Form::Part(Part::Planned27),
+    &Form::Rule(Rule::SignatureRest),
+    &Form::When(
+        Look::Mark(Mark::Semi),
+        &Form::Then(&Form::Mark(Mark::Semi), &Form::Empty),
+        &Form::Then(&Form::Rule(Rule::Body), &Form::Empty),
     ),
 );
 
 pub(crate) static PLANNED_29: Form = Form::Then(
-    &Form::When(
-        Look::Word(Word::Where),
-        &Form::Then(
-            &Form::Token(Token::Word(Word::Where)),
-            &Form::Rule(Rule::Predicates),
-        ),
-        &Form::Empty,
-    ),
-    &Form::Then(&Form::Mark(Mark::Semi), &Form::Empty),
-);
-
-pub(crate) static PLANNED_30: Form = Form::Then(
-    &Form::Rule(Rule::Type),
+    &Form::Rule(Rule::UnsafeOnly),
     &Form::Then(
         &Form::When(
-            Look::Mark(Mark::Eq),
-            &Form::Then(&Form::Mark(Mark::Eq), &Form::Rule(Rule::WholeExpression)),
-            &Form::Empty,
-        ),
-        &Form::Part(Part::Planned29),
-    ),
-);
-
-pub(crate) static PLANNED_31: Form = Form::Then(
-    &Form::Token(Token::NameOrUnderscore),
-    &Form::Then(
-        &Form::When(
-            Look::Mark(Mark::Lt),
-            &Form::Ordered(List::Parameters),
-            &Form::Empty,
-        ),
-        &Form::Then(&Form::Mark(Mark::Colon), &Form::Part(Part::Planned30)),
-    ),
-);
-
-pub(crate) static PLANNED_32: Form = Form::When(
-    Look::Or(
-        &Look::Word(Word::Async),
-        &Look::Or(
-            &Look::Word(Word::Unsafe),
-            &Look::Or(&Look::Word(Word::Extern), &Look::Word(Word::Fn)),
-        ),
-    ),
-    &Form::Then(
-        &Form::When(
-            Look::Word(Word::Async),
-            &Form::Token(Token::Word(Word::Async)),
+            Look::Word(Word::Extern),
+            &Form::Rule(Rule::Abi),
             &Form::Empty,
         ),
         &Form::Part(Part::Planned28),
     ),
-    &Form::Part(Part::Planned31),
 );
 
-pub(crate) static PLANNED_33: Form = Form::Then(
+pub(crate) static PLANNED_30: Form = Form::Then(
+    &Form::When(
+        Look::Word(Word::Where),
+        &Form::Then(
+            &Form::Token(Token::Word(Word::Where)),
+            &Form::Rule(Rule::Predicates),
+        ),
+        &Form::Empty,
+    ),
+    &Form::Then(&Form::Mark(Mark::Semi), &Form::Empty),
+);
+
+pub(crate) static PLANNED_31: Form = Form::Then(
+    &Form::Rule(Rule::Type),
+    &Form::Then(
+        &Form::When(
+            Look::Mark(Mark::Eq),
+            &Form::Then(&Form::Mark(Mark::Eq), &Form::Rule(Rule::WholeExpression)),
+            &Form::Empty,
+        ),
+        &Form::Part(Part::Planned30),
+    ),
+);
+
+pub(crate) static PLANNED_32: Form = Form::Then(
+    &Form::Token(Token::NameOrUnderscore),
+    &Form::Then(
+        &Form::When(
+            Look::Mark(Mark::Lt),
+            &Form::Ordered(List::Parameters),
+            &Form::Empty,
+        ),
+        &Form::Then(&Form::Mark(Mark::Colon), &Form::Part(Part::Planned31)),
+    ),
+);
+
+pub(crate) static PLANNED_33: Form = Form::When(
+    Look::Or(
+        &Look::Word(Word::Async),
+        &Look::Or(
+            &Look::Word(Word::Unsafe),
+            &Look::Or(&Look::Word(Word::Extern), &Look::Word(Word::Fn)),
+        ),
+    ),
+    &Form::Then(
+        &Form::When(
+            Look::Word(Word::Async),
+            &Form::Token(Token::Word(Word::Async)),
+            &Form::Empty,
+        ),
+        &Form::Part(Part::Planned29),
+    ),
+    &Form::Part(Part::Planned32),
+);
+
+pub(crate) static PLANNED_34: Form = Form::Then(
     &Form::Rule(Rule::Signature),
     &Form::When(
         Look::Mark(Mark::Semi),
@@ -587,138 +582,66 @@ pub(crate) static PLANNED_33: Form = Form::Then(
     ),
 );
 
-pub(crate) static PLANNED_34: Form = Form::Then(
+pub(crate) static PLANNED_35: Form = Form::Then(
     &Form::Token(Token::Word(Word::Type)),
     &Form::Then(
         &Form::Token(Token::Name),
-        &Form::Then(&Form::Rule(Rule::Generics), &Form::Part(Part::Planned26)),
-    ),
-);
-
-pub(crate) static PLANNED_35: Form = Form::When(
-    Look::Word(Word::Type),
-    &Form::Part(Part::Planned34),
-    &Form::When(
-        Look::Word(Word::Const),
-        &Form::Then(
-            &Form::Token(Token::Word(Word::Const)),
-            &Form::Part(Part::Planned32),
-        ),
-        &Form::Part(Part::Planned33),
+        &Form::Then(&Form::Rule(Rule::Generics), &Form::Part(Part::Planned27)),
     ),
 );
 
 pub(crate) static PLANNED_36: Form = Form::When(
+    Look::Word(Word::Type),
+    &Form::Part(Part::Planned35),
+    &Form::When(
+        Look::Word(Word::Const),
+        &Form::Then(
+            &Form::Token(Token::Word(Word::Const)),
+            &Form::Part(Part::Planned33),
+        ),
+        &Form::Part(Part::Planned34),
+    ),
+);
+
+pub(crate) static PLANNED_37: Form = Form::When(
     Look::Mark(Mark::Eq),
     &Form::Then(&Form::Mark(Mark::Eq), &Form::Rule(Rule::Type)),
     &Form::Empty,
 );
 
-pub(crate) static PLANNED_37: Form = Form::Then(
+pub(crate) static PLANNED_38: Form = Form::Then(
     &Form::Fading(Fading::TypeBounds),
     &Form::Then(
-        &Form::Part(Part::Planned36),
+        &Form::Part(Part::Planned37),
         &Form::Then(
             &Form::Rule(Rule::WhereClause),
             &Form::Then(&Form::Mark(Mark::Semi), &Form::Empty),
         ),
-    ),
-);
-
-pub(crate) static PLANNED_38: Form = Form::Then(
-    &Form::Rule(Rule::SignatureRest),
-    &Form::When(
-        Look::Mark(Mark::Semi),
-        &Form::Then(&Form::Mark(Mark::Semi), &Form::Empty),
-        &Form::Then(&Form::Rule(Rule::Body), &Form::Empty),
     ),
 );
 
 pub(crate) static PLANNED_39: Form = Form::Then(
-    &Form::Rule(Rule::UnsafeOnly),
-    &Form::Then(
-        &Form::When(
-            Look::Word(Word::Extern),
-            &Form::Rule(Rule::Abi),
-            &Form::Empty,
-        ),
-        &Form::Part(Part::Planned38),
+    &Form::Rule(Rule::SignatureRest),
+    &Form::When(
+        Look::Mark(Mark::Semi),
+        &Form::Then(&Form::Mark(Mark::Semi), &Form::Empty),
+        &Form::Then(&Form::Rule(Rule::Body), &Form::Empty),
     ),
 );
 
 pub(crate) static PLANNED_40: Form = Form::Then(
-    &Form::When(
-        Look::Word(Word::Where),
-        &Form::Then(
-            &Form::Token(Token::Word(Word::Where)),
-            &Form::Rule(Rule::Predicates),
-        ),
-        &Form::Empty,
-    ),
-    &Form::Then(&Form::Mark(Mark::Semi), &Form::Empty),
-);
-
-pub(crate) static PLANNED_41: Form = Form::Then(
-    &Form::Rule(Rule::Type),
+    &Form::Rule(Rule::UnsafeOnly),
     &Form::Then(
         &Form::When(
-            Look::Mark(Mark::Eq),
-            &Form::Then(&Form::Mark(Mark::Eq), &Form::Rule(Rule::WholeExpression)),
-            &Form::Empty,
-        ),
-        &Form::Part(Part::Planned40),
-    ),
-);
-
-pub(crate) static PLANNED_42: Form = Form::Then(
-    &Form::Token(Token::NameOrUnderscore),
-    &Form::Then(
-        &Form::When(
-            Look::Mark(Mark::Lt),
-            &Form::Ordered(List::Parameters),
-            &Form::Empty,
-        ),
-        &Form::Then(&Form::Mark(Mark::Colon), &Form::Part(Part::Planned41)),
-    ),
-);
-
-pub(crate) static PLANNED_43: Form = Form::When(
-    Look::Or(
-        &Look::Word(Word::Async),
-        &Look::Or(
-            &Look::Word(Word::Unsafe),
-            &Look::Or(&Look::Word(Word::Extern), &Look::Word(Word::Fn)),
-        ),
-    ),
-    &Form::Then(
-        &Form::When(
-            Look::Word(Word::Async),
-            &Form::Token(Token::Word(Word::Async)),
+            Look::Word(Word::Extern),
+            &Form::Rule(Rule::Abi),
             &Form::Empty,
         ),
         &Form::Part(Part::Planned39),
     ),
-    &Form::Part(Part::Planned42),
 );
 
-pub(crate) static PLANNED_44: Form = Form::Then(
-    &Form::Rule(Rule::Signature),
-    &Form::When(
-        Look::Mark(Mark::Semi),
-        &Form::Then(&Form::Mark(Mark::Semi), &Form::Empty),
-        &Form::Then(&Form::Rule(Rule::Body), &Form::Empty),
-    ),
-);
-
-pub(crate) static PLANNED_45: Form = Form::Then(
-    &Form::Token(Token::Word(Word::Type)),
-    &Form::Then(
-        &Form::Token(Token::Name),
-        &Form::Then(&Form::Rule(Rule::Generics), &Form::Part(Part::Planned37)),
-    ),
-);
-
-pub(crate) static PLANNED_46: Form = Form::Then(
+pub(crate) static PLANNED_41: Form = Form::Then(
     &Form::When(
         Look::Word(Word::Where),
         &Form::Then(
@@ -730,7 +653,7 @@ pub(crate) static PLANNED_46: Form = Form::Then(
     &Form::Then(&Form::Mark(Mark::Semi), &Form::Empty),
 );
 
-pub(crate) static PLANNED_47: Form = Form::Then(
+pub(crate) static PLANNED_42: Form = Form::Then(
     &Form::Rule(Rule::Type),
     &Form::Then(
         &Form::When(
@@ -738,118 +661,11 @@ pub(crate) static PLANNED_47: Form = Form::Then(
             &Form::Then(&Form::Mark(Mark::Eq), &Form::Rule(Rule::WholeExpression)),
             &Form::Empty,
         ),
-        &Form::Part(Part::Planned46),
+        &Form::Part(Part::Planned41),
     ),
 );
 
-pub(crate) static PLANNED_48: Form = Form::Then(
-    &Form::Then(
-        &Form::Token(Token::Word(Word::Where)),
-        &Form::Rule(Rule::Predicates),
-    ),
-    &Form::Then(&Form::Mark(Mark::Semi), &Form::Empty),
-);
-
-pub(crate) static PLANNED_49: Form = Form::Then(
-    &Form::Rule(Rule::Type),
-    &Form::Then(
-        &Form::When(
-            Look::Mark(Mark::Eq),
-            &Form::Then(&Form::Mark(Mark::Eq), &Form::Rule(Rule::WholeExpression)),
-            &Form::Empty,
-        ),
-        &Form::Part(Part::Planned48),
-    ),
-);
-
-pub(crate) static PLANNED_50: Form = Form::When(
-    Look::Mark(Mark::Lt),
-    &Form::Then(
-        &Form::Ordered(List::Parameters),
-        &Form::Then(&Form::Mark(Mark::Colon), &Form::Part(Part::Planned47)),
-    ),
-    &Form::Then(&Form::Mark(Mark::Colon), &Form::Part(Part::Planned49)),
-);
-
-pub(crate) static PLANNED_51: Form = Form::Then(
-    &Form::Token(Token::Word(Word::Default)),
-    &Form::When(
-        Look::Word(Word::Type),
-        &Form::Part(Part::Planned45),
-        &Form::When(
-            Look::Word(Word::Const),
-            &Form::Then(
-                &Form::Token(Token::Word(Word::Const)),
-                &Form::Part(Part::Planned43),
-            ),
-            &Form::Part(Part::Planned44),
-        ),
-    ),
-);
-
-pub(crate) static PLANNED_52: Form = Form::When(
-    Look::Mark(Mark::Eq),
-    &Form::Then(&Form::Mark(Mark::Eq), &Form::Rule(Rule::Type)),
-    &Form::Empty,
-);
-
-pub(crate) static PLANNED_53: Form = Form::Then(
-    &Form::Fading(Fading::TypeBounds),
-    &Form::Then(
-        &Form::Part(Part::Planned52),
-        &Form::Then(
-            &Form::Rule(Rule::WhereClause),
-            &Form::Then(&Form::Mark(Mark::Semi), &Form::Empty),
-        ),
-    ),
-);
-
-pub(crate) static PLANNED_54: Form = Form::Then(
-    &Form::Rule(Rule::SignatureRest),
-    &Form::When(
-        Look::Mark(Mark::Semi),
-        &Form::Then(&Form::Mark(Mark::Semi), &Form::Empty),
-        &Form::Then(&Form::Rule(Rule::Body), &Form::Empty),
-    ),
-);
-
-pub(crate) static PLANNED_55: Form = Form::Then(
-    &Form::Rule(Rule::UnsafeOnly),
-    &Form::Then(
-        &Form::When(
-            Look::Word(Word::Extern),
-            &Form::Rule(Rule::Abi),
-            &Form::Empty,
-        ),
-        &Form::Part(Part::Planned54),
-    ),
-);
-
-pub(crate) static PLANNED_56: Form = Form::Then(
-    &Form::When(
-        Look::Word(Word::Where),
-        &Form::Then(
-            &Form::Token(Token::Word(Word::Where)),
-            &Form::Rule(Rule::Predicates),
-        ),
-        &Form::Empty,
-    ),
-    &Form::Then(&Form::Mark(Mark::Semi), &Form::Empty),
-);
-
-pub(crate) static PLANNED_57: Form = Form::Then(
-    &Form::Rule(Rule::Type),
-    &Form::Then(
-        &Form::When(
-            Look::Mark(Mark::Eq),
-            &Form::Then(&Form::Mark(Mark::Eq), &Form::Rule(Rule::WholeExpression)),
-            &Form::Empty,
-        ),
-        &Form::Part(Part::Planned56),
-    ),
-);
-
-pub(crate) static PLANNED_58: Form = Form::Then(
+pub(crate) static PLANNED_43: Form = Form::Then(
     &Form::Token(Token::NameOrUnderscore),
     &Form::Then(
         &Form::When(
@@ -857,11 +673,11 @@ pub(crate) static PLANNED_58: Form = Form::Then(
             &Form::Ordered(List::Parameters),
             &Form::Empty,
         ),
-        &Form::Then(&Form::Mark(Mark::Colon), &Form::Part(Part::Planned57)),
+        &Form::Then(&Form::Mark(Mark::Colon), &Form::Part(Part::Planned42)),
     ),
 );
 
-pub(crate) static PLANNED_59: Form = Form::When(
+pub(crate) static PLANNED_44: Form = Form::When(
     Look::Or(
         &Look::Word(Word::Async),
         &Look::Or(
@@ -875,12 +691,12 @@ pub(crate) static PLANNED_59: Form = Form::When(
             &Form::Token(Token::Word(Word::Async)),
             &Form::Empty,
         ),
-        &Form::Part(Part::Planned55),
+        &Form::Part(Part::Planned40),
     ),
-    &Form::Part(Part::Planned58),
+    &Form::Part(Part::Planned43),
 );
 
-pub(crate) static PLANNED_60: Form = Form::Then(
+pub(crate) static PLANNED_45: Form = Form::Then(
     &Form::Rule(Rule::Signature),
     &Form::When(
         Look::Mark(Mark::Semi),
@@ -889,24 +705,24 @@ pub(crate) static PLANNED_60: Form = Form::Then(
     ),
 );
 
-pub(crate) static PLANNED_61: Form = Form::Then(
+pub(crate) static PLANNED_46: Form = Form::Then(
     &Form::Token(Token::Word(Word::Type)),
     &Form::Then(
         &Form::Token(Token::Name),
-        &Form::Then(&Form::Rule(Rule::Generics), &Form::Part(Part::Planned53)),
+        &Form::Then(&Form::Rule(Rule::Generics), &Form::Part(Part::Planned38)),
     ),
 );
 
-pub(crate) static PLANNED_62: Form = Form::When(
+pub(crate) static PLANNED_47: Form = Form::When(
     Look::Mark(Mark::Eq),
     &Form::Then(&Form::Mark(Mark::Eq), &Form::Rule(Rule::Type)),
     &Form::Empty,
 );
 
-pub(crate) static PLANNED_63: Form = Form::Then(
+pub(crate) static PLANNED_48: Form = Form::Then(
     &Form::Fading(Fading::TypeBounds),
     &Form::Then(
-        &Form::Part(Part::Planned62),
+        &Form::Part(Part::Planned47),
         &Form::Then(
             &Form::Rule(Rule::WhereClause),
             &Form::Then(&Form::Mark(Mark::Semi), &Form::Empty),
@@ -914,7 +730,7 @@ pub(crate) static PLANNED_63: Form = Form::Then(
     ),
 );
 
-pub(crate) static PLANNED_64: Form = Form::Then(
+pub(crate) static PLANNED_49: Form = Form::Then(
     &Form::Rule(Rule::SignatureRest),
     &Form::When(
         Look::Mark(Mark::Semi),
@@ -923,7 +739,7 @@ pub(crate) static PLANNED_64: Form = Form::Then(
     ),
 );
 
-pub(crate) static PLANNED_65: Form = Form::Then(
+pub(crate) static PLANNED_50: Form = Form::Then(
     &Form::Rule(Rule::UnsafeOnly),
     &Form::Then(
         &Form::When(
@@ -931,11 +747,11 @@ pub(crate) static PLANNED_65: Form = Form::Then(
             &Form::Rule(Rule::Abi),
             &Form::Empty,
         ),
-        &Form::Part(Part::Planned64),
+        &Form::Part(Part::Planned49),
     ),
 );
 
-pub(crate) static PLANNED_66: Form = Form::Then(
+pub(crate) static PLANNED_51: Form = Form::Then(
     &Form::Rule(Rule::ModulePath),
     &Form::Then(
         &Form::When(
@@ -947,7 +763,7 @@ pub(crate) static PLANNED_66: Form = Form::Then(
     ),
 );
 
-pub(crate) static PLANNED_67: Form = Form::Then(
+pub(crate) static PLANNED_52: Form = Form::Then(
     &Form::Rule(Rule::Signature),
     &Form::When(
         Look::Mark(Mark::Semi),
@@ -956,7 +772,7 @@ pub(crate) static PLANNED_67: Form = Form::Then(
     ),
 );
 
-pub(crate) static PLANNED_68: Form = Form::Then(
+pub(crate) static PLANNED_53: Form = Form::Then(
     &Form::When(
         Look::Word(Word::Where),
         &Form::Then(
@@ -968,7 +784,7 @@ pub(crate) static PLANNED_68: Form = Form::Then(
     &Form::Then(&Form::Mark(Mark::Semi), &Form::Empty),
 );
 
-pub(crate) static PLANNED_69: Form = Form::Then(
+pub(crate) static PLANNED_54: Form = Form::Then(
     &Form::Rule(Rule::TypeBounds),
     &Form::Then(
         &Form::When(
@@ -976,11 +792,11 @@ pub(crate) static PLANNED_69: Form = Form::Then(
             &Form::Then(&Form::Mark(Mark::Eq), &Form::Rule(Rule::Type)),
             &Form::Empty,
         ),
-        &Form::Part(Part::Planned68),
+        &Form::Part(Part::Planned53),
     ),
 );
 
-pub(crate) static PLANNED_70: Form = Form::Then(
+pub(crate) static PLANNED_55: Form = Form::Then(
     &Form::When(
         Look::Word(Word::Where),
         &Form::Then(
@@ -992,7 +808,7 @@ pub(crate) static PLANNED_70: Form = Form::Then(
     &Form::Then(&Form::Mark(Mark::Semi), &Form::Empty),
 );
 
-pub(crate) static PLANNED_71: Form = Form::Then(
+pub(crate) static PLANNED_56: Form = Form::Then(
     &Form::Rule(Rule::ModulePath),
     &Form::Then(
         &Form::When(
@@ -1004,7 +820,7 @@ pub(crate) static PLANNED_71: Form = Form::Then(
     ),
 );
 
-pub(crate) static PLANNED_72: Form = Form::Then(
+pub(crate) static PLANNED_57: Form = Form::Then(
     &Form::When(
         Look::Word(Word::Where),
         &Form::Then(
@@ -1016,7 +832,7 @@ pub(crate) static PLANNED_72: Form = Form::Then(
     &Form::Then(&Form::Mark(Mark::Semi), &Form::Empty),
 );
 
-pub(crate) static PLANNED_73: Form = Form::Then(
+pub(crate) static PLANNED_58: Form = Form::Then(
     &Form::Rule(Rule::ModulePath),
     &Form::Then(
         &Form::When(
@@ -1028,7 +844,7 @@ pub(crate) static PLANNED_73: Form = Form::Then(
     ),
 );
 
-pub(crate) static PLANNED_74: Form = Form::When(
+pub(crate) static PLANNED_59: Form = Form::When(
     Look::Group(Delimiter::Brace),
     &Form::Then(
         &Form::Raw(Delimiter::Brace),
@@ -1041,7 +857,7 @@ pub(crate) static PLANNED_74: Form = Form::When(
     &Form::Never(Fault::Unexpected),
 );
 
-pub(crate) static PLANNED_75: Form = Form::Then(
+pub(crate) static PLANNED_60: Form = Form::Then(
     &Form::When(
         Look::Or(&Look::Name, &Look::Word(Word::Try)),
         &Form::Token(Token::NameOrTry),
@@ -1057,7 +873,7 @@ pub(crate) static PLANNED_75: Form = Form::Then(
     ),
 );
 
-pub(crate) static PLANNED_76: Form = Form::When(
+pub(crate) static PLANNED_61: Form = Form::When(
     Look::Group(Delimiter::Brace),
     &Form::Then(
         &Form::Raw(Delimiter::Brace),
@@ -1067,10 +883,10 @@ pub(crate) static PLANNED_76: Form = Form::When(
             &Form::Then(&Form::Rule(Rule::StatementEnd), &Form::Empty),
         ),
     ),
-    &Form::Part(Part::Planned75),
+    &Form::Part(Part::Planned60),
 );
 
-pub(crate) static PLANNED_77: Form = Form::Then(
+pub(crate) static PLANNED_62: Form = Form::Then(
     &Form::Rule(Rule::ModulePath),
     &Form::Then(
         &Form::When(
@@ -1078,11 +894,11 @@ pub(crate) static PLANNED_77: Form = Form::Then(
             &Form::Mark(Mark::Not),
             &Form::Never(Fault::Unexpected),
         ),
-        &Form::Part(Part::Planned74),
+        &Form::Part(Part::Planned59),
     ),
 );
 
-pub(crate) static PLANNED_78: Form = Form::Then(
+pub(crate) static PLANNED_63: Form = Form::Then(
     &Form::Rule(Rule::Generics),
     &Form::Then(
         &Form::Rule(Rule::WhereClause),
@@ -1093,7 +909,7 @@ pub(crate) static PLANNED_78: Form = Form::Then(
     ),
 );
 
-pub(crate) static PLANNED_79: Form = Form::Then(
+pub(crate) static PLANNED_64: Form = Form::Then(
     &Form::Token(Token::Name),
     &Form::Then(
         &Form::Rule(Rule::Generics),
@@ -1104,7 +920,7 @@ pub(crate) static PLANNED_79: Form = Form::Then(
     ),
 );
 
-pub(crate) static PLANNED_80: Form = Form::Then(
+pub(crate) static PLANNED_65: Form = Form::Then(
     &Form::Token(Token::Word(Word::Struct)),
     &Form::Then(
         &Form::Token(Token::Name),
@@ -1115,19 +931,19 @@ pub(crate) static PLANNED_80: Form = Form::Then(
     ),
 );
 
-pub(crate) static PLANNED_81: Form = Form::When(
+pub(crate) static PLANNED_66: Form = Form::When(
     Look::Word(Word::Enum),
     &Form::Then(
         &Form::Token(Token::Word(Word::Enum)),
-        &Form::Then(&Form::Token(Token::Name), &Form::Part(Part::Planned78)),
+        &Form::Then(&Form::Token(Token::Name), &Form::Part(Part::Planned63)),
     ),
     &Form::Then(
         &Form::Token(Token::Word(Word::Union)),
-        &Form::Part(Part::Planned79),
+        &Form::Part(Part::Planned64),
     ),
 );
 
-pub(crate) static PLANNED_82: Form = Form::When(
+pub(crate) static PLANNED_67: Form = Form::When(
     Look::BlockLike,
     &Form::Shaped(
         Shape::Said,
@@ -1145,49 +961,59 @@ pub(crate) static PLANNED_82: Form = Form::When(
     ),
 );
 
-pub(crate) static PLANNED_83: Form = Form::Shaped(
-    Shape::SaidMacro,
-    &Form::Then(
-        &Form::Shaped(
-            Shape::Operand(Variant::Macro),
-            &Form::Rule(Rule::MacroInvocation),
+pub(crate) static PLANNED_68: Form = Form::When(
+    Look::Group(Delimiter::None),
+    &Form::Shaped(
+        Shape::Said,
+        &Form::Then(
+            &Form::Rule(Rule::WholeExpression),
+            &Form::MarkElse(Mark::Semi, Fault::MissingSemi),
         ),
-        &Form::Rule(Rule::StatementEnd),
+    ),
+    &Form::When(
+        Look::Word(Word::Let),
+        &Form::Shaped(Shape::ALocal, &Form::Rule(Rule::Local)),
+        &Form::Part(Part::Planned67),
     ),
 );
 
-pub(crate) static PLANNED_84: Form = Form::When(
+pub(crate) static PLANNED_69: Form = Form::When(
     Look::CrateMacro,
     &Form::Rule(Rule::CrateMacro),
     &Form::When(
         Look::BraceMacro,
-        &Form::Part(Part::Planned83),
-        &Form::When(
-            Look::Word(Word::Let),
-            &Form::Shaped(Shape::ALocal, &Form::Rule(Rule::Local)),
-            &Form::Part(Part::Planned82),
+        &Form::Shaped(
+            Shape::SaidMacro,
+            &Form::Then(
+                &Form::Shaped(
+                    Shape::Operand(Variant::Macro),
+                    &Form::Rule(Rule::MacroInvocation),
+                ),
+                &Form::Rule(Rule::StatementEnd),
+            ),
         ),
+        &Form::Part(Part::Planned68),
     ),
 );
 
-static ITEM: Plan = Plan::Reads(&Form::Rule(Rule::Attributes), &Plan::Go(Stage::Stage93));
+static ITEM: Plan = Plan::Reads(&Form::Rule(Rule::Attributes), &Plan::Go(Stage::Stage83));
 
-static TRAIT_ITEM: Plan = Plan::Reads(&Form::Rule(Rule::Attributes), &Plan::Go(Stage::Stage103));
-
-static IMPL_ITEM: Plan = Plan::Reads(
+static TRAIT_ITEM: Plan = Plan::Reads(
     &Form::Rule(Rule::Attributes),
     &Plan::Turns(
-        Look::Or(&Look::Word(Word::Pub), &Look::EmptyGroup),
-        &Plan::Go(Stage::Stage110),
-        &Plan::Go(Stage::Stage113),
+        Look::Word(Word::Pub),
+        &Plan::Go(Stage::Stage84),
+        &Plan::Go(Stage::Stage92),
     ),
 );
 
-static FOREIGN_ITEM: Plan = Plan::Reads(&Form::Rule(Rule::Attributes), &Plan::Go(Stage::Stage132));
+static IMPL_ITEM: Plan = Plan::Reads(&Form::Rule(Rule::Attributes), &Plan::Go(Stage::Stage103));
+
+static FOREIGN_ITEM: Plan = Plan::Reads(&Form::Rule(Rule::Attributes), &Plan::Go(Stage::Stage122));
 
 static CRATE_MACRO: Plan = Plan::Rest(&Form::When(
     Look::NoMacroItem,
-    &Form::Part(Part::Planned77),
+    &Form::Part(Part::Planned62),
     &Form::Then(
         &Form::Rule(Rule::ModulePath),
         &Form::Then(
@@ -1196,7 +1022,7 @@ static CRATE_MACRO: Plan = Plan::Rest(&Form::When(
                 &Form::Mark(Mark::Not),
                 &Form::Never(Fault::Unexpected),
             ),
-            &Form::Part(Part::Planned76),
+            &Form::Part(Part::Planned61),
         ),
     ),
 ));
@@ -1207,30 +1033,30 @@ static DERIVE_INPUT: Plan = Plan::Rest(&Form::Then(
         &Form::Rule(Rule::Visibility),
         &Form::When(
             Look::Word(Word::Struct),
-            &Form::Part(Part::Planned80),
-            &Form::Part(Part::Planned81),
+            &Form::Part(Part::Planned65),
+            &Form::Part(Part::Planned66),
         ),
     ),
 ));
 
-static STATEMENTS: Plan = Plan::Reads(&Form::Rule(Rule::Attributes), &Plan::Go(Stage::Stage133));
+static STATEMENTS: Plan = Plan::Reads(&Form::Rule(Rule::Attributes), &Plan::Go(Stage::Stage123));
 
 static STATEMENT: Plan = Plan::Reads(
     &Form::Rule(Rule::Attributes),
     &Plan::Turns(
         Look::Item,
-        &Plan::Go(Stage::Stage93),
-        &Plan::Rest(&Form::Then(&Form::Part(Part::Planned84), &Form::Empty)),
+        &Plan::Go(Stage::Stage83),
+        &Plan::Rest(&Form::Then(&Form::Part(Part::Planned69), &Form::Empty)),
     ),
 );
 
-static USE_ITEM_REST: Plan = Plan::Reads(&Form::Rule(Rule::Visibility), &Plan::Go(Stage::Stage134));
+static USE_ITEM_REST: Plan = Plan::Reads(&Form::Rule(Rule::Visibility), &Plan::Go(Stage::Stage124));
 
 static TYPE_ITEM_REST: Plan = Plan::Reads(
     &Form::Rule(Rule::Visibility),
     &Plan::Reads(
         &Form::Token(Token::Word(Word::Type)),
-        &Plan::Reads(&Form::Token(Token::Name), &Plan::Go(Stage::Stage135)),
+        &Plan::Reads(&Form::Token(Token::Name), &Plan::Go(Stage::Stage125)),
     ),
 );
 
@@ -1246,7 +1072,7 @@ static IMPL_DEFINITION_REST: Plan = Plan::Reads(
             &Form::Token(Token::Word(Word::Const)),
             &Form::Empty,
         ),
-        &Plan::Go(Stage::Stage138),
+        &Plan::Go(Stage::Stage128),
     ),
 );
 
@@ -1459,16 +1285,7 @@ static STAGE29: Plan = Plan::Reads(
     &Plan::Go(Stage::Stage28),
 );
 
-static STAGE30: Plan = Plan::Reads(
-    &Form::Token(Token::Word(Word::Extern)),
-    &Plan::Turns(
-        Look::Word(Word::Crate),
-        &Plan::Go(Stage::Stage27),
-        &Plan::Go(Stage::Stage29),
-    ),
-);
-
-static STAGE31: Plan = Plan::Turns(
+static STAGE30: Plan = Plan::Turns(
     Look::Or(&Look::Word(Word::Trait), &Look::Word(Word::Auto)),
     &Plan::Go(Stage::Stage23),
     &Plan::Turns(
@@ -1481,16 +1298,7 @@ static STAGE31: Plan = Plan::Turns(
     ),
 );
 
-static STAGE32: Plan = Plan::Reads(
-    &Form::Token(Token::Word(Word::Unsafe)),
-    &Plan::Turns(
-        Look::Word(Word::Mod),
-        &Plan::Go(Stage::Stage21),
-        &Plan::Go(Stage::Stage31),
-    ),
-);
-
-static STAGE33: Plan = Plan::Kept(&Form::Then(
+static STAGE31: Plan = Plan::Kept(&Form::Then(
     &Form::Token(Token::Word(Word::Impl)),
     &Form::Then(
         &Form::When(
@@ -1502,7 +1310,7 @@ static STAGE33: Plan = Plan::Kept(&Form::Then(
     ),
 ));
 
-static STAGE34: Plan = Plan::Reads(
+static STAGE32: Plan = Plan::Reads(
     &Form::When(
         Look::Word(Word::Extern),
         &Form::Rule(Rule::Abi),
@@ -1511,17 +1319,17 @@ static STAGE34: Plan = Plan::Reads(
     &Plan::Go(Stage::Stage28),
 );
 
-static STAGE35: Plan = Plan::Turns(
+static STAGE33: Plan = Plan::Turns(
     Look::Or(&Look::Word(Word::Trait), &Look::Word(Word::Auto)),
     &Plan::Go(Stage::Stage23),
     &Plan::Turns(
         Look::Word(Word::Impl),
-        &Plan::Go(Stage::Stage33),
-        &Plan::Go(Stage::Stage34),
+        &Plan::Go(Stage::Stage31),
+        &Plan::Go(Stage::Stage32),
     ),
 );
 
-static STAGE36: Plan = Plan::Kept(&Form::Then(
+static STAGE34: Plan = Plan::Kept(&Form::Then(
     &Form::Mark(Mark::Eq),
     &Form::Then(
         &Form::Rule(Rule::AliasBounds),
@@ -1532,11 +1340,11 @@ static STAGE36: Plan = Plan::Kept(&Form::Then(
     ),
 ));
 
-static STAGE37: Plan = Plan::Reads(
+static STAGE35: Plan = Plan::Reads(
     &Form::Rule(Rule::Generics),
     &Plan::Turns(
         Look::Mark(Mark::Eq),
-        &Plan::Go(Stage::Stage36),
+        &Plan::Go(Stage::Stage34),
         &Plan::Rest(&Form::Then(
             &Form::Fading(Fading::Supertraits),
             &Form::Part(Part::Planned17),
@@ -1544,26 +1352,26 @@ static STAGE37: Plan = Plan::Reads(
     ),
 );
 
-static STAGE38: Plan = Plan::Reads(
+static STAGE36: Plan = Plan::Reads(
     &Form::Token(Token::Word(Word::Trait)),
-    &Plan::Reads(&Form::Token(Token::Name), &Plan::Go(Stage::Stage37)),
+    &Plan::Reads(&Form::Token(Token::Name), &Plan::Go(Stage::Stage35)),
 );
 
-static STAGE39: Plan = Plan::Reads(
+static STAGE37: Plan = Plan::Reads(
     &Form::When(
         Look::Word(Word::Async),
         &Form::Token(Token::Word(Word::Async)),
         &Form::Empty,
     ),
-    &Plan::Reads(&Form::Rule(Rule::UnsafeOnly), &Plan::Go(Stage::Stage34)),
+    &Plan::Reads(&Form::Rule(Rule::UnsafeOnly), &Plan::Go(Stage::Stage32)),
 );
 
-static STAGE40: Plan = Plan::Kept(&Form::Then(
+static STAGE38: Plan = Plan::Kept(&Form::Then(
     &Form::Ordered(List::Parameters),
     &Form::Then(&Form::Mark(Mark::Colon), &Form::Part(Part::Planned19)),
 ));
 
-static STAGE41: Plan = Plan::Kept(&Form::Then(
+static STAGE39: Plan = Plan::Kept(&Form::Then(
     &Form::Then(
         &Form::Token(Token::Word(Word::Where)),
         &Form::Rule(Rule::Predicates),
@@ -1571,13 +1379,13 @@ static STAGE41: Plan = Plan::Kept(&Form::Then(
     &Form::Then(&Form::Mark(Mark::Semi), &Form::Empty),
 ));
 
-static STAGE42: Plan = Plan::Turns(
+static STAGE40: Plan = Plan::Turns(
     Look::Mark(Mark::Semi),
     &Plan::Go(Stage::Stage6),
-    &Plan::Go(Stage::Stage41),
+    &Plan::Go(Stage::Stage39),
 );
 
-static STAGE43: Plan = Plan::Kept(&Form::Then(
+static STAGE41: Plan = Plan::Kept(&Form::Then(
     &Form::When(
         Look::Word(Word::Where),
         &Form::Then(
@@ -1589,245 +1397,154 @@ static STAGE43: Plan = Plan::Kept(&Form::Then(
     &Form::Then(&Form::Mark(Mark::Semi), &Form::Empty),
 ));
 
-static STAGE44: Plan = Plan::Turns(
+static STAGE42: Plan = Plan::Turns(
     Look::Mark(Mark::Eq),
     &Plan::Reads(
         &Form::Mark(Mark::Eq),
         &Plan::Reads(
             &Form::Rule(Rule::WholeExpression),
-            &Plan::Go(Stage::Stage42),
+            &Plan::Go(Stage::Stage40),
         ),
     ),
+    &Plan::Go(Stage::Stage41),
+);
+
+static STAGE43: Plan = Plan::Turns(
+    Look::Mark(Mark::Lt),
+    &Plan::Go(Stage::Stage38),
+    &Plan::Reads(
+        &Form::Mark(Mark::Colon),
+        &Plan::Reads(&Form::Rule(Rule::Type), &Plan::Go(Stage::Stage42)),
+    ),
+);
+
+static STAGE44: Plan = Plan::Reads(
+    &Form::Token(Token::NameOrUnderscore),
     &Plan::Go(Stage::Stage43),
 );
 
 static STAGE45: Plan = Plan::Turns(
-    Look::Mark(Mark::Lt),
-    &Plan::Go(Stage::Stage40),
-    &Plan::Reads(
-        &Form::Mark(Mark::Colon),
-        &Plan::Reads(&Form::Rule(Rule::Type), &Plan::Go(Stage::Stage44)),
-    ),
-);
-
-static STAGE46: Plan = Plan::Reads(
-    &Form::Token(Token::NameOrUnderscore),
-    &Plan::Go(Stage::Stage45),
-);
-
-static STAGE47: Plan = Plan::Turns(
     Look::Or(
         &Look::Word(Word::Async),
         &Look::Or(&Look::Word(Word::Extern), &Look::Word(Word::Fn)),
     ),
-    &Plan::Go(Stage::Stage39),
-    &Plan::Go(Stage::Stage46),
+    &Plan::Go(Stage::Stage37),
+    &Plan::Go(Stage::Stage44),
 );
 
-static STAGE48: Plan = Plan::Turns(
+static STAGE46: Plan = Plan::Turns(
     Look::Word(Word::Trait),
-    &Plan::Go(Stage::Stage38),
+    &Plan::Go(Stage::Stage36),
     &Plan::Turns(
         Look::MarkedAuto,
         &Plan::Go(Stage::Stage23),
         &Plan::Turns(
             Look::Word(Word::Impl),
-            &Plan::Go(Stage::Stage33),
-            &Plan::Go(Stage::Stage47),
+            &Plan::Go(Stage::Stage31),
+            &Plan::Go(Stage::Stage45),
         ),
     ),
 );
 
-static STAGE49: Plan = Plan::Reads(
+static STAGE47: Plan = Plan::Reads(
     &Form::Token(Token::Word(Word::Const)),
     &Plan::Turns(
         Look::Word(Word::Unsafe),
         &Plan::Reads(
             &Form::Token(Token::Word(Word::Unsafe)),
-            &Plan::Go(Stage::Stage35),
+            &Plan::Go(Stage::Stage33),
         ),
-        &Plan::Go(Stage::Stage48),
+        &Plan::Go(Stage::Stage46),
     ),
 );
 
-static STAGE50: Plan = Plan::Kept(&Form::When(
-    Look::Word(Word::Impl),
-    &Form::Then(
-        &Form::Token(Token::Word(Word::Impl)),
-        &Form::Part(Part::Planned22),
+static STAGE48: Plan = Plan::Turns(
+    Look::Word(Word::Unsafe),
+    &Plan::Reads(
+        &Form::Token(Token::Word(Word::Unsafe)),
+        &Plan::Turns(
+            Look::Word(Word::Mod),
+            &Plan::Go(Stage::Stage21),
+            &Plan::Go(Stage::Stage30),
+        ),
     ),
-    &Form::Never(Fault::Unexpected),
-));
+    &Plan::Turns(
+        Look::Word(Word::Const),
+        &Plan::Go(Stage::Stage47),
+        &Plan::Kept(&Form::When(
+            Look::Word(Word::Impl),
+            &Form::Part(Part::Planned23),
+            &Form::Never(Fault::Unexpected),
+        )),
+    ),
+);
+
+static STAGE49: Plan = Plan::Turns(
+    Look::Word(Word::Extern),
+    &Plan::Reads(
+        &Form::Token(Token::Word(Word::Extern)),
+        &Plan::Turns(
+            Look::Word(Word::Crate),
+            &Plan::Go(Stage::Stage27),
+            &Plan::Go(Stage::Stage29),
+        ),
+    ),
+    &Plan::Go(Stage::Stage48),
+);
+
+static STAGE50: Plan = Plan::Turns(
+    Look::Word(Word::Macro),
+    &Plan::Go(Stage::Stage24),
+    &Plan::Turns(
+        Look::Or(&Look::Word(Word::Fn), &Look::Word(Word::Async)),
+        &Plan::Go(Stage::Stage26),
+        &Plan::Go(Stage::Stage49),
+    ),
+);
 
 static STAGE51: Plan = Plan::Turns(
-    Look::Word(Word::Extern),
-    &Plan::Go(Stage::Stage30),
+    Look::Word(Word::Mod),
+    &Plan::Go(Stage::Stage21),
     &Plan::Turns(
-        Look::Word(Word::Unsafe),
-        &Plan::Go(Stage::Stage32),
+        Look::Word(Word::Trait),
+        &Plan::Go(Stage::Stage22),
         &Plan::Turns(
-            Look::Word(Word::Const),
-            &Plan::Go(Stage::Stage49),
+            Look::MarkedAuto,
+            &Plan::Go(Stage::Stage23),
             &Plan::Go(Stage::Stage50),
         ),
     ),
 );
 
 static STAGE52: Plan = Plan::Turns(
-    Look::Word(Word::Macro),
-    &Plan::Go(Stage::Stage24),
+    Look::Word(Word::Type),
+    &Plan::Go(Stage::Stage13),
     &Plan::Turns(
-        Look::Or(&Look::Word(Word::Fn), &Look::Word(Word::Async)),
-        &Plan::Go(Stage::Stage26),
-        &Plan::Go(Stage::Stage51),
+        Look::Word(Word::Static),
+        &Plan::Go(Stage::Stage18),
+        &Plan::Turns(
+            Look::Word(Word::Use),
+            &Plan::Go(Stage::Stage20),
+            &Plan::Go(Stage::Stage51),
+        ),
     ),
 );
 
 static STAGE53: Plan = Plan::Turns(
-    Look::Word(Word::Mod),
-    &Plan::Go(Stage::Stage21),
+    Look::Word(Word::Struct),
+    &Plan::Go(Stage::Stage1),
     &Plan::Turns(
-        Look::Word(Word::Trait),
-        &Plan::Go(Stage::Stage22),
+        Look::Word(Word::Enum),
+        &Plan::Go(Stage::Stage2),
         &Plan::Turns(
-            Look::MarkedAuto,
-            &Plan::Go(Stage::Stage23),
+            Look::MarkedUnion,
+            &Plan::Go(Stage::Stage3),
             &Plan::Go(Stage::Stage52),
         ),
     ),
 );
 
-static STAGE54: Plan = Plan::Turns(
-    Look::Word(Word::Type),
-    &Plan::Go(Stage::Stage13),
-    &Plan::Turns(
-        Look::Word(Word::Static),
-        &Plan::Go(Stage::Stage18),
-        &Plan::Turns(
-            Look::Word(Word::Use),
-            &Plan::Go(Stage::Stage20),
-            &Plan::Go(Stage::Stage53),
-        ),
-    ),
-);
-
-static STAGE55: Plan = Plan::Turns(
-    Look::Word(Word::Struct),
-    &Plan::Go(Stage::Stage1),
-    &Plan::Turns(
-        Look::Word(Word::Enum),
-        &Plan::Go(Stage::Stage2),
-        &Plan::Turns(
-            Look::MarkedUnion,
-            &Plan::Go(Stage::Stage3),
-            &Plan::Go(Stage::Stage54),
-        ),
-    ),
-);
-
-static STAGE56: Plan = Plan::Turns(
-    Look::Or(&Look::Word(Word::Trait), &Look::Word(Word::Auto)),
-    &Plan::Go(Stage::Stage23),
-    &Plan::Turns(
-        Look::Word(Word::Impl),
-        &Plan::Go(Stage::Stage5),
-        &Plan::Go(Stage::Stage34),
-    ),
-);
-
-static STAGE57: Plan = Plan::Turns(
-    Look::Word(Word::Trait),
-    &Plan::Go(Stage::Stage38),
-    &Plan::Turns(
-        Look::MarkedAuto,
-        &Plan::Go(Stage::Stage23),
-        &Plan::Turns(
-            Look::Word(Word::Impl),
-            &Plan::Go(Stage::Stage5),
-            &Plan::Go(Stage::Stage47),
-        ),
-    ),
-);
-
-static STAGE58: Plan = Plan::Reads(
-    &Form::Token(Token::Word(Word::Const)),
-    &Plan::Turns(
-        Look::Word(Word::Unsafe),
-        &Plan::Reads(
-            &Form::Token(Token::Word(Word::Unsafe)),
-            &Plan::Go(Stage::Stage56),
-        ),
-        &Plan::Go(Stage::Stage57),
-    ),
-);
-
-static STAGE59: Plan = Plan::Turns(
-    Look::Word(Word::Extern),
-    &Plan::Go(Stage::Stage30),
-    &Plan::Turns(
-        Look::Word(Word::Unsafe),
-        &Plan::Go(Stage::Stage32),
-        &Plan::Turns(
-            Look::Word(Word::Const),
-            &Plan::Go(Stage::Stage58),
-            &Plan::Go(Stage::Stage50),
-        ),
-    ),
-);
-
-static STAGE60: Plan = Plan::Turns(
-    Look::Word(Word::Macro),
-    &Plan::Go(Stage::Stage24),
-    &Plan::Turns(
-        Look::Or(&Look::Word(Word::Fn), &Look::Word(Word::Async)),
-        &Plan::Go(Stage::Stage26),
-        &Plan::Go(Stage::Stage59),
-    ),
-);
-
-static STAGE61: Plan = Plan::Turns(
-    Look::Word(Word::Mod),
-    &Plan::Go(Stage::Stage21),
-    &Plan::Turns(
-        Look::Word(Word::Trait),
-        &Plan::Go(Stage::Stage22),
-        &Plan::Turns(
-            Look::MarkedAuto,
-            &Plan::Go(Stage::Stage23),
-            &Plan::Go(Stage::Stage60),
-        ),
-    ),
-);
-
-static STAGE62: Plan = Plan::Turns(
-    Look::Word(Word::Type),
-    &Plan::Go(Stage::Stage13),
-    &Plan::Turns(
-        Look::Word(Word::Static),
-        &Plan::Go(Stage::Stage18),
-        &Plan::Turns(
-            Look::Word(Word::Use),
-            &Plan::Go(Stage::Stage20),
-            &Plan::Go(Stage::Stage61),
-        ),
-    ),
-);
-
-static STAGE63: Plan = Plan::Turns(
-    Look::Word(Word::Struct),
-    &Plan::Go(Stage::Stage1),
-    &Plan::Turns(
-        Look::Word(Word::Enum),
-        &Plan::Go(Stage::Stage2),
-        &Plan::Turns(
-            Look::MarkedUnion,
-            &Plan::Go(Stage::Stage3),
-            &Plan::Go(Stage::Stage62),
-        ),
-    ),
-);
-
-static STAGE64: Plan = Plan::Rest(&Form::Then(
+static STAGE54: Plan = Plan::Rest(&Form::Then(
     &Form::Inside(
         Delimiter::Brace,
         &Form::Then(
@@ -1838,22 +1555,22 @@ static STAGE64: Plan = Plan::Rest(&Form::Then(
     &Form::Empty,
 ));
 
-static STAGE65: Plan = Plan::Reads(
+static STAGE55: Plan = Plan::Reads(
     &Form::When(Look::StrLiteral, &Form::Token(Token::Str), &Form::Empty),
     &Plan::Turns(
         Look::Group(Delimiter::Brace),
-        &Plan::Go(Stage::Stage64),
+        &Plan::Go(Stage::Stage54),
         &Plan::Go(Stage::Stage28),
     ),
 );
 
-static STAGE66: Plan = Plan::Rest(&Form::Then(&Form::Rule(Rule::ImplBody), &Form::Empty));
+static STAGE56: Plan = Plan::Rest(&Form::Then(&Form::Rule(Rule::ImplBody), &Form::Empty));
 
-static STAGE67: Plan = Plan::SelfType(&Plan::Go(Stage::Stage66));
+static STAGE57: Plan = Plan::SelfType(&Plan::Go(Stage::Stage56));
 
-static STAGE68: Plan = Plan::Reads(&Form::Rule(Rule::TypePath), &Plan::Go(Stage::Stage67));
+static STAGE58: Plan = Plan::Reads(&Form::Rule(Rule::TypePath), &Plan::Go(Stage::Stage57));
 
-static STAGE69: Plan = Plan::Kept(&Form::Then(
+static STAGE59: Plan = Plan::Kept(&Form::Then(
     &Form::Rule(Rule::Type),
     &Form::Then(
         &Form::Rule(Rule::ForSelfType),
@@ -1861,114 +1578,114 @@ static STAGE69: Plan = Plan::Kept(&Form::Then(
     ),
 ));
 
-static STAGE70: Plan = Plan::Turns(
+static STAGE60: Plan = Plan::Turns(
     Look::Group(Delimiter::Brace),
-    &Plan::Go(Stage::Stage66),
+    &Plan::Go(Stage::Stage56),
     &Plan::Turns(
         Look::Or(&Look::PathWord, &Look::Mark(Mark::PathSep)),
-        &Plan::Go(Stage::Stage68),
-        &Plan::Go(Stage::Stage69),
+        &Plan::Go(Stage::Stage58),
+        &Plan::Go(Stage::Stage59),
     ),
 );
 
-static STAGE71: Plan = Plan::Reads(
+static STAGE61: Plan = Plan::Reads(
     &Form::Rule(Rule::TypePath),
     &Plan::Turns(
         Look::Word(Word::For),
-        &Plan::Go(Stage::Stage67),
-        &Plan::Go(Stage::Stage66),
+        &Plan::Go(Stage::Stage57),
+        &Plan::Go(Stage::Stage56),
     ),
 );
 
-static STAGE72: Plan = Plan::Kept(&Form::Then(
+static STAGE62: Plan = Plan::Kept(&Form::Then(
     &Form::Rule(Rule::ForSelfType),
     &Form::Then(&Form::Rule(Rule::ImplBody), &Form::Empty),
 ));
 
-static STAGE73: Plan = Plan::Turns(
+static STAGE63: Plan = Plan::Turns(
     Look::Or(&Look::PathWord, &Look::Mark(Mark::PathSep)),
-    &Plan::Go(Stage::Stage71),
+    &Plan::Go(Stage::Stage61),
     &Plan::Reads(
         &Form::Rule(Rule::Type),
         &Plan::Turns(
             Look::Word(Word::For),
-            &Plan::Go(Stage::Stage72),
-            &Plan::Go(Stage::Stage66),
+            &Plan::Go(Stage::Stage62),
+            &Plan::Go(Stage::Stage56),
         ),
     ),
 );
 
-static STAGE74: Plan = Plan::Lists(&Plan::Led(&Plan::Turns(
+static STAGE64: Plan = Plan::Lists(&Plan::Led(&Plan::Turns(
     Look::Mark(Mark::Not),
-    &Plan::Reads(&Form::Mark(Mark::Not), &Plan::Go(Stage::Stage70)),
-    &Plan::Go(Stage::Stage73),
+    &Plan::Reads(&Form::Mark(Mark::Not), &Plan::Go(Stage::Stage60)),
+    &Plan::Go(Stage::Stage63),
 )));
 
-static STAGE75: Plan = Plan::Reads(
+static STAGE65: Plan = Plan::Reads(
     &Form::Token(Token::Word(Word::Impl)),
-    &Plan::Go(Stage::Stage74),
+    &Plan::Go(Stage::Stage64),
 );
 
-static STAGE76: Plan = Plan::Turns(
+static STAGE66: Plan = Plan::Turns(
     Look::Word(Word::Impl),
-    &Plan::Go(Stage::Stage75),
+    &Plan::Go(Stage::Stage65),
     &Plan::Turns(
         Look::Word(Word::Extern),
         &Plan::Reads(
             &Form::Token(Token::Word(Word::Extern)),
-            &Plan::Go(Stage::Stage65),
+            &Plan::Go(Stage::Stage55),
         ),
         &Plan::Go(Stage::Stage28),
     ),
 );
 
-static STAGE77: Plan = Plan::Turns(
+static STAGE67: Plan = Plan::Turns(
     Look::Word(Word::Mod),
     &Plan::Go(Stage::Stage21),
     &Plan::Turns(
         Look::Or(&Look::Word(Word::Trait), &Look::Word(Word::Auto)),
         &Plan::Go(Stage::Stage23),
-        &Plan::Go(Stage::Stage76),
+        &Plan::Go(Stage::Stage66),
     ),
 );
 
-static STAGE78: Plan = Plan::Turns(
+static STAGE68: Plan = Plan::Turns(
     Look::Or(&Look::Word(Word::Trait), &Look::Word(Word::Auto)),
     &Plan::Go(Stage::Stage23),
     &Plan::Turns(
         Look::Word(Word::Impl),
-        &Plan::Go(Stage::Stage75),
-        &Plan::Go(Stage::Stage34),
+        &Plan::Go(Stage::Stage65),
+        &Plan::Go(Stage::Stage32),
     ),
 );
 
-static STAGE79: Plan = Plan::Turns(
+static STAGE69: Plan = Plan::Turns(
     Look::Word(Word::Trait),
-    &Plan::Go(Stage::Stage38),
+    &Plan::Go(Stage::Stage36),
     &Plan::Turns(
         Look::MarkedAuto,
         &Plan::Go(Stage::Stage23),
         &Plan::Turns(
             Look::Word(Word::Impl),
-            &Plan::Go(Stage::Stage75),
-            &Plan::Go(Stage::Stage47),
+            &Plan::Go(Stage::Stage65),
+            &Plan::Go(Stage::Stage45),
         ),
     ),
 );
 
-static STAGE80: Plan = Plan::Reads(
+static STAGE70: Plan = Plan::Reads(
     &Form::Token(Token::Word(Word::Const)),
     &Plan::Turns(
         Look::Word(Word::Unsafe),
         &Plan::Reads(
             &Form::Token(Token::Word(Word::Unsafe)),
-            &Plan::Go(Stage::Stage78),
+            &Plan::Go(Stage::Stage68),
         ),
-        &Plan::Go(Stage::Stage79),
+        &Plan::Go(Stage::Stage69),
     ),
 );
 
-static STAGE81: Plan = Plan::Kept(&Form::Then(
+static STAGE71: Plan = Plan::Kept(&Form::Then(
     &Form::When(
         Look::Word(Word::Const),
         &Form::Token(Token::Word(Word::Const)),
@@ -1977,30 +1694,33 @@ static STAGE81: Plan = Plan::Kept(&Form::Then(
     &Form::Then(&Form::Rule(Rule::BareTrait), &Form::Empty),
 ));
 
-static STAGE82: Plan = Plan::Turns(
+static STAGE72: Plan = Plan::Turns(
     Look::Word(Word::For),
-    &Plan::Go(Stage::Stage72),
+    &Plan::Go(Stage::Stage62),
     &Plan::Turns(
         Look::Or(&Look::Word(Word::Where), &Look::Group(Delimiter::Brace)),
-        &Plan::Go(Stage::Stage66),
-        &Plan::Go(Stage::Stage81),
+        &Plan::Go(Stage::Stage56),
+        &Plan::Go(Stage::Stage71),
     ),
 );
 
-static STAGE83: Plan = Plan::Turns(
+static STAGE73: Plan = Plan::Turns(
     Look::InRestriction,
     &Plan::Kept(&Form::Then(
         &Form::Inside(Delimiter::Paren, &Form::Rule(Rule::Restriction)),
-        &Form::Part(Part::Planned23),
+        &Form::Part(Part::Planned24),
     )),
     &Plan::Turns(
         Look::LoneWord,
-        &Plan::Reads(&Form::Rule(Rule::Type), &Plan::Go(Stage::Stage82)),
-        &Plan::Go(Stage::Stage74),
+        &Plan::Reads(
+            &Form::Inside(Delimiter::Paren, &Form::Rule(Rule::Types)),
+            &Plan::Go(Stage::Stage72),
+        ),
+        &Plan::Go(Stage::Stage64),
     ),
 );
 
-static STAGE84: Plan = Plan::Rest(&Form::When(
+static STAGE74: Plan = Plan::Rest(&Form::When(
     Look::NoMacroItem,
     &Form::Never(Fault::Unexpected),
     &Form::Then(
@@ -2011,12 +1731,12 @@ static STAGE84: Plan = Plan::Rest(&Form::When(
                 &Form::Mark(Mark::Not),
                 &Form::Never(Fault::Unexpected),
             ),
-            &Form::Part(Part::Planned24),
+            &Form::Part(Part::Planned25),
         ),
     ),
 ));
 
-static STAGE85: Plan = Plan::Reads(
+static STAGE75: Plan = Plan::Reads(
     &Form::When(
         Look::Word(Word::Const),
         &Form::Token(Token::Word(Word::Const)),
@@ -2028,67 +1748,67 @@ static STAGE85: Plan = Plan::Reads(
             &Form::Token(Token::Word(Word::Unsafe)),
             &Form::Empty,
         ),
-        &Plan::Go(Stage::Stage75),
+        &Plan::Go(Stage::Stage65),
     ),
 );
 
-static STAGE86: Plan = Plan::Turns(
+static STAGE76: Plan = Plan::Turns(
     Look::Word(Word::Default),
     &Plan::Turns(
         Look::BeforeMacro,
-        &Plan::Go(Stage::Stage84),
+        &Plan::Go(Stage::Stage74),
         &Plan::Reads(
             &Form::Token(Token::Word(Word::Default)),
-            &Plan::Go(Stage::Stage85),
+            &Plan::Go(Stage::Stage75),
         ),
     ),
-    &Plan::Go(Stage::Stage84),
+    &Plan::Go(Stage::Stage74),
 );
 
-static STAGE87: Plan = Plan::Turns(
+static STAGE77: Plan = Plan::Turns(
     Look::Word(Word::Const),
-    &Plan::Go(Stage::Stage80),
+    &Plan::Go(Stage::Stage70),
     &Plan::Turns(
         Look::Word(Word::Impl),
         &Plan::Reads(
             &Form::Token(Token::Word(Word::Impl)),
-            &Plan::Go(Stage::Stage83),
+            &Plan::Go(Stage::Stage73),
         ),
-        &Plan::Go(Stage::Stage86),
+        &Plan::Go(Stage::Stage76),
     ),
 );
 
-static STAGE88: Plan = Plan::Turns(
+static STAGE78: Plan = Plan::Turns(
     Look::Word(Word::Extern),
     &Plan::Reads(
         &Form::Token(Token::Word(Word::Extern)),
         &Plan::Turns(
             Look::Word(Word::Crate),
             &Plan::Go(Stage::Stage27),
-            &Plan::Go(Stage::Stage65),
+            &Plan::Go(Stage::Stage55),
         ),
     ),
     &Plan::Turns(
         Look::Word(Word::Unsafe),
         &Plan::Reads(
             &Form::Token(Token::Word(Word::Unsafe)),
-            &Plan::Go(Stage::Stage77),
+            &Plan::Go(Stage::Stage67),
         ),
-        &Plan::Go(Stage::Stage87),
+        &Plan::Go(Stage::Stage77),
     ),
 );
 
-static STAGE89: Plan = Plan::Turns(
+static STAGE79: Plan = Plan::Turns(
     Look::Word(Word::Macro),
     &Plan::Go(Stage::Stage24),
     &Plan::Turns(
         Look::Or(&Look::Word(Word::Fn), &Look::Word(Word::Async)),
         &Plan::Go(Stage::Stage26),
-        &Plan::Go(Stage::Stage88),
+        &Plan::Go(Stage::Stage78),
     ),
 );
 
-static STAGE90: Plan = Plan::Turns(
+static STAGE80: Plan = Plan::Turns(
     Look::Word(Word::Mod),
     &Plan::Go(Stage::Stage21),
     &Plan::Turns(
@@ -2097,12 +1817,12 @@ static STAGE90: Plan = Plan::Turns(
         &Plan::Turns(
             Look::MarkedAuto,
             &Plan::Go(Stage::Stage23),
-            &Plan::Go(Stage::Stage89),
+            &Plan::Go(Stage::Stage79),
         ),
     ),
 );
 
-static STAGE91: Plan = Plan::Turns(
+static STAGE81: Plan = Plan::Turns(
     Look::Word(Word::Type),
     &Plan::Go(Stage::Stage13),
     &Plan::Turns(
@@ -2111,12 +1831,12 @@ static STAGE91: Plan = Plan::Turns(
         &Plan::Turns(
             Look::Word(Word::Use),
             &Plan::Go(Stage::Stage20),
-            &Plan::Go(Stage::Stage90),
+            &Plan::Go(Stage::Stage80),
         ),
     ),
 );
 
-static STAGE92: Plan = Plan::Turns(
+static STAGE82: Plan = Plan::Turns(
     Look::Word(Word::Struct),
     &Plan::Go(Stage::Stage1),
     &Plan::Turns(
@@ -2125,22 +1845,24 @@ static STAGE92: Plan = Plan::Turns(
         &Plan::Turns(
             Look::MarkedUnion,
             &Plan::Go(Stage::Stage3),
-            &Plan::Go(Stage::Stage91),
+            &Plan::Go(Stage::Stage81),
         ),
     ),
 );
 
-static STAGE93: Plan = Plan::Turns(
-    Look::Word(Word::Pub),
-    &Plan::Reads(&Form::Rule(Rule::Visibility), &Plan::Go(Stage::Stage55)),
-    &Plan::Turns(
-        Look::EmptyGroup,
-        &Plan::Reads(&Form::Rule(Rule::Visibility), &Plan::Go(Stage::Stage63)),
-        &Plan::Go(Stage::Stage92),
+static STAGE83: Plan = Plan::Turns(
+    Look::But(&Look::Word(Word::Pub), &Look::EmptyGroup),
+    &Plan::Reads(&Form::Rule(Rule::Visibility), &Plan::Go(Stage::Stage53)),
+    &Plan::Reads(
+        &Form::Hidden(
+            &Look::EmptyGroup,
+            &Form::Inside(Delimiter::None, &Form::Empty),
+        ),
+        &Plan::Go(Stage::Stage82),
     ),
 );
 
-static STAGE94: Plan = Plan::Kept(&Form::Then(
+static STAGE84: Plan = Plan::Kept(&Form::Then(
     &Form::Rule(Rule::Visibility),
     &Form::Then(
         &Form::When(
@@ -2148,68 +1870,53 @@ static STAGE94: Plan = Plan::Kept(&Form::Then(
             &Form::Token(Token::Word(Word::Default)),
             &Form::Empty,
         ),
-        &Form::Part(Part::Planned35),
+        &Form::Part(Part::Planned36),
     ),
 ));
 
-static STAGE95: Plan = Plan::Kept(&Form::Then(
-    &Form::Rule(Rule::Visibility),
-    &Form::When(
-        Look::Word(Word::Default),
-        &Form::Part(Part::Planned51),
-        &Form::Then(
-            &Form::Token(Token::Word(Word::Const)),
-            &Form::Then(
-                &Form::Token(Token::NameOrUnderscore),
-                &Form::Part(Part::Planned50),
-            ),
-        ),
-    ),
-));
-
-static STAGE96: Plan = Plan::Kept(&Form::Then(
+static STAGE85: Plan = Plan::Kept(&Form::Then(
     &Form::Token(Token::Word(Word::Default)),
     &Form::When(
         Look::Word(Word::Type),
-        &Form::Part(Part::Planned61),
+        &Form::Part(Part::Planned46),
         &Form::When(
             Look::Word(Word::Const),
             &Form::Then(
                 &Form::Token(Token::Word(Word::Const)),
-                &Form::Part(Part::Planned59),
+                &Form::Part(Part::Planned44),
             ),
-            &Form::Part(Part::Planned60),
+            &Form::Part(Part::Planned45),
         ),
     ),
 ));
 
-static STAGE97: Plan = Plan::Rest(&Form::Then(
+static STAGE86: Plan = Plan::Rest(&Form::Then(
     &Form::Token(Token::Word(Word::Type)),
     &Form::Then(
         &Form::Token(Token::Name),
-        &Form::Then(&Form::Rule(Rule::Generics), &Form::Part(Part::Planned63)),
+        &Form::Then(&Form::Rule(Rule::Generics), &Form::Part(Part::Planned48)),
     ),
 ));
 
-static STAGE98: Plan = Plan::Reads(
+static STAGE87: Plan = Plan::Reads(
     &Form::When(
         Look::Mark(Mark::Eq),
         &Form::Then(&Form::Mark(Mark::Eq), &Form::Rule(Rule::WholeExpression)),
         &Form::Empty,
     ),
-    &Plan::Go(Stage::Stage42),
+    &Plan::Go(Stage::Stage40),
 );
 
-static STAGE99: Plan = Plan::Turns(
+static STAGE88: Plan = Plan::Turns(
     Look::Mark(Mark::Lt),
-    &Plan::Go(Stage::Stage40),
+    &Plan::Go(Stage::Stage38),
     &Plan::Reads(
         &Form::Mark(Mark::Colon),
-        &Plan::Reads(&Form::Rule(Rule::Type), &Plan::Go(Stage::Stage98)),
+        &Plan::Reads(&Form::Rule(Rule::Type), &Plan::Go(Stage::Stage87)),
     ),
 );
 
-static STAGE100: Plan = Plan::Turns(
+static STAGE89: Plan = Plan::Turns(
     Look::Or(
         &Look::Word(Word::Async),
         &Look::Or(
@@ -2223,15 +1930,15 @@ static STAGE100: Plan = Plan::Turns(
             &Form::Token(Token::Word(Word::Async)),
             &Form::Empty,
         ),
-        &Form::Part(Part::Planned65),
+        &Form::Part(Part::Planned50),
     )),
     &Plan::Reads(
         &Form::Token(Token::NameOrUnderscore),
-        &Plan::Go(Stage::Stage99),
+        &Plan::Go(Stage::Stage88),
     ),
 );
 
-static STAGE101: Plan = Plan::Rest(&Form::When(
+static STAGE90: Plan = Plan::Rest(&Form::When(
     Look::Or(
         &Look::Word(Word::Async),
         &Look::Or(
@@ -2239,42 +1946,40 @@ static STAGE101: Plan = Plan::Rest(&Form::When(
             &Look::Or(&Look::Word(Word::Extern), &Look::Word(Word::Fn)),
         ),
     ),
-    &Form::Part(Part::Planned67),
+    &Form::Part(Part::Planned52),
     &Form::When(
         Look::Or(&Look::Word(Word::SelfType), &Look::Word(Word::Default)),
         &Form::Never(Fault::Unexpected),
-        &Form::Part(Part::Planned66),
+        &Form::Part(Part::Planned51),
     ),
 ));
 
-static STAGE102: Plan = Plan::Turns(
+static STAGE91: Plan = Plan::Turns(
     Look::Word(Word::Type),
-    &Plan::Go(Stage::Stage97),
+    &Plan::Go(Stage::Stage86),
     &Plan::Turns(
         Look::Word(Word::Const),
         &Plan::Reads(
             &Form::Token(Token::Word(Word::Const)),
-            &Plan::Go(Stage::Stage100),
+            &Plan::Go(Stage::Stage89),
         ),
-        &Plan::Go(Stage::Stage101),
+        &Plan::Go(Stage::Stage90),
     ),
 );
 
-static STAGE103: Plan = Plan::Turns(
-    Look::Word(Word::Pub),
-    &Plan::Go(Stage::Stage94),
+static STAGE92: Plan = Plan::Reads(
+    &Form::Hidden(
+        &Look::EmptyGroup,
+        &Form::Inside(Delimiter::None, &Form::Empty),
+    ),
     &Plan::Turns(
-        Look::EmptyGroup,
-        &Plan::Go(Stage::Stage95),
-        &Plan::Turns(
-            Look::Word(Word::Default),
-            &Plan::Go(Stage::Stage96),
-            &Plan::Go(Stage::Stage102),
-        ),
+        Look::Word(Word::Default),
+        &Plan::Go(Stage::Stage85),
+        &Plan::Go(Stage::Stage91),
     ),
 );
 
-static STAGE104: Plan = Plan::Rest(&Form::Then(
+static STAGE93: Plan = Plan::Rest(&Form::Then(
     &Form::Mark(Mark::Eq),
     &Form::Then(
         &Form::Rule(Rule::Type),
@@ -2285,25 +1990,25 @@ static STAGE104: Plan = Plan::Rest(&Form::Then(
     ),
 ));
 
-static STAGE105: Plan = Plan::Turns(
+static STAGE94: Plan = Plan::Turns(
     Look::Mark(Mark::Eq),
-    &Plan::Go(Stage::Stage104),
+    &Plan::Go(Stage::Stage93),
     &Plan::Kept(&Form::When(
         Look::Mark(Mark::Colon),
-        &Form::Then(&Form::Mark(Mark::Colon), &Form::Part(Part::Planned69)),
-        &Form::Part(Part::Planned70),
+        &Form::Then(&Form::Mark(Mark::Colon), &Form::Part(Part::Planned54)),
+        &Form::Part(Part::Planned55),
     )),
 );
 
-static STAGE106: Plan = Plan::Reads(
+static STAGE95: Plan = Plan::Reads(
     &Form::Token(Token::Word(Word::Type)),
     &Plan::Reads(
         &Form::Token(Token::Name),
-        &Plan::Reads(&Form::Rule(Rule::Generics), &Plan::Go(Stage::Stage105)),
+        &Plan::Reads(&Form::Rule(Rule::Generics), &Plan::Go(Stage::Stage94)),
     ),
 );
 
-static STAGE107: Plan = Plan::Turns(
+static STAGE96: Plan = Plan::Turns(
     Look::Or(
         &Look::Word(Word::Async),
         &Look::Or(
@@ -2311,26 +2016,26 @@ static STAGE107: Plan = Plan::Turns(
             &Look::Or(&Look::Word(Word::Extern), &Look::Word(Word::Fn)),
         ),
     ),
-    &Plan::Go(Stage::Stage39),
-    &Plan::Go(Stage::Stage46),
+    &Plan::Go(Stage::Stage37),
+    &Plan::Go(Stage::Stage44),
 );
 
-static STAGE108: Plan = Plan::Reads(
+static STAGE97: Plan = Plan::Reads(
     &Form::Token(Token::Word(Word::Const)),
-    &Plan::Go(Stage::Stage107),
+    &Plan::Go(Stage::Stage96),
 );
 
-static STAGE109: Plan = Plan::Turns(
+static STAGE98: Plan = Plan::Turns(
     Look::Word(Word::Type),
-    &Plan::Go(Stage::Stage106),
+    &Plan::Go(Stage::Stage95),
     &Plan::Turns(
         Look::Word(Word::Const),
-        &Plan::Go(Stage::Stage108),
+        &Plan::Go(Stage::Stage97),
         &Plan::Go(Stage::Stage26),
     ),
 );
 
-static STAGE110: Plan = Plan::Reads(
+static STAGE99: Plan = Plan::Reads(
     &Form::Rule(Rule::Visibility),
     &Plan::Reads(
         &Form::When(
@@ -2338,17 +2043,17 @@ static STAGE110: Plan = Plan::Reads(
             &Form::Token(Token::Word(Word::Default)),
             &Form::Empty,
         ),
-        &Plan::Go(Stage::Stage109),
+        &Plan::Go(Stage::Stage98),
     ),
 );
 
-static STAGE111: Plan = Plan::Rest(&Form::When(
+static STAGE100: Plan = Plan::Rest(&Form::When(
     Look::NoMacroItem,
     &Form::Never(Fault::Unexpected),
-    &Form::Part(Part::Planned71),
+    &Form::Part(Part::Planned56),
 ));
 
-static STAGE112: Plan = Plan::Turns(
+static STAGE101: Plan = Plan::Turns(
     Look::Or(
         &Look::Word(Word::Async),
         &Look::Or(
@@ -2357,31 +2062,43 @@ static STAGE112: Plan = Plan::Turns(
         ),
     ),
     &Plan::Go(Stage::Stage26),
-    &Plan::Go(Stage::Stage111),
+    &Plan::Go(Stage::Stage100),
 );
 
-static STAGE113: Plan = Plan::Turns(
+static STAGE102: Plan = Plan::Turns(
     Look::Word(Word::Default),
     &Plan::Turns(
         Look::BeforeMacro,
-        &Plan::Go(Stage::Stage111),
+        &Plan::Go(Stage::Stage100),
         &Plan::Reads(
             &Form::Token(Token::Word(Word::Default)),
-            &Plan::Go(Stage::Stage109),
+            &Plan::Go(Stage::Stage98),
         ),
     ),
     &Plan::Turns(
         Look::Word(Word::Type),
-        &Plan::Go(Stage::Stage106),
+        &Plan::Go(Stage::Stage95),
         &Plan::Turns(
             Look::Word(Word::Const),
-            &Plan::Go(Stage::Stage108),
-            &Plan::Go(Stage::Stage112),
+            &Plan::Go(Stage::Stage97),
+            &Plan::Go(Stage::Stage101),
         ),
     ),
 );
 
-static STAGE114: Plan = Plan::Reads(
+static STAGE103: Plan = Plan::Turns(
+    Look::But(&Look::Word(Word::Pub), &Look::EmptyGroup),
+    &Plan::Go(Stage::Stage99),
+    &Plan::Reads(
+        &Form::Hidden(
+            &Look::EmptyGroup,
+            &Form::Inside(Delimiter::None, &Form::Empty),
+        ),
+        &Plan::Go(Stage::Stage102),
+    ),
+);
+
+static STAGE104: Plan = Plan::Reads(
     &Form::Mark(Mark::Colon),
     &Plan::Reads(
         &Form::Rule(Rule::Type),
@@ -2393,45 +2110,45 @@ static STAGE114: Plan = Plan::Reads(
     ),
 );
 
-static STAGE115: Plan = Plan::Reads(
+static STAGE105: Plan = Plan::Reads(
     &Form::When(
         Look::Word(Word::Mut),
         &Form::Token(Token::Word(Word::Mut)),
         &Form::Empty,
     ),
-    &Plan::Reads(&Form::Token(Token::Name), &Plan::Go(Stage::Stage114)),
+    &Plan::Reads(&Form::Token(Token::Name), &Plan::Go(Stage::Stage104)),
 );
 
-static STAGE116: Plan = Plan::Reads(
+static STAGE106: Plan = Plan::Reads(
     &Form::Token(Token::Word(Word::Static)),
-    &Plan::Go(Stage::Stage115),
+    &Plan::Go(Stage::Stage105),
 );
 
-static STAGE117: Plan = Plan::Turns(
+static STAGE107: Plan = Plan::Turns(
     Look::Mark(Mark::Semi),
     &Plan::Go(Stage::Stage6),
     &Plan::Kept(&Form::Then(&Form::Rule(Rule::Body), &Form::Empty)),
 );
 
-static STAGE118: Plan = Plan::Reads(
+static STAGE108: Plan = Plan::Reads(
     &Form::When(
         Look::Word(Word::Extern),
         &Form::Rule(Rule::Abi),
         &Form::Empty,
     ),
-    &Plan::Reads(&Form::Rule(Rule::SignatureRest), &Plan::Go(Stage::Stage117)),
+    &Plan::Reads(&Form::Rule(Rule::SignatureRest), &Plan::Go(Stage::Stage107)),
 );
 
-static STAGE119: Plan = Plan::Reads(
+static STAGE109: Plan = Plan::Reads(
     &Form::Rule(Rule::SafeOrUnsafe),
     &Plan::Turns(
         Look::Word(Word::Static),
-        &Plan::Go(Stage::Stage116),
-        &Plan::Go(Stage::Stage118),
+        &Plan::Go(Stage::Stage106),
+        &Plan::Go(Stage::Stage108),
     ),
 );
 
-static STAGE120: Plan = Plan::Kept(&Form::Then(
+static STAGE110: Plan = Plan::Kept(&Form::Then(
     &Form::Mark(Mark::Eq),
     &Form::Then(
         &Form::Rule(Rule::Type),
@@ -2439,51 +2156,51 @@ static STAGE120: Plan = Plan::Kept(&Form::Then(
     ),
 ));
 
-static STAGE121: Plan = Plan::Turns(
+static STAGE111: Plan = Plan::Turns(
     Look::Mark(Mark::Semi),
     &Plan::Go(Stage::Stage6),
     &Plan::Kept(&Form::Then(
         &Form::Mark(Mark::Eq),
-        &Form::Then(&Form::Rule(Rule::Type), &Form::Part(Part::Planned72)),
+        &Form::Then(&Form::Rule(Rule::Type), &Form::Part(Part::Planned57)),
     )),
 );
 
-static STAGE122: Plan = Plan::Turns(
+static STAGE112: Plan = Plan::Turns(
     Look::Word(Word::Where),
     &Plan::Reads(
         &Form::Rule(Rule::WhereClause),
         &Plan::Turns(
             Look::Mark(Mark::Semi),
             &Plan::Go(Stage::Stage6),
-            &Plan::Go(Stage::Stage120),
+            &Plan::Go(Stage::Stage110),
         ),
     ),
-    &Plan::Go(Stage::Stage121),
+    &Plan::Go(Stage::Stage111),
 );
 
-static STAGE123: Plan = Plan::Reads(
+static STAGE113: Plan = Plan::Reads(
     &Form::Token(Token::Name),
     &Plan::Reads(
         &Form::Rule(Rule::Generics),
         &Plan::Turns(
             Look::Mark(Mark::Colon),
             &Plan::Go(Stage::Stage4),
-            &Plan::Go(Stage::Stage122),
+            &Plan::Go(Stage::Stage112),
         ),
     ),
 );
 
-static STAGE124: Plan = Plan::Reads(
+static STAGE114: Plan = Plan::Reads(
     &Form::Token(Token::Word(Word::Type)),
-    &Plan::Go(Stage::Stage123),
+    &Plan::Go(Stage::Stage113),
 );
 
-static STAGE125: Plan = Plan::Reads(
+static STAGE115: Plan = Plan::Reads(
     &Form::Rule(Rule::ForeignSignature),
-    &Plan::Go(Stage::Stage117),
+    &Plan::Go(Stage::Stage107),
 );
 
-static STAGE126: Plan = Plan::Turns(
+static STAGE116: Plan = Plan::Turns(
     Look::Or(
         &Look::Word(Word::Const),
         &Look::Or(
@@ -2491,31 +2208,31 @@ static STAGE126: Plan = Plan::Turns(
             &Look::Or(&Look::Word(Word::Extern), &Look::Word(Word::Fn)),
         ),
     ),
-    &Plan::Go(Stage::Stage125),
+    &Plan::Go(Stage::Stage115),
     &Plan::Go(Stage::Stage5),
 );
 
-static STAGE127: Plan = Plan::Turns(
+static STAGE117: Plan = Plan::Turns(
     Look::Word(Word::Type),
-    &Plan::Go(Stage::Stage124),
+    &Plan::Go(Stage::Stage114),
     &Plan::Turns(
         Look::Word(Word::Static),
-        &Plan::Go(Stage::Stage116),
+        &Plan::Go(Stage::Stage106),
         &Plan::Turns(
             Look::Word(Word::Unsafe),
-            &Plan::Go(Stage::Stage119),
-            &Plan::Go(Stage::Stage126),
+            &Plan::Go(Stage::Stage109),
+            &Plan::Go(Stage::Stage116),
         ),
     ),
 );
 
-static STAGE128: Plan = Plan::Rest(&Form::When(
+static STAGE118: Plan = Plan::Rest(&Form::When(
     Look::Word(Word::SelfType),
     &Form::Never(Fault::Unexpected),
-    &Form::Part(Part::Planned73),
+    &Form::Part(Part::Planned58),
 ));
 
-static STAGE129: Plan = Plan::Turns(
+static STAGE119: Plan = Plan::Turns(
     Look::Or(
         &Look::Word(Word::Const),
         &Look::Or(
@@ -2523,58 +2240,64 @@ static STAGE129: Plan = Plan::Turns(
             &Look::Or(&Look::Word(Word::Extern), &Look::Word(Word::Fn)),
         ),
     ),
-    &Plan::Go(Stage::Stage125),
-    &Plan::Go(Stage::Stage128),
+    &Plan::Go(Stage::Stage115),
+    &Plan::Go(Stage::Stage118),
 );
 
-static STAGE130: Plan = Plan::Turns(
+static STAGE120: Plan = Plan::Turns(
     Look::Word(Word::Type),
-    &Plan::Go(Stage::Stage124),
+    &Plan::Go(Stage::Stage114),
     &Plan::Turns(
         Look::Word(Word::Static),
-        &Plan::Go(Stage::Stage116),
+        &Plan::Go(Stage::Stage106),
         &Plan::Turns(
             Look::Word(Word::Unsafe),
+            &Plan::Go(Stage::Stage109),
             &Plan::Go(Stage::Stage119),
-            &Plan::Go(Stage::Stage129),
         ),
     ),
 );
 
-static STAGE131: Plan = Plan::Turns(
+static STAGE121: Plan = Plan::Turns(
     Look::Word(Word::Safe),
     &Plan::Turns(
         Look::BeforeMacro,
-        &Plan::Go(Stage::Stage128),
+        &Plan::Go(Stage::Stage118),
         &Plan::Turns(
             Look::BeforeColons,
-            &Plan::Go(Stage::Stage128),
-            &Plan::Go(Stage::Stage119),
+            &Plan::Go(Stage::Stage118),
+            &Plan::Go(Stage::Stage109),
         ),
     ),
-    &Plan::Go(Stage::Stage130),
+    &Plan::Go(Stage::Stage120),
 );
 
-static STAGE132: Plan = Plan::Turns(
-    Look::Or(&Look::Word(Word::Pub), &Look::EmptyGroup),
+static STAGE122: Plan = Plan::Turns(
+    Look::But(&Look::Word(Word::Pub), &Look::EmptyGroup),
     &Plan::Reads(
         &Form::Rule(Rule::Visibility),
         &Plan::Turns(
             Look::Word(Word::Safe),
-            &Plan::Go(Stage::Stage119),
-            &Plan::Go(Stage::Stage127),
+            &Plan::Go(Stage::Stage109),
+            &Plan::Go(Stage::Stage117),
         ),
     ),
-    &Plan::Go(Stage::Stage131),
+    &Plan::Reads(
+        &Form::Hidden(
+            &Look::EmptyGroup,
+            &Form::Inside(Delimiter::None, &Form::Empty),
+        ),
+        &Plan::Go(Stage::Stage121),
+    ),
 );
 
-static STAGE133: Plan = Plan::Turns(
+static STAGE123: Plan = Plan::Turns(
     Look::Item,
-    &Plan::Then(&Plan::Go(Stage::Stage93), &Form::Rule(Rule::Statements)),
+    &Plan::Then(&Plan::Go(Stage::Stage83), &Form::Rule(Rule::Statements)),
     &Plan::Rest(&Form::Then(&Form::Rule(Rule::StatementRest), &Form::Empty)),
 );
 
-static STAGE134: Plan = Plan::Reads(
+static STAGE124: Plan = Plan::Reads(
     &Form::Token(Token::Word(Word::Use)),
     &Plan::Turns(
         Look::Group(Delimiter::Brace),
@@ -2583,7 +2306,7 @@ static STAGE134: Plan = Plan::Reads(
     ),
 );
 
-static STAGE135: Plan = Plan::Reads(
+static STAGE125: Plan = Plan::Reads(
     &Form::Rule(Rule::Generics),
     &Plan::Turns(
         Look::Word(Word::Where),
@@ -2592,29 +2315,29 @@ static STAGE135: Plan = Plan::Reads(
     ),
 );
 
-static STAGE136: Plan = Plan::Turns(
+static STAGE126: Plan = Plan::Turns(
     Look::Or(&Look::PathWord, &Look::Mark(Mark::PathSep)),
-    &Plan::Go(Stage::Stage71),
+    &Plan::Go(Stage::Stage61),
     &Plan::Rest(&Form::Then(
         &Form::Rule(Rule::Type),
         &Form::Then(&Form::Rule(Rule::ImplBody), &Form::Empty),
     )),
 );
 
-static STAGE137: Plan = Plan::Turns(
+static STAGE127: Plan = Plan::Turns(
     Look::Mark(Mark::Not),
     &Plan::Reads(
         &Form::Mark(Mark::Not),
         &Plan::Turns(
             Look::Group(Delimiter::Brace),
-            &Plan::Go(Stage::Stage66),
-            &Plan::Go(Stage::Stage68),
+            &Plan::Go(Stage::Stage56),
+            &Plan::Go(Stage::Stage58),
         ),
     ),
-    &Plan::Go(Stage::Stage136),
+    &Plan::Go(Stage::Stage126),
 );
 
-static STAGE138: Plan = Plan::Reads(
+static STAGE128: Plan = Plan::Reads(
     &Form::When(
         Look::Word(Word::Unsafe),
         &Form::Token(Token::Word(Word::Unsafe)),
@@ -2622,7 +2345,7 @@ static STAGE138: Plan = Plan::Reads(
     ),
     &Plan::Reads(
         &Form::Token(Token::Word(Word::Impl)),
-        &Plan::Lists(&Plan::Led(&Plan::Go(Stage::Stage137))),
+        &Plan::Lists(&Plan::Led(&Plan::Go(Stage::Stage127))),
     ),
 );
 
@@ -2778,15 +2501,5 @@ pub(crate) fn plan_of(stage: Stage) -> &'static Plan
         Stage::Stage126 => &STAGE126,
         Stage::Stage127 => &STAGE127,
         Stage::Stage128 => &STAGE128,
-        Stage::Stage129 => &STAGE129,
-        Stage::Stage130 => &STAGE130,
-        Stage::Stage131 => &STAGE131,
-        Stage::Stage132 => &STAGE132,
-        Stage::Stage133 => &STAGE133,
-        Stage::Stage134 => &STAGE134,
-        Stage::Stage135 => &STAGE135,
-        Stage::Stage136 => &STAGE136,
-        Stage::Stage137 => &STAGE137,
-        Stage::Stage138 => &STAGE138,
     }
 }

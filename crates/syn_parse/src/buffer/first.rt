@@ -1,5 +1,4 @@
-//! What stands next, as far as one look at one token or visible group tells it.
-ghost use Rattle.syn_grammar.specs.Take.{front};
+//! What stands next, as far as one look at one token tree tells it.
 ghost use Rattle.syn_tokens.specs.Cursors.{before_next};
 ghost use Rattle.syn_parse.specs.Firsts.{Begins};
 
@@ -20,6 +19,7 @@ pub enum First {
     Literal,
     /// A character of a mark.
     Mark(char),
+    /// A group. Of what stands in an invisible one it tells nothing.
     Group(Delimiter),
 }
 
@@ -42,11 +42,14 @@ fn first_of(next: &TokenTreeRef<'_>, rest: &Place<'_>) -> First
 }
 
 impl<'a> ParseBuffer<'a> {
-    /// What stands next, invisible groups looked through: a caller asks it once, and tells many conditions by it without looking
-    /// again.
+    /// What stands next: a caller asks it once, and tells many conditions by it without looking again.
+    #[tactic(auto, using(crate::proofs::Firsts::invisible_begins, crate::proofs::Firsts::tree_begins, crate::proofs::Firsts::end_begins))]
     pub fn first(&self) -> First
-        ensures { Begins result (front self.now) }
+        ensures { Begins result self.now }
     {
+        if self.tokens.is_at_invisible() {
+            return First::Group(Delimiter::None);
+        }
         match self.tokens.split() {
             Some((next, rest)) => first_of(&next, &rest),
             None => First::Ended,

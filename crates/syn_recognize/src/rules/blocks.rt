@@ -47,16 +47,16 @@ pub(super) static NO_INNER_ATTRIBUTES: Form = Form::When(
 pub(super) static PRIMARY: Form = Form::Shaped(
     Shape::Choice,
     &Form::When(
-        Look::Word(Word::True),
+        Look::Group(Delimiter::None),
         &Form::Shaped(
-            Shape::Operand(Variant::Lit),
-            &Form::Token(Token::Word(Word::True)),
+            Shape::Operand(Variant::Grouped),
+            &Form::Inside(Delimiter::None, &Form::Rule(Rule::WholeExpression)),
         ),
         &Form::When(
-            Look::Word(Word::False),
+            Look::Word(Word::True),
             &Form::Shaped(
                 Shape::Operand(Variant::Lit),
-                &Form::Token(Token::Word(Word::False)),
+                &Form::Token(Token::Word(Word::True)),
             ),
             &Form::Part(Part::Primary6),
         ),
@@ -138,16 +138,16 @@ pub(super) static PRIMARY_4: Form = Form::When(
 
 /// A part of `primary`.
 pub(super) static PRIMARY_5: Form = Form::When(
-    Look::Group(Delimiter::Bracket),
+    Look::Group(Delimiter::Paren),
     &Form::Shaped(
         Shape::Bracketed,
-        &Form::Inside(Delimiter::Bracket, &Form::Rule(Rule::ArrayContent)),
+        &Form::Inside(Delimiter::Paren, &Form::Rule(Rule::Expressions)),
     ),
     &Form::When(
-        Look::Group(Delimiter::None),
+        Look::Group(Delimiter::Bracket),
         &Form::Shaped(
-            Shape::Operand(Variant::Grouped),
-            &Form::Inside(Delimiter::None, &Form::Rule(Rule::WholeExpression)),
+            Shape::Bracketed,
+            &Form::Inside(Delimiter::Bracket, &Form::Rule(Rule::ArrayContent)),
         ),
         &Form::Part(Part::Primary4),
     ),
@@ -155,19 +155,19 @@ pub(super) static PRIMARY_5: Form = Form::When(
 
 /// A part of `primary`.
 pub(super) static PRIMARY_6: Form = Form::When(
-    Look::AnyLiteral,
-    &Form::Shaped(Shape::Operand(Variant::Lit), &Form::Token(Token::Literal)),
+    Look::Word(Word::False),
+    &Form::Shaped(
+        Shape::Operand(Variant::Lit),
+        &Form::Token(Token::Word(Word::False)),
+    ),
     &Form::When(
-        Look::Macro,
-        &Form::Shaped(
-            Shape::Operand(Variant::Macro),
-            &Form::Rule(Rule::MacroInvocation),
-        ),
+        Look::AnyLiteral,
+        &Form::Shaped(Shape::Operand(Variant::Lit), &Form::Token(Token::Literal)),
         &Form::When(
-            Look::Group(Delimiter::Paren),
+            Look::Macro,
             &Form::Shaped(
-                Shape::Bracketed,
-                &Form::Inside(Delimiter::Paren, &Form::Rule(Rule::Expressions)),
+                Shape::Operand(Variant::Macro),
+                &Form::Rule(Rule::MacroInvocation),
             ),
             &Form::Part(Part::Primary5),
         ),

@@ -160,7 +160,7 @@ pub(super) static VARIANT_2: Form = Form::Then(
     &Form::Hidden(
         &Look::Or(&Look::Word(Word::Pub), &Look::EmptyGroup),
         &Form::When(
-            Look::Word(Word::Pub),
+            Look::But(&Look::Word(Word::Pub), &Look::EmptyGroup),
             &Form::Rule(Rule::Visibility),
             &Form::Inside(Delimiter::None, &Form::Empty),
         ),

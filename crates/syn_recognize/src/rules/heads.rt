@@ -14,16 +14,16 @@ use syn_tokens::delimiter::Delimiter;
 pub(super) static PRIMARY_HEAD: Form = Form::Shaped(
     Shape::Choice,
     &Form::When(
-        Look::Word(Word::True),
+        Look::Group(Delimiter::None),
         &Form::Shaped(
-            Shape::Operand(Variant::Lit),
-            &Form::Token(Token::Word(Word::True)),
+            Shape::Operand(Variant::Grouped),
+            &Form::Inside(Delimiter::None, &Form::Rule(Rule::WholeExpression)),
         ),
         &Form::When(
-            Look::Word(Word::False),
+            Look::Word(Word::True),
             &Form::Shaped(
                 Shape::Operand(Variant::Lit),
-                &Form::Token(Token::Word(Word::False)),
+                &Form::Token(Token::Word(Word::True)),
             ),
             &Form::Part(Part::PrimaryHead5),
         ),
@@ -89,16 +89,16 @@ pub(super) static PRIMARY_HEAD_3: Form = Form::When(
 
 /// A part of `primary_head`.
 pub(super) static PRIMARY_HEAD_4: Form = Form::When(
-    Look::Group(Delimiter::Bracket),
+    Look::Group(Delimiter::Paren),
     &Form::Shaped(
         Shape::Bracketed,
-        &Form::Inside(Delimiter::Bracket, &Form::Rule(Rule::ArrayContent)),
+        &Form::Inside(Delimiter::Paren, &Form::Rule(Rule::Expressions)),
     ),
     &Form::When(
-        Look::Group(Delimiter::None),
+        Look::Group(Delimiter::Bracket),
         &Form::Shaped(
-            Shape::Operand(Variant::Grouped),
-            &Form::Inside(Delimiter::None, &Form::Rule(Rule::WholeExpression)),
+            Shape::Bracketed,
+            &Form::Inside(Delimiter::Bracket, &Form::Rule(Rule::ArrayContent)),
         ),
         &Form::Part(Part::PrimaryHead3),
     ),
@@ -106,19 +106,19 @@ pub(super) static PRIMARY_HEAD_4: Form = Form::When(
 
 /// A part of `primary_head`.
 pub(super) static PRIMARY_HEAD_5: Form = Form::When(
-    Look::AnyLiteral,
-    &Form::Shaped(Shape::Operand(Variant::Lit), &Form::Token(Token::Literal)),
+    Look::Word(Word::False),
+    &Form::Shaped(
+        Shape::Operand(Variant::Lit),
+        &Form::Token(Token::Word(Word::False)),
+    ),
     &Form::When(
-        Look::Macro,
-        &Form::Shaped(
-            Shape::Operand(Variant::Macro),
-            &Form::Rule(Rule::MacroInvocation),
-        ),
+        Look::AnyLiteral,
+        &Form::Shaped(Shape::Operand(Variant::Lit), &Form::Token(Token::Literal)),
         &Form::When(
-            Look::Group(Delimiter::Paren),
+            Look::Macro,
             &Form::Shaped(
-                Shape::Bracketed,
-                &Form::Inside(Delimiter::Paren, &Form::Rule(Rule::Expressions)),
+                Shape::Operand(Variant::Macro),
+                &Form::Rule(Rule::MacroInvocation),
             ),
             &Form::Part(Part::PrimaryHead4),
         ),
@@ -127,8 +127,18 @@ pub(super) static PRIMARY_HEAD_5: Form = Form::When(
 
 /// The same as `unary`, in the head of an `if`, a `while` or a `for`: there a path takes no braces.
 pub(super) static UNARY_HEAD: Form = Form::Shaped(
-    Shape::Leading,
-    &Form::Then(&Form::Rule(Rule::Attributes), &Form::Part(Part::UnaryHead3)),
+    Shape::Choice,
+    &Form::When(
+        Look::Group(Delimiter::None),
+        &Form::Shaped(
+            Shape::Chain,
+            &Form::Then(&Form::Rule(Rule::PrimaryHead), &Form::Rule(Rule::Postfixes)),
+        ),
+        &Form::Shaped(
+            Shape::Leading,
+            &Form::Then(&Form::Rule(Rule::Attributes), &Form::Part(Part::UnaryHead3)),
+        ),
+    ),
 );
 
 /// A part of `unary_head`.

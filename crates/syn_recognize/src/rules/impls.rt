@@ -115,18 +115,12 @@ pub(super) static ODD_IMPL_4: Form = Form::Then(
 /// An impl with a visibility and `const`, behind its attributes, with any first type. It is kept as tokens by itself,
 /// as another.
 pub(super) static VISIBLE_CONST_IMPL: Form = Form::Captured(&Form::Then(
-    &Form::Token(Token::Word(Word::Pub)),
-    &Form::Then(
-        &Form::When(
-            Look::Restriction,
-            &Form::Inside(Delimiter::Paren, &Form::Rule(Rule::Restriction)),
-            &Form::Empty,
-        ),
-        &Form::Then(
-            &Form::Token(Token::Word(Word::Const)),
-            &Form::Part(Part::VisibleConstImpl3),
-        ),
+    &Form::When(
+        Look::But(&Look::Word(Word::Pub), &Look::EmptyGroup),
+        &Form::Token(Token::Word(Word::Pub)),
+        &Form::Never(Fault::Unexpected),
     ),
+    &Form::Part(Part::VisibleConstImpl4),
 ));
 
 /// A part of `visible_const_impl`.
@@ -176,5 +170,18 @@ pub(super) static VISIBLE_CONST_IMPL_3: Form = Form::Then(
             ),
             &Form::Part(Part::VisibleConstImpl2),
         ),
+    ),
+);
+
+/// A part of `visible_const_impl`.
+pub(super) static VISIBLE_CONST_IMPL_4: Form = Form::Then(
+    &Form::When(
+        Look::Restriction,
+        &Form::Inside(Delimiter::Paren, &Form::Rule(Rule::Restriction)),
+        &Form::Empty,
+    ),
+    &Form::Then(
+        &Form::Token(Token::Word(Word::Const)),
+        &Form::Part(Part::VisibleConstImpl3),
     ),
 );

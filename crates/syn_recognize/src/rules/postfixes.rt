@@ -93,8 +93,18 @@ pub(super) static MEMBER_2: Form = Form::Then(
 /// A unary level: attributes, which belong to all of it; and `-`, `!`, `*`, `&` or `&mut` before another, or an
 /// expression with what goes on it.
 pub(super) static UNARY: Form = Form::Shaped(
-    Shape::Leading,
-    &Form::Then(&Form::Rule(Rule::Attributes), &Form::Part(Part::Unary3)),
+    Shape::Choice,
+    &Form::When(
+        Look::Group(Delimiter::None),
+        &Form::Shaped(
+            Shape::Chain,
+            &Form::Then(&Form::Rule(Rule::Primary), &Form::Rule(Rule::Postfixes)),
+        ),
+        &Form::Shaped(
+            Shape::Leading,
+            &Form::Then(&Form::Rule(Rule::Attributes), &Form::Part(Part::Unary3)),
+        ),
+    ),
 );
 
 /// A part of `unary`.

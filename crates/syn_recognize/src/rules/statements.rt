@@ -68,7 +68,7 @@ pub(super) static STATEMENTS: Form = Form::When(
 );
 
 /// A statement that is no item, behind its attributes, and the statements that follow: a macro in braces, a local, a
-/// block or what ends with one, or an expression.
+/// block or what ends with one, or an expression, which an invisible group always begins.
 pub(super) static STATEMENT_REST: Form = Form::When(
     Look::CrateMacro,
     &Form::Part(Part::StatementRest3),
@@ -106,12 +106,22 @@ pub(super) static STATEMENT_REST_1: Form = Form::When(
 
 /// A part of `statement_rest`.
 pub(super) static STATEMENT_REST_2: Form = Form::When(
-    Look::Word(Word::Let),
+    Look::Group(Delimiter::None),
     &Form::Shaped(
-        Shape::ALocal,
-        &Form::Then(&Form::Rule(Rule::Local), &Form::Rule(Rule::Statements)),
+        Shape::Said,
+        &Form::Then(
+            &Form::Rule(Rule::WholeExpression),
+            &Form::Rule(Rule::AfterExpression),
+        ),
     ),
-    &Form::Part(Part::StatementRest1),
+    &Form::When(
+        Look::Word(Word::Let),
+        &Form::Shaped(
+            Shape::ALocal,
+            &Form::Then(&Form::Rule(Rule::Local), &Form::Rule(Rule::Statements)),
+        ),
+        &Form::Part(Part::StatementRest1),
+    ),
 );
 
 /// A part of `statement_rest`.

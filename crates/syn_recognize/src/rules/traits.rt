@@ -96,28 +96,32 @@ pub(super) static CONST_ALIAS: Form = Form::Then(
 );
 
 /// A trait with a restriction, which is kept as tokens, behind its attributes: a visibility, `impl`, the restriction in
-/// parentheses, perhaps `const`, and the trait.
+/// parentheses (which is read as a type where it is one word), perhaps `const`, and the trait.
 pub(super) static RESTRICTED_TRAIT: Form = Form::Then(
     &Form::Rule(Rule::Visibility),
     &Form::Then(
         &Form::Token(Token::Word(Word::Impl)),
-        &Form::Part(Part::RestrictedTrait1),
+        &Form::Then(
+            &Form::Part(Part::RestrictedTrait1),
+            &Form::Then(
+                &Form::When(
+                    Look::Word(Word::Const),
+                    &Form::Token(Token::Word(Word::Const)),
+                    &Form::Empty,
+                ),
+                &Form::Rule(Rule::BareTrait),
+            ),
+        ),
     ),
 );
 
 /// A part of `restricted_trait`.
-pub(super) static RESTRICTED_TRAIT_1: Form = Form::Then(
+pub(super) static RESTRICTED_TRAIT_1: Form = Form::When(
+    Look::InRestriction,
+    &Form::Inside(Delimiter::Paren, &Form::Rule(Rule::Restriction)),
     &Form::When(
-        Look::Restriction,
-        &Form::Inside(Delimiter::Paren, &Form::Rule(Rule::Restriction)),
+        Look::LoneWord,
+        &Form::Inside(Delimiter::Paren, &Form::Rule(Rule::Types)),
         &Form::Never(Fault::Unexpected),
-    ),
-    &Form::Then(
-        &Form::When(
-            Look::Word(Word::Const),
-            &Form::Token(Token::Word(Word::Const)),
-            &Form::Empty,
-        ),
-        &Form::Rule(Rule::BareTrait),
     ),
 );

@@ -174,27 +174,13 @@ pub(super) static PATH_AS_TYPE: Form = Form::When(
     &Form::Rule(Rule::TypePath),
 );
 
-/// A type: a reference, perhaps with a lifetime and `mut`; a pointer, `const` or `mut`; a tuple or a type in
-/// parentheses; a slice, or an array with an expression as its length; the never type; an invisible group that holds a
-/// type; or a path, qualified or not.
+/// A type: an invisible group that holds one; a reference, perhaps with a lifetime and `mut`; a pointer, `const` or
+/// `mut`; a tuple or a type in parentheses; a slice, or an array with an expression as its length; the never type; or a
+/// path, qualified or not.
 pub(super) static TYPE: Form = Form::When(
-    Look::Mark(Mark::And),
-    &Form::Part(Part::Type3),
-    &Form::When(
-        Look::Mark(Mark::Star),
-        &Form::Then(
-            &Form::Mark(Mark::Star),
-            &Form::Then(
-                &Form::When(
-                    Look::Word(Word::Const),
-                    &Form::Token(Token::Word(Word::Const)),
-                    &Form::Token(Token::Word(Word::Mut)),
-                ),
-                &Form::Rule(Rule::Type),
-            ),
-        ),
-        &Form::Part(Part::Type2),
-    ),
+    Look::Group(Delimiter::None),
+    &Form::Inside(Delimiter::None, &Form::Rule(Rule::Type)),
+    &Form::Part(Part::Type4),
 );
 
 /// A part of `type`.
@@ -220,11 +206,7 @@ pub(super) static TYPE_2: Form = Form::When(
         &Form::When(
             Look::Mark(Mark::Not),
             &Form::Mark(Mark::Not),
-            &Form::When(
-                Look::Group(Delimiter::None),
-                &Form::Inside(Delimiter::None, &Form::Rule(Rule::Type)),
-                &Form::Rule(Rule::PathAsType),
-            ),
+            &Form::Rule(Rule::PathAsType),
         ),
     ),
 );
@@ -242,6 +224,27 @@ pub(super) static TYPE_3: Form = Form::Then(
             ),
             &Form::Rule(Rule::Type),
         ),
+    ),
+);
+
+/// A part of `type`.
+pub(super) static TYPE_4: Form = Form::When(
+    Look::Mark(Mark::And),
+    &Form::Part(Part::Type3),
+    &Form::When(
+        Look::Mark(Mark::Star),
+        &Form::Then(
+            &Form::Mark(Mark::Star),
+            &Form::Then(
+                &Form::When(
+                    Look::Word(Word::Const),
+                    &Form::Token(Token::Word(Word::Const)),
+                    &Form::Token(Token::Word(Word::Mut)),
+                ),
+                &Form::Rule(Rule::Type),
+            ),
+        ),
+        &Form::Part(Part::Type2),
     ),
 );
 

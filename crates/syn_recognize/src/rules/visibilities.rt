@@ -12,7 +12,7 @@ use syn_tokens::delimiter::Delimiter;
 /// they hold `crate`, `self` or `super` alone, or begin with `in`; then they must hold a restriction. Any others are
 /// left. An invisible group without content stands for one that isn't written, and is never printed.
 pub(super) static VISIBILITY: Form = Form::When(
-    Look::Word(Word::Pub),
+    Look::But(&Look::Word(Word::Pub), &Look::EmptyGroup),
     &Form::Then(
         &Form::Token(Token::Word(Word::Pub)),
         &Form::When(
