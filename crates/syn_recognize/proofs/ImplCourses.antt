@@ -10,7 +10,8 @@ use Rattle.syn_grammar.specs.Take.{Out, Parser, sees, taken, take_mark, take_tok
 use Rattle.syn_grammar.specs.Run.{branch, parse_form, rows, row_opened, row_closed, close_row, marks_of, wrap}
 use Rattle.syn_grammar.specs.Plan as plan
 use Rattle.syn_grammar.specs.Plan.{Plan, follow, by_test, run_plan}
-use Rattle.syn_grammar.specs.ItemPlan.{parts, absent, at_lone_word}
+use Rattle.syn_grammar.specs.ItemPlan.{parts, absent}
+use Rattle.syn_grammar.specs.Table.{at_lone_word}
 use Rattle.syn_grammar.specs.Leads.{Reads, generics_behind, leads_on}
 use Rattle.syn_grammar.proofs.Leads.{impl_led}
 use Rattle.syn_grammar.proofs.Looks.{sees_word}

@@ -1,14 +1,15 @@
 -- The conditions of the grammar on a visibility, by looking into groups: what follows `pub`, and what stands for none.
 use Rattle.std.proofs.Common.{◌≡◌, ℕ, Bool, true, false, [], ◌∷◌, Option, Some, None, refl, sym, ap, ap₂, ◌∙◌, subst, true≢false}
 use Rattle.syn_grammar.specs.Words.{Text, w_in, w_crate, w_self, w_super}
-use Rattle.syn_grammar.specs.Tokens.{Stream, end, leaf, punct, group, ident, literal, Paren, Brace, Bracket, None as Invisible, or, and, pick, has_fact, asked_by_path_word, Lone_word, Begins_in, Before_end, facts_for, asked, leaf_terminal, lookahead, answers, is_word, is_ended, Terminal, Span, Look, ended, at_word, at_empty_group, ◌or_else◌, ◌and_also◌, ahead}
-use Rattle.syn_grammar.specs.Take.{sees, lookahead_at, take_token, Opened, take_group}
-use Rattle.syn_grammar.specs.Table.{at_restriction}
+use Rattle.syn_grammar.specs.Tokens.{Stream, end, leaf, punct, group, ident, literal, Paren, Brace, Bracket, None as Invisible, or, and, no, pick, has_fact, asked_by_path_word, Lone_word, Begins_in, Before_end, facts_for, asked, leaf_terminal, lookahead, answers, is_word, is_ended, Terminal, Span, Look, ended, at_word, at_group, at_empty_group, ◌or_else◌, ◌and_also◌, ahead}
+use Rattle.syn_grammar.specs.Take.{front, flat, sees, lookahead_at, taken, take_token, Opened, take_group}
+use Rattle.syn_grammar.proofs.Takes.{opened, flat_front, front_opened, looks_through, sees_flat}
+use Rattle.syn_grammar.proofs.Gaps.{front_group}
+use Rattle.syn_grammar.specs.Table.{at_paren, at_restriction, at_in_restriction, at_lone_word}
 use Rattle.syn_grammar.proofs.Looks.{holds_nothing_of, sees_empty_group, sees_group, sees_word}
-use Rattle.syn_parse.specs.Peeks.{past}
+use Rattle.syn_parse.specs.Peeks.{past, past_first}
 use Rattle.syn_parse.specs.Opened.{content_of}
 use Rattle.syn_recognize.proofs.Facts.{and_same, told_first, word_face}
-use Rattle.syn_grammar.specs.ItemPlan.{at_in_restriction, at_lone_word}
 use Rattle.syn_recognize.specs.Restricted.{holds_nothing, lone_word, restricts, begins_in, is_lone_word}
 
 -- a word that begins a restriction by itself
@@ -33,20 +34,29 @@ noted_end x m e = go (is_word w_crate (leaf_terminal (ident x))) (is_word w_self
     go false false true p q r h = at w_super (word_face w_super x r) (told_first Before_end ended asked_by_path_word (lookahead m) refl refl)
     go false false false p q r h = absurd (true≢false (sym h))
 
-pub no_word : (w : Text) (c : ℕ) (j : Bool) (sp : Span) (m : Stream) → is_word w (lookahead (punct c j sp m)).terminal ≡ false
+pub no_word : (w : Text) (c : ℕ) (j : Bool) (sp : Span) (m : Stream) → is_word w (lookahead (punct c j sp (flat m))).terminal ≡ false
 unfolding sees lookahead_at take_token
 no_word w c j sp m = sees_word w (punct c j sp m)
 
+-- one of the three words, with nothing behind it, where no invisible group is the next tree
+lone_opened : (i : Stream) → opened i ≡ true → answers lone (lookahead (flat i)) ≡ and (one_of_three (lookahead (flat i)).terminal) (is_ended (lookahead (flat (past_first i))).terminal)
+lone_opened end h = refl
+lone_opened (leaf (ident x) sp m) h = and_same (one_of_three (leaf_terminal (ident x))) _ _ (noted_end x (flat m))
+lone_opened (leaf (literal k x) sp m) h = refl
+lone_opened (punct c j sp m) h =
+    let none : one_of_three (lookahead (punct c j sp (flat m))).terminal ≡ false = ap₂ or (no_word w_crate c j sp m) (ap₂ or (no_word w_self c j sp m) (no_word w_super c j sp m)) in
+    ap (λ b. and b (has_fact Before_end (lookahead (punct c j sp (flat m))).facts)) none ∙ ap (λ b. and b (is_ended (lookahead (flat (past_first (punct c j sp m)))).terminal)) (sym none)
+lone_opened (group Paren o c i m) h = refl
+lone_opened (group Brace o c i m) h = refl
+lone_opened (group Bracket o c i m) h = refl
+lone_opened (group Invisible o c i m) h = absurd (true≢false (sym h))
+
 -- one of the three words, with nothing behind it
-lone_seen : (i : Stream) → answers lone (lookahead i) ≡ lone_word i
-unfolding sees lookahead_at
-lone_seen end = refl
-lone_seen (leaf (ident x) sp m) = and_same (one_of_three (leaf_terminal (ident x))) _ _ (noted_end x m)
-lone_seen (leaf (literal k x) sp m) = refl
-lone_seen (punct c j sp m) =
-    let none : one_of_three (lookahead (punct c j sp m)).terminal ≡ false = ap₂ or (no_word w_crate c j sp m) (ap₂ or (no_word w_self c j sp m) (no_word w_super c j sp m)) in
-    ap (λ b. and b (has_fact Before_end (lookahead (punct c j sp m)).facts)) none ∙ ap (λ b. and b (is_ended (lookahead (past (punct c j sp m))).terminal)) (sym none)
-lone_seen (group d o c i m) = refl
+lone_seen : (i : Stream) → answers lone (lookahead (flat i)) ≡ lone_word i
+unfolding sees lookahead_at past
+lone_seen i =
+    ap (λ z. answers lone (lookahead z)) (sym (flat_front i)) ∙ lone_opened (front i) (front_opened i)
+    ∙ ap (λ z. and (one_of_three (lookahead z).terminal) (is_ended (lookahead (flat (past_first (front i)))).terminal)) (flat_front i)
 
 -- what a group in parentheses tells of its content
 notes_inside : (a b : Bool) → or (has_fact Lone_word (pick a (Lone_word ∷ pick b (Begins_in ∷ []) []) (pick b (Begins_in ∷ []) []))) (has_fact Begins_in (pick a (Lone_word ∷ pick b (Begins_in ∷ []) []) (pick b (Begins_in ∷ []) []))) ≡ or b a
@@ -55,16 +65,24 @@ notes_inside true false = refl
 notes_inside false true = refl
 notes_inside false false = refl
 
+-- a condition on the group in parentheses that stands next, by looking into it
+inside_seen : (c : Look) (h : Option Stream → Bool) → looks_through c ≡ true → h None ≡ false →
+    ((o l : Span) (i m : Stream) → answers (at_paren and_also c) (lookahead (group Paren o l (flat i) (flat m))) ≡ h (Some i)) → (ts : Stream) → sees (at_paren and_also c) ts ≡ h (content_of (take_group Paren ts))
+unfolding sees
+inside_seen c h w n f ts = go (take_group Paren ts) refl
+  where
+    go : (g : Option Opened) → take_group Paren ts ≡ g → sees (at_paren and_also c) ts ≡ h (content_of g)
+    go None e = ap (λ b. and b (sees c ts)) (sees_group Paren ts ∙ ap taken e) ∙ sym n
+    go (Some g) e =
+        sees_flat (at_paren and_also c) ts w ∙ ap (λ z. answers (at_paren and_also c) (lookahead z)) (sym (flat_front ts) ∙ ap flat (front_group Paren ts g refl e))
+        ∙ f g.opening g.closing g.content g.rest
+
 -- the condition of the grammar, by looking into the group
 pub restriction_seen : (ts : Stream) → sees at_restriction ts ≡ restricts (content_of (take_group Paren ts))
-unfolding sees lookahead_at take_group
-restriction_seen end = refl
-restriction_seen (leaf x sp m) = ap (λ b. and b (or (sees (ahead Lone_word) (leaf x sp m)) (sees (ahead Begins_in) (leaf x sp m)))) (sees_group Paren (leaf x sp m))
-restriction_seen (punct c j sp m) = ap (λ b. and b (or (sees (ahead Lone_word) (punct c j sp m)) (sees (ahead Begins_in) (punct c j sp m)))) (sees_group Paren (punct c j sp m))
-restriction_seen (group Paren o c i m) = notes_inside (answers lone (lookahead i)) (answers (at_word w_in) (lookahead i)) ∙ ap (or (answers (at_word w_in) (lookahead i))) (lone_seen i)
-restriction_seen (group Brace o c i m) = refl
-restriction_seen (group Bracket o c i m) = refl
-restriction_seen (group Invisible o c i m) = refl
+unfolding sees lookahead_at
+restriction_seen ts =
+    inside_seen (ahead Lone_word or_else ahead Begins_in) restricts refl refl
+    (λ o l i m. notes_inside (answers lone (lookahead (flat i))) (answers (at_word w_in) (lookahead (flat i))) ∙ ap (or (answers (at_word w_in) (lookahead (flat i)))) (lone_seen i)) ts
 
 -- an invisible group without content
 pub empty_group_seen : (ts : Stream) → sees at_empty_group ts ≡ holds_nothing (content_of (take_group Invisible ts))
@@ -88,21 +106,16 @@ notes_lone false true = refl
 notes_lone false false = refl
 
 pub in_restriction_seen : (ts : Stream) → sees at_in_restriction ts ≡ begins_in (content_of (take_group Paren ts))
-unfolding sees lookahead_at take_group
-in_restriction_seen end = refl
-in_restriction_seen (leaf x sp m) = ap (λ b. and b (sees (ahead Begins_in) (leaf x sp m))) (sees_group Paren (leaf x sp m))
-in_restriction_seen (punct c j sp m) = ap (λ b. and b (sees (ahead Begins_in) (punct c j sp m))) (sees_group Paren (punct c j sp m))
-in_restriction_seen (group Paren o c i m) = notes_in (answers lone (lookahead i)) (answers (at_word w_in) (lookahead i))
-in_restriction_seen (group Brace o c i m) = refl
-in_restriction_seen (group Bracket o c i m) = refl
-in_restriction_seen (group Invisible o c i m) = refl
+unfolding sees lookahead_at
+in_restriction_seen ts = inside_seen (ahead Begins_in) begins_in refl refl (λ o l i m. notes_in (answers lone (lookahead (flat i))) (answers (at_word w_in) (lookahead (flat i)))) ts
 
-pub lone_word_seen : (ts : Stream) → sees at_lone_word ts ≡ is_lone_word (content_of (take_group Paren ts))
-unfolding sees lookahead_at take_group
-lone_word_seen end = refl
-lone_word_seen (leaf x sp m) = ap (λ b. and b (sees (ahead Lone_word) (leaf x sp m))) (sees_group Paren (leaf x sp m))
-lone_word_seen (punct c j sp m) = ap (λ b. and b (sees (ahead Lone_word) (punct c j sp m))) (sees_group Paren (punct c j sp m))
-lone_word_seen (group Paren o c i m) = notes_lone (answers lone (lookahead i)) (answers (at_word w_in) (lookahead i)) ∙ lone_seen i
-lone_word_seen (group Brace o c i m) = refl
-lone_word_seen (group Bracket o c i m) = refl
-lone_word_seen (group Invisible o c i m) = refl
+and_and : (a b c : Bool) → and a (and b c) ≡ and (and a b) c
+and_and true b c = refl
+and_and false b c = refl
+
+pub lone_word_seen : (ts : Stream) → sees at_lone_word ts ≡ and (is_lone_word (content_of (take_group Paren ts))) (no (sees (at_group Invisible) ts))
+unfolding sees lookahead_at
+lone_word_seen ts =
+    and_and (sees at_paren ts) (sees (ahead Lone_word) ts) (no (sees (at_group Invisible) ts))
+    ∙ ap (λ b. and b (no (sees (at_group Invisible) ts)))
+    (inside_seen (ahead Lone_word) is_lone_word refl refl (λ o l i m. notes_lone (answers lone (lookahead (flat i))) (answers (at_word w_in) (lookahead (flat i))) ∙ lone_seen i) ts)

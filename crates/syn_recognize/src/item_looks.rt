@@ -7,7 +7,6 @@ ghost use Rattle.syn_grammar.specs.Table as table;
 ghost use Rattle.syn_grammar.specs.Tokens as grammar;
 ghost use Rattle.syn_grammar.specs.Tokens.{ahead, ◌and_also◌, Str, Before_colons, Before_less, Before_macro, Begins_item};
 ghost use Rattle.syn_grammar.specs.Words.{w_union, w_auto};
-ghost use Rattle.syn_grammar.specs.ItemPlan as plan;
 ghost use Rattle.syn_parse.specs.Form.{by};
 ghost use Rattle.syn_parse.specs.Refusals.{IsSyntax};
 ghost use Rattle.syn_recognize.specs.ItemLooks as items;
@@ -24,9 +23,9 @@ use syn_tokens::ident::Ident;
 use syn_tokens::lifetime::Lifetime;
 use syn_tokens::literal::{LitKind, Literal};
 use syn_tokens::token::{
-    And, As, Async, Auto, Brace, Colon, Const, Default, Enum, Extern, Fn, Gt, Impl, In, Lt, Macro,
-    Mod, Move, Mut, Or, Paren, PathSep, Pound, Pub, SelfType, SelfValue, Static, Struct, Trait,
-    Try, Type, Union, Unsafe, Use, kind,
+    And, As, Async, Auto, Brace, Colon, Const, Default, Enum, Extern, Fn, Group, Gt, Impl, In, Lt,
+    Macro, Mod, Move, Mut, Or, Paren, PathSep, Pound, Pub, SelfType, SelfValue, Static, Struct,
+    Trait, Try, Type, Union, Unsafe, Use, kind,
 };
 
 /// Whether an item stands next in a block, behind its attributes. Refused only where memory is.
@@ -393,7 +392,7 @@ pub fn is_before_macro(input: &ParseBuffer<'_>) -> Parsed<bool>
 /// Whether parentheses stand next that begin with `in`.
 #[tactic(auto, using(crate::proofs::Restricted::in_restriction_seen))]
 pub fn at_in_restriction(input: &ParseBuffer<'_>) -> bool
-    ensures { result ≡ sees plan.at_in_restriction input.now }
+    ensures { result ≡ sees table.at_in_restriction input.now }
 {
     match input.peek_group::<kind::Paren>() {
         Some(content) => content.peek::<In>(),
@@ -401,13 +400,13 @@ pub fn at_in_restriction(input: &ParseBuffer<'_>) -> bool
     }
 }
 
-/// Whether parentheses stand next that hold `crate`, `self` or `super` alone.
+/// Whether parentheses stand next that hold `crate`, `self` or `super` alone, and in no invisible group.
 #[tactic(auto, using(crate::proofs::Restricted::lone_word_seen))]
 pub fn at_lone_word(input: &ParseBuffer<'_>) -> bool
-    ensures { result ≡ sees plan.at_lone_word input.now }
+    ensures { result ≡ sees table.at_lone_word input.now }
 {
     match input.peek_group::<kind::Paren>() {
-        Some(content) => is_lone_word(&content),
+        Some(content) => is_lone_word(&content) && !input.peek::<Group>(),
         None => false,
     }
 }
