@@ -260,6 +260,14 @@ module_item_rest_border_35 : ComputesAs module_item_rest
 unfolding left is_end lookahead_at sees take_token take_lifetime take_mark take_group before rows_for rows run parse_rule
 module_item_rest_border_35 = refl
 
+-- `pub unsafe mod a {}` prints `pub unsafe mod a {}`
+module_item_rest_border_36 : DerivesAs module_item_rest
+    (leaf (ident w_pub) (at 0 3) (leaf (ident w_unsafe) (at 4 10) (leaf (ident w_mod) (at 11 14) (leaf (ident (97 ∷ [])) (at 15 16) (group Brace (at 17 18) (at 18 19) end end)))))
+    (leaf (ident w_pub) call_site (leaf (ident w_unsafe) call_site (leaf (ident w_mod) call_site (leaf (ident (97 ∷ [])) call_site (group Brace call_site call_site end end)))))
+    (end)
+unfolding left is_end lookahead_at sees take_token take_lifetime take_mark take_group before first_span rows_for rows run parse_rule
+module_item_rest_border_36 = computed module_item_rest _ _ _ refl refl
+
 -- `auto ,` prints `auto` and leaves `,`
 alias_bounds_border_1 : DerivesAs alias_bounds
     (leaf (ident w_auto) (at 0 4) (punct 44 false (at 5 6) end))

@@ -1147,6 +1147,20 @@ variant_invisible_name : ComputesAs variant
 unfolding left is_end lookahead_at sees take_token take_lifetime take_mark take_group before rows_for rows run parse_rule
 variant_invisible_name = refl
 
+-- `\(\)`: nothing is read
+variant_invisible_alone : ComputesNothing variant
+    (group None (at 0 2) (at 2 4) end end)
+unfolding left is_end lookahead_at sees take_token take_lifetime take_mark take_group before rows_for rows run parse_rule
+variant_invisible_alone = refl
+
+-- `\(pub a\)` prints `a`
+variant_public_in_invisible : ComputesAs variant
+    (group None (at 0 2) (at 7 9) (leaf (ident w_pub) (at 2 5) (leaf (ident (97 ∷ [])) (at 6 7) end)) end)
+    (leaf (ident (97 ∷ [])) call_site end)
+    (end)
+unfolding left is_end lookahead_at sees take_token take_lifetime take_mark take_group before rows_for rows run parse_rule
+variant_public_in_invisible = refl
+
 -- `a \(\)` prints `a` and leaves `\(\)`
 variant_leaves_invisible : ComputesAs variant
     (leaf (ident (97 ∷ [])) (at 0 1) (group None (at 2 4) (at 4 6) end end))

@@ -8,7 +8,7 @@ use Rattle.syn_grammar.specs.Grammar.{rule}
 use Rattle.syn_grammar.specs.Take.{left, is_end, take_token, take_lifetime, take_mark, take_group, lookahead_at, sees, before}
 use Rattle.syn_grammar.specs.Run.{rows_for, rows, run, parse_rule}
 use Rattle.syn_grammar.specs.Promises.{NotDerived}
-use Rattle.syn_grammar.proofs.Shown.{at, DerivesAs, computed, not_read, ComputesNothing}
+use Rattle.syn_grammar.proofs.Shown.{at, DerivesAs, computed, not_read, ComputesAs, ComputesNothing}
 
 -- `_`: nothing is read
 primary_head_border_1 : NotDerived (rule primary_head)
@@ -795,6 +795,74 @@ unary_head_border_15 : NotDerived (rule unary_head)
     (punct 38 false (at 0 1) (leaf (ident w_mut) (at 2 5) (leaf (ident w_mut) (at 6 9) (leaf (ident (97 ∷ [])) (at 10 11) end))))
 unfolding left is_end lookahead_at sees take_token take_lifetime take_mark take_group before rows_for rows run parse_rule
 unary_head_border_15 = not_read unary_head _ refl refl
+
+-- `\(-1\)` prints `\(-1\)`
+unary_head_in_none_minus : ComputesAs unary_head
+    (group None (at 0 2) (at 4 6) (punct 45 false (at 2 3) (leaf (literal Int (49 ∷ [])) (at 3 4) end)) end)
+    (group None call_site call_site (punct 45 false call_site (leaf (literal Int (49 ∷ [])) call_site end)) end)
+    (end)
+unfolding left is_end lookahead_at sees take_token take_lifetime take_mark take_group before rows_for rows run parse_rule
+unary_head_in_none_minus = refl
+
+-- `\(a + b\).c[d]` prints `\(a + b\) . c [d]`
+unary_head_in_none_postfix : ComputesAs unary_head
+    (group None (at 0 2) (at 7 9) (leaf (ident (97 ∷ [])) (at 2 3) (punct 43 false (at 4 5) (leaf (ident (98 ∷ [])) (at 6 7) end))) (punct 46 false (at 9 10) (leaf (ident (99 ∷ [])) (at 10 11) (group Bracket (at 11 12) (at 13 14) (leaf (ident (100 ∷ [])) (at 12 13) end) end))))
+    (group None call_site call_site (leaf (ident (97 ∷ [])) call_site (punct 43 false call_site (leaf (ident (98 ∷ [])) call_site end))) (punct 46 false call_site (leaf (ident (99 ∷ [])) call_site (group Bracket call_site call_site (leaf (ident (100 ∷ [])) call_site end) end))))
+    (end)
+unfolding left is_end lookahead_at sees take_token take_lifetime take_mark take_group before rows_for rows run parse_rule
+unary_head_in_none_postfix = refl
+
+-- `-\(a\)` prints `-\(a\)`
+unary_head_minus_in_none : ComputesAs unary_head
+    (punct 45 false (at 0 1) (group None (at 1 3) (at 4 6) (leaf (ident (97 ∷ [])) (at 3 4) end) end))
+    (punct 45 false call_site (group None call_site call_site (leaf (ident (97 ∷ [])) call_site end) end))
+    (end)
+unfolding left is_end lookahead_at sees take_token take_lifetime take_mark take_group before rows_for rows run parse_rule
+unary_head_minus_in_none = refl
+
+-- `\(-\)a`: nothing is read
+unary_head_in_none_mark : ComputesNothing unary_head
+    (group None (at 0 2) (at 3 5) (punct 45 false (at 2 3) end) (leaf (ident (97 ∷ [])) (at 5 6) end))
+unfolding left is_end lookahead_at sees take_token take_lifetime take_mark take_group before rows_for rows run parse_rule
+unary_head_in_none_mark = refl
+
+-- `\(#[a] b\)` prints `\(# [a] b\)`
+unary_head_in_none_attribute : ComputesAs unary_head
+    (group None (at 0 2) (at 8 10) (punct 35 false (at 2 3) (group Bracket (at 3 4) (at 5 6) (leaf (ident (97 ∷ [])) (at 4 5) end) (leaf (ident (98 ∷ [])) (at 7 8) end))) end)
+    (group None call_site call_site (punct 35 false call_site (group Bracket call_site call_site (leaf (ident (97 ∷ [])) call_site end) (leaf (ident (98 ∷ [])) call_site end))) end)
+    (end)
+unfolding left is_end lookahead_at sees take_token take_lifetime take_mark take_group before rows_for rows run parse_rule
+unary_head_in_none_attribute = refl
+
+-- `\(a\) \(+\) b` prints `\(a\)` and leaves `\(+\) b`
+unary_head_in_none_leaves : ComputesAs unary_head
+    (group None (at 0 2) (at 3 5) (leaf (ident (97 ∷ [])) (at 2 3) end) (group None (at 6 8) (at 9 11) (punct 43 false (at 8 9) end) (leaf (ident (98 ∷ [])) (at 12 13) end)))
+    (group None call_site call_site (leaf (ident (97 ∷ [])) call_site end) end)
+    (group None (at 6 8) (at 9 11) (punct 43 false (at 8 9) end) (leaf (ident (98 ∷ [])) (at 12 13) end))
+unfolding left is_end lookahead_at sees take_token take_lifetime take_mark take_group before rows_for rows run parse_rule
+unary_head_in_none_leaves = refl
+
+-- `\(\(a\)\)` prints `\(\(a\)\)`
+unary_head_in_none_in_none : ComputesAs unary_head
+    (group None (at 0 2) (at 7 9) (group None (at 2 4) (at 5 7) (leaf (ident (97 ∷ [])) (at 4 5) end) end) end)
+    (group None call_site call_site (group None call_site call_site (leaf (ident (97 ∷ [])) call_site end) end) end)
+    (end)
+unfolding left is_end lookahead_at sees take_token take_lifetime take_mark take_group before rows_for rows run parse_rule
+unary_head_in_none_in_none = refl
+
+-- `\(\) a`: nothing is read
+unary_head_in_none_nothing : ComputesNothing unary_head
+    (group None (at 0 2) (at 2 4) end (leaf (ident (97 ∷ [])) (at 5 6) end))
+unfolding left is_end lookahead_at sees take_token take_lifetime take_mark take_group before rows_for rows run parse_rule
+unary_head_in_none_nothing = refl
+
+-- `\({}\)` prints `\({}\)`
+unary_head_in_none_braces : ComputesAs unary_head
+    (group None (at 0 2) (at 4 6) (group Brace (at 2 3) (at 3 4) end end) end)
+    (group None call_site call_site (group Brace call_site call_site end end) end)
+    (end)
+unfolding left is_end lookahead_at sees take_token take_lifetime take_mark take_group before rows_for rows run parse_rule
+unary_head_in_none_braces = refl
 
 -- `! a` prints `! a`
 cast_head_border_1 : DerivesAs cast_head

@@ -1520,6 +1520,46 @@ restricted_trait_border_17 : NotDerived (rule restricted_trait)
 unfolding left is_end lookahead_at sees take_token take_lifetime take_mark take_group before first_span rows_for rows run parse_rule
 restricted_trait_border_17 = not_read restricted_trait _ refl refl
 
+-- `impl (crate) trait a {} pub` prints `impl (crate) trait a {}` and leaves `pub`
+restricted_trait_border_18 : DerivesAs restricted_trait
+    (leaf (ident w_impl) (at 0 4) (group Paren (at 5 6) (at 11 12) (leaf (ident w_crate) (at 6 11) end) (leaf (ident w_trait) (at 13 18) (leaf (ident (97 ∷ [])) (at 19 20) (group Brace (at 21 22) (at 22 23) end (leaf (ident w_pub) (at 24 27) end))))))
+    (leaf (ident w_impl) call_site (group Paren call_site call_site (leaf (ident w_crate) call_site end) (leaf (ident w_trait) call_site (leaf (ident (97 ∷ [])) call_site (group Brace call_site call_site end end)))))
+    (leaf (ident w_pub) (at 24 27) end)
+unfolding left is_end lookahead_at sees take_token take_lifetime take_mark take_group before first_span rows_for rows run parse_rule
+restricted_trait_border_18 = computed restricted_trait _ _ _ refl refl
+
+-- `impl (crate) trait a {} impl` prints `impl (crate) trait a {}` and leaves `impl`
+restricted_trait_border_19 : DerivesAs restricted_trait
+    (leaf (ident w_impl) (at 0 4) (group Paren (at 5 6) (at 11 12) (leaf (ident w_crate) (at 6 11) end) (leaf (ident w_trait) (at 13 18) (leaf (ident (97 ∷ [])) (at 19 20) (group Brace (at 21 22) (at 22 23) end (leaf (ident w_impl) (at 24 28) end))))))
+    (leaf (ident w_impl) call_site (group Paren call_site call_site (leaf (ident w_crate) call_site end) (leaf (ident w_trait) call_site (leaf (ident (97 ∷ [])) call_site (group Brace call_site call_site end end)))))
+    (leaf (ident w_impl) (at 24 28) end)
+unfolding left is_end lookahead_at sees take_token take_lifetime take_mark take_group before first_span rows_for rows run parse_rule
+restricted_trait_border_19 = computed restricted_trait _ _ _ refl refl
+
+-- `impl (crate) trait a {} (crate)` prints `impl (crate) trait a {}` and leaves `(crate)`
+restricted_trait_border_20 : DerivesAs restricted_trait
+    (leaf (ident w_impl) (at 0 4) (group Paren (at 5 6) (at 11 12) (leaf (ident w_crate) (at 6 11) end) (leaf (ident w_trait) (at 13 18) (leaf (ident (97 ∷ [])) (at 19 20) (group Brace (at 21 22) (at 22 23) end (group Paren (at 24 25) (at 30 31) (leaf (ident w_crate) (at 25 30) end) end))))))
+    (leaf (ident w_impl) call_site (group Paren call_site call_site (leaf (ident w_crate) call_site end) (leaf (ident w_trait) call_site (leaf (ident (97 ∷ [])) call_site (group Brace call_site call_site end end)))))
+    (group Paren (at 24 25) (at 30 31) (leaf (ident w_crate) (at 25 30) end) end)
+unfolding left is_end lookahead_at sees take_token take_lifetime take_mark take_group before first_span rows_for rows run parse_rule
+restricted_trait_border_20 = computed restricted_trait _ _ _ refl refl
+
+-- `impl (crate) trait a {} const` prints `impl (crate) trait a {}` and leaves `const`
+restricted_trait_border_21 : DerivesAs restricted_trait
+    (leaf (ident w_impl) (at 0 4) (group Paren (at 5 6) (at 11 12) (leaf (ident w_crate) (at 6 11) end) (leaf (ident w_trait) (at 13 18) (leaf (ident (97 ∷ [])) (at 19 20) (group Brace (at 21 22) (at 22 23) end (leaf (ident w_const) (at 24 29) end))))))
+    (leaf (ident w_impl) call_site (group Paren call_site call_site (leaf (ident w_crate) call_site end) (leaf (ident w_trait) call_site (leaf (ident (97 ∷ [])) call_site (group Brace call_site call_site end end)))))
+    (leaf (ident w_const) (at 24 29) end)
+unfolding left is_end lookahead_at sees take_token take_lifetime take_mark take_group before first_span rows_for rows run parse_rule
+restricted_trait_border_21 = computed restricted_trait _ _ _ refl refl
+
+-- `impl (crate) trait a {} trait b {}` prints `impl (crate) trait a {}` and leaves `trait b {}`
+restricted_trait_border_22 : DerivesAs restricted_trait
+    (leaf (ident w_impl) (at 0 4) (group Paren (at 5 6) (at 11 12) (leaf (ident w_crate) (at 6 11) end) (leaf (ident w_trait) (at 13 18) (leaf (ident (97 ∷ [])) (at 19 20) (group Brace (at 21 22) (at 22 23) end (leaf (ident w_trait) (at 24 29) (leaf (ident (98 ∷ [])) (at 30 31) (group Brace (at 32 33) (at 33 34) end end))))))))
+    (leaf (ident w_impl) call_site (group Paren call_site call_site (leaf (ident w_crate) call_site end) (leaf (ident w_trait) call_site (leaf (ident (97 ∷ [])) call_site (group Brace call_site call_site end end)))))
+    (leaf (ident w_trait) (at 24 29) (leaf (ident (98 ∷ [])) (at 30 31) (group Brace (at 32 33) (at 33 34) end end)))
+unfolding left is_end lookahead_at sees take_token take_lifetime take_mark take_group before first_span rows_for rows run parse_rule
+restricted_trait_border_22 = computed restricted_trait _ _ _ refl refl
+
 -- `fn a () ,`: nothing is read
 bare_trait_function_border_1 : NotDerived (rule bare_trait_function)
     (leaf (ident w_fn) (at 0 2) (leaf (ident (97 ∷ [])) (at 3 4) (group Paren (at 5 6) (at 6 7) end (punct 44 false (at 8 9) end))))

@@ -900,6 +900,14 @@ stmt_rest_in_none_loop_b : ComputesNothing statement_rest
 unfolding left is_end lookahead_at sees take_token take_lifetime take_mark take_group before rows_for rows run parse_rule
 stmt_rest_in_none_loop_b = refl
 
+-- `\(a\) = b;` prints `\(a\) = b ;`
+stmt_rest_in_none_assign : ComputesAs statement_rest
+    (group None (at 0 2) (at 3 5) (leaf (ident (97 ∷ [])) (at 2 3) end) (punct 61 false (at 6 7) (leaf (ident (98 ∷ [])) (at 8 9) (punct 59 false (at 9 10) end))))
+    (group None call_site call_site (leaf (ident (97 ∷ [])) call_site end) (punct 61 false call_site (leaf (ident (98 ∷ [])) call_site (punct 59 false call_site end))))
+    (end)
+unfolding left is_end lookahead_at sees take_token take_lifetime take_mark take_group before rows_for rows run parse_rule
+stmt_rest_in_none_assign = refl
+
 -- `while a {} b` prints `while a {} b`
 stmt_rest_while_a_braces_b : DerivesAs statement_rest
     (leaf (ident w_while) (at 0 5) (leaf (ident (97 ∷ [])) (at 6 7) (group Brace (at 8 9) (at 9 10) end (leaf (ident (98 ∷ [])) (at 11 12) end))))
@@ -1405,6 +1413,44 @@ stmt_in_none_pound : ComputesAs statement
     (end)
 unfolding left is_end lookahead_at sees take_token take_lifetime take_mark take_group before rows_for rows run parse_rule
 stmt_in_none_pound = refl
+
+-- `\(a\); b;` prints `\(a\) ;` and leaves `b;`
+stmt_in_none_a_semi_b : ComputesAs statement
+    (group None (at 0 2) (at 3 5) (leaf (ident (97 ∷ [])) (at 2 3) end) (punct 59 false (at 5 6) (leaf (ident (98 ∷ [])) (at 7 8) (punct 59 false (at 8 9) end))))
+    (group None call_site call_site (leaf (ident (97 ∷ [])) call_site end) (punct 59 false call_site end))
+    (leaf (ident (98 ∷ [])) (at 7 8) (punct 59 false (at 8 9) end))
+unfolding left is_end lookahead_at sees take_token take_lifetime take_mark take_group before rows_for rows run parse_rule
+stmt_in_none_a_semi_b = refl
+
+-- `\(a\); b` prints `\(a\) ;` and leaves `b`
+stmt_in_none_a_semi_leaves : ComputesAs statement
+    (group None (at 0 2) (at 3 5) (leaf (ident (97 ∷ [])) (at 2 3) end) (punct 59 false (at 5 6) (leaf (ident (98 ∷ [])) (at 7 8) end)))
+    (group None call_site call_site (leaf (ident (97 ∷ [])) call_site end) (punct 59 false call_site end))
+    (leaf (ident (98 ∷ [])) (at 7 8) end)
+unfolding left is_end lookahead_at sees take_token take_lifetime take_mark take_group before rows_for rows run parse_rule
+stmt_in_none_a_semi_leaves = refl
+
+-- `\(a\);;` prints `\(a\) ;` and leaves `;`
+stmt_in_none_a_semi_semi : ComputesAs statement
+    (group None (at 0 2) (at 3 5) (leaf (ident (97 ∷ [])) (at 2 3) end) (punct 59 true (at 5 6) (punct 59 false (at 6 7) end)))
+    (group None call_site call_site (leaf (ident (97 ∷ [])) call_site end) (punct 59 false call_site end))
+    (punct 59 false (at 6 7) end)
+unfolding left is_end lookahead_at sees take_token take_lifetime take_mark take_group before rows_for rows run parse_rule
+stmt_in_none_a_semi_semi = refl
+
+-- `\(a\) b;`: nothing is read
+stmt_in_none_a_b : ComputesNothing statement
+    (group None (at 0 2) (at 3 5) (leaf (ident (97 ∷ [])) (at 2 3) end) (leaf (ident (98 ∷ [])) (at 6 7) (punct 59 false (at 7 8) end)))
+unfolding left is_end lookahead_at sees take_token take_lifetime take_mark take_group before rows_for rows run parse_rule
+stmt_in_none_a_b = refl
+
+-- `\(a\) = b;` prints `\(a\) = b ;`
+stmt_in_none_assign : ComputesAs statement
+    (group None (at 0 2) (at 3 5) (leaf (ident (97 ∷ [])) (at 2 3) end) (punct 61 false (at 6 7) (leaf (ident (98 ∷ [])) (at 8 9) (punct 59 false (at 9 10) end))))
+    (group None call_site call_site (leaf (ident (97 ∷ [])) call_site end) (punct 61 false call_site (leaf (ident (98 ∷ [])) call_site (punct 59 false call_site end))))
+    (end)
+unfolding left is_end lookahead_at sees take_token take_lifetime take_mark take_group before rows_for rows run parse_rule
+stmt_in_none_assign = refl
 
 -- `;;` prints `;` and leaves `;`
 stmt_end_semi_semi : DerivesAs statement_end

@@ -2,13 +2,13 @@
 -- Worked examples of traits, impls and foreign modules, from tools/examples.txt: what each rule reads, prints and refuses. The checker computes each.
 use Rattle.std.proofs.Common.{true, false, [], ◌∷◌, refl}
 use Rattle.syn_grammar.specs.Words.{w_async, w_const, w_crate, w_extern, w_fn, w_for, w_impl, w_mut, w_pub, w_Self_type, w_self, w_static, w_trait, w_type, w_unsafe, w_where, w_auto, w_default, w_safe}
-use Rattle.syn_grammar.specs.Tokens.{call_site, Paren, Brace, Bracket, Str, ident, literal, end, leaf, punct, group}
+use Rattle.syn_grammar.specs.Tokens.{call_site, Paren, Brace, Bracket, None, Str, ident, literal, end, leaf, punct, group}
 use Rattle.syn_grammar.specs.Rules.{supertraits, bare_trait, trait_definition, trait_definition_rest, self_type, for_self_type, impl_body, impl_definition, impl_definition_rest, odd_impl, visible_const_impl, const_trait, const_impl, odd_const_impl, foreign_module, foreign_module_rest, member_macro, bare_trait_function, bare_trait_type, trait_const, trait_function, trait_type, trait_macro, trait_macro_as_item, any_const, marked_member, odd_trait_const, kept_trait_item, trait_item, trait_items, impl_const, impl_function, impl_type, impl_macro, impl_macro_as_item, bodiless_impl_function, odd_impl_const, odd_impl_type, kept_impl_item, impl_item, impl_items, foreign_signature, bare_foreign_static, foreign_function, foreign_static, foreign_type, foreign_macro, foreign_macro_as_item, foreign_body, foreign_value, odd_foreign_type, kept_foreign_item, foreign_item, foreign_items}
 use Rattle.syn_grammar.specs.Grammar.{rule}
 use Rattle.syn_grammar.specs.Take.{left, is_end, take_token, take_lifetime, take_mark, take_group, lookahead_at, sees, before, first_span}
 use Rattle.syn_grammar.specs.Run.{rows_for, rows, run, parse_rule}
 use Rattle.syn_grammar.specs.Promises.{NotDerived}
-use Rattle.syn_grammar.proofs.Shown.{at, DerivesAs, computed, not_read}
+use Rattle.syn_grammar.proofs.Shown.{at, DerivesAs, computed, not_read, ComputesNothing}
 
 -- `'a + b + {}` prints `'a + b +` and leaves `{}`
 supertraits_two : DerivesAs supertraits
@@ -209,6 +209,26 @@ visible_impl_plain : NotDerived (rule visible_const_impl)
     (leaf (ident w_pub) (at 0 3) (leaf (ident w_impl) (at 4 8) (leaf (ident (97 ∷ [])) (at 9 10) (group Brace (at 11 12) (at 12 13) end end))))
 unfolding left is_end lookahead_at sees take_token take_lifetime take_mark take_group before first_span rows_for rows run parse_rule
 visible_impl_plain = not_read visible_const_impl _ refl refl
+
+-- `\(\) pub const impl a {}`: nothing is read
+visible_impl_invisible : ComputesNothing visible_const_impl
+    (group None (at 0 2) (at 2 4) end (leaf (ident w_pub) (at 5 8) (leaf (ident w_const) (at 9 14) (leaf (ident w_impl) (at 15 19) (leaf (ident (97 ∷ [])) (at 20 21) (group Brace (at 22 23) (at 23 24) end end))))))
+unfolding left is_end lookahead_at sees take_token take_lifetime take_mark take_group before rows_for rows run parse_rule
+visible_impl_invisible = refl
+
+-- `const impl a {}`: nothing is read
+visible_impl_inherited : NotDerived (rule visible_const_impl)
+    (leaf (ident w_const) (at 0 5) (leaf (ident w_impl) (at 6 10) (leaf (ident (97 ∷ [])) (at 11 12) (group Brace (at 13 14) (at 14 15) end end))))
+unfolding left is_end lookahead_at sees take_token take_lifetime take_mark take_group before first_span rows_for rows run parse_rule
+visible_impl_inherited = not_read visible_const_impl _ refl refl
+
+-- `pub(crate) const unsafe impl<a> b for c {}` prints `pub(crate) const unsafe impl<a> b for c {}`
+visible_impl_restricted : DerivesAs visible_const_impl
+    (leaf (ident w_pub) (at 0 3) (group Paren (at 3 4) (at 9 10) (leaf (ident w_crate) (at 4 9) end) (leaf (ident w_const) (at 11 16) (leaf (ident w_unsafe) (at 17 23) (leaf (ident w_impl) (at 24 28) (punct 60 false (at 28 29) (leaf (ident (97 ∷ [])) (at 29 30) (punct 62 false (at 30 31) (leaf (ident (98 ∷ [])) (at 32 33) (leaf (ident w_for) (at 34 37) (leaf (ident (99 ∷ [])) (at 38 39) (group Brace (at 40 41) (at 41 42) end end))))))))))))
+    (leaf (ident w_pub) call_site (group Paren call_site call_site (leaf (ident w_crate) call_site end) (leaf (ident w_const) call_site (leaf (ident w_unsafe) call_site (leaf (ident w_impl) call_site (punct 60 false call_site (leaf (ident (97 ∷ [])) call_site (punct 62 false call_site (leaf (ident (98 ∷ [])) call_site (leaf (ident w_for) call_site (leaf (ident (99 ∷ [])) call_site (group Brace call_site call_site end end))))))))))))
+    (end)
+unfolding left is_end lookahead_at sees take_token take_lifetime take_mark take_group before first_span rows_for rows run parse_rule
+visible_impl_restricted = computed visible_const_impl _ _ _ refl refl
 
 -- `const trait a {}`: nothing is read
 const_trait_before : NotDerived (rule const_trait)
