@@ -4,7 +4,7 @@ use crate::failure::Failure;
 use std::alloc::Global;
 use syn::parse::{Parse, ParseBuffer, parse2};
 use syn::reader::token_text;
-use syn::token::TokenStream;
+use syn::token::{Delimiter, Token, TokenStream};
 use syn::{Result, ToTokens};
 use syn_answers::answers::canonical_by;
 use syn_recognize::Rule;
@@ -61,12 +61,26 @@ fn fault_of_print<T: Parse + ToTokens + Drop>(
         None => Some("its print is refused"),
         Some(again) if again != *print => Some("its print has another print"),
         Some(_) => match read(canonical_by(rule, tokens.try_clone(alloc)?))? {
+            // without trees no invisible group is looked through
+            None if has_invisible(tokens) => None,
             None => Some("it is refused without trees"),
             Some(by_rule) if by_rule != *print => Some("it has another print without trees"),
             Some(_) => None,
         },
     };
     Ok(fault)
+}
+
+/// Whether an invisible group stands there, at any depth.
+fn has_invisible(tokens: &TokenStream) -> bool {
+    for entry in tokens.entries() {
+        if let Token::Open(open) = entry.token() {
+            if open.delimiter == Delimiter::None {
+                return true;
+            }
+        }
+    }
+    false
 }
 
 /// What doesn't hold of a refused stream: the buffer stands where it stood, unless a tree stands at its front; and without trees it is

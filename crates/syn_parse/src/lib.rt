@@ -3,7 +3,9 @@
 
 pub mod buffer;
 pub mod ext;
+mod invisible;
 pub mod laws;
+pub mod limits;
 pub mod lookahead;
 pub mod parse;
 pub mod read;
