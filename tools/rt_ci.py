@@ -46,6 +46,7 @@ SECONDS = {
     "syn_grammar": 290,
     "syn_tokens": 800,
     "syn_parse": 420,
+    "syn_whole": 80,
     "syn_recognize": 1960,
     "syn_answers": 390,
     "syn_lower": 2710,

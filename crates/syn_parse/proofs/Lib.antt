@@ -1,6 +1,5 @@
 pub mod Errors
 pub mod FirstTokens
-pub mod HiddenGroups
 pub mod Listing
 pub mod Literals
 pub mod Lookaheads

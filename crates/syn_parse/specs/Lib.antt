@@ -1,6 +1,5 @@
 pub mod Calls
 pub mod Form
-pub mod HiddenGroups
 pub mod FirstTokens
 pub mod Firsts
 pub mod Listing

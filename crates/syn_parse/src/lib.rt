@@ -3,7 +3,6 @@
 
 pub mod buffer;
 pub mod ext;
-mod invisible;
 pub mod laws;
 pub mod limits;
 pub mod lookahead;

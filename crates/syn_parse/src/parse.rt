@@ -5,7 +5,6 @@ ghost use Rattle.syn_parse.specs.Form.{Form, parse, Meaning, Outcome, WholeOutco
 ghost use Rattle.syn_tokens.specs.Faults.{IsSyntaxError};
 
 use crate::buffer::ParseBuffer;
-use crate::invisible::{has_invisible, opened_as};
 use crate::read::Read;
 use syn_tokens::error::Result;
 use syn_tokens::stream::TokenStream;
@@ -52,30 +51,10 @@ impl<T: Read> Parse for T {
     ghost meaning = { T.meaning };
 }
 
-/// Parses a whole stream as a `T`, and uses the stream up. It is refused where the tokens are no `T`, with a fault at a
-/// token that can't stand there; where something is left behind a `T`, with the fault `unexpected token` at its first
-/// token; and where memory is refused.
-///
-/// Invisible groups are looked through. One is read as an operand or a type, or where it is empty as a visibility that
-/// isn't written. Where it would be refused as that, the stream is parsed again with the content of the group in its
-/// place; so at most 256 are opened, and the next one is refused.
-pub fn parse2<T: Parse + Drop>(tokens: TokenStream) -> Result<T>
-    ensures { WholeOutcome IsSyntaxError T.syntax T.form tokens result }
-{
-    match parse_whole(&tokens) {
-        Ok(value) => Ok(value),
-        Err(error) => {
-            if error.is_memory() || !has_invisible(&tokens) {
-                return Err(error);
-            }
-            let opened = opened_as::<T>(&tokens)?;
-            parse_whole(&opened)
-        }
-    }
-}
-
-/// The same with each invisible group as it stands.
-pub(crate) fn parse_whole<T: Parse + Drop>(tokens: &TokenStream) -> Result<T>
+/// Parses a whole stream as a `T`, each invisible group in it as it stands. It is refused where the tokens are no `T`,
+/// with a fault at a token that can't stand there; where something is left behind a `T`, with the fault `unexpected
+/// token` at its first token; and where memory is refused. `syn_whole::parse2` opens invisible groups where it has to.
+pub fn parse_whole<T: Parse + Drop>(tokens: &TokenStream) -> Result<T>
     ensures { WholeOutcome IsSyntaxError T.syntax T.form tokens.now result }
 {
     let mut input = ParseBuffer::new(tokens);

@@ -11,10 +11,11 @@ use syn_item::simple::{ItemConst, ItemMod, ItemType, ItemUse, WhereClausePlaceme
 use syn_item::use_tree::{UseName, UseTree};
 use syn_parse::buffer::ParseBuffer;
 use syn_parse::limits::{STACK, USE_TREE};
-use syn_parse::parse::{Parse, parse2};
+use syn_parse::parse::Parse;
 use syn_pat::Pat;
 use syn_tokens::error::Result;
 use syn_tokens::span::Span;
+use syn_whole::parse::parse2;
 
 /// Every part of a function has its field.
 #[test]

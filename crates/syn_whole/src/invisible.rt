@@ -1,9 +1,9 @@
 //! Invisible groups that are looked through: those at which a parser is refused give place to their contents.
 ghost use Rattle.std.specs.Prelude.{◌≡◌};
 ghost use Rattle.syn_tokens.specs.Entries.{encode};
-ghost use Rattle.syn_parse.specs.HiddenGroups.{invisible_in, is_invisible, is_hidden};
+ghost use Rattle.syn_whole.specs.HiddenGroups.{invisible_in, is_invisible, is_hidden};
 
-use crate::parse::{Parse, parse_whole};
+use syn_parse::parse::{Parse, parse_whole};
 use std::alloc::Global;
 use syn_tokens::delimiter::Delimiter;
 use syn_tokens::error::Result;

@@ -1,9 +1,9 @@
 use Rattle.std.proofs.Common.{rules, ◌≡◌, true}
 use Rattle.syn_tokens.specs.Entries.{encode}
 use Rattle.syn_tokens.specs.Faults.{IsSyntaxError}
-use Rattle.syn_parse.specs.HiddenGroups.{invisible_in}
-use Rattle.syn_parse.proofs.HiddenGroups.{whole_hidden}
-use Rattle.syn_parse.proofs.parse.parse2.Goals as goal
+use Rattle.syn_whole.specs.HiddenGroups.{invisible_in}
+use Rattle.syn_whole.proofs.HiddenGroups.{whole_hidden}
+use Rattle.syn_whole.proofs.parse.parse2.Goals as goal
 
 pub returns : goal.returns
 returns g c =

@@ -8,7 +8,7 @@ use Rattle.syn_tokens.specs.declared.stream.entry.Token.{Token as Entry}
 use Rattle.std.specs.Prelude.{Result, Ok, Err}
 use Rattle.syn_grammar.specs.Grammar.{Syntax}
 use Rattle.syn_parse.specs.Form.{Form, WholeOutcome}
-use Rattle.syn_parse.specs.HiddenGroups.{is_invisible, invisible_in}
+use Rattle.syn_whole.specs.HiddenGroups.{is_invisible, invisible_in}
 
 pub invisible_step : (l : List Entry) (i : ℕ) (e : Entry) → i < length l → invisible_in (drop i l) ≡ or (is_invisible (get_or l i e)) (invisible_in (drop (i + 1) l))
 invisible_step l i e h = at_drop_more invisible_in l i e h
