@@ -12,8 +12,8 @@ use syn_tokens::stream::TokenStream;
 /// token; and where memory is refused.
 ///
 /// Invisible groups are looked through. One is read as an operand or a type, or where it is empty as a visibility that
-/// isn't written. Where it would be refused as that, the stream is parsed again with the content of the group in its
-/// place; so at most 256 are opened, and the next one is refused.
+/// isn't written. Where that is refused, the stream is parsed again with the contents of groups in their places, at most
+/// 256 times; what is kept as tokens keeps its groups.
 pub fn parse2<T: Parse + Drop>(tokens: TokenStream) -> Result<T>
     ensures { WholeOutcome IsSyntaxError T.syntax T.form tokens result }
 {

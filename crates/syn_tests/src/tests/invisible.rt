@@ -158,6 +158,14 @@ const ITEMS: &[(&str, &str)] = &[
     ("use < a > :: < b > ;", "use a :: b ;"),
     ("enum E { < A > , < B = 1 > }", "enum E { A , B = 1 }"),
     ("fn f ( ) { let < x > = 1 ; }", "fn f ( ) { let x = 1 ; }"),
+    ("< > impl<T> A { }", "impl < T > A { }"),
+    ("impl< < T > >A<T> { }", "impl < T > A < T > { }"),
+    ("impl < <T>A > <T> { }", "impl < T > A < T > { }"),
+    ("struct S < > where < > { }", "struct S { }"),
+    (
+        "struct S ( < pub > u8 , < pub (a) > ) ;",
+        "struct S ( pub u8 , pub ( a ) ) ;",
+    ),
 ];
 
 #[test]
@@ -166,4 +174,127 @@ fn items(rt: HostRuntime) {
         assert_prints::<Item>(&rt, rt.alloc(), words, text);
     }
     assert_refused::<Item>(&rt, rt.alloc(), "struct < 1 > { }");
+    assert_refused::<Item>(&rt, rt.alloc(), "< > pub struct S ;");
+}
+
+/// Statements with groups, and their prints.
+const STATEMENTS: &[(&str, &str)] = &[
+    ("< fn f > ( ) { }", "fn f ( ) { }"),
+    ("< #[a] > fn f ( ) { }", "# [ a ] fn f ( ) { }"),
+    ("< unsafe > fn f ( ) { }", "unsafe fn f ( ) { }"),
+    ("< m > ! { }", "m ! { }"),
+    ("< a::m! > { }", "a :: m ! { }"),
+    ("a < + b ; >", "a + b ;"),
+    ("return < > ;", "return ;"),
+];
+
+#[test]
+fn statements(rt: HostRuntime) {
+    for (words, text) in STATEMENTS {
+        assert_prints::<Stmt>(&rt, rt.alloc(), words, text);
+    }
+    for words in [
+        "< a + > b ;",
+        "< return > !x ;",
+        "< > let x = 1 ;",
+        "< let > x = 1 ;",
+    ] {
+        assert_refused::<Stmt>(&rt, rt.alloc(), words);
+    }
+}
+
+/// Expressions with groups, and their prints.
+const EXPRESSIONS: &[(&str, &str)] = &[
+    ("a * < * > b", "a * * b"),
+    ("& < mut > a", "& mut a"),
+    ("< > -a", "- a"),
+    ("< #[a] > b", "# [ a ] b"),
+    ("a. < b > ( < > )", "a . b ( )"),
+    ("'a: < loop { } >", "'a : loop { }"),
+];
+
+#[test]
+fn expressions(rt: HostRuntime) {
+    for (words, text) in EXPRESSIONS {
+        assert_prints::<Expr>(&rt, rt.alloc(), words, text);
+    }
+    for words in [
+        "1 * < 2 + > 3",
+        "< > a",
+        "a + < 'b > : loop { }",
+        "f ( < a b > )",
+    ] {
+        assert_refused::<Expr>(&rt, rt.alloc(), words);
+    }
+}
+
+/// Types with groups, and their prints.
+const TYPES: &[(&str, &str)] = &[
+    ("A< < 1 > >::B", "A < 1 > :: B"),
+    ("A< < 'a > ,B>", "A < 'a , B >"),
+    ("A< < I > =U>", "A < I = U >"),
+    ("A< < { 1 } > ,B>", "A < { 1 } , B >"),
+    ("& < &A >", "& & A"),
+];
+
+#[test]
+fn types(rt: HostRuntime) {
+    for (words, text) in TYPES {
+        assert_prints::<Type>(&rt, rt.alloc(), words, text);
+    }
+    for words in ["< > A", "& < > &A", "< A > ::B", "< A > =B"] {
+        assert_refused::<Type>(&rt, rt.alloc(), words);
+    }
+}
+
+#[test]
+fn an_attribute_that_begins_in_a_group(rt: HostRuntime) {
+    let input: DeriveInput = tree(&rt, rt.alloc(), "< # > [a] struct S ( < > u8 ) ;");
+    assert!(rt; input.attrs.len() == 1);
+}
+
+/// What is kept as tokens keeps its groups.
+#[test]
+fn tokens_of_a_macro(rt: HostRuntime) {
+    let statement: Stmt = tree(&rt, rt.alloc(), "< m > ! { < pub > a }");
+    assert!(rt; entries_of_body(&statement) == 4);
+}
+
+/// How many entries the body of a macro has that is a statement.
+fn entries_of_body(statement: &Stmt) -> usize {
+    match statement {
+        Stmt::Macro(invocation) => invocation.mac.tokens.entries().len(),
+        _ => 0,
+    }
+}
+
+/// How many groups stand in each other, and how many stand side by side.
+const MANY: usize = 100_000;
+
+/// A struct with so many invisible groups, none with content, in each other before its name, and behind that side by side.
+fn many_groups(alloc: Global) -> Result<TokenStream> {
+    let span = syn::Span::call_site();
+    let mut out = StreamBuilder::new(alloc);
+    out.append(&read_tokens(alloc, "struct")?)?;
+    for _group in 0..MANY {
+        out.open(Delimiter::None, span)?;
+    }
+    for _group in 0..MANY {
+        out.close(Delimiter::None, span)?;
+    }
+    out.append(&read_tokens(alloc, "S")?)?;
+    for _group in 0..MANY {
+        out.open(Delimiter::None, span)?;
+        out.close(Delimiter::None, span)?;
+    }
+    out.append(&read_tokens(alloc, ";")?)?;
+    out.finish()
+}
+
+#[test]
+fn many_groups_without_content(rt: HostRuntime) {
+    let tokens = value(&rt, many_groups(rt.alloc()));
+    let input: DeriveInput = value(&rt, parse2(tokens));
+    let print = value(&rt, printed(rt.alloc(), &input));
+    assert!(rt; print.as_str() == "struct S ;");
 }
