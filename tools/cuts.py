@@ -25,7 +25,7 @@ program's src/main.rt tells what). `texts` gives to the program
 One difference is known, and counted by itself: `< >` behind `impl`, which is printed where the other reading has none, or the reverse.
 And of streams with an invisible group some are read by one of the two alone (`read here`, `refused here`), since `parse2` finds by
 parsing at which groups it is refused. What both read has to print alike, but where a group splits a mark, and where an item is kept as
-its tokens (`other print`).
+its tokens (`other print`); and of many streams at most 2 in 100 may be so.
 The status is 0 where nothing else differs, 1 where something does, and 2 where nothing could be compared.
 
 The other reading and the cases stand beside the repository. Without the cases rows alone are taken.
@@ -53,6 +53,8 @@ PROGRAM = TOP / "crates/syn_canon/out/syn_canon"
 SHOWN = 30
 # What isn't a difference.
 AGREED = ("ok", "refused", "empty generics", "read here", "refused here", "other print")
+# What may be so of streams with an invisible group, of as many as these; of how many at most.
+APART, MANY, AT_MOST = ("read here", "refused here", "other print"), 1000, 0.02
 # Which types may be kept as tokens.
 KEPT = ("Item", "TraitItem", "ImplItem", "ForeignItem", "File")
 
@@ -157,7 +159,16 @@ def streams(options, reading):
             found = reading.print(kind, words)
             known[line] = judged_apart(answers[line], found, kind, words) if sweep in INVISIBLE else judged(answers[line], found)
         tally.add(sweep, line, known[line])
+    tally.differences += [f"{sweep}: {count} of {total} apart" for sweep, count, total in too_many_apart(tally.counts)]
     return tally
+
+
+def too_many_apart(counts):
+    """The sweeps of many streams of which too many are answered by one of the two alone, with how many are, and of how many."""
+    for sweep, found in counts.items():
+        count = sum(found[how] for how in APART)
+        if found.total() >= MANY and count > AT_MOST * found.total():
+            yield sweep, count, found.total()
 
 
 def texts(options, reading):

@@ -8,6 +8,7 @@ import json
 import sys
 import tempfile
 import unittest
+from collections import Counter
 from pathlib import Path
 from unittest import mock
 
@@ -225,6 +226,14 @@ class Verdicts(Cuts):
         for answer, other in (("ok 61", "b"), ("broken the buffer has moved", None), ("memory", "a")):
             self.assertNotIn(judged(answer, other), cuts.AGREED)
         self.assertNotIn(judged("ok 61", "b", text="a -& < -& b >"), cuts.AGREED)
+
+    def test_of_too_many_apart(self):
+        def apart(**counts):
+            return list(cuts.too_many_apart({"invisible": Counter({how.replace("_", " "): count for how, count in counts.items()})}))
+
+        self.assertEqual(apart(ok=979, read_here=10, refused_here=10, other_print=1), [("invisible", 21, 1000)])
+        self.assertEqual(apart(ok=980, read_here=10, refused_here=10), [])
+        self.assertEqual(apart(ok=1, read_here=998), [])
 
     def test_of_runs(self):
         refused = (1, "", "refused at 3: no\n")

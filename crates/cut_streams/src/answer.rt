@@ -60,9 +60,9 @@ fn fault_of_print<T: Parse + ToTokens + Drop>(
     let fault = match read(printed::<T>(print))? {
         None => Some("its print is refused"),
         Some(again) if again != *print => Some("its print has another print"),
+        // without trees no invisible group is looked through
+        Some(_) if has_invisible(tokens) => None,
         Some(_) => match read(canonical_by(rule, tokens.try_clone(alloc)?))? {
-            // without trees no invisible group is looked through
-            None if has_invisible(tokens) => None,
             None => Some("it is refused without trees"),
             Some(by_rule) if by_rule != *print => Some("it has another print without trees"),
             Some(_) => None,

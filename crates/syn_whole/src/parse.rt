@@ -2,7 +2,7 @@
 ghost use Rattle.syn_parse.specs.Form.{WholeOutcome};
 ghost use Rattle.syn_tokens.specs.Faults.{IsSyntaxError};
 
-use crate::invisible::{has_invisible, opened_as};
+use crate::invisible::{has_invisible, parse_opened};
 use syn_parse::parse::{Parse, parse_whole};
 use syn_tokens::error::Result;
 use syn_tokens::stream::TokenStream;
@@ -17,14 +17,9 @@ use syn_tokens::stream::TokenStream;
 pub fn parse2<T: Parse + Drop>(tokens: TokenStream) -> Result<T>
     ensures { WholeOutcome IsSyntaxError T.syntax T.form tokens result }
 {
-    match parse_whole(&tokens) {
-        Ok(value) => Ok(value),
-        Err(error) => {
-            if error.is_memory() || !has_invisible(&tokens) {
-                return Err(error);
-            }
-            let opened = opened_as::<T>(&tokens)?;
-            parse_whole(&opened)
-        }
+    if has_invisible(&tokens) {
+        parse_opened(&tokens)
+    } else {
+        parse_whole(&tokens)
     }
 }

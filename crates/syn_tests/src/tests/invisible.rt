@@ -149,6 +149,24 @@ fn the_trait_of_an_impl(rt: HostRuntime) {
     assert_prints::<ItemImpl>(&rt, rt.alloc(), "impl < A > for B { }", "impl A for B { }");
 }
 
+/// As an item too, and in a module; what a macro holds stays as it is.
+#[test]
+fn the_trait_of_an_impl_among_items(rt: HostRuntime) {
+    let item: Item = tree(&rt, rt.alloc(), "impl < A > for < B > { }");
+    assert!(rt; matches!(item, Item::Impl(_)));
+    let item: Item = tree(&rt, rt.alloc(), "unsafe impl<T> ! < < A > > for B { }");
+    assert!(rt; matches!(item, Item::Impl(_)));
+    let item: Item = tree(&rt, rt.alloc(), "m! { impl < A > for B { } }");
+    assert!(rt; entries_of_macro(&item) == 7);
+}
+
+fn entries_of_macro(item: &Item) -> usize {
+    match item {
+        Item::Macro(item) => item.mac.tokens.entries().len(),
+        _ => 0,
+    }
+}
+
 /// Items with groups, and their prints.
 const ITEMS: &[(&str, &str)] = &[
     ("struct < S > { }", "struct S { }"),

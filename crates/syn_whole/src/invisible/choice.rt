@@ -116,6 +116,11 @@ fn position_of<T: Parse + Drop>(opening: &Opening<'_>, group: usize) -> Result<P
     }
 }
 
+/// Whether what stands in place of the group is read, and not kept as tokens.
+pub(crate) fn is_read<T: Parse + Drop>(opening: &Opening<'_>, group: usize) -> Result<bool> {
+    Ok(!passes::<T>(opening, group, Probe::Mark)?)
+}
+
 /// Whether a probe in place of the group isn't what is refused.
 fn passes<T: Parse + Drop>(opening: &Opening<'_>, group: usize, probe: Probe) -> Result<bool> {
     match refusal::<T>(numbered(opening, Some((group, probe)))?)? {

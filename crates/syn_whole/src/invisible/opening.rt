@@ -62,6 +62,11 @@ impl<'t> Opening<'t> {
         self.tokens.entries()
     }
 
+    /// How many entries there are.
+    pub(crate) fn len(&self) -> usize {
+        self.opened.len()
+    }
+
     /// What stands at this place, whether it is left out or not.
     pub(crate) fn token(&self, place: usize) -> Option<Token<'_>> {
         let entry = self.entries().get(place)?;
@@ -205,6 +210,34 @@ impl<'t> Opening<'t> {
             }
         }
         found
+    }
+
+    /// Whether a group begins at this place that stands where the trait of an impl does: behind `impl`, generics, `const` or `!`, and before
+    /// `for`.
+    pub(crate) fn is_trait(&self, group: usize) -> bool {
+        self.begins_group(group) && self.is_before_trait(group) && self.is_before_for(group)
+    }
+
+    fn is_before_trait(&self, group: usize) -> bool {
+        match self.before(group) {
+            Some(before) => {
+                is_word(self, before, "impl")
+                    || is_word(self, before, "const")
+                    || is_mark(self, before, '>')
+                    || is_mark(self, before, '!')
+            }
+            None => false,
+        }
+    }
+
+    /// Whether `for` stands behind the group at this place, and not `for <`.
+    fn is_before_for(&self, group: usize) -> bool {
+        let Some(end) = self.end_of(group) else {
+            return false;
+        };
+        let behind = self.seen_from(end.saturating_add(1));
+        let lifetimes = self.seen_from(behind.saturating_add(1));
+        is_word(self, behind, "for") && !is_mark(self, lifetimes, '<')
     }
 
     /// Whether `impl <` stands before this place.

@@ -22,6 +22,8 @@ pub(crate) enum Probe {
     Item,
     /// A lifetime.
     Lifetime,
+    /// A mark that nothing begins with.
+    Mark,
 }
 
 /// The stream with its groups opened.
@@ -78,6 +80,7 @@ fn add_probe(alloc: Global, probe: Probe, span: Span, out: &mut StreamBuilder) -
             out.close(Delimiter::None, span)
         }
         Probe::Item => Ok(out.add_ident(Ident::new(alloc, "use", span)?)?),
+        Probe::Mark => Ok(out.add_punct('@', Spacing::Alone, span)?),
         Probe::Lifetime => {
             out.add_punct('\'', Spacing::Joint, span)?;
             Ok(out.add_ident(Ident::new(alloc, "x", span)?)?)
