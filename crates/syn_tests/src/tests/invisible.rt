@@ -157,7 +157,7 @@ fn the_trait_of_an_impl_among_items(rt: HostRuntime) {
     let item: Item = tree(&rt, rt.alloc(), "unsafe impl<T> ! < < A > > for B { }");
     assert!(rt; matches!(item, Item::Impl(_)));
     let item: Item = tree(&rt, rt.alloc(), "m! { impl < A > for B { } }");
-    assert!(rt; entries_of_macro(&item) == 7);
+    assert!(rt; entries_of_macro(&item) == 8);
 }
 
 fn entries_of_macro(item: &Item) -> usize {
