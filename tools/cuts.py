@@ -4,6 +4,7 @@
     tools/cuts.py streams [--bin PROGRAM]           by the program `cut_streams`, built by trial, or PROGRAM
     tools/cuts.py texts [--bin PROGRAM] [--jobs N]  by `syn_canon` as `rt ci` or `./run --prove` has built it, or PROGRAM
     --part I/N                                      of N parts of the texts the I-th
+    --invisible I/N                                 the same for the streams with an invisible group
 
 Both begin with the texts that rows of `check_rows` and the conformance cases say are read, each as its kind. Of the tokens of each,
 `streams` makes
@@ -11,7 +12,8 @@ Both begin with the texts that rows of `check_rows` and the conformance cases sa
 - cuts: the first tokens, none of them to all, where a group's two signs are one token, and what is open there is closed;
 - `@`: that mark as the last tree of one group;
 - delimiters: one group with another delimiter;
-- spacings: every mark Joint, every mark Alone, and one mark otherwise than it is.
+- spacings: every mark Joint, every mark Alone, and one mark otherwise than it is;
+- invisible: some trees that stand beside each other in an invisible group, or an empty one.
 
 The stream has to be read or refused, and to print, as the other reading says; and what holds of each stream has to hold of it (the
 program's src/main.rt tells what). `texts` gives to the program
@@ -21,6 +23,9 @@ program's src/main.rt tells what). `texts` gives to the program
   A run that meets one has to end with status 1 and `read failed` or `write failed`.
 
 One difference is known, and counted by itself: `< >` behind `impl`, which is printed where the other reading has none, or the reverse.
+And of streams with an invisible group some are read by one of the two alone (`read here`, `refused here`), since `parse2` finds by
+parsing at which groups it is refused. What both read has to print alike, but where a group splits a mark, and where an item is kept as
+its tokens (`other print`); and of many streams at most 2 in 100 may be so.
 The status is 0 where nothing else differs, 1 where something does, and 2 where nothing could be compared.
 
 The other reading and the cases stand beside the repository. Without the cases rows alone are taken.
@@ -37,8 +42,8 @@ from pathlib import Path
 
 from compare_answers import CONFORMANCE, ORACLE, ROWS, STAGE, asked, packed, there, tried
 from cutlib.inputs import of_cases, of_rows, part_of
-from cutlib.reading import WORDS, Reading, is_but_for_empty_generics
-from cutlib.streams import SWEEPS
+from cutlib.reading import WORDS, Reading, is_but_for_empty_generics, splits_a_mark
+from cutlib.streams import INVISIBLE, SWEEPS
 from cutlib.texts import beginnings, built_library, ended, failures, verdict
 
 TOP = Path(__file__).resolve().parent.parent
@@ -47,7 +52,11 @@ PROGRAM = TOP / "crates/syn_canon/out/syn_canon"
 # How many differences are shown.
 SHOWN = 30
 # What isn't a difference.
-AGREED = ("ok", "refused", "empty generics")
+AGREED = ("ok", "refused", "empty generics", "read here", "refused here", "other print")
+# What may be so of streams with an invisible group, of as many as these; of how many at most.
+APART, MANY, AT_MOST = ("read here", "refused here", "other print"), 1000, 0.02
+# Which types may be kept as tokens.
+KEPT = ("Item", "TraitItem", "ImplItem", "ForeignItem", "File")
 
 
 class Tally:
@@ -76,21 +85,22 @@ def part(text):
     return int(found[1]), int(found[2])
 
 
-def inputs_of(options):
-    """The inputs of the part that is asked for."""
+def inputs_of(options, part):
+    """The inputs of this part."""
     inputs = [*of_rows(ROWS)]
     if there(options.conformance, "the conformance cases"):
         inputs += of_cases(options.conformance, options.stage)
-    return part_of(inputs, *options.part)
+    return part_of(inputs, *part)
 
 
-def changed_streams(inputs, reading):
-    """What is made of the streams of the inputs: the sweep, the kind and the words. An input that the other reading refuses is an error."""
+def changed_streams(inputs, sweeps, reading):
+    """What these sweeps make of the streams of the inputs: the sweep, the kind and the words. An input that the other reading refuses is
+    an error."""
     for each in inputs:
         words = reading.words(each.text)
         if words is None or reading.print(each.kind, words) is None:
             raise RuntimeError(f"the other reading refuses {each.text!r} as {each.kind}")
-        for sweep, change in SWEEPS.items():
+        for sweep, change in sweeps.items():
             yield from ((sweep, each.kind, changed) for changed in change(words))
 
 
@@ -125,23 +135,46 @@ def judged(answer, print_of_other):
     return "empty generics" if is_but_for_empty_generics(text, print_of_other) else f"{text!r} in place of {print_of_other!r}"
 
 
+def judged_apart(answer, print_of_other, kind, words):
+    """The same of a stream with an invisible group, where one of the two may read what the other refuses."""
+    word = answer.partition(" ")[0]
+    if word == "ok" and print_of_other is None:
+        return "read here"
+    if word == "refused" and print_of_other is not None:
+        return "refused here"
+    found = judged(answer, print_of_other)
+    if word == "ok" and found not in AGREED and (kind in KEPT or splits_a_mark(words)):
+        return "other print"
+    return found
+
+
 def streams(options, reading):
     """Compares the answers about changed streams."""
-    changed = list(changed_streams(inputs_of(options), reading))
+    changed = [*changed_streams(inputs_of(options, options.part), SWEEPS, reading), *changed_streams(inputs_of(options, options.invisible), INVISIBLE, reading)]
     answers = answers_of(list(dict.fromkeys(line_of(kind, words) for _, kind, words in changed)), options.bin)
-    tally, known = Tally(SWEEPS), {}
+    tally, known = Tally((*SWEEPS, *INVISIBLE)), {}
     for sweep, kind, words in changed:
         line = line_of(kind, words)
         if line not in known:
-            known[line] = judged(answers[line], reading.print(kind, words))
+            found = reading.print(kind, words)
+            known[line] = judged_apart(answers[line], found, kind, words) if sweep in INVISIBLE else judged(answers[line], found)
         tally.add(sweep, line, known[line])
+    tally.differences += [f"{sweep}: {count} of {total} apart" for sweep, count, total in too_many_apart(tally.counts)]
     return tally
+
+
+def too_many_apart(counts):
+    """The sweeps of many streams of which too many are answered by one of the two alone, with how many are, and of how many."""
+    for sweep, found in counts.items():
+        count = sum(found[how] for how in APART)
+        if found.total() >= MANY and count > AT_MOST * found.total():
+            yield sweep, count, found.total()
 
 
 def texts(options, reading):
     """Compares how the program ends on beginnings of texts, and sees how it ends where a call fails."""
     program, tally = options.bin or str(PROGRAM), Tally(("prefixes", "failing reads", "failing writes"))
-    inputs = [each for each in inputs_of(options) if each.kind in WORDS]
+    inputs = [each for each in inputs_of(options, options.part) if each.kind in WORDS]
     cut = list(dict.fromkeys((each.kind, data) for each in inputs for data in beginnings(each.text)))
     with tempfile.TemporaryDirectory(prefix="cuts-") as folder, ThreadPoolExecutor(options.jobs) as pool:
         for (kind, data), found in zip(cut, pool.map(lambda it: ended(program, *it), cut)):
@@ -161,6 +194,7 @@ def parsed_words():
     parser.add_argument("what", choices=("streams", "texts"), help="what is cut")
     parser.add_argument("--bin", help="the program, built")
     parser.add_argument("--part", type=part, default=(1, 1), metavar="I/N", help="of N parts the I-th (1/1)")
+    parser.add_argument("--invisible", type=part, default=(1, 1), metavar="I/N", help="the same for the streams with an invisible group (1/1)")
     parser.add_argument("--jobs", type=int, default=len(os.sched_getaffinity(0)), help="how many runs of `texts` go on side by side")
     parser.add_argument("--stage", type=int, default=STAGE, help=f"how much of the grammar is built ({STAGE})")
     parser.add_argument("--conformance", type=Path, default=CONFORMANCE, help="the file of cases with answers")

@@ -37,8 +37,9 @@ import threading
 from pathlib import Path
 
 TOP = Path(__file__).resolve().parent.parent
-# The crates that only test or measure.
-BESIDE = ("syn_outlines", "syn_tokens_tests", "syn_reader_tests", "syn_answers_tests", "syn_item_tests", "syn_test_support", "syn_tests", "check_rows", "tree_answers", "cut_streams", "memory_sweep", "syn_bench")
+# The crates that only test or measure, but for the programs that ask what `tools/compare_answers.py` and `tools/cuts.py` compare: proved,
+# they answer a thousand times as much as a trial build does in the same time.
+BESIDE = ("syn_tokens_tests", "syn_reader_tests", "syn_answers_tests", "syn_item_tests", "syn_test_support", "syn_tests", "check_rows", "memory_sweep", "syn_bench")
 
 # What the proof of a crate takes, in seconds of processor (of `syn` and the examples, as reckoned): the tasks are ordered by it, and
 # those of other crates by their lines, which are about as many, but for what owns trees. It needn't be exact.
@@ -46,6 +47,7 @@ SECONDS = {
     "syn_grammar": 290,
     "syn_tokens": 800,
     "syn_parse": 420,
+    "syn_whole": 80,
     "syn_recognize": 1960,
     "syn_answers": 390,
     "syn_lower": 2710,
@@ -65,6 +67,9 @@ SECONDS = {
     "own_syntax": 270,
     "token_stats": 160,
     "token_lines": 120,
+    "syn_outlines": 20,
+    "tree_answers": 420,
+    "cut_streams": 420,
 }
 
 # The crate beside whose proof edits are tried: in its first minutes and in its last ones only one process runs. And the program

@@ -8,6 +8,7 @@ import json
 import sys
 import tempfile
 import unittest
+from collections import Counter
 from pathlib import Path
 from unittest import mock
 
@@ -32,13 +33,13 @@ class Cur:
     def finish(self): pass
     def err(self): return SynErr()
 STAGE, MEMO, KEEP = 0, {}, []
-CLOSE = {'(': ')', '{': '}', '[': ']'}
+CLOSE = {'(': ')', '{': '}', '[': ']', '': '>'}
 end_of = len
 def flat(trees): return trees
 def words(trees):
     for tree in trees:
         if isinstance(tree, Group):
-            yield from (tree.delim, *words(tree.trees), CLOSE[tree.delim])
+            yield from (tree.delim or '<', *words(tree.trees), CLOSE[tree.delim])
         else:
             yield getattr(tree, 'text', None) or tree.ch
 def token_text(trees): return ' '.join(words(trees))
@@ -115,6 +116,18 @@ class Streams(unittest.TestCase):
     def test_each_group_with_both_other_delimiters(self):
         self.assertEqual(self.changed(streams.with_delimiters, "( { a } )"),
                          ["( ( a ) )", "( [ a ] )", "{ { a } }", "[ { a } ]"])
+
+    def test_runs_of_trees_in_an_invisible_group(self):
+        self.assertEqual(self.changed(streams.with_invisible, "a ( b )"),
+                         ["a ( < b > )", "a ( < > b )", "a ( b < > )",
+                          "< a > ( b )", "< a ( b ) >", "a < ( b ) >", "< > a ( b )", "a < > ( b )", "a ( b ) < >"])
+
+    def test_of_many_trees_not_all_runs(self):
+        places = [*range(streams.ALL_RUNS + 1)]
+        self.assertEqual(len([*streams.runs(places)]), streams.ALL_RUNS * (streams.ALL_RUNS + 1) // 2)
+        many = [*streams.runs([*range(10)])]
+        self.assertEqual(len(many), len({*many}))
+        self.assertEqual({*many}, {(start, end) for start in range(9) for end in range(start + 1, 10) if start == 0 or end in (9, start + 1)})
 
     def test_spacings_all_and_one_by_one(self):
         self.assertEqual(self.changed(streams.with_spacings, "a +- -& ( +- )"),
@@ -200,6 +213,28 @@ class Verdicts(Cuts):
         for answer, other in (("refused", "a"), ("ok 61", None), ("ok 61", "b"), ("broken the buffer has moved", None), ("memory", None)):
             self.assertNotIn(cuts.judged(answer, other), cuts.AGREED)
 
+    def test_of_streams_with_an_invisible_group(self):
+        def judged(answer, other, kind="Expr", text="a < b >"):
+            return cuts.judged_apart(answer, other, kind, words(text))
+
+        self.assertEqual(judged("refused", None), "refused")
+        self.assertEqual(judged("ok 61", "a"), "ok")
+        self.assertEqual(judged("refused", "a"), "refused here")
+        self.assertEqual(judged("ok 61", None), "read here")
+        self.assertEqual(judged("ok 61", "b", kind="Item"), "other print")
+        self.assertEqual(judged("ok 61", "b", text="a +& < -& b >"), "other print")
+        for answer, other in (("ok 61", "b"), ("broken the buffer has moved", None), ("memory", "a")):
+            self.assertNotIn(judged(answer, other), cuts.AGREED)
+        self.assertNotIn(judged("ok 61", "b", text="a -& < -& b >"), cuts.AGREED)
+
+    def test_of_too_many_apart(self):
+        def apart(**counts):
+            return list(cuts.too_many_apart({"invisible": Counter({how.replace("_", " "): count for how, count in counts.items()})}))
+
+        self.assertEqual(apart(ok=979, read_here=10, refused_here=10, other_print=1), [("invisible", 21, 1000)])
+        self.assertEqual(apart(ok=980, read_here=10, refused_here=10), [])
+        self.assertEqual(apart(ok=1, read_here=998), [])
+
     def test_of_runs(self):
         refused = (1, "", "refused at 3: no\n")
         self.assertEqual(texts.verdict((0, "a\n", ""), (0, "a\n", "")), "ok")
@@ -216,6 +251,8 @@ class Verdicts(Cuts):
         # three pieces and the end are read, and two pieces written
         self.assertEqual(texts.failures(program, library, "Item", b"a b c    d e f       ", "read"), (4, ""))
         self.assertEqual(texts.failures(program, library, "Item", b"a b c    d e f       ", "write"), (2, ""))
+        # the first piece ends within a character
+        self.assertEqual(texts.failures(program, library, "Item", "struct É".encode(), "write"), (2, ""))
 
     def test_a_failing_call_that_is_told_otherwise(self):
         library = texts.built_library(self.folder)
@@ -241,18 +278,18 @@ class Script(Cuts):
 
     def test_streams(self):
         status, said = self.status("streams", self.program("streams", STREAMS))
-        self.assertTrue(said.endswith("\ncuts 7: 7 ok; @ 1: 1 refused; delimiters 2: 2 ok; spacings 1: 1 ok; 0 differ\n"), said)
+        self.assertTrue(said.endswith("\ncuts 7: 7 ok; @ 1: 1 refused; delimiters 2: 2 ok; spacings 1: 1 ok; invisible 15: 15 ok; 0 differ\n"), said)
         self.assertEqual(status, 0)
 
     def test_a_part(self):
-        status, said = self.status("streams", self.program("streams", STREAMS), "--part", "2/2")
-        self.assertTrue(said.endswith("\ncuts 3: 3 ok; spacings 1: 1 ok; 0 differ\n"), said)
+        status, said = self.status("streams", self.program("streams", STREAMS), "--part", "2/2", "--invisible", "1/2")
+        self.assertTrue(said.endswith("\ncuts 3: 3 ok; spacings 1: 1 ok; invisible 9: 9 ok; 0 differ\n"), said)
         self.assertEqual(status, 0)
 
     def test_streams_that_differ(self):
         status, said = self.status("streams", self.program("streams", STREAMS.replace("'-@' in words or", "")))
         self.assertIn("@, Item Ident:61 ( Ident:62 -@ ): 'a ( b @ )' in place of None\n", said)
-        self.assertTrue(said.endswith("@ 1: 1 differ; delimiters 2: 2 ok; spacings 1: 1 ok; 1 differ\n"), said)
+        self.assertTrue(said.endswith("@ 1: 1 differ; delimiters 2: 2 ok; spacings 1: 1 ok; invisible 15: 15 ok; 1 differ\n"), said)
         self.assertEqual(status, 1)
 
     def test_a_program_that_does_not_answer(self):

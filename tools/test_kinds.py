@@ -320,8 +320,8 @@ table entry =
         self.assertIn("""
 pub(crate) fn answer_as(kind: &str, tokens: &TokenStream) -> Result<Answer, Failure> {
     match kind {
-        "Thing" => answer::<Thing>(Rule::AThing, tokens),
-        "Wrapped" => answer::<Wrapped>(Rule::Thing, tokens),
+        "Thing" => answer_of::<Thing>(Rule::AThing, tokens),
+        "Wrapped" => answer_of::<Wrapped>(Rule::Thing, tokens),
         _ => answer_as_1(kind, tokens),
     }
 }
@@ -329,7 +329,7 @@ pub(crate) fn answer_as(kind: &str, tokens: &TokenStream) -> Result<Answer, Fail
 /// The same of further kinds.
 fn answer_as_1(kind: &str, tokens: &TokenStream) -> Result<Answer, Failure> {
     match kind {
-        "Item" => answer::<Item>(Rule::Item, tokens),
+        "Item" => answer_of::<Item>(Rule::Item, tokens),
         _ => Err(Failure::Broken),
     }
 }

@@ -65,9 +65,10 @@ class Reading:
     def words_of(self, trees):
         for tree in trees:
             if isinstance(tree, self.other.Group):
-                yield tree.delim
+                sign = tree.delim or "<"
+                yield sign
                 yield from self.words_of(tree.trees)
-                yield CLOSING[tree.delim]
+                yield CLOSING[sign]
             elif isinstance(tree, self.other.Punct):
                 yield ("+" if tree.joint else "-") + tree.ch
             else:
@@ -78,7 +79,7 @@ class Reading:
         level, around = [], []
         for at, word in enumerate(words):
             if word in CLOSING:
-                level.append(self.other.Group(word, [], at, at + 1))
+                level.append(self.other.Group("" if word == "<" else word, [], at, at + 1))
                 around.append(level)
                 level = level[-1].trees
             elif word in OPENING:
@@ -113,6 +114,11 @@ class Reading:
         where of that only the form is known."""
         status, output, faults, is_known = self.other.run(["print", WORDS[kind]], text, self.stage)
         return status, output, faults if is_known else None
+
+
+def splits_a_mark(words):
+    """Whether a delimiter of an invisible group stands behind a Joint character."""
+    return any(first[0] == "+" and second in "<>" for first, second in zip(words, words[1:]))
 
 
 def is_but_for_empty_generics(left, right):

@@ -1,10 +1,11 @@
 """Token streams as lists of words, as the program `cut_streams` reads them, and what is changed of them.
 
-A word is the sign of a group, `+` or `-` and a mark's character, which is Joint or Alone, or a kind of tokens, `:` and the hex digits of
+A word is the sign of a group (`<` and `>` of an invisible one), `+` or `-` and a mark's character, which is Joint or Alone, or a kind of tokens, `:` and the hex digits of
 the token's text.
 """
 
-CLOSING = {"(": ")", "{": "}", "[": "]"}
+VISIBLE = {"(": ")", "{": "}", "[": "]"}
+CLOSING = VISIBLE | {"<": ">"}
 OPENING = {closing: opening for opening, closing in CLOSING.items()}
 # The tree that nothing but raw contents may hold.
 SIGN = "-@"
@@ -53,7 +54,7 @@ def pairs(words):
 def with_delimiters(words):
     """With other delimiters of each group."""
     for start, end in pairs(words):
-        for opening in CLOSING:
+        for opening in VISIBLE:
             if opening != words[start]:
                 yield [*words[:start], opening, *words[start + 1:end], CLOSING[opening], *words[end + 1:]]
 
@@ -76,5 +77,42 @@ def with_spacings(words):
             yield each
 
 
+# Of so many trees beside each other each run is taken; of more, the runs that begin or end with them, and each tree alone.
+ALL_RUNS = 7
+
+
+def levels(words):
+    """The places of the words before which a tree begins, of each group and of the whole, each with the place behind the last."""
+    places, around, found = [], [], []
+    for at, word in enumerate(words):
+        if word in OPENING:
+            places.append(at)
+            found.append(places)
+            places = around.pop()
+        else:
+            places.append(at)
+        if word in CLOSING:
+            around.append(places)
+            places = []
+    return [*found, [*places, len(words)]]
+
+
+def runs(places):
+    """Between which places some of these trees stand: the first, and the one behind the last."""
+    last = len(places) - 1
+    for start in range(last):
+        for end in range(start + 1, last + 1):
+            if last <= ALL_RUNS or start == 0 or end == last or end == start + 1:
+                yield places[start], places[end]
+
+
+def with_invisible(words):
+    """With some trees that stand beside each other in an invisible group, or an empty one before some tree or at an end."""
+    for places in levels(words):
+        for start, end in [*runs(places), *((place, place) for place in places)]:
+            yield [*words[:start], "<", *words[start:end], ">", *words[end:]]
+
+
 # What is changed of each stream, by the name of it.
 SWEEPS = {"cuts": cuts, "@": with_sign, "delimiters": with_delimiters, "spacings": with_spacings}
+INVISIBLE = {"invisible": with_invisible}

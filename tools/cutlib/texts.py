@@ -23,10 +23,16 @@ def beginnings(text):
     return (data[:end] for end in range(len(data) + 1))
 
 
-def ended(program, kind, text, environment=None):
-    """The status of the program that prints the bytes as this kind, and what it writes."""
-    done = subprocess.run([program, "print", WORDS[kind]], input=text, capture_output=True, timeout=SECONDS, env=environment)
-    return done.returncode, done.stdout.decode(errors="replace"), done.stderr.decode(errors="replace")
+def ran(program, kind, data, environment=None):
+    """The status of the program that prints the bytes as this kind, and the bytes that it writes."""
+    done = subprocess.run([program, "print", WORDS[kind]], input=data, capture_output=True, timeout=SECONDS, env=environment)
+    return done.returncode, done.stdout, done.stderr
+
+
+def ended(program, kind, data):
+    """The same, what it writes as text."""
+    status, output, faults = ran(program, kind, data)
+    return status, output.decode(errors="replace"), faults.decode(errors="replace")
 
 
 def verdict(found, wanted):
@@ -43,13 +49,13 @@ def verdict(found, wanted):
     return "empty generics" if is_but_for_empty_generics(output, wanted[1]) else f"{output!r} in place of {wanted[1]!r}"
 
 
-def failures(program, library, kind, text, call):
+def failures(program, library, kind, data, call):
     """Runs the program with the first, the second and each further `read` or `write` failing, until a run meets no failure. Returns how
-    many failed, and what was wrong, if something was."""
-    whole = ended(program, kind, text)
-    for number in range(1, len(text) + len(whole[1]) + 3):
-        status, output, faults = ended(program, kind, text, {"LD_PRELOAD": str(library), "FAILS": f"{call} {number}"})
-        if faults != f"{call} failed\n":
+    many failed, and what was wrong, if something was. A character may be cut: bytes are compared."""
+    whole = ran(program, kind, data)
+    for number in range(1, len(data) + len(whole[1]) + 3):
+        status, output, faults = ran(program, kind, data, {"LD_PRELOAD": str(library), "FAILS": f"{call} {number}"})
+        if faults != f"{call} failed\n".encode():
             met = number - 1
             return met, "" if met and (status, output, faults) == whole else f"with {call} {number} failing {(status, output, faults)!r}"
         # what is written stands before what isn't, and nothing is written before all is read

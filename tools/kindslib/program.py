@@ -99,12 +99,12 @@ pub(crate) fn compare_as_each(case: &Case<'_>, tally: &mut Tally) -> Result<(), 
 
 def answers_of_streams(source, kinds, at_once=16):
     """The function that asks about a stream as the kind of a type's name, so many kinds in a function, each of which asks the next."""
-    others = [("crate::answer", "Answer"), ("crate::answer", "answer"), ("crate::failure", "Failure"), ("syn::token", "TokenStream"), ("syn_recognize", "Rule")]
+    others = [("crate::answer", "Answer"), ("crate::answer", "answer_of"), ("crate::failure", "Failure"), ("syn::token", "TokenStream"), ("syn_recognize", "Rule")]
     packs = [kinds[start:start + at_once] for start in range(0, len(kinds), at_once)]
     blocks = []
     for number, pack in enumerate(packs):
         is_last = number == len(packs) - 1
-        arms = "".join(f'        "{name}" => answer::<{name}>(Rule::{camel(rule)}, tokens),\n' for name, rule in pack)
+        arms = "".join(f'        "{name}" => answer_of::<{name}>(Rule::{camel(rule)}, tokens),\n' for name, rule in pack)
         rest = "Err(Failure::Broken)" if is_last else f"answer_as_{number + 1}(kind, tokens)"
         head = ("/// What is answered about the stream as the kind of this name.\npub(crate) fn answer_as" if number == 0
                 else f"/// The same of further kinds.\nfn answer_as_{number}")

@@ -4,7 +4,7 @@ use crate::failure::Failure;
 use std::alloc::Global;
 use syn::parse::{Parse, ParseBuffer, parse2};
 use syn::reader::token_text;
-use syn::token::TokenStream;
+use syn::token::{Delimiter, Token, TokenStream};
 use syn::{Result, ToTokens};
 use syn_answers::answers::canonical_by;
 use syn_recognize::Rule;
@@ -22,7 +22,7 @@ pub(crate) enum Answer {
 }
 
 /// What is answered about the stream as a `T`, which this rule reads.
-pub(crate) fn answer<T: Parse + ToTokens + Drop>(
+pub(crate) fn answer_of<T: Parse + ToTokens + Drop>(
     rule: Rule,
     tokens: &TokenStream,
 ) -> std::result::Result<Answer, Failure> {
@@ -57,16 +57,36 @@ fn fault_of_print<T: Parse + ToTokens + Drop>(
     print: &TokenStream,
 ) -> std::result::Result<Option<&'static str>, Failure> {
     let alloc = tokens.alloc();
-    let fault = match read(printed::<T>(print))? {
-        None => Some("its print is refused"),
-        Some(again) if again != *print => Some("its print has another print"),
-        Some(_) => match read(canonical_by(rule, tokens.try_clone(alloc)?))? {
-            None => Some("it is refused without trees"),
-            Some(by_rule) if by_rule != *print => Some("it has another print without trees"),
-            Some(_) => None,
-        },
+    let Some(again) = read(printed::<T>(print))? else {
+        return Ok(Some("its print is refused"));
     };
-    Ok(fault)
+    if again != *print {
+        return Ok(Some("its print has another print"));
+    }
+    // without trees no invisible group is looked through
+    if has_invisible(tokens) {
+        return Ok(None);
+    }
+    let Some(by_rule) = read(canonical_by(rule, tokens.try_clone(alloc)?))? else {
+        return Ok(Some("it is refused without trees"));
+    };
+    Ok(if by_rule == *print {
+        None
+    } else {
+        Some("it has another print without trees")
+    })
+}
+
+/// Whether an invisible group stands there, at any depth.
+fn has_invisible(tokens: &TokenStream) -> bool {
+    for entry in tokens.entries() {
+        if let Token::Open(open) = entry.token() {
+            if open.delimiter == Delimiter::None {
+                return true;
+            }
+        }
+    }
+    false
 }
 
 /// What doesn't hold of a refused stream: the buffer stands where it stood, unless a tree stands at its front; and without trees it is

@@ -2,7 +2,7 @@
 //!
 //! Each kind, by its trees and by the rule that reads it.
 
-use crate::answer::{Answer, answer};
+use crate::answer::{Answer, answer_of};
 use crate::failure::Failure;
 use syn::canon::{NamedField, SafeOrUnsafe, Stmts, UnnamedField, UnsafeOnly};
 use syn::token::TokenStream;
@@ -36,22 +36,22 @@ use syn_tree::restriction::Visibility;
 /// What is answered about the stream as the kind of this name.
 pub(crate) fn answer_as(kind: &str, tokens: &TokenStream) -> Result<Answer, Failure> {
     match kind {
-        "File" => answer::<File>(Rule::File, tokens),
-        "Item" => answer::<Item>(Rule::Item, tokens),
-        "DeriveInput" => answer::<DeriveInput>(Rule::DeriveInput, tokens),
-        "Visibility" => answer::<Visibility>(Rule::Visibility, tokens),
-        "Variant" => answer::<Variant>(Rule::Variant, tokens),
-        "NamedField" => answer::<NamedField>(Rule::NamedField, tokens),
-        "UnnamedField" => answer::<UnnamedField>(Rule::UnnamedField, tokens),
-        "FieldsNamed" => answer::<FieldsNamed>(Rule::FieldsNamed, tokens),
-        "FieldsUnnamed" => answer::<FieldsUnnamed>(Rule::FieldsUnnamed, tokens),
-        "Signature" => answer::<Signature>(Rule::Signature, tokens),
-        "FnArg" => answer::<FnArg>(Rule::Argument, tokens),
-        "Receiver" => answer::<Receiver>(Rule::Receiver, tokens),
-        "UseTree" => answer::<UseTree>(Rule::UseTree, tokens),
-        "TraitItem" => answer::<TraitItem>(Rule::TraitItem, tokens),
-        "ImplItem" => answer::<ImplItem>(Rule::ImplItem, tokens),
-        "ForeignItem" => answer::<ForeignItem>(Rule::ForeignItem, tokens),
+        "File" => answer_of::<File>(Rule::File, tokens),
+        "Item" => answer_of::<Item>(Rule::Item, tokens),
+        "DeriveInput" => answer_of::<DeriveInput>(Rule::DeriveInput, tokens),
+        "Visibility" => answer_of::<Visibility>(Rule::Visibility, tokens),
+        "Variant" => answer_of::<Variant>(Rule::Variant, tokens),
+        "NamedField" => answer_of::<NamedField>(Rule::NamedField, tokens),
+        "UnnamedField" => answer_of::<UnnamedField>(Rule::UnnamedField, tokens),
+        "FieldsNamed" => answer_of::<FieldsNamed>(Rule::FieldsNamed, tokens),
+        "FieldsUnnamed" => answer_of::<FieldsUnnamed>(Rule::FieldsUnnamed, tokens),
+        "Signature" => answer_of::<Signature>(Rule::Signature, tokens),
+        "FnArg" => answer_of::<FnArg>(Rule::Argument, tokens),
+        "Receiver" => answer_of::<Receiver>(Rule::Receiver, tokens),
+        "UseTree" => answer_of::<UseTree>(Rule::UseTree, tokens),
+        "TraitItem" => answer_of::<TraitItem>(Rule::TraitItem, tokens),
+        "ImplItem" => answer_of::<ImplItem>(Rule::ImplItem, tokens),
+        "ForeignItem" => answer_of::<ForeignItem>(Rule::ForeignItem, tokens),
         _ => answer_as_1(kind, tokens),
     }
 }
@@ -59,22 +59,22 @@ pub(crate) fn answer_as(kind: &str, tokens: &TokenStream) -> Result<Answer, Fail
 /// The same of further kinds.
 fn answer_as_1(kind: &str, tokens: &TokenStream) -> Result<Answer, Failure> {
     match kind {
-        "ItemConst" => answer::<ItemConst>(Rule::ConstItem, tokens),
-        "ItemEnum" => answer::<ItemEnum>(Rule::Enumeration, tokens),
-        "ItemExternCrate" => answer::<ItemExternCrate>(Rule::ExternCrate, tokens),
-        "ItemFn" => answer::<ItemFn>(Rule::Function, tokens),
-        "ItemForeignMod" => answer::<ItemForeignMod>(Rule::ForeignModule, tokens),
-        "ItemImpl" => answer::<ItemImpl>(Rule::ImplDefinition, tokens),
-        "ItemMacro" => answer::<ItemMacro>(Rule::MacroItem, tokens),
-        "ItemMod" => answer::<ItemMod>(Rule::ModuleItem, tokens),
-        "ItemStatic" => answer::<ItemStatic>(Rule::StaticItem, tokens),
-        "ItemStruct" => answer::<ItemStruct>(Rule::Structure, tokens),
-        "ItemTrait" => answer::<ItemTrait>(Rule::TraitDefinition, tokens),
-        "ItemTraitAlias" => answer::<ItemTraitAlias>(Rule::TraitAlias, tokens),
-        "ItemType" => answer::<ItemType>(Rule::TypeItem, tokens),
-        "ItemUnion" => answer::<ItemUnion>(Rule::UnionItem, tokens),
-        "ItemUse" => answer::<ItemUse>(Rule::UseItem, tokens),
-        "Block" => answer::<Block>(Rule::Block, tokens),
+        "ItemConst" => answer_of::<ItemConst>(Rule::ConstItem, tokens),
+        "ItemEnum" => answer_of::<ItemEnum>(Rule::Enumeration, tokens),
+        "ItemExternCrate" => answer_of::<ItemExternCrate>(Rule::ExternCrate, tokens),
+        "ItemFn" => answer_of::<ItemFn>(Rule::Function, tokens),
+        "ItemForeignMod" => answer_of::<ItemForeignMod>(Rule::ForeignModule, tokens),
+        "ItemImpl" => answer_of::<ItemImpl>(Rule::ImplDefinition, tokens),
+        "ItemMacro" => answer_of::<ItemMacro>(Rule::MacroItem, tokens),
+        "ItemMod" => answer_of::<ItemMod>(Rule::ModuleItem, tokens),
+        "ItemStatic" => answer_of::<ItemStatic>(Rule::StaticItem, tokens),
+        "ItemStruct" => answer_of::<ItemStruct>(Rule::Structure, tokens),
+        "ItemTrait" => answer_of::<ItemTrait>(Rule::TraitDefinition, tokens),
+        "ItemTraitAlias" => answer_of::<ItemTraitAlias>(Rule::TraitAlias, tokens),
+        "ItemType" => answer_of::<ItemType>(Rule::TypeItem, tokens),
+        "ItemUnion" => answer_of::<ItemUnion>(Rule::UnionItem, tokens),
+        "ItemUse" => answer_of::<ItemUse>(Rule::UseItem, tokens),
+        "Block" => answer_of::<Block>(Rule::Block, tokens),
         _ => answer_as_2(kind, tokens),
     }
 }
@@ -82,22 +82,22 @@ fn answer_as_1(kind: &str, tokens: &TokenStream) -> Result<Answer, Failure> {
 /// The same of further kinds.
 fn answer_as_2(kind: &str, tokens: &TokenStream) -> Result<Answer, Failure> {
     match kind {
-        "Stmt" => answer::<Stmt>(Rule::Statement, tokens),
-        "Stmts" => answer::<Stmts>(Rule::Statements, tokens),
-        "SafeOrUnsafe" => answer::<SafeOrUnsafe>(Rule::SafeOrUnsafe, tokens),
-        "UnsafeOnly" => answer::<UnsafeOnly>(Rule::UnsafeOnly, tokens),
-        "Abi" => answer::<Abi>(Rule::Abi, tokens),
-        "TraitItemConst" => answer::<TraitItemConst>(Rule::TraitConst, tokens),
-        "TraitItemFn" => answer::<TraitItemFn>(Rule::TraitFunction, tokens),
-        "TraitItemMacro" => answer::<TraitItemMacro>(Rule::TraitMacro, tokens),
-        "TraitItemType" => answer::<TraitItemType>(Rule::TraitType, tokens),
-        "ImplItemConst" => answer::<ImplItemConst>(Rule::ImplConst, tokens),
-        "ImplItemFn" => answer::<ImplItemFn>(Rule::ImplFunction, tokens),
-        "ImplItemMacro" => answer::<ImplItemMacro>(Rule::ImplMacro, tokens),
-        "ImplItemType" => answer::<ImplItemType>(Rule::ImplType, tokens),
-        "ForeignItemFn" => answer::<ForeignItemFn>(Rule::ForeignFunction, tokens),
-        "ForeignItemMacro" => answer::<ForeignItemMacro>(Rule::ForeignMacro, tokens),
-        "ForeignItemStatic" => answer::<ForeignItemStatic>(Rule::ForeignStatic, tokens),
+        "Stmt" => answer_of::<Stmt>(Rule::Statement, tokens),
+        "Stmts" => answer_of::<Stmts>(Rule::Statements, tokens),
+        "SafeOrUnsafe" => answer_of::<SafeOrUnsafe>(Rule::SafeOrUnsafe, tokens),
+        "UnsafeOnly" => answer_of::<UnsafeOnly>(Rule::UnsafeOnly, tokens),
+        "Abi" => answer_of::<Abi>(Rule::Abi, tokens),
+        "TraitItemConst" => answer_of::<TraitItemConst>(Rule::TraitConst, tokens),
+        "TraitItemFn" => answer_of::<TraitItemFn>(Rule::TraitFunction, tokens),
+        "TraitItemMacro" => answer_of::<TraitItemMacro>(Rule::TraitMacro, tokens),
+        "TraitItemType" => answer_of::<TraitItemType>(Rule::TraitType, tokens),
+        "ImplItemConst" => answer_of::<ImplItemConst>(Rule::ImplConst, tokens),
+        "ImplItemFn" => answer_of::<ImplItemFn>(Rule::ImplFunction, tokens),
+        "ImplItemMacro" => answer_of::<ImplItemMacro>(Rule::ImplMacro, tokens),
+        "ImplItemType" => answer_of::<ImplItemType>(Rule::ImplType, tokens),
+        "ForeignItemFn" => answer_of::<ForeignItemFn>(Rule::ForeignFunction, tokens),
+        "ForeignItemMacro" => answer_of::<ForeignItemMacro>(Rule::ForeignMacro, tokens),
+        "ForeignItemStatic" => answer_of::<ForeignItemStatic>(Rule::ForeignStatic, tokens),
         _ => answer_as_3(kind, tokens),
     }
 }
@@ -105,17 +105,17 @@ fn answer_as_2(kind: &str, tokens: &TokenStream) -> Result<Answer, Failure> {
 /// The same of further kinds.
 fn answer_as_3(kind: &str, tokens: &TokenStream) -> Result<Answer, Failure> {
     match kind {
-        "ForeignItemType" => answer::<ForeignItemType>(Rule::ForeignType, tokens),
-        "Macro" => answer::<Macro>(Rule::MacroInvocation, tokens),
-        "Pat" => answer::<Pat>(Rule::Pattern, tokens),
-        "LifetimeParam" => answer::<LifetimeParam>(Rule::LifetimeParameter, tokens),
-        "Path" => answer::<Path>(Rule::TypePath, tokens),
-        "ReturnType" => answer::<ReturnType>(Rule::ReturnType, tokens),
-        "Type" => answer::<Type>(Rule::Type, tokens),
-        "TypeParamBound" => answer::<TypeParamBound>(Rule::Bound, tokens),
-        "TypePath" => answer::<TypePath>(Rule::PathAsType, tokens),
-        "WherePredicate" => answer::<WherePredicate>(Rule::Predicate, tokens),
-        "Expr" => answer::<Expr>(Rule::WholeExpression, tokens),
+        "ForeignItemType" => answer_of::<ForeignItemType>(Rule::ForeignType, tokens),
+        "Macro" => answer_of::<Macro>(Rule::MacroInvocation, tokens),
+        "Pat" => answer_of::<Pat>(Rule::Pattern, tokens),
+        "LifetimeParam" => answer_of::<LifetimeParam>(Rule::LifetimeParameter, tokens),
+        "Path" => answer_of::<Path>(Rule::TypePath, tokens),
+        "ReturnType" => answer_of::<ReturnType>(Rule::ReturnType, tokens),
+        "Type" => answer_of::<Type>(Rule::Type, tokens),
+        "TypeParamBound" => answer_of::<TypeParamBound>(Rule::Bound, tokens),
+        "TypePath" => answer_of::<TypePath>(Rule::PathAsType, tokens),
+        "WherePredicate" => answer_of::<WherePredicate>(Rule::Predicate, tokens),
+        "Expr" => answer_of::<Expr>(Rule::WholeExpression, tokens),
         _ => Err(Failure::Broken),
     }
 }

@@ -2,7 +2,7 @@
 //!
 //! Each line of standard input is a kind of trees, as `Item`, and behind spaces a token stream. Of that each word is
 //!
-//! - `(`, `)`, `[`, `]`, `{` or `}`: the sign of a group;
+//! - `(`, `)`, `[`, `]`, `{` or `}`: the sign of a group; `<` or `>`: that of an invisible one;
 //! - `+` or `-` and a character: a mark of that character, which is Joint or Alone;
 //! - `Ident`, or the kind of a literal as `Int`, then `:` and the hex digits of its text.
 //!
@@ -13,7 +13,8 @@
 //! - `memory`, where memory is refused to trees, as of what is nested too deep;
 //! - `broken` and words: what doesn't hold of this stream, but holds of each. The print of an accepted stream is read again, and prints
 //!   itself. Where a stream is refused, a buffer stands where it stood, unless a tree stands at its front and something is left behind
-//!   it. And by recognition (`syn_answers`) the same streams are read, with the same prints.
+//!   it. And by recognition (`syn_answers`) the same streams are read, with the same prints, but
+//!   for such in which `parse2` looks through an invisible group.
 //!
 //! The status is 0; 1 where a line is no kind and stream, or where the input can't be read or the output written; 3 where memory is
 //! refused otherwise than to trees. In these two cases nothing is written.

@@ -25,9 +25,11 @@ fn add_word(alloc: Global, word: &str, span: Span, out: &mut StreamBuilder) -> R
         "(" => out.open(Delimiter::Paren, span)?,
         "{" => out.open(Delimiter::Brace, span)?,
         "[" => out.open(Delimiter::Bracket, span)?,
+        "<" => out.open(Delimiter::None, span)?,
         ")" => out.close(Delimiter::Paren, span)?,
         "}" => out.close(Delimiter::Brace, span)?,
         "]" => out.close(Delimiter::Bracket, span)?,
+        ">" => out.close(Delimiter::None, span)?,
         _ => add_token(alloc, word, span, out)?,
     }
     Ok(())

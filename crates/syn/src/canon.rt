@@ -6,10 +6,10 @@ mod wrappers;
 
 pub use crate::lawful::Canonical;
 pub use syn_item::sig::{SafeOrUnsafe, UnsafeOnly};
-use syn_parse::parse::parse2;
 use syn_tokens::error::Result;
 use syn_tokens::print::ToTokens;
 use syn_tokens::stream::TokenStream;
+use syn_whole::parse::parse2;
 pub use wrappers::{NamedField, Stmts, UnnamedField};
 
 /// The canonical print of what the tokens spell: the print of the tree that the whole stream is read as.

@@ -14,7 +14,6 @@ pub use syn_lower::{
     TraitBoundModifier, Type, TypeArray, TypeGroup, TypeNever, TypeParam, TypeParamBound,
     TypeParen, TypePath, TypePtr, TypeReference, TypeSlice, TypeTuple, WhereClause, WherePredicate,
 };
-pub use syn_parse::parse::parse2;
 pub use syn_reader::reader;
 pub use syn_tokens::error::{Error, Fault, Result};
 pub use syn_tokens::ident::Ident;
@@ -31,16 +30,18 @@ pub use syn_tree::data::{
 pub use syn_tree::derive::{Data, DataEnum, DataStruct, DataUnion, DeriveInput};
 pub use syn_tree::restriction::{VisRestricted, Visibility};
 pub use syn_tree::{data, derive, restriction};
+pub use syn_whole::parse::parse2;
 
 /// Buffers of tokens, and what is parsed from them.
 pub mod parse {
     pub use syn_parse::buffer::ParseBuffer;
     pub use syn_parse::buffer::call::Answer;
     pub use syn_parse::lookahead::Lookahead1;
-    pub use syn_parse::parse::{Parse, Separator, parse2};
+    pub use syn_parse::parse::{Parse, Separator};
     pub use syn_parse::read::refusal::{Parsed, Refusal};
     pub use syn_parse::read::{End, Peek, Read};
     pub use syn_tokens::error::{Error, Fault, Result};
+    pub use syn_whole::parse::parse2;
 }
 
 /// Values with separators between them, and the iterators over them.

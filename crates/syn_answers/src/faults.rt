@@ -57,7 +57,7 @@ pub(crate) fn told(refusal: Refusal, rule: Rule, tokens: &TokenStream) -> Refusa
     ensures { IsSyntax result ↔ IsSyntax refusal }
 {
     match refusal {
-        Refusal::Memory => Refusal::Memory,
+        Refusal::Memory(at) => Refusal::Memory(at),
         Refusal::Syntax { span, text } => {
             let fault = fault_of(Fault { span, text }, rule, tokens);
             Refusal::Syntax {

@@ -88,7 +88,7 @@ fn try_kind(kind: ItemKind, input: &mut ParseBuffer<'_>) -> Parsed<bool>
             Ok(true)
         }
         Err(Refusal::Syntax { .. }) => Ok(false),
-        Err(Refusal::Memory) => Err(Refusal::Memory),
+        Err(Refusal::Memory(at)) => Err(Refusal::Memory(at)),
     }
 }
 
@@ -213,7 +213,7 @@ fn listed_to_end(tokens: &TokenStream) -> Parsed<Vec<ListedItem>>
         let item = read_item(&mut input)?;
         list.push(item)?;
     }
-    Err(Refusal::Memory)
+    Err(Refusal::Memory(None))
 }
 
 /// The items of a whole file, with the faults that more than a token tells.

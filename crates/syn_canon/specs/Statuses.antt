@@ -1,7 +1,7 @@
 -- HOW THE PROGRAM ENDS WITHOUT AN ANSWER.
 use Rattle.std.specs.Prelude.{ℕ, List, [], ◌∷◌, ◌++◌, codes}
 use Rattle.std.specs.Fmt.{decimal}
-use Rattle.syn_tokens.specs.Faults.{FaultValue, first_span, first_text}
+use Rattle.syn_tokens.specs.Faults.{FaultValue}
 use Rattle.syn_canon.specs.declared.failure.Failure.{Failure}
 use Rattle.syn_canon.specs.declared.failure.Failure.TheVariants.{Usage, ReadFailed, NotUtf8, Refused, WriteFailed, OutOfMemory}
 
@@ -19,7 +19,8 @@ abbrev pub line_of : Failure → List ℕ
 line_of Usage = codes "usage: syn_canon print|check KIND, or syn_canon list"
 line_of ReadFailed = codes "read failed"
 line_of NotUtf8 = codes "refused at 0: input is not UTF-8"
-line_of (Refused faults) = codes "refused at " ++ (decimal (first_span faults).start ++ (codes ": " ++ first_text faults))
+line_of (Refused []) = codes "out of memory"
+line_of (Refused (fault ∷ faults)) = codes "refused at " ++ (decimal fault.0.start ++ (codes ": " ++ fault.1))
 line_of WriteFailed = codes "write failed"
 line_of OutOfMemory = codes "out of memory"
 

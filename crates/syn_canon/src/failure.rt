@@ -60,10 +60,14 @@ impl fmt::Display for Failure {
             }
             Failure::ReadFailed => f.write_str("read failed"),
             Failure::NotUtf8 => f.write_str("refused at 0: input is not UTF-8"),
-            Failure::Refused(error) => {
-                let start = error.span().start;
-                write!(f, "refused at {start}: {error}")
-            }
+            Failure::Refused(error) => match error.faults().first() {
+                Some(fault) => {
+                    let start = fault.span.start;
+                    let text = fault.text;
+                    write!(f, "refused at {start}: {text}")
+                }
+                None => f.write_str("out of memory"),
+            },
             Failure::WriteFailed => f.write_str("write failed"),
             Failure::OutOfMemory => f.write_str("out of memory"),
         }

@@ -1,5 +1,6 @@
 //! Where the parsers of expressions and statements lead back to each other.
 ghost use Rattle.std.specs.Prelude.{◌≡◌, refl, OnErr};
+ghost use Rattle.syn_grammar.specs.Promises.{OrMemory};
 ghost use Rattle.syn_grammar.specs.Rules as rules;
 ghost use Rattle.syn_parse.specs.Meanings.{meaning_of, meaning_of_rule};
 ghost use Rattle.syn_lower.specs.Parsing.{of, rule, parse_rule, Computes, Kept, MayBelow, MayParse, Outcome, Parses, IsSyntax, IsSyntaxError};
@@ -12,19 +13,27 @@ use crate::trees::ExprTrees;
 use crate::{Block, Expr, Stmt};
 use std::marker::PhantomData;
 use syn_expr_parse::parsing::{
-    Inside, Knot, Rung, Spot, block, constant, expression, statement, statements,
+    Inside, Knot, Rung, Spot, block, constant, expression_within, refuse_long_chains, statement,
+    statements_within,
 };
 use syn_expr_parse::trees::Trees;
 use syn_lower::carrier::Carrier;
 use syn_parse::buffer::ParseBuffer;
+use syn_parse::limits::EXPRESSION;
 use syn_parse::read::Read;
 use syn_parse::read::refusal::{Parsed, Refusal};
 use syn_recognize::deferred::{BlockOf, TreeOf};
 use syn_tokens::error::Result;
 use syn_tokens::token::Brace;
 
-/// How many expressions and blocks may stand inside each other. The stack is memory too, and is refused for what is deeper.
-const LEVELS: u32 = 50;
+/// How many KiB of stack are left to what begins here. Memory is refused where chains in it are too long.
+fn begun(input: &mut ParseBuffer<'_>) -> Parsed<u32>
+    ensures memory { OrMemory IsSyntax result (λ _. Unit {0}) }
+    ensures unchanged { input.new ≡ input.old }
+{
+    refuse_long_chains(input)?;
+    Ok(input.stack_left())
+}
 
 /// An expression inside of another, or of a block.
 #[cycle(knot)]
@@ -35,8 +44,8 @@ fn nested_expr<E: Carrier>(
 ) -> std::result::Result<Box<Expr>, E>
     ensures parses { Parses E.is_syntax (λ e. whole e.value) (rule_of rung) input.old result input.new }
 {
-    let Some(left) = inside.0.checked_sub(1) else {
-        return Err(E::carry(Refusal::Memory));
+    let Some(left) = inside.0.checked_sub(EXPRESSION) else {
+        return Err(E::carry(Refusal::Memory(Some(input.span()))));
     };
     let knot = Knot {
         expr: nested_expr::<E>,
@@ -44,7 +53,7 @@ fn nested_expr<E: Carrier>(
         inside: (left, inside.1),
         trees: PhantomData::<ExprTrees>,
     };
-    match expression(&knot, rung, input) {
+    match expression_within(left, &knot, rung, input) {
         Ok(value) => Ok(value),
         Err(refusal) => Err(E::carry(refusal)),
     }
@@ -58,8 +67,8 @@ fn nested_statements<E: Carrier>(
 ) -> std::result::Result<Vec<Stmt>, E>
     ensures parses { MayParse E.is_syntax (λ v. statements_syntax v.items) rules.statements input.old result input.new }
 {
-    let Some(left) = inside.0.checked_sub(1) else {
-        return Err(E::carry(Refusal::Memory));
+    let Some(left) = inside.0.checked_sub(EXPRESSION) else {
+        return Err(E::carry(Refusal::Memory(Some(input.span()))));
     };
     let knot = Knot {
         expr: nested_expr::<E>,
@@ -67,7 +76,7 @@ fn nested_statements<E: Carrier>(
         inside: (left, inside.1),
         trees: PhantomData::<ExprTrees>,
     };
-    match statements(&knot, input) {
+    match statements_within(left, &knot, input) {
         Ok(value) => Ok(value),
         Err(refusal) => Err(E::carry(refusal)),
     }
@@ -81,10 +90,11 @@ impl Read for Expr {
 
     #[tactic(auto, using(crate::specs::Cores::core_view))]
     fn read(input: &mut ParseBuffer<'_>) -> Parsed<Expr> {
+        let left = begun(input)?;
         Ok(ExprTrees::unboxed(nested_expr::<Refusal>(
             Rung::Whole(Spot::Anywhere),
             input,
-            (LEVELS, PhantomData),
+            (left, PhantomData),
         )?))
     }
 }
@@ -94,10 +104,11 @@ impl TreeOf<0> for Expr {
     ghost whole = { whole };
 
     fn read_tree(input: &mut ParseBuffer<'_>) -> Parsed<Expr> {
+        let left = begun(input)?;
         Ok(ExprTrees::unboxed(nested_expr::<Refusal>(
             Rung::Whole(Spot::Anywhere),
             input,
-            (LEVELS, PhantomData),
+            (left, PhantomData),
         )?))
     }
 }
@@ -108,10 +119,11 @@ impl TreeOf<1> for Expr {
 
     #[tactic(auto, using(crate::specs::Cores::core_view))]
     fn read_tree(input: &mut ParseBuffer<'_>) -> Parsed<Expr> {
+        let left = begun(input)?;
         let knot = Knot {
             expr: nested_expr::<Refusal>,
             statements: nested_statements::<Refusal>,
-            inside: (LEVELS, PhantomData),
+            inside: (left, PhantomData),
             trees: PhantomData::<ExprTrees>,
         };
         Ok(ExprTrees::unboxed(constant(&knot, input)?))
@@ -125,10 +137,11 @@ impl Read for Block {
     ghost meaning = { meaning_of_rule rules.block };
 
     fn read(input: &mut ParseBuffer<'_>) -> Parsed<Block> {
+        let left = begun(input)?;
         let knot = Knot {
             expr: nested_expr::<Refusal>,
             statements: nested_statements::<Refusal>,
-            inside: (LEVELS, PhantomData),
+            inside: (left, PhantomData),
             trees: PhantomData::<ExprTrees>,
         };
         block(&knot, input)
@@ -150,10 +163,11 @@ impl Read for Stmt {
     ghost meaning = { meaning_of_rule rules.statement };
 
     fn read(input: &mut ParseBuffer<'_>) -> Parsed<Stmt> {
+        let left = begun(input)?;
         let knot = Knot {
             expr: nested_expr::<Refusal>,
             statements: nested_statements::<Refusal>,
-            inside: (LEVELS, PhantomData),
+            inside: (left, PhantomData),
             trees: PhantomData::<ExprTrees>,
         };
         statement(&knot, input)
@@ -165,7 +179,8 @@ impl Block {
     pub fn read_within(input: &mut ParseBuffer<'_>) -> Parsed<Vec<Stmt>>
         ensures parses { MayParse IsSyntax (λ v. statements_syntax v.items) rules.statements input.old result input.new }
     {
-        nested_statements::<Refusal>(input, (LEVELS, PhantomData))
+        let left = begun(input)?;
+        nested_statements::<Refusal>(input, (left, PhantomData))
     }
 
     /// Parses statements up to the end of the group or stream. They may be none, and the last expression may stand without `;`.
@@ -179,7 +194,7 @@ impl Block {
         ensures kept { Kept input.old result input.new }
     {
         let mut ahead = input.fork();
-        let stmts = nested_statements::<Refusal>(&mut ahead, (LEVELS, PhantomData))?;
+        let stmts = Block::read_within(&mut ahead)?;
         input.advance_to(&ahead);
         Ok(stmts)
     }

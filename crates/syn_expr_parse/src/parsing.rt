@@ -1,6 +1,7 @@
 //! Parsers. An expression holds expressions and blocks, and a block holds expressions: each parser is told what reads these.
 
 mod blocks;
+mod chains;
 mod groups;
 mod knot;
 mod levels;
@@ -14,8 +15,9 @@ mod trailing;
 mod unary;
 
 pub use blocks::block;
+pub use chains::refuse_long_chains;
 pub use knot::{Inside, Knot};
 pub use nested::{Block, Expr, FieldValue, LocalInit, Nested, Rung, Spot, Stmt};
 pub use primary::constant;
-pub use recursion::expression;
-pub use stmts::{statement, statements};
+pub use recursion::{expression_within, statements_within};
+pub use stmts::statement;

@@ -245,6 +245,6 @@ pub(crate) fn kept_tokens<'a>(
     read_by(rule, input)?;
     match start.between(input) {
         Ok(tokens) => Ok(tokens),
-        Err(_) => Err(Refusal::Memory),
+        Err(_) => Err(Refusal::Memory(None)),
     }
 }

@@ -9,7 +9,7 @@ use Rattle.syn_parse.specs.declared.read.refusal.Refusal.TheVariants.{Memory, Sy
 
 -- a refusal of the tokens becomes a syntax error
 pub syntax_becomes_error : (r : Refusal) (e : List FaultValue) → IsRefusedAs r e → IsSyntax r → IsSyntaxError e
-syntax_becomes_error Memory e h s = absurd s
+syntax_becomes_error (Memory at) e h s = absurd s
 syntax_becomes_error (Syntax span text) e h s = subst IsSyntaxError (sym h) tt
 
 -- an error that is passed on

@@ -16,7 +16,7 @@ StandsNext (group d o c i r) s = at s ≡ o
 
 -- nothing is read, since there something else stands than this text says
 abbrev pub RefusedNext : Stream → List ℕ → Refusal → Type 0
-RefusedNext ts text Memory = ⊥
+RefusedNext ts text (Memory at) = ⊥
 RefusedNext ts text (Syntax span said) = (said.now ≡ text) × StandsNext ts span
 
 -- there is one fault, of this text, at the next token

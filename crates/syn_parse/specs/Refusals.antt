@@ -6,10 +6,10 @@ use Rattle.syn_parse.specs.declared.read.refusal.Refusal.TheVariants.{Memory, Sy
 
 -- the tokens were at fault, and not the memory
 abbrev pub IsSyntax : Refusal → Type 0
-IsSyntax Memory = ⊥
+IsSyntax (Memory at) = ⊥
 IsSyntax (Syntax span text) = Unit {0}
 
 -- the error that a refusal becomes: one fault there, with the text of what was expected
 abbrev pub IsRefusedAs : Refusal → List FaultValue → Type 0
-IsRefusedAs Memory fs = fs ≡ []
+IsRefusedAs (Memory at) fs = fs ≡ []
 IsRefusedAs (Syntax span text) fs = fs ≡ (span, text.now) ∷ []

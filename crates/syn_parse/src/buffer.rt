@@ -14,6 +14,7 @@ ghost use Rattle.syn_tokens.specs.Cursors.{before_next};
 ghost use Rattle.syn_parse.specs.Opened.{ComputesOpened, content_of};
 
 use crate::buffer::first_token::split_group;
+use crate::limits::STACK;
 use crate::read::refusal::{Parsed, Refusal};
 use crate::read::{Peek, Read};
 use std::alloc::Global;
@@ -40,6 +41,10 @@ pub struct ParseBuffer<'a> {
     tokens: Cursor<'a>,
     end: Span,
     alloc: Global,
+    /// How many KiB of stack are left to what is read. No contract speaks of it.
+    stack_left: u32,
+    /// Whether the chains in what is left were counted, and are short enough. No contract speaks of it.
+    chains_fit: bool,
 }
 
 impl<'a> Model for ParseBuffer<'a> {
@@ -99,6 +104,8 @@ impl<'a> ParseBuffer<'a> {
             tokens: stream.cursor(),
             end: end_of(stream.entries()),
             alloc: stream.alloc(),
+            stack_left: STACK,
+            chains_fit: false,
         }
     }
 
@@ -110,6 +117,8 @@ impl<'a> ParseBuffer<'a> {
             tokens: self.tokens.fork(),
             end: self.end,
             alloc: self.alloc,
+            stack_left: self.stack_left,
+            chains_fit: self.chains_fit,
         }
     }
 
@@ -119,6 +128,7 @@ impl<'a> ParseBuffer<'a> {
     {
         self.tokens = fork.tokens.fork();
         self.end = fork.end;
+        self.chains_fit = fork.chains_fit;
     }
 
     /// What is left, as a cursor, which sees one token tree after another and reads nothing.
@@ -131,6 +141,30 @@ impl<'a> ParseBuffer<'a> {
     /// Where what is read takes its memory from.
     pub fn alloc(&self) -> Global {
         self.alloc
+    }
+
+    /// How many KiB of stack are left to what is read.
+    pub fn stack_left(&self) -> u32 {
+        self.stack_left
+    }
+
+    /// Has what is read take no more stack than so many KiB.
+    pub fn set_stack_left(&mut self, kib: u32)
+        ensures { self.new ≡ self.old }
+    {
+        self.stack_left = kib;
+    }
+
+    /// Whether the chains in what is left (operators, postfixes and casts) were counted, and are short enough.
+    pub fn chains_fit(&self) -> bool {
+        self.chains_fit
+    }
+
+    /// Keeps that the chains in what is left are short enough.
+    pub fn set_chains_fit(&mut self)
+        ensures { self.new ≡ self.old }
+    {
+        self.chains_fit = true;
     }
 
     /// Whether nothing is left.
@@ -197,6 +231,8 @@ impl<'a> ParseBuffer<'a> {
             tokens,
             end: self.end,
             alloc: self.alloc,
+            stack_left: self.stack_left,
+            chains_fit: self.chains_fit,
         }
     }
 
@@ -233,6 +269,8 @@ impl<'a> ParseBuffer<'a> {
             tokens: group.content,
             end: group.closing,
             alloc: self.alloc,
+            stack_left: self.stack_left,
+            chains_fit: false,
         };
         Ok((Delimiters::new(group.opening, group.closing), content))
     }
@@ -246,6 +284,8 @@ impl<'a> ParseBuffer<'a> {
             tokens: group.content,
             end: group.closing,
             alloc: self.alloc,
+            stack_left: self.stack_left,
+            chains_fit: false,
         })
     }
 

@@ -4,6 +4,7 @@
 pub mod buffer;
 pub mod ext;
 pub mod laws;
+pub mod limits;
 pub mod lookahead;
 pub mod parse;
 pub mod read;

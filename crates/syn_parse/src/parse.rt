@@ -51,13 +51,13 @@ impl<T: Read> Parse for T {
     ghost meaning = { T.meaning };
 }
 
-/// Parses a whole stream as a `T`, and uses the stream up. It is refused where the tokens are no `T`, with a fault at a
-/// token that can't stand there; where something is left behind a `T`, with the fault `unexpected token` at its first
-/// token; and where memory is refused.
-pub fn parse2<T: Parse + Drop>(tokens: TokenStream) -> Result<T>
-    ensures { WholeOutcome IsSyntaxError T.syntax T.form tokens result }
+/// Parses a whole stream as a `T`, each invisible group in it as it stands. It is refused where the tokens are no `T`,
+/// with a fault at a token that can't stand there; where something is left behind a `T`, with the fault `unexpected
+/// token` at its first token; and where memory is refused. `syn_whole::parse2` opens invisible groups where it has to.
+pub fn parse_whole<T: Parse + Drop>(tokens: &TokenStream) -> Result<T>
+    ensures { WholeOutcome IsSyntaxError T.syntax T.form tokens.now result }
 {
-    let mut input = ParseBuffer::new(&tokens);
+    let mut input = ParseBuffer::new(tokens);
     let value = T::parse(&mut input)?;
     input.finish()?;
     Ok(value)

@@ -75,6 +75,6 @@ pub(crate) fn capture<'a>(
     }
     match begin.between(input) {
         Ok(tokens) => Ok(out.append(&tokens)?),
-        Err(_memory) => Err(Refusal::Memory),
+        Err(_memory) => Err(Refusal::Memory(None)),
     }
 }

@@ -1,6 +1,6 @@
 //! Deferred trees: trees that are kept as their tokens, and read when somebody opens them. A type may hold one that leads
 //! back to itself through its tree: nothing that is kept, read, copied, compared, printed or dropped knows the tree's type.
-ghost use Rattle.std.specs.Prelude.{◌≡◌, ◌↔◌, [], true, Some, IfOk, IfErr, OnOk, IsTrue};
+ghost use Rattle.std.specs.Prelude.{◌≡◌, ◌↔◌, [], true, None, Some, IfOk, IfErr, OnOk, IsTrue};
 ghost use Rattle.syn_grammar.specs.Tokens.{end};
 ghost use Rattle.syn_grammar.specs.Grammar.{rule, show, print, plain_syntax};
 ghost use Rattle.syn_grammar.specs.Run.{parse_rule};
@@ -171,12 +171,12 @@ impl<const KIND: usize> Deferred<KIND> {
 /// The print of a tree; refused only where memory is.
 fn printed_tokens<T: ToTokens>(tree: &T, alloc: Global) -> Parsed<TokenStream>
     ensures print { IfOk result (λ stream. stream ≡ print (T.syntax tree.now)) }
-    ensures memory { IfErr result (λ e. e ≡ Memory) }
+    ensures memory { IfErr result (λ e. e ≡ Memory None) }
 {
     let mut stream = TokenStream::new(alloc);
     match tree.to_tokens(&mut stream) {
         Ok(()) => Ok(stream),
-        Err(_memory) => Err(Refusal::Memory),
+        Err(_memory) => Err(Refusal::Memory(None)),
     }
 }
 

@@ -347,7 +347,7 @@ pub fn at_str(input: &ParseBuffer<'_>) -> Parsed<bool>
 {
     match input.fork().read::<Literal>() {
         Ok(literal) => Ok(is_string(&literal)),
-        Err(Refusal::Memory) => Err(Refusal::Memory),
+        Err(Refusal::Memory(at)) => Err(Refusal::Memory(at)),
         Err(Refusal::Syntax { .. }) => Ok(false),
     }
 }

@@ -69,7 +69,7 @@ fn at_lifetime_parameter(input: &ParseBuffer<'_>) -> Parsed<bool>
     let mut ahead = input.fork();
     'attributes: while ahead.peek::<Pound>() {
         let Ok(_pound) = ahead.read::<Pound>() else {
-            return Err(Refusal::Memory);
+            return Err(Refusal::Memory(None));
         };
         let Ok((_brackets, _content)) = ahead.read_group::<kind::Bracket>() else {
             return Ok(false);

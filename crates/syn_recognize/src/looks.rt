@@ -61,7 +61,7 @@ pub fn at_integer(input: &ParseBuffer<'_>) -> Parsed<bool>
 {
     match input.fork().read::<Literal>() {
         Ok(literal) => Ok(is_integer(&literal)),
-        Err(Refusal::Memory) => Err(Refusal::Memory),
+        Err(Refusal::Memory(at)) => Err(Refusal::Memory(at)),
         Err(Refusal::Syntax { .. }) => Ok(false),
     }
 }

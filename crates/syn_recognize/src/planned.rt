@@ -229,16 +229,16 @@ fn read_rest<'a>(
     form: &'static Form,
     guess: Guess,
     steps: &mut Vec<Step<'a>>,
-    out: &Writer,
+    out: &mut Writer,
     input: &ParseBuffer<'a>,
 ) -> Parsed<()>
-    ensures { Guessing IsSyntax steps.old.items (copy_guess guess (rest (grammar_of form.now)) out.now input.now) result steps.new.items out.now input.now }
+    ensures { Guessing IsSyntax steps.old.items (copy_guess guess (rest (grammar_of form.now)) out.old input.now) result steps.new.items out.new input.now }
 {
     if guess.kept {
-        return Err(Refusal::Memory);
+        return Err(out.wrong_guess());
     }
     if let Some(true) = guess.leads {
-        return Err(Refusal::Memory);
+        return Err(out.wrong_guess());
     }
     steps.push(Step::Form(form))?;
     Ok(())
@@ -257,7 +257,7 @@ fn read_kept<'a>(
 {
     if !guess.kept {
         if !out.is_dropping() {
-            return Err(Refusal::Memory);
+            return Err(out.wrong_guess());
         }
         if let Some(number) = guess.number {
             return note_kept(form, number, steps, out, input);
@@ -341,7 +341,7 @@ fn print_lists<'a>(
     ensures { Steps IsSyntax steps.old.items (guessed_lists (no_parameters input.old) leads (copy_course (course_of plan.now)) out.old input.old) result steps.new.items out.new input.new }
 {
     if !out.is_printing() {
-        return Err(Refusal::Memory);
+        return Err(Refusal::Memory(None));
     }
     if at_generics(input) {
         let mut ahead = input.fork();
@@ -440,7 +440,7 @@ fn read_self_type<'a>(
 fn compared(guess: Guess, it: bool, out: &mut Writer) -> Parsed<Guess>
     ensures kept { IfOk result (λ g. g.kept ≡ guess.kept) }
     ensures leads { IfOk result (λ g. (q : Option Bool → Copy) → led_by guess.leads it q ≡ q g.leads) }
-    ensures memory { IfErr result (λ e. e ≡ Memory) }
+    ensures memory { IfErr result (λ e. e ≡ Memory None) }
     ensures unchanged { out.new ≡ out.old }
 {
     if !it {
@@ -450,7 +450,7 @@ fn compared(guess: Guess, it: bool, out: &mut Writer) -> Parsed<Guess>
     match guess.leads {
         None => Ok(guess),
         Some(true) => Ok(guess.settled()),
-        Some(false) => Err(Refusal::Memory),
+        Some(false) => Err(out.wrong_guess()),
     }
 }
 
@@ -462,7 +462,7 @@ fn leads_on(input: &ParseBuffer<'_>) -> Parsed<bool>
     let mut ahead = input.fork();
     match ahead.read::<For>() {
         Ok(_) => Ok(at_generics(&ahead)),
-        Err(Refusal::Memory) => Err(Refusal::Memory),
+        Err(Refusal::Memory(at)) => Err(Refusal::Memory(at)),
         Err(Refusal::Syntax { .. }) => Ok(false),
     }
 }

@@ -28,7 +28,7 @@ fn run<'a>(steps: &mut Vec<Step<'a>>, out: &mut Writer, input: &mut ParseBuffer<
         };
         take(step, steps, out, input)?;
     }
-    Err(Refusal::Memory)
+    Err(Refusal::Memory(None))
 }
 
 /// These tokens once more. Refused only where memory is.
@@ -37,7 +37,7 @@ pub(crate) fn copy_of(tokens: &TokenStream) -> Parsed<TokenStream>
 {
     match tokens.try_clone(tokens.alloc()) {
         Ok(copy) => Ok(copy),
-        Err(_) => Err(Refusal::Memory),
+        Err(_) => Err(Refusal::Memory(None)),
     }
 }
 
@@ -49,6 +49,20 @@ fn write_rule(rule: Rule, out: &mut Writer, input: &mut ParseBuffer<'_>) -> Pars
     let mut steps = Vec::new(input.alloc());
     steps.push(Step::Form(form_of(rule)))?;
     run(&mut steps, out, input)
+}
+
+/// Reads the rule, and writes its tokens. Where it is refused, `mistaken` says whether what was guessed of lists and plans was wrong.
+fn write_guessing(
+    rule: Rule,
+    out: &mut Writer,
+    mistaken: &mut bool,
+    input: &mut ParseBuffer<'_>,
+) -> Parsed<()>
+    ensures { Runs IsSyntax (copied out.old (parse_rule (rule_of rule) input.old)) result out.new input.new }
+{
+    let done = write_rule(rule, out, input);
+    *mistaken = out.is_mistaken();
+    done
 }
 
 /// Reads what the rule reads, and keeps nothing of it. It takes no memory but for what is still to be done, and no stack. Refused, with
@@ -72,32 +86,44 @@ pub struct ShownAndPrinted {
 }
 
 /// Reads what the rule reads: its tokens as they are shown, and as they are printed; each is written by a reading of its own. What was
-/// noted of lists and plans is known before, or it is guessed that nothing was: a wrong guess is refused as memory is.
+/// noted of lists and plans is known before, or it is guessed that nothing was: a wrong guess is refused as memory is, and `mistaken` says
+/// so.
 #[tactic(auto, using(crate::proofs::Shown::not_read))]
-fn both_by(rule: Rule, notes: Notes, input: &mut ParseBuffer<'_>) -> Parsed<ShownAndPrinted>
+fn both_by(
+    rule: Rule,
+    notes: Notes,
+    mistaken: &mut bool,
+    input: &mut ParseBuffer<'_>,
+) -> Parsed<ShownAndPrinted>
     ensures reads { ShowsAndPrints IsSyntax (rule_of rule) input.old result input.new }
     ensures kept { Kept input.old result input.new }
     ensures moved { Takes (least (rule_of rule)) input.old result input.new }
 {
     let mut ahead = input.fork();
     let mut out = Writer::showing(input.alloc(), notes);
-    write_rule(rule, &mut out, &mut ahead)?;
+    write_guessing(rule, &mut out, mistaken, &mut ahead)?;
     let (shown, notes) = out.finish()?;
     let mut out = Writer::printing(input.alloc(), notes.anew());
-    write_rule(rule, &mut out, input)?;
+    write_guessing(rule, &mut out, mistaken, input)?;
     let (printed, _notes) = out.finish()?;
     Ok(ShownAndPrinted { shown, printed })
 }
 
-/// Reads what the rule reads, and writes its tokens as they are printed, with what was noted of lists and plans.
+/// Reads what the rule reads, and writes its tokens as they are printed, with what was noted of lists and plans; a wrong guess is refused
+/// as memory is, and `mistaken` says so.
 #[tactic(auto, using(crate::proofs::Shown::not_read, crate::proofs::Shown::kept, crate::proofs::Shown::moved))]
-fn printed_with(rule: Rule, notes: Notes, input: &mut ParseBuffer<'_>) -> Parsed<TokenStream>
+fn printed_with(
+    rule: Rule,
+    notes: Notes,
+    mistaken: &mut bool,
+    input: &mut ParseBuffer<'_>,
+) -> Parsed<TokenStream>
     ensures reads { Prints IsSyntax (rule_of rule) input.old result input.new }
     ensures kept { Kept input.old result input.new }
     ensures moved { Takes (least (rule_of rule)) input.old result input.new }
 {
     let mut out = Writer::printing(input.alloc(), notes);
-    write_rule(rule, &mut out, input)?;
+    write_guessing(rule, &mut out, mistaken, input)?;
     let (printed, _notes) = out.finish()?;
     Ok(printed)
 }
@@ -123,13 +149,14 @@ pub fn recognized_and_printed(rule: Rule, input: &mut ParseBuffer<'_>) -> Parsed
     ensures moved { Takes (least (rule_of rule)) input.old result input.new }
 {
     let mut ahead = input.fork();
-    match both_by(rule, Notes::none(input.alloc()), &mut ahead) {
+    let mut mistaken = false;
+    match both_by(rule, Notes::none(input.alloc()), &mut mistaken, &mut ahead) {
         Ok(tokens) => {
             input.advance_to(&ahead);
             Ok(tokens)
         }
-        Err(Refusal::Memory) => both_by(rule, noted(rule, input)?, input),
-        Err(Refusal::Syntax { span, text }) => Err(Refusal::Syntax { span, text }),
+        Err(_) if mistaken => both_by(rule, noted(rule, input)?, &mut mistaken, input),
+        Err(refusal) => Err(refusal),
     }
 }
 
@@ -142,12 +169,13 @@ pub fn printed_by(rule: Rule, input: &mut ParseBuffer<'_>) -> Parsed<TokenStream
     ensures moved { Takes (least (rule_of rule)) input.old result input.new }
 {
     let mut ahead = input.fork();
-    match printed_with(rule, Notes::none(input.alloc()), &mut ahead) {
+    let mut mistaken = false;
+    match printed_with(rule, Notes::none(input.alloc()), &mut mistaken, &mut ahead) {
         Ok(printed) => {
             input.advance_to(&ahead);
             Ok(printed)
         }
-        Err(Refusal::Memory) => printed_with(rule, noted(rule, input)?, input),
-        Err(Refusal::Syntax { span, text }) => Err(Refusal::Syntax { span, text }),
+        Err(_) if mistaken => printed_with(rule, noted(rule, input)?, &mut mistaken, input),
+        Err(refusal) => Err(refusal),
     }
 }

@@ -15,7 +15,7 @@ pub(crate) fn told(refusal: Refusal, form: &Form, input: &ParseBuffer<'_>) -> Re
     ensures { IsSyntax result → IsSyntax refusal }
 {
     match refusal {
-        Refusal::Memory => Refusal::Memory,
+        Refusal::Memory(at) => Refusal::Memory(at),
         Refusal::Syntax { span, text } => Refusal::Syntax {
             span,
             text: text_of(text, form, input),

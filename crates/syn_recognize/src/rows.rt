@@ -201,7 +201,7 @@ pub(crate) fn read_others<'a>(
     ensures { Guessing IsSyntax steps.old.items (copy_others list late out.old input.old) result steps.new.items out.new input.new }
 {
     if input.peek::<Gt>() {
-        return no_more(&late);
+        return no_more(&late, out);
     }
     if at_first(list, input)? {
         return read_late(list, late, steps, out, input);
@@ -209,14 +209,15 @@ pub(crate) fn read_others<'a>(
     read_another(list, late, steps, out, input)
 }
 
-/// Refused where members are still expected: it never is, since the list was read before.
-fn no_more(late: &Guesses) -> Parsed<()>
-    ensures { OrMemory IsSyntax result (λ x. late.now ≡ []) }
+/// Refused where members are still expected: then what was guessed of the list was wrong.
+fn no_more(late: &Guesses, out: &mut Writer) -> Parsed<()>
+    ensures none { OrMemory IsSyntax result (λ x. late.now ≡ []) }
+    ensures unchanged { out.new ≡ out.old }
 {
     if late.is_empty() {
         Ok(())
     } else {
-        Err(Refusal::Memory)
+        Err(out.wrong_guess())
     }
 }
 
@@ -255,8 +256,8 @@ fn read_late<'a>(
     Ok(())
 }
 
-/// Goes on behind a late member, and its comma, with what was written before. It is the one that is expected, since the list was read
-/// before.
+/// Goes on behind a late member, and its comma, with what was written before. It is the one that is expected, or what was guessed of
+/// the list was wrong.
 #[tactic(auto, using(crate::proofs::Todo::push, crate::proofs::Lists::late_last, crate::proofs::Lists::late_more))]
 pub(crate) fn skip_late<'a>(
     list: List,
@@ -270,18 +271,18 @@ pub(crate) fn skip_late<'a>(
 {
     let member = out.put_back(before)?;
     let Some(guess) = late.next() else {
-        return Err(Refusal::Memory);
+        return Err(out.wrong_guess());
     };
     if !input.peek::<Comma>() {
         if !guess.is(&member, Span::call_site()) {
-            return Err(Refusal::Memory);
+            return Err(out.wrong_guess());
         }
-        no_more(&late)?;
+        no_more(&late, out)?;
         return Ok(());
     }
     let comma: Comma = input.read()?;
     if !guess.is(&member, place_of(&comma)) {
-        return Err(Refusal::Memory);
+        return Err(out.wrong_guess());
     }
     steps.push(Step::Others(list, late))?;
     Ok(())
@@ -307,7 +308,7 @@ pub(crate) fn read_others_rest<'a>(
     ensures { Steps IsSyntax steps.old.items (after_other list late out.old input.old) result steps.new.items out.new input.new }
 {
     if !input.peek::<Comma>() {
-        return no_more(&late);
+        return no_more(&late, out);
     }
     copy_mark(Mark::Comma, out, input)?;
     steps.push(Step::Others(list, late))?;

@@ -78,8 +78,8 @@ fn take_other<'a>(
     ensures { Guessing IsSyntax steps.old.items (after step.entry (Reached out.old input.old)) result steps.new.items out.new input.new }
 {
     match step {
-        Step::Form(_) => Err(Refusal::Memory),
-        Step::Levels(_, _) => Err(Refusal::Memory),
+        Step::Form(_) => Err(Refusal::Memory(None)),
+        Step::Levels(_, _) => Err(Refusal::Memory(None)),
         Step::Close(delimiter, closing, rest) => leave(delimiter, closing, &rest, out, input),
         Step::Row(list, number) => read_row(list, number, steps, out, input),
         Step::RowRest(list, number) => read_row_rest(list, number, steps, out, input),
@@ -129,7 +129,7 @@ fn read_level<'a>(
     ensures { Leading IsSyntax steps.old.items (climb (to - level) level out.old input.old) result steps.new.items out.new input.new }
 {
     let Some(form) = behind(level) else {
-        return Err(Refusal::Memory);
+        return Err(Refusal::Memory(None));
     };
     steps.push(Step::Levels(level + 1, to))?;
     read_form(form, steps, out, input)
@@ -173,7 +173,7 @@ fn descend<'a>(
             },
         }
     }
-    Err(Refusal::Memory)
+    Err(Refusal::Memory(None))
 }
 
 /// Behind a form that reads nothing: the form that was put off last, where that is one.
@@ -237,7 +237,7 @@ fn next_level<'a>(
         return Ok(&EMPTY);
     }
     let Some(form) = behind(level) else {
-        return Err(Refusal::Memory);
+        return Err(Refusal::Memory(None));
     };
     steps.push(Step::Levels(level + 1, to))?;
     Ok(form)
@@ -404,14 +404,14 @@ fn read_leaf<'a>(
         Form::Hidden(look, form) => read_hidden(look, form, steps, out, input),
         Form::Captured(form) => read_captured(form, steps, out, input),
         Form::ByBraces(one, other) => read_value(one, other, steps, out, input),
-        Form::Planned(_) => Err(Refusal::Memory),
+        Form::Planned(_) => Err(Refusal::Memory(None)),
         Form::Supplied(nameless) => read_supplied(*nameless, steps, out, input),
-        Form::Then(_, _) => Err(Refusal::Memory),
-        Form::When(_, _, _) => Err(Refusal::Memory),
-        Form::Rule(_) => Err(Refusal::Memory),
-        Form::Part(_) => Err(Refusal::Memory),
-        Form::Shaped(_, _) => Err(Refusal::Memory),
-        Form::Only(_) => Err(Refusal::Memory),
+        Form::Then(_, _) => Err(Refusal::Memory(None)),
+        Form::When(_, _, _) => Err(Refusal::Memory(None)),
+        Form::Rule(_) => Err(Refusal::Memory(None)),
+        Form::Part(_) => Err(Refusal::Memory(None)),
+        Form::Shaped(_, _) => Err(Refusal::Memory(None)),
+        Form::Only(_) => Err(Refusal::Memory(None)),
     }
 }
 
@@ -427,7 +427,7 @@ fn copy_mark_else(
     let refusal = fault.refusal(input);
     match copy_mark(mark, out, input) {
         Ok(()) => Ok(()),
-        Err(Refusal::Memory) => Err(Refusal::Memory),
+        Err(Refusal::Memory(at)) => Err(Refusal::Memory(at)),
         Err(Refusal::Syntax { .. }) => Err(refusal),
     }
 }
@@ -533,7 +533,7 @@ fn all_of(input: &mut ParseBuffer<'_>) -> Parsed<TokenStream>
 {
     match input.rest() {
         Ok(all) => Ok(all),
-        Err(_) => Err(Refusal::Memory),
+        Err(_) => Err(Refusal::Memory(None)),
     }
 }
 

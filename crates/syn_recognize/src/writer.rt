@@ -1,5 +1,5 @@
 //! What is written.
-ghost use Rattle.std.specs.Prelude.{◌≡◌, true, false, OnOk};
+ghost use Rattle.std.specs.Prelude.{◌≡◌, true, false, None, OnOk};
 ghost use Rattle.syn_grammar.specs.Tokens.{ident, leaf, punct, end};
 ghost use Rattle.syn_tokens.specs.Punct.{is_joint, is_punct_character};
 ghost use Rattle.syn_tokens.specs.Spelled.{is_plain_word};
@@ -11,6 +11,7 @@ ghost use Rattle.syn_recognize.specs.Written.{adds, enters, leaves, blank, unwri
 ghost use Rattle.syn_recognize.specs.Courses.{Fair};
 ghost use Rattle.syn_grammar.specs.Promises.{OrMemory};
 ghost use Rattle.syn_parse.specs.Refusals.{IsSyntax};
+ghost use Rattle.syn_parse.specs.declared.read.refusal.Refusal.TheVariants.{Memory};
 
 use crate::guess::Guess;
 use crate::late::Late;
@@ -37,6 +38,8 @@ pub struct Writer {
     noting: bool,
     /// What is noted, or what was.
     notes: Notes,
+    /// Whether what was guessed of a list or a plan was wrong.
+    mistaken: bool,
     alloc: Global,
 }
 
@@ -60,6 +63,7 @@ impl Writer {
             printing: false,
             noting: false,
             notes,
+            mistaken: false,
             alloc,
         }
     }
@@ -73,6 +77,7 @@ impl Writer {
             printing: true,
             noting: false,
             notes,
+            mistaken: false,
             alloc,
         }
     }
@@ -86,6 +91,7 @@ impl Writer {
             printing: false,
             noting: false,
             notes: Notes::none(alloc),
+            mistaken: false,
             alloc,
         }
     }
@@ -99,6 +105,7 @@ impl Writer {
             printing: false,
             noting: true,
             notes: Notes::none(alloc),
+            mistaken: false,
             alloc,
         }
     }
@@ -170,6 +177,20 @@ impl Writer {
         ensures { Fair self.now.printing result }
     {
         if self.printing { Some(leads) } else { None }
+    }
+
+    /// What was guessed of a list or a plan was wrong: refuses as where memory is, and remembers it.
+    pub(crate) fn wrong_guess(&mut self) -> Refusal
+        ensures memory { result ≡ Memory None }
+        ensures unchanged { self.new ≡ self.old }
+    {
+        self.mistaken = true;
+        Refusal::Memory(None)
+    }
+
+    /// Whether what was guessed of a list or a plan was wrong.
+    pub(crate) fn is_mistaken(&self) -> bool {
+        self.mistaken
     }
 
     /// Notes that what the plan of this number reads is kept as tokens.
@@ -311,7 +332,7 @@ impl Writer {
         };
         match out.finish() {
             Ok(stream) => Ok((stream, notes)),
-            Err(_) => Err(Refusal::Memory),
+            Err(_) => Err(Refusal::Memory(None)),
         }
     }
 }

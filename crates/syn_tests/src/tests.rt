@@ -3,6 +3,7 @@
 mod asserts;
 mod attributes;
 mod canonical_prints;
+mod chains;
 mod copies;
 mod deep;
 mod deferred;
@@ -12,6 +13,7 @@ mod handmade_exprs;
 mod handmade_generics;
 mod handmade_items;
 mod handmade_types;
+mod invisible;
 mod item_conversions;
 mod items_behind;
 mod literals;

@@ -1,5 +1,5 @@
 -- What an error tells.
-use Rattle.std.specs.Prelude.{ℕ, List, [], ◌∷◌, ◌++◌, take, codes}
+use Rattle.std.specs.Prelude.{ℕ, List, [], ◌∷◌, ◌++◌, Option, None, Some, take, codes}
 use Rattle.std.specs.Coded.{Coded, coded×, coded_list, coded_ℕ}
 use Rattle.syn_tokens.specs.declared.span.Span.{Span}
 use Rattle.syn_tokens.specs.contracts.span.Span as span
@@ -20,13 +20,15 @@ abbrev pub IsSyntaxError : List FaultValue → Type 0
 IsSyntaxError [] = ⊥
 IsSyntaxError (f ∷ fs) = Unit {0}
 
+-- where the first fault is; where memory was refused no contract says what is told
 abbrev pub first_span : List FaultValue → Span
 first_span [] = record { start = 0; end = 0 }
 first_span (f ∷ fs) = f.0
 
-abbrev pub first_text : List FaultValue → List ℕ
-first_text [] = codes "out of memory"
-first_text (f ∷ fs) = f.1
+-- the text of the first fault; where memory was refused no contract says what is told
+abbrev pub first_text : List FaultValue → Option (List ℕ)
+first_text [] = None
+first_text (f ∷ fs) = Some f.1
 
 -- the first four faults of two errors; memory with anything is memory
 abbrev pub combined : List FaultValue → List FaultValue → List FaultValue

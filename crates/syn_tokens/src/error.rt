@@ -13,11 +13,14 @@ pub struct Fault {
     pub text: &'static str,
 }
 
-/// Why a call was refused: one to four faults of syntax, or none where memory was refused.
+/// Why a call was refused: one to four faults of syntax, or none where memory was refused. The stack is memory too: what is nested too
+/// deep for it is refused as memory is, and the error says where.
 #[derive(Debug, Drop)]
 pub struct Error {
     faults: [Fault; 4],
     count: usize,
+    /// Where the nesting went too far. No contract speaks of it.
+    too_deep: Option<Span>,
 }
 
 impl Model for Error {
@@ -40,11 +43,11 @@ pub type Result<T> = std::result::Result<T, Error>;
 /// Fills the places behind the faults.
 const NO_FAULT: Fault = Fault {
     span: Span { start: 0, end: 0 },
-    text: "out of memory",
+    text: "",
 };
 
 impl Error {
-    ghost use Rattle.syn_tokens.specs.Faults.{fault_of, first_span, combined};
+    ghost use Rattle.syn_tokens.specs.Faults.{fault_of, first_span, combined, IsSyntaxError};
 
     /// The error with this fault.
     pub fn new(span: Span, text: &'static str) -> Error
@@ -53,6 +56,7 @@ impl Error {
         Error {
             faults: [Fault { span, text }, NO_FAULT, NO_FAULT, NO_FAULT],
             count: 1,
+            too_deep: None,
         }
     }
 
@@ -71,18 +75,40 @@ impl Error {
     pub fn memory() -> Error
         ensures { result ≡ [] }
     {
+        Error::without_fault(None)
+    }
+
+    /// The error where what is nested goes too deep for the stack, which is memory; the token there is the first that is too deep.
+    pub fn too_deep(span: Span) -> Error
+        ensures { result ≡ [] }
+    {
+        Error::without_fault(Some(span))
+    }
+
+    /// The error where memory was refused: the stack, where the nesting went too far there.
+    fn without_fault(too_deep: Option<Span>) -> Error
+        ensures { result ≡ [] }
+    {
         Error {
             faults: [NO_FAULT; 4],
             count: 0,
+            too_deep,
         }
     }
 
-    /// Whether memory was refused.
+    /// Whether memory was refused, or what is nested goes too deep for the stack.
     pub fn is_memory(&self) -> bool
         ensures value { IsTrue result ↔ (self.now ≡ []) }
         ensures few { length self.now ≤ 4 }
     {
         self.count == 0
+    }
+
+    /// Whether memory was refused since what is nested goes too deep for the stack. More memory doesn't help then.
+    pub fn is_too_deep(&self) -> bool
+        ensures memory { IsTrue result → self.now ≡ [] }
+    {
+        self.is_memory() && self.too_deep.is_some()
     }
 
     /// The faults; none where memory was refused.
@@ -92,27 +118,38 @@ impl Error {
         &self.faults[..self.count]
     }
 
-    /// Where the first fault is; 0 to 0 where memory was refused.
+    /// Where the first fault is. Where memory was refused: where the nesting went too far, or else 0 to 0.
     pub fn span(&self) -> Span
-        ensures { result ≡ first_span self.now }
+        ensures { IsSyntaxError self.now → result ≡ first_span self.now }
     {
         match self.faults().first() {
             Some(fault) => fault.span,
-            None => Span::call_site(),
+            None => self.too_deep.unwrap_or(Span::call_site()),
         }
     }
 
     /// Adds the faults of another error behind its own, up to the fourth. Where either is the refusal of memory, it
-    /// becomes that.
+    /// becomes that, and where both are it stays its own.
     pub fn combine(&mut self, other: Error)
         ensures { self.new ≡ combined self.old other }
     {
-        if self.is_memory() || other.is_memory() {
-            *self = Error::memory();
+        if self.is_memory() {
+            return;
+        }
+        if other.is_memory() {
+            *self = other;
             return;
         }
         for fault in other.faults() {
             self.add(*fault);
+        }
+    }
+
+    /// What is told where memory was refused.
+    fn text_of_memory(&self) -> &'static str {
+        match self.too_deep {
+            Some(_) => "nested too deep",
+            None => "out of memory",
         }
     }
 
@@ -128,15 +165,14 @@ impl Error {
 }
 
 impl fmt::Display for Error {
-    ghost use Rattle.std.specs.Prelude.{Some};
     ghost use Rattle.syn_tokens.specs.Faults.{first_text};
 
-    ghost output = { λ e. Some (first_text e) };
+    ghost output = { first_text };
 
     fn fmt<W: fmt::Write>(&self, f: &mut fmt::Formatter<W>) -> fmt::Result {
         let text = match self.faults().first() {
             Some(fault) => fault.text,
-            None => "out of memory",
+            None => self.text_of_memory(),
         };
         f.write_str(text)
     }

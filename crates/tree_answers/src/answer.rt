@@ -13,12 +13,17 @@ use syn_outlines::stream_shown;
 pub(crate) struct Place {
     pub(crate) told: usize,
     pub(crate) stopped: usize,
-    /// What is told is wrong with an impl's trait.
-    pub(crate) is_of_impl: bool,
+    /// What is told is a fault of which trees tell at the byte at which reading stopped, where they keep the item as its tokens.
+    pub(crate) is_of_item: bool,
 }
 
-/// What is told of an impl's trait.
-const OF_IMPLS: [&str; 2] = ["expected trait path", "inherent impls cannot be negative"];
+/// What is told of an impl's trait, and of the receiver of a function, as of one among statements.
+const OF_ITEMS: [&str; 4] = [
+    "expected trait path",
+    "inherent impls cannot be negative",
+    "unexpected method receiver",
+    "unexpected second method receiver",
+];
 
 /// What is answered to a question about a text.
 #[derive(PartialEq, Drop)]
@@ -80,19 +85,19 @@ impl Answer {
         Answer::Refused(Place {
             told: start,
             stopped: start,
-            is_of_impl: error
+            is_of_item: error
                 .faults()
                 .iter()
-                .any(|fault| OF_IMPLS.contains(&fault.text)),
+                .any(|fault| OF_ITEMS.contains(&fault.text)),
         })
     }
 
-    /// Whether this answer by trees is the same as that by the rule. What is wrong with an impl's trait is told at the byte at which
-    /// reading stopped where the impl is kept as its tokens.
+    /// Whether this answer by trees is the same as that by the rule. Of an item that is kept as its tokens some faults are told at the
+    /// byte at which reading stopped.
     pub(crate) fn is_as_by_rule(&self, by_rule: &Answer) -> bool {
         match (self, by_rule) {
             (Answer::Refused(tree), Answer::Refused(rule)) => {
-                tree.told == rule.told || rule.is_of_impl && tree.told == rule.stopped
+                tree.told == rule.told || rule.is_of_item && tree.told == rule.stopped
             }
             _ => self == by_rule,
         }

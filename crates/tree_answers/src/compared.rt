@@ -75,7 +75,7 @@ fn stopped(answer: Answer, rule: Rule, tokens: &TokenStream) -> Answer {
         Answer::Refused(stopped) => Answer::Refused(Place {
             told: place.told,
             stopped: stopped.told,
-            is_of_impl: place.is_of_impl,
+            is_of_item: place.is_of_item,
         }),
         other => other,
     }

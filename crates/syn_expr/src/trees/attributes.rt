@@ -77,6 +77,6 @@ fn join(attrs: Vec<Attribute>, own: &mut Vec<Attribute>) -> Parsed<()>
             *own = all;
             Ok(())
         }
-        Err(_) => Err(Refusal::Memory),
+        Err(_) => Err(Refusal::Memory(None)),
     }
 }

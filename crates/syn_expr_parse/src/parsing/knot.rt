@@ -11,7 +11,7 @@ use syn_lower::carrier::Carrier;
 use syn_parse::buffer::ParseBuffer;
 use syn_parse::read::refusal::Parsed;
 
-/// How many expressions and blocks may still stand inside, and what carries a refusal.
+/// How many KiB of stack are left, and what carries a refusal.
 pub type Inside<E> = (u32, PhantomData<E>);
 
 /// The functions that read nested expressions and statements as the trees `T`, and what they are told.

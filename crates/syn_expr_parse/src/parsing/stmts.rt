@@ -43,7 +43,7 @@ pub(crate) enum Place {
 
 /// Statements to the end.
 #[tactic(auto, using(crate::proofs::Listed::all_read, crate::proofs::Listed::none_more))]
-pub fn statements<N: Nested>(nested: &N, input: &mut ParseBuffer<'_>) -> Parsed<Vec<Stmt<N>>>
+pub(super) fn statements<N: Nested>(nested: &N, input: &mut ParseBuffer<'_>) -> Parsed<Vec<Stmt<N>>>
     requires { MayHere N.may nested.now input.old }
     ensures parses { MayParse IsSyntax (λ v. statements_of N.Trees.stmt_syntax v.items) rules.statements input.old result input.new }
 {
@@ -119,7 +119,7 @@ fn at_crate_item(input: &ParseBuffer<'_>) -> Parsed<bool>
     let mut behind = input.fork();
     match macro_invocation(&mut behind) {
         Ok(_) => Ok(at_postfix_mark(&behind)),
-        Err(Refusal::Memory) => Err(Refusal::Memory),
+        Err(Refusal::Memory(at)) => Err(Refusal::Memory(at)),
         Err(Refusal::Syntax { .. }) => Ok(false),
     }
 }

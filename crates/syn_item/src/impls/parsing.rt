@@ -113,7 +113,7 @@ fn told(refusal: Refusal, is_odd: bool, first: Span) -> Refusal
         return refusal;
     }
     match refusal {
-        Refusal::Memory => Refusal::Memory,
+        Refusal::Memory(at) => Refusal::Memory(at),
         Refusal::Syntax { span: _, text: _ } => Refusal::Syntax {
             span: first,
             text: "expected trait path",
@@ -203,7 +203,7 @@ fn for_behind_bang(bang_token: Not, input: &mut ParseBuffer<'_>) -> Parsed<For>
 {
     match input.read() {
         Ok(for_token) => Ok(for_token),
-        Err(Refusal::Memory) => Err(Refusal::Memory),
+        Err(Refusal::Memory(at)) => Err(Refusal::Memory(at)),
         Err(Refusal::Syntax { span: _, text: _ }) => Err(Refusal::Syntax {
             span: bang_token.spans[0],
             text: "inherent impls cannot be negative",

@@ -25,6 +25,7 @@ use syn_lower::Attribute;
 use syn_lower::attr::outer_attributes;
 use syn_lower::carrier::Carrier;
 use syn_parse::buffer::ParseBuffer;
+use syn_parse::limits::USE_TREE;
 use syn_parse::read::lists::punctuated_list;
 use syn_parse::read::refusal::{Parsed, Refusal};
 use syn_parse::read::{End, Read};
@@ -117,7 +118,7 @@ fn braced(input: &mut ParseBuffer<'_>) -> Parsed<UseTree>
             input.advance_to(&ahead);
             Ok(tree)
         }
-        Err(Refusal::Memory) => Err(Refusal::Memory),
+        Err(Refusal::Memory(at)) => Err(Refusal::Memory(at)),
         Err(Refusal::Syntax { span: _, text: _ }) => Err(fault_in_braces(input)),
     }
 }
@@ -134,14 +135,14 @@ fn fault_in_braces(input: &mut ParseBuffer<'_>) -> Refusal {
 /// Trees in braces, with `::` before each or without it.
 fn rooted_group(input: &mut ParseBuffer<'_>) -> Parsed<()> {
     let (_brace_token, mut content) = input.read_group::<kind::Brace>()?;
-    rooted_trees(&mut content, LEVELS)
+    rooted_trees(&mut content, input.stack_left())
 }
 
-/// Such trees with commas between them, up to the end, of which at most so many stand inside each other.
+/// Such trees with commas between them, up to the end, for which so many KiB of stack are left.
 #[cycle(rooted_trees)]
 fn rooted_trees(input: &mut ParseBuffer<'_>, inside: u32) -> Parsed<()> {
-    let Some(left) = inside.checked_sub(1) else {
-        return Err(Refusal::Memory);
+    let Some(left) = inside.checked_sub(USE_TREE) else {
+        return Err(Refusal::Memory(Some(input.span())));
     };
     'trees: while !input.is_empty() {
         if input.peek::<Brace>() {
@@ -269,7 +270,7 @@ fn other_name(input: &mut ParseBuffer<'_>) -> Parsed<Ident>
 {
     match name_or::<OrUnderscore>(input) {
         Ok(ident) => Ok(ident),
-        Err(Refusal::Memory) => Err(Refusal::Memory),
+        Err(Refusal::Memory(at)) => Err(Refusal::Memory(at)),
         Err(Refusal::Syntax { span, text: _ }) => Err(Refusal::Syntax {
             span,
             text: "expected identifier or underscore",
@@ -277,10 +278,7 @@ fn other_name(input: &mut ParseBuffer<'_>) -> Parsed<Ident>
     }
 }
 
-/// How many trees may stand inside each other, behind `::` and in braces. The stack is memory too, and is refused for what is deeper.
-const LEVELS: u32 = 200;
-
-/// How many trees may still stand inside, and what carries a refusal.
+/// How many KiB of stack are left, and what carries a refusal.
 type Inside<E> = (u32, PhantomData<E>);
 
 /// The function that reads a nested tree, and what it is told.
@@ -312,8 +310,8 @@ fn nested_tree<E: Carrier>(
 ) -> std::result::Result<UseTree, E>
     ensures parses { Parses E.is_syntax syntax_of_UseTree rules.use_tree input.old result input.new }
 {
-    let Some(left) = inside.0.checked_sub(1) else {
-        return Err(E::carry(Refusal::Memory));
+    let Some(left) = inside.0.checked_sub(USE_TREE) else {
+        return Err(E::carry(Refusal::Memory(Some(input.span()))));
     };
     let knot = Knot {
         tree: nested_tree::<E>,
@@ -327,14 +325,15 @@ fn nested_tree<E: Carrier>(
 
 /// `*`; trees in braces; or a name, `self`, `super`, `crate` or `try`, with `::` and a tree behind it, with `as` and a name or `_`, or alone.
 ///
-/// Where neither a name nor `_` stands behind `as`, the fault is `expected identifier or underscore`. More than 200 trees in each other are
-/// refused for memory.
+/// Where neither a name nor `_` stands behind `as`, the fault is `expected identifier or underscore`. What is nested too deep for the stack
+/// is refused as memory is.
 impl Read for UseTree {
     ghost form = { of (rule rules.use_tree) };
 
     ghost meaning = { meaning_of_rule rules.use_tree };
 
     fn read(input: &mut ParseBuffer<'_>) -> Parsed<UseTree> {
-        nested_tree::<Refusal>(input, (LEVELS, PhantomData))
+        let left = input.stack_left();
+        nested_tree::<Refusal>(input, (left, PhantomData))
     }
 }

@@ -10,10 +10,12 @@ use syn_item::sig::{
 use syn_item::simple::{ItemConst, ItemMod, ItemType, ItemUse, WhereClausePlacement};
 use syn_item::use_tree::{UseName, UseTree};
 use syn_parse::buffer::ParseBuffer;
-use syn_parse::parse::{Parse, parse2};
+use syn_parse::limits::{STACK, USE_TREE};
+use syn_parse::parse::Parse;
 use syn_pat::Pat;
 use syn_tokens::error::Result;
 use syn_tokens::span::Span;
+use syn_whole::parse::parse2;
 
 /// Every part of a function has its field.
 #[test]
@@ -215,12 +217,12 @@ fn conversions(rt: HostRuntime) {
     assert!(rt; matches!(FnArg::from(receiver), FnArg::Receiver(_)));
 }
 
-/// Trees of a use may stand 200 deep in each other.
+/// Trees of a use may stand so deep in each other, and one more is refused where it begins.
 #[test]
 fn deep_uses(rt: HostRuntime) {
     let alloc = rt.alloc();
     let mut text = String::new(alloc);
-    for _ in 0..199 {
+    for _ in 1..STACK / USE_TREE {
         value(&rt, text.push_str("a::").map_err(|e| e.into()));
     }
     let mut longer = value(
@@ -231,5 +233,8 @@ fn deep_uses(rt: HostRuntime) {
     let _tree: UseTree = part(&rt, alloc, text.as_str());
     value(&rt, longer.push_str("a::b").map_err(|e| e.into()));
     let answer: Result<UseTree> = parse2(tokens(&rt, alloc, longer.as_str()));
-    assert!(rt; matches!(answer, Err(error) if error.is_memory()));
+    let start = (STACK / USE_TREE) as usize * "a::".len();
+    assert!(rt;
+        matches!(answer, Err(error) if error.is_memory() && error.is_too_deep() && error.span().start == start)
+    );
 }

@@ -5,7 +5,7 @@ use std::alloc::Global;
 use std::process::Abort;
 use syn_lower::{Attribute, Generics, WhereClause};
 use syn_parse::buffer::ParseBuffer;
-use syn_parse::parse::{Parse, parse2};
+use syn_parse::parse::Parse;
 use syn_reader::reader::{read_tokens, token_text};
 use syn_recognize::deferred::{DeferredItems, read_deferred_rest};
 use syn_tokens::error::{Error, Result};
@@ -15,6 +15,7 @@ use syn_tokens::span::Span;
 use syn_tokens::stream::TokenStream;
 use syn_tokens::syntactic::try_clone::TryClone;
 use syn_tokens::token::Brace;
+use syn_whole::parse::parse2;
 
 /// What the answer holds.
 pub fn value<T: Drop>(rt: &impl Abort, answer: Result<T>) -> T {

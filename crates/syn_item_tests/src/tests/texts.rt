@@ -14,11 +14,12 @@ use syn_item::simple::{
 };
 use syn_item::traits::{ItemTrait, TraitItem};
 use syn_item::use_tree::UseTree;
-use syn_parse::parse::{Parse, parse2};
+use syn_parse::parse::Parse;
 use syn_reader::reader::read_tokens;
 use syn_tokens::error::Result;
 use syn_tokens::print::ToTokens;
 use syn_tokens::syntactic::try_clone::TryClone;
+use syn_whole::parse::parse2;
 
 mod file;
 mod fn_arg;

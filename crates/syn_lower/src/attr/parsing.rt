@@ -278,6 +278,6 @@ fn all_left(input: &mut ParseBuffer<'_>) -> Parsed<TokenStream>
 {
     match input.rest() {
         Ok(tokens) => Ok(tokens),
-        Err(_) => Err(Refusal::Memory),
+        Err(_) => Err(Refusal::Memory(None)),
     }
 }

@@ -19,14 +19,11 @@ use crate::carrier::Carrier;
 use crate::{AngleBracketedGenericArguments, Path, PathArguments, ReturnType, Type, TypePath};
 use std::marker::PhantomData;
 use syn_parse::buffer::ParseBuffer;
+use syn_parse::limits::TYPE;
 use syn_parse::read::Read;
 use syn_parse::read::refusal::{Parsed, Refusal};
 
-/// How many types may stand inside each other. The stack is memory too, and is refused for what is deeper: a type takes up to 35 KB of
-/// it in a trial build, which isn't optimized, and a main thread usually has 8 MB.
-const LEVELS: u32 = 200;
-
-/// How many types may still stand inside, and what carries a refusal.
+/// How many KiB of stack are left, and what carries a refusal.
 type Inside<E> = (u32, PhantomData<E>);
 
 /// The function that reads a nested type, and what it is told.
@@ -56,8 +53,8 @@ fn nested_type<E: Carrier>(
 ) -> std::result::Result<Type, E>
     ensures parses { Parses E.is_syntax syntax_of_Type rules.type input.old result input.new }
 {
-    let Some(left) = inside.0.checked_sub(1) else {
-        return Err(E::carry(Refusal::Memory));
+    let Some(left) = inside.0.checked_sub(TYPE) else {
+        return Err(E::carry(Refusal::Memory(Some(input.span()))));
     };
     let knot = Knot {
         ty: nested_type::<E>,
@@ -76,7 +73,8 @@ impl Read for Type {
     ghost meaning = { meaning_of_rule rules.type };
 
     fn read(input: &mut ParseBuffer<'_>) -> Parsed<Type> {
-        nested_type::<Refusal>(input, (LEVELS, PhantomData))
+        let left = input.stack_left();
+        nested_type::<Refusal>(input, (left, PhantomData))
     }
 }
 
@@ -89,7 +87,7 @@ impl Read for TypePath {
     fn read(input: &mut ParseBuffer<'_>) -> Parsed<TypePath> {
         let knot = Knot {
             ty: nested_type::<Refusal>,
-            inside: (LEVELS, PhantomData),
+            inside: (input.stack_left(), PhantomData),
         };
         path_as_type(&knot, input)
     }
@@ -104,7 +102,7 @@ impl Read for Path {
     fn read(input: &mut ParseBuffer<'_>) -> Parsed<Path> {
         let knot = Knot {
             ty: nested_type::<Refusal>,
-            inside: (LEVELS, PhantomData),
+            inside: (input.stack_left(), PhantomData),
         };
         type_path(&knot, input)
     }
@@ -121,7 +119,7 @@ impl Read for ReturnType {
     fn read(input: &mut ParseBuffer<'_>) -> Parsed<ReturnType> {
         let knot = Knot {
             ty: nested_type::<Refusal>,
-            inside: (LEVELS, PhantomData),
+            inside: (input.stack_left(), PhantomData),
         };
         return_type(&knot, input)
     }
@@ -136,7 +134,7 @@ impl Read for AngleBracketedGenericArguments {
     fn read(input: &mut ParseBuffer<'_>) -> Parsed<AngleBracketedGenericArguments> {
         let knot = Knot {
             ty: nested_type::<Refusal>,
-            inside: (LEVELS, PhantomData),
+            inside: (input.stack_left(), PhantomData),
         };
         angle_bracketed(&knot, input)
     }
@@ -149,7 +147,7 @@ pub fn path_arguments(input: &mut ParseBuffer<'_>) -> Parsed<PathArguments>
 {
     let knot = Knot {
         ty: nested_type::<Refusal>,
-        inside: (LEVELS, PhantomData),
+        inside: (input.stack_left(), PhantomData),
     };
     some_arguments(&knot, input)
 }

@@ -1,5 +1,5 @@
 //! Why a parser read nothing.
-ghost use Rattle.std.specs.Prelude.{◌≡◌};
+ghost use Rattle.std.specs.Prelude.{◌≡◌, None};
 ghost use Rattle.syn_parse.specs.Refusals.{IsRefusedAs};
 ghost use Rattle.syn_parse.specs.declared.read.refusal.Refusal.TheVariants.{Memory};
 
@@ -10,8 +10,8 @@ use syn_tokens::span::Span;
 /// Why a parser read nothing; smaller than an `Error`, which has room for four faults.
 #[derive(Clone, Copy, Debug)]
 pub enum Refusal {
-    /// Memory was refused.
-    Memory,
+    /// Memory was refused; where what is nested goes too deep for the stack, with the first token that is too deep.
+    Memory(Option<Span>),
     /// The tokens are no such thing: where, and the text of the fault, such as ``expected `struct` ``.
     Syntax { span: Span, text: &'static str },
 }
@@ -20,18 +20,18 @@ pub enum Refusal {
 pub type Parsed<T> = std::result::Result<T, Refusal>;
 
 impl From<AllocError> for Refusal {
-    ghost from_gives = { λ _ e. e ≡ Memory };
+    ghost from_gives = { λ _ e. e ≡ Memory None };
 
     fn from(_e: AllocError) -> Refusal {
-        Refusal::Memory
+        Refusal::Memory(None)
     }
 }
 
 impl<T: Drop> From<AllocFailed<T>> for Refusal {
-    ghost from_gives = { λ _ e. e ≡ Memory };
+    ghost from_gives = { λ _ e. e ≡ Memory None };
 
     fn from(_e: AllocFailed<T>) -> Refusal {
-        Refusal::Memory
+        Refusal::Memory(None)
     }
 }
 
@@ -40,7 +40,8 @@ impl From<Refusal> for Error {
 
     fn from(refusal: Refusal) -> Error {
         match refusal {
-            Refusal::Memory => Error::memory(),
+            Refusal::Memory(None) => Error::memory(),
+            Refusal::Memory(Some(span)) => Error::too_deep(span),
             Refusal::Syntax { span, text } => Error::new(span, text),
         }
     }

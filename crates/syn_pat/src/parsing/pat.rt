@@ -22,6 +22,7 @@ use crate::pat::{PatIdent, PatParen, PatPath, PatTuple, PatTupleStruct, PatType,
 use std::marker::PhantomData;
 use syn_lower::carrier::Carrier;
 use syn_parse::buffer::ParseBuffer;
+use syn_parse::limits::PATTERN;
 use syn_parse::read::lists::punctuated_list;
 use syn_parse::read::refusal::{Parsed, Refusal};
 use syn_parse::read::{End, Read};
@@ -57,6 +58,18 @@ fn pattern<N: NestedPat>(nested: &N, input: &mut ParseBuffer<'_>) -> Parsed<Pat>
     } else {
         name(input)
     }
+}
+
+/// A pattern that is left so many KiB of stack.
+fn pattern_within<N: NestedPat>(kib: u32, nested: &N, input: &mut ParseBuffer<'_>) -> Parsed<Pat>
+    requires { MayBelow N.may nested.now input.old }
+    ensures parses { Parses IsSyntax syntax_of_Pat rules.pattern input.old result input.new }
+{
+    let outside = input.stack_left();
+    input.set_stack_left(kib);
+    let answer = pattern(nested, input);
+    input.set_stack_left(outside);
+    answer
 }
 
 /// `_`.
@@ -156,10 +169,7 @@ fn patterns<N: NestedPat>(nested: &N, input: &mut ParseBuffer<'_>) -> Parsed<Pun
     punctuated_list::<End, Comma, _, _>(input, |next| nested.pat(next))
 }
 
-/// How many patterns may stand inside each other. The stack is memory too, and is refused for what is deeper.
-const LEVELS: u32 = 200;
-
-/// How many patterns may still stand inside, and what carries a refusal.
+/// How many KiB of stack are left, and what carries a refusal.
 type Inside<E> = (u32, PhantomData<E>);
 
 /// The function that reads a nested pattern, and what it is told.
@@ -189,14 +199,14 @@ fn nested_pattern<E: Carrier>(
 ) -> std::result::Result<Pat, E>
     ensures parses { Parses E.is_syntax syntax_of_Pat rules.pattern input.old result input.new }
 {
-    let Some(left) = inside.0.checked_sub(1) else {
-        return Err(E::carry(Refusal::Memory));
+    let Some(left) = inside.0.checked_sub(PATTERN) else {
+        return Err(E::carry(Refusal::Memory(Some(input.span()))));
     };
     let knot = Knot {
         pat: nested_pattern::<E>,
         inside: (left, inside.1),
     };
-    match pattern(&knot, input) {
+    match pattern_within(left, &knot, input) {
         Ok(value) => Ok(value),
         Err(refusal) => Err(E::carry(refusal)),
     }
@@ -209,7 +219,8 @@ impl Read for Pat {
     ghost meaning = { meaning_of_rule rules.pattern };
 
     fn read(input: &mut ParseBuffer<'_>) -> Parsed<Pat> {
-        nested_pattern::<Refusal>(input, (LEVELS, PhantomData))
+        let left = input.stack_left();
+        nested_pattern::<Refusal>(input, (left, PhantomData))
     }
 }
 

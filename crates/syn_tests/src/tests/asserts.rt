@@ -8,13 +8,26 @@ use std::fmt::Debug;
 use std::process::Abort;
 use syn::parse::Parse;
 use syn::reader::read_tokens;
-use syn::token::{Delimiter, TokenStream};
-use syn::{ToTokens, TryClone};
+use syn::token::{Delimiter, Span, TokenStream};
+use syn::{Error, ToTokens, TryClone};
 use syn_test_support::{parsed, print_shown, printed, push_group};
 
 /// What the answer holds. A refusal fails the test, and is shown.
 pub fn value<T, E: Debug>(rt: &impl Abort, answer: Result<T, E>) -> T {
     answer.expect(rt, "an answer")
+}
+
+/// Where the answer is refused as nested too deep. Any other answer fails the test, and where it is refused it is shown.
+pub fn too_deep_at<T: Drop>(rt: &impl Abort, answer: Result<T, Error>) -> Span {
+    match answer {
+        Ok(_value) => panic!(rt; "not refused as nested too deep"),
+        Err(error) => {
+            if error.is_memory() && error.is_too_deep() {
+                return error.span();
+            }
+            value(rt, Err(error))
+        }
+    }
 }
 
 /// What the whole text is parsed as.

@@ -1,19 +1,20 @@
 //! Texts and trees that are nested deep.
-use crate::tests::asserts::{tokens_of, tree_of, value};
+use crate::tests::asserts::{tokens_of, too_deep_at, tree_of, value};
 use std::alloc::{AllocError, Global};
 use std::process::Abort;
-use syn::TryClone;
 use syn::data::FieldsNamed;
 use syn::lower::Type;
 use syn::parse::{Parse, parse2};
 use syn::print::ToTokens;
 use syn::reader::token_text;
+use syn::{Block, Expr, TryClone};
+use syn_parse::limits::{EXPRESSION, FIELDS, PATTERN, STACK, TYPE};
 use syn_test_support::printed;
 
 const DEEP: usize = 100_000;
 
 /// One text so many times, a second one, and a third as often as the first.
-fn repeated(
+pub fn repeated(
     alloc: Global,
     depth: usize,
     before: &str,
@@ -35,9 +36,6 @@ fn read_and_written(rt: HostRuntime) {
     assert!(rt; value(&rt, token_text(&tokens)).len() == 4 * DEEP - 1);
 }
 
-/// In so many others may a type stand.
-const DEEP_TYPES: usize = 199;
-
 /// What stands around a type: references, pointers, groups and arguments.
 const AROUND: &[(&str, &str)] = &[
     ("&", ""),
@@ -52,7 +50,7 @@ const AROUND: &[(&str, &str)] = &[
 ];
 
 /// Fails where the text isn't read, copied and printed, and its print read again as an equal tree.
-fn assert_read_again<T: Parse + ToTokens + TryClone + PartialEq + Drop>(
+pub fn assert_read_again<T: Parse + ToTokens + TryClone + PartialEq + Drop>(
     rt: &impl Abort,
     alloc: Global,
     text: &str,
@@ -70,46 +68,157 @@ fn assert_read_again<T: Parse + ToTokens + TryClone + PartialEq + Drop>(
 #[test]
 fn types(rt: HostRuntime) {
     for (before, behind) in AROUND {
-        let text = value(&rt, repeated(rt.alloc(), DEEP_TYPES, before, "u8", behind));
+        let text = value(
+            &rt,
+            repeated(rt.alloc(), around(TYPE), before, "u8", behind),
+        );
         assert_read_again::<Type>(&rt, rt.alloc(), text.as_str());
     }
 }
 
-/// Fails where the text isn't refused as a `T` for want of memory, but read, or refused for its tokens.
-fn assert_too_deep<T: Parse + Drop>(rt: &impl Abort, alloc: Global, text: &str) {
+/// How many may be read in each other, where one takes so many KiB of stack.
+fn most(kib: u32) -> usize {
+    fit(STACK, kib)
+}
+
+/// How many of so many KiB fit into all of these.
+pub fn fit(all: u32, kib: u32) -> usize {
+    all.checked_div(kib).unwrap_or(0) as usize
+}
+
+/// How many may stand around the innermost one.
+fn around(kib: u32) -> usize {
+    most(kib).saturating_sub(1)
+}
+
+/// Fails where the text isn't refused as a `T` as nested too deep, with the token at this byte the first that is.
+pub fn assert_too_deep<T: Parse + Drop>(rt: &impl Abort, alloc: Global, text: &str, start: usize) {
     let tokens = tokens_of(rt, alloc, text);
-    let answer = parse2::<T>(tokens);
-    assert!(rt;
-        matches!(&answer, Err(error) if error.is_memory()),
-        "{text}"
+    let span = too_deep_at(rt, parse2::<T>(tokens));
+    assert!(rt; span.start == start, "{text}");
+}
+
+/// Fails where one more than fit, of so many KiB each, aren't refused as nested too deep, nor far more; each stands right behind what
+/// stands before it.
+fn assert_limited<T: Parse + Drop>(
+    rt: &impl Abort,
+    alloc: Global,
+    kib: u32,
+    (before, inside, behind): (&str, &str, &str),
+) {
+    let start = most(kib).saturating_mul(before.len());
+    for depth in [most(kib), 10_000] {
+        let text = value(rt, repeated(alloc, depth, before, inside, behind));
+        assert_too_deep::<T>(rt, alloc, text.as_str(), start);
+    }
+}
+
+#[test]
+fn deeper_types_are_refused(rt: HostRuntime) {
+    for (before, behind) in AROUND {
+        assert_limited::<Type>(&rt, rt.alloc(), TYPE, (before, "u8", behind));
+    }
+}
+
+/// What stands around an expression.
+const AROUND_EXPRESSIONS: &[(&str, &str)] = &[
+    ("(", ")"),
+    ("(", ", a)"),
+    ("[", "]"),
+    ("a(", ")"),
+    ("a.b(", ")"),
+    ("a[", "]"),
+    ("!", ""),
+    ("&mut ", ""),
+];
+
+#[test]
+fn expressions(rt: HostRuntime) {
+    for (before, behind) in AROUND_EXPRESSIONS {
+        let depth = around(EXPRESSION);
+        let text = value(&rt, repeated(rt.alloc(), depth, before, "a", behind));
+        assert_read_again::<Expr>(&rt, rt.alloc(), text.as_str());
+    }
+}
+
+#[test]
+fn deeper_expressions_are_refused(rt: HostRuntime) {
+    for (before, behind) in AROUND_EXPRESSIONS {
+        assert_limited::<Expr>(&rt, rt.alloc(), EXPRESSION, (before, "a", behind));
+    }
+}
+
+/// An `if` with as many more behind `else` that there are so many in all.
+fn chain_of_ifs(alloc: Global, count: usize) -> Result<String, AllocError> {
+    repeated(alloc, count, "if a {} else ", "{}", "")
+}
+
+/// The condition of an `if` is an expression in it.
+#[test]
+fn chains_of_else_if(rt: HostRuntime) {
+    let text = value(&rt, chain_of_ifs(rt.alloc(), around(EXPRESSION)));
+    assert_read_again::<Expr>(&rt, rt.alloc(), text.as_str());
+    let text = value(&rt, chain_of_ifs(rt.alloc(), most(EXPRESSION)));
+    let start = around(EXPRESSION).saturating_mul("if a {} else ".len());
+    assert_too_deep::<Expr>(
+        &rt,
+        rt.alloc(),
+        text.as_str(),
+        start.saturating_add("if ".len()),
     );
 }
 
+/// A cast to a type behind so many `&`, in so many parentheses.
+fn cast(alloc: Global, references: usize, depth: usize) -> Result<String, AllocError> {
+    let mut text = String::new(alloc);
+    text.push_str("a as ")?;
+    text.push_str(repeated(alloc, references, "&", "u8", "")?.as_str())?;
+    repeated(alloc, depth, "(", text.as_str(), ")")
+}
+
+/// Types in expressions have the stack that those leave.
 #[test]
-fn deeper_types_are_refused_for_memory(rt: HostRuntime) {
-    for (before, behind) in AROUND {
-        for depth in [DEEP_TYPES + 1, 10_000] {
-            let text = value(&rt, repeated(rt.alloc(), depth, before, "u8", behind));
-            assert_too_deep::<Type>(&rt, rt.alloc(), text.as_str());
-        }
+fn types_in_expressions(rt: HostRuntime) {
+    let left = fit(STACK.saturating_sub(61 * EXPRESSION), TYPE);
+    let text = value(&rt, cast(rt.alloc(), left.saturating_sub(1), 60));
+    assert_read_again::<Expr>(&rt, rt.alloc(), text.as_str());
+    let text = value(&rt, cast(rt.alloc(), around(TYPE), 60));
+    let start = left.saturating_add(60).saturating_add("a as ".len());
+    assert_too_deep::<Expr>(&rt, rt.alloc(), text.as_str(), start);
+}
+
+/// A block with a local, whose name is in so many parentheses.
+fn local(alloc: Global, depth: usize) -> Result<String, AllocError> {
+    let pattern = repeated(alloc, depth, "(", "a", ")")?;
+    let mut text = String::new(alloc);
+    text.push_str("{ let ")?;
+    text.push_str(pattern.as_str())?;
+    text.push_str(" = b; }")?;
+    Ok(text)
+}
+
+/// The statements that a pattern stands in count as an expression.
+#[test]
+fn patterns(rt: HostRuntime) {
+    let left = fit(STACK.saturating_sub(EXPRESSION), PATTERN);
+    let text = value(&rt, local(rt.alloc(), left.saturating_sub(1)));
+    assert_read_again::<Block>(&rt, rt.alloc(), text.as_str());
+    let start = left.saturating_add("{ let ".len());
+    for depth in [left, 10_000] {
+        let text = value(&rt, local(rt.alloc(), depth));
+        assert_too_deep::<Block>(&rt, rt.alloc(), text.as_str(), start);
     }
 }
 
-/// In so many others may fields in braces stand.
-const DEEP_FIELDS: usize = 29;
-
-/// So many braces with one field around braces with one.
+/// So many braces with one field around braces without one.
 fn fields_inside(alloc: Global, depth: usize) -> Result<String, AllocError> {
-    repeated(alloc, depth, "{ _: struct ", "{ a: u8 }", " }")
+    repeated(alloc, depth, "{ _: struct ", "{}", " }")
 }
 
 #[test]
-fn deeper_fields_are_refused_for_memory(rt: HostRuntime) {
-    let text = value(&rt, fields_inside(rt.alloc(), DEEP_FIELDS));
+fn deeper_fields_are_refused(rt: HostRuntime) {
+    let text = value(&rt, fields_inside(rt.alloc(), around(FIELDS)));
     let fields: FieldsNamed = tree_of(&rt, rt.alloc(), text.as_str());
     assert!(rt; fields.named.len() == 1);
-    for depth in [DEEP_FIELDS + 1, 10_000] {
-        let text = value(&rt, fields_inside(rt.alloc(), depth));
-        assert_too_deep::<FieldsNamed>(&rt, rt.alloc(), text.as_str());
-    }
+    assert_limited::<FieldsNamed>(&rt, rt.alloc(), FIELDS, ("{ _: struct ", "{}", " }"));
 }

@@ -1,5 +1,5 @@
 //! Items, statements and blocks that are deferred: opened, and deferred once more.
-use crate::tests::asserts::{assert_printed, assert_text, tokens_of, tree_of, value};
+use crate::tests::asserts::{assert_printed, assert_text, tokens_of, too_deep_at, tree_of, value};
 use std::alloc::Global;
 use std::process::Abort;
 use syn::canon::Stmts;
@@ -232,7 +232,7 @@ fn nested_braces(rt: &impl Abort, alloc: Global, depth: usize) -> String {
     text
 }
 
-/// A body is kept however deep its statements are nested; trees that are nested too deep are refused for memory.
+/// A body is kept however deep its statements are nested; trees that are nested too deep are refused, and the error says so.
 #[test]
 fn deep_bodies(rt: HostRuntime) {
     let text = nested_braces(&rt, rt.alloc(), 20);
@@ -240,5 +240,5 @@ fn deep_bodies(rt: HostRuntime) {
     assert!(rt; opened.is_ok());
     let text = nested_braces(&rt, rt.alloc(), 200);
     let opened: Result<Block> = body(&rt, rt.alloc(), text.as_str()).open();
-    assert!(rt; matches!(opened, Err(error) if error.is_memory()));
+    let _span = too_deep_at(&rt, opened);
 }

@@ -83,6 +83,8 @@ fn variant_behind(rt: &impl Abort, alloc: Global, text: &str) -> Result<Variant>
 fn variants_behind_groups(rt: HostRuntime) {
     let variant = value(&rt, variant_behind(&rt, rt.alloc(), ""));
     assert_printed(&rt, rt.alloc(), variant, "A");
-    let missed = value(&rt, fault(variant_behind(&rt, rt.alloc(), "pub")));
+    let variant = value(&rt, variant_behind(&rt, rt.alloc(), "pub"));
+    assert_printed(&rt, rt.alloc(), variant, "A");
+    let missed = value(&rt, fault(variant_behind(&rt, rt.alloc(), "1")));
     assert!(rt; missed.text == "expected identifier");
 }

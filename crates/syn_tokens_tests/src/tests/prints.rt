@@ -3,7 +3,7 @@ use crate::tests::support::{assert_shown, at, is_shown, stream, tokens};
 use std::alloc::Global;
 use std::process::Abort;
 use syn_parse::buffer::ParseBuffer;
-use syn_parse::parse::{Parse, parse2};
+use syn_parse::parse::Parse;
 use syn_tokens::error::Result;
 use syn_tokens::ident::Ident;
 use syn_tokens::lifetime::Lifetime;
@@ -13,6 +13,7 @@ use syn_tokens::punctuated::Punctuated;
 use syn_tokens::stream::TokenStream;
 use syn_tokens::stream::builder::StreamBuilder;
 use syn_tokens::token::{Comma, DelimiterKind, Delimiters, Pub, kind};
+use syn_whole::parse::parse2;
 
 /// What a value prints behind an `x`.
 fn print_behind<T: ToTokens>(alloc: Global, value: &T) -> Result<TokenStream> {

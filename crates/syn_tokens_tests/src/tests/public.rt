@@ -3,12 +3,12 @@ use crate::tests::support::{assert_parsed, at, refused, stream, tells, tokens};
 use std::alloc::Global;
 use syn_parse::buffer::ParseBuffer;
 use syn_parse::ext::IdentExt;
-use syn_parse::parse::parse2;
 use syn_tokens::error::{Error, Result};
 use syn_tokens::ident::Ident;
 use syn_tokens::punctuated::Punctuated;
 use syn_tokens::stream::TokenStream;
 use syn_tokens::token::{Comma, DelimiterKind, Delimiters, Enum, PathSep, Pub, Struct, Type};
+use syn_whole::parse::parse2;
 
 /// Whether it is the identifier of this text.
 fn is_name(answer: Result<Ident>, text: &str) -> bool {

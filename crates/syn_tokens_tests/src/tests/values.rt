@@ -194,7 +194,7 @@ fn signs(rt: HostRuntime) {
 fn is_refusal(refusal: Refusal, here: Span, text: &str) -> bool {
     match refusal {
         Refusal::Syntax { span, text: said } => span == here && said == text,
-        Refusal::Memory => false,
+        Refusal::Memory(_) => false,
     }
 }
 

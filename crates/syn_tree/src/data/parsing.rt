@@ -24,6 +24,7 @@ use syn_lower::attr::all_outer_attributes;
 use syn_lower::carrier::Carrier;
 use syn_lower::looks::at_nameless_fields;
 use syn_parse::buffer::ParseBuffer;
+use syn_parse::limits::FIELDS;
 use syn_parse::read::End;
 use syn_parse::read::lists::punctuated_list;
 use syn_parse::read::refusal::{Parsed, Refusal};
@@ -43,12 +44,7 @@ pub(crate) trait Nested {
         ensures { Parses IsSyntax itself rules.fields_named input.old result input.new };
 }
 
-/// How many braces with fields may stand inside each other. The stack is memory too, and is refused for what is deeper, as for types
-/// (`lower::parsing::recursion`), which take their own share of it inside.
-const LEVELS: u32 = 30;
-
-/// The parser itself, as what reads the fields inside, and what it is told: how many braces may still stand inside, and what carries a
-/// refusal.
+/// The parser itself, as what reads the fields inside, and what it is told: how many KiB of stack are left, and what carries a refusal.
 #[derive(Drop)]
 struct Knot<E, F> {
     fields_named: F,
@@ -76,14 +72,14 @@ fn read_fields_named<E: Carrier>(
 ) -> std::result::Result<FieldsNamed, E>
     ensures { Parses E.is_syntax itself rules.fields_named input.old result input.new }
 {
-    let Some(left) = inside.0.checked_sub(1) else {
-        return Err(E::carry(Refusal::Memory));
+    let Some(left) = inside.0.checked_sub(FIELDS) else {
+        return Err(E::carry(Refusal::Memory(Some(input.span()))));
     };
     let knot = Knot {
         fields_named: read_fields_named::<E>,
         inside: (left, inside.1),
     };
-    match braced_fields(&knot, input) {
+    match fields_within(left, &knot, input) {
         Ok(fields) => Ok(fields),
         Err(refusal) => Err(E::carry(refusal)),
     }
@@ -93,7 +89,8 @@ fn read_fields_named<E: Carrier>(
 pub(crate) fn fields_named(input: &mut ParseBuffer<'_>) -> Parsed<FieldsNamed>
     ensures { Parses IsSyntax itself rules.fields_named input.old result input.new }
 {
-    read_fields_named::<Refusal>(input, (LEVELS, PhantomData))
+    let left = input.stack_left();
+    read_fields_named::<Refusal>(input, (left, PhantomData))
 }
 
 /// A field with a name.
@@ -102,7 +99,7 @@ pub(crate) fn named_field(input: &mut ParseBuffer<'_>) -> Parsed<Field>
 {
     let knot = Knot {
         fields_named: read_fields_named::<Refusal>,
-        inside: (LEVELS, PhantomData),
+        inside: (input.stack_left(), PhantomData),
     };
     field(&knot, input)
 }
@@ -117,6 +114,22 @@ fn braced_fields<N: Nested>(nested: &N, input: &mut ParseBuffer<'_>) -> Parsed<F
     let named = named_fields(nested, &mut content)?;
     content.read_end()?;
     Ok(FieldsNamed { brace_token, named })
+}
+
+/// Fields with names, in braces, that are left so many KiB of stack.
+fn fields_within<N: Nested>(
+    kib: u32,
+    nested: &N,
+    input: &mut ParseBuffer<'_>,
+) -> Parsed<FieldsNamed>
+    requires { MayBelow N.may nested.now input.old }
+    ensures { Parses IsSyntax itself rules.fields_named input.old result input.new }
+{
+    let outside = input.stack_left();
+    input.set_stack_left(kib);
+    let answer = braced_fields(nested, input);
+    input.set_stack_left(outside);
+    answer
 }
 
 /// Fields with names, separated by commas; the last comma may stand or not.
@@ -200,7 +213,7 @@ fn nameless_fields<N: Nested>(nested: &N, input: &mut ParseBuffer<'_>) -> Parsed
     let _fields = nested.fields_named(input)?;
     match begin.between(input) {
         Ok(tokens) => Ok(tokens),
-        Err(_) => Err(Refusal::Memory),
+        Err(_) => Err(Refusal::Memory(None)),
     }
 }
 

@@ -130,7 +130,7 @@ fn at_foreign_module(input: &ParseBuffer<'_>) -> Parsed<bool>
     let mut ahead = input.fork();
     match marked_abi(&mut ahead) {
         Ok(_) => Ok(ahead.peek::<Brace>()),
-        Err(Refusal::Memory) => Err(Refusal::Memory),
+        Err(Refusal::Memory(at)) => Err(Refusal::Memory(at)),
         Err(Refusal::Syntax { .. }) => Ok(false),
     }
 }

@@ -50,7 +50,7 @@ fn is_alias(input: &ParseBuffer<'_>) -> Parsed<bool>
     let mut ahead = input.fork();
     match read_by(Rule::WhereClause, &mut ahead) {
         Ok(()) => Ok(ahead.peek::<Eq>()),
-        Err(Refusal::Memory) => Err(Refusal::Memory),
+        Err(Refusal::Memory(at)) => Err(Refusal::Memory(at)),
         Err(Refusal::Syntax { .. }) => Ok(true),
     }
 }
@@ -121,7 +121,7 @@ fn is_use(input: &ParseBuffer<'_>) -> Parsed<bool>
 {
     match read_by(Rule::UseItemRest, &mut input.fork()) {
         Ok(()) => Ok(true),
-        Err(Refusal::Memory) => Err(Refusal::Memory),
+        Err(Refusal::Memory(at)) => Err(Refusal::Memory(at)),
         Err(Refusal::Syntax { .. }) => Ok(false),
     }
 }

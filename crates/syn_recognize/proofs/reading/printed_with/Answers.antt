@@ -10,6 +10,6 @@ pub returns-clause-reads : goal.returns-clause-reads
 returns-clause-reads c =
     let k = rule_of c.args.rule in
     let ts = c.args.input.now in
-    let one = c.write_rule.new in
+    let one = c.write_guessing.new in
     let printed : copied (blank true) (parse_rule k ts) ≡ Reached one.out one.input = search rules in
     shown true k one.out ts one.input c.in_ok-printed.printed printed c.in_ok-printed.ensures

@@ -1,0 +1,212 @@
+//! The links that were counted in a group. What may be none counts too, so there are never more than were counted.
+use syn_tokens::delimiter::Delimiter;
+use syn_tokens::ident::ident_ref::IdentRef;
+use syn_tokens::punct::{Punct, Spacing};
+use syn_tokens::span::Span;
+use syn_tokens::stream::cursor::{Cursor, GroupRef, TokenTreeRef};
+
+/// What stands before a token tree in its group.
+#[derive(Clone, Copy)]
+enum Before {
+    /// Nothing, the end of an element or a statement, or a word that an operand follows.
+    Start,
+    /// What may be an operand or not: a word that is no name, such as `self` or `return`, a label, or brackets that may be an attribute's.
+    Word,
+    /// A name that doesn't stand behind `.`.
+    Name,
+    /// A name and `!`: the group behind them is a macro's.
+    Bang,
+    /// The name of a field or of a method.
+    Member,
+    /// Another operand.
+    Operand,
+    /// A group in braces.
+    Braces,
+    /// A character of a mark, and whether the next belongs to it.
+    Mark(char, bool),
+}
+
+/// A group, or a stream, as far as it was looked at.
+#[derive(Drop)]
+pub(super) struct Level<'a> {
+    pub(super) rest: Cursor<'a>,
+    pub(super) opening: Span,
+    delimiter: Delimiter,
+    before: Before,
+    /// The links since the last end, and how many stand above each other in the groups since.
+    links: u32,
+    inside: u32,
+    /// How many stand above each other at most in what has ended.
+    ended: u32,
+    /// Whether a type may have begun, where `<` opens its arguments without `::`.
+    in_type: bool,
+    /// How many `<` may be open.
+    angles: u32,
+    /// Whether a closure may have begun, whose parameters have commas.
+    closure: bool,
+}
+
+impl<'a> Level<'a> {
+    /// A stream that wasn't looked at.
+    pub(super) fn new(rest: Cursor<'a>) -> Level<'a> {
+        Level::behind(Delimiter::Brace, Span::call_site(), rest)
+    }
+
+    /// A group that wasn't looked at.
+    fn behind(delimiter: Delimiter, opening: Span, rest: Cursor<'a>) -> Level<'a> {
+        Level {
+            rest,
+            opening,
+            delimiter,
+            before: Before::Start,
+            links: 0,
+            inside: 0,
+            ended: 0,
+            in_type: false,
+            angles: 0,
+            closure: false,
+        }
+    }
+
+    /// How many links stand above each other in what hasn't ended.
+    pub(super) fn unended(&self) -> u32 {
+        self.links.saturating_add(self.inside)
+    }
+
+    /// Looks at the next tree. The level of its content, where it is a group whose links count.
+    pub(super) fn see(&mut self, tree: TokenTreeRef<'a>) -> Option<Level<'a>> {
+        match tree {
+            TokenTreeRef::Ident(ident) => self.see_ident(&ident),
+            TokenTreeRef::Literal(_) => self.before = Before::Operand,
+            TokenTreeRef::Punct(punct) => self.see_punct(punct),
+            TokenTreeRef::Group(group) => return self.see_group(group),
+        }
+        None
+    }
+
+    /// Goes on behind a group.
+    pub(super) fn close(&mut self, inner: &Level<'_>) {
+        let most = inner.ended.max(inner.unended());
+        if inner.delimiter == Delimiter::None {
+            self.links = self.links.saturating_add(most);
+        } else {
+            self.inside = self.inside.max(most);
+        }
+    }
+
+    /// Ends an element or a statement.
+    fn end(&mut self) {
+        self.ended = self.ended.max(self.unended());
+        self.links = 0;
+        self.inside = 0;
+        self.in_type = false;
+        self.angles = 0;
+        self.closure = false;
+    }
+
+    fn link(&mut self) {
+        self.links = self.links.saturating_add(1);
+    }
+
+    /// Behind braces only `as` and `else` go on.
+    fn see_ident(&mut self, ident: &IdentRef<'_>) {
+        let text = ident.text();
+        match self.before {
+            Before::Braces if text != "as" && text != "else" => self.end(),
+            _ => {}
+        }
+        if text == "as" {
+            self.link();
+            self.in_type = true;
+        }
+        self.before = match self.before {
+            Before::Mark('.', _) => Before::Member,
+            Before::Mark('\'', _) => Before::Word,
+            _ if text == "as" || text == "mut" || text == "const" => Before::Start,
+            _ if ident.is_keyword() => Before::Word,
+            _ => Before::Name,
+        };
+    }
+
+    fn see_punct(&mut self, punct: Punct) {
+        let character = punct.character();
+        let first = match self.before {
+            Before::Mark(first, true) => first,
+            _ => ' ',
+        };
+        self.count_mark(first, character);
+        self.before = match (self.before, character) {
+            (_, '?') => Before::Operand,
+            (Before::Name, '!') => Before::Bang,
+            // a third one is no character of `<<`
+            (Before::Mark('<', true), '<') => Before::Mark('<', false),
+            _ => Before::Mark(character, punct.spacing == Spacing::Joint),
+        };
+    }
+
+    /// Counts a character of a mark, behind another of it.
+    fn count_mark(&mut self, first: char, character: char) {
+        match (first, character) {
+            (_, ';') => self.end(),
+            (_, ',') if self.angles == 0 && !self.closure => self.end(),
+            (_, ':') | ('-', '>') => self.in_type = true,
+            ('|', '|') => {}
+            (_, '<') => {
+                self.open_angle(first);
+                self.count_operator();
+            }
+            (_, '>') => {
+                self.angles = self.angles.saturating_sub(1);
+                self.count_operator();
+            }
+            (_, '|') => {
+                self.closure = self.closure || !self.has_operand();
+                self.count_operator();
+            }
+            (_, '+' | '-' | '*' | '/' | '%' | '^' | '&' | '.' | '?') => self.count_operator(),
+            _ => {}
+        }
+    }
+
+    /// Opens generic arguments, unless it is known that this is an operator: an operand has ended, and no type or `::` stands before it;
+    /// or it is the second character of such an operator.
+    fn open_angle(&mut self, first: char) {
+        let is_operator = first == '<' || self.has_operand();
+        if self.in_type || self.angles > 0 || !is_operator {
+            self.angles = self.angles.saturating_add(1);
+        }
+    }
+
+    /// Counts an operator, unless it is known that no operand stands before it.
+    fn count_operator(&mut self) {
+        match self.before {
+            Before::Start => {}
+            Before::Mark(mark, _) if mark != '>' => {}
+            _ => self.link(),
+        }
+    }
+
+    /// Whether it is known that an operand has ended.
+    fn has_operand(&self) -> bool {
+        matches!(self.before, Before::Name | Before::Member | Before::Operand)
+    }
+
+    /// Parentheses and brackets behind what may be an operand go on it; those of a method were counted with its `.`.
+    fn see_group(&mut self, group: GroupRef<'a>) -> Option<Level<'a>> {
+        let before = self.before;
+        self.before = match (before, group.delimiter) {
+            (_, Delimiter::Brace) => Before::Braces,
+            (Before::Mark('#' | '!', _), Delimiter::Bracket) => Before::Word,
+            _ => Before::Operand,
+        };
+        match (before, group.delimiter) {
+            (Before::Bang, _) => return None,
+            (_, Delimiter::Brace | Delimiter::None) => {}
+            (Before::Member, Delimiter::Paren) | (Before::Start, _) => {}
+            (Before::Mark('>', _), _) => self.link(),
+            (Before::Mark(_, _), _) => {}
+            _ => self.link(),
+        }
+        Some(Level::behind(group.delimiter, group.opening, group.content))
+    }
+}

@@ -1,0 +1,78 @@
+//! Invisible groups that are looked through: those at which a parser is refused give place to their contents.
+ghost use Rattle.std.specs.Prelude.{◌≡◌};
+ghost use Rattle.syn_tokens.specs.Entries.{encode};
+ghost use Rattle.syn_whole.specs.HiddenGroups.{invisible_in};
+
+use crate::invisible::choice::{is_read, looked_through_at, refused_at};
+use crate::invisible::opening::{Opening, is_invisible};
+use crate::invisible::rebuilt::opened;
+use syn_parse::parse::{Parse, parse_whole};
+use syn_tokens::error::Result;
+use syn_tokens::stream::TokenStream;
+
+mod beginnings;
+mod choice;
+mod opening;
+mod rebuilt;
+
+/// How often groups are opened at most: where, is found by parsing all once more.
+const MOST: usize = 256;
+
+/// Whether an invisible group stands there, at any depth.
+#[tactic(auto, using(crate::proofs::HiddenGroups::invisible_step, crate::proofs::HiddenGroups::invisible_done))]
+pub(crate) fn has_invisible(tokens: &TokenStream) -> bool
+    ensures { result ≡ invisible_in (encode tokens.now) }
+{
+    for entry in tokens.entries() {
+        if is_invisible(entry) {
+            return true;
+        }
+    }
+    false
+}
+
+/// Parses the stream as a `T`, with those groups opened that are looked through. It is refused as `parse_whole` refuses it then.
+pub(crate) fn parse_opened<T: Parse + Drop>(tokens: &TokenStream) -> Result<T> {
+    let mut opening = Opening::new(tokens)?;
+    if !open_traits::<T>(&mut opening)? {
+        match parse_whole(tokens) {
+            Ok(tree) => return Ok(tree),
+            Err(error) if error.is_memory() => return Err(error),
+            Err(_) => {}
+        }
+    }
+    open_where_refused::<T>(&mut opening)?;
+    parse_whole(&opened(&opening)?)
+}
+
+/// Opens the groups that are looked through where a `T` is refused otherwise.
+fn open_where_refused<T: Parse + Drop>(opening: &mut Opening<'_>) -> Result<()> {
+    for _parse in 0..MOST {
+        let Some(place) = refused_at::<T>(opening)? else {
+            return Ok(());
+        };
+        if !opening.open_level(place) {
+            let Some(group) = looked_through_at::<T>(opening, place)? else {
+                return Ok(());
+            };
+            opening.open_run(group);
+        }
+    }
+    Ok(())
+}
+
+/// Opens the groups in which the trait of an impl stands, as the first type of an impl counts as what its group holds. Answers whether
+/// there was one.
+fn open_traits<T: Parse + Drop>(opening: &mut Opening<'_>) -> Result<bool> {
+    let (mut left, mut found) = (MOST, false);
+    for group in 0..opening.len() {
+        if left > 0 && opening.is_trait(group) {
+            left = left.saturating_sub(1);
+            if is_read::<T>(opening, group)? {
+                opening.open_run(group);
+                found = true;
+            }
+        }
+    }
+    Ok(found)
+}

@@ -1,0 +1,130 @@
+//! Which invisible group is opened next.
+use crate::invisible::beginnings::{
+    begins_binding, begins_item_or_macro, begins_operand, begins_type, is_mark, is_word,
+};
+use crate::invisible::opening::Opening;
+use crate::invisible::rebuilt::{Probe, numbered};
+use syn_parse::parse::{Parse, parse_whole};
+use syn_tokens::error::Result;
+use syn_tokens::stream::TokenStream;
+
+/// What is read where a group stands.
+enum Position {
+    Operand,
+    Type,
+    Other,
+}
+
+/// Where the tokens are refused as a `T`: the place that the refusal names. None where they are read, or where they are nested too deep.
+pub(crate) fn refused_at<T: Parse + Drop>(opening: &Opening<'_>) -> Result<Option<usize>> {
+    refusal::<T>(numbered(opening, None)?)
+}
+
+/// The same of tokens whose spans are their places.
+fn refusal<T: Parse + Drop>(numbered: TokenStream) -> Result<Option<usize>> {
+    match parse_whole::<T>(&numbered) {
+        Ok(_tree) => Ok(None),
+        Err(error) => {
+            if error.is_too_deep() {
+                return Ok(None);
+            }
+            if error.is_memory() {
+                return Err(error);
+            }
+            Ok(Some(error.span().start))
+        }
+    }
+}
+
+/// The group that is looked through where a token is refused: one that begins there; one right before it that was taken for an empty
+/// visibility; one right before it or around it that is no operand and no type; or one right behind it, where a mark goes on.
+pub(crate) fn looked_through_at<T: Parse + Drop>(
+    opening: &Opening<'_>,
+    place: usize,
+) -> Result<Option<usize>> {
+    if opening.begins_group(place) {
+        return Ok(Some(place));
+    }
+    if let Some(group) = opening.group_before(place) {
+        if is_looked_through::<T>(opening, group)? {
+            return Ok(Some(group));
+        }
+    }
+    if let Some(group) = opening.group_around(place) {
+        if is_looked_through::<T>(opening, group)? {
+            return Ok(Some(group));
+        }
+    }
+    Ok(behind_mark(opening, place))
+}
+
+/// The group right behind the mark in which this place lies.
+fn behind_mark(opening: &Opening<'_>, place: usize) -> Option<usize> {
+    let mut last = place;
+    for _character in 0..2 {
+        let behind = opening.behind(last)?;
+        if opening.begins_group(behind) {
+            return Some(behind);
+        }
+        if !opening.is_joint(behind) {
+            return None;
+        }
+        last = behind;
+    }
+    None
+}
+
+/// Whether the group is neither an operand nor a type: no such thing is read where it stands, or something is that begins otherwise.
+fn is_looked_through<T: Parse + Drop>(opening: &Opening<'_>, group: usize) -> Result<bool> {
+    let first = opening.seen_from(group.saturating_add(1));
+    if is_word(opening, first, "pub") {
+        return Ok(false);
+    }
+    match position_of::<T>(opening, group)? {
+        Position::Other => Ok(true),
+        Position::Operand => {
+            if !begins_operand(opening, first) {
+                return Ok(true);
+            }
+            Ok(begins_item_or_macro(opening, first) && passes::<T>(opening, group, Probe::Item)?)
+        }
+        Position::Type => {
+            if !begins_type(opening, first) || is_behind_impl(opening, group, first) {
+                return Ok(true);
+            }
+            Ok(begins_binding(opening, first) && passes::<T>(opening, group, Probe::Lifetime)?)
+        }
+    }
+}
+
+/// Whether the generics of an impl begin there.
+fn is_behind_impl(opening: &Opening<'_>, group: usize, first: usize) -> bool {
+    match opening.before(group) {
+        Some(word) => is_word(opening, word, "impl") && is_mark(opening, first, '<'),
+        None => false,
+    }
+}
+
+/// What is read where this group stands.
+fn position_of<T: Parse + Drop>(opening: &Opening<'_>, group: usize) -> Result<Position> {
+    if passes::<T>(opening, group, Probe::Number)? {
+        Ok(Position::Operand)
+    } else if passes::<T>(opening, group, Probe::Name)? {
+        Ok(Position::Type)
+    } else {
+        Ok(Position::Other)
+    }
+}
+
+/// Whether what stands in place of the group is read, and not kept as tokens.
+pub(crate) fn is_read<T: Parse + Drop>(opening: &Opening<'_>, group: usize) -> Result<bool> {
+    Ok(!passes::<T>(opening, group, Probe::Mark)?)
+}
+
+/// Whether a probe in place of the group isn't what is refused.
+fn passes<T: Parse + Drop>(opening: &Opening<'_>, group: usize, probe: Probe) -> Result<bool> {
+    match refusal::<T>(numbered(opening, Some((group, probe)))?)? {
+        Some(place) => Ok(place != group),
+        None => Ok(true),
+    }
+}

@@ -1,0 +1,353 @@
+//! Which invisible groups of a stream are opened, and what is seen of it then.
+ghost use Rattle.std.specs.Prelude.{◌≡◌};
+ghost use Rattle.syn_whole.specs.HiddenGroups.{is_hidden, is_invisible};
+
+use crate::invisible::beginnings::{
+    Beginning, beginning_of, begins_parameters, is_mark, is_restriction, is_word,
+};
+use std::alloc::Global;
+use syn_tokens::delimiter::Delimiter;
+use syn_tokens::error::Result;
+use syn_tokens::punct::Spacing;
+use syn_tokens::stream::TokenStream;
+use syn_tokens::stream::entry::{Entry, Token};
+
+/// A stream, and which of its entries are left out: the delimiters of the groups that are opened. A place is the number of an entry.
+#[derive(Drop)]
+pub(crate) struct Opening<'t> {
+    tokens: &'t TokenStream,
+    opened: Vec<bool>,
+}
+
+/// Whether it is the opening delimiter of an invisible group.
+pub(crate) fn is_invisible(entry: &Entry) -> bool
+    ensures { result ≡ is_invisible entry.now }
+{
+    match entry.token() {
+        Token::Open(open) => is_hidden(open.delimiter),
+        Token::Ident(_) => false,
+        Token::Literal(_) => false,
+        Token::Punct(_) => false,
+        Token::Close(_) => false,
+    }
+}
+
+/// Whether the delimiters are those of an invisible group.
+fn is_hidden(delimiter: Delimiter) -> bool
+    ensures { result ≡ is_hidden delimiter }
+{
+    match delimiter {
+        Delimiter::Paren => false,
+        Delimiter::Brace => false,
+        Delimiter::Bracket => false,
+        Delimiter::None => true,
+    }
+}
+
+impl<'t> Opening<'t> {
+    /// No group is opened yet.
+    pub(crate) fn new(tokens: &'t TokenStream) -> Result<Opening<'t>> {
+        let mut opened = Vec::with_capacity(tokens.alloc(), tokens.entries().len())?;
+        for _entry in tokens.entries() {
+            opened.push(false)?;
+        }
+        Ok(Opening { tokens, opened })
+    }
+
+    pub(crate) fn alloc(&self) -> Global {
+        self.tokens.alloc()
+    }
+
+    pub(crate) fn entries(&self) -> &[Entry] {
+        self.tokens.entries()
+    }
+
+    /// How many entries there are.
+    pub(crate) fn len(&self) -> usize {
+        self.opened.len()
+    }
+
+    /// What stands at this place, whether it is left out or not.
+    pub(crate) fn token(&self, place: usize) -> Option<Token<'_>> {
+        let entry = self.entries().get(place)?;
+        Some(entry.token())
+    }
+
+    /// The character of a mark that stands at this place.
+    pub(crate) fn character(&self, place: usize) -> Option<char> {
+        match &self.token(place)? {
+            Token::Punct(punct) => Some(punct.character()),
+            _ => None,
+        }
+    }
+
+    /// Whether a Joint character of a mark stands at this place.
+    pub(crate) fn is_joint(&self, place: usize) -> bool {
+        match &self.token(place) {
+            Some(Token::Punct(punct)) => matches!(punct.spacing, Spacing::Joint),
+            _ => false,
+        }
+    }
+
+    /// Opens the group that begins at this place, and those that begin before its first token, or where it is empty the token behind it.
+    pub(crate) fn open_run(&mut self, group: usize) {
+        for at in group..self.seen_from(group) {
+            if self.begins_group(at) {
+                self.open(at);
+            }
+        }
+    }
+
+    /// Opens the group that begins at this place.
+    fn open(&mut self, group: usize) {
+        if let Some(end) = self.end_of(group) {
+            self.leave_out(group);
+            self.leave_out(end);
+        }
+    }
+
+    fn leave_out(&mut self, place: usize) {
+        if let Some(mark) = self.opened.get_mut(place) {
+            *mark = true;
+        }
+    }
+
+    /// Where the group ends that begins at this place.
+    pub(crate) fn end_of(&self, group: usize) -> Option<usize> {
+        match self.token(group)? {
+            Token::Open(open) => group.checked_add(open.skip)?.checked_add(1),
+            Token::Ident(_) => None,
+            Token::Literal(_) => None,
+            Token::Punct(_) => None,
+            Token::Close(_) => None,
+        }
+    }
+
+    /// Opens groups that are surely looked through: of those between the delimiters around this place, and not in other delimiters there,
+    /// the ones whose first token begins neither an operand nor a type, or a parameter of an impl, or a restriction. `let` is left, for a
+    /// `let` in a group is no statement; and so is `pub` behind an empty group, which stands in place of the visibility. Answers whether
+    /// there was one.
+    pub(crate) fn open_level(&mut self, place: usize) -> bool {
+        let (start, end) = self.level_around(place);
+        let (mut next, mut behind) = (Beginning::Nothing, end);
+        let mut inner = 0_usize;
+        let mut found = self.open_restriction(start.saturating_sub(1));
+        for at in (start..end).rev() {
+            if self.is_delimiter_of_invisible(at) {
+                if inner == 0 && self.begins_group(at) && self.opens_by(at, next, behind) {
+                    self.open(at);
+                    found = true;
+                }
+                continue;
+            }
+            match &self.token(at) {
+                Some(Token::Close(_)) => inner = inner.saturating_add(1),
+                Some(Token::Open(_)) => inner = inner.saturating_sub(1),
+                _ => {}
+            }
+            if inner == 0 {
+                (next, behind) = (beginning_of(self, at), at);
+                found = self.open_restriction(at) || found;
+            }
+        }
+        found
+    }
+
+    /// Where the content begins and ends of the innermost visible group around this place, or of the whole.
+    fn level_around(&self, place: usize) -> (usize, usize) {
+        let mut inner = 0_usize;
+        for before in (0..place).rev() {
+            if self.is_delimiter_of_invisible(before) {
+                continue;
+            }
+            match &self.token(before) {
+                Some(Token::Close(_)) => inner = inner.saturating_add(1),
+                Some(Token::Open(_)) => {
+                    if inner == 0 {
+                        let end = self.end_of(before).unwrap_or(place);
+                        return (before.saturating_add(1), end);
+                    }
+                    inner = inner.saturating_sub(1);
+                }
+                _ => {}
+            }
+        }
+        (0, self.opened.len())
+    }
+
+    /// Whether the group at this place is looked through, of whose content, or where it is empty of what stands behind it, this is the
+    /// beginning, which stands at that place.
+    fn opens_by(&self, group: usize, next: Beginning, place: usize) -> bool {
+        match next {
+            Beginning::Nothing => true,
+            Beginning::Pub => self.end_of(group).is_some_and(|end| place < end),
+            Beginning::Let => false,
+            Beginning::Something => {
+                self.is_behind_impl_less(group) && begins_parameters(self, place)
+                    || self.is_behind_restricted(group) && is_restriction(self, place)
+            }
+        }
+    }
+
+    /// Whether a word stands before this place that a restriction may follow.
+    fn is_behind_restricted(&self, place: usize) -> bool {
+        match self.before(place) {
+            Some(word) => is_word(self, word, "pub") || is_word(self, word, "impl"),
+            None => false,
+        }
+    }
+
+    /// Opens the groups in the parentheses that begin at this place, where they are a restriction. Answers whether there was one.
+    fn open_restriction(&mut self, place: usize) -> bool {
+        if !self.is_behind_restricted(place) || !is_restriction(self, place) {
+            return false;
+        }
+        let mut found = false;
+        for at in place..self.end_of(place).unwrap_or(place) {
+            if self.begins_group(at) {
+                self.open(at);
+                found = true;
+            }
+        }
+        found
+    }
+
+    /// Whether a group begins at this place that stands where the trait of an impl does: behind `impl`, generics, `const` or `!`, and before
+    /// `for`.
+    pub(crate) fn is_trait(&self, group: usize) -> bool {
+        self.begins_group(group) && self.is_before_trait(group) && self.is_before_for(group)
+    }
+
+    fn is_before_trait(&self, group: usize) -> bool {
+        match self.before(group) {
+            Some(before) => {
+                is_word(self, before, "impl")
+                    || is_word(self, before, "const")
+                    || is_mark(self, before, '>')
+                    || is_mark(self, before, '!')
+            }
+            None => false,
+        }
+    }
+
+    /// Whether `for` stands behind the group at this place, and not `for <`.
+    fn is_before_for(&self, group: usize) -> bool {
+        let Some(end) = self.end_of(group) else {
+            return false;
+        };
+        let behind = self.seen_from(end.saturating_add(1));
+        let lifetimes = self.seen_from(behind.saturating_add(1));
+        is_word(self, behind, "for") && !is_mark(self, lifetimes, '<')
+    }
+
+    /// Whether `impl <` stands before this place.
+    fn is_behind_impl_less(&self, place: usize) -> bool {
+        let Some(less) = self.before(place) else {
+            return false;
+        };
+        match self.before(less) {
+            Some(word) => is_mark(self, less, '<') && is_word(self, word, "impl"),
+            None => false,
+        }
+    }
+
+    /// Whether it is left out.
+    pub(crate) fn is_opened(&self, place: usize) -> bool {
+        match self.opened.get(place) {
+            Some(mark) => *mark,
+            None => false,
+        }
+    }
+
+    /// Whether an invisible group that isn't opened begins at this place.
+    pub(crate) fn begins_group(&self, place: usize) -> bool {
+        match self.entries().get(place) {
+            Some(entry) => is_invisible(entry) && !self.is_opened(place),
+            None => false,
+        }
+    }
+
+    /// Whether an invisible group that isn't opened ends at this place.
+    fn ends_group(&self, place: usize) -> bool {
+        match self.token(place) {
+            Some(Token::Close(close)) => is_hidden(close.delimiter) && !self.is_opened(place),
+            _ => false,
+        }
+    }
+
+    /// Whether a delimiter of an invisible group stands there, opened or not.
+    pub(crate) fn is_delimiter_of_invisible(&self, place: usize) -> bool {
+        match self.token(place) {
+            Some(Token::Open(open)) => is_hidden(open.delimiter),
+            Some(Token::Close(close)) => is_hidden(close.delimiter),
+            _ => false,
+        }
+    }
+
+    /// The first place from this one on where something else stands than a delimiter of an invisible group.
+    pub(crate) fn seen_from(&self, place: usize) -> usize {
+        for seen in place..self.opened.len() {
+            if !self.is_delimiter_of_invisible(seen) {
+                return seen;
+            }
+        }
+        self.opened.len()
+    }
+
+    /// The last place before this one that isn't left out.
+    pub(crate) fn before(&self, place: usize) -> Option<usize> {
+        for before in (0..place).rev() {
+            if !self.is_opened(before) {
+                return Some(before);
+            }
+        }
+        None
+    }
+
+    /// The first place behind this one that isn't left out.
+    pub(crate) fn behind(&self, place: usize) -> Option<usize> {
+        for behind in place.saturating_add(1)..self.opened.len() {
+            if !self.is_opened(behind) {
+                return Some(behind);
+            }
+        }
+        None
+    }
+
+    /// The invisible group that ends right before this place, and isn't opened.
+    pub(crate) fn group_before(&self, place: usize) -> Option<usize> {
+        let end = self.before(place)?;
+        if self.ends_group(end) {
+            self.group_around(end)
+        } else {
+            None
+        }
+    }
+
+    /// The innermost invisible group in which this place lies, or at whose end, unless a visible group lies between.
+    pub(crate) fn group_around(&self, place: usize) -> Option<usize> {
+        let mut inner = 0_usize;
+        for before in (0..place).rev() {
+            if self.is_opened(before) {
+                continue;
+            }
+            match self.token(before)? {
+                Token::Close(_) => inner = inner.saturating_add(1),
+                Token::Open(open) => {
+                    if inner == 0 {
+                        return if is_hidden(open.delimiter) {
+                            Some(before)
+                        } else {
+                            None
+                        };
+                    }
+                    inner = inner.saturating_sub(1);
+                }
+                Token::Ident(_) => {}
+                Token::Literal(_) => {}
+                Token::Punct(_) => {}
+            }
+        }
+        None
+    }
+}
