@@ -159,6 +159,31 @@ def camel(name):
     return ''.join(it.capitalize() for it in name.split('_'))
 
 
+# How many rules, parts or stages one function tells at most: a search for what stands behind all others gives up at 28.
+MOST = 24
+# The same of parts of plans, which are larger: of 21 the last wasn't found.
+MOST_PLANNED = 17
+
+
+def groups_of(name, things, most=MOST):
+    """Things in groups of about the same size, each with a name, which has a number where there are several."""
+    count = -(-len(things) // most)
+    sizes = [len(things) // count + (i < len(things) % count) for i in range(count)]
+    starts = [sum(sizes[:i]) for i in range(count)]
+    return [(name if count == 1 else f'{name}_{i + 1}', things[start:start + size]) for i, (start, size) in enumerate(zip(starts, sizes))]
+
+
+def picked(cases, of='place'):
+    """The body of a function that answers the thing at a place; the last one's where there is none."""
+    if len(cases) == 1:
+        return [f'    {cases[0]}', '}', '']
+    return [f'    match {of} {{', *[f'        {i} => {case},' for i, case in enumerate(cases[:-1])], f'        _ => {cases[-1]},', '    }', '}', '']
+
+
+def at_place(cases):
+    return '(' + ' ∷ '.join([*cases[:-1], '[]']) + f') n {cases[-1]}'
+
+
 def rules_in(form):
     if not isinstance(form, tuple):
         return []
@@ -258,7 +283,7 @@ class Writer:
         number = 1 + sum(rule == self.rule for _, rule, _, _ in self.parts)
         name = f'{camel(self.rule)}{number}'
         self.parts.append((name, self.rule, way, text))
-        return self.named('Form', f'Part({self.named("Part", name)})')
+        return self.named('Form', f'Part({self.named("Part", self.constant(name))})')
 
     def form_of(self, rule):
         self.rule = rule
@@ -289,7 +314,7 @@ class Writer:
             return self.named('Form', f'Never({self.named("Fault", REFUSING.get(self.rule, "Unexpected"))})')
         if name == 'one_of':
             (rule,), = rest[0]
-            return self.named('Form', f'Only({self.named("Rule", camel(rule))})')
+            return self.named('Form', f'Only({self.named("Rule", rule.upper())})')
         if name == 'vanishing' and not rest[0]:
             if rest[2][0] == 'ordered':
                 self.form(rest[2][2], (*way, 'first', 'second'))
@@ -311,7 +336,7 @@ class Writer:
             'mark': lambda: self.placed('Mark', self.mark(rest[1])),
             'raw': lambda: self.named('Form', f'Raw({self.delimiter(rest[0])})'),
             'rest_after': lambda: self.named('Form', f'RestAfter({self.mark(rest[0])})'),
-            'rule': lambda: self.named('Form', f'Rule({self.named("Rule", camel(rest[0][0]))})'),
+            'rule': lambda: self.named('Form', f'Rule({self.named("Rule", rest[0][0].upper())})'),
             '&': lambda: self.made('Then(', [(rest[0], first), (rest[1], second)]),
             'when': lambda: self.made(f'When({self.look(rest[0])}, ', [(rest[1], first), (rest[2], second)]),
             'inside': lambda: self.made(f'Inside({self.delimiter(rest[0])}, ', [(rest[1], first)]),
@@ -339,17 +364,41 @@ class Writer:
             modules.setdefault(self.MODULES[name], []).append(name)
         return [f'use {module}::{names[0]};' if len(names) == 1 else f'use {module}::{{{", ".join(names)}}};' for module, names in sorted(modules.items())]
 
-    def topic(self, sentence, rules):
+    def topic(self, name, sentence, rules):
         self.uses = {'Form'}
         body = [line for k in rules for line in self.statics(k)]
-        return [f'//! {WRITTEN}', '//!', f'//! {sentence}', *self.imports(), *body, '']
+        parts = [part for part, k, _, _ in self.parts if k in rules]
+        groups = groups_of(name, rules)
+        specs = ['ghost use Rattle.std.specs.Prelude.{◌≡◌};', 'ghost use Rattle.syn_grammar.specs.Run.{parse_form};', 'ghost use Rattle.syn_grammar.specs.Table.{table};',
+                 'ghost use Rattle.syn_recognize.specs.Forms.{grammar_of};', f'ghost use Rattle.syn_recognize.specs.Names.{{{", ".join(f"{it}_rule" for it, _ in groups)}}};',
+                 *([f'ghost use Rattle.syn_recognize.specs.Parts.{{{name}_part}};'] if parts else []), '']
+        functions = ['', *[line for it, some in groups for line in ('/// The form of the rule at this place.', *self.at(self.teller(name, it), f'table ({it}_rule {self.place(some)})', some, [f'&{k.upper()}' for k in some]))]]
+        if parts:
+            functions += ['/// The form of the part at this place.', *self.at('part_at', f'{name}_part {self.place(parts)}', parts, [f'&{self.constant(part)}' for part in parts])]
+        return [f'//! {WRITTEN}', '//!', f'//! {sentence}', *specs, *self.imports(), *body, *functions]
+
+    def teller(self, name, group):
+        """The function that answers the forms of a group of a topic's rules."""
+        return 'form_at' + group[len(name):]
+
+    def rule_groups(self):
+        """Rules by where they stand: the group's name, the function that answers their forms, and the rules."""
+        return [(group, f'{name}::{self.teller(name, group)}', some) for name, _, rules in self.topics() for group, some in groups_of(name, rules)]
+
+    def place(self, things):
+        return 'place' if len(things) > 1 else '_place'
+
+    def at(self, function, promise, things, cases, visible='pub(super) '):
+        """A function that answers a form by its place."""
+        return ['#[tactic(auto, using(std::proofs::lemmas::List::get_or_past), unfolding(crate::specs::Names::rule_of, crate::specs::Parts::part_form))]',
+                f"{visible}fn {function}({self.place(things)}: u8) -> &'static Form", f'    ensures {{ parse_form (grammar_of result.now) ≡ parse_form ({promise}) }}', '{', *picked(cases)]
 
     def statics(self, rule):
         """A rule's form, and behind it those of its parts."""
         before = len(self.parts)
         form = self.form_of(rule)
-        parts = [('', f'/// A part of `{k}`.', f'pub(super) static {self.constant(name)}: Form = {text};') for name, k, _, text in self.parts[before:]]
-        return ['', *self.sentence(rule), f'pub(super) static {rule.upper()}: Form = {form};', *(line for part in parts for line in part)]
+        parts = [('', f'/// A part of `{k}`.', f'static {self.constant(name)}: Form = {text};') for name, k, _, text in self.parts[before:]]
+        return ['', *self.sentence(rule), f'static {rule.upper()}: Form = {form};', *(line for part in parts for line in part)]
 
     def constant(self, part):
         """The name of a part's static."""
@@ -362,14 +411,14 @@ class Writer:
         out = {}
         topics = list(self.topics())
         for name, sentence, rules in topics:
-            out[f'src/rules/{name}.rt'] = self.topic(sentence, rules)
+            out[f'src/rules/{name}.rt'] = self.topic(name, sentence, rules)
         out['src/plan.rt'] = self.plan_file()
         out['src/rules.rt'] = self.rules_file(topics)
         out['src/shape.rt'] = self.shape_file()
         out['src/words.rt'] = self.words_file()
         out['specs/Stages.antt'] = self.stages_file()
         out['proofs/PlannedCourses.antt'] = self.planned_file()
-        out['specs/Names.antt'] = self.names_file(topics)
+        out['specs/Names.antt'] = self.names_file()
         out['specs/Parts.antt'] = self.parts_file()
         out['proofs/Known.antt'] = self.known_file()
         return {name: '\n'.join(lines) for name, lines in out.items()}
@@ -381,16 +430,27 @@ class Writer:
             'ghost use Rattle.syn_recognize.specs.Forms.{grammar_of};', 'ghost use Rattle.syn_recognize.specs.Names.{rule_of};',
             'ghost use Rattle.syn_recognize.specs.Parts.{part_form};', '',
             'use crate::form::Form;', '', *[f'mod {name};' for name in sorted(name for name, _, _ in topics)], '',
-            '/// A rule of the grammar.', '#[derive(Clone, Copy)]', 'pub enum Rule {', *[f'    {camel(k)},' for _, _, rules in topics for k in rules], '}', '',
-            '/// The form of the rule.', "pub(crate) fn form_of(rule: Rule) -> &'static Form",
-            '    ensures { parse_form (grammar_of result.now) ≡ parse_form (table (rule_of rule)) }', '{', '    match rule {',
-            *[f'        Rule::{camel(k)} => &{name}::{k.upper()},' for name, _, rules in topics for k in rules], '    }', '}', '',
+            '/// Where rules stand: in which file, or part of one.', '#[derive(Clone, Copy, PartialEq, Eq)]', 'enum Topic {', *[f'    {camel(name)},' for name, _, _ in self.rule_groups()], '}', '',
+            '/// A rule of the grammar: where it stands.', '#[derive(Clone, Copy, PartialEq, Eq)]', 'pub struct Rule {', '    topic: Topic,', '    place: u8,', '}', '',
+            'impl Rule {', *[f'    pub const {k.upper()}: Rule = Rule {{ topic: Topic::{camel(name)}, place: {i} }};' for name, _, rules in self.rule_groups() for i, k in enumerate(rules)], '}', '',
+            '/// The form of the rule.', '#[tactic(auto, unfolding(crate::specs::Names::rule_of))]', "pub(crate) fn form_of(rule: Rule) -> &'static Form",
+            '    ensures { parse_form (grammar_of result.now) ≡ parse_form (table (rule_of rule)) }', '{', '    match rule.topic {',
+            *[f'        Topic::{camel(name)} => {function}(rule.place),' for name, function, _ in self.rule_groups()], '    }', '}', '',
+            '/// Where parts stand: of which rules they are.', '#[derive(Clone, Copy)]', 'enum Group {', *[f'    {camel(name)},' for name, _, _ in self.part_groups()], '}', '',
             "/// A part of a rule's form that has a static of its own: Rattle's own compiler takes no larger ones.", '#[derive(Clone, Copy)]',
-            'pub enum Part {', *[f'    {name},' for name, *_ in self.parts], '}', '',
-            '/// The form of the part.', "pub(crate) fn form_of_part(part: Part) -> &'static Form",
-            '    ensures { parse_form (grammar_of result.now) ≡ parse_form (part_form part) }', '{', '    match part {',
-            *[f'        Part::{part} => &{name}::{self.constant(part)},' for name, _, rules in topics for part, k, _, _ in self.parts if k in rules],
-            *[f'        Part::{part} => &crate::plan::{self.constant(part)},' for part, _, _, _ in self.plan_parts], '    }', '}', '']
+            'pub(crate) struct Part {', '    group: Group,', '    place: u8,', '}', '',
+            'impl Part {', *[f'    pub(crate) const {self.constant(part)}: Part = Part {{ group: Group::{camel(name)}, place: {i} }};' for name, _, parts in self.part_groups() for i, part in enumerate(parts)], '}', '',
+            '/// The form of the part.', '#[tactic(auto, unfolding(crate::specs::Parts::part_form))]', "pub(crate) fn form_of_part(part: Part) -> &'static Form",
+            '    ensures { parse_form (grammar_of result.now) ≡ parse_form (part_form part) }', '{', '    match part.group {',
+            *[f'        Group::{camel(name)} => {function}(part.place),' for name, function, _ in self.part_groups()], '    }', '}', '']
+
+    def part_groups(self):
+        """Parts by where they stand: the group's name, the function that answers their forms, and the parts."""
+        groups = []
+        for name, _, rules in self.topics():
+            parts = [part for part, k, _, _ in self.parts if k in rules]
+            groups += [(name, f'{name}::part_at', parts)] if parts else []
+        return groups + [(name, f'crate::plan::{name}', parts) for name, parts in groups_of('planned', [part for part, _, _, _ in self.plan_parts], MOST_PLANNED)]
 
     def plan(self, it):
         """A plan as data: of a stage, or what stands in one."""
@@ -425,9 +485,9 @@ class Writer:
         if text and self.uses_of[it] == 1 and text.count('&') <= 5 and size(text) + beside + PARTS['Plan'] <= LARGEST:
             return text
         if it not in self.stage_names:
-            self.stage_names[it] = f'Stage{len(self.stages) + 1}'
+            self.stage_names[it] = f'Stage_{len(self.stages) + 1}'
             self.stages.append((self.stage_names[it], it, text))
-        return f'Plan::Go(Stage::{self.stage_names[it]})'
+        return f'Plan::Go(Stage::{self.stage_names[it].upper()})'
 
     def count(self, it):
         self.uses_of[it] = self.uses_of.get(it, 0) + 1
@@ -445,7 +505,8 @@ class Writer:
         begins = [(k, self.plan(it)) for k, it in courses.items()]
         self.plan_parts = self.parts[before:]
         self.uses -= {'Stage', 'Planned'}
-        return [f'//! {WRITTEN}', '//!', '//! The plans of unions as data.', 'ghost use Rattle.std.specs.Prelude.{◌≡◌};', 'ghost use Rattle.syn_recognize.specs.Stages.{stage_course, planned_course};', 'ghost use Rattle.syn_recognize.specs.Courses.{course_of};', '', *self.imports(), '',
+        series, planned = self.series(), groups_of('planned', [part for part, _, _, _ in self.plan_parts], MOST_PLANNED)
+        return [f'//! {WRITTEN}', '//!', '//! The plans of unions as data.', 'ghost use Rattle.std.specs.Prelude.{◌≡◌};', 'ghost use Rattle.syn_grammar.specs.Run.{parse_form};', 'ghost use Rattle.syn_recognize.specs.Courses.{course_of};', 'ghost use Rattle.syn_recognize.specs.Forms.{grammar_of};', f'ghost use Rattle.syn_recognize.specs.Parts.{{{", ".join(f"{name}_part" for name, _ in planned)}}};', f'ghost use Rattle.syn_recognize.specs.Stages.{{stage_course, planned_course, {", ".join(f"{name}_course" for name, _ in series)}}};', '', *self.imports(), '',
                 '/// A plan: one reading of a union, without a trial.', '#[derive(Clone, Copy)]', 'pub enum Plan {',
                 '    /// The plan of this stage.', '    Go(Stage),', '    /// Reads a form, and goes on.', "    Reads(&'static Form, &'static Plan),",
                 '    /// Goes on by what stands next.', "    Turns(Look, &'static Plan, &'static Plan),", '    /// Reads trees of a use in braces, and goes on by whether one has `::` before it.', "    Rooted(&'static Plan, &'static Plan),",
@@ -453,14 +514,23 @@ class Writer:
                 '    /// It is kept as tokens: what is left of it.', "    Kept(&'static Form),", '    /// Reads the generics of an impl, and goes on.', "    Lists(&'static Plan),",
                 '    /// Notes whether what stands next would be read as generics.', "    Led(&'static Plan),", '    /// Reads `for` and the self type of an impl.', "    SelfType(&'static Plan),", '}', '',
                 '/// A form that is read by a plan.', '#[derive(Clone, Copy)]', 'pub enum Planned {', *[f'    {camel(k)},' for k in PLANS], '}', '',
-                '/// A stage of a plan.', '#[derive(Clone, Copy)]', 'pub enum Stage {', *[f'    {name},' for name, _, _ in self.stages], '}', '',
-                *[f'pub(crate) static {self.constant(name)}: Form = {text};' for name, _, _, text in self.plan_parts],
+                '/// Where stages stand: some in each series.', '#[derive(Clone, Copy)]', 'enum Series {', *[f'    {camel(name)},' for name, _ in series], '}', '',
+                '/// A stage of a plan.', '#[derive(Clone, Copy)]', 'pub struct Stage {', '    series: Series,', '    place: u8,', '}', '',
+                'impl Stage {', *[f'    const {stage.upper()}: Stage = Stage {{ series: Series::{camel(name)}, place: {i} }};' for name, stages in series for i, stage in enumerate(stages)], '}', '',
+                *[f'static {self.constant(name)}: Form = {text};' for name, _, _, text in self.plan_parts],
                 *[f'static {k.upper()}: Plan = {text};' for k, text in begins],
                 *[f'static {name.upper()}: Plan = {text};' for name, _, text in self.stages], '',
-                '/// How the plan begins.', "pub(crate) fn begin_of(planned: Planned) -> &'static Plan", '    ensures { course_of result.now ≡ planned_course planned }', '{', '    match planned {',
+                '/// How the plan begins.', '#[tactic(auto, unfolding(crate::specs::Names::rule_of, crate::specs::Parts::part_form, crate::specs::Stages::stage_course))]', "pub(crate) fn begin_of(planned: Planned) -> &'static Plan", '    ensures { course_of result.now ≡ planned_course planned }', '{', '    match planned {',
                 *[f'        Planned::{camel(k)} => &{k.upper()},' for k in PLANS], '    }', '}', '',
-                '/// The plan of the stage.', "pub(crate) fn plan_of(stage: Stage) -> &'static Plan", '    ensures { course_of result.now ≡ stage_course stage }', '{', '    match stage {',
-                *[f'        Stage::{name} => &{name.upper()},' for name, _, _ in self.stages], '    }', '}', '']
+                '/// The plan of the stage.', '#[tactic(auto, unfolding(crate::specs::Stages::stage_course))]', "pub(crate) fn plan_of(stage: Stage) -> &'static Plan", '    ensures { course_of result.now ≡ stage_course stage }', '{', '    match stage.series {',
+                *[f'        Series::{camel(name)} => {name}(stage.place),' for name, _ in series], '    }', '}', '',
+                *[line for name, stages in series for line in (
+                    '/// The plan of the stage at this place.', '#[tactic(auto, using(std::proofs::lemmas::List::get_or_past), unfolding(crate::specs::Names::rule_of, crate::specs::Parts::part_form, crate::specs::Stages::stage_course))]',
+                    f"fn {name}({self.place(stages)}: u8) -> &'static Plan", f'    ensures {{ course_of result.now ≡ {name}_course {self.place(stages)} }}', '{', *picked([f'&{stage.upper()}' for stage in stages]))],
+                *[line for name, parts in planned for line in ('/// The form of the part at this place.', *self.at(name, f'{name}_part {self.place(parts)}', parts, [f'&{self.constant(part)}' for part in parts], 'pub(crate) '))]]
+
+    def series(self):
+        return groups_of('series', [name for name, _, _ in self.stages])
 
     def course(self, it):
         """A course in the specifications' words; its stages by their names."""
@@ -512,23 +582,25 @@ class Writer:
         looks = sorted(k for k in self.source.looks)
         words = sorted(set(self.texts.values()))
         courses = {k: plans.course(self.plans.plan(name)) for k, name in PLANS.items()}
-        defined = [(f'Stage-m.{name}', self.course(it)) for name, it, _ in self.stages]
+        defined = [(name, self.course(it)) for name, it, _ in self.stages]
         begins = [(f'Planned-m.{camel(k)}', self.course(it)) for k, it in courses.items()]
         text = '\n'.join(x for _, x in defined + begins)
         used = lambda names: [x for x in names if re.search(rf'(?<![\w.]){re.escape(x)}(?![\w])', text)]
         tokens = used(['Paren', 'Brace', 'Bracket', 'None', 'Str', 'Before_colons', 'Before_macro', 'Begins_item', 'Begins_in', 'Lone_word', 'ended', 'at_name', 'at_word', 'at_mark', 'at_group',
                        'at_literal', 'at_empty_group', 'ahead', 'at_generics', 'at_lifetime', 'at_path_word', 'at_parameter', 'at_path_rest'])
         table = [x for x in used(looks) if x not in tokens]
-        return [f'-- {WRITTEN}', '-- THE COURSES OF PLANS, and the forms of which they are.', 'use Rattle.std.specs.Prelude.{true, false, [], ◌∷◌}',
+        return [f'-- {WRITTEN}', '-- THE COURSES OF PLANS, and the forms of which they are.', 'use Rattle.std.specs.Prelude.{ℕ, true, false, [], ◌∷◌, get_or}',
                 'use Rattle.syn_grammar.specs.Words.{' + ', '.join(used(words)) + '}', 'use Rattle.syn_grammar.specs.Tokens.{' + ', '.join(tokens) + ', ◌or_else◌, ◌and_also◌, ◌but_not◌}',
                 'use Rattle.syn_grammar.specs.Table.{table, ' + ', '.join(table) + '}', 'use Rattle.syn_grammar.specs.Rules as rules', 'use Rattle.syn_grammar.specs.Shape as shapes',
                 'use Rattle.syn_grammar.specs.Grammar.{' + ', '.join(used(['name', 'word', 'name_or', 'literal_of', 'any_literal', 'index'])) + ', Grammar, empty, token, mark, ◌&◌, when◌then◌else◌, inside, raw, rule, one_of, shaped, vanishing, ordered}',
                 'use Rattle.syn_recognize.specs.Within.{first, second}', 'use Rattle.syn_recognize.specs.Ordered.{first_form, other_form}',
                 'use Rattle.syn_recognize.specs.Course.{Course, reads, turns, rooted, followed, rest, kept, lists, led, self_type}',
-                f'use {at}.list.List.TheVariants as List-m', f'use {at}.plan.Stage.{{Stage}}', f'use {at}.plan.Stage.TheVariants as Stage-m',
+                f'use {at}.list.List.TheVariants as List-m', f'use {at}.plan.Stage.{{Stage}}', f'use {at}.plan.Series.{{Series}}', f'use {at}.plan.Series.TheVariants as Series-m',
                 f'use {at}.plan.Planned.{{Planned}}', f'use {at}.plan.Planned.TheVariants as Planned-m', '',
                 *[line for name, it, _ in self.stages for line in (f'abbrev pub {snake(name)} : Course', f'{snake(name)} = {self.course(it)}', '')],
-                'abbrev pub stage_course : Stage → Course', *[f'stage_course Stage-m.{name} = {snake(name)}' for name, _, _ in self.stages], '',
+                *[line for name, stages in self.series() for line in (f'abbrev pub {name}_course : ℕ → Course', f'{name}_course n = get_or {at_place([snake(x) for x in stages])}', '')],
+                'abbrev pub course_at : Series → ℕ → Course', *[f'course_at Series-m.{camel(name)} n = {name}_course n' for name, _ in self.series()], '',
+                'unfoldable pub stage_course : Stage → Course', 'stage_course s = course_at s.series s.place', '',
                 'abbrev pub planned_course : Planned → Course', *[f'planned_course {name} = {x}' for name, x in begins], '',
                 '-- the form that is read by a plan', 'abbrev pub planned_form : Planned → Grammar',
                 *[f'planned_form Planned-m.{camel(k)} = ' + ('first (second (first (second (table rules.statements))))' if k == 'statements' else f'table rules.{k}') for k in PLANS], '']
@@ -599,7 +671,7 @@ class Writer:
         tokens = used(['Paren', 'Brace', 'Bracket', 'None', 'Str', 'Before_colons', 'Before_macro', 'Begins_item', 'Begins_in', 'Lone_word', 'ended', 'at_name', 'at_word', 'at_mark', 'at_group',
                        'at_literal', 'at_empty_group', 'ahead', 'at_generics', 'at_lifetime', 'at_path_word', 'at_parameter', 'at_path_rest'])
         table = [x for x in used(sorted(self.source.looks)) if x not in tokens]
-        return ['use Rattle.std.specs.Prelude.{true, false, [], ◌∷◌}', 'use Rattle.syn_grammar.specs.Words.{' + ', '.join(used(sorted(set(self.texts.values())))) + '}',
+        return ['use Rattle.std.specs.Prelude.{ℕ, true, false, [], ◌∷◌, get_or}', 'use Rattle.syn_grammar.specs.Words.{' + ', '.join(used(sorted(set(self.texts.values())))) + '}',
                 'use Rattle.syn_grammar.specs.Tokens.{' + ', '.join(tokens + ['◌or_else◌', '◌and_also◌', '◌but_not◌']) + '}',
                 'use Rattle.syn_grammar.specs.Rules as rules', 'use Rattle.syn_grammar.specs.Shape as shapes', 'use Rattle.syn_grammar.specs.Table.{' + ', '.join(['table', *table]) + '}',
                 'use Rattle.syn_grammar.specs.Grammar.{' + ', '.join(used(['name', 'word', 'name_or', 'literal_of', 'any_literal', 'index']) + ['Grammar', 'empty', 'token', 'mark', '◌&◌', 'when◌then◌else◌', 'inside', 'raw', 'rule', 'one_of', 'shaped', 'vanishing', 'ordered']) + '}',
@@ -607,13 +679,15 @@ class Writer:
                 'use Rattle.syn_recognize.specs.declared.list.List.TheVariants as List-m']
 
     def parts_file(self):
-        at = 'Rattle.syn_recognize.specs.declared.rules.Part'
+        at = 'Rattle.syn_recognize.specs.declared.rules'
+        forms = {name: '(' + ''.join(f'{step} (' for step in reversed(way)) + f'table rules.{k}' + ')' * len(way) + ')' for name, k, way, _ in self.parts if k != 'planned'}
+        forms |= {name: f'({self.text_at(way)})' for name, _, way, _ in self.plan_parts}
         return [
             f'-- {WRITTEN}', '-- THE PARTS OF RULES THAT HAVE STATICS OF THEIR OWN: where each stands in its rule.',
-            *self.parts_imports(), f'use {at}.{{Part}}', f'use {at}.TheVariants as Part-m', '',
-            'abbrev pub part_form : Part → Grammar',
-            *[f'part_form Part-m.{name} = ' + ''.join(f'{step} (' for step in reversed(way)) + f'table rules.{k}' + ')' * len(way) for name, k, way, _ in self.parts if k != 'planned'],
-            *[f'part_form Part-m.{name} = {self.text_at(way)}' for name, _, way, _ in self.plan_parts], '']
+            *self.parts_imports(), f'use {at}.Part.{{Part}}', f'use {at}.Group.{{Group}}', f'use {at}.Group.TheVariants as Group-m', '',
+            *[line for name, _, parts in self.part_groups() for line in (f'abbrev pub {name}_part : ℕ → Grammar', f'{name}_part n = get_or {at_place([forms[part] for part in parts])}', '')],
+            'abbrev pub part_at : Group → ℕ → Grammar', *[f'part_at Group-m.{camel(name)} n = {name}_part n' for name, _, _ in self.part_groups()], '',
+            'unfoldable pub part_form : Part → Grammar', 'part_form p = part_at p.group p.place', '']
 
     def shape_variants(self):
         names = sorted(it if isinstance(it, str) else it[0] for it in self.shapes)
@@ -669,22 +743,22 @@ class Writer:
             'use Rattle.syn_recognize.specs.May.{is_empty_text}', 'use Rattle.syn_recognize.specs.Names.{mark_text}', f'use {at}.{{Mark}}', f'use {at}.TheVariants as Mark-m', '',
             'pub known_mark : (m : Mark) → is_empty_text (mark_text m) ≡ false', *[f'known_mark Mark-m.{name} = refl' for name in marks], '']
 
-    def names_file(self, topics):
+    def names_file(self):
         at = 'Rattle.syn_recognize.specs.declared'
         texts = [(self.rust[text], self.texts[text]) for text in sorted(self.words, key=self.rust.get)]
         marks = [(self.rust[text], self.texts[text]) for text in sorted(self.marks, key=self.rust.get)]
         told = sorted(TOLD, key=lambda name: name in ('at_lifetime', 'at_path_word'))
         variants = sorted(self.variants)
         return [
-            f'-- {WRITTEN}', '-- WHAT WORDS, MARKS, LOOKS, SHAPES AND RULES AS DATA STAND FOR.', 'use Rattle.syn_grammar.specs.Words.{Text, ' + ', '.join(name for _, name in texts + marks) + '}',
+            f'-- {WRITTEN}', '-- WHAT WORDS, MARKS, LOOKS, SHAPES AND RULES AS DATA STAND FOR.', 'use Rattle.std.specs.Prelude.{ℕ, [], ◌∷◌, get_or}', 'use Rattle.syn_grammar.specs.Words.{Text, ' + ', '.join(name for _, name in texts + marks) + '}',
             'use Rattle.syn_grammar.specs.Words.{w_union, w_auto}', 'use Rattle.syn_grammar.specs.ItemPlan.{at_in_restriction, at_lone_word}',
             'use Rattle.syn_grammar.specs.Tokens.{Int, Str, Before_colons, Before_macro, Begins_item, Look, ended, at_name, at_word, at_mark, at_group, at_literal, at_empty_group, ahead, ◌or_else◌, ◌and_also◌, ◌but_not◌, at_lifetime, at_path_word, at_generics}',
             'use Rattle.syn_grammar.specs.Table.{' + ', '.join(told[:-2]) + '}',
             'use Rattle.syn_grammar.specs.Rules as rules', 'use Rattle.syn_grammar.specs.Rules.{Rule}',
             'use Rattle.syn_grammar.specs.Shape as shapes', 'use Rattle.syn_grammar.specs.Shape.{Shape, Variant}',
             'use Rattle.syn_tokens.specs.Delimiters.{delimiter_of}',
-            *[line for module, name, alias in [('words', 'Word', 'Word'), ('words', 'Mark', 'Mark'), ('look', 'Look', 'look'), ('shape', 'Shape', 'shape'), ('shape', 'Variant', 'variant'), ('rules', 'Rule', 'rule')]
-              for line in (f'use {at}.{module}.{name}.{{{name}}}' if alias == name else f'use {at}.{module}.{name} as {alias}', f'use {at}.{module}.{name}.TheVariants as {name}-m')], '',
+            *[line for module, name, alias in [('words', 'Word', 'Word'), ('words', 'Mark', 'Mark'), ('look', 'Look', 'look'), ('shape', 'Shape', 'shape'), ('shape', 'Variant', 'variant'), ('rules', 'Rule', 'rule'), ('rules', 'Topic', 'Topic')]
+              for line in (f'use {at}.{module}.{name}.{{{name}}}' if alias == name else f'use {at}.{module}.{name} as {alias}', f'use {at}.{module}.{name}.TheVariants as {name}-m') if 'use ' in line and not line.endswith(' Rule-m')], '',
             'abbrev pub word_text : Word → Text', *[f'word_text Word-m.{rust} = {name}' for rust, name in texts], '',
             'abbrev pub mark_text : Mark → Text', *[f'mark_text Mark-m.{rust} = {name}' for rust, name in marks], '',
             'abbrev pub look_of : look.Look → Look', 'look_of Look-m.Ended = ended', 'look_of Look-m.Name = at_name', 'look_of (Look-m.Word w) = at_word (word_text w)',
@@ -697,7 +771,9 @@ class Writer:
             'abbrev pub variant_of : variant.Variant → Variant', *[f'variant_of Variant-m.{name} = shapes.{name}' for name in variants], '',
             'abbrev pub shape_of : shape.Shape → Shape',
             *[f'shape_of (Shape-m.{camel(name)} v) = shapes.{name} (variant_of v)' if of else f'shape_of Shape-m.{camel(name)} = shapes.{name}' for name, of in self.shape_variants()], '',
-            'abbrev pub rule_of : rule.Rule → Rule', *[f'rule_of Rule-m.{camel(k)} = rules.{k}' for _, _, rules in topics for k in rules], '']
+            *[line for name, _, rules in self.rule_groups() for line in (f'abbrev pub {name}_rule : ℕ → Rule', f'{name}_rule n = get_or {at_place([f"rules.{k}" for k in rules])}', '')],
+            'abbrev pub rule_at : Topic → ℕ → Rule', *[f'rule_at Topic-m.{camel(name)} n = {name}_rule n' for name, _, _ in self.rule_groups()], '',
+            'unfoldable pub rule_of : rule.Rule → Rule', 'rule_of k = rule_at k.topic k.place', '']
 
 
 def write(files, folder):

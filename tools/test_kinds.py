@@ -306,13 +306,13 @@ table entry =
     def test_a_wrapper_is_a_kind_too(self):
         source = self.crate()
         self.assertIn("use crate::canon::Wrapped;\n", canonical(source, [("Thing", "thing"), ("Wrapped", "thing")]))
-        self.assertIn("        Kind::Thing => Rule::AThing,\n", dispatch([("thing", "Thing", "a_thing")]))
+        self.assertIn("        Kind::Thing => Rule::A_THING,\n", dispatch([("thing", "Thing", "a_thing")]))
 
     def test_a_kind_is_compared_by_its_trees_and_its_rule(self):
         text = comparisons_of_answers(self.crate(), [("a-thing", "Thing", "a_thing"), ("wrapped", "Wrapped", "thing")])
         self.assertIn("use syn::canon::Wrapped;\n", text)
         self.assertIn("use syn_tree::things::Thing;\n", text)
-        self.assertIn('    compare::<Thing>(case, "a-thing", Rule::AThing, tally)?;\n    compare::<Wrapped>(case, "wrapped", Rule::Thing, tally)?;\n', text)
+        self.assertIn('    compare::<Thing>(case, "a-thing", Rule::A_THING, tally)?;\n    compare::<Wrapped>(case, "wrapped", Rule::THING, tally)?;\n', text)
 
     def test_a_stream_is_asked_about_as_each_kind(self):
         text = answers_of_streams(self.crate(), [("Thing", "a_thing"), ("Wrapped", "thing"), ("Item", "item")], at_once=2)
@@ -320,8 +320,8 @@ table entry =
         self.assertIn("""
 pub(crate) fn answer_as(kind: &str, tokens: &TokenStream) -> Result<Answer, Failure> {
     match kind {
-        "Thing" => answer_of::<Thing>(Rule::AThing, tokens),
-        "Wrapped" => answer_of::<Wrapped>(Rule::Thing, tokens),
+        "Thing" => answer_of::<Thing>(Rule::A_THING, tokens),
+        "Wrapped" => answer_of::<Wrapped>(Rule::THING, tokens),
         _ => answer_as_1(kind, tokens),
     }
 }
@@ -329,7 +329,7 @@ pub(crate) fn answer_as(kind: &str, tokens: &TokenStream) -> Result<Answer, Fail
 /// The same of further kinds.
 fn answer_as_1(kind: &str, tokens: &TokenStream) -> Result<Answer, Failure> {
     match kind {
-        "Item" => answer_of::<Item>(Rule::Item, tokens),
+        "Item" => answer_of::<Item>(Rule::ITEM, tokens),
         _ => Err(Failure::Broken),
     }
 }

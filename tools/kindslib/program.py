@@ -60,8 +60,13 @@ impl Kind {{
 """
 
 
+def constant(rule):
+    """The constant of a rule."""
+    return rule.replace("-", "_").upper()
+
+
 def dispatch(kinds):
-    arms = "".join(f"        Kind::{camel(word)} => Rule::{camel(rule.replace('_', '-'))},\n" for word, _, rule in kinds)
+    arms = "".join(f"        Kind::{camel(word)} => Rule::{constant(rule)},\n" for word, _, rule in kinds)
     return f"""//! {WRITTEN}
 //!
 //! By which rule each kind is read.
@@ -73,6 +78,7 @@ use crate::kind::Kind;
 use syn_recognize::Rule;
 
 /// The rule by which a kind is read.
+#[tactic(auto, unfolding(syn_recognize::specs::Names::rule_of))]
 pub(crate) fn rule_by(kind: Kind) -> Rule
     ensures {{ names.rule_of result ≡ rule_of kind }}
 {{
@@ -83,7 +89,7 @@ pub(crate) fn rule_by(kind: Kind) -> Rule
 
 
 def comparisons_of_answers(source, kinds):
-    calls = "".join(f'    compare::<{name}>(case, "{word}", Rule::{camel(rule)}, tally)?;\n' for word, name, rule in kinds)
+    calls = "".join(f'    compare::<{name}>(case, "{word}", Rule::{constant(rule)}, tally)?;\n' for word, name, rule in kinds)
     others = [("crate::case", "Case"), ("crate::compared", "compare"), ("crate::failure", "Failure"), ("crate::tally", "Tally"), ("syn_recognize", "Rule")]
     return f"""//! {WRITTEN}
 //!
@@ -104,7 +110,7 @@ def answers_of_streams(source, kinds, at_once=16):
     blocks = []
     for number, pack in enumerate(packs):
         is_last = number == len(packs) - 1
-        arms = "".join(f'        "{name}" => answer_of::<{name}>(Rule::{camel(rule)}, tokens),\n' for name, rule in pack)
+        arms = "".join(f'        "{name}" => answer_of::<{name}>(Rule::{constant(rule)}, tokens),\n' for name, rule in pack)
         rest = "Err(Failure::Broken)" if is_last else f"answer_as_{number + 1}(kind, tokens)"
         head = ("/// What is answered about the stream as the kind of this name.\npub(crate) fn answer_as" if number == 0
                 else f"/// The same of further kinds.\nfn answer_as_{number}")

@@ -97,13 +97,13 @@ pub fn same_form_by(rule: Rule, left: TokenStream, right: TokenStream) -> Result
 /// give no tokens.
 ///
 /// It is refused where some piece spells no item, or where memory is refused.
-#[tactic(auto, using(crate::proofs::Joining::begins, crate::proofs::Joining::goes_on, crate::proofs::Joining::ends))]
+#[tactic(auto, using(crate::proofs::Joining::begins, crate::proofs::Joining::goes_on, crate::proofs::Joining::ends), unfolding(syn_recognize::specs::Names::rule_of))]
 pub fn join_items(alloc: Global, pieces: &[TokenStream]) -> Result<TokenStream>
     ensures joined { JoinOutcome IsSyntaxError pieces.now result }
 {
     let mut joined = TokenStream::new(alloc);
     'pieces: for piece in pieces {
-        let printed = printed_whole(Rule::Item, piece)?;
+        let printed = printed_whole(Rule::ITEM, piece)?;
         joined.append(printed)?;
     }
     Ok(joined)

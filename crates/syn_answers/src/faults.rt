@@ -98,7 +98,7 @@ fn no_name(span: Span, place: &Place<'_>) -> Option<Fault> {
 /// The fault of what is left over, here at this place.
 fn left_over(span: Span, rule: Rule, place: &Place<'_>, tokens: &TokenStream) -> Option<Fault> {
     match rule {
-        Rule::Receiver => path_in_place_of_receiver(span.start, &tokens.cursor()),
+        Rule::RECEIVER => path_in_place_of_receiver(span.start, &tokens.cursor()),
         _ => late_receiver(place),
     }
 }

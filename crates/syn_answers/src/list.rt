@@ -51,25 +51,26 @@ pub struct ListedItem {
 }
 
 /// The rule that reads items of this kind.
+#[tactic(auto, unfolding(syn_recognize::specs::Names::rule_of))]
 fn rule_by(kind: ItemKind) -> Option<Rule>
     ensures { MatchOption result (kind ≡ K.Verbatim) (λ rule. names.rule_of rule ≡ rule_of kind) }
 {
     match kind {
-        ItemKind::Const => Some(Rule::ConstItem),
-        ItemKind::Enum => Some(Rule::Enumeration),
-        ItemKind::ExternCrate => Some(Rule::ExternCrate),
-        ItemKind::Fn => Some(Rule::Function),
-        ItemKind::ForeignMod => Some(Rule::ForeignModule),
-        ItemKind::Impl => Some(Rule::ImplDefinition),
-        ItemKind::Macro => Some(Rule::MacroAsItem),
-        ItemKind::Mod => Some(Rule::ModuleItem),
-        ItemKind::Static => Some(Rule::StaticItem),
-        ItemKind::Struct => Some(Rule::Structure),
-        ItemKind::Trait => Some(Rule::TraitDefinition),
-        ItemKind::TraitAlias => Some(Rule::TraitAlias),
-        ItemKind::Ty => Some(Rule::TypeItem),
-        ItemKind::Union => Some(Rule::UnionItem),
-        ItemKind::Use => Some(Rule::UseItem),
+        ItemKind::Const => Some(Rule::CONST_ITEM),
+        ItemKind::Enum => Some(Rule::ENUMERATION),
+        ItemKind::ExternCrate => Some(Rule::EXTERN_CRATE),
+        ItemKind::Fn => Some(Rule::FUNCTION),
+        ItemKind::ForeignMod => Some(Rule::FOREIGN_MODULE),
+        ItemKind::Impl => Some(Rule::IMPL_DEFINITION),
+        ItemKind::Macro => Some(Rule::MACRO_AS_ITEM),
+        ItemKind::Mod => Some(Rule::MODULE_ITEM),
+        ItemKind::Static => Some(Rule::STATIC_ITEM),
+        ItemKind::Struct => Some(Rule::STRUCTURE),
+        ItemKind::Trait => Some(Rule::TRAIT_DEFINITION),
+        ItemKind::TraitAlias => Some(Rule::TRAIT_ALIAS),
+        ItemKind::Ty => Some(Rule::TYPE_ITEM),
+        ItemKind::Union => Some(Rule::UNION_ITEM),
+        ItemKind::Use => Some(Rule::USE_ITEM),
         ItemKind::Verbatim => None,
     }
 }
@@ -159,7 +160,7 @@ fn try_rare(input: &mut ParseBuffer<'_>) -> Parsed<Option<ItemKind>>
 }
 
 /// Reads an item of any kind, and says which it is: where none of the kinds reads it, it is kept as tokens.
-#[tactic(auto, using(crate::proofs::Listing::kept))]
+#[tactic(auto, using(crate::proofs::Listing::kept), unfolding(syn_recognize::specs::Names::rule_of))]
 fn read_any(input: &mut ParseBuffer<'_>) -> Parsed<ItemKind>
     ensures { KindRead IsSyntax input.old result input.new }
 {
@@ -172,7 +173,7 @@ fn read_any(input: &mut ParseBuffer<'_>) -> Parsed<ItemKind>
     if let Some(kind) = try_rare(input)? {
         return Ok(kind);
     }
-    read_by(Rule::Item, input)?;
+    read_by(Rule::ITEM, input)?;
     Ok(ItemKind::Verbatim)
 }
 
@@ -198,13 +199,13 @@ fn read_item(input: &mut ParseBuffer<'_>) -> Parsed<ListedItem>
 }
 
 /// The items of a whole file.
-#[tactic(auto, using(crate::proofs::Listing::ends))]
+#[tactic(auto, using(crate::proofs::Listing::ends), unfolding(syn_recognize::specs::Names::rule_of))]
 fn listed_to_end(tokens: &TokenStream) -> Parsed<Vec<ListedItem>>
     ensures listed { IfOk result (λ list. FileLists tokens.now (map entry_of list.items)) }
     ensures refused { IfErr result (λ e. IsSyntax e → Refused rules.file tokens.now) }
 {
     let mut input = ParseBuffer::new(tokens);
-    read_by(Rule::InnerAttributes, &mut input)?;
+    read_by(Rule::INNER_ATTRIBUTES, &mut input)?;
     let mut list = Vec::new(tokens.alloc());
     'items: for _item in 0..u64::MAX {
         if input.is_empty() {
@@ -217,13 +218,14 @@ fn listed_to_end(tokens: &TokenStream) -> Parsed<Vec<ListedItem>>
 }
 
 /// The items of a whole file, with the faults that more than a token tells.
+#[tactic(auto, unfolding(syn_recognize::specs::Names::rule_of))]
 fn listed(tokens: &TokenStream) -> Parsed<Vec<ListedItem>>
     ensures listed { IfOk result (λ list. FileLists tokens.now (map entry_of list.items)) }
     ensures refused { IfErr result (λ e. IsSyntax e → Refused rules.file tokens.now) }
 {
     match listed_to_end(tokens) {
         Ok(list) => Ok(list),
-        Err(refusal) => Err(told(refusal, Rule::File, tokens)),
+        Err(refusal) => Err(told(refusal, Rule::FILE, tokens)),
     }
 }
 

@@ -12,8 +12,7 @@ use Rattle.syn_parse.specs.declared.buffer.first.First.TheVariants as F
 use Rattle.syn_tokens.specs.declared.delimiter.Delimiter.{Delimiter}
 use Rattle.syn_tokens.specs.declared.delimiter.Delimiter.TheVariants as D
 use Rattle.syn_recognize.specs.Opens.{Opens}
-use Rattle.syn_recognize.specs.Parts.{part_form}
-use Rattle.syn_recognize.specs.declared.rules.Part.TheVariants as Part-m
+use Rattle.syn_recognize.specs.Within.{second}
 use Rattle.syn_recognize.proofs.Opened.{opens_as_pruned, opens_pruned, opens_so_far, opens_through, words_form}
 
 -- TYPES
@@ -66,14 +65,14 @@ module_path_by_keyword f g e h = subst (λ z. Opens z g module_path) (sym e) (op
 
 -- EXPRESSIONS
 
-pub dot_postfix : (c : ℕ) (g : Grammar) → c ≡ 46 → parse_form g ≡ parse_form (part_form Part-m.Postfixes1) → Opens (F.Mark c) g postfixes
+pub dot_postfix : (c : ℕ) (g : Grammar) → c ≡ 46 → parse_form g ≡ parse_form (second (second (second (table postfixes)))) → Opens (F.Mark c) g postfixes
 dot_postfix c g e h = subst (λ z. Opens (F.Mark z) g postfixes) (sym e) (opens_so_far (postfixes ∷ []) 4 (F.Mark 46) g postfixes h)
 
-pub member_by_name : (f : First) (g : Grammar) → f ≡ F.Name → parse_form g ≡ parse_form (part_form Part-m.Member2) → Opens f g member
+pub member_by_name : (f : First) (g : Grammar) → f ≡ F.Name → parse_form g ≡ parse_form (second (table member)) → Opens f g member
 member_by_name f g e h = subst (λ z. Opens z g member) (sym e) (opens_as_pruned (member ∷ []) F.Name g member h)
 
 abbrev pub expression_words_form : Grammar
-expression_words_form = (token [] (name_or (w_Self_type ∷ [])) & shaped untagged (when at_turbofish then (rule type_arguments) else empty)) & part_form Part-m.ExpressionWords2
+expression_words_form = (token [] (name_or (w_Self_type ∷ [])) & shaped untagged (when at_turbofish then (rule type_arguments) else empty)) & second (table expression_words)
 
 pub expression_words_open : (f : First) → f ≡ F.Name → Opens f expression_words_form expression_words
 expression_words_open f e = subst (λ z. Opens z expression_words_form expression_words) (sym e) (opens_as_pruned (expression_words ∷ []) F.Name expression_words_form expression_words refl)

@@ -18,8 +18,7 @@ use Rattle.syn_recognize.specs.May.{may, sure}
 use Rattle.syn_recognize.specs.Written.{Written}
 use Rattle.syn_recognize.specs.Copies.{copied, next, copy_form}
 use Rattle.syn_recognize.specs.Ladder.{loud, climb, Rung}
-use Rattle.syn_recognize.specs.Parts.{part_form}
-use Rattle.syn_recognize.specs.declared.rules.Part.TheVariants as Part-m
+use Rattle.syn_recognize.specs.Within.{second}
 use Rattle.syn_recognize.specs.Opens.{Opens, both, either_way, pruned}
 use Rattle.syn_recognize.proofs.Copied.{empty_is, unshown_is, rule_is, shaped_is, then_is, when_is}
 use Rattle.syn_recognize.proofs.May.{never, surely}
@@ -169,7 +168,7 @@ unfolding Opens
 opens_through ks f g j k e h = λ w ts b. sym (pruned_is ks 30 f (rule k) ts b w) ∙ ap (λ p. copy_form p w ts) e ∙ rule_is j g w ts h
 
 abbrev pub words_form : Grammar
-words_form = (token [] (name_or (w_Self_type ∷ [])) & shaped untagged (when at_arguments then (rule type_arguments) else empty)) & part_form Part-m.TypeWords2
+words_form = (token [] (name_or (w_Self_type ∷ [])) & shaped untagged (when at_arguments then (rule type_arguments) else empty)) & second (table type_words)
 
 pub type_opens : (f : First) → f ≡ F.Name → Opens f words_form type
 type_opens f e = subst (λ z. Opens z words_form type) (sym e) (opens_as_pruned (type ∷ path_as_type ∷ type_path ∷ type_words ∷ []) F.Name words_form type refl)

@@ -1,5 +1,6 @@
 -- Written by tools/recognizers.py; edits are lost.
 -- WHAT WORDS, MARKS, LOOKS, SHAPES AND RULES AS DATA STAND FOR.
+use Rattle.std.specs.Prelude.{ℕ, [], ◌∷◌, get_or}
 use Rattle.syn_grammar.specs.Words.{Text, w_as, w_async, w_auto, w_break, w_const, w_continue, w_crate, w_default, w_else, w_enum, w_extern, w_false, w_fn, w_for, w_if, w_impl, w_in, w_let, w_loop, w_macro, w_mod, w_mut, w_pub, w_ref, w_return, w_safe, w_Self_type, w_self, w_static, w_struct, w_trait, w_true, w_try, w_type, w_underscore, w_union, w_unsafe, w_use, w_where, w_while, ampersand, and_and, ampersand_equals, caret, caret_equals, colon, comma, dot, dots, ellipsis, equals, equal_equal, greater_equals, greater, less_equals, less, minus, minus_equals, not_equals, exclamation, bar, bar_equals, or_or, colons, percent, percent_equals, plus, plus_equals, pound, question, arrow, semicolon, less_less, less_less_equals, greater_greater, greater_greater_equals, slash, slash_equals, star, star_equals}
 use Rattle.syn_grammar.specs.Words.{w_union, w_auto}
 use Rattle.syn_grammar.specs.ItemPlan.{at_in_restriction, at_lone_word}
@@ -21,7 +22,8 @@ use Rattle.syn_recognize.specs.declared.shape.Shape.TheVariants as Shape-m
 use Rattle.syn_recognize.specs.declared.shape.Variant as variant
 use Rattle.syn_recognize.specs.declared.shape.Variant.TheVariants as Variant-m
 use Rattle.syn_recognize.specs.declared.rules.Rule as rule
-use Rattle.syn_recognize.specs.declared.rules.Rule.TheVariants as Rule-m
+use Rattle.syn_recognize.specs.declared.rules.Topic.{Topic}
+use Rattle.syn_recognize.specs.declared.rules.Topic.TheVariants as Topic-m
 
 abbrev pub word_text : Word → Text
 word_text Word-m.As = w_as
@@ -193,232 +195,103 @@ shape_of Shape-m.Said = shapes.said
 shape_of Shape-m.SaidMacro = shapes.said_macro
 shape_of Shape-m.Untagged = shapes.untagged
 
-abbrev pub rule_of : rule.Rule → Rule
-rule_of Rule-m.Attributes = rules.attributes
-rule_of Rule-m.InnerAttributes = rules.inner_attributes
-rule_of Rule-m.Meta = rules.meta
-rule_of Rule-m.UnsafePath = rules.unsafe_path
-rule_of Rule-m.UnsafeWord = rules.unsafe_word
-rule_of Rule-m.MetaValue = rules.meta_value
-rule_of Rule-m.ModulePath = rules.module_path
-rule_of Rule-m.ModuleWords = rules.module_words
-rule_of Rule-m.Visibility = rules.visibility
-rule_of Rule-m.Restriction = rules.restriction
-rule_of Rule-m.TypePath = rules.type_path
-rule_of Rule-m.TypeWords = rules.type_words
-rule_of Rule-m.MoreTypeWords = rules.more_type_words
-rule_of Rule-m.TypeArguments = rules.type_arguments
-rule_of Rule-m.ReturnType = rules.return_type
-rule_of Rule-m.GenericArguments = rules.generic_arguments
-rule_of Rule-m.GenericArgument = rules.generic_argument
-rule_of Rule-m.QualifiedPath = rules.qualified_path
-rule_of Rule-m.PathAsType = rules.path_as_type
-rule_of Rule-m.Type = rules.type
-rule_of Rule-m.Types = rules.types
-rule_of Rule-m.Constant = rules.constant
-rule_of Rule-m.Generics = rules.generics
-rule_of Rule-m.LifetimeParameter = rules.lifetime_parameter
-rule_of Rule-m.Lifetimes = rules.lifetimes
-rule_of Rule-m.ParameterBounds = rules.parameter_bounds
-rule_of Rule-m.Bound = rules.bound
-rule_of Rule-m.TraitBound = rules.trait_bound
-rule_of Rule-m.BoundLifetimes = rules.bound_lifetimes
-rule_of Rule-m.LifetimeParameters = rules.lifetime_parameters
-rule_of Rule-m.WhereClause = rules.where_clause
-rule_of Rule-m.Predicates = rules.predicates
-rule_of Rule-m.Predicate = rules.predicate
-rule_of Rule-m.PredicateBounds = rules.predicate_bounds
-rule_of Rule-m.FieldsNamed = rules.fields_named
-rule_of Rule-m.NamedFields = rules.named_fields
-rule_of Rule-m.NamedField = rules.named_field
-rule_of Rule-m.NamelessFields = rules.nameless_fields
-rule_of Rule-m.UnnamedField = rules.unnamed_field
-rule_of Rule-m.UnnamedFields = rules.unnamed_fields
-rule_of Rule-m.FieldsUnnamed = rules.fields_unnamed
-rule_of Rule-m.Variant = rules.variant
-rule_of Rule-m.Variants = rules.variants
-rule_of Rule-m.Structure = rules.structure
-rule_of Rule-m.StructureRest = rules.structure_rest
-rule_of Rule-m.StructureBody = rules.structure_body
-rule_of Rule-m.Enumeration = rules.enumeration
-rule_of Rule-m.EnumerationRest = rules.enumeration_rest
-rule_of Rule-m.UnionItem = rules.union_item
-rule_of Rule-m.UnionItemRest = rules.union_item_rest
-rule_of Rule-m.DeriveInput = rules.derive_input
-rule_of Rule-m.ExpressionPath = rules.expression_path
-rule_of Rule-m.ExpressionWords = rules.expression_words
-rule_of Rule-m.QualifiedExpressionPath = rules.qualified_expression_path
-rule_of Rule-m.PathAsExpression = rules.path_as_expression
-rule_of Rule-m.MacroInvocation = rules.macro_invocation
-rule_of Rule-m.Pattern = rules.pattern
-rule_of Rule-m.Patterns = rules.patterns
-rule_of Rule-m.Expressions = rules.expressions
-rule_of Rule-m.ArrayContent = rules.array_content
-rule_of Rule-m.Block = rules.block
-rule_of Rule-m.Body = rules.body
-rule_of Rule-m.PlainBody = rules.plain_body
-rule_of Rule-m.NoInnerAttributes = rules.no_inner_attributes
-rule_of Rule-m.Primary = rules.primary
-rule_of Rule-m.LiteralFields = rules.literal_fields
-rule_of Rule-m.LiteralField = rules.literal_field
-rule_of Rule-m.BlockLike = rules.block_like
-rule_of Rule-m.IfExpression = rules.if_expression
-rule_of Rule-m.LoopExpression = rules.loop_expression
-rule_of Rule-m.Postfixes = rules.postfixes
-rule_of Rule-m.Member = rules.member
-rule_of Rule-m.Unary = rules.unary
-rule_of Rule-m.Casts = rules.casts
-rule_of Rule-m.Cast = rules.cast
-rule_of Rule-m.Products = rules.products
-rule_of Rule-m.Product = rules.product
-rule_of Rule-m.Sums = rules.sums
-rule_of Rule-m.Sum = rules.sum
-rule_of Rule-m.Shifts = rules.shifts
-rule_of Rule-m.Shift = rules.shift
-rule_of Rule-m.BitAnds = rules.bit_ands
-rule_of Rule-m.BitAnd = rules.bit_and
-rule_of Rule-m.BitXors = rules.bit_xors
-rule_of Rule-m.BitXor = rules.bit_xor
-rule_of Rule-m.BitOrs = rules.bit_ors
-rule_of Rule-m.BitOr = rules.bit_or
-rule_of Rule-m.Compared = rules.compared
-rule_of Rule-m.Comparison = rules.comparison
-rule_of Rule-m.Conjunctions = rules.conjunctions
-rule_of Rule-m.Conjunction = rules.conjunction
-rule_of Rule-m.Disjunctions = rules.disjunctions
-rule_of Rule-m.Disjunction = rules.disjunction
-rule_of Rule-m.Assigned = rules.assigned
-rule_of Rule-m.WholeExpression = rules.whole_expression
-rule_of Rule-m.PrimaryHead = rules.primary_head
-rule_of Rule-m.UnaryHead = rules.unary_head
-rule_of Rule-m.CastHead = rules.cast_head
-rule_of Rule-m.ProductsHead = rules.products_head
-rule_of Rule-m.ProductHead = rules.product_head
-rule_of Rule-m.SumsHead = rules.sums_head
-rule_of Rule-m.SumHead = rules.sum_head
-rule_of Rule-m.ShiftsHead = rules.shifts_head
-rule_of Rule-m.ShiftHead = rules.shift_head
-rule_of Rule-m.BitAndsHead = rules.bit_ands_head
-rule_of Rule-m.BitAndHead = rules.bit_and_head
-rule_of Rule-m.BitXorsHead = rules.bit_xors_head
-rule_of Rule-m.BitXorHead = rules.bit_xor_head
-rule_of Rule-m.BitOrsHead = rules.bit_ors_head
-rule_of Rule-m.BitOrHead = rules.bit_or_head
-rule_of Rule-m.ComparedHead = rules.compared_head
-rule_of Rule-m.ComparisonHead = rules.comparison_head
-rule_of Rule-m.ConjunctionsHead = rules.conjunctions_head
-rule_of Rule-m.ConjunctionHead = rules.conjunction_head
-rule_of Rule-m.DisjunctionsHead = rules.disjunctions_head
-rule_of Rule-m.DisjunctionHead = rules.disjunction_head
-rule_of Rule-m.AssignedHead = rules.assigned_head
-rule_of Rule-m.WholeExpressionHead = rules.whole_expression_head
-rule_of Rule-m.OperandRest = rules.operand_rest
-rule_of Rule-m.Statements = rules.statements
-rule_of Rule-m.StatementRest = rules.statement_rest
-rule_of Rule-m.AfterBlock = rules.after_block
-rule_of Rule-m.AfterExpression = rules.after_expression
-rule_of Rule-m.Statement = rules.statement
-rule_of Rule-m.CrateMacro = rules.crate_macro
-rule_of Rule-m.BraceMacro = rules.brace_macro
-rule_of Rule-m.StatementEnd = rules.statement_end
-rule_of Rule-m.Local = rules.local
-rule_of Rule-m.NoAttributes = rules.no_attributes
-rule_of Rule-m.Receiver = rules.receiver
-rule_of Rule-m.ReceiverRest = rules.receiver_rest
-rule_of Rule-m.Argument = rules.argument
-rule_of Rule-m.Inputs = rules.inputs
-rule_of Rule-m.LaterInputs = rules.later_inputs
-rule_of Rule-m.InputRest = rules.input_rest
-rule_of Rule-m.Variadic = rules.variadic
-rule_of Rule-m.Abi = rules.abi
-rule_of Rule-m.UnsafeOnly = rules.unsafe_only
-rule_of Rule-m.SafeOrUnsafe = rules.safe_or_unsafe
-rule_of Rule-m.Signature = rules.signature
-rule_of Rule-m.SignatureRest = rules.signature_rest
-rule_of Rule-m.Function = rules.function
-rule_of Rule-m.FunctionRest = rules.function_rest
-rule_of Rule-m.ConstItem = rules.const_item
-rule_of Rule-m.ConstItemRest = rules.const_item_rest
-rule_of Rule-m.StaticItem = rules.static_item
-rule_of Rule-m.StaticItemRest = rules.static_item_rest
-rule_of Rule-m.ExternCrate = rules.extern_crate
-rule_of Rule-m.ExternCrateRest = rules.extern_crate_rest
-rule_of Rule-m.UseTree = rules.use_tree
-rule_of Rule-m.UseTrees = rules.use_trees
-rule_of Rule-m.RootMark = rules.root_mark
-rule_of Rule-m.RootedTree = rules.rooted_tree
-rule_of Rule-m.RootedTrees = rules.rooted_trees
-rule_of Rule-m.UseItem = rules.use_item
-rule_of Rule-m.UseItemRest = rules.use_item_rest
-rule_of Rule-m.ModuleItem = rules.module_item
-rule_of Rule-m.ModuleItemRest = rules.module_item_rest
-rule_of Rule-m.AliasBounds = rules.alias_bounds
-rule_of Rule-m.TypeBounds = rules.type_bounds
-rule_of Rule-m.Alias = rules.alias
-rule_of Rule-m.TraitAlias = rules.trait_alias
-rule_of Rule-m.TraitAliasRest = rules.trait_alias_rest
-rule_of Rule-m.TypeItem = rules.type_item
-rule_of Rule-m.TypeItemRest = rules.type_item_rest
-rule_of Rule-m.MacroEnd = rules.macro_end
-rule_of Rule-m.MacroItem = rules.macro_item
-rule_of Rule-m.MacroItemRest = rules.macro_item_rest
-rule_of Rule-m.MacroAsItem = rules.macro_as_item
-rule_of Rule-m.MacroAsItemRest = rules.macro_as_item_rest
-rule_of Rule-m.BodilessFunction = rules.bodiless_function
-rule_of Rule-m.UntypedStatic = rules.untyped_static
-rule_of Rule-m.ValuelessStatic = rules.valueless_static
-rule_of Rule-m.OddConst = rules.odd_const
-rule_of Rule-m.MacroDefinition = rules.macro_definition
-rule_of Rule-m.OddType = rules.odd_type
-rule_of Rule-m.Supertraits = rules.supertraits
-rule_of Rule-m.BareTrait = rules.bare_trait
-rule_of Rule-m.TraitDefinition = rules.trait_definition
-rule_of Rule-m.TraitDefinitionRest = rules.trait_definition_rest
-rule_of Rule-m.ConstAlias = rules.const_alias
-rule_of Rule-m.RestrictedTrait = rules.restricted_trait
-rule_of Rule-m.SelfType = rules.self_type
-rule_of Rule-m.ForSelfType = rules.for_self_type
-rule_of Rule-m.ImplBody = rules.impl_body
-rule_of Rule-m.ImplDefinition = rules.impl_definition
-rule_of Rule-m.ImplDefinitionRest = rules.impl_definition_rest
-rule_of Rule-m.OddImpl = rules.odd_impl
-rule_of Rule-m.VisibleConstImpl = rules.visible_const_impl
-rule_of Rule-m.ForeignModule = rules.foreign_module
-rule_of Rule-m.ForeignModuleRest = rules.foreign_module_rest
-rule_of Rule-m.MemberMacro = rules.member_macro
-rule_of Rule-m.BareTraitFunction = rules.bare_trait_function
-rule_of Rule-m.BareTraitType = rules.bare_trait_type
-rule_of Rule-m.TraitConst = rules.trait_const
-rule_of Rule-m.TraitFunction = rules.trait_function
-rule_of Rule-m.TraitType = rules.trait_type
-rule_of Rule-m.TraitMacro = rules.trait_macro
-rule_of Rule-m.TraitMacroAsItem = rules.trait_macro_as_item
-rule_of Rule-m.AnyConst = rules.any_const
-rule_of Rule-m.OddTraitConst = rules.odd_trait_const
-rule_of Rule-m.TraitItem = rules.trait_item
-rule_of Rule-m.TraitItems = rules.trait_items
-rule_of Rule-m.ImplConst = rules.impl_const
-rule_of Rule-m.ImplFunction = rules.impl_function
-rule_of Rule-m.ImplType = rules.impl_type
-rule_of Rule-m.ImplMacro = rules.impl_macro
-rule_of Rule-m.ImplMacroAsItem = rules.impl_macro_as_item
-rule_of Rule-m.BodilessImplFunction = rules.bodiless_impl_function
-rule_of Rule-m.OddImplConst = rules.odd_impl_const
-rule_of Rule-m.OddImplType = rules.odd_impl_type
-rule_of Rule-m.ImplItem = rules.impl_item
-rule_of Rule-m.ImplItems = rules.impl_items
-rule_of Rule-m.ForeignSignature = rules.foreign_signature
-rule_of Rule-m.BareForeignStatic = rules.bare_foreign_static
-rule_of Rule-m.ForeignFunction = rules.foreign_function
-rule_of Rule-m.ForeignStatic = rules.foreign_static
-rule_of Rule-m.ForeignType = rules.foreign_type
-rule_of Rule-m.ForeignMacro = rules.foreign_macro
-rule_of Rule-m.ForeignMacroAsItem = rules.foreign_macro_as_item
-rule_of Rule-m.ForeignBody = rules.foreign_body
-rule_of Rule-m.ForeignValue = rules.foreign_value
-rule_of Rule-m.OddForeignType = rules.odd_foreign_type
-rule_of Rule-m.ForeignItem = rules.foreign_item
-rule_of Rule-m.ForeignItems = rules.foreign_items
-rule_of Rule-m.Item = rules.item
-rule_of Rule-m.Items = rules.items
-rule_of Rule-m.File = rules.file
+abbrev pub attributes_rule : ℕ → Rule
+attributes_rule n = get_or (rules.attributes ∷ rules.inner_attributes ∷ rules.meta ∷ rules.unsafe_path ∷ rules.unsafe_word ∷ rules.meta_value ∷ rules.module_path ∷ []) n rules.module_words
+
+abbrev pub visibilities_rule : ℕ → Rule
+visibilities_rule n = get_or (rules.visibility ∷ []) n rules.restriction
+
+abbrev pub types_rule : ℕ → Rule
+types_rule n = get_or (rules.type_path ∷ rules.type_words ∷ rules.more_type_words ∷ rules.type_arguments ∷ rules.return_type ∷ rules.generic_arguments ∷ rules.generic_argument ∷ rules.qualified_path ∷ rules.path_as_type ∷ rules.type ∷ rules.types ∷ []) n rules.constant
+
+abbrev pub generics_rule : ℕ → Rule
+generics_rule n = get_or (rules.generics ∷ rules.lifetime_parameter ∷ rules.lifetimes ∷ rules.parameter_bounds ∷ rules.bound ∷ rules.trait_bound ∷ rules.bound_lifetimes ∷ rules.lifetime_parameters ∷ rules.where_clause ∷ rules.predicates ∷ rules.predicate ∷ []) n rules.predicate_bounds
+
+abbrev pub fields_rule : ℕ → Rule
+fields_rule n = get_or (rules.fields_named ∷ rules.named_fields ∷ rules.named_field ∷ rules.nameless_fields ∷ rules.unnamed_field ∷ rules.unnamed_fields ∷ rules.fields_unnamed ∷ rules.variant ∷ []) n rules.variants
+
+abbrev pub inputs_rule : ℕ → Rule
+inputs_rule n = get_or (rules.structure ∷ rules.structure_rest ∷ rules.structure_body ∷ rules.enumeration ∷ rules.enumeration_rest ∷ rules.union_item ∷ rules.union_item_rest ∷ []) n rules.derive_input
+
+abbrev pub patterns_rule : ℕ → Rule
+patterns_rule n = get_or (rules.expression_path ∷ rules.expression_words ∷ rules.qualified_expression_path ∷ rules.path_as_expression ∷ rules.macro_invocation ∷ rules.pattern ∷ []) n rules.patterns
+
+abbrev pub lists_rule : ℕ → Rule
+lists_rule n = get_or (rules.expressions ∷ []) n rules.array_content
+
+abbrev pub blocks_rule : ℕ → Rule
+blocks_rule n = get_or (rules.block ∷ rules.body ∷ rules.plain_body ∷ rules.no_inner_attributes ∷ rules.primary ∷ rules.literal_fields ∷ rules.literal_field ∷ rules.block_like ∷ rules.if_expression ∷ []) n rules.loop_expression
+
+abbrev pub postfixes_rule : ℕ → Rule
+postfixes_rule n = get_or (rules.postfixes ∷ rules.member ∷ []) n rules.unary
+
+abbrev pub operators_rule : ℕ → Rule
+operators_rule n = get_or (rules.casts ∷ rules.cast ∷ rules.products ∷ rules.product ∷ rules.sums ∷ rules.sum ∷ rules.shifts ∷ rules.shift ∷ rules.bit_ands ∷ rules.bit_and ∷ rules.bit_xors ∷ rules.bit_xor ∷ rules.bit_ors ∷ rules.bit_or ∷ rules.compared ∷ rules.comparison ∷ rules.conjunctions ∷ rules.conjunction ∷ rules.disjunctions ∷ rules.disjunction ∷ rules.assigned ∷ []) n rules.whole_expression
+
+abbrev pub heads_rule : ℕ → Rule
+heads_rule n = get_or (rules.primary_head ∷ rules.unary_head ∷ rules.cast_head ∷ rules.products_head ∷ rules.product_head ∷ rules.sums_head ∷ rules.sum_head ∷ rules.shifts_head ∷ rules.shift_head ∷ rules.bit_ands_head ∷ rules.bit_and_head ∷ rules.bit_xors_head ∷ rules.bit_xor_head ∷ rules.bit_ors_head ∷ rules.bit_or_head ∷ rules.compared_head ∷ rules.comparison_head ∷ rules.conjunctions_head ∷ rules.conjunction_head ∷ rules.disjunctions_head ∷ rules.disjunction_head ∷ rules.assigned_head ∷ []) n rules.whole_expression_head
+
+abbrev pub statements_rule : ℕ → Rule
+statements_rule n = get_or (rules.operand_rest ∷ rules.statements ∷ rules.statement_rest ∷ rules.after_block ∷ rules.after_expression ∷ rules.statement ∷ rules.crate_macro ∷ rules.brace_macro ∷ rules.statement_end ∷ []) n rules.local
+
+abbrev pub signatures_rule : ℕ → Rule
+signatures_rule n = get_or (rules.no_attributes ∷ rules.receiver ∷ rules.receiver_rest ∷ rules.argument ∷ rules.inputs ∷ rules.later_inputs ∷ rules.input_rest ∷ rules.variadic ∷ rules.abi ∷ rules.unsafe_only ∷ rules.safe_or_unsafe ∷ rules.signature ∷ []) n rules.signature_rest
+
+abbrev pub items_1_rule : ℕ → Rule
+items_1_rule n = get_or (rules.function ∷ rules.function_rest ∷ rules.const_item ∷ rules.const_item_rest ∷ rules.static_item ∷ rules.static_item_rest ∷ rules.extern_crate ∷ rules.extern_crate_rest ∷ rules.use_tree ∷ rules.use_trees ∷ rules.root_mark ∷ rules.rooted_tree ∷ rules.rooted_trees ∷ rules.use_item ∷ []) n rules.use_item_rest
+
+abbrev pub items_2_rule : ℕ → Rule
+items_2_rule n = get_or (rules.module_item ∷ rules.module_item_rest ∷ rules.alias_bounds ∷ rules.type_bounds ∷ rules.alias ∷ rules.trait_alias ∷ rules.trait_alias_rest ∷ rules.type_item ∷ rules.type_item_rest ∷ rules.macro_end ∷ rules.macro_item ∷ rules.macro_item_rest ∷ rules.macro_as_item ∷ []) n rules.macro_as_item_rest
+
+abbrev pub kept_items_rule : ℕ → Rule
+kept_items_rule n = get_or (rules.bodiless_function ∷ rules.untyped_static ∷ rules.valueless_static ∷ rules.odd_const ∷ rules.macro_definition ∷ []) n rules.odd_type
+
+abbrev pub traits_rule : ℕ → Rule
+traits_rule n = get_or (rules.supertraits ∷ rules.bare_trait ∷ rules.trait_definition ∷ rules.trait_definition_rest ∷ rules.const_alias ∷ []) n rules.restricted_trait
+
+abbrev pub impls_rule : ℕ → Rule
+impls_rule n = get_or (rules.self_type ∷ rules.for_self_type ∷ rules.impl_body ∷ rules.impl_definition ∷ rules.impl_definition_rest ∷ rules.odd_impl ∷ []) n rules.visible_const_impl
+
+abbrev pub foreign_rule : ℕ → Rule
+foreign_rule n = get_or (rules.foreign_module ∷ rules.foreign_module_rest ∷ []) n rules.member_macro
+
+abbrev pub trait_members_rule : ℕ → Rule
+trait_members_rule n = get_or (rules.bare_trait_function ∷ rules.bare_trait_type ∷ rules.trait_const ∷ rules.trait_function ∷ rules.trait_type ∷ rules.trait_macro ∷ rules.trait_macro_as_item ∷ rules.any_const ∷ rules.odd_trait_const ∷ rules.trait_item ∷ []) n rules.trait_items
+
+abbrev pub impl_members_rule : ℕ → Rule
+impl_members_rule n = get_or (rules.impl_const ∷ rules.impl_function ∷ rules.impl_type ∷ rules.impl_macro ∷ rules.impl_macro_as_item ∷ rules.bodiless_impl_function ∷ rules.odd_impl_const ∷ rules.odd_impl_type ∷ rules.impl_item ∷ []) n rules.impl_items
+
+abbrev pub foreign_members_rule : ℕ → Rule
+foreign_members_rule n = get_or (rules.foreign_signature ∷ rules.bare_foreign_static ∷ rules.foreign_function ∷ rules.foreign_static ∷ rules.foreign_type ∷ rules.foreign_macro ∷ rules.foreign_macro_as_item ∷ rules.foreign_body ∷ rules.foreign_value ∷ rules.odd_foreign_type ∷ rules.foreign_item ∷ []) n rules.foreign_items
+
+abbrev pub files_rule : ℕ → Rule
+files_rule n = get_or (rules.item ∷ rules.items ∷ []) n rules.file
+
+abbrev pub rule_at : Topic → ℕ → Rule
+rule_at Topic-m.Attributes n = attributes_rule n
+rule_at Topic-m.Visibilities n = visibilities_rule n
+rule_at Topic-m.Types n = types_rule n
+rule_at Topic-m.Generics n = generics_rule n
+rule_at Topic-m.Fields n = fields_rule n
+rule_at Topic-m.Inputs n = inputs_rule n
+rule_at Topic-m.Patterns n = patterns_rule n
+rule_at Topic-m.Lists n = lists_rule n
+rule_at Topic-m.Blocks n = blocks_rule n
+rule_at Topic-m.Postfixes n = postfixes_rule n
+rule_at Topic-m.Operators n = operators_rule n
+rule_at Topic-m.Heads n = heads_rule n
+rule_at Topic-m.Statements n = statements_rule n
+rule_at Topic-m.Signatures n = signatures_rule n
+rule_at Topic-m.Items1 n = items_1_rule n
+rule_at Topic-m.Items2 n = items_2_rule n
+rule_at Topic-m.KeptItems n = kept_items_rule n
+rule_at Topic-m.Traits n = traits_rule n
+rule_at Topic-m.Impls n = impls_rule n
+rule_at Topic-m.Foreign n = foreign_rule n
+rule_at Topic-m.TraitMembers n = trait_members_rule n
+rule_at Topic-m.ImplMembers n = impl_members_rule n
+rule_at Topic-m.ForeignMembers n = foreign_members_rule n
+rule_at Topic-m.Files n = files_rule n
+
+unfoldable pub rule_of : rule.Rule → Rule
+rule_of k = rule_at k.topic k.place

@@ -1,6 +1,6 @@
 -- Written by tools/recognizers.py; edits are lost.
 -- THE PARTS OF RULES THAT HAVE STATICS OF THEIR OWN: where each stands in its rule.
-use Rattle.std.specs.Prelude.{true, false, [], ◌∷◌}
+use Rattle.std.specs.Prelude.{ℕ, true, false, [], ◌∷◌, get_or}
 use Rattle.syn_grammar.specs.Words.{colon, equals, exclamation, semicolon, w_as, w_async, w_const, w_default, w_enum, w_fn, w_let, w_struct, w_trait, w_try, w_type, w_underscore, w_union, w_unsafe, w_where}
 use Rattle.syn_grammar.specs.Tokens.{Paren, Brace, Begins_in, Lone_word, at_word, ahead, ◌or_else◌, ◌and_also◌, ◌but_not◌}
 use Rattle.syn_grammar.specs.Rules as rules
@@ -11,235 +11,106 @@ use Rattle.syn_recognize.specs.Within.{first, second}
 use Rattle.syn_recognize.specs.Ordered.{first_form, other_form}
 use Rattle.syn_recognize.specs.declared.list.List.TheVariants as List-m
 use Rattle.syn_recognize.specs.declared.rules.Part.{Part}
-use Rattle.syn_recognize.specs.declared.rules.Part.TheVariants as Part-m
+use Rattle.syn_recognize.specs.declared.rules.Group.{Group}
+use Rattle.syn_recognize.specs.declared.rules.Group.TheVariants as Group-m
 
-abbrev pub part_form : Part → Grammar
-part_form Part-m.TypeWords1 = first (first (first (table rules.type_words)))
-part_form Part-m.TypeWords2 = second (table rules.type_words)
-part_form Part-m.MoreTypeWords1 = first (first (first (table rules.more_type_words)))
-part_form Part-m.MoreTypeWords2 = second (table rules.more_type_words)
-part_form Part-m.QualifiedPath1 = second (second (table rules.qualified_path))
-part_form Part-m.Type1 = first (second (second (second (table rules.type))))
-part_form Part-m.Type2 = second (second (table rules.type))
-part_form Part-m.Type3 = first (table rules.type)
-part_form Part-m.Constant1 = second (first (table rules.constant))
-part_form Part-m.Generics1 = second (first (second (second (first (table rules.generics)))))
-part_form Part-m.Generics2 = second (second (second (first (table rules.generics))))
-part_form Part-m.Generics3 = second (first (table rules.generics))
-part_form Part-m.Predicate1 = second (table rules.predicate)
-part_form Part-m.NamedField1 = first (first (first (second (second (table rules.named_field)))))
-part_form Part-m.NamedField2 = first (second (second (table rules.named_field)))
-part_form Part-m.Variant1 = second (second (second (table rules.variant)))
-part_form Part-m.Variant2 = second (table rules.variant)
-part_form Part-m.StructureBody1 = second (table rules.structure_body)
-part_form Part-m.EnumerationRest1 = second (table rules.enumeration_rest)
-part_form Part-m.ExpressionWords1 = first (first (first (table rules.expression_words)))
-part_form Part-m.ExpressionWords2 = second (table rules.expression_words)
-part_form Part-m.QualifiedExpressionPath1 = second (second (table rules.qualified_expression_path))
-part_form Part-m.Pattern1 = first (second (second (second (table rules.pattern))))
-part_form Part-m.Pattern2 = second (second (second (table rules.pattern)))
-part_form Part-m.Pattern3 = second (table rules.pattern)
-part_form Part-m.ArrayContent1 = second (table rules.array_content)
-part_form Part-m.Primary1 = second (second (second (second (second (second (second (second (second (second (second (first (table rules.primary))))))))))))
-part_form Part-m.Primary2 = first (second (second (second (second (second (second (second (second (second (first (table rules.primary)))))))))))
-part_form Part-m.Primary3 = second (second (second (second (second (second (second (second (second (first (table rules.primary))))))))))
-part_form Part-m.Primary4 = second (second (second (second (second (second (second (first (table rules.primary))))))))
-part_form Part-m.Primary5 = second (second (second (second (second (first (table rules.primary))))))
-part_form Part-m.Primary6 = second (second (first (table rules.primary)))
-part_form Part-m.LiteralFields1 = second (first (table rules.literal_fields))
-part_form Part-m.LiteralField1 = second (second (table rules.literal_field))
-part_form Part-m.BlockLike1 = second (second (first (table rules.block_like)))
-part_form Part-m.IfExpression1 = first (second (second (second (first (table rules.if_expression)))))
-part_form Part-m.LoopExpression1 = second (second (first (table rules.loop_expression)))
-part_form Part-m.LoopExpression2 = second (first (table rules.loop_expression))
-part_form Part-m.Postfixes1 = second (second (second (table rules.postfixes)))
-part_form Part-m.Postfixes2 = second (second (table rules.postfixes))
-part_form Part-m.Postfixes3 = second (table rules.postfixes)
-part_form Part-m.Member1 = second (second (table rules.member))
-part_form Part-m.Member2 = second (table rules.member)
-part_form Part-m.Unary1 = first (second (second (second (second (first (table rules.unary))))))
-part_form Part-m.Unary2 = second (second (second (first (table rules.unary))))
-part_form Part-m.Unary3 = second (first (table rules.unary))
-part_form Part-m.Products1 = second (second (table rules.products))
-part_form Part-m.Products2 = second (table rules.products)
-part_form Part-m.Sums1 = second (table rules.sums)
-part_form Part-m.Shifts1 = second (table rules.shifts)
-part_form Part-m.Compared1 = second (second (second (second (table rules.compared))))
-part_form Part-m.Compared2 = second (second (second (table rules.compared)))
-part_form Part-m.Compared3 = second (second (table rules.compared))
-part_form Part-m.Assigned1 = second (second (second (second (second (second (second (second (second (table rules.assigned)))))))))
-part_form Part-m.Assigned2 = second (second (second (second (second (second (second (table rules.assigned)))))))
-part_form Part-m.Assigned3 = second (second (second (second (second (table rules.assigned)))))
-part_form Part-m.Assigned4 = second (second (second (table rules.assigned)))
-part_form Part-m.Assigned5 = second (table rules.assigned)
-part_form Part-m.PrimaryHead1 = first (second (second (second (second (second (second (second (second (second (first (table rules.primary_head)))))))))))
-part_form Part-m.PrimaryHead2 = second (second (second (second (second (second (second (second (second (first (table rules.primary_head))))))))))
-part_form Part-m.PrimaryHead3 = second (second (second (second (second (second (second (first (table rules.primary_head))))))))
-part_form Part-m.PrimaryHead4 = second (second (second (second (second (first (table rules.primary_head))))))
-part_form Part-m.PrimaryHead5 = second (second (first (table rules.primary_head)))
-part_form Part-m.UnaryHead1 = first (second (second (second (second (first (table rules.unary_head))))))
-part_form Part-m.UnaryHead2 = second (second (second (first (table rules.unary_head))))
-part_form Part-m.UnaryHead3 = second (first (table rules.unary_head))
-part_form Part-m.ProductsHead1 = second (second (table rules.products_head))
-part_form Part-m.ProductsHead2 = second (table rules.products_head)
-part_form Part-m.SumsHead1 = second (table rules.sums_head)
-part_form Part-m.ShiftsHead1 = second (table rules.shifts_head)
-part_form Part-m.ComparedHead1 = second (second (second (second (table rules.compared_head))))
-part_form Part-m.ComparedHead2 = second (second (second (table rules.compared_head)))
-part_form Part-m.ComparedHead3 = second (second (table rules.compared_head))
-part_form Part-m.AssignedHead1 = second (second (second (second (second (second (second (second (second (table rules.assigned_head)))))))))
-part_form Part-m.AssignedHead2 = second (second (second (second (second (second (second (table rules.assigned_head)))))))
-part_form Part-m.AssignedHead3 = second (second (second (second (second (table rules.assigned_head)))))
-part_form Part-m.AssignedHead4 = second (second (second (table rules.assigned_head)))
-part_form Part-m.AssignedHead5 = second (table rules.assigned_head)
-part_form Part-m.OperandRest1 = second (second (second (second (second (second (table rules.operand_rest))))))
-part_form Part-m.OperandRest2 = second (table rules.operand_rest)
-part_form Part-m.StatementRest1 = second (second (second (table rules.statement_rest)))
-part_form Part-m.StatementRest2 = second (second (table rules.statement_rest))
-part_form Part-m.StatementRest3 = first (table rules.statement_rest)
-part_form Part-m.Local1 = second (second (first (second (first (first (second (second (table rules.local))))))))
-part_form Part-m.Local2 = second (second (table rules.local))
-part_form Part-m.ReceiverRest1 = second (second (first (table rules.receiver_rest)))
-part_form Part-m.ReceiverRest2 = second (second (table rules.receiver_rest))
-part_form Part-m.ReceiverRest3 = first (table rules.receiver_rest)
-part_form Part-m.Inputs1 = second (first (table rules.inputs))
-part_form Part-m.Signature1 = second (table rules.signature)
-part_form Part-m.SignatureRest1 = second (table rules.signature_rest)
-part_form Part-m.ConstItemRest1 = second (second (second (second (table rules.const_item_rest))))
-part_form Part-m.StaticItemRest1 = second (second (second (table rules.static_item_rest)))
-part_form Part-m.ExternCrateRest1 = second (second (table rules.extern_crate_rest))
-part_form Part-m.UseTree1 = second (second (table rules.use_tree))
-part_form Part-m.ModuleItemRest1 = second (second (second (table rules.module_item_rest)))
-part_form Part-m.Alias1 = second (table rules.alias)
-part_form Part-m.MacroItemRest1 = second (table rules.macro_item_rest)
-part_form Part-m.UntypedStatic1 = second (second (table rules.untyped_static))
-part_form Part-m.ValuelessStatic1 = second (second (table rules.valueless_static))
-part_form Part-m.OddConst1 = second (second (second (second (first (second (second (second (table rules.odd_const))))))))
-part_form Part-m.OddConst2 = second (first (second (second (second (table rules.odd_const)))))
-part_form Part-m.OddConst3 = first (second (second (second (second (second (second (table rules.odd_const)))))))
-part_form Part-m.OddConst4 = second (second (second (second (second (table rules.odd_const)))))
-part_form Part-m.OddConst5 = second (table rules.odd_const)
-part_form Part-m.OddType1 = second (second (second (first (first (second (second (second (second (table rules.odd_type)))))))))
-part_form Part-m.OddType2 = second (second (first (first (second (second (second (second (table rules.odd_type))))))))
-part_form Part-m.OddType3 = first (second (second (second (second (table rules.odd_type)))))
-part_form Part-m.BareTrait1 = second (second (second (second (table rules.bare_trait))))
-part_form Part-m.BareTrait2 = second (table rules.bare_trait)
-part_form Part-m.RestrictedTrait1 = second (second (table rules.restricted_trait))
-part_form Part-m.OddImpl1 = second (first (second (second (second (second (second (first (table rules.odd_impl))))))))
-part_form Part-m.OddImpl2 = second (second (second (second (second (second (first (table rules.odd_impl)))))))
-part_form Part-m.OddImpl3 = second (second (second (first (table rules.odd_impl))))
-part_form Part-m.OddImpl4 = second (first (table rules.odd_impl))
-part_form Part-m.VisibleConstImpl1 = first (second (second (second (second (second (second (first (table rules.visible_const_impl))))))))
-part_form Part-m.VisibleConstImpl2 = second (second (second (second (second (second (first (table rules.visible_const_impl)))))))
-part_form Part-m.VisibleConstImpl3 = second (second (second (first (table rules.visible_const_impl))))
-part_form Part-m.BareTraitType1 = second (second (second (second (table rules.bare_trait_type))))
-part_form Part-m.TraitConst1 = second (second (second (second (second (table rules.trait_const)))))
-part_form Part-m.AnyConst1 = second (second (second (second (second (second (table rules.any_const))))))
-part_form Part-m.AnyConst2 = second (second (second (table rules.any_const)))
-part_form Part-m.OddTraitConst1 = second (second (second (second (first (second (second (second (table rules.odd_trait_const))))))))
-part_form Part-m.OddTraitConst2 = second (first (second (second (second (table rules.odd_trait_const)))))
-part_form Part-m.OddTraitConst3 = second (second (second (second (second (second (table rules.odd_trait_const))))))
-part_form Part-m.OddTraitConst4 = second (second (table rules.odd_trait_const))
-part_form Part-m.ImplConst1 = second (second (second (second (second (table rules.impl_const)))))
-part_form Part-m.ImplConst2 = second (table rules.impl_const)
-part_form Part-m.ImplType1 = second (second (second (second (table rules.impl_type))))
-part_form Part-m.OddImplConst1 = second (second (second (second (first (second (second (second (second (table rules.odd_impl_const)))))))))
-part_form Part-m.OddImplConst2 = second (first (second (second (second (second (table rules.odd_impl_const))))))
-part_form Part-m.OddImplConst3 = first (second (second (second (second (second (second (second (table rules.odd_impl_const))))))))
-part_form Part-m.OddImplConst4 = second (second (second (second (second (second (table rules.odd_impl_const))))))
-part_form Part-m.OddImplConst5 = second (second (table rules.odd_impl_const))
-part_form Part-m.OddImplType1 = second (second (second (first (second (second (second (second (second (table rules.odd_impl_type)))))))))
-part_form Part-m.OddImplType2 = first (second (second (second (second (second (table rules.odd_impl_type))))))
-part_form Part-m.OddImplType3 = second (second (second (second (table rules.odd_impl_type))))
-part_form Part-m.ForeignSignature1 = second (table rules.foreign_signature)
-part_form Part-m.BareForeignStatic1 = second (table rules.bare_foreign_static)
-part_form Part-m.ForeignType1 = second (second (table rules.foreign_type))
-part_form Part-m.OddForeignType1 = second (first (second (second (first (second (second (second (second (table rules.odd_foreign_type)))))))))
-part_form Part-m.OddForeignType2 = first (second (second (first (second (second (second (second (table rules.odd_foreign_type))))))))
-part_form Part-m.OddForeignType3 = second (second (second (second (second (second (table rules.odd_foreign_type))))))
-part_form Part-m.OddForeignType4 = second (second (second (second (second (table rules.odd_foreign_type)))))
-part_form Part-m.OddForeignType5 = second (second (second (table rules.odd_foreign_type)))
-part_form Part-m.Planned1 = ((rule rules.generics) & ((rule rules.where_clause) & ((inside Brace (rule rules.variants)) & empty)))
-part_form Part-m.Planned2 = ((token [] (name)) & ((rule rules.generics) & ((rule rules.where_clause) & ((rule rules.fields_named) & empty))))
-part_form Part-m.Planned3 = ((mark false equals) & ((rule rules.type) & (when at_where then ((token [] (word w_where)) & (rule rules.predicates)) else empty)))
-part_form Part-m.Planned4 = (((token [] (word w_where)) & (rule rules.predicates)) & (when at_equals then ((mark false equals) & (rule rules.type)) else empty))
-part_form Part-m.Planned5 = ((when at_where then (((token [] (word w_where)) & (rule rules.predicates)) & (when at_equals then ((mark false equals) & (rule rules.type)) else empty)) else (when at_equals then ((mark false equals) & ((rule rules.type) & (when at_where then ((token [] (word w_where)) & (rule rules.predicates)) else empty))) else empty)) & ((mark false semicolon) & empty))
-part_form Part-m.Planned6 = ((inside Brace ((rule rules.inner_attributes) & (rule rules.items))) & empty)
-part_form Part-m.Planned7 = ((rule rules.where_clause) & ((inside Brace ((rule rules.inner_attributes) & (rule rules.trait_items))) & empty))
-part_form Part-m.Planned8 = ((mark false equals) & ((rule rules.alias_bounds) & ((rule rules.where_clause) & ((mark false semicolon) & empty))))
-part_form Part-m.Planned9 = ((token [] (name)) & ((rule rules.generics) & (when at_equals then ((mark false equals) & ((rule rules.alias_bounds) & ((rule rules.where_clause) & ((mark false semicolon) & empty)))) else ((vanishing false at_colon ((mark false colon) & (rule rules.supertraits))) & ((rule rules.where_clause) & ((inside Brace ((rule rules.inner_attributes) & (rule rules.trait_items))) & empty))))))
-part_form Part-m.Planned10 = ((rule rules.where_clause) & ((inside Brace ((rule rules.inner_attributes) & (rule rules.trait_items))) & empty))
-part_form Part-m.Planned11 = ((token [] (word w_trait)) & ((token [] (name)) & ((rule rules.generics) & ((vanishing false at_colon ((mark false colon) & (rule rules.supertraits))) & ((rule rules.where_clause) & ((inside Brace ((rule rules.inner_attributes) & (rule rules.trait_items))) & empty))))))
-part_form Part-m.Planned12 = ((token [] (name)) & ((when at_paren then (raw Paren) else empty) & ((raw Brace) & empty)))
-part_form Part-m.Planned13 = ((when (at_word w_as) then ((token [] (word w_as)) & (token [] (name_or (w_underscore ∷ [])))) else empty) & ((mark false semicolon) & empty))
-part_form Part-m.Planned14 = ((rule rules.type) & ((rule rules.for_self_type) & ((rule rules.impl_body) & empty)))
-part_form Part-m.Planned15 = ((rule rules.type) & ((when at_for then (rule rules.for_self_type) else empty) & ((rule rules.impl_body) & empty)))
-part_form Part-m.Planned16 = (when at_exclamation then ((mark false exclamation) & (when at_brace then ((rule rules.impl_body) & empty) else ((rule rules.type) & ((rule rules.for_self_type) & ((rule rules.impl_body) & empty))))) else ((rule rules.type) & ((when at_for then (rule rules.for_self_type) else empty) & ((rule rules.impl_body) & empty))))
-part_form Part-m.Planned17 = ((rule rules.where_clause) & ((inside Brace ((rule rules.inner_attributes) & (rule rules.trait_items))) & empty))
-part_form Part-m.Planned18 = ((when at_where then ((token [] (word w_where)) & (rule rules.predicates)) else empty) & ((mark false semicolon) & empty))
-part_form Part-m.Planned19 = ((rule rules.type) & ((when at_equals then ((mark false equals) & (rule rules.whole_expression)) else empty) & ((when at_where then ((token [] (word w_where)) & (rule rules.predicates)) else empty) & ((mark false semicolon) & empty))))
-part_form Part-m.Planned20 = ((when (at_word w_const) then (token [] (word w_const)) else empty) & ((rule rules.bare_trait) & empty))
-part_form Part-m.Planned21 = ((rule rules.type) & ((when (at_word w_const) then (token [] (word w_const)) else empty) & ((rule rules.bare_trait) & empty)))
-part_form Part-m.Planned22 = (when (at_paren and_also (ahead Begins_in)) then ((inside Paren (rule rules.restriction)) & ((when (at_word w_const) then (token [] (word w_const)) else empty) & ((rule rules.bare_trait) & empty))) else (when (at_paren and_also (ahead Lone_word)) then ((rule rules.type) & ((when (at_word w_const) then (token [] (word w_const)) else empty) & ((rule rules.bare_trait) & empty))) else (one_of ([]))))
-part_form Part-m.Planned23 = ((when (at_word w_const) then (token [] (word w_const)) else empty) & ((rule rules.bare_trait) & empty))
-part_form Part-m.Planned24 = ((when at_macro_name then (token [] (name_or (w_try ∷ []))) else empty) & ((rule rules.macro_end) & empty))
-part_form Part-m.Planned25 = (when at_equals then ((mark false equals) & (rule rules.type)) else empty)
-part_form Part-m.Planned26 = ((vanishing false at_colon ((mark false colon) & (rule rules.type_bounds))) & ((when at_equals then ((mark false equals) & (rule rules.type)) else empty) & ((rule rules.where_clause) & ((mark false semicolon) & empty))))
-part_form Part-m.Planned27 = ((rule rules.signature_rest) & (when at_semicolon then ((mark false semicolon) & empty) else ((rule rules.body) & empty)))
-part_form Part-m.Planned28 = ((rule rules.unsafe_only) & ((when at_extern then (rule rules.abi) else empty) & ((rule rules.signature_rest) & (when at_semicolon then ((mark false semicolon) & empty) else ((rule rules.body) & empty)))))
-part_form Part-m.Planned29 = ((when at_where then ((token [] (word w_where)) & (rule rules.predicates)) else empty) & ((mark false semicolon) & empty))
-part_form Part-m.Planned30 = ((rule rules.type) & ((when at_equals then ((mark false equals) & (rule rules.whole_expression)) else empty) & ((when at_where then ((token [] (word w_where)) & (rule rules.predicates)) else empty) & ((mark false semicolon) & empty))))
-part_form Part-m.Planned31 = ((token [] (name_or (w_underscore ∷ []))) & ((when at_less then (ordered (first_form List-m.Parameters) (other_form List-m.Parameters)) else empty) & ((mark false colon) & ((rule rules.type) & ((when at_equals then ((mark false equals) & (rule rules.whole_expression)) else empty) & ((when at_where then ((token [] (word w_where)) & (rule rules.predicates)) else empty) & ((mark false semicolon) & empty)))))))
-part_form Part-m.Planned32 = (when ((at_word w_async) or_else ((at_word w_unsafe) or_else (at_extern or_else (at_word w_fn)))) then ((when (at_word w_async) then (token [] (word w_async)) else empty) & ((rule rules.unsafe_only) & ((when at_extern then (rule rules.abi) else empty) & ((rule rules.signature_rest) & (when at_semicolon then ((mark false semicolon) & empty) else ((rule rules.body) & empty)))))) else ((token [] (name_or (w_underscore ∷ []))) & ((when at_less then (ordered (first_form List-m.Parameters) (other_form List-m.Parameters)) else empty) & ((mark false colon) & ((rule rules.type) & ((when at_equals then ((mark false equals) & (rule rules.whole_expression)) else empty) & ((when at_where then ((token [] (word w_where)) & (rule rules.predicates)) else empty) & ((mark false semicolon) & empty))))))))
-part_form Part-m.Planned33 = ((rule rules.signature) & (when at_semicolon then ((mark false semicolon) & empty) else ((rule rules.body) & empty)))
-part_form Part-m.Planned34 = ((token [] (word w_type)) & ((token [] (name)) & ((rule rules.generics) & ((vanishing false at_colon ((mark false colon) & (rule rules.type_bounds))) & ((when at_equals then ((mark false equals) & (rule rules.type)) else empty) & ((rule rules.where_clause) & ((mark false semicolon) & empty)))))))
-part_form Part-m.Planned35 = (when (at_word w_type) then ((token [] (word w_type)) & ((token [] (name)) & ((rule rules.generics) & ((vanishing false at_colon ((mark false colon) & (rule rules.type_bounds))) & ((when at_equals then ((mark false equals) & (rule rules.type)) else empty) & ((rule rules.where_clause) & ((mark false semicolon) & empty))))))) else (when (at_word w_const) then ((token [] (word w_const)) & (when ((at_word w_async) or_else ((at_word w_unsafe) or_else (at_extern or_else (at_word w_fn)))) then ((when (at_word w_async) then (token [] (word w_async)) else empty) & ((rule rules.unsafe_only) & ((when at_extern then (rule rules.abi) else empty) & ((rule rules.signature_rest) & (when at_semicolon then ((mark false semicolon) & empty) else ((rule rules.body) & empty)))))) else ((token [] (name_or (w_underscore ∷ []))) & ((when at_less then (ordered (first_form List-m.Parameters) (other_form List-m.Parameters)) else empty) & ((mark false colon) & ((rule rules.type) & ((when at_equals then ((mark false equals) & (rule rules.whole_expression)) else empty) & ((when at_where then ((token [] (word w_where)) & (rule rules.predicates)) else empty) & ((mark false semicolon) & empty))))))))) else ((rule rules.signature) & (when at_semicolon then ((mark false semicolon) & empty) else ((rule rules.body) & empty)))))
-part_form Part-m.Planned36 = (when at_equals then ((mark false equals) & (rule rules.type)) else empty)
-part_form Part-m.Planned37 = ((vanishing false at_colon ((mark false colon) & (rule rules.type_bounds))) & ((when at_equals then ((mark false equals) & (rule rules.type)) else empty) & ((rule rules.where_clause) & ((mark false semicolon) & empty))))
-part_form Part-m.Planned38 = ((rule rules.signature_rest) & (when at_semicolon then ((mark false semicolon) & empty) else ((rule rules.body) & empty)))
-part_form Part-m.Planned39 = ((rule rules.unsafe_only) & ((when at_extern then (rule rules.abi) else empty) & ((rule rules.signature_rest) & (when at_semicolon then ((mark false semicolon) & empty) else ((rule rules.body) & empty)))))
-part_form Part-m.Planned40 = ((when at_where then ((token [] (word w_where)) & (rule rules.predicates)) else empty) & ((mark false semicolon) & empty))
-part_form Part-m.Planned41 = ((rule rules.type) & ((when at_equals then ((mark false equals) & (rule rules.whole_expression)) else empty) & ((when at_where then ((token [] (word w_where)) & (rule rules.predicates)) else empty) & ((mark false semicolon) & empty))))
-part_form Part-m.Planned42 = ((token [] (name_or (w_underscore ∷ []))) & ((when at_less then (ordered (first_form List-m.Parameters) (other_form List-m.Parameters)) else empty) & ((mark false colon) & ((rule rules.type) & ((when at_equals then ((mark false equals) & (rule rules.whole_expression)) else empty) & ((when at_where then ((token [] (word w_where)) & (rule rules.predicates)) else empty) & ((mark false semicolon) & empty)))))))
-part_form Part-m.Planned43 = (when ((at_word w_async) or_else ((at_word w_unsafe) or_else (at_extern or_else (at_word w_fn)))) then ((when (at_word w_async) then (token [] (word w_async)) else empty) & ((rule rules.unsafe_only) & ((when at_extern then (rule rules.abi) else empty) & ((rule rules.signature_rest) & (when at_semicolon then ((mark false semicolon) & empty) else ((rule rules.body) & empty)))))) else ((token [] (name_or (w_underscore ∷ []))) & ((when at_less then (ordered (first_form List-m.Parameters) (other_form List-m.Parameters)) else empty) & ((mark false colon) & ((rule rules.type) & ((when at_equals then ((mark false equals) & (rule rules.whole_expression)) else empty) & ((when at_where then ((token [] (word w_where)) & (rule rules.predicates)) else empty) & ((mark false semicolon) & empty))))))))
-part_form Part-m.Planned44 = ((rule rules.signature) & (when at_semicolon then ((mark false semicolon) & empty) else ((rule rules.body) & empty)))
-part_form Part-m.Planned45 = ((token [] (word w_type)) & ((token [] (name)) & ((rule rules.generics) & ((vanishing false at_colon ((mark false colon) & (rule rules.type_bounds))) & ((when at_equals then ((mark false equals) & (rule rules.type)) else empty) & ((rule rules.where_clause) & ((mark false semicolon) & empty)))))))
-part_form Part-m.Planned46 = ((when at_where then ((token [] (word w_where)) & (rule rules.predicates)) else empty) & ((mark false semicolon) & empty))
-part_form Part-m.Planned47 = ((rule rules.type) & ((when at_equals then ((mark false equals) & (rule rules.whole_expression)) else empty) & ((when at_where then ((token [] (word w_where)) & (rule rules.predicates)) else empty) & ((mark false semicolon) & empty))))
-part_form Part-m.Planned48 = (((token [] (word w_where)) & (rule rules.predicates)) & ((mark false semicolon) & empty))
-part_form Part-m.Planned49 = ((rule rules.type) & ((when at_equals then ((mark false equals) & (rule rules.whole_expression)) else empty) & (((token [] (word w_where)) & (rule rules.predicates)) & ((mark false semicolon) & empty))))
-part_form Part-m.Planned50 = (when at_less then ((ordered (first_form List-m.Parameters) (other_form List-m.Parameters)) & ((mark false colon) & ((rule rules.type) & ((when at_equals then ((mark false equals) & (rule rules.whole_expression)) else empty) & ((when at_where then ((token [] (word w_where)) & (rule rules.predicates)) else empty) & ((mark false semicolon) & empty)))))) else ((mark false colon) & ((rule rules.type) & ((when at_equals then ((mark false equals) & (rule rules.whole_expression)) else empty) & (((token [] (word w_where)) & (rule rules.predicates)) & ((mark false semicolon) & empty))))))
-part_form Part-m.Planned51 = ((token [] (word w_default)) & (when (at_word w_type) then ((token [] (word w_type)) & ((token [] (name)) & ((rule rules.generics) & ((vanishing false at_colon ((mark false colon) & (rule rules.type_bounds))) & ((when at_equals then ((mark false equals) & (rule rules.type)) else empty) & ((rule rules.where_clause) & ((mark false semicolon) & empty))))))) else (when (at_word w_const) then ((token [] (word w_const)) & (when ((at_word w_async) or_else ((at_word w_unsafe) or_else (at_extern or_else (at_word w_fn)))) then ((when (at_word w_async) then (token [] (word w_async)) else empty) & ((rule rules.unsafe_only) & ((when at_extern then (rule rules.abi) else empty) & ((rule rules.signature_rest) & (when at_semicolon then ((mark false semicolon) & empty) else ((rule rules.body) & empty)))))) else ((token [] (name_or (w_underscore ∷ []))) & ((when at_less then (ordered (first_form List-m.Parameters) (other_form List-m.Parameters)) else empty) & ((mark false colon) & ((rule rules.type) & ((when at_equals then ((mark false equals) & (rule rules.whole_expression)) else empty) & ((when at_where then ((token [] (word w_where)) & (rule rules.predicates)) else empty) & ((mark false semicolon) & empty))))))))) else ((rule rules.signature) & (when at_semicolon then ((mark false semicolon) & empty) else ((rule rules.body) & empty))))))
-part_form Part-m.Planned52 = (when at_equals then ((mark false equals) & (rule rules.type)) else empty)
-part_form Part-m.Planned53 = ((vanishing false at_colon ((mark false colon) & (rule rules.type_bounds))) & ((when at_equals then ((mark false equals) & (rule rules.type)) else empty) & ((rule rules.where_clause) & ((mark false semicolon) & empty))))
-part_form Part-m.Planned54 = ((rule rules.signature_rest) & (when at_semicolon then ((mark false semicolon) & empty) else ((rule rules.body) & empty)))
-part_form Part-m.Planned55 = ((rule rules.unsafe_only) & ((when at_extern then (rule rules.abi) else empty) & ((rule rules.signature_rest) & (when at_semicolon then ((mark false semicolon) & empty) else ((rule rules.body) & empty)))))
-part_form Part-m.Planned56 = ((when at_where then ((token [] (word w_where)) & (rule rules.predicates)) else empty) & ((mark false semicolon) & empty))
-part_form Part-m.Planned57 = ((rule rules.type) & ((when at_equals then ((mark false equals) & (rule rules.whole_expression)) else empty) & ((when at_where then ((token [] (word w_where)) & (rule rules.predicates)) else empty) & ((mark false semicolon) & empty))))
-part_form Part-m.Planned58 = ((token [] (name_or (w_underscore ∷ []))) & ((when at_less then (ordered (first_form List-m.Parameters) (other_form List-m.Parameters)) else empty) & ((mark false colon) & ((rule rules.type) & ((when at_equals then ((mark false equals) & (rule rules.whole_expression)) else empty) & ((when at_where then ((token [] (word w_where)) & (rule rules.predicates)) else empty) & ((mark false semicolon) & empty)))))))
-part_form Part-m.Planned59 = (when ((at_word w_async) or_else ((at_word w_unsafe) or_else (at_extern or_else (at_word w_fn)))) then ((when (at_word w_async) then (token [] (word w_async)) else empty) & ((rule rules.unsafe_only) & ((when at_extern then (rule rules.abi) else empty) & ((rule rules.signature_rest) & (when at_semicolon then ((mark false semicolon) & empty) else ((rule rules.body) & empty)))))) else ((token [] (name_or (w_underscore ∷ []))) & ((when at_less then (ordered (first_form List-m.Parameters) (other_form List-m.Parameters)) else empty) & ((mark false colon) & ((rule rules.type) & ((when at_equals then ((mark false equals) & (rule rules.whole_expression)) else empty) & ((when at_where then ((token [] (word w_where)) & (rule rules.predicates)) else empty) & ((mark false semicolon) & empty))))))))
-part_form Part-m.Planned60 = ((rule rules.signature) & (when at_semicolon then ((mark false semicolon) & empty) else ((rule rules.body) & empty)))
-part_form Part-m.Planned61 = ((token [] (word w_type)) & ((token [] (name)) & ((rule rules.generics) & ((vanishing false at_colon ((mark false colon) & (rule rules.type_bounds))) & ((when at_equals then ((mark false equals) & (rule rules.type)) else empty) & ((rule rules.where_clause) & ((mark false semicolon) & empty)))))))
-part_form Part-m.Planned62 = (when at_equals then ((mark false equals) & (rule rules.type)) else empty)
-part_form Part-m.Planned63 = ((vanishing false at_colon ((mark false colon) & (rule rules.type_bounds))) & ((when at_equals then ((mark false equals) & (rule rules.type)) else empty) & ((rule rules.where_clause) & ((mark false semicolon) & empty))))
-part_form Part-m.Planned64 = ((rule rules.signature_rest) & (when at_semicolon then ((mark false semicolon) & empty) else ((rule rules.body) & empty)))
-part_form Part-m.Planned65 = ((rule rules.unsafe_only) & ((when at_extern then (rule rules.abi) else empty) & ((rule rules.signature_rest) & (when at_semicolon then ((mark false semicolon) & empty) else ((rule rules.body) & empty)))))
-part_form Part-m.Planned66 = ((rule rules.module_path) & ((when at_bang then (mark false exclamation) else (one_of ([]))) & ((rule rules.macro_end) & empty)))
-part_form Part-m.Planned67 = ((rule rules.signature) & (when at_semicolon then ((mark false semicolon) & empty) else ((rule rules.body) & empty)))
-part_form Part-m.Planned68 = ((when at_where then ((token [] (word w_where)) & (rule rules.predicates)) else empty) & ((mark false semicolon) & empty))
-part_form Part-m.Planned69 = ((rule rules.type_bounds) & ((when at_equals then ((mark false equals) & (rule rules.type)) else empty) & ((when at_where then ((token [] (word w_where)) & (rule rules.predicates)) else empty) & ((mark false semicolon) & empty))))
-part_form Part-m.Planned70 = ((when at_where then ((token [] (word w_where)) & (rule rules.predicates)) else empty) & ((mark false semicolon) & empty))
-part_form Part-m.Planned71 = ((rule rules.module_path) & ((when at_bang then (mark false exclamation) else (one_of ([]))) & ((rule rules.macro_end) & empty)))
-part_form Part-m.Planned72 = ((when at_where then ((token [] (word w_where)) & (rule rules.predicates)) else empty) & ((mark false semicolon) & empty))
-part_form Part-m.Planned73 = ((rule rules.module_path) & ((when at_bang then (mark false exclamation) else (one_of ([]))) & ((rule rules.macro_end) & empty)))
-part_form Part-m.Planned74 = (when at_brace then ((raw Brace) & (when at_postfix_mark then (one_of ([])) else ((rule rules.statement_end) & empty))) else (one_of ([])))
-part_form Part-m.Planned75 = ((when at_macro_name then (token [] (name_or (w_try ∷ []))) else empty) & ((rule rules.macro_end) & (when at_postfix_mark then empty else (one_of ([])))))
-part_form Part-m.Planned76 = (when at_brace then ((raw Brace) & (when at_postfix_mark then empty else ((rule rules.statement_end) & empty))) else ((when at_macro_name then (token [] (name_or (w_try ∷ []))) else empty) & ((rule rules.macro_end) & (when at_postfix_mark then empty else (one_of ([]))))))
-part_form Part-m.Planned77 = ((rule rules.module_path) & ((when at_bang then (mark false exclamation) else (one_of ([]))) & (when at_brace then ((raw Brace) & (when at_postfix_mark then (one_of ([])) else ((rule rules.statement_end) & empty))) else (one_of ([])))))
-part_form Part-m.Planned78 = ((rule rules.generics) & ((rule rules.where_clause) & ((inside Brace (rule rules.variants)) & empty)))
-part_form Part-m.Planned79 = ((token [] (name)) & ((rule rules.generics) & ((rule rules.where_clause) & ((rule rules.fields_named) & empty))))
-part_form Part-m.Planned80 = ((token [] (word w_struct)) & ((token [] (name)) & ((rule rules.generics) & ((rule rules.structure_body) & empty))))
-part_form Part-m.Planned81 = (when (at_word w_enum) then ((token [] (word w_enum)) & ((token [] (name)) & ((rule rules.generics) & ((rule rules.where_clause) & ((inside Brace (rule rules.variants)) & empty))))) else ((token [] (word w_union)) & ((token [] (name)) & ((rule rules.generics) & ((rule rules.where_clause) & ((rule rules.fields_named) & empty))))))
-part_form Part-m.Planned82 = (when at_block_like then (shaped (shapes.said) ((rule rules.block_like) & (rule rules.statement_end))) else (shaped (shapes.said) ((rule rules.whole_expression) & (mark false semicolon))))
-part_form Part-m.Planned83 = (shaped (shapes.said_macro) ((shaped (shapes.operand shapes.Macro) (rule rules.macro_invocation)) & (rule rules.statement_end)))
-part_form Part-m.Planned84 = (when at_crate_macro then (rule rules.crate_macro) else (when at_brace_macro then (shaped (shapes.said_macro) ((shaped (shapes.operand shapes.Macro) (rule rules.macro_invocation)) & (rule rules.statement_end))) else (when (at_word w_let) then (shaped (shapes.a_local) (rule rules.local)) else (when at_block_like then (shaped (shapes.said) ((rule rules.block_like) & (rule rules.statement_end))) else (shaped (shapes.said) ((rule rules.whole_expression) & (mark false semicolon)))))))
+abbrev pub types_part : ℕ → Grammar
+types_part n = get_or ((first (first (first (table rules.type_words)))) ∷ (second (table rules.type_words)) ∷ (first (first (first (table rules.more_type_words)))) ∷ (second (table rules.more_type_words)) ∷ (second (second (table rules.qualified_path))) ∷ (first (second (second (second (table rules.type))))) ∷ (second (second (table rules.type))) ∷ (first (table rules.type)) ∷ []) n (second (first (table rules.constant)))
+
+abbrev pub generics_part : ℕ → Grammar
+generics_part n = get_or ((second (first (second (second (first (table rules.generics)))))) ∷ (second (second (second (first (table rules.generics))))) ∷ (second (first (table rules.generics))) ∷ []) n (second (table rules.predicate))
+
+abbrev pub fields_part : ℕ → Grammar
+fields_part n = get_or ((first (first (first (second (second (table rules.named_field)))))) ∷ (first (second (second (table rules.named_field)))) ∷ (second (second (second (table rules.variant)))) ∷ []) n (second (table rules.variant))
+
+abbrev pub inputs_part : ℕ → Grammar
+inputs_part n = get_or ((second (table rules.structure_body)) ∷ []) n (second (table rules.enumeration_rest))
+
+abbrev pub patterns_part : ℕ → Grammar
+patterns_part n = get_or ((first (first (first (table rules.expression_words)))) ∷ (second (table rules.expression_words)) ∷ (second (second (table rules.qualified_expression_path))) ∷ (first (second (second (second (table rules.pattern))))) ∷ (second (second (second (table rules.pattern)))) ∷ []) n (second (table rules.pattern))
+
+abbrev pub lists_part : ℕ → Grammar
+lists_part n = get_or ([]) n (second (table rules.array_content))
+
+abbrev pub blocks_part : ℕ → Grammar
+blocks_part n = get_or ((second (second (second (second (second (second (second (second (second (second (second (first (table rules.primary))))))))))))) ∷ (first (second (second (second (second (second (second (second (second (second (first (table rules.primary)))))))))))) ∷ (second (second (second (second (second (second (second (second (second (first (table rules.primary))))))))))) ∷ (second (second (second (second (second (second (second (first (table rules.primary))))))))) ∷ (second (second (second (second (second (first (table rules.primary))))))) ∷ (second (second (first (table rules.primary)))) ∷ (second (first (table rules.literal_fields))) ∷ (second (second (table rules.literal_field))) ∷ (second (second (first (table rules.block_like)))) ∷ (first (second (second (second (first (table rules.if_expression)))))) ∷ (second (second (first (table rules.loop_expression)))) ∷ []) n (second (first (table rules.loop_expression)))
+
+abbrev pub postfixes_part : ℕ → Grammar
+postfixes_part n = get_or ((second (second (second (table rules.postfixes)))) ∷ (second (second (table rules.postfixes))) ∷ (second (table rules.postfixes)) ∷ (second (second (table rules.member))) ∷ (second (table rules.member)) ∷ (first (second (second (second (second (first (table rules.unary))))))) ∷ (second (second (second (first (table rules.unary))))) ∷ []) n (second (first (table rules.unary)))
+
+abbrev pub operators_part : ℕ → Grammar
+operators_part n = get_or ((second (second (table rules.products))) ∷ (second (table rules.products)) ∷ (second (table rules.sums)) ∷ (second (table rules.shifts)) ∷ (second (second (second (second (table rules.compared))))) ∷ (second (second (second (table rules.compared)))) ∷ (second (second (table rules.compared))) ∷ (second (second (second (second (second (second (second (second (second (table rules.assigned)))))))))) ∷ (second (second (second (second (second (second (second (table rules.assigned)))))))) ∷ (second (second (second (second (second (table rules.assigned)))))) ∷ (second (second (second (table rules.assigned)))) ∷ []) n (second (table rules.assigned))
+
+abbrev pub heads_part : ℕ → Grammar
+heads_part n = get_or ((first (second (second (second (second (second (second (second (second (second (first (table rules.primary_head)))))))))))) ∷ (second (second (second (second (second (second (second (second (second (first (table rules.primary_head))))))))))) ∷ (second (second (second (second (second (second (second (first (table rules.primary_head))))))))) ∷ (second (second (second (second (second (first (table rules.primary_head))))))) ∷ (second (second (first (table rules.primary_head)))) ∷ (first (second (second (second (second (first (table rules.unary_head))))))) ∷ (second (second (second (first (table rules.unary_head))))) ∷ (second (first (table rules.unary_head))) ∷ (second (second (table rules.products_head))) ∷ (second (table rules.products_head)) ∷ (second (table rules.sums_head)) ∷ (second (table rules.shifts_head)) ∷ (second (second (second (second (table rules.compared_head))))) ∷ (second (second (second (table rules.compared_head)))) ∷ (second (second (table rules.compared_head))) ∷ (second (second (second (second (second (second (second (second (second (table rules.assigned_head)))))))))) ∷ (second (second (second (second (second (second (second (table rules.assigned_head)))))))) ∷ (second (second (second (second (second (table rules.assigned_head)))))) ∷ (second (second (second (table rules.assigned_head)))) ∷ []) n (second (table rules.assigned_head))
+
+abbrev pub statements_part : ℕ → Grammar
+statements_part n = get_or ((second (second (second (second (second (second (table rules.operand_rest))))))) ∷ (second (table rules.operand_rest)) ∷ (second (second (second (table rules.statement_rest)))) ∷ (second (second (table rules.statement_rest))) ∷ (first (table rules.statement_rest)) ∷ (second (second (first (second (first (first (second (second (table rules.local))))))))) ∷ []) n (second (second (table rules.local)))
+
+abbrev pub signatures_part : ℕ → Grammar
+signatures_part n = get_or ((second (second (first (table rules.receiver_rest)))) ∷ (second (second (table rules.receiver_rest))) ∷ (first (table rules.receiver_rest)) ∷ (second (first (table rules.inputs))) ∷ (second (table rules.signature)) ∷ []) n (second (table rules.signature_rest))
+
+abbrev pub items_part : ℕ → Grammar
+items_part n = get_or ((second (second (second (second (table rules.const_item_rest))))) ∷ (second (second (second (table rules.static_item_rest)))) ∷ (second (second (table rules.extern_crate_rest))) ∷ (second (second (table rules.use_tree))) ∷ (second (second (second (table rules.module_item_rest)))) ∷ (second (table rules.alias)) ∷ []) n (second (table rules.macro_item_rest))
+
+abbrev pub kept_items_part : ℕ → Grammar
+kept_items_part n = get_or ((second (second (table rules.untyped_static))) ∷ (second (second (table rules.valueless_static))) ∷ (second (second (second (second (first (second (second (second (table rules.odd_const))))))))) ∷ (second (first (second (second (second (table rules.odd_const)))))) ∷ (first (second (second (second (second (second (second (table rules.odd_const)))))))) ∷ (second (second (second (second (second (table rules.odd_const)))))) ∷ (second (table rules.odd_const)) ∷ (second (second (second (first (first (second (second (second (second (table rules.odd_type)))))))))) ∷ (second (second (first (first (second (second (second (second (table rules.odd_type))))))))) ∷ []) n (first (second (second (second (second (table rules.odd_type))))))
+
+abbrev pub traits_part : ℕ → Grammar
+traits_part n = get_or ((second (second (second (second (table rules.bare_trait))))) ∷ (second (table rules.bare_trait)) ∷ []) n (second (second (table rules.restricted_trait)))
+
+abbrev pub impls_part : ℕ → Grammar
+impls_part n = get_or ((second (first (second (second (second (second (second (first (table rules.odd_impl))))))))) ∷ (second (second (second (second (second (second (first (table rules.odd_impl)))))))) ∷ (second (second (second (first (table rules.odd_impl))))) ∷ (second (first (table rules.odd_impl))) ∷ (first (second (second (second (second (second (second (first (table rules.visible_const_impl))))))))) ∷ (second (second (second (second (second (second (first (table rules.visible_const_impl)))))))) ∷ []) n (second (second (second (first (table rules.visible_const_impl)))))
+
+abbrev pub trait_members_part : ℕ → Grammar
+trait_members_part n = get_or ((second (second (second (second (table rules.bare_trait_type))))) ∷ (second (second (second (second (second (table rules.trait_const)))))) ∷ (second (second (second (second (second (second (table rules.any_const))))))) ∷ (second (second (second (table rules.any_const)))) ∷ (second (second (second (second (first (second (second (second (table rules.odd_trait_const))))))))) ∷ (second (first (second (second (second (table rules.odd_trait_const)))))) ∷ (second (second (second (second (second (second (table rules.odd_trait_const))))))) ∷ []) n (second (second (table rules.odd_trait_const)))
+
+abbrev pub impl_members_part : ℕ → Grammar
+impl_members_part n = get_or ((second (second (second (second (second (table rules.impl_const)))))) ∷ (second (table rules.impl_const)) ∷ (second (second (second (second (table rules.impl_type))))) ∷ (second (second (second (second (first (second (second (second (second (table rules.odd_impl_const)))))))))) ∷ (second (first (second (second (second (second (table rules.odd_impl_const))))))) ∷ (first (second (second (second (second (second (second (second (table rules.odd_impl_const))))))))) ∷ (second (second (second (second (second (second (table rules.odd_impl_const))))))) ∷ (second (second (table rules.odd_impl_const))) ∷ (second (second (second (first (second (second (second (second (second (table rules.odd_impl_type)))))))))) ∷ (first (second (second (second (second (second (table rules.odd_impl_type))))))) ∷ []) n (second (second (second (second (table rules.odd_impl_type)))))
+
+abbrev pub foreign_members_part : ℕ → Grammar
+foreign_members_part n = get_or ((second (table rules.foreign_signature)) ∷ (second (table rules.bare_foreign_static)) ∷ (second (second (table rules.foreign_type))) ∷ (second (first (second (second (first (second (second (second (second (table rules.odd_foreign_type)))))))))) ∷ (first (second (second (first (second (second (second (second (table rules.odd_foreign_type))))))))) ∷ (second (second (second (second (second (second (table rules.odd_foreign_type))))))) ∷ (second (second (second (second (second (table rules.odd_foreign_type)))))) ∷ []) n (second (second (second (table rules.odd_foreign_type))))
+
+abbrev pub planned_1_part : ℕ → Grammar
+planned_1_part n = get_or ((((rule rules.generics) & ((rule rules.where_clause) & ((inside Brace (rule rules.variants)) & empty)))) ∷ (((token [] (name)) & ((rule rules.generics) & ((rule rules.where_clause) & ((rule rules.fields_named) & empty))))) ∷ (((mark false equals) & ((rule rules.type) & (when at_where then ((token [] (word w_where)) & (rule rules.predicates)) else empty)))) ∷ ((((token [] (word w_where)) & (rule rules.predicates)) & (when at_equals then ((mark false equals) & (rule rules.type)) else empty))) ∷ (((when at_where then (((token [] (word w_where)) & (rule rules.predicates)) & (when at_equals then ((mark false equals) & (rule rules.type)) else empty)) else (when at_equals then ((mark false equals) & ((rule rules.type) & (when at_where then ((token [] (word w_where)) & (rule rules.predicates)) else empty))) else empty)) & ((mark false semicolon) & empty))) ∷ (((inside Brace ((rule rules.inner_attributes) & (rule rules.items))) & empty)) ∷ (((rule rules.where_clause) & ((inside Brace ((rule rules.inner_attributes) & (rule rules.trait_items))) & empty))) ∷ (((mark false equals) & ((rule rules.alias_bounds) & ((rule rules.where_clause) & ((mark false semicolon) & empty))))) ∷ (((token [] (name)) & ((rule rules.generics) & (when at_equals then ((mark false equals) & ((rule rules.alias_bounds) & ((rule rules.where_clause) & ((mark false semicolon) & empty)))) else ((vanishing false at_colon ((mark false colon) & (rule rules.supertraits))) & ((rule rules.where_clause) & ((inside Brace ((rule rules.inner_attributes) & (rule rules.trait_items))) & empty))))))) ∷ (((rule rules.where_clause) & ((inside Brace ((rule rules.inner_attributes) & (rule rules.trait_items))) & empty))) ∷ (((token [] (word w_trait)) & ((token [] (name)) & ((rule rules.generics) & ((vanishing false at_colon ((mark false colon) & (rule rules.supertraits))) & ((rule rules.where_clause) & ((inside Brace ((rule rules.inner_attributes) & (rule rules.trait_items))) & empty))))))) ∷ (((token [] (name)) & ((when at_paren then (raw Paren) else empty) & ((raw Brace) & empty)))) ∷ (((when (at_word w_as) then ((token [] (word w_as)) & (token [] (name_or (w_underscore ∷ [])))) else empty) & ((mark false semicolon) & empty))) ∷ (((rule rules.type) & ((rule rules.for_self_type) & ((rule rules.impl_body) & empty)))) ∷ (((rule rules.type) & ((when at_for then (rule rules.for_self_type) else empty) & ((rule rules.impl_body) & empty)))) ∷ ((when at_exclamation then ((mark false exclamation) & (when at_brace then ((rule rules.impl_body) & empty) else ((rule rules.type) & ((rule rules.for_self_type) & ((rule rules.impl_body) & empty))))) else ((rule rules.type) & ((when at_for then (rule rules.for_self_type) else empty) & ((rule rules.impl_body) & empty))))) ∷ []) n (((rule rules.where_clause) & ((inside Brace ((rule rules.inner_attributes) & (rule rules.trait_items))) & empty)))
+
+abbrev pub planned_2_part : ℕ → Grammar
+planned_2_part n = get_or ((((when at_where then ((token [] (word w_where)) & (rule rules.predicates)) else empty) & ((mark false semicolon) & empty))) ∷ (((rule rules.type) & ((when at_equals then ((mark false equals) & (rule rules.whole_expression)) else empty) & ((when at_where then ((token [] (word w_where)) & (rule rules.predicates)) else empty) & ((mark false semicolon) & empty))))) ∷ (((when (at_word w_const) then (token [] (word w_const)) else empty) & ((rule rules.bare_trait) & empty))) ∷ (((rule rules.type) & ((when (at_word w_const) then (token [] (word w_const)) else empty) & ((rule rules.bare_trait) & empty)))) ∷ ((when (at_paren and_also (ahead Begins_in)) then ((inside Paren (rule rules.restriction)) & ((when (at_word w_const) then (token [] (word w_const)) else empty) & ((rule rules.bare_trait) & empty))) else (when (at_paren and_also (ahead Lone_word)) then ((rule rules.type) & ((when (at_word w_const) then (token [] (word w_const)) else empty) & ((rule rules.bare_trait) & empty))) else (one_of ([]))))) ∷ (((when (at_word w_const) then (token [] (word w_const)) else empty) & ((rule rules.bare_trait) & empty))) ∷ (((when at_macro_name then (token [] (name_or (w_try ∷ []))) else empty) & ((rule rules.macro_end) & empty))) ∷ ((when at_equals then ((mark false equals) & (rule rules.type)) else empty)) ∷ (((vanishing false at_colon ((mark false colon) & (rule rules.type_bounds))) & ((when at_equals then ((mark false equals) & (rule rules.type)) else empty) & ((rule rules.where_clause) & ((mark false semicolon) & empty))))) ∷ (((rule rules.signature_rest) & (when at_semicolon then ((mark false semicolon) & empty) else ((rule rules.body) & empty)))) ∷ (((rule rules.unsafe_only) & ((when at_extern then (rule rules.abi) else empty) & ((rule rules.signature_rest) & (when at_semicolon then ((mark false semicolon) & empty) else ((rule rules.body) & empty)))))) ∷ (((when at_where then ((token [] (word w_where)) & (rule rules.predicates)) else empty) & ((mark false semicolon) & empty))) ∷ (((rule rules.type) & ((when at_equals then ((mark false equals) & (rule rules.whole_expression)) else empty) & ((when at_where then ((token [] (word w_where)) & (rule rules.predicates)) else empty) & ((mark false semicolon) & empty))))) ∷ (((token [] (name_or (w_underscore ∷ []))) & ((when at_less then (ordered (first_form List-m.Parameters) (other_form List-m.Parameters)) else empty) & ((mark false colon) & ((rule rules.type) & ((when at_equals then ((mark false equals) & (rule rules.whole_expression)) else empty) & ((when at_where then ((token [] (word w_where)) & (rule rules.predicates)) else empty) & ((mark false semicolon) & empty)))))))) ∷ ((when ((at_word w_async) or_else ((at_word w_unsafe) or_else (at_extern or_else (at_word w_fn)))) then ((when (at_word w_async) then (token [] (word w_async)) else empty) & ((rule rules.unsafe_only) & ((when at_extern then (rule rules.abi) else empty) & ((rule rules.signature_rest) & (when at_semicolon then ((mark false semicolon) & empty) else ((rule rules.body) & empty)))))) else ((token [] (name_or (w_underscore ∷ []))) & ((when at_less then (ordered (first_form List-m.Parameters) (other_form List-m.Parameters)) else empty) & ((mark false colon) & ((rule rules.type) & ((when at_equals then ((mark false equals) & (rule rules.whole_expression)) else empty) & ((when at_where then ((token [] (word w_where)) & (rule rules.predicates)) else empty) & ((mark false semicolon) & empty))))))))) ∷ (((rule rules.signature) & (when at_semicolon then ((mark false semicolon) & empty) else ((rule rules.body) & empty)))) ∷ []) n (((token [] (word w_type)) & ((token [] (name)) & ((rule rules.generics) & ((vanishing false at_colon ((mark false colon) & (rule rules.type_bounds))) & ((when at_equals then ((mark false equals) & (rule rules.type)) else empty) & ((rule rules.where_clause) & ((mark false semicolon) & empty))))))))
+
+abbrev pub planned_3_part : ℕ → Grammar
+planned_3_part n = get_or (((when (at_word w_type) then ((token [] (word w_type)) & ((token [] (name)) & ((rule rules.generics) & ((vanishing false at_colon ((mark false colon) & (rule rules.type_bounds))) & ((when at_equals then ((mark false equals) & (rule rules.type)) else empty) & ((rule rules.where_clause) & ((mark false semicolon) & empty))))))) else (when (at_word w_const) then ((token [] (word w_const)) & (when ((at_word w_async) or_else ((at_word w_unsafe) or_else (at_extern or_else (at_word w_fn)))) then ((when (at_word w_async) then (token [] (word w_async)) else empty) & ((rule rules.unsafe_only) & ((when at_extern then (rule rules.abi) else empty) & ((rule rules.signature_rest) & (when at_semicolon then ((mark false semicolon) & empty) else ((rule rules.body) & empty)))))) else ((token [] (name_or (w_underscore ∷ []))) & ((when at_less then (ordered (first_form List-m.Parameters) (other_form List-m.Parameters)) else empty) & ((mark false colon) & ((rule rules.type) & ((when at_equals then ((mark false equals) & (rule rules.whole_expression)) else empty) & ((when at_where then ((token [] (word w_where)) & (rule rules.predicates)) else empty) & ((mark false semicolon) & empty))))))))) else ((rule rules.signature) & (when at_semicolon then ((mark false semicolon) & empty) else ((rule rules.body) & empty)))))) ∷ ((when at_equals then ((mark false equals) & (rule rules.type)) else empty)) ∷ (((vanishing false at_colon ((mark false colon) & (rule rules.type_bounds))) & ((when at_equals then ((mark false equals) & (rule rules.type)) else empty) & ((rule rules.where_clause) & ((mark false semicolon) & empty))))) ∷ (((rule rules.signature_rest) & (when at_semicolon then ((mark false semicolon) & empty) else ((rule rules.body) & empty)))) ∷ (((rule rules.unsafe_only) & ((when at_extern then (rule rules.abi) else empty) & ((rule rules.signature_rest) & (when at_semicolon then ((mark false semicolon) & empty) else ((rule rules.body) & empty)))))) ∷ (((when at_where then ((token [] (word w_where)) & (rule rules.predicates)) else empty) & ((mark false semicolon) & empty))) ∷ (((rule rules.type) & ((when at_equals then ((mark false equals) & (rule rules.whole_expression)) else empty) & ((when at_where then ((token [] (word w_where)) & (rule rules.predicates)) else empty) & ((mark false semicolon) & empty))))) ∷ (((token [] (name_or (w_underscore ∷ []))) & ((when at_less then (ordered (first_form List-m.Parameters) (other_form List-m.Parameters)) else empty) & ((mark false colon) & ((rule rules.type) & ((when at_equals then ((mark false equals) & (rule rules.whole_expression)) else empty) & ((when at_where then ((token [] (word w_where)) & (rule rules.predicates)) else empty) & ((mark false semicolon) & empty)))))))) ∷ ((when ((at_word w_async) or_else ((at_word w_unsafe) or_else (at_extern or_else (at_word w_fn)))) then ((when (at_word w_async) then (token [] (word w_async)) else empty) & ((rule rules.unsafe_only) & ((when at_extern then (rule rules.abi) else empty) & ((rule rules.signature_rest) & (when at_semicolon then ((mark false semicolon) & empty) else ((rule rules.body) & empty)))))) else ((token [] (name_or (w_underscore ∷ []))) & ((when at_less then (ordered (first_form List-m.Parameters) (other_form List-m.Parameters)) else empty) & ((mark false colon) & ((rule rules.type) & ((when at_equals then ((mark false equals) & (rule rules.whole_expression)) else empty) & ((when at_where then ((token [] (word w_where)) & (rule rules.predicates)) else empty) & ((mark false semicolon) & empty))))))))) ∷ (((rule rules.signature) & (when at_semicolon then ((mark false semicolon) & empty) else ((rule rules.body) & empty)))) ∷ (((token [] (word w_type)) & ((token [] (name)) & ((rule rules.generics) & ((vanishing false at_colon ((mark false colon) & (rule rules.type_bounds))) & ((when at_equals then ((mark false equals) & (rule rules.type)) else empty) & ((rule rules.where_clause) & ((mark false semicolon) & empty)))))))) ∷ (((when at_where then ((token [] (word w_where)) & (rule rules.predicates)) else empty) & ((mark false semicolon) & empty))) ∷ (((rule rules.type) & ((when at_equals then ((mark false equals) & (rule rules.whole_expression)) else empty) & ((when at_where then ((token [] (word w_where)) & (rule rules.predicates)) else empty) & ((mark false semicolon) & empty))))) ∷ ((((token [] (word w_where)) & (rule rules.predicates)) & ((mark false semicolon) & empty))) ∷ (((rule rules.type) & ((when at_equals then ((mark false equals) & (rule rules.whole_expression)) else empty) & (((token [] (word w_where)) & (rule rules.predicates)) & ((mark false semicolon) & empty))))) ∷ ((when at_less then ((ordered (first_form List-m.Parameters) (other_form List-m.Parameters)) & ((mark false colon) & ((rule rules.type) & ((when at_equals then ((mark false equals) & (rule rules.whole_expression)) else empty) & ((when at_where then ((token [] (word w_where)) & (rule rules.predicates)) else empty) & ((mark false semicolon) & empty)))))) else ((mark false colon) & ((rule rules.type) & ((when at_equals then ((mark false equals) & (rule rules.whole_expression)) else empty) & (((token [] (word w_where)) & (rule rules.predicates)) & ((mark false semicolon) & empty))))))) ∷ []) n (((token [] (word w_default)) & (when (at_word w_type) then ((token [] (word w_type)) & ((token [] (name)) & ((rule rules.generics) & ((vanishing false at_colon ((mark false colon) & (rule rules.type_bounds))) & ((when at_equals then ((mark false equals) & (rule rules.type)) else empty) & ((rule rules.where_clause) & ((mark false semicolon) & empty))))))) else (when (at_word w_const) then ((token [] (word w_const)) & (when ((at_word w_async) or_else ((at_word w_unsafe) or_else (at_extern or_else (at_word w_fn)))) then ((when (at_word w_async) then (token [] (word w_async)) else empty) & ((rule rules.unsafe_only) & ((when at_extern then (rule rules.abi) else empty) & ((rule rules.signature_rest) & (when at_semicolon then ((mark false semicolon) & empty) else ((rule rules.body) & empty)))))) else ((token [] (name_or (w_underscore ∷ []))) & ((when at_less then (ordered (first_form List-m.Parameters) (other_form List-m.Parameters)) else empty) & ((mark false colon) & ((rule rules.type) & ((when at_equals then ((mark false equals) & (rule rules.whole_expression)) else empty) & ((when at_where then ((token [] (word w_where)) & (rule rules.predicates)) else empty) & ((mark false semicolon) & empty))))))))) else ((rule rules.signature) & (when at_semicolon then ((mark false semicolon) & empty) else ((rule rules.body) & empty)))))))
+
+abbrev pub planned_4_part : ℕ → Grammar
+planned_4_part n = get_or (((when at_equals then ((mark false equals) & (rule rules.type)) else empty)) ∷ (((vanishing false at_colon ((mark false colon) & (rule rules.type_bounds))) & ((when at_equals then ((mark false equals) & (rule rules.type)) else empty) & ((rule rules.where_clause) & ((mark false semicolon) & empty))))) ∷ (((rule rules.signature_rest) & (when at_semicolon then ((mark false semicolon) & empty) else ((rule rules.body) & empty)))) ∷ (((rule rules.unsafe_only) & ((when at_extern then (rule rules.abi) else empty) & ((rule rules.signature_rest) & (when at_semicolon then ((mark false semicolon) & empty) else ((rule rules.body) & empty)))))) ∷ (((when at_where then ((token [] (word w_where)) & (rule rules.predicates)) else empty) & ((mark false semicolon) & empty))) ∷ (((rule rules.type) & ((when at_equals then ((mark false equals) & (rule rules.whole_expression)) else empty) & ((when at_where then ((token [] (word w_where)) & (rule rules.predicates)) else empty) & ((mark false semicolon) & empty))))) ∷ (((token [] (name_or (w_underscore ∷ []))) & ((when at_less then (ordered (first_form List-m.Parameters) (other_form List-m.Parameters)) else empty) & ((mark false colon) & ((rule rules.type) & ((when at_equals then ((mark false equals) & (rule rules.whole_expression)) else empty) & ((when at_where then ((token [] (word w_where)) & (rule rules.predicates)) else empty) & ((mark false semicolon) & empty)))))))) ∷ ((when ((at_word w_async) or_else ((at_word w_unsafe) or_else (at_extern or_else (at_word w_fn)))) then ((when (at_word w_async) then (token [] (word w_async)) else empty) & ((rule rules.unsafe_only) & ((when at_extern then (rule rules.abi) else empty) & ((rule rules.signature_rest) & (when at_semicolon then ((mark false semicolon) & empty) else ((rule rules.body) & empty)))))) else ((token [] (name_or (w_underscore ∷ []))) & ((when at_less then (ordered (first_form List-m.Parameters) (other_form List-m.Parameters)) else empty) & ((mark false colon) & ((rule rules.type) & ((when at_equals then ((mark false equals) & (rule rules.whole_expression)) else empty) & ((when at_where then ((token [] (word w_where)) & (rule rules.predicates)) else empty) & ((mark false semicolon) & empty))))))))) ∷ (((rule rules.signature) & (when at_semicolon then ((mark false semicolon) & empty) else ((rule rules.body) & empty)))) ∷ (((token [] (word w_type)) & ((token [] (name)) & ((rule rules.generics) & ((vanishing false at_colon ((mark false colon) & (rule rules.type_bounds))) & ((when at_equals then ((mark false equals) & (rule rules.type)) else empty) & ((rule rules.where_clause) & ((mark false semicolon) & empty)))))))) ∷ ((when at_equals then ((mark false equals) & (rule rules.type)) else empty)) ∷ (((vanishing false at_colon ((mark false colon) & (rule rules.type_bounds))) & ((when at_equals then ((mark false equals) & (rule rules.type)) else empty) & ((rule rules.where_clause) & ((mark false semicolon) & empty))))) ∷ (((rule rules.signature_rest) & (when at_semicolon then ((mark false semicolon) & empty) else ((rule rules.body) & empty)))) ∷ (((rule rules.unsafe_only) & ((when at_extern then (rule rules.abi) else empty) & ((rule rules.signature_rest) & (when at_semicolon then ((mark false semicolon) & empty) else ((rule rules.body) & empty)))))) ∷ (((rule rules.module_path) & ((when at_bang then (mark false exclamation) else (one_of ([]))) & ((rule rules.macro_end) & empty)))) ∷ (((rule rules.signature) & (when at_semicolon then ((mark false semicolon) & empty) else ((rule rules.body) & empty)))) ∷ []) n (((when at_where then ((token [] (word w_where)) & (rule rules.predicates)) else empty) & ((mark false semicolon) & empty)))
+
+abbrev pub planned_5_part : ℕ → Grammar
+planned_5_part n = get_or ((((rule rules.type_bounds) & ((when at_equals then ((mark false equals) & (rule rules.type)) else empty) & ((when at_where then ((token [] (word w_where)) & (rule rules.predicates)) else empty) & ((mark false semicolon) & empty))))) ∷ (((when at_where then ((token [] (word w_where)) & (rule rules.predicates)) else empty) & ((mark false semicolon) & empty))) ∷ (((rule rules.module_path) & ((when at_bang then (mark false exclamation) else (one_of ([]))) & ((rule rules.macro_end) & empty)))) ∷ (((when at_where then ((token [] (word w_where)) & (rule rules.predicates)) else empty) & ((mark false semicolon) & empty))) ∷ (((rule rules.module_path) & ((when at_bang then (mark false exclamation) else (one_of ([]))) & ((rule rules.macro_end) & empty)))) ∷ ((when at_brace then ((raw Brace) & (when at_postfix_mark then (one_of ([])) else ((rule rules.statement_end) & empty))) else (one_of ([])))) ∷ (((when at_macro_name then (token [] (name_or (w_try ∷ []))) else empty) & ((rule rules.macro_end) & (when at_postfix_mark then empty else (one_of ([])))))) ∷ ((when at_brace then ((raw Brace) & (when at_postfix_mark then empty else ((rule rules.statement_end) & empty))) else ((when at_macro_name then (token [] (name_or (w_try ∷ []))) else empty) & ((rule rules.macro_end) & (when at_postfix_mark then empty else (one_of ([]))))))) ∷ (((rule rules.module_path) & ((when at_bang then (mark false exclamation) else (one_of ([]))) & (when at_brace then ((raw Brace) & (when at_postfix_mark then (one_of ([])) else ((rule rules.statement_end) & empty))) else (one_of ([])))))) ∷ (((rule rules.generics) & ((rule rules.where_clause) & ((inside Brace (rule rules.variants)) & empty)))) ∷ (((token [] (name)) & ((rule rules.generics) & ((rule rules.where_clause) & ((rule rules.fields_named) & empty))))) ∷ (((token [] (word w_struct)) & ((token [] (name)) & ((rule rules.generics) & ((rule rules.structure_body) & empty))))) ∷ ((when (at_word w_enum) then ((token [] (word w_enum)) & ((token [] (name)) & ((rule rules.generics) & ((rule rules.where_clause) & ((inside Brace (rule rules.variants)) & empty))))) else ((token [] (word w_union)) & ((token [] (name)) & ((rule rules.generics) & ((rule rules.where_clause) & ((rule rules.fields_named) & empty))))))) ∷ ((when at_block_like then (shaped (shapes.said) ((rule rules.block_like) & (rule rules.statement_end))) else (shaped (shapes.said) ((rule rules.whole_expression) & (mark false semicolon))))) ∷ ((shaped (shapes.said_macro) ((shaped (shapes.operand shapes.Macro) (rule rules.macro_invocation)) & (rule rules.statement_end)))) ∷ []) n ((when at_crate_macro then (rule rules.crate_macro) else (when at_brace_macro then (shaped (shapes.said_macro) ((shaped (shapes.operand shapes.Macro) (rule rules.macro_invocation)) & (rule rules.statement_end))) else (when (at_word w_let) then (shaped (shapes.a_local) (rule rules.local)) else (when at_block_like then (shaped (shapes.said) ((rule rules.block_like) & (rule rules.statement_end))) else (shaped (shapes.said) ((rule rules.whole_expression) & (mark false semicolon))))))))
+
+abbrev pub part_at : Group → ℕ → Grammar
+part_at Group-m.Types n = types_part n
+part_at Group-m.Generics n = generics_part n
+part_at Group-m.Fields n = fields_part n
+part_at Group-m.Inputs n = inputs_part n
+part_at Group-m.Patterns n = patterns_part n
+part_at Group-m.Lists n = lists_part n
+part_at Group-m.Blocks n = blocks_part n
+part_at Group-m.Postfixes n = postfixes_part n
+part_at Group-m.Operators n = operators_part n
+part_at Group-m.Heads n = heads_part n
+part_at Group-m.Statements n = statements_part n
+part_at Group-m.Signatures n = signatures_part n
+part_at Group-m.Items n = items_part n
+part_at Group-m.KeptItems n = kept_items_part n
+part_at Group-m.Traits n = traits_part n
+part_at Group-m.Impls n = impls_part n
+part_at Group-m.TraitMembers n = trait_members_part n
+part_at Group-m.ImplMembers n = impl_members_part n
+part_at Group-m.ForeignMembers n = foreign_members_part n
+part_at Group-m.Planned1 n = planned_1_part n
+part_at Group-m.Planned2 n = planned_2_part n
+part_at Group-m.Planned3 n = planned_3_part n
+part_at Group-m.Planned4 n = planned_4_part n
+part_at Group-m.Planned5 n = planned_5_part n
+
+unfoldable pub part_form : Part → Grammar
+part_form p = part_at p.group p.place

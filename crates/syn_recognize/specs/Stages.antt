@@ -1,6 +1,6 @@
 -- Written by tools/recognizers.py; edits are lost.
 -- THE COURSES OF PLANS, and the forms of which they are.
-use Rattle.std.specs.Prelude.{true, false, [], ◌∷◌}
+use Rattle.std.specs.Prelude.{ℕ, true, false, [], ◌∷◌, get_or}
 use Rattle.syn_grammar.specs.Words.{colon, colons, equals, exclamation, semicolon, w_Self_type, w_as, w_async, w_auto, w_const, w_crate, w_default, w_enum, w_extern, w_fn, w_impl, w_let, w_macro, w_mod, w_mut, w_pub, w_safe, w_self, w_static, w_struct, w_trait, w_try, w_type, w_underscore, w_union, w_unsafe, w_use, w_where}
 use Rattle.syn_grammar.specs.Tokens.{Paren, Brace, Str, Before_colons, Before_macro, Begins_item, Begins_in, Lone_word, at_word, at_literal, at_empty_group, ahead, at_generics, ◌or_else◌, ◌and_also◌, ◌but_not◌}
 use Rattle.syn_grammar.specs.Table.{table, at_bang, at_block_like, at_brace, at_brace_macro, at_colon, at_colons, at_crate_macro, at_equals, at_exclamation, at_extern, at_for, at_item, at_less, at_macro_name, at_module_path, at_no_macro_item, at_no_trait_macro, at_paren, at_postfix_mark, at_semicolon, at_supertraits_end, at_visibility, at_where}
@@ -12,7 +12,8 @@ use Rattle.syn_recognize.specs.Ordered.{first_form, other_form}
 use Rattle.syn_recognize.specs.Course.{Course, reads, turns, rooted, followed, rest, kept, lists, led, self_type}
 use Rattle.syn_recognize.specs.declared.list.List.TheVariants as List-m
 use Rattle.syn_recognize.specs.declared.plan.Stage.{Stage}
-use Rattle.syn_recognize.specs.declared.plan.Stage.TheVariants as Stage-m
+use Rattle.syn_recognize.specs.declared.plan.Series.{Series}
+use Rattle.syn_recognize.specs.declared.plan.Series.TheVariants as Series-m
 use Rattle.syn_recognize.specs.declared.plan.Planned.{Planned}
 use Rattle.syn_recognize.specs.declared.plan.Planned.TheVariants as Planned-m
 
@@ -430,145 +431,34 @@ stage_137 = turns at_exclamation (reads (mark false exclamation) (turns at_brace
 abbrev pub stage_138 : Course
 stage_138 = reads (when (at_word w_unsafe) then (token [] (word w_unsafe)) else empty) (reads (token [] (word w_impl)) (lists (led stage_137)))
 
-abbrev pub stage_course : Stage → Course
-stage_course Stage-m.Stage1 = stage_1
-stage_course Stage-m.Stage2 = stage_2
-stage_course Stage-m.Stage3 = stage_3
-stage_course Stage-m.Stage4 = stage_4
-stage_course Stage-m.Stage5 = stage_5
-stage_course Stage-m.Stage6 = stage_6
-stage_course Stage-m.Stage7 = stage_7
-stage_course Stage-m.Stage8 = stage_8
-stage_course Stage-m.Stage9 = stage_9
-stage_course Stage-m.Stage10 = stage_10
-stage_course Stage-m.Stage11 = stage_11
-stage_course Stage-m.Stage12 = stage_12
-stage_course Stage-m.Stage13 = stage_13
-stage_course Stage-m.Stage14 = stage_14
-stage_course Stage-m.Stage15 = stage_15
-stage_course Stage-m.Stage16 = stage_16
-stage_course Stage-m.Stage17 = stage_17
-stage_course Stage-m.Stage18 = stage_18
-stage_course Stage-m.Stage19 = stage_19
-stage_course Stage-m.Stage20 = stage_20
-stage_course Stage-m.Stage21 = stage_21
-stage_course Stage-m.Stage22 = stage_22
-stage_course Stage-m.Stage23 = stage_23
-stage_course Stage-m.Stage24 = stage_24
-stage_course Stage-m.Stage25 = stage_25
-stage_course Stage-m.Stage26 = stage_26
-stage_course Stage-m.Stage27 = stage_27
-stage_course Stage-m.Stage28 = stage_28
-stage_course Stage-m.Stage29 = stage_29
-stage_course Stage-m.Stage30 = stage_30
-stage_course Stage-m.Stage31 = stage_31
-stage_course Stage-m.Stage32 = stage_32
-stage_course Stage-m.Stage33 = stage_33
-stage_course Stage-m.Stage34 = stage_34
-stage_course Stage-m.Stage35 = stage_35
-stage_course Stage-m.Stage36 = stage_36
-stage_course Stage-m.Stage37 = stage_37
-stage_course Stage-m.Stage38 = stage_38
-stage_course Stage-m.Stage39 = stage_39
-stage_course Stage-m.Stage40 = stage_40
-stage_course Stage-m.Stage41 = stage_41
-stage_course Stage-m.Stage42 = stage_42
-stage_course Stage-m.Stage43 = stage_43
-stage_course Stage-m.Stage44 = stage_44
-stage_course Stage-m.Stage45 = stage_45
-stage_course Stage-m.Stage46 = stage_46
-stage_course Stage-m.Stage47 = stage_47
-stage_course Stage-m.Stage48 = stage_48
-stage_course Stage-m.Stage49 = stage_49
-stage_course Stage-m.Stage50 = stage_50
-stage_course Stage-m.Stage51 = stage_51
-stage_course Stage-m.Stage52 = stage_52
-stage_course Stage-m.Stage53 = stage_53
-stage_course Stage-m.Stage54 = stage_54
-stage_course Stage-m.Stage55 = stage_55
-stage_course Stage-m.Stage56 = stage_56
-stage_course Stage-m.Stage57 = stage_57
-stage_course Stage-m.Stage58 = stage_58
-stage_course Stage-m.Stage59 = stage_59
-stage_course Stage-m.Stage60 = stage_60
-stage_course Stage-m.Stage61 = stage_61
-stage_course Stage-m.Stage62 = stage_62
-stage_course Stage-m.Stage63 = stage_63
-stage_course Stage-m.Stage64 = stage_64
-stage_course Stage-m.Stage65 = stage_65
-stage_course Stage-m.Stage66 = stage_66
-stage_course Stage-m.Stage67 = stage_67
-stage_course Stage-m.Stage68 = stage_68
-stage_course Stage-m.Stage69 = stage_69
-stage_course Stage-m.Stage70 = stage_70
-stage_course Stage-m.Stage71 = stage_71
-stage_course Stage-m.Stage72 = stage_72
-stage_course Stage-m.Stage73 = stage_73
-stage_course Stage-m.Stage74 = stage_74
-stage_course Stage-m.Stage75 = stage_75
-stage_course Stage-m.Stage76 = stage_76
-stage_course Stage-m.Stage77 = stage_77
-stage_course Stage-m.Stage78 = stage_78
-stage_course Stage-m.Stage79 = stage_79
-stage_course Stage-m.Stage80 = stage_80
-stage_course Stage-m.Stage81 = stage_81
-stage_course Stage-m.Stage82 = stage_82
-stage_course Stage-m.Stage83 = stage_83
-stage_course Stage-m.Stage84 = stage_84
-stage_course Stage-m.Stage85 = stage_85
-stage_course Stage-m.Stage86 = stage_86
-stage_course Stage-m.Stage87 = stage_87
-stage_course Stage-m.Stage88 = stage_88
-stage_course Stage-m.Stage89 = stage_89
-stage_course Stage-m.Stage90 = stage_90
-stage_course Stage-m.Stage91 = stage_91
-stage_course Stage-m.Stage92 = stage_92
-stage_course Stage-m.Stage93 = stage_93
-stage_course Stage-m.Stage94 = stage_94
-stage_course Stage-m.Stage95 = stage_95
-stage_course Stage-m.Stage96 = stage_96
-stage_course Stage-m.Stage97 = stage_97
-stage_course Stage-m.Stage98 = stage_98
-stage_course Stage-m.Stage99 = stage_99
-stage_course Stage-m.Stage100 = stage_100
-stage_course Stage-m.Stage101 = stage_101
-stage_course Stage-m.Stage102 = stage_102
-stage_course Stage-m.Stage103 = stage_103
-stage_course Stage-m.Stage104 = stage_104
-stage_course Stage-m.Stage105 = stage_105
-stage_course Stage-m.Stage106 = stage_106
-stage_course Stage-m.Stage107 = stage_107
-stage_course Stage-m.Stage108 = stage_108
-stage_course Stage-m.Stage109 = stage_109
-stage_course Stage-m.Stage110 = stage_110
-stage_course Stage-m.Stage111 = stage_111
-stage_course Stage-m.Stage112 = stage_112
-stage_course Stage-m.Stage113 = stage_113
-stage_course Stage-m.Stage114 = stage_114
-stage_course Stage-m.Stage115 = stage_115
-stage_course Stage-m.Stage116 = stage_116
-stage_course Stage-m.Stage117 = stage_117
-stage_course Stage-m.Stage118 = stage_118
-stage_course Stage-m.Stage119 = stage_119
-stage_course Stage-m.Stage120 = stage_120
-stage_course Stage-m.Stage121 = stage_121
-stage_course Stage-m.Stage122 = stage_122
-stage_course Stage-m.Stage123 = stage_123
-stage_course Stage-m.Stage124 = stage_124
-stage_course Stage-m.Stage125 = stage_125
-stage_course Stage-m.Stage126 = stage_126
-stage_course Stage-m.Stage127 = stage_127
-stage_course Stage-m.Stage128 = stage_128
-stage_course Stage-m.Stage129 = stage_129
-stage_course Stage-m.Stage130 = stage_130
-stage_course Stage-m.Stage131 = stage_131
-stage_course Stage-m.Stage132 = stage_132
-stage_course Stage-m.Stage133 = stage_133
-stage_course Stage-m.Stage134 = stage_134
-stage_course Stage-m.Stage135 = stage_135
-stage_course Stage-m.Stage136 = stage_136
-stage_course Stage-m.Stage137 = stage_137
-stage_course Stage-m.Stage138 = stage_138
+abbrev pub series_1_course : ℕ → Course
+series_1_course n = get_or (stage_1 ∷ stage_2 ∷ stage_3 ∷ stage_4 ∷ stage_5 ∷ stage_6 ∷ stage_7 ∷ stage_8 ∷ stage_9 ∷ stage_10 ∷ stage_11 ∷ stage_12 ∷ stage_13 ∷ stage_14 ∷ stage_15 ∷ stage_16 ∷ stage_17 ∷ stage_18 ∷ stage_19 ∷ stage_20 ∷ stage_21 ∷ stage_22 ∷ []) n stage_23
+
+abbrev pub series_2_course : ℕ → Course
+series_2_course n = get_or (stage_24 ∷ stage_25 ∷ stage_26 ∷ stage_27 ∷ stage_28 ∷ stage_29 ∷ stage_30 ∷ stage_31 ∷ stage_32 ∷ stage_33 ∷ stage_34 ∷ stage_35 ∷ stage_36 ∷ stage_37 ∷ stage_38 ∷ stage_39 ∷ stage_40 ∷ stage_41 ∷ stage_42 ∷ stage_43 ∷ stage_44 ∷ stage_45 ∷ []) n stage_46
+
+abbrev pub series_3_course : ℕ → Course
+series_3_course n = get_or (stage_47 ∷ stage_48 ∷ stage_49 ∷ stage_50 ∷ stage_51 ∷ stage_52 ∷ stage_53 ∷ stage_54 ∷ stage_55 ∷ stage_56 ∷ stage_57 ∷ stage_58 ∷ stage_59 ∷ stage_60 ∷ stage_61 ∷ stage_62 ∷ stage_63 ∷ stage_64 ∷ stage_65 ∷ stage_66 ∷ stage_67 ∷ stage_68 ∷ []) n stage_69
+
+abbrev pub series_4_course : ℕ → Course
+series_4_course n = get_or (stage_70 ∷ stage_71 ∷ stage_72 ∷ stage_73 ∷ stage_74 ∷ stage_75 ∷ stage_76 ∷ stage_77 ∷ stage_78 ∷ stage_79 ∷ stage_80 ∷ stage_81 ∷ stage_82 ∷ stage_83 ∷ stage_84 ∷ stage_85 ∷ stage_86 ∷ stage_87 ∷ stage_88 ∷ stage_89 ∷ stage_90 ∷ stage_91 ∷ []) n stage_92
+
+abbrev pub series_5_course : ℕ → Course
+series_5_course n = get_or (stage_93 ∷ stage_94 ∷ stage_95 ∷ stage_96 ∷ stage_97 ∷ stage_98 ∷ stage_99 ∷ stage_100 ∷ stage_101 ∷ stage_102 ∷ stage_103 ∷ stage_104 ∷ stage_105 ∷ stage_106 ∷ stage_107 ∷ stage_108 ∷ stage_109 ∷ stage_110 ∷ stage_111 ∷ stage_112 ∷ stage_113 ∷ stage_114 ∷ []) n stage_115
+
+abbrev pub series_6_course : ℕ → Course
+series_6_course n = get_or (stage_116 ∷ stage_117 ∷ stage_118 ∷ stage_119 ∷ stage_120 ∷ stage_121 ∷ stage_122 ∷ stage_123 ∷ stage_124 ∷ stage_125 ∷ stage_126 ∷ stage_127 ∷ stage_128 ∷ stage_129 ∷ stage_130 ∷ stage_131 ∷ stage_132 ∷ stage_133 ∷ stage_134 ∷ stage_135 ∷ stage_136 ∷ stage_137 ∷ []) n stage_138
+
+abbrev pub course_at : Series → ℕ → Course
+course_at Series-m.Series1 n = series_1_course n
+course_at Series-m.Series2 n = series_2_course n
+course_at Series-m.Series3 n = series_3_course n
+course_at Series-m.Series4 n = series_4_course n
+course_at Series-m.Series5 n = series_5_course n
+course_at Series-m.Series6 n = series_6_course n
+
+unfoldable pub stage_course : Stage → Course
+stage_course s = course_at s.series s.place
 
 abbrev pub planned_course : Planned → Course
 planned_course Planned-m.Item = reads (rule rules.attributes) stage_93

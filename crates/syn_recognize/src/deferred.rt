@@ -181,15 +181,16 @@ fn printed_tokens<T: ToTokens>(tree: &T, alloc: Global) -> Parsed<TokenStream>
 }
 
 /// The rule by which such a tree is read.
+#[tactic(auto, unfolding(crate::specs::Names::rule_of))]
 fn rule_of_kind(kind: usize) -> Rule
     ensures { rule_of result ≡ kind_rule kind }
 {
     match kind {
-        0 => Rule::WholeExpression,
-        1 => Rule::Constant,
-        2 => Rule::Item,
-        3 => Rule::Statements,
-        _ => Rule::Items,
+        0 => Rule::WHOLE_EXPRESSION,
+        1 => Rule::CONSTANT,
+        2 => Rule::ITEM,
+        3 => Rule::STATEMENTS,
+        _ => Rule::ITEMS,
     }
 }
 

@@ -62,15 +62,16 @@ fn head(part: Fading) -> &'static Form
 }
 
 /// The rule of the list.
+#[tactic(auto, unfolding(crate::specs::Names::rule_of))]
 fn list_of(part: Fading) -> Rule
     ensures { rule_of result ≡ list_rule part }
 {
     match part {
-        Fading::Lifetimes => Rule::Lifetimes,
-        Fading::Bounds => Rule::ParameterBounds,
-        Fading::Predicates => Rule::Predicates,
-        Fading::Supertraits => Rule::Supertraits,
-        Fading::TypeBounds => Rule::TypeBounds,
+        Fading::Lifetimes => Rule::LIFETIMES,
+        Fading::Bounds => Rule::PARAMETER_BOUNDS,
+        Fading::Predicates => Rule::PREDICATES,
+        Fading::Supertraits => Rule::SUPERTRAITS,
+        Fading::TypeBounds => Rule::TYPE_BOUNDS,
     }
 }
 

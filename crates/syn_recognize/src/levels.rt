@@ -23,77 +23,77 @@ static FINISHED: Form = Form::When(
 );
 
 /// How many levels the rule reads behind a unary one; none where it reads something else.
-#[tactic(auto, using(crate::proofs::Ladder::cast_rung, crate::proofs::Ladder::product_rung, crate::proofs::Ladder::sum_rung, crate::proofs::Ladder::shift_rung, crate::proofs::Ladder::bit_and_rung, crate::proofs::Ladder::bit_xor_rung, crate::proofs::Ladder::bit_or_rung, crate::proofs::Ladder::comparison_rung, crate::proofs::Ladder::conjunction_rung, crate::proofs::Ladder::disjunction_rung, crate::proofs::Ladder::whole_rung))]
+#[tactic(auto, using(crate::proofs::Ladder::cast_rung, crate::proofs::Ladder::product_rung, crate::proofs::Ladder::sum_rung, crate::proofs::Ladder::shift_rung, crate::proofs::Ladder::bit_and_rung, crate::proofs::Ladder::bit_xor_rung, crate::proofs::Ladder::bit_or_rung, crate::proofs::Ladder::comparison_rung, crate::proofs::Ladder::conjunction_rung, crate::proofs::Ladder::disjunction_rung, crate::proofs::Ladder::whole_rung), unfolding(crate::specs::Names::rule_of))]
 pub(crate) fn height_of(rule: Rule) -> Option<usize>
     ensures { MatchOption result (Unit {0}) (λ height. Rung unary 0 (rule_of rule) height) }
 {
     match rule {
-        Rule::Cast => Some(1),
-        Rule::Product => Some(2),
-        Rule::Sum => Some(3),
-        Rule::Shift => Some(4),
-        Rule::BitAnd => Some(5),
-        Rule::BitXor => Some(6),
-        Rule::BitOr => Some(7),
-        Rule::Comparison => Some(8),
-        Rule::Conjunction => Some(9),
-        Rule::Disjunction => Some(10),
-        Rule::WholeExpression => Some(12),
+        Rule::CAST => Some(1),
+        Rule::PRODUCT => Some(2),
+        Rule::SUM => Some(3),
+        Rule::SHIFT => Some(4),
+        Rule::BIT_AND => Some(5),
+        Rule::BIT_XOR => Some(6),
+        Rule::BIT_OR => Some(7),
+        Rule::COMPARISON => Some(8),
+        Rule::CONJUNCTION => Some(9),
+        Rule::DISJUNCTION => Some(10),
+        Rule::WHOLE_EXPRESSION => Some(12),
         _ => None,
     }
 }
 
 /// The same of the rules of heads, of which the levels stand behind the others.
-#[tactic(auto, using(crate::proofs::Ladder::cast_head_rung, crate::proofs::Ladder::product_head_rung, crate::proofs::Ladder::sum_head_rung, crate::proofs::Ladder::shift_head_rung, crate::proofs::Ladder::bit_and_head_rung, crate::proofs::Ladder::bit_xor_head_rung, crate::proofs::Ladder::bit_or_head_rung, crate::proofs::Ladder::comparison_head_rung, crate::proofs::Ladder::conjunction_head_rung, crate::proofs::Ladder::disjunction_head_rung, crate::proofs::Ladder::whole_head_rung))]
+#[tactic(auto, using(crate::proofs::Ladder::cast_head_rung, crate::proofs::Ladder::product_head_rung, crate::proofs::Ladder::sum_head_rung, crate::proofs::Ladder::shift_head_rung, crate::proofs::Ladder::bit_and_head_rung, crate::proofs::Ladder::bit_xor_head_rung, crate::proofs::Ladder::bit_or_head_rung, crate::proofs::Ladder::comparison_head_rung, crate::proofs::Ladder::conjunction_head_rung, crate::proofs::Ladder::disjunction_head_rung, crate::proofs::Ladder::whole_head_rung), unfolding(crate::specs::Names::rule_of))]
 pub(crate) fn head_height_of(rule: Rule) -> Option<usize>
     ensures rung { MatchOption result (Unit {0}) (λ height. Rung unary_head 12 (rule_of rule) height) }
     ensures low { MatchOption result (Unit {0}) (λ height. height ≤ 12) }
 {
     match rule {
-        Rule::CastHead => Some(1),
-        Rule::ProductHead => Some(2),
-        Rule::SumHead => Some(3),
-        Rule::ShiftHead => Some(4),
-        Rule::BitAndHead => Some(5),
-        Rule::BitXorHead => Some(6),
-        Rule::BitOrHead => Some(7),
-        Rule::ComparisonHead => Some(8),
-        Rule::ConjunctionHead => Some(9),
-        Rule::DisjunctionHead => Some(10),
-        Rule::WholeExpressionHead => Some(12),
+        Rule::CAST_HEAD => Some(1),
+        Rule::PRODUCT_HEAD => Some(2),
+        Rule::SUM_HEAD => Some(3),
+        Rule::SHIFT_HEAD => Some(4),
+        Rule::BIT_AND_HEAD => Some(5),
+        Rule::BIT_XOR_HEAD => Some(6),
+        Rule::BIT_OR_HEAD => Some(7),
+        Rule::COMPARISON_HEAD => Some(8),
+        Rule::CONJUNCTION_HEAD => Some(9),
+        Rule::DISJUNCTION_HEAD => Some(10),
+        Rule::WHOLE_EXPRESSION_HEAD => Some(12),
         _ => None,
     }
 }
 
 /// What the level of this number reads behind an operand.
-#[tactic(auto, unfolding(crate::specs::Ladder::level_form))]
+#[tactic(auto, unfolding(crate::specs::Names::rule_of, crate::specs::Ladder::level_form))]
 pub(crate) fn behind(level: usize) -> Option<&'static Form>
     ensures { MatchOption result (Unit {0}) (λ form. parse_form (grammar_of form.now) ≡ parse_form (level_form level)) }
 {
     match level {
-        0 => Some(form_of(Rule::Casts)),
-        1 => Some(form_of(Rule::Products)),
-        2 => Some(form_of(Rule::Sums)),
-        3 => Some(form_of(Rule::Shifts)),
-        4 => Some(form_of(Rule::BitAnds)),
-        5 => Some(form_of(Rule::BitXors)),
-        6 => Some(form_of(Rule::BitOrs)),
-        7 => Some(form_of(Rule::Compared)),
-        8 => Some(form_of(Rule::Conjunctions)),
-        9 => Some(form_of(Rule::Disjunctions)),
-        10 => Some(form_of(Rule::Assigned)),
+        0 => Some(form_of(Rule::CASTS)),
+        1 => Some(form_of(Rule::PRODUCTS)),
+        2 => Some(form_of(Rule::SUMS)),
+        3 => Some(form_of(Rule::SHIFTS)),
+        4 => Some(form_of(Rule::BIT_ANDS)),
+        5 => Some(form_of(Rule::BIT_XORS)),
+        6 => Some(form_of(Rule::BIT_ORS)),
+        7 => Some(form_of(Rule::COMPARED)),
+        8 => Some(form_of(Rule::CONJUNCTIONS)),
+        9 => Some(form_of(Rule::DISJUNCTIONS)),
+        10 => Some(form_of(Rule::ASSIGNED)),
         11 => Some(&FINISHED),
-        12 => Some(form_of(Rule::Casts)),
-        13 => Some(form_of(Rule::ProductsHead)),
-        14 => Some(form_of(Rule::SumsHead)),
-        15 => Some(form_of(Rule::ShiftsHead)),
-        16 => Some(form_of(Rule::BitAndsHead)),
-        17 => Some(form_of(Rule::BitXorsHead)),
-        18 => Some(form_of(Rule::BitOrsHead)),
-        19 => Some(form_of(Rule::ComparedHead)),
-        20 => Some(form_of(Rule::ConjunctionsHead)),
-        21 => Some(form_of(Rule::DisjunctionsHead)),
-        22 => Some(form_of(Rule::AssignedHead)),
+        12 => Some(form_of(Rule::CASTS)),
+        13 => Some(form_of(Rule::PRODUCTS_HEAD)),
+        14 => Some(form_of(Rule::SUMS_HEAD)),
+        15 => Some(form_of(Rule::SHIFTS_HEAD)),
+        16 => Some(form_of(Rule::BIT_ANDS_HEAD)),
+        17 => Some(form_of(Rule::BIT_XORS_HEAD)),
+        18 => Some(form_of(Rule::BIT_ORS_HEAD)),
+        19 => Some(form_of(Rule::COMPARED_HEAD)),
+        20 => Some(form_of(Rule::CONJUNCTIONS_HEAD)),
+        21 => Some(form_of(Rule::DISJUNCTIONS_HEAD)),
+        22 => Some(form_of(Rule::ASSIGNED_HEAD)),
         23 => Some(&FINISHED),
         _ => None,
     }

@@ -25,13 +25,14 @@ pub enum List {
 
 static LIFETIME: Form = Form::Lifetime;
 
-static ARGUMENT: Form = Form::Rule(Rule::GenericArgument);
+static ARGUMENT: Form = Form::Rule(Rule::GENERIC_ARGUMENT);
 
-static LIFETIME_PARAMETER: Form = Form::Rule(Rule::LifetimeParameter);
+static LIFETIME_PARAMETER: Form = Form::Rule(Rule::LIFETIME_PARAMETER);
 
-static PARAMETER: Form = Form::Part(Part::Generics3);
+static PARAMETER: Form = Form::Part(Part::GENERICS_3);
 
 /// The form of the members that are printed first.
+#[tactic(auto, unfolding(crate::specs::Names::rule_of))]
 pub(crate) fn first_of(list: List) -> &'static Form
     ensures { grammar_of result.now ≡ first_form list }
 {
@@ -42,6 +43,7 @@ pub(crate) fn first_of(list: List) -> &'static Form
 }
 
 /// The form of the others.
+#[tactic(auto, unfolding(crate::specs::Names::rule_of, crate::specs::Parts::part_form))]
 pub(crate) fn other_of(list: List) -> &'static Form
     ensures { grammar_of result.now ≡ other_form list }
 {

@@ -22,36 +22,36 @@ use syn_tokens::delimiter::Delimiter;
 static NAME: Form = Form::Then(
     &Form::When(
         Look::Macro,
-        &Form::Rule(Rule::MacroInvocation),
+        &Form::Rule(Rule::MACRO_INVOCATION),
         &Form::Then(
-            &Form::Rule(Rule::ExpressionWords),
+            &Form::Rule(Rule::EXPRESSION_WORDS),
             &Form::When(
                 Look::Group(Delimiter::Brace),
                 &Form::Shaped(
                     Shape::Fields,
-                    &Form::Inside(Delimiter::Brace, &Form::Rule(Rule::LiteralFields)),
+                    &Form::Inside(Delimiter::Brace, &Form::Rule(Rule::LITERAL_FIELDS)),
                 ),
                 &Form::Empty,
             ),
         ),
     ),
-    &Form::Rule(Rule::Postfixes),
+    &Form::Rule(Rule::POSTFIXES),
 );
 
 /// An operand in a head that begins so.
 static HEAD_NAME: Form = Form::Then(
     &Form::When(
         Look::Macro,
-        &Form::Rule(Rule::MacroInvocation),
-        &Form::Rule(Rule::ExpressionWords),
+        &Form::Rule(Rule::MACRO_INVOCATION),
+        &Form::Rule(Rule::EXPRESSION_WORDS),
     ),
-    &Form::Rule(Rule::Postfixes),
+    &Form::Rule(Rule::POSTFIXES),
 );
 
 /// One in a head that begins with a keyword.
 static HEAD_KEYWORD: Form = Form::Then(
-    &Form::Rule(Rule::PrimaryHead),
-    &Form::Rule(Rule::Postfixes),
+    &Form::Rule(Rule::PRIMARY_HEAD),
+    &Form::Rule(Rule::POSTFIXES),
 );
 
 /// One in a head that is a literal.
@@ -59,13 +59,13 @@ static HEAD_LITERAL: Form = Form::Then(
     &Form::When(
         Look::AnyLiteral,
         &Form::Token(Token::Literal),
-        &Form::Rule(Rule::ExpressionWords),
+        &Form::Rule(Rule::EXPRESSION_WORDS),
     ),
-    &Form::Rule(Rule::Postfixes),
+    &Form::Rule(Rule::POSTFIXES),
 );
 
 /// One that begins with a keyword.
-static KEYWORD: Form = Form::Then(&Form::Rule(Rule::Primary), &Form::Rule(Rule::Postfixes));
+static KEYWORD: Form = Form::Then(&Form::Rule(Rule::PRIMARY), &Form::Rule(Rule::POSTFIXES));
 
 /// One that is a literal.
 static LITERAL: Form = Form::Then(
@@ -73,30 +73,30 @@ static LITERAL: Form = Form::Then(
         Look::AnyLiteral,
         &Form::Token(Token::Literal),
         &Form::Then(
-            &Form::Rule(Rule::ExpressionWords),
+            &Form::Rule(Rule::EXPRESSION_WORDS),
             &Form::When(
                 Look::Group(Delimiter::Brace),
                 &Form::Shaped(
                     Shape::Fields,
-                    &Form::Inside(Delimiter::Brace, &Form::Rule(Rule::LiteralFields)),
+                    &Form::Inside(Delimiter::Brace, &Form::Rule(Rule::LITERAL_FIELDS)),
                 ),
                 &Form::Empty,
             ),
         ),
     ),
-    &Form::Rule(Rule::Postfixes),
+    &Form::Rule(Rule::POSTFIXES),
 );
 
 /// One that begins with parentheses.
 static PARENTHESES: Form = Form::Then(
-    &Form::Inside(Delimiter::Paren, &Form::Rule(Rule::Expressions)),
-    &Form::Rule(Rule::Postfixes),
+    &Form::Inside(Delimiter::Paren, &Form::Rule(Rule::EXPRESSIONS)),
+    &Form::Rule(Rule::POSTFIXES),
 );
 
 /// One that begins with brackets.
 static BRACKETS: Form = Form::Then(
-    &Form::Inside(Delimiter::Bracket, &Form::Rule(Rule::ArrayContent)),
-    &Form::Rule(Rule::Postfixes),
+    &Form::Inside(Delimiter::Bracket, &Form::Rule(Rule::ARRAY_CONTENT)),
+    &Form::Rule(Rule::POSTFIXES),
 );
 
 /// Words of a type's path of which the first is an identifier that is no keyword.
@@ -107,29 +107,29 @@ static WORDS: Form = Form::Then(
             Shape::Untagged,
             &Form::When(
                 Look::Arguments,
-                &Form::Rule(Rule::TypeArguments),
+                &Form::Rule(Rule::TYPE_ARGUMENTS),
                 &Form::Empty,
             ),
         ),
     ),
-    &Form::Part(Part::TypeWords2),
+    &Form::Part(Part::TYPE_WORDS_2),
 );
 
 /// A type in parentheses.
-static TUPLE: Form = Form::Inside(Delimiter::Paren, &Form::Rule(Rule::Types));
+static TUPLE: Form = Form::Inside(Delimiter::Paren, &Form::Rule(Rule::TYPES));
 
 /// A generic argument that begins with an identifier that is no keyword.
 static ARGUMENT: Form = Form::When(
     Look::Association,
     &Form::Then(
         &Form::Token(Token::Name),
-        &Form::Then(&Form::Mark(Mark::Eq), &Form::Rule(Rule::Type)),
+        &Form::Then(&Form::Mark(Mark::Eq), &Form::Rule(Rule::TYPE)),
     ),
-    &Form::Rule(Rule::Type),
+    &Form::Rule(Rule::TYPE),
 );
 
 /// The meta of an attribute that begins so.
-static META: Form = Form::Then(&Form::Rule(Rule::ModuleWords), &Form::Rule(Rule::MetaValue));
+static META: Form = Form::Then(&Form::Rule(Rule::MODULE_WORDS), &Form::Rule(Rule::META_VALUE));
 
 /// Words of an expression's path of which the first is such an identifier.
 static EXPRESSION_WORDS: Form = Form::Then(
@@ -139,24 +139,24 @@ static EXPRESSION_WORDS: Form = Form::Then(
             Shape::Untagged,
             &Form::When(
                 Look::Turbofish,
-                &Form::Rule(Rule::TypeArguments),
+                &Form::Rule(Rule::TYPE_ARGUMENTS),
                 &Form::Empty,
             ),
         ),
     ),
-    &Form::Part(Part::ExpressionWords2),
+    &Form::Part(Part::EXPRESSION_WORDS_2),
 );
 
 /// A statement that begins with one, behind its attributes, and those that follow: a macro in braces, or an expression.
 static STATEMENT: Form = Form::When(
     Look::BraceMacro,
     &Form::Then(
-        &Form::Rule(Rule::MacroInvocation),
-        &Form::Rule(Rule::AfterBlock),
+        &Form::Rule(Rule::MACRO_INVOCATION),
+        &Form::Rule(Rule::AFTER_BLOCK),
     ),
     &Form::Then(
-        &Form::Rule(Rule::WholeExpression),
-        &Form::Rule(Rule::AfterExpression),
+        &Form::Rule(Rule::WHOLE_EXPRESSION),
+        &Form::Rule(Rule::AFTER_EXPRESSION),
     ),
 );
 
@@ -164,41 +164,41 @@ static STATEMENT: Form = Form::When(
 static LISTED: Form = Form::When(
     Look::Item,
     &Form::Planned(Planned::Statements),
-    &Form::Rule(Rule::StatementRest),
+    &Form::Rule(Rule::STATEMENT_REST),
 );
 
 static EMPTY: Form = Form::Empty;
 
 /// A form that is read as the rule is, where this stands next.
-#[tactic(auto, using(crate::proofs::Opened::opens_rule))]
+#[tactic(auto, using(crate::proofs::Opened::opens_rule), unfolding(crate::specs::Names::rule_of, crate::specs::Parts::part_form))]
 #[inline(never)]
 pub(crate) fn opened(rule: Rule, next: First) -> &'static Form
     ensures { Opens next (grammar_of result.now) (rule_of rule) }
 {
     match rule {
-        Rule::Unary => operand(next),
-        Rule::UnaryHead => head_operand(next),
-        Rule::Postfixes => postfix(next),
-        Rule::Type => type_by(next),
-        Rule::TypePath => path_by(next),
-        Rule::TypeWords => words_by(next),
-        Rule::MoreTypeWords => more_words_by(next),
-        Rule::TypeArguments => arguments_by(next),
-        Rule::GenericArgument => argument_by(next),
-        Rule::Attributes => attributes_by(next),
-        Rule::Meta => meta_by(next),
-        Rule::ModulePath => module_path_by(next),
-        Rule::Visibility => visibility_by(next),
-        Rule::ExpressionWords => expression_words_by(next),
-        Rule::Member => member_by(next),
-        Rule::Statements => statements_by(next),
-        Rule::StatementRest => statement_by(next),
+        Rule::UNARY => operand(next),
+        Rule::UNARY_HEAD => head_operand(next),
+        Rule::POSTFIXES => postfix(next),
+        Rule::TYPE => type_by(next),
+        Rule::TYPE_PATH => path_by(next),
+        Rule::TYPE_WORDS => words_by(next),
+        Rule::MORE_TYPE_WORDS => more_words_by(next),
+        Rule::TYPE_ARGUMENTS => arguments_by(next),
+        Rule::GENERIC_ARGUMENT => argument_by(next),
+        Rule::ATTRIBUTES => attributes_by(next),
+        Rule::META => meta_by(next),
+        Rule::MODULE_PATH => module_path_by(next),
+        Rule::VISIBILITY => visibility_by(next),
+        Rule::EXPRESSION_WORDS => expression_words_by(next),
+        Rule::MEMBER => member_by(next),
+        Rule::STATEMENTS => statements_by(next),
+        Rule::STATEMENT_REST => statement_by(next),
         _ => form_of(rule),
     }
 }
 
 /// A form that is read as a unary level is.
-#[tactic(auto, using(crate::proofs::Opened::opens_rule))]
+#[tactic(auto, using(crate::proofs::Opened::opens_rule), unfolding(crate::specs::Names::rule_of))]
 #[inline(never)]
 pub(crate) fn operand(next: First) -> &'static Form
     ensures { Opens next (grammar_of result.now) unary }
@@ -208,25 +208,25 @@ pub(crate) fn operand(next: First) -> &'static Form
         First::Keyword => &KEYWORD,
         First::Literal => &LITERAL,
         First::Group(delimiter) => group_operand(delimiter),
-        _ => form_of(Rule::Unary),
+        _ => form_of(Rule::UNARY),
     }
 }
 
 /// A form that is read as a unary level is where such a group stands next.
-#[tactic(auto, using(crate::proofs::Opened::opens_rule))]
+#[tactic(auto, using(crate::proofs::Opened::opens_rule), unfolding(crate::specs::Names::rule_of))]
 fn group_operand(delimiter: Delimiter) -> &'static Form
     ensures { Opens (first.Group delimiter) (grammar_of result.now) unary }
 {
     match delimiter {
         Delimiter::Paren => &PARENTHESES,
         Delimiter::Bracket => &BRACKETS,
-        Delimiter::Brace => form_of(Rule::Unary),
-        Delimiter::None => form_of(Rule::Unary),
+        Delimiter::Brace => form_of(Rule::UNARY),
+        Delimiter::None => form_of(Rule::UNARY),
     }
 }
 
 /// A form that is read as a unary level in a head is.
-#[tactic(auto, using(crate::proofs::Opened::opens_rule))]
+#[tactic(auto, using(crate::proofs::Opened::opens_rule), unfolding(crate::specs::Names::rule_of))]
 #[inline(never)]
 pub(crate) fn head_operand(next: First) -> &'static Form
     ensures { Opens next (grammar_of result.now) unary_head }
@@ -236,25 +236,25 @@ pub(crate) fn head_operand(next: First) -> &'static Form
         First::Keyword => &HEAD_KEYWORD,
         First::Literal => &HEAD_LITERAL,
         First::Group(delimiter) => group_head_operand(delimiter),
-        _ => form_of(Rule::UnaryHead),
+        _ => form_of(Rule::UNARY_HEAD),
     }
 }
 
 /// A form that is read as a unary level in a head is where such a group stands next.
-#[tactic(auto, using(crate::proofs::Opened::opens_rule))]
+#[tactic(auto, using(crate::proofs::Opened::opens_rule), unfolding(crate::specs::Names::rule_of))]
 fn group_head_operand(delimiter: Delimiter) -> &'static Form
     ensures { Opens (first.Group delimiter) (grammar_of result.now) unary_head }
 {
     match delimiter {
         Delimiter::Paren => &PARENTHESES,
         Delimiter::Bracket => &BRACKETS,
-        Delimiter::Brace => form_of(Rule::UnaryHead),
-        Delimiter::None => form_of(Rule::UnaryHead),
+        Delimiter::Brace => form_of(Rule::UNARY_HEAD),
+        Delimiter::None => form_of(Rule::UNARY_HEAD),
     }
 }
 
 /// A form that is read as postfixes are.
-#[tactic(auto, using(crate::proofs::Opened::opens_rule, crate::proofs::Opened::opens_silent))]
+#[tactic(auto, using(crate::proofs::Opened::opens_rule, crate::proofs::Opened::opens_silent), unfolding(crate::specs::Names::rule_of))]
 fn postfix(next: First) -> &'static Form
     ensures { Opens next (grammar_of result.now) postfixes }
 {
@@ -263,169 +263,169 @@ fn postfix(next: First) -> &'static Form
     }
     match next {
         First::Mark(character) => postfix_by_mark(character),
-        _ => form_of(Rule::Postfixes),
+        _ => form_of(Rule::POSTFIXES),
     }
 }
 
 /// A form that is read as postfixes are where this character of a mark stands next.
-#[tactic(auto, using(crate::proofs::Opened::opens_rule, crate::proofs::Beginnings::dot_postfix))]
+#[tactic(auto, using(crate::proofs::Opened::opens_rule, crate::proofs::Beginnings::dot_postfix), unfolding(crate::specs::Names::rule_of, crate::specs::Parts::part_form))]
 fn postfix_by_mark(character: char) -> &'static Form
     ensures { Opens (first.Mark character) (grammar_of result.now) postfixes }
 {
     match character {
-        '.' => form_of_part(Part::Postfixes1),
-        _ => form_of(Rule::Postfixes),
+        '.' => form_of_part(Part::POSTFIXES_1),
+        _ => form_of(Rule::POSTFIXES),
     }
 }
 
 /// A form that is read as a type is.
-#[tactic(auto, using(crate::proofs::Opened::opens_rule, crate::proofs::Beginnings::type_by_keyword))]
+#[tactic(auto, using(crate::proofs::Opened::opens_rule, crate::proofs::Beginnings::type_by_keyword), unfolding(crate::specs::Names::rule_of, crate::specs::Parts::part_form))]
 fn type_by(next: First) -> &'static Form
     ensures { Opens next (grammar_of result.now) type }
 {
     match next {
         First::Name => &WORDS,
-        First::Keyword => form_of(Rule::TypeWords),
+        First::Keyword => form_of(Rule::TYPE_WORDS),
         First::Mark(character) => type_by_mark(character),
         First::Group(delimiter) => type_by_group(delimiter),
-        _ => form_of(Rule::Type),
+        _ => form_of(Rule::TYPE),
     }
 }
 
 /// A form that is read as a type is where this character of a mark stands next.
-#[tactic(auto, using(crate::proofs::Opened::opens_rule, crate::proofs::Beginnings::colon_type, crate::proofs::Beginnings::less_type))]
+#[tactic(auto, using(crate::proofs::Opened::opens_rule, crate::proofs::Beginnings::colon_type, crate::proofs::Beginnings::less_type), unfolding(crate::specs::Names::rule_of))]
 fn type_by_mark(character: char) -> &'static Form
     ensures { Opens (first.Mark character) (grammar_of result.now) type }
 {
     match character {
-        ':' => form_of(Rule::TypePath),
-        '<' => form_of(Rule::PathAsType),
-        _ => form_of(Rule::Type),
+        ':' => form_of(Rule::TYPE_PATH),
+        '<' => form_of(Rule::PATH_AS_TYPE),
+        _ => form_of(Rule::TYPE),
     }
 }
 
 /// A form that is read as a type is where such a group stands next.
-#[tactic(auto, using(crate::proofs::Opened::opens_rule))]
+#[tactic(auto, using(crate::proofs::Opened::opens_rule), unfolding(crate::specs::Names::rule_of))]
 fn type_by_group(delimiter: Delimiter) -> &'static Form
     ensures { Opens (first.Group delimiter) (grammar_of result.now) type }
 {
     match delimiter {
         Delimiter::Paren => &TUPLE,
-        Delimiter::Bracket => form_of(Rule::Type),
-        Delimiter::Brace => form_of(Rule::Type),
-        Delimiter::None => form_of(Rule::Type),
+        Delimiter::Bracket => form_of(Rule::TYPE),
+        Delimiter::Brace => form_of(Rule::TYPE),
+        Delimiter::None => form_of(Rule::TYPE),
     }
 }
 
 /// A form that is read as a path in a type is.
-#[tactic(auto, using(crate::proofs::Opened::opens_rule, crate::proofs::Beginnings::path_by_keyword))]
+#[tactic(auto, using(crate::proofs::Opened::opens_rule, crate::proofs::Beginnings::path_by_keyword), unfolding(crate::specs::Names::rule_of, crate::specs::Parts::part_form))]
 fn path_by(next: First) -> &'static Form
     ensures { Opens next (grammar_of result.now) type_path }
 {
     match next {
         First::Name => &WORDS,
-        First::Keyword => form_of(Rule::TypeWords),
-        _ => form_of(Rule::TypePath),
+        First::Keyword => form_of(Rule::TYPE_WORDS),
+        _ => form_of(Rule::TYPE_PATH),
     }
 }
 
 /// A form that is read as the words of a type's path are.
-#[tactic(auto, using(crate::proofs::Opened::opens_rule))]
+#[tactic(auto, using(crate::proofs::Opened::opens_rule), unfolding(crate::specs::Names::rule_of, crate::specs::Parts::part_form))]
 fn words_by(next: First) -> &'static Form
     ensures { Opens next (grammar_of result.now) type_words }
 {
     match next {
         First::Name => &WORDS,
-        _ => form_of(Rule::TypeWords),
+        _ => form_of(Rule::TYPE_WORDS),
     }
 }
 
 /// A form that is read as the words of a type's path behind the first are.
-#[tactic(auto, using(crate::proofs::Opened::opens_rule))]
+#[tactic(auto, using(crate::proofs::Opened::opens_rule), unfolding(crate::specs::Names::rule_of, crate::specs::Parts::part_form))]
 fn more_words_by(next: First) -> &'static Form
     ensures { Opens next (grammar_of result.now) more_type_words }
 {
     match next {
         First::Name => &WORDS,
-        _ => form_of(Rule::MoreTypeWords),
+        _ => form_of(Rule::MORE_TYPE_WORDS),
     }
 }
 
 /// A form that is read as the arguments of a word in a type's path are.
-#[tactic(auto, using(crate::proofs::Opened::opens_rule))]
+#[tactic(auto, using(crate::proofs::Opened::opens_rule), unfolding(crate::specs::Names::rule_of))]
 fn arguments_by(next: First) -> &'static Form
     ensures { Opens next (grammar_of result.now) type_arguments }
 {
     match next {
         First::Mark(character) => arguments_by_mark(character),
-        _ => form_of(Rule::TypeArguments),
+        _ => form_of(Rule::TYPE_ARGUMENTS),
     }
 }
 
 /// A form that is read as such arguments are where this character of a mark stands next.
-#[tactic(auto, using(crate::proofs::Opened::opens_rule, crate::proofs::Beginnings::less_arguments))]
+#[tactic(auto, using(crate::proofs::Opened::opens_rule, crate::proofs::Beginnings::less_arguments), unfolding(crate::specs::Names::rule_of))]
 fn arguments_by_mark(character: char) -> &'static Form
     ensures { Opens (first.Mark character) (grammar_of result.now) type_arguments }
 {
     match character {
-        '<' => form_of(Rule::GenericArguments),
-        _ => form_of(Rule::TypeArguments),
+        '<' => form_of(Rule::GENERIC_ARGUMENTS),
+        _ => form_of(Rule::TYPE_ARGUMENTS),
     }
 }
 
 /// A form that is read as a generic argument is.
-#[tactic(auto, using(crate::proofs::Opened::opens_rule))]
+#[tactic(auto, using(crate::proofs::Opened::opens_rule), unfolding(crate::specs::Names::rule_of))]
 fn argument_by(next: First) -> &'static Form
     ensures { Opens next (grammar_of result.now) generic_argument }
 {
     match next {
         First::Name => &ARGUMENT,
-        _ => form_of(Rule::GenericArgument),
+        _ => form_of(Rule::GENERIC_ARGUMENT),
     }
 }
 
 /// A form that is read as attributes are.
-#[tactic(auto, using(crate::proofs::Opened::opens_rule, crate::proofs::Opened::opens_silent))]
+#[tactic(auto, using(crate::proofs::Opened::opens_rule, crate::proofs::Opened::opens_silent), unfolding(crate::specs::Names::rule_of))]
 fn attributes_by(next: First) -> &'static Form
     ensures { Opens next (grammar_of result.now) attributes }
 {
     if may_be_attribute(next) {
-        form_of(Rule::Attributes)
+        form_of(Rule::ATTRIBUTES)
     } else {
         &EMPTY
     }
 }
 
 /// A form that is read as the meta of an attribute is.
-#[tactic(auto, using(crate::proofs::Opened::opens_rule))]
+#[tactic(auto, using(crate::proofs::Opened::opens_rule), unfolding(crate::specs::Names::rule_of))]
 fn meta_by(next: First) -> &'static Form
     ensures { Opens next (grammar_of result.now) meta }
 {
     match next {
         First::Name => &META,
-        _ => form_of(Rule::Meta),
+        _ => form_of(Rule::META),
     }
 }
 
 /// A form that is read as a path in module style is.
-#[tactic(auto, using(crate::proofs::Opened::opens_rule, crate::proofs::Beginnings::module_path_by_name, crate::proofs::Beginnings::module_path_by_keyword))]
+#[tactic(auto, using(crate::proofs::Opened::opens_rule, crate::proofs::Beginnings::module_path_by_name, crate::proofs::Beginnings::module_path_by_keyword), unfolding(crate::specs::Names::rule_of))]
 fn module_path_by(next: First) -> &'static Form
     ensures { Opens next (grammar_of result.now) module_path }
 {
     match next {
-        First::Name => form_of(Rule::ModuleWords),
-        First::Keyword => form_of(Rule::ModuleWords),
-        _ => form_of(Rule::ModulePath),
+        First::Name => form_of(Rule::MODULE_WORDS),
+        First::Keyword => form_of(Rule::MODULE_WORDS),
+        _ => form_of(Rule::MODULE_PATH),
     }
 }
 
 /// A form that is read as a visibility is.
-#[tactic(auto, using(crate::proofs::Opened::opens_rule, crate::proofs::Opened::opens_silent))]
+#[tactic(auto, using(crate::proofs::Opened::opens_rule, crate::proofs::Opened::opens_silent), unfolding(crate::specs::Names::rule_of))]
 fn visibility_by(next: First) -> &'static Form
     ensures { Opens next (grammar_of result.now) visibility }
 {
     if may_be_visibility(next) {
-        form_of(Rule::Visibility)
+        form_of(Rule::VISIBILITY)
     } else {
         &EMPTY
     }
@@ -456,46 +456,46 @@ fn may_be_visibility(next: First) -> bool
 }
 
 /// A form that is read as the words of an expression's path are.
-#[tactic(auto, using(crate::proofs::Opened::opens_rule))]
+#[tactic(auto, using(crate::proofs::Opened::opens_rule), unfolding(crate::specs::Names::rule_of, crate::specs::Parts::part_form))]
 fn expression_words_by(next: First) -> &'static Form
     ensures { Opens next (grammar_of result.now) expression_words }
 {
     match next {
         First::Name => &EXPRESSION_WORDS,
-        _ => form_of(Rule::ExpressionWords),
+        _ => form_of(Rule::EXPRESSION_WORDS),
     }
 }
 
 /// A form that is read as a member is.
-#[tactic(auto, using(crate::proofs::Opened::opens_rule, crate::proofs::Beginnings::member_by_name))]
+#[tactic(auto, using(crate::proofs::Opened::opens_rule, crate::proofs::Beginnings::member_by_name), unfolding(crate::specs::Names::rule_of, crate::specs::Parts::part_form))]
 fn member_by(next: First) -> &'static Form
     ensures { Opens next (grammar_of result.now) member }
 {
     match next {
-        First::Name => form_of_part(Part::Member2),
-        _ => form_of(Rule::Member),
+        First::Name => form_of_part(Part::MEMBER_2),
+        _ => form_of(Rule::MEMBER),
     }
 }
 
 /// A form that is read as statements are.
-#[tactic(auto, using(crate::proofs::Opened::opens_rule))]
+#[tactic(auto, using(crate::proofs::Opened::opens_rule), unfolding(crate::specs::Names::rule_of))]
 fn statements_by(next: First) -> &'static Form
     ensures { Opens next (grammar_of result.now) statements }
 {
     match next {
         First::Name => &LISTED,
         First::Keyword => &LISTED,
-        _ => form_of(Rule::Statements),
+        _ => form_of(Rule::STATEMENTS),
     }
 }
 
 /// A form that is read as a statement behind its attributes is, with those that follow.
-#[tactic(auto, using(crate::proofs::Opened::opens_rule))]
+#[tactic(auto, using(crate::proofs::Opened::opens_rule), unfolding(crate::specs::Names::rule_of))]
 fn statement_by(next: First) -> &'static Form
     ensures { Opens next (grammar_of result.now) statement_rest }
 {
     match next {
         First::Name => &STATEMENT,
-        _ => form_of(Rule::StatementRest),
+        _ => form_of(Rule::STATEMENT_REST),
     }
 }

@@ -2,8 +2,11 @@
 //!
 //! The plans of unions as data.
 ghost use Rattle.std.specs.Prelude.{◌≡◌};
-ghost use Rattle.syn_recognize.specs.Stages.{stage_course, planned_course};
+ghost use Rattle.syn_grammar.specs.Run.{parse_form};
 ghost use Rattle.syn_recognize.specs.Courses.{course_of};
+ghost use Rattle.syn_recognize.specs.Forms.{grammar_of};
+ghost use Rattle.syn_recognize.specs.Parts.{planned_1_part, planned_2_part, planned_3_part, planned_4_part, planned_5_part};
+ghost use Rattle.syn_recognize.specs.Stages.{stage_course, planned_course, series_1_course, series_2_course, series_3_course, series_4_course, series_5_course, series_6_course};
 
 use crate::fading::Fading;
 use crate::fault::Fault;
@@ -57,288 +60,858 @@ pub enum Planned {
     ImplDefinitionRest,
 }
 
-/// A stage of a plan.
+/// Where stages stand: some in each series.
 #[derive(Clone, Copy)]
-pub enum Stage {
-    Stage1,
-    Stage2,
-    Stage3,
-    Stage4,
-    Stage5,
-    Stage6,
-    Stage7,
-    Stage8,
-    Stage9,
-    Stage10,
-    Stage11,
-    Stage12,
-    Stage13,
-    Stage14,
-    Stage15,
-    Stage16,
-    Stage17,
-    Stage18,
-    Stage19,
-    Stage20,
-    Stage21,
-    Stage22,
-    Stage23,
-    Stage24,
-    Stage25,
-    Stage26,
-    Stage27,
-    Stage28,
-    Stage29,
-    Stage30,
-    Stage31,
-    Stage32,
-    Stage33,
-    Stage34,
-    Stage35,
-    Stage36,
-    Stage37,
-    Stage38,
-    Stage39,
-    Stage40,
-    Stage41,
-    Stage42,
-    Stage43,
-    Stage44,
-    Stage45,
-    Stage46,
-    Stage47,
-    Stage48,
-    Stage49,
-    Stage50,
-    Stage51,
-    Stage52,
-    Stage53,
-    Stage54,
-    Stage55,
-    Stage56,
-    Stage57,
-    Stage58,
-    Stage59,
-    Stage60,
-    Stage61,
-    Stage62,
-    Stage63,
-    Stage64,
-    Stage65,
-    Stage66,
-    Stage67,
-    Stage68,
-    Stage69,
-    Stage70,
-    Stage71,
-    Stage72,
-    Stage73,
-    Stage74,
-    Stage75,
-    Stage76,
-    Stage77,
-    Stage78,
-    Stage79,
-    Stage80,
-    Stage81,
-    Stage82,
-    Stage83,
-    Stage84,
-    Stage85,
-    Stage86,
-    Stage87,
-    Stage88,
-    Stage89,
-    Stage90,
-    Stage91,
-    Stage92,
-    Stage93,
-    Stage94,
-    Stage95,
-    Stage96,
-    Stage97,
-    Stage98,
-    Stage99,
-    Stage100,
-    Stage101,
-    Stage102,
-    Stage103,
-    Stage104,
-    Stage105,
-    Stage106,
-    Stage107,
-    Stage108,
-    Stage109,
-    Stage110,
-    Stage111,
-    Stage112,
-    Stage113,
-    Stage114,
-    Stage115,
-    Stage116,
-    Stage117,
-    Stage118,
-    Stage119,
-    Stage120,
-    Stage121,
-    Stage122,
-    Stage123,
-    Stage124,
-    Stage125,
-    Stage126,
-    Stage127,
-    Stage128,
-    Stage129,
-    Stage130,
-    Stage131,
-    Stage132,
-    Stage133,
-    Stage134,
-    Stage135,
-    Stage136,
-    Stage137,
-    Stage138,
+enum Series {
+    Series1,
+    Series2,
+    Series3,
+    Series4,
+    Series5,
+    Series6,
 }
 
-pub(crate) static PLANNED_1: Form = Form::Then(
-    &Form::Rule(Rule::Generics),
+/// A stage of a plan.
+#[derive(Clone, Copy)]
+pub struct Stage {
+    series: Series,
+    place: u8,
+}
+
+impl Stage {
+    const STAGE_1: Stage = Stage {
+        series: Series::Series1,
+        place: 0,
+    };
+
+    const STAGE_2: Stage = Stage {
+        series: Series::Series1,
+        place: 1,
+    };
+
+    const STAGE_3: Stage = Stage {
+        series: Series::Series1,
+        place: 2,
+    };
+
+    const STAGE_4: Stage = Stage {
+        series: Series::Series1,
+        place: 3,
+    };
+
+    const STAGE_5: Stage = Stage {
+        series: Series::Series1,
+        place: 4,
+    };
+
+    const STAGE_6: Stage = Stage {
+        series: Series::Series1,
+        place: 5,
+    };
+
+    const STAGE_7: Stage = Stage {
+        series: Series::Series1,
+        place: 6,
+    };
+
+    const STAGE_8: Stage = Stage {
+        series: Series::Series1,
+        place: 7,
+    };
+
+    const STAGE_9: Stage = Stage {
+        series: Series::Series1,
+        place: 8,
+    };
+
+    const STAGE_10: Stage = Stage {
+        series: Series::Series1,
+        place: 9,
+    };
+
+    const STAGE_11: Stage = Stage {
+        series: Series::Series1,
+        place: 10,
+    };
+
+    const STAGE_12: Stage = Stage {
+        series: Series::Series1,
+        place: 11,
+    };
+
+    const STAGE_13: Stage = Stage {
+        series: Series::Series1,
+        place: 12,
+    };
+
+    const STAGE_14: Stage = Stage {
+        series: Series::Series1,
+        place: 13,
+    };
+
+    const STAGE_15: Stage = Stage {
+        series: Series::Series1,
+        place: 14,
+    };
+
+    const STAGE_16: Stage = Stage {
+        series: Series::Series1,
+        place: 15,
+    };
+
+    const STAGE_17: Stage = Stage {
+        series: Series::Series1,
+        place: 16,
+    };
+
+    const STAGE_18: Stage = Stage {
+        series: Series::Series1,
+        place: 17,
+    };
+
+    const STAGE_19: Stage = Stage {
+        series: Series::Series1,
+        place: 18,
+    };
+
+    const STAGE_20: Stage = Stage {
+        series: Series::Series1,
+        place: 19,
+    };
+
+    const STAGE_21: Stage = Stage {
+        series: Series::Series1,
+        place: 20,
+    };
+
+    const STAGE_22: Stage = Stage {
+        series: Series::Series1,
+        place: 21,
+    };
+
+    const STAGE_23: Stage = Stage {
+        series: Series::Series1,
+        place: 22,
+    };
+
+    const STAGE_24: Stage = Stage {
+        series: Series::Series2,
+        place: 0,
+    };
+
+    const STAGE_25: Stage = Stage {
+        series: Series::Series2,
+        place: 1,
+    };
+
+    const STAGE_26: Stage = Stage {
+        series: Series::Series2,
+        place: 2,
+    };
+
+    const STAGE_27: Stage = Stage {
+        series: Series::Series2,
+        place: 3,
+    };
+
+    const STAGE_28: Stage = Stage {
+        series: Series::Series2,
+        place: 4,
+    };
+
+    const STAGE_29: Stage = Stage {
+        series: Series::Series2,
+        place: 5,
+    };
+
+    const STAGE_30: Stage = Stage {
+        series: Series::Series2,
+        place: 6,
+    };
+
+    const STAGE_31: Stage = Stage {
+        series: Series::Series2,
+        place: 7,
+    };
+
+    const STAGE_32: Stage = Stage {
+        series: Series::Series2,
+        place: 8,
+    };
+
+    const STAGE_33: Stage = Stage {
+        series: Series::Series2,
+        place: 9,
+    };
+
+    const STAGE_34: Stage = Stage {
+        series: Series::Series2,
+        place: 10,
+    };
+
+    const STAGE_35: Stage = Stage {
+        series: Series::Series2,
+        place: 11,
+    };
+
+    const STAGE_36: Stage = Stage {
+        series: Series::Series2,
+        place: 12,
+    };
+
+    const STAGE_37: Stage = Stage {
+        series: Series::Series2,
+        place: 13,
+    };
+
+    const STAGE_38: Stage = Stage {
+        series: Series::Series2,
+        place: 14,
+    };
+
+    const STAGE_39: Stage = Stage {
+        series: Series::Series2,
+        place: 15,
+    };
+
+    const STAGE_40: Stage = Stage {
+        series: Series::Series2,
+        place: 16,
+    };
+
+    const STAGE_41: Stage = Stage {
+        series: Series::Series2,
+        place: 17,
+    };
+
+    const STAGE_42: Stage = Stage {
+        series: Series::Series2,
+        place: 18,
+    };
+
+    const STAGE_43: Stage = Stage {
+        series: Series::Series2,
+        place: 19,
+    };
+
+    const STAGE_44: Stage = Stage {
+        series: Series::Series2,
+        place: 20,
+    };
+
+    const STAGE_45: Stage = Stage {
+        series: Series::Series2,
+        place: 21,
+    };
+
+    const STAGE_46: Stage = Stage {
+        series: Series::Series2,
+        place: 22,
+    };
+
+    const STAGE_47: Stage = Stage {
+        series: Series::Series3,
+        place: 0,
+    };
+
+    const STAGE_48: Stage = Stage {
+        series: Series::Series3,
+        place: 1,
+    };
+
+    const STAGE_49: Stage = Stage {
+        series: Series::Series3,
+        place: 2,
+    };
+
+    const STAGE_50: Stage = Stage {
+        series: Series::Series3,
+        place: 3,
+    };
+
+    const STAGE_51: Stage = Stage {
+        series: Series::Series3,
+        place: 4,
+    };
+
+    const STAGE_52: Stage = Stage {
+        series: Series::Series3,
+        place: 5,
+    };
+
+    const STAGE_53: Stage = Stage {
+        series: Series::Series3,
+        place: 6,
+    };
+
+    const STAGE_54: Stage = Stage {
+        series: Series::Series3,
+        place: 7,
+    };
+
+    const STAGE_55: Stage = Stage {
+        series: Series::Series3,
+        place: 8,
+    };
+
+    const STAGE_56: Stage = Stage {
+        series: Series::Series3,
+        place: 9,
+    };
+
+    const STAGE_57: Stage = Stage {
+        series: Series::Series3,
+        place: 10,
+    };
+
+    const STAGE_58: Stage = Stage {
+        series: Series::Series3,
+        place: 11,
+    };
+
+    const STAGE_59: Stage = Stage {
+        series: Series::Series3,
+        place: 12,
+    };
+
+    const STAGE_60: Stage = Stage {
+        series: Series::Series3,
+        place: 13,
+    };
+
+    const STAGE_61: Stage = Stage {
+        series: Series::Series3,
+        place: 14,
+    };
+
+    const STAGE_62: Stage = Stage {
+        series: Series::Series3,
+        place: 15,
+    };
+
+    const STAGE_63: Stage = Stage {
+        series: Series::Series3,
+        place: 16,
+    };
+
+    const STAGE_64: Stage = Stage {
+        series: Series::Series3,
+        place: 17,
+    };
+
+    const STAGE_65: Stage = Stage {
+        series: Series::Series3,
+        place: 18,
+    };
+
+    const STAGE_66: Stage = Stage {
+        series: Series::Series3,
+        place: 19,
+    };
+
+    const STAGE_67: Stage = Stage {
+        series: Series::Series3,
+        place: 20,
+    };
+
+    const STAGE_68: Stage = Stage {
+        series: Series::Series3,
+        place: 21,
+    };
+
+    const STAGE_69: Stage = Stage {
+        series: Series::Series3,
+        place: 22,
+    };
+
+    const STAGE_70: Stage = Stage {
+        series: Series::Series4,
+        place: 0,
+    };
+
+    const STAGE_71: Stage = Stage {
+        series: Series::Series4,
+        place: 1,
+    };
+
+    const STAGE_72: Stage = Stage {
+        series: Series::Series4,
+        place: 2,
+    };
+
+    const STAGE_73: Stage = Stage {
+        series: Series::Series4,
+        place: 3,
+    };
+
+    const STAGE_74: Stage = Stage {
+        series: Series::Series4,
+        place: 4,
+    };
+
+    const STAGE_75: Stage = Stage {
+        series: Series::Series4,
+        place: 5,
+    };
+
+    const STAGE_76: Stage = Stage {
+        series: Series::Series4,
+        place: 6,
+    };
+
+    const STAGE_77: Stage = Stage {
+        series: Series::Series4,
+        place: 7,
+    };
+
+    const STAGE_78: Stage = Stage {
+        series: Series::Series4,
+        place: 8,
+    };
+
+    const STAGE_79: Stage = Stage {
+        series: Series::Series4,
+        place: 9,
+    };
+
+    const STAGE_80: Stage = Stage {
+        series: Series::Series4,
+        place: 10,
+    };
+
+    const STAGE_81: Stage = Stage {
+        series: Series::Series4,
+        place: 11,
+    };
+
+    const STAGE_82: Stage = Stage {
+        series: Series::Series4,
+        place: 12,
+    };
+
+    const STAGE_83: Stage = Stage {
+        series: Series::Series4,
+        place: 13,
+    };
+
+    const STAGE_84: Stage = Stage {
+        series: Series::Series4,
+        place: 14,
+    };
+
+    const STAGE_85: Stage = Stage {
+        series: Series::Series4,
+        place: 15,
+    };
+
+    const STAGE_86: Stage = Stage {
+        series: Series::Series4,
+        place: 16,
+    };
+
+    const STAGE_87: Stage = Stage {
+        series: Series::Series4,
+        place: 17,
+    };
+
+    const STAGE_88: Stage = Stage {
+        series: Series::Series4,
+        place: 18,
+    };
+
+    const STAGE_89: Stage = Stage {
+        series: Series::Series4,
+        place: 19,
+    };
+
+    const STAGE_90: Stage = Stage {
+        series: Series::Series4,
+        place: 20,
+    };
+
+    const STAGE_91: Stage = Stage {
+        series: Series::Series4,
+        place: 21,
+    };
+
+    const STAGE_92: Stage = Stage {
+        series: Series::Series4,
+        place: 22,
+    };
+
+    const STAGE_93: Stage = Stage {
+        series: Series::Series5,
+        place: 0,
+    };
+
+    const STAGE_94: Stage = Stage {
+        series: Series::Series5,
+        place: 1,
+    };
+
+    const STAGE_95: Stage = Stage {
+        series: Series::Series5,
+        place: 2,
+    };
+
+    const STAGE_96: Stage = Stage {
+        series: Series::Series5,
+        place: 3,
+    };
+
+    const STAGE_97: Stage = Stage {
+        series: Series::Series5,
+        place: 4,
+    };
+
+    const STAGE_98: Stage = Stage {
+        series: Series::Series5,
+        place: 5,
+    };
+
+    const STAGE_99: Stage = Stage {
+        series: Series::Series5,
+        place: 6,
+    };
+
+    const STAGE_100: Stage = Stage {
+        series: Series::Series5,
+        place: 7,
+    };
+
+    const STAGE_101: Stage = Stage {
+        series: Series::Series5,
+        place: 8,
+    };
+
+    const STAGE_102: Stage = Stage {
+        series: Series::Series5,
+        place: 9,
+    };
+
+    const STAGE_103: Stage = Stage {
+        series: Series::Series5,
+        place: 10,
+    };
+
+    const STAGE_104: Stage = Stage {
+        series: Series::Series5,
+        place: 11,
+    };
+
+    const STAGE_105: Stage = Stage {
+        series: Series::Series5,
+        place: 12,
+    };
+
+    const STAGE_106: Stage = Stage {
+        series: Series::Series5,
+        place: 13,
+    };
+
+    const STAGE_107: Stage = Stage {
+        series: Series::Series5,
+        place: 14,
+    };
+
+    const STAGE_108: Stage = Stage {
+        series: Series::Series5,
+        place: 15,
+    };
+
+    const STAGE_109: Stage = Stage {
+        series: Series::Series5,
+        place: 16,
+    };
+
+    const STAGE_110: Stage = Stage {
+        series: Series::Series5,
+        place: 17,
+    };
+
+    const STAGE_111: Stage = Stage {
+        series: Series::Series5,
+        place: 18,
+    };
+
+    const STAGE_112: Stage = Stage {
+        series: Series::Series5,
+        place: 19,
+    };
+
+    const STAGE_113: Stage = Stage {
+        series: Series::Series5,
+        place: 20,
+    };
+
+    const STAGE_114: Stage = Stage {
+        series: Series::Series5,
+        place: 21,
+    };
+
+    const STAGE_115: Stage = Stage {
+        series: Series::Series5,
+        place: 22,
+    };
+
+    const STAGE_116: Stage = Stage {
+        series: Series::Series6,
+        place: 0,
+    };
+
+    const STAGE_117: Stage = Stage {
+        series: Series::Series6,
+        place: 1,
+    };
+
+    const STAGE_118: Stage = Stage {
+        series: Series::Series6,
+        place: 2,
+    };
+
+    const STAGE_119: Stage = Stage {
+        series: Series::Series6,
+        place: 3,
+    };
+
+    const STAGE_120: Stage = Stage {
+        series: Series::Series6,
+        place: 4,
+    };
+
+    const STAGE_121: Stage = Stage {
+        series: Series::Series6,
+        place: 5,
+    };
+
+    const STAGE_122: Stage = Stage {
+        series: Series::Series6,
+        place: 6,
+    };
+
+    const STAGE_123: Stage = Stage {
+        series: Series::Series6,
+        place: 7,
+    };
+
+    const STAGE_124: Stage = Stage {
+        series: Series::Series6,
+        place: 8,
+    };
+
+    const STAGE_125: Stage = Stage {
+        series: Series::Series6,
+        place: 9,
+    };
+
+    const STAGE_126: Stage = Stage {
+        series: Series::Series6,
+        place: 10,
+    };
+
+    const STAGE_127: Stage = Stage {
+        series: Series::Series6,
+        place: 11,
+    };
+
+    const STAGE_128: Stage = Stage {
+        series: Series::Series6,
+        place: 12,
+    };
+
+    const STAGE_129: Stage = Stage {
+        series: Series::Series6,
+        place: 13,
+    };
+
+    const STAGE_130: Stage = Stage {
+        series: Series::Series6,
+        place: 14,
+    };
+
+    const STAGE_131: Stage = Stage {
+        series: Series::Series6,
+        place: 15,
+    };
+
+    const STAGE_132: Stage = Stage {
+        series: Series::Series6,
+        place: 16,
+    };
+
+    const STAGE_133: Stage = Stage {
+        series: Series::Series6,
+        place: 17,
+    };
+
+    const STAGE_134: Stage = Stage {
+        series: Series::Series6,
+        place: 18,
+    };
+
+    const STAGE_135: Stage = Stage {
+        series: Series::Series6,
+        place: 19,
+    };
+
+    const STAGE_136: Stage = Stage {
+        series: Series::Series6,
+        place: 20,
+    };
+
+    const STAGE_137: Stage = Stage {
+        series: Series::Series6,
+        place: 21,
+    };
+
+    const STAGE_138: Stage = Stage {
+        series: Series::Series6,
+        place: 22,
+    };
+}
+
+static PLANNED_1: Form = Form::Then(
+    &Form::Rule(Rule::GENERICS),
     &Form::Then(
-        &Form::Rule(Rule::WhereClause),
+        &Form::Rule(Rule::WHERE_CLAUSE),
         &Form::Then(
-            &Form::Inside(Delimiter::Brace, &Form::Rule(Rule::Variants)),
+            &Form::Inside(Delimiter::Brace, &Form::Rule(Rule::VARIANTS)),
             &Form::Empty,
         ),
     ),
 );
 
-pub(crate) static PLANNED_2: Form = Form::Then(
+static PLANNED_2: Form = Form::Then(
     &Form::Token(Token::Name),
     &Form::Then(
-        &Form::Rule(Rule::Generics),
+        &Form::Rule(Rule::GENERICS),
         &Form::Then(
-            &Form::Rule(Rule::WhereClause),
-            &Form::Then(&Form::Rule(Rule::FieldsNamed), &Form::Empty),
+            &Form::Rule(Rule::WHERE_CLAUSE),
+            &Form::Then(&Form::Rule(Rule::FIELDS_NAMED), &Form::Empty),
         ),
     ),
 );
 
-pub(crate) static PLANNED_3: Form = Form::Then(
+static PLANNED_3: Form = Form::Then(
     &Form::Mark(Mark::Eq),
     &Form::Then(
-        &Form::Rule(Rule::Type),
+        &Form::Rule(Rule::TYPE),
         &Form::When(
             Look::Word(Word::Where),
             &Form::Then(
                 &Form::Token(Token::Word(Word::Where)),
-                &Form::Rule(Rule::Predicates),
+                &Form::Rule(Rule::PREDICATES),
             ),
             &Form::Empty,
         ),
     ),
 );
 
-pub(crate) static PLANNED_4: Form = Form::Then(
+static PLANNED_4: Form = Form::Then(
     &Form::Then(
         &Form::Token(Token::Word(Word::Where)),
-        &Form::Rule(Rule::Predicates),
+        &Form::Rule(Rule::PREDICATES),
     ),
     &Form::When(
         Look::Mark(Mark::Eq),
-        &Form::Then(&Form::Mark(Mark::Eq), &Form::Rule(Rule::Type)),
+        &Form::Then(&Form::Mark(Mark::Eq), &Form::Rule(Rule::TYPE)),
         &Form::Empty,
     ),
 );
 
-pub(crate) static PLANNED_5: Form = Form::Then(
+static PLANNED_5: Form = Form::Then(
     &Form::When(
         Look::Word(Word::Where),
-        &Form::Part(Part::Planned4),
+        &Form::Part(Part::PLANNED_4),
         &Form::When(
             Look::Mark(Mark::Eq),
-            &Form::Part(Part::Planned3),
+            &Form::Part(Part::PLANNED_3),
             &Form::Empty,
         ),
     ),
     &Form::Then(&Form::Mark(Mark::Semi), &Form::Empty),
 );
 
-pub(crate) static PLANNED_6: Form = Form::Then(
+static PLANNED_6: Form = Form::Then(
     &Form::Inside(
         Delimiter::Brace,
-        &Form::Then(&Form::Rule(Rule::InnerAttributes), &Form::Rule(Rule::Items)),
+        &Form::Then(
+            &Form::Rule(Rule::INNER_ATTRIBUTES),
+            &Form::Rule(Rule::ITEMS),
+        ),
     ),
     &Form::Empty,
 );
 
-pub(crate) static PLANNED_7: Form = Form::Then(
-    &Form::Rule(Rule::WhereClause),
+static PLANNED_7: Form = Form::Then(
+    &Form::Rule(Rule::WHERE_CLAUSE),
     &Form::Then(
         &Form::Inside(
             Delimiter::Brace,
             &Form::Then(
-                &Form::Rule(Rule::InnerAttributes),
-                &Form::Rule(Rule::TraitItems),
+                &Form::Rule(Rule::INNER_ATTRIBUTES),
+                &Form::Rule(Rule::TRAIT_ITEMS),
             ),
         ),
         &Form::Empty,
     ),
 );
 
-pub(crate) static PLANNED_8: Form = Form::Then(
+static PLANNED_8: Form = Form::Then(
     &Form::Mark(Mark::Eq),
     &Form::Then(
-        &Form::Rule(Rule::AliasBounds),
+        &Form::Rule(Rule::ALIAS_BOUNDS),
         &Form::Then(
-            &Form::Rule(Rule::WhereClause),
+            &Form::Rule(Rule::WHERE_CLAUSE),
             &Form::Then(&Form::Mark(Mark::Semi), &Form::Empty),
         ),
     ),
 );
 
-pub(crate) static PLANNED_9: Form = Form::Then(
+static PLANNED_9: Form = Form::Then(
     &Form::Token(Token::Name),
     &Form::Then(
-        &Form::Rule(Rule::Generics),
+        &Form::Rule(Rule::GENERICS),
         &Form::When(
             Look::Mark(Mark::Eq),
-            &Form::Part(Part::Planned8),
+            &Form::Part(Part::PLANNED_8),
             &Form::Then(
                 &Form::Fading(Fading::Supertraits),
-                &Form::Part(Part::Planned7),
+                &Form::Part(Part::PLANNED_7),
             ),
         ),
     ),
 );
 
-pub(crate) static PLANNED_10: Form = Form::Then(
-    &Form::Rule(Rule::WhereClause),
+static PLANNED_10: Form = Form::Then(
+    &Form::Rule(Rule::WHERE_CLAUSE),
     &Form::Then(
         &Form::Inside(
             Delimiter::Brace,
             &Form::Then(
-                &Form::Rule(Rule::InnerAttributes),
-                &Form::Rule(Rule::TraitItems),
+                &Form::Rule(Rule::INNER_ATTRIBUTES),
+                &Form::Rule(Rule::TRAIT_ITEMS),
             ),
         ),
         &Form::Empty,
     ),
 );
 
-pub(crate) static PLANNED_11: Form = Form::Then(
+static PLANNED_11: Form = Form::Then(
     &Form::Token(Token::Word(Word::Trait)),
     &Form::Then(
         &Form::Token(Token::Name),
         &Form::Then(
-            &Form::Rule(Rule::Generics),
+            &Form::Rule(Rule::GENERICS),
             &Form::Then(
                 &Form::Fading(Fading::Supertraits),
-                &Form::Part(Part::Planned10),
+                &Form::Part(Part::PLANNED_10),
             ),
         ),
     ),
 );
 
-pub(crate) static PLANNED_12: Form = Form::Then(
+static PLANNED_12: Form = Form::Then(
     &Form::Token(Token::Name),
     &Form::Then(
         &Form::When(
@@ -350,7 +923,7 @@ pub(crate) static PLANNED_12: Form = Form::Then(
     ),
 );
 
-pub(crate) static PLANNED_13: Form = Form::Then(
+static PLANNED_13: Form = Form::Then(
     &Form::When(
         Look::Word(Word::As),
         &Form::Then(
@@ -362,192 +935,192 @@ pub(crate) static PLANNED_13: Form = Form::Then(
     &Form::Then(&Form::Mark(Mark::Semi), &Form::Empty),
 );
 
-pub(crate) static PLANNED_14: Form = Form::Then(
-    &Form::Rule(Rule::Type),
+static PLANNED_14: Form = Form::Then(
+    &Form::Rule(Rule::TYPE),
     &Form::Then(
-        &Form::Rule(Rule::ForSelfType),
-        &Form::Then(&Form::Rule(Rule::ImplBody), &Form::Empty),
+        &Form::Rule(Rule::FOR_SELF_TYPE),
+        &Form::Then(&Form::Rule(Rule::IMPL_BODY), &Form::Empty),
     ),
 );
 
-pub(crate) static PLANNED_15: Form = Form::Then(
-    &Form::Rule(Rule::Type),
+static PLANNED_15: Form = Form::Then(
+    &Form::Rule(Rule::TYPE),
     &Form::Then(
         &Form::When(
             Look::Word(Word::For),
-            &Form::Rule(Rule::ForSelfType),
+            &Form::Rule(Rule::FOR_SELF_TYPE),
             &Form::Empty,
         ),
-        &Form::Then(&Form::Rule(Rule::ImplBody), &Form::Empty),
+        &Form::Then(&Form::Rule(Rule::IMPL_BODY), &Form::Empty),
     ),
 );
 
-pub(crate) static PLANNED_16: Form = Form::When(
+static PLANNED_16: Form = Form::When(
     Look::Mark(Mark::Not),
     &Form::Then(
         &Form::Mark(Mark::Not),
         &Form::When(
             Look::Group(Delimiter::Brace),
-            &Form::Then(&Form::Rule(Rule::ImplBody), &Form::Empty),
-            &Form::Part(Part::Planned14),
+            &Form::Then(&Form::Rule(Rule::IMPL_BODY), &Form::Empty),
+            &Form::Part(Part::PLANNED_14),
         ),
     ),
-    &Form::Part(Part::Planned15),
+    &Form::Part(Part::PLANNED_15),
 );
 
-pub(crate) static PLANNED_17: Form = Form::Then(
-    &Form::Rule(Rule::WhereClause),
+static PLANNED_17: Form = Form::Then(
+    &Form::Rule(Rule::WHERE_CLAUSE),
     &Form::Then(
         &Form::Inside(
             Delimiter::Brace,
             &Form::Then(
-                &Form::Rule(Rule::InnerAttributes),
-                &Form::Rule(Rule::TraitItems),
+                &Form::Rule(Rule::INNER_ATTRIBUTES),
+                &Form::Rule(Rule::TRAIT_ITEMS),
             ),
         ),
         &Form::Empty,
     ),
 );
 
-pub(crate) static PLANNED_18: Form = Form::Then(
+static PLANNED_18: Form = Form::Then(
     &Form::When(
         Look::Word(Word::Where),
         &Form::Then(
             &Form::Token(Token::Word(Word::Where)),
-            &Form::Rule(Rule::Predicates),
+            &Form::Rule(Rule::PREDICATES),
         ),
         &Form::Empty,
     ),
     &Form::Then(&Form::Mark(Mark::Semi), &Form::Empty),
 );
 
-pub(crate) static PLANNED_19: Form = Form::Then(
-    &Form::Rule(Rule::Type),
+static PLANNED_19: Form = Form::Then(
+    &Form::Rule(Rule::TYPE),
     &Form::Then(
         &Form::When(
             Look::Mark(Mark::Eq),
-            &Form::Then(&Form::Mark(Mark::Eq), &Form::Rule(Rule::WholeExpression)),
+            &Form::Then(&Form::Mark(Mark::Eq), &Form::Rule(Rule::WHOLE_EXPRESSION)),
             &Form::Empty,
         ),
-        &Form::Part(Part::Planned18),
+        &Form::Part(Part::PLANNED_18),
     ),
 );
 
-pub(crate) static PLANNED_20: Form = Form::Then(
+static PLANNED_20: Form = Form::Then(
     &Form::When(
         Look::Word(Word::Const),
         &Form::Token(Token::Word(Word::Const)),
         &Form::Empty,
     ),
-    &Form::Then(&Form::Rule(Rule::BareTrait), &Form::Empty),
+    &Form::Then(&Form::Rule(Rule::BARE_TRAIT), &Form::Empty),
 );
 
-pub(crate) static PLANNED_21: Form = Form::Then(
-    &Form::Rule(Rule::Type),
+static PLANNED_21: Form = Form::Then(
+    &Form::Rule(Rule::TYPE),
     &Form::Then(
         &Form::When(
             Look::Word(Word::Const),
             &Form::Token(Token::Word(Word::Const)),
             &Form::Empty,
         ),
-        &Form::Then(&Form::Rule(Rule::BareTrait), &Form::Empty),
+        &Form::Then(&Form::Rule(Rule::BARE_TRAIT), &Form::Empty),
     ),
 );
 
-pub(crate) static PLANNED_22: Form = Form::When(
+static PLANNED_22: Form = Form::When(
     Look::InRestriction,
     &Form::Then(
-        &Form::Inside(Delimiter::Paren, &Form::Rule(Rule::Restriction)),
-        &Form::Part(Part::Planned20),
+        &Form::Inside(Delimiter::Paren, &Form::Rule(Rule::RESTRICTION)),
+        &Form::Part(Part::PLANNED_20),
     ),
     &Form::When(
         Look::LoneWord,
-        &Form::Part(Part::Planned21),
+        &Form::Part(Part::PLANNED_21),
         &Form::Never(Fault::Unexpected),
     ),
 );
 
-pub(crate) static PLANNED_23: Form = Form::Then(
+static PLANNED_23: Form = Form::Then(
     &Form::When(
         Look::Word(Word::Const),
         &Form::Token(Token::Word(Word::Const)),
         &Form::Empty,
     ),
-    &Form::Then(&Form::Rule(Rule::BareTrait), &Form::Empty),
+    &Form::Then(&Form::Rule(Rule::BARE_TRAIT), &Form::Empty),
 );
 
-pub(crate) static PLANNED_24: Form = Form::Then(
+static PLANNED_24: Form = Form::Then(
     &Form::When(
         Look::Or(&Look::Name, &Look::Word(Word::Try)),
         &Form::Token(Token::NameOrTry),
         &Form::Empty,
     ),
-    &Form::Then(&Form::Rule(Rule::MacroEnd), &Form::Empty),
+    &Form::Then(&Form::Rule(Rule::MACRO_END), &Form::Empty),
 );
 
-pub(crate) static PLANNED_25: Form = Form::When(
+static PLANNED_25: Form = Form::When(
     Look::Mark(Mark::Eq),
-    &Form::Then(&Form::Mark(Mark::Eq), &Form::Rule(Rule::Type)),
+    &Form::Then(&Form::Mark(Mark::Eq), &Form::Rule(Rule::TYPE)),
     &Form::Empty,
 );
 
-pub(crate) static PLANNED_26: Form = Form::Then(
+static PLANNED_26: Form = Form::Then(
     &Form::Fading(Fading::TypeBounds),
     &Form::Then(
-        &Form::Part(Part::Planned25),
+        &Form::Part(Part::PLANNED_25),
         &Form::Then(
-            &Form::Rule(Rule::WhereClause),
+            &Form::Rule(Rule::WHERE_CLAUSE),
             &Form::Then(&Form::Mark(Mark::Semi), &Form::Empty),
         ),
     ),
 );
 
-pub(crate) static PLANNED_27: Form = Form::Then(
-    &Form::Rule(Rule::SignatureRest),
+static PLANNED_27: Form = Form::Then(
+    &Form::Rule(Rule::SIGNATURE_REST),
     &Form::When(
         Look::Mark(Mark::Semi),
         &Form::Then(&Form::Mark(Mark::Semi), &Form::Empty),
-        &Form::Then(&Form::Rule(Rule::Body), &Form::Empty),
+        &Form::Then(&Form::Rule(Rule::BODY), &Form::Empty),
     ),
 );
 
-pub(crate) static PLANNED_28: Form = Form::Then(
-    &Form::Rule(Rule::UnsafeOnly),
+static PLANNED_28: Form = Form::Then(
+    &Form::Rule(Rule::UNSAFE_ONLY),
     &Form::Then(
         &Form::When(
             Look::Word(Word::Extern),
-            &Form::Rule(Rule::Abi),
+            &Form::Rule(Rule::ABI),
             &Form::Empty,
         ),
-        &Form::Part(Part::Planned27),
+        &Form::Part(Part::PLANNED_27),
     ),
 );
 
-pub(crate) static PLANNED_29: Form = Form::Then(
+static PLANNED_29: Form = Form::Then(
     &Form::When(
         Look::Word(Word::Where),
         &Form::Then(
             &Form::Token(Token::Word(Word::Where)),
-            &Form::Rule(Rule::Predicates),
+            &Form::Rule(Rule::PREDICATES),
         ),
         &Form::Empty,
     ),
     &Form::Then(&Form::Mark(Mark::Semi), &Form::Empty),
 );
 
-pub(crate) static PLANNED_30: Form = Form::Then(
-    &Form::Rule(Rule::Type),
+static PLANNED_30: Form = Form::Then(
+    &Form::Rule(Rule::TYPE),
     &Form::Then(
         &Form::When(
             Look::Mark(Mark::Eq),
-            &Form::Then(&Form::Mark(Mark::Eq), &Form::Rule(Rule::WholeExpression)),
+            &Form::Then(&Form::Mark(Mark::Eq), &Form::Rule(Rule::WHOLE_EXPRESSION)),
             &Form::Empty,
         ),
-        &Form::Part(Part::Planned29),
+        &Form::Part(Part::PLANNED_29),
     ),
 );
 
-pub(crate) static PLANNED_31: Form = Form::Then(
+static PLANNED_31: Form = Form::Then(
     &Form::Token(Token::NameOrUnderscore),
     &Form::Then(
         &Form::When(
@@ -555,11 +1128,11 @@ pub(crate) static PLANNED_31: Form = Form::Then(
             &Form::Ordered(List::Parameters),
             &Form::Empty,
         ),
-        &Form::Then(&Form::Mark(Mark::Colon), &Form::Part(Part::Planned30)),
+        &Form::Then(&Form::Mark(Mark::Colon), &Form::Part(Part::PLANNED_30)),
     ),
 );
 
-pub(crate) static PLANNED_32: Form = Form::When(
+static PLANNED_32: Form = Form::When(
     Look::Or(
         &Look::Word(Word::Async),
         &Look::Or(
@@ -573,104 +1146,104 @@ pub(crate) static PLANNED_32: Form = Form::When(
             &Form::Token(Token::Word(Word::Async)),
             &Form::Empty,
         ),
-        &Form::Part(Part::Planned28),
+        &Form::Part(Part::PLANNED_28),
     ),
-    &Form::Part(Part::Planned31),
+    &Form::Part(Part::PLANNED_31),
 );
 
-pub(crate) static PLANNED_33: Form = Form::Then(
-    &Form::Rule(Rule::Signature),
+static PLANNED_33: Form = Form::Then(
+    &Form::Rule(Rule::SIGNATURE),
     &Form::When(
         Look::Mark(Mark::Semi),
         &Form::Then(&Form::Mark(Mark::Semi), &Form::Empty),
-        &Form::Then(&Form::Rule(Rule::Body), &Form::Empty),
+        &Form::Then(&Form::Rule(Rule::BODY), &Form::Empty),
     ),
 );
 
-pub(crate) static PLANNED_34: Form = Form::Then(
+static PLANNED_34: Form = Form::Then(
     &Form::Token(Token::Word(Word::Type)),
     &Form::Then(
         &Form::Token(Token::Name),
-        &Form::Then(&Form::Rule(Rule::Generics), &Form::Part(Part::Planned26)),
+        &Form::Then(&Form::Rule(Rule::GENERICS), &Form::Part(Part::PLANNED_26)),
     ),
 );
 
-pub(crate) static PLANNED_35: Form = Form::When(
+static PLANNED_35: Form = Form::When(
     Look::Word(Word::Type),
-    &Form::Part(Part::Planned34),
+    &Form::Part(Part::PLANNED_34),
     &Form::When(
         Look::Word(Word::Const),
         &Form::Then(
             &Form::Token(Token::Word(Word::Const)),
-            &Form::Part(Part::Planned32),
+            &Form::Part(Part::PLANNED_32),
         ),
-        &Form::Part(Part::Planned33),
+        &Form::Part(Part::PLANNED_33),
     ),
 );
 
-pub(crate) static PLANNED_36: Form = Form::When(
+static PLANNED_36: Form = Form::When(
     Look::Mark(Mark::Eq),
-    &Form::Then(&Form::Mark(Mark::Eq), &Form::Rule(Rule::Type)),
+    &Form::Then(&Form::Mark(Mark::Eq), &Form::Rule(Rule::TYPE)),
     &Form::Empty,
 );
 
-pub(crate) static PLANNED_37: Form = Form::Then(
+static PLANNED_37: Form = Form::Then(
     &Form::Fading(Fading::TypeBounds),
     &Form::Then(
-        &Form::Part(Part::Planned36),
+        &Form::Part(Part::PLANNED_36),
         &Form::Then(
-            &Form::Rule(Rule::WhereClause),
+            &Form::Rule(Rule::WHERE_CLAUSE),
             &Form::Then(&Form::Mark(Mark::Semi), &Form::Empty),
         ),
     ),
 );
 
-pub(crate) static PLANNED_38: Form = Form::Then(
-    &Form::Rule(Rule::SignatureRest),
+static PLANNED_38: Form = Form::Then(
+    &Form::Rule(Rule::SIGNATURE_REST),
     &Form::When(
         Look::Mark(Mark::Semi),
         &Form::Then(&Form::Mark(Mark::Semi), &Form::Empty),
-        &Form::Then(&Form::Rule(Rule::Body), &Form::Empty),
+        &Form::Then(&Form::Rule(Rule::BODY), &Form::Empty),
     ),
 );
 
-pub(crate) static PLANNED_39: Form = Form::Then(
-    &Form::Rule(Rule::UnsafeOnly),
+static PLANNED_39: Form = Form::Then(
+    &Form::Rule(Rule::UNSAFE_ONLY),
     &Form::Then(
         &Form::When(
             Look::Word(Word::Extern),
-            &Form::Rule(Rule::Abi),
+            &Form::Rule(Rule::ABI),
             &Form::Empty,
         ),
-        &Form::Part(Part::Planned38),
+        &Form::Part(Part::PLANNED_38),
     ),
 );
 
-pub(crate) static PLANNED_40: Form = Form::Then(
+static PLANNED_40: Form = Form::Then(
     &Form::When(
         Look::Word(Word::Where),
         &Form::Then(
             &Form::Token(Token::Word(Word::Where)),
-            &Form::Rule(Rule::Predicates),
+            &Form::Rule(Rule::PREDICATES),
         ),
         &Form::Empty,
     ),
     &Form::Then(&Form::Mark(Mark::Semi), &Form::Empty),
 );
 
-pub(crate) static PLANNED_41: Form = Form::Then(
-    &Form::Rule(Rule::Type),
+static PLANNED_41: Form = Form::Then(
+    &Form::Rule(Rule::TYPE),
     &Form::Then(
         &Form::When(
             Look::Mark(Mark::Eq),
-            &Form::Then(&Form::Mark(Mark::Eq), &Form::Rule(Rule::WholeExpression)),
+            &Form::Then(&Form::Mark(Mark::Eq), &Form::Rule(Rule::WHOLE_EXPRESSION)),
             &Form::Empty,
         ),
-        &Form::Part(Part::Planned40),
+        &Form::Part(Part::PLANNED_40),
     ),
 );
 
-pub(crate) static PLANNED_42: Form = Form::Then(
+static PLANNED_42: Form = Form::Then(
     &Form::Token(Token::NameOrUnderscore),
     &Form::Then(
         &Form::When(
@@ -678,11 +1251,11 @@ pub(crate) static PLANNED_42: Form = Form::Then(
             &Form::Ordered(List::Parameters),
             &Form::Empty,
         ),
-        &Form::Then(&Form::Mark(Mark::Colon), &Form::Part(Part::Planned41)),
+        &Form::Then(&Form::Mark(Mark::Colon), &Form::Part(Part::PLANNED_41)),
     ),
 );
 
-pub(crate) static PLANNED_43: Form = Form::When(
+static PLANNED_43: Form = Form::When(
     Look::Or(
         &Look::Word(Word::Async),
         &Look::Or(
@@ -696,160 +1269,160 @@ pub(crate) static PLANNED_43: Form = Form::When(
             &Form::Token(Token::Word(Word::Async)),
             &Form::Empty,
         ),
-        &Form::Part(Part::Planned39),
+        &Form::Part(Part::PLANNED_39),
     ),
-    &Form::Part(Part::Planned42),
+    &Form::Part(Part::PLANNED_42),
 );
 
-pub(crate) static PLANNED_44: Form = Form::Then(
-    &Form::Rule(Rule::Signature),
+static PLANNED_44: Form = Form::Then(
+    &Form::Rule(Rule::SIGNATURE),
     &Form::When(
         Look::Mark(Mark::Semi),
         &Form::Then(&Form::Mark(Mark::Semi), &Form::Empty),
-        &Form::Then(&Form::Rule(Rule::Body), &Form::Empty),
+        &Form::Then(&Form::Rule(Rule::BODY), &Form::Empty),
     ),
 );
 
-pub(crate) static PLANNED_45: Form = Form::Then(
+static PLANNED_45: Form = Form::Then(
     &Form::Token(Token::Word(Word::Type)),
     &Form::Then(
         &Form::Token(Token::Name),
-        &Form::Then(&Form::Rule(Rule::Generics), &Form::Part(Part::Planned37)),
+        &Form::Then(&Form::Rule(Rule::GENERICS), &Form::Part(Part::PLANNED_37)),
     ),
 );
 
-pub(crate) static PLANNED_46: Form = Form::Then(
+static PLANNED_46: Form = Form::Then(
     &Form::When(
         Look::Word(Word::Where),
         &Form::Then(
             &Form::Token(Token::Word(Word::Where)),
-            &Form::Rule(Rule::Predicates),
+            &Form::Rule(Rule::PREDICATES),
         ),
         &Form::Empty,
     ),
     &Form::Then(&Form::Mark(Mark::Semi), &Form::Empty),
 );
 
-pub(crate) static PLANNED_47: Form = Form::Then(
-    &Form::Rule(Rule::Type),
+static PLANNED_47: Form = Form::Then(
+    &Form::Rule(Rule::TYPE),
     &Form::Then(
         &Form::When(
             Look::Mark(Mark::Eq),
-            &Form::Then(&Form::Mark(Mark::Eq), &Form::Rule(Rule::WholeExpression)),
+            &Form::Then(&Form::Mark(Mark::Eq), &Form::Rule(Rule::WHOLE_EXPRESSION)),
             &Form::Empty,
         ),
-        &Form::Part(Part::Planned46),
+        &Form::Part(Part::PLANNED_46),
     ),
 );
 
-pub(crate) static PLANNED_48: Form = Form::Then(
+static PLANNED_48: Form = Form::Then(
     &Form::Then(
         &Form::Token(Token::Word(Word::Where)),
-        &Form::Rule(Rule::Predicates),
+        &Form::Rule(Rule::PREDICATES),
     ),
     &Form::Then(&Form::Mark(Mark::Semi), &Form::Empty),
 );
 
-pub(crate) static PLANNED_49: Form = Form::Then(
-    &Form::Rule(Rule::Type),
+static PLANNED_49: Form = Form::Then(
+    &Form::Rule(Rule::TYPE),
     &Form::Then(
         &Form::When(
             Look::Mark(Mark::Eq),
-            &Form::Then(&Form::Mark(Mark::Eq), &Form::Rule(Rule::WholeExpression)),
+            &Form::Then(&Form::Mark(Mark::Eq), &Form::Rule(Rule::WHOLE_EXPRESSION)),
             &Form::Empty,
         ),
-        &Form::Part(Part::Planned48),
+        &Form::Part(Part::PLANNED_48),
     ),
 );
 
-pub(crate) static PLANNED_50: Form = Form::When(
+static PLANNED_50: Form = Form::When(
     Look::Mark(Mark::Lt),
     &Form::Then(
         &Form::Ordered(List::Parameters),
-        &Form::Then(&Form::Mark(Mark::Colon), &Form::Part(Part::Planned47)),
+        &Form::Then(&Form::Mark(Mark::Colon), &Form::Part(Part::PLANNED_47)),
     ),
-    &Form::Then(&Form::Mark(Mark::Colon), &Form::Part(Part::Planned49)),
+    &Form::Then(&Form::Mark(Mark::Colon), &Form::Part(Part::PLANNED_49)),
 );
 
-pub(crate) static PLANNED_51: Form = Form::Then(
+static PLANNED_51: Form = Form::Then(
     &Form::Token(Token::Word(Word::Default)),
     &Form::When(
         Look::Word(Word::Type),
-        &Form::Part(Part::Planned45),
+        &Form::Part(Part::PLANNED_45),
         &Form::When(
             Look::Word(Word::Const),
             &Form::Then(
                 &Form::Token(Token::Word(Word::Const)),
-                &Form::Part(Part::Planned43),
+                &Form::Part(Part::PLANNED_43),
             ),
-            &Form::Part(Part::Planned44),
+            &Form::Part(Part::PLANNED_44),
         ),
     ),
 );
 
-pub(crate) static PLANNED_52: Form = Form::When(
+static PLANNED_52: Form = Form::When(
     Look::Mark(Mark::Eq),
-    &Form::Then(&Form::Mark(Mark::Eq), &Form::Rule(Rule::Type)),
+    &Form::Then(&Form::Mark(Mark::Eq), &Form::Rule(Rule::TYPE)),
     &Form::Empty,
 );
 
-pub(crate) static PLANNED_53: Form = Form::Then(
+static PLANNED_53: Form = Form::Then(
     &Form::Fading(Fading::TypeBounds),
     &Form::Then(
-        &Form::Part(Part::Planned52),
+        &Form::Part(Part::PLANNED_52),
         &Form::Then(
-            &Form::Rule(Rule::WhereClause),
+            &Form::Rule(Rule::WHERE_CLAUSE),
             &Form::Then(&Form::Mark(Mark::Semi), &Form::Empty),
         ),
     ),
 );
 
-pub(crate) static PLANNED_54: Form = Form::Then(
-    &Form::Rule(Rule::SignatureRest),
+static PLANNED_54: Form = Form::Then(
+    &Form::Rule(Rule::SIGNATURE_REST),
     &Form::When(
         Look::Mark(Mark::Semi),
         &Form::Then(&Form::Mark(Mark::Semi), &Form::Empty),
-        &Form::Then(&Form::Rule(Rule::Body), &Form::Empty),
+        &Form::Then(&Form::Rule(Rule::BODY), &Form::Empty),
     ),
 );
 
-pub(crate) static PLANNED_55: Form = Form::Then(
-    &Form::Rule(Rule::UnsafeOnly),
+static PLANNED_55: Form = Form::Then(
+    &Form::Rule(Rule::UNSAFE_ONLY),
     &Form::Then(
         &Form::When(
             Look::Word(Word::Extern),
-            &Form::Rule(Rule::Abi),
+            &Form::Rule(Rule::ABI),
             &Form::Empty,
         ),
-        &Form::Part(Part::Planned54),
+        &Form::Part(Part::PLANNED_54),
     ),
 );
 
-pub(crate) static PLANNED_56: Form = Form::Then(
+static PLANNED_56: Form = Form::Then(
     &Form::When(
         Look::Word(Word::Where),
         &Form::Then(
             &Form::Token(Token::Word(Word::Where)),
-            &Form::Rule(Rule::Predicates),
+            &Form::Rule(Rule::PREDICATES),
         ),
         &Form::Empty,
     ),
     &Form::Then(&Form::Mark(Mark::Semi), &Form::Empty),
 );
 
-pub(crate) static PLANNED_57: Form = Form::Then(
-    &Form::Rule(Rule::Type),
+static PLANNED_57: Form = Form::Then(
+    &Form::Rule(Rule::TYPE),
     &Form::Then(
         &Form::When(
             Look::Mark(Mark::Eq),
-            &Form::Then(&Form::Mark(Mark::Eq), &Form::Rule(Rule::WholeExpression)),
+            &Form::Then(&Form::Mark(Mark::Eq), &Form::Rule(Rule::WHOLE_EXPRESSION)),
             &Form::Empty,
         ),
-        &Form::Part(Part::Planned56),
+        &Form::Part(Part::PLANNED_56),
     ),
 );
 
-pub(crate) static PLANNED_58: Form = Form::Then(
+static PLANNED_58: Form = Form::Then(
     &Form::Token(Token::NameOrUnderscore),
     &Form::Then(
         &Form::When(
@@ -857,11 +1430,11 @@ pub(crate) static PLANNED_58: Form = Form::Then(
             &Form::Ordered(List::Parameters),
             &Form::Empty,
         ),
-        &Form::Then(&Form::Mark(Mark::Colon), &Form::Part(Part::Planned57)),
+        &Form::Then(&Form::Mark(Mark::Colon), &Form::Part(Part::PLANNED_57)),
     ),
 );
 
-pub(crate) static PLANNED_59: Form = Form::When(
+static PLANNED_59: Form = Form::When(
     Look::Or(
         &Look::Word(Word::Async),
         &Look::Or(
@@ -875,180 +1448,180 @@ pub(crate) static PLANNED_59: Form = Form::When(
             &Form::Token(Token::Word(Word::Async)),
             &Form::Empty,
         ),
-        &Form::Part(Part::Planned55),
+        &Form::Part(Part::PLANNED_55),
     ),
-    &Form::Part(Part::Planned58),
+    &Form::Part(Part::PLANNED_58),
 );
 
-pub(crate) static PLANNED_60: Form = Form::Then(
-    &Form::Rule(Rule::Signature),
+static PLANNED_60: Form = Form::Then(
+    &Form::Rule(Rule::SIGNATURE),
     &Form::When(
         Look::Mark(Mark::Semi),
         &Form::Then(&Form::Mark(Mark::Semi), &Form::Empty),
-        &Form::Then(&Form::Rule(Rule::Body), &Form::Empty),
+        &Form::Then(&Form::Rule(Rule::BODY), &Form::Empty),
     ),
 );
 
-pub(crate) static PLANNED_61: Form = Form::Then(
+static PLANNED_61: Form = Form::Then(
     &Form::Token(Token::Word(Word::Type)),
     &Form::Then(
         &Form::Token(Token::Name),
-        &Form::Then(&Form::Rule(Rule::Generics), &Form::Part(Part::Planned53)),
+        &Form::Then(&Form::Rule(Rule::GENERICS), &Form::Part(Part::PLANNED_53)),
     ),
 );
 
-pub(crate) static PLANNED_62: Form = Form::When(
+static PLANNED_62: Form = Form::When(
     Look::Mark(Mark::Eq),
-    &Form::Then(&Form::Mark(Mark::Eq), &Form::Rule(Rule::Type)),
+    &Form::Then(&Form::Mark(Mark::Eq), &Form::Rule(Rule::TYPE)),
     &Form::Empty,
 );
 
-pub(crate) static PLANNED_63: Form = Form::Then(
+static PLANNED_63: Form = Form::Then(
     &Form::Fading(Fading::TypeBounds),
     &Form::Then(
-        &Form::Part(Part::Planned62),
+        &Form::Part(Part::PLANNED_62),
         &Form::Then(
-            &Form::Rule(Rule::WhereClause),
+            &Form::Rule(Rule::WHERE_CLAUSE),
             &Form::Then(&Form::Mark(Mark::Semi), &Form::Empty),
         ),
     ),
 );
 
-pub(crate) static PLANNED_64: Form = Form::Then(
-    &Form::Rule(Rule::SignatureRest),
+static PLANNED_64: Form = Form::Then(
+    &Form::Rule(Rule::SIGNATURE_REST),
     &Form::When(
         Look::Mark(Mark::Semi),
         &Form::Then(&Form::Mark(Mark::Semi), &Form::Empty),
-        &Form::Then(&Form::Rule(Rule::Body), &Form::Empty),
+        &Form::Then(&Form::Rule(Rule::BODY), &Form::Empty),
     ),
 );
 
-pub(crate) static PLANNED_65: Form = Form::Then(
-    &Form::Rule(Rule::UnsafeOnly),
+static PLANNED_65: Form = Form::Then(
+    &Form::Rule(Rule::UNSAFE_ONLY),
     &Form::Then(
         &Form::When(
             Look::Word(Word::Extern),
-            &Form::Rule(Rule::Abi),
+            &Form::Rule(Rule::ABI),
             &Form::Empty,
         ),
-        &Form::Part(Part::Planned64),
+        &Form::Part(Part::PLANNED_64),
     ),
 );
 
-pub(crate) static PLANNED_66: Form = Form::Then(
-    &Form::Rule(Rule::ModulePath),
+static PLANNED_66: Form = Form::Then(
+    &Form::Rule(Rule::MODULE_PATH),
     &Form::Then(
         &Form::When(
             Look::Bang,
             &Form::Mark(Mark::Not),
             &Form::Never(Fault::Unexpected),
         ),
-        &Form::Then(&Form::Rule(Rule::MacroEnd), &Form::Empty),
+        &Form::Then(&Form::Rule(Rule::MACRO_END), &Form::Empty),
     ),
 );
 
-pub(crate) static PLANNED_67: Form = Form::Then(
-    &Form::Rule(Rule::Signature),
+static PLANNED_67: Form = Form::Then(
+    &Form::Rule(Rule::SIGNATURE),
     &Form::When(
         Look::Mark(Mark::Semi),
         &Form::Then(&Form::Mark(Mark::Semi), &Form::Empty),
-        &Form::Then(&Form::Rule(Rule::Body), &Form::Empty),
+        &Form::Then(&Form::Rule(Rule::BODY), &Form::Empty),
     ),
 );
 
-pub(crate) static PLANNED_68: Form = Form::Then(
+static PLANNED_68: Form = Form::Then(
     &Form::When(
         Look::Word(Word::Where),
         &Form::Then(
             &Form::Token(Token::Word(Word::Where)),
-            &Form::Rule(Rule::Predicates),
+            &Form::Rule(Rule::PREDICATES),
         ),
         &Form::Empty,
     ),
     &Form::Then(&Form::Mark(Mark::Semi), &Form::Empty),
 );
 
-pub(crate) static PLANNED_69: Form = Form::Then(
-    &Form::Rule(Rule::TypeBounds),
+static PLANNED_69: Form = Form::Then(
+    &Form::Rule(Rule::TYPE_BOUNDS),
     &Form::Then(
         &Form::When(
             Look::Mark(Mark::Eq),
-            &Form::Then(&Form::Mark(Mark::Eq), &Form::Rule(Rule::Type)),
+            &Form::Then(&Form::Mark(Mark::Eq), &Form::Rule(Rule::TYPE)),
             &Form::Empty,
         ),
-        &Form::Part(Part::Planned68),
+        &Form::Part(Part::PLANNED_68),
     ),
 );
 
-pub(crate) static PLANNED_70: Form = Form::Then(
+static PLANNED_70: Form = Form::Then(
     &Form::When(
         Look::Word(Word::Where),
         &Form::Then(
             &Form::Token(Token::Word(Word::Where)),
-            &Form::Rule(Rule::Predicates),
+            &Form::Rule(Rule::PREDICATES),
         ),
         &Form::Empty,
     ),
     &Form::Then(&Form::Mark(Mark::Semi), &Form::Empty),
 );
 
-pub(crate) static PLANNED_71: Form = Form::Then(
-    &Form::Rule(Rule::ModulePath),
+static PLANNED_71: Form = Form::Then(
+    &Form::Rule(Rule::MODULE_PATH),
     &Form::Then(
         &Form::When(
             Look::Bang,
             &Form::Mark(Mark::Not),
             &Form::Never(Fault::Unexpected),
         ),
-        &Form::Then(&Form::Rule(Rule::MacroEnd), &Form::Empty),
+        &Form::Then(&Form::Rule(Rule::MACRO_END), &Form::Empty),
     ),
 );
 
-pub(crate) static PLANNED_72: Form = Form::Then(
+static PLANNED_72: Form = Form::Then(
     &Form::When(
         Look::Word(Word::Where),
         &Form::Then(
             &Form::Token(Token::Word(Word::Where)),
-            &Form::Rule(Rule::Predicates),
+            &Form::Rule(Rule::PREDICATES),
         ),
         &Form::Empty,
     ),
     &Form::Then(&Form::Mark(Mark::Semi), &Form::Empty),
 );
 
-pub(crate) static PLANNED_73: Form = Form::Then(
-    &Form::Rule(Rule::ModulePath),
+static PLANNED_73: Form = Form::Then(
+    &Form::Rule(Rule::MODULE_PATH),
     &Form::Then(
         &Form::When(
             Look::Bang,
             &Form::Mark(Mark::Not),
             &Form::Never(Fault::Unexpected),
         ),
-        &Form::Then(&Form::Rule(Rule::MacroEnd), &Form::Empty),
+        &Form::Then(&Form::Rule(Rule::MACRO_END), &Form::Empty),
     ),
 );
 
-pub(crate) static PLANNED_74: Form = Form::When(
+static PLANNED_74: Form = Form::When(
     Look::Group(Delimiter::Brace),
     &Form::Then(
         &Form::Raw(Delimiter::Brace),
         &Form::When(
             Look::PostfixMark,
             &Form::Never(Fault::Unexpected),
-            &Form::Then(&Form::Rule(Rule::StatementEnd), &Form::Empty),
+            &Form::Then(&Form::Rule(Rule::STATEMENT_END), &Form::Empty),
         ),
     ),
     &Form::Never(Fault::Unexpected),
 );
 
-pub(crate) static PLANNED_75: Form = Form::Then(
+static PLANNED_75: Form = Form::Then(
     &Form::When(
         Look::Or(&Look::Name, &Look::Word(Word::Try)),
         &Form::Token(Token::NameOrTry),
         &Form::Empty,
     ),
     &Form::Then(
-        &Form::Rule(Rule::MacroEnd),
+        &Form::Rule(Rule::MACRO_END),
         &Form::When(
             Look::PostfixMark,
             &Form::Empty,
@@ -1057,180 +1630,183 @@ pub(crate) static PLANNED_75: Form = Form::Then(
     ),
 );
 
-pub(crate) static PLANNED_76: Form = Form::When(
+static PLANNED_76: Form = Form::When(
     Look::Group(Delimiter::Brace),
     &Form::Then(
         &Form::Raw(Delimiter::Brace),
         &Form::When(
             Look::PostfixMark,
             &Form::Empty,
-            &Form::Then(&Form::Rule(Rule::StatementEnd), &Form::Empty),
+            &Form::Then(&Form::Rule(Rule::STATEMENT_END), &Form::Empty),
         ),
     ),
-    &Form::Part(Part::Planned75),
+    &Form::Part(Part::PLANNED_75),
 );
 
-pub(crate) static PLANNED_77: Form = Form::Then(
-    &Form::Rule(Rule::ModulePath),
+static PLANNED_77: Form = Form::Then(
+    &Form::Rule(Rule::MODULE_PATH),
     &Form::Then(
         &Form::When(
             Look::Bang,
             &Form::Mark(Mark::Not),
             &Form::Never(Fault::Unexpected),
         ),
-        &Form::Part(Part::Planned74),
+        &Form::Part(Part::PLANNED_74),
     ),
 );
 
-pub(crate) static PLANNED_78: Form = Form::Then(
-    &Form::Rule(Rule::Generics),
+static PLANNED_78: Form = Form::Then(
+    &Form::Rule(Rule::GENERICS),
     &Form::Then(
-        &Form::Rule(Rule::WhereClause),
+        &Form::Rule(Rule::WHERE_CLAUSE),
         &Form::Then(
-            &Form::Inside(Delimiter::Brace, &Form::Rule(Rule::Variants)),
+            &Form::Inside(Delimiter::Brace, &Form::Rule(Rule::VARIANTS)),
             &Form::Empty,
         ),
     ),
 );
 
-pub(crate) static PLANNED_79: Form = Form::Then(
+static PLANNED_79: Form = Form::Then(
     &Form::Token(Token::Name),
     &Form::Then(
-        &Form::Rule(Rule::Generics),
+        &Form::Rule(Rule::GENERICS),
         &Form::Then(
-            &Form::Rule(Rule::WhereClause),
-            &Form::Then(&Form::Rule(Rule::FieldsNamed), &Form::Empty),
+            &Form::Rule(Rule::WHERE_CLAUSE),
+            &Form::Then(&Form::Rule(Rule::FIELDS_NAMED), &Form::Empty),
         ),
     ),
 );
 
-pub(crate) static PLANNED_80: Form = Form::Then(
+static PLANNED_80: Form = Form::Then(
     &Form::Token(Token::Word(Word::Struct)),
     &Form::Then(
         &Form::Token(Token::Name),
         &Form::Then(
-            &Form::Rule(Rule::Generics),
-            &Form::Then(&Form::Rule(Rule::StructureBody), &Form::Empty),
+            &Form::Rule(Rule::GENERICS),
+            &Form::Then(&Form::Rule(Rule::STRUCTURE_BODY), &Form::Empty),
         ),
     ),
 );
 
-pub(crate) static PLANNED_81: Form = Form::When(
+static PLANNED_81: Form = Form::When(
     Look::Word(Word::Enum),
     &Form::Then(
         &Form::Token(Token::Word(Word::Enum)),
-        &Form::Then(&Form::Token(Token::Name), &Form::Part(Part::Planned78)),
+        &Form::Then(&Form::Token(Token::Name), &Form::Part(Part::PLANNED_78)),
     ),
     &Form::Then(
         &Form::Token(Token::Word(Word::Union)),
-        &Form::Part(Part::Planned79),
+        &Form::Part(Part::PLANNED_79),
     ),
 );
 
-pub(crate) static PLANNED_82: Form = Form::When(
+static PLANNED_82: Form = Form::When(
     Look::BlockLike,
     &Form::Shaped(
         Shape::Said,
         &Form::Then(
-            &Form::Rule(Rule::BlockLike),
-            &Form::Rule(Rule::StatementEnd),
+            &Form::Rule(Rule::BLOCK_LIKE),
+            &Form::Rule(Rule::STATEMENT_END),
         ),
     ),
     &Form::Shaped(
         Shape::Said,
         &Form::Then(
-            &Form::Rule(Rule::WholeExpression),
+            &Form::Rule(Rule::WHOLE_EXPRESSION),
             &Form::MarkElse(Mark::Semi, Fault::MissingSemi),
         ),
     ),
 );
 
-pub(crate) static PLANNED_83: Form = Form::Shaped(
+static PLANNED_83: Form = Form::Shaped(
     Shape::SaidMacro,
     &Form::Then(
         &Form::Shaped(
             Shape::Operand(Variant::Macro),
-            &Form::Rule(Rule::MacroInvocation),
+            &Form::Rule(Rule::MACRO_INVOCATION),
         ),
-        &Form::Rule(Rule::StatementEnd),
+        &Form::Rule(Rule::STATEMENT_END),
     ),
 );
 
-pub(crate) static PLANNED_84: Form = Form::When(
+static PLANNED_84: Form = Form::When(
     Look::CrateMacro,
-    &Form::Rule(Rule::CrateMacro),
+    &Form::Rule(Rule::CRATE_MACRO),
     &Form::When(
         Look::BraceMacro,
-        &Form::Part(Part::Planned83),
+        &Form::Part(Part::PLANNED_83),
         &Form::When(
             Look::Word(Word::Let),
-            &Form::Shaped(Shape::ALocal, &Form::Rule(Rule::Local)),
-            &Form::Part(Part::Planned82),
+            &Form::Shaped(Shape::ALocal, &Form::Rule(Rule::LOCAL)),
+            &Form::Part(Part::PLANNED_82),
         ),
     ),
 );
 
-static ITEM: Plan = Plan::Reads(&Form::Rule(Rule::Attributes), &Plan::Go(Stage::Stage93));
+static ITEM: Plan = Plan::Reads(&Form::Rule(Rule::ATTRIBUTES), &Plan::Go(Stage::STAGE_93));
 
-static TRAIT_ITEM: Plan = Plan::Reads(&Form::Rule(Rule::Attributes), &Plan::Go(Stage::Stage103));
+static TRAIT_ITEM: Plan = Plan::Reads(&Form::Rule(Rule::ATTRIBUTES), &Plan::Go(Stage::STAGE_103));
 
 static IMPL_ITEM: Plan = Plan::Reads(
-    &Form::Rule(Rule::Attributes),
+    &Form::Rule(Rule::ATTRIBUTES),
     &Plan::Turns(
         Look::Or(&Look::Word(Word::Pub), &Look::EmptyGroup),
-        &Plan::Go(Stage::Stage110),
-        &Plan::Go(Stage::Stage113),
+        &Plan::Go(Stage::STAGE_110),
+        &Plan::Go(Stage::STAGE_113),
     ),
 );
 
-static FOREIGN_ITEM: Plan = Plan::Reads(&Form::Rule(Rule::Attributes), &Plan::Go(Stage::Stage132));
+static FOREIGN_ITEM: Plan = Plan::Reads(&Form::Rule(Rule::ATTRIBUTES), &Plan::Go(Stage::STAGE_132));
 
 static CRATE_MACRO: Plan = Plan::Rest(&Form::When(
     Look::NoMacroItem,
-    &Form::Part(Part::Planned77),
+    &Form::Part(Part::PLANNED_77),
     &Form::Then(
-        &Form::Rule(Rule::ModulePath),
+        &Form::Rule(Rule::MODULE_PATH),
         &Form::Then(
             &Form::When(
                 Look::Bang,
                 &Form::Mark(Mark::Not),
                 &Form::Never(Fault::Unexpected),
             ),
-            &Form::Part(Part::Planned76),
+            &Form::Part(Part::PLANNED_76),
         ),
     ),
 ));
 
 static DERIVE_INPUT: Plan = Plan::Rest(&Form::Then(
-    &Form::Rule(Rule::Attributes),
+    &Form::Rule(Rule::ATTRIBUTES),
     &Form::Then(
-        &Form::Rule(Rule::Visibility),
+        &Form::Rule(Rule::VISIBILITY),
         &Form::When(
             Look::Word(Word::Struct),
-            &Form::Part(Part::Planned80),
-            &Form::Part(Part::Planned81),
+            &Form::Part(Part::PLANNED_80),
+            &Form::Part(Part::PLANNED_81),
         ),
     ),
 ));
 
-static STATEMENTS: Plan = Plan::Reads(&Form::Rule(Rule::Attributes), &Plan::Go(Stage::Stage133));
+static STATEMENTS: Plan = Plan::Reads(&Form::Rule(Rule::ATTRIBUTES), &Plan::Go(Stage::STAGE_133));
 
 static STATEMENT: Plan = Plan::Reads(
-    &Form::Rule(Rule::Attributes),
+    &Form::Rule(Rule::ATTRIBUTES),
     &Plan::Turns(
         Look::Item,
-        &Plan::Go(Stage::Stage93),
-        &Plan::Rest(&Form::Then(&Form::Part(Part::Planned84), &Form::Empty)),
+        &Plan::Go(Stage::STAGE_93),
+        &Plan::Rest(&Form::Then(&Form::Part(Part::PLANNED_84), &Form::Empty)),
     ),
 );
 
-static USE_ITEM_REST: Plan = Plan::Reads(&Form::Rule(Rule::Visibility), &Plan::Go(Stage::Stage134));
+static USE_ITEM_REST: Plan = Plan::Reads(
+    &Form::Rule(Rule::VISIBILITY),
+    &Plan::Go(Stage::STAGE_134),
+);
 
 static TYPE_ITEM_REST: Plan = Plan::Reads(
-    &Form::Rule(Rule::Visibility),
+    &Form::Rule(Rule::VISIBILITY),
     &Plan::Reads(
         &Form::Token(Token::Word(Word::Type)),
-        &Plan::Reads(&Form::Token(Token::Name), &Plan::Go(Stage::Stage135)),
+        &Plan::Reads(&Form::Token(Token::Name), &Plan::Go(Stage::STAGE_135)),
     ),
 );
 
@@ -1246,124 +1822,124 @@ static IMPL_DEFINITION_REST: Plan = Plan::Reads(
             &Form::Token(Token::Word(Word::Const)),
             &Form::Empty,
         ),
-        &Plan::Go(Stage::Stage138),
+        &Plan::Go(Stage::STAGE_138),
     ),
 );
 
-static STAGE1: Plan = Plan::Rest(&Form::Then(
+static STAGE_1: Plan = Plan::Rest(&Form::Then(
     &Form::Token(Token::Word(Word::Struct)),
     &Form::Then(
         &Form::Token(Token::Name),
         &Form::Then(
-            &Form::Rule(Rule::Generics),
-            &Form::Then(&Form::Rule(Rule::StructureBody), &Form::Empty),
+            &Form::Rule(Rule::GENERICS),
+            &Form::Then(&Form::Rule(Rule::STRUCTURE_BODY), &Form::Empty),
         ),
     ),
 ));
 
-static STAGE2: Plan = Plan::Rest(&Form::Then(
+static STAGE_2: Plan = Plan::Rest(&Form::Then(
     &Form::Token(Token::Word(Word::Enum)),
-    &Form::Then(&Form::Token(Token::Name), &Form::Part(Part::Planned1)),
+    &Form::Then(&Form::Token(Token::Name), &Form::Part(Part::PLANNED_1)),
 ));
 
-static STAGE3: Plan = Plan::Rest(&Form::Then(
+static STAGE_3: Plan = Plan::Rest(&Form::Then(
     &Form::Token(Token::Word(Word::Union)),
-    &Form::Part(Part::Planned2),
+    &Form::Part(Part::PLANNED_2),
 ));
 
-static STAGE4: Plan = Plan::Kept(&Form::Then(
+static STAGE_4: Plan = Plan::Kept(&Form::Then(
     &Form::Mark(Mark::Colon),
-    &Form::Then(&Form::Rule(Rule::TypeBounds), &Form::Part(Part::Planned5)),
+    &Form::Then(&Form::Rule(Rule::TYPE_BOUNDS), &Form::Part(Part::PLANNED_5)),
 ));
 
-static STAGE5: Plan = Plan::Rest(&Form::Never(Fault::Unexpected));
+static STAGE_5: Plan = Plan::Rest(&Form::Never(Fault::Unexpected));
 
-static STAGE6: Plan = Plan::Rest(&Form::Then(&Form::Mark(Mark::Semi), &Form::Empty));
+static STAGE_6: Plan = Plan::Rest(&Form::Then(&Form::Mark(Mark::Semi), &Form::Empty));
 
-static STAGE7: Plan = Plan::Reads(
-    &Form::Rule(Rule::Type),
+static STAGE_7: Plan = Plan::Reads(
+    &Form::Rule(Rule::TYPE),
     &Plan::Turns(
         Look::Word(Word::Where),
-        &Plan::Reads(&Form::Rule(Rule::WhereClause), &Plan::Go(Stage::Stage5)),
-        &Plan::Go(Stage::Stage6),
+        &Plan::Reads(&Form::Rule(Rule::WHERE_CLAUSE), &Plan::Go(Stage::STAGE_5)),
+        &Plan::Go(Stage::STAGE_6),
     ),
 );
 
-static STAGE8: Plan = Plan::Reads(&Form::Mark(Mark::Eq), &Plan::Go(Stage::Stage7));
+static STAGE_8: Plan = Plan::Reads(&Form::Mark(Mark::Eq), &Plan::Go(Stage::STAGE_7));
 
-static STAGE9: Plan = Plan::Kept(&Form::Then(&Form::Mark(Mark::Semi), &Form::Empty));
+static STAGE_9: Plan = Plan::Kept(&Form::Then(&Form::Mark(Mark::Semi), &Form::Empty));
 
-static STAGE10: Plan = Plan::Reads(
+static STAGE_10: Plan = Plan::Reads(
     &Form::Mark(Mark::Eq),
     &Plan::Reads(
-        &Form::Rule(Rule::Type),
-        &Plan::Reads(&Form::Rule(Rule::WhereClause), &Plan::Go(Stage::Stage6)),
+        &Form::Rule(Rule::TYPE),
+        &Plan::Reads(&Form::Rule(Rule::WHERE_CLAUSE), &Plan::Go(Stage::STAGE_6)),
     ),
 );
 
-static STAGE11: Plan = Plan::Turns(
+static STAGE_11: Plan = Plan::Turns(
     Look::Word(Word::Where),
     &Plan::Reads(
-        &Form::Rule(Rule::WhereClause),
+        &Form::Rule(Rule::WHERE_CLAUSE),
         &Plan::Turns(
             Look::Mark(Mark::Eq),
-            &Plan::Go(Stage::Stage8),
-            &Plan::Go(Stage::Stage9),
+            &Plan::Go(Stage::STAGE_8),
+            &Plan::Go(Stage::STAGE_9),
         ),
     ),
     &Plan::Turns(
         Look::Mark(Mark::Eq),
-        &Plan::Go(Stage::Stage10),
-        &Plan::Go(Stage::Stage9),
+        &Plan::Go(Stage::STAGE_10),
+        &Plan::Go(Stage::STAGE_9),
     ),
 );
 
-static STAGE12: Plan = Plan::Reads(
+static STAGE_12: Plan = Plan::Reads(
     &Form::Token(Token::Name),
     &Plan::Reads(
-        &Form::Rule(Rule::Generics),
+        &Form::Rule(Rule::GENERICS),
         &Plan::Turns(
             Look::Mark(Mark::Colon),
-            &Plan::Go(Stage::Stage4),
-            &Plan::Go(Stage::Stage11),
+            &Plan::Go(Stage::STAGE_4),
+            &Plan::Go(Stage::STAGE_11),
         ),
     ),
 );
 
-static STAGE13: Plan = Plan::Reads(
+static STAGE_13: Plan = Plan::Reads(
     &Form::Token(Token::Word(Word::Type)),
-    &Plan::Go(Stage::Stage12),
+    &Plan::Go(Stage::STAGE_12),
 );
 
-static STAGE14: Plan = Plan::Rest(&Form::Then(
+static STAGE_14: Plan = Plan::Rest(&Form::Then(
     &Form::Mark(Mark::Eq),
     &Form::Then(
-        &Form::Rule(Rule::WholeExpression),
+        &Form::Rule(Rule::WHOLE_EXPRESSION),
         &Form::Then(&Form::Mark(Mark::Semi), &Form::Empty),
     ),
 ));
 
-static STAGE15: Plan = Plan::Reads(
+static STAGE_15: Plan = Plan::Reads(
     &Form::Mark(Mark::Colon),
     &Plan::Reads(
-        &Form::Rule(Rule::Type),
+        &Form::Rule(Rule::TYPE),
         &Plan::Turns(
             Look::Mark(Mark::Eq),
-            &Plan::Go(Stage::Stage14),
-            &Plan::Go(Stage::Stage9),
+            &Plan::Go(Stage::STAGE_14),
+            &Plan::Go(Stage::STAGE_9),
         ),
     ),
 );
 
-static STAGE16: Plan = Plan::Kept(&Form::Then(
+static STAGE_16: Plan = Plan::Kept(&Form::Then(
     &Form::Mark(Mark::Eq),
     &Form::Then(
-        &Form::Rule(Rule::WholeExpression),
+        &Form::Rule(Rule::WHOLE_EXPRESSION),
         &Form::Then(&Form::Mark(Mark::Semi), &Form::Empty),
     ),
 ));
 
-static STAGE17: Plan = Plan::Reads(
+static STAGE_17: Plan = Plan::Reads(
     &Form::When(
         Look::Word(Word::Mut),
         &Form::Token(Token::Word(Word::Mut)),
@@ -1373,124 +1949,127 @@ static STAGE17: Plan = Plan::Reads(
         &Form::Token(Token::Name),
         &Plan::Turns(
             Look::Mark(Mark::Colon),
-            &Plan::Go(Stage::Stage15),
-            &Plan::Go(Stage::Stage16),
+            &Plan::Go(Stage::STAGE_15),
+            &Plan::Go(Stage::STAGE_16),
         ),
     ),
 );
 
-static STAGE18: Plan = Plan::Reads(
+static STAGE_18: Plan = Plan::Reads(
     &Form::Token(Token::Word(Word::Static)),
-    &Plan::Go(Stage::Stage17),
+    &Plan::Go(Stage::STAGE_17),
 );
 
-static STAGE19: Plan = Plan::Rest(&Form::Then(
+static STAGE_19: Plan = Plan::Rest(&Form::Then(
     &Form::When(
         Look::Mark(Mark::PathSep),
         &Form::Mark(Mark::PathSep),
         &Form::Empty,
     ),
     &Form::Then(
-        &Form::Rule(Rule::UseTree),
+        &Form::Rule(Rule::USE_TREE),
         &Form::Then(&Form::Mark(Mark::Semi), &Form::Empty),
     ),
 ));
 
-static STAGE20: Plan = Plan::Reads(
+static STAGE_20: Plan = Plan::Reads(
     &Form::Token(Token::Word(Word::Use)),
     &Plan::Turns(
         Look::Group(Delimiter::Brace),
-        &Plan::Rooted(&Plan::Go(Stage::Stage9), &Plan::Go(Stage::Stage6)),
-        &Plan::Go(Stage::Stage19),
+        &Plan::Rooted(&Plan::Go(Stage::STAGE_9), &Plan::Go(Stage::STAGE_6)),
+        &Plan::Go(Stage::STAGE_19),
     ),
 );
 
-static STAGE21: Plan = Plan::Rest(&Form::Then(
+static STAGE_21: Plan = Plan::Rest(&Form::Then(
     &Form::Token(Token::Word(Word::Mod)),
     &Form::Then(
         &Form::Token(Token::NameOrTry),
         &Form::When(
             Look::Mark(Mark::Semi),
             &Form::Then(&Form::Mark(Mark::Semi), &Form::Empty),
-            &Form::Part(Part::Planned6),
+            &Form::Part(Part::PLANNED_6),
         ),
     ),
 ));
 
-static STAGE22: Plan = Plan::Rest(&Form::Then(
+static STAGE_22: Plan = Plan::Rest(&Form::Then(
     &Form::Token(Token::Word(Word::Trait)),
-    &Form::Part(Part::Planned9),
+    &Form::Part(Part::PLANNED_9),
 ));
 
-static STAGE23: Plan = Plan::Rest(&Form::Then(
+static STAGE_23: Plan = Plan::Rest(&Form::Then(
     &Form::When(
         Look::Word(Word::Auto),
         &Form::Token(Token::Word(Word::Auto)),
         &Form::Empty,
     ),
-    &Form::Part(Part::Planned11),
+    &Form::Part(Part::PLANNED_11),
 ));
 
-static STAGE24: Plan = Plan::Kept(&Form::Then(
+static STAGE_24: Plan = Plan::Kept(&Form::Then(
     &Form::Token(Token::Word(Word::Macro)),
-    &Form::Part(Part::Planned12),
+    &Form::Part(Part::PLANNED_12),
 ));
 
-static STAGE25: Plan = Plan::Turns(
+static STAGE_25: Plan = Plan::Turns(
     Look::Mark(Mark::Semi),
-    &Plan::Go(Stage::Stage9),
-    &Plan::Rest(&Form::Then(&Form::Rule(Rule::Body), &Form::Empty)),
+    &Plan::Go(Stage::STAGE_9),
+    &Plan::Rest(&Form::Then(&Form::Rule(Rule::BODY), &Form::Empty)),
 );
 
-static STAGE26: Plan = Plan::Reads(&Form::Rule(Rule::Signature), &Plan::Go(Stage::Stage25));
+static STAGE_26: Plan = Plan::Reads(&Form::Rule(Rule::SIGNATURE), &Plan::Go(Stage::STAGE_25));
 
-static STAGE27: Plan = Plan::Rest(&Form::Then(
+static STAGE_27: Plan = Plan::Rest(&Form::Then(
     &Form::Token(Token::Word(Word::Crate)),
     &Form::Then(
         &Form::Token(Token::NameOrSelf),
-        &Form::Part(Part::Planned13),
+        &Form::Part(Part::PLANNED_13),
     ),
 ));
 
-static STAGE28: Plan = Plan::Reads(&Form::Rule(Rule::SignatureRest), &Plan::Go(Stage::Stage25));
-
-static STAGE29: Plan = Plan::Reads(
-    &Form::When(Look::StrLiteral, &Form::Token(Token::Str), &Form::Empty),
-    &Plan::Go(Stage::Stage28),
+static STAGE_28: Plan = Plan::Reads(
+    &Form::Rule(Rule::SIGNATURE_REST),
+    &Plan::Go(Stage::STAGE_25),
 );
 
-static STAGE30: Plan = Plan::Reads(
+static STAGE_29: Plan = Plan::Reads(
+    &Form::When(Look::StrLiteral, &Form::Token(Token::Str), &Form::Empty),
+    &Plan::Go(Stage::STAGE_28),
+);
+
+static STAGE_30: Plan = Plan::Reads(
     &Form::Token(Token::Word(Word::Extern)),
     &Plan::Turns(
         Look::Word(Word::Crate),
-        &Plan::Go(Stage::Stage27),
-        &Plan::Go(Stage::Stage29),
+        &Plan::Go(Stage::STAGE_27),
+        &Plan::Go(Stage::STAGE_29),
     ),
 );
 
-static STAGE31: Plan = Plan::Turns(
+static STAGE_31: Plan = Plan::Turns(
     Look::Or(&Look::Word(Word::Trait), &Look::Word(Word::Auto)),
-    &Plan::Go(Stage::Stage23),
+    &Plan::Go(Stage::STAGE_23),
     &Plan::Turns(
         Look::Word(Word::Extern),
         &Plan::Reads(
             &Form::Token(Token::Word(Word::Extern)),
-            &Plan::Go(Stage::Stage29),
+            &Plan::Go(Stage::STAGE_29),
         ),
-        &Plan::Go(Stage::Stage28),
+        &Plan::Go(Stage::STAGE_28),
     ),
 );
 
-static STAGE32: Plan = Plan::Reads(
+static STAGE_32: Plan = Plan::Reads(
     &Form::Token(Token::Word(Word::Unsafe)),
     &Plan::Turns(
         Look::Word(Word::Mod),
-        &Plan::Go(Stage::Stage21),
-        &Plan::Go(Stage::Stage31),
+        &Plan::Go(Stage::STAGE_21),
+        &Plan::Go(Stage::STAGE_31),
     ),
 );
 
-static STAGE33: Plan = Plan::Kept(&Form::Then(
+static STAGE_33: Plan = Plan::Kept(&Form::Then(
     &Form::Token(Token::Word(Word::Impl)),
     &Form::Then(
         &Form::When(
@@ -1498,525 +2077,525 @@ static STAGE33: Plan = Plan::Kept(&Form::Then(
             &Form::Ordered(List::Parameters),
             &Form::Empty,
         ),
-        &Form::Part(Part::Planned16),
+        &Form::Part(Part::PLANNED_16),
     ),
 ));
 
-static STAGE34: Plan = Plan::Reads(
+static STAGE_34: Plan = Plan::Reads(
     &Form::When(
         Look::Word(Word::Extern),
-        &Form::Rule(Rule::Abi),
+        &Form::Rule(Rule::ABI),
         &Form::Empty,
     ),
-    &Plan::Go(Stage::Stage28),
+    &Plan::Go(Stage::STAGE_28),
 );
 
-static STAGE35: Plan = Plan::Turns(
+static STAGE_35: Plan = Plan::Turns(
     Look::Or(&Look::Word(Word::Trait), &Look::Word(Word::Auto)),
-    &Plan::Go(Stage::Stage23),
+    &Plan::Go(Stage::STAGE_23),
     &Plan::Turns(
         Look::Word(Word::Impl),
-        &Plan::Go(Stage::Stage33),
-        &Plan::Go(Stage::Stage34),
+        &Plan::Go(Stage::STAGE_33),
+        &Plan::Go(Stage::STAGE_34),
     ),
 );
 
-static STAGE36: Plan = Plan::Kept(&Form::Then(
+static STAGE_36: Plan = Plan::Kept(&Form::Then(
     &Form::Mark(Mark::Eq),
     &Form::Then(
-        &Form::Rule(Rule::AliasBounds),
+        &Form::Rule(Rule::ALIAS_BOUNDS),
         &Form::Then(
-            &Form::Rule(Rule::WhereClause),
+            &Form::Rule(Rule::WHERE_CLAUSE),
             &Form::Then(&Form::Mark(Mark::Semi), &Form::Empty),
         ),
     ),
 ));
 
-static STAGE37: Plan = Plan::Reads(
-    &Form::Rule(Rule::Generics),
+static STAGE_37: Plan = Plan::Reads(
+    &Form::Rule(Rule::GENERICS),
     &Plan::Turns(
         Look::Mark(Mark::Eq),
-        &Plan::Go(Stage::Stage36),
+        &Plan::Go(Stage::STAGE_36),
         &Plan::Rest(&Form::Then(
             &Form::Fading(Fading::Supertraits),
-            &Form::Part(Part::Planned17),
+            &Form::Part(Part::PLANNED_17),
         )),
     ),
 );
 
-static STAGE38: Plan = Plan::Reads(
+static STAGE_38: Plan = Plan::Reads(
     &Form::Token(Token::Word(Word::Trait)),
-    &Plan::Reads(&Form::Token(Token::Name), &Plan::Go(Stage::Stage37)),
+    &Plan::Reads(&Form::Token(Token::Name), &Plan::Go(Stage::STAGE_37)),
 );
 
-static STAGE39: Plan = Plan::Reads(
+static STAGE_39: Plan = Plan::Reads(
     &Form::When(
         Look::Word(Word::Async),
         &Form::Token(Token::Word(Word::Async)),
         &Form::Empty,
     ),
-    &Plan::Reads(&Form::Rule(Rule::UnsafeOnly), &Plan::Go(Stage::Stage34)),
+    &Plan::Reads(&Form::Rule(Rule::UNSAFE_ONLY), &Plan::Go(Stage::STAGE_34)),
 );
 
-static STAGE40: Plan = Plan::Kept(&Form::Then(
+static STAGE_40: Plan = Plan::Kept(&Form::Then(
     &Form::Ordered(List::Parameters),
-    &Form::Then(&Form::Mark(Mark::Colon), &Form::Part(Part::Planned19)),
+    &Form::Then(&Form::Mark(Mark::Colon), &Form::Part(Part::PLANNED_19)),
 ));
 
-static STAGE41: Plan = Plan::Kept(&Form::Then(
+static STAGE_41: Plan = Plan::Kept(&Form::Then(
     &Form::Then(
         &Form::Token(Token::Word(Word::Where)),
-        &Form::Rule(Rule::Predicates),
+        &Form::Rule(Rule::PREDICATES),
     ),
     &Form::Then(&Form::Mark(Mark::Semi), &Form::Empty),
 ));
 
-static STAGE42: Plan = Plan::Turns(
+static STAGE_42: Plan = Plan::Turns(
     Look::Mark(Mark::Semi),
-    &Plan::Go(Stage::Stage6),
-    &Plan::Go(Stage::Stage41),
+    &Plan::Go(Stage::STAGE_6),
+    &Plan::Go(Stage::STAGE_41),
 );
 
-static STAGE43: Plan = Plan::Kept(&Form::Then(
+static STAGE_43: Plan = Plan::Kept(&Form::Then(
     &Form::When(
         Look::Word(Word::Where),
         &Form::Then(
             &Form::Token(Token::Word(Word::Where)),
-            &Form::Rule(Rule::Predicates),
+            &Form::Rule(Rule::PREDICATES),
         ),
         &Form::Empty,
     ),
     &Form::Then(&Form::Mark(Mark::Semi), &Form::Empty),
 ));
 
-static STAGE44: Plan = Plan::Turns(
+static STAGE_44: Plan = Plan::Turns(
     Look::Mark(Mark::Eq),
     &Plan::Reads(
         &Form::Mark(Mark::Eq),
         &Plan::Reads(
-            &Form::Rule(Rule::WholeExpression),
-            &Plan::Go(Stage::Stage42),
+            &Form::Rule(Rule::WHOLE_EXPRESSION),
+            &Plan::Go(Stage::STAGE_42),
         ),
     ),
-    &Plan::Go(Stage::Stage43),
+    &Plan::Go(Stage::STAGE_43),
 );
 
-static STAGE45: Plan = Plan::Turns(
+static STAGE_45: Plan = Plan::Turns(
     Look::Mark(Mark::Lt),
-    &Plan::Go(Stage::Stage40),
+    &Plan::Go(Stage::STAGE_40),
     &Plan::Reads(
         &Form::Mark(Mark::Colon),
-        &Plan::Reads(&Form::Rule(Rule::Type), &Plan::Go(Stage::Stage44)),
+        &Plan::Reads(&Form::Rule(Rule::TYPE), &Plan::Go(Stage::STAGE_44)),
     ),
 );
 
-static STAGE46: Plan = Plan::Reads(
+static STAGE_46: Plan = Plan::Reads(
     &Form::Token(Token::NameOrUnderscore),
-    &Plan::Go(Stage::Stage45),
+    &Plan::Go(Stage::STAGE_45),
 );
 
-static STAGE47: Plan = Plan::Turns(
+static STAGE_47: Plan = Plan::Turns(
     Look::Or(
         &Look::Word(Word::Async),
         &Look::Or(&Look::Word(Word::Extern), &Look::Word(Word::Fn)),
     ),
-    &Plan::Go(Stage::Stage39),
-    &Plan::Go(Stage::Stage46),
+    &Plan::Go(Stage::STAGE_39),
+    &Plan::Go(Stage::STAGE_46),
 );
 
-static STAGE48: Plan = Plan::Turns(
+static STAGE_48: Plan = Plan::Turns(
     Look::Word(Word::Trait),
-    &Plan::Go(Stage::Stage38),
+    &Plan::Go(Stage::STAGE_38),
     &Plan::Turns(
         Look::MarkedAuto,
-        &Plan::Go(Stage::Stage23),
+        &Plan::Go(Stage::STAGE_23),
         &Plan::Turns(
             Look::Word(Word::Impl),
-            &Plan::Go(Stage::Stage33),
-            &Plan::Go(Stage::Stage47),
+            &Plan::Go(Stage::STAGE_33),
+            &Plan::Go(Stage::STAGE_47),
         ),
     ),
 );
 
-static STAGE49: Plan = Plan::Reads(
+static STAGE_49: Plan = Plan::Reads(
     &Form::Token(Token::Word(Word::Const)),
     &Plan::Turns(
         Look::Word(Word::Unsafe),
         &Plan::Reads(
             &Form::Token(Token::Word(Word::Unsafe)),
-            &Plan::Go(Stage::Stage35),
+            &Plan::Go(Stage::STAGE_35),
         ),
-        &Plan::Go(Stage::Stage48),
+        &Plan::Go(Stage::STAGE_48),
     ),
 );
 
-static STAGE50: Plan = Plan::Kept(&Form::When(
+static STAGE_50: Plan = Plan::Kept(&Form::When(
     Look::Word(Word::Impl),
     &Form::Then(
         &Form::Token(Token::Word(Word::Impl)),
-        &Form::Part(Part::Planned22),
+        &Form::Part(Part::PLANNED_22),
     ),
     &Form::Never(Fault::Unexpected),
 ));
 
-static STAGE51: Plan = Plan::Turns(
+static STAGE_51: Plan = Plan::Turns(
     Look::Word(Word::Extern),
-    &Plan::Go(Stage::Stage30),
+    &Plan::Go(Stage::STAGE_30),
     &Plan::Turns(
         Look::Word(Word::Unsafe),
-        &Plan::Go(Stage::Stage32),
+        &Plan::Go(Stage::STAGE_32),
         &Plan::Turns(
             Look::Word(Word::Const),
-            &Plan::Go(Stage::Stage49),
-            &Plan::Go(Stage::Stage50),
+            &Plan::Go(Stage::STAGE_49),
+            &Plan::Go(Stage::STAGE_50),
         ),
     ),
 );
 
-static STAGE52: Plan = Plan::Turns(
+static STAGE_52: Plan = Plan::Turns(
     Look::Word(Word::Macro),
-    &Plan::Go(Stage::Stage24),
+    &Plan::Go(Stage::STAGE_24),
     &Plan::Turns(
         Look::Or(&Look::Word(Word::Fn), &Look::Word(Word::Async)),
-        &Plan::Go(Stage::Stage26),
-        &Plan::Go(Stage::Stage51),
+        &Plan::Go(Stage::STAGE_26),
+        &Plan::Go(Stage::STAGE_51),
     ),
 );
 
-static STAGE53: Plan = Plan::Turns(
+static STAGE_53: Plan = Plan::Turns(
     Look::Word(Word::Mod),
-    &Plan::Go(Stage::Stage21),
+    &Plan::Go(Stage::STAGE_21),
     &Plan::Turns(
         Look::Word(Word::Trait),
-        &Plan::Go(Stage::Stage22),
+        &Plan::Go(Stage::STAGE_22),
         &Plan::Turns(
             Look::MarkedAuto,
-            &Plan::Go(Stage::Stage23),
-            &Plan::Go(Stage::Stage52),
+            &Plan::Go(Stage::STAGE_23),
+            &Plan::Go(Stage::STAGE_52),
         ),
     ),
 );
 
-static STAGE54: Plan = Plan::Turns(
+static STAGE_54: Plan = Plan::Turns(
     Look::Word(Word::Type),
-    &Plan::Go(Stage::Stage13),
+    &Plan::Go(Stage::STAGE_13),
     &Plan::Turns(
         Look::Word(Word::Static),
-        &Plan::Go(Stage::Stage18),
+        &Plan::Go(Stage::STAGE_18),
         &Plan::Turns(
             Look::Word(Word::Use),
-            &Plan::Go(Stage::Stage20),
-            &Plan::Go(Stage::Stage53),
+            &Plan::Go(Stage::STAGE_20),
+            &Plan::Go(Stage::STAGE_53),
         ),
     ),
 );
 
-static STAGE55: Plan = Plan::Turns(
+static STAGE_55: Plan = Plan::Turns(
     Look::Word(Word::Struct),
-    &Plan::Go(Stage::Stage1),
+    &Plan::Go(Stage::STAGE_1),
     &Plan::Turns(
         Look::Word(Word::Enum),
-        &Plan::Go(Stage::Stage2),
+        &Plan::Go(Stage::STAGE_2),
         &Plan::Turns(
             Look::MarkedUnion,
-            &Plan::Go(Stage::Stage3),
-            &Plan::Go(Stage::Stage54),
+            &Plan::Go(Stage::STAGE_3),
+            &Plan::Go(Stage::STAGE_54),
         ),
     ),
 );
 
-static STAGE56: Plan = Plan::Turns(
+static STAGE_56: Plan = Plan::Turns(
     Look::Or(&Look::Word(Word::Trait), &Look::Word(Word::Auto)),
-    &Plan::Go(Stage::Stage23),
+    &Plan::Go(Stage::STAGE_23),
     &Plan::Turns(
         Look::Word(Word::Impl),
-        &Plan::Go(Stage::Stage5),
-        &Plan::Go(Stage::Stage34),
+        &Plan::Go(Stage::STAGE_5),
+        &Plan::Go(Stage::STAGE_34),
     ),
 );
 
-static STAGE57: Plan = Plan::Turns(
+static STAGE_57: Plan = Plan::Turns(
     Look::Word(Word::Trait),
-    &Plan::Go(Stage::Stage38),
+    &Plan::Go(Stage::STAGE_38),
     &Plan::Turns(
         Look::MarkedAuto,
-        &Plan::Go(Stage::Stage23),
+        &Plan::Go(Stage::STAGE_23),
         &Plan::Turns(
             Look::Word(Word::Impl),
-            &Plan::Go(Stage::Stage5),
-            &Plan::Go(Stage::Stage47),
+            &Plan::Go(Stage::STAGE_5),
+            &Plan::Go(Stage::STAGE_47),
         ),
     ),
 );
 
-static STAGE58: Plan = Plan::Reads(
+static STAGE_58: Plan = Plan::Reads(
     &Form::Token(Token::Word(Word::Const)),
     &Plan::Turns(
         Look::Word(Word::Unsafe),
         &Plan::Reads(
             &Form::Token(Token::Word(Word::Unsafe)),
-            &Plan::Go(Stage::Stage56),
+            &Plan::Go(Stage::STAGE_56),
         ),
-        &Plan::Go(Stage::Stage57),
+        &Plan::Go(Stage::STAGE_57),
     ),
 );
 
-static STAGE59: Plan = Plan::Turns(
+static STAGE_59: Plan = Plan::Turns(
     Look::Word(Word::Extern),
-    &Plan::Go(Stage::Stage30),
+    &Plan::Go(Stage::STAGE_30),
     &Plan::Turns(
         Look::Word(Word::Unsafe),
-        &Plan::Go(Stage::Stage32),
+        &Plan::Go(Stage::STAGE_32),
         &Plan::Turns(
             Look::Word(Word::Const),
-            &Plan::Go(Stage::Stage58),
-            &Plan::Go(Stage::Stage50),
+            &Plan::Go(Stage::STAGE_58),
+            &Plan::Go(Stage::STAGE_50),
         ),
     ),
 );
 
-static STAGE60: Plan = Plan::Turns(
+static STAGE_60: Plan = Plan::Turns(
     Look::Word(Word::Macro),
-    &Plan::Go(Stage::Stage24),
+    &Plan::Go(Stage::STAGE_24),
     &Plan::Turns(
         Look::Or(&Look::Word(Word::Fn), &Look::Word(Word::Async)),
-        &Plan::Go(Stage::Stage26),
-        &Plan::Go(Stage::Stage59),
+        &Plan::Go(Stage::STAGE_26),
+        &Plan::Go(Stage::STAGE_59),
     ),
 );
 
-static STAGE61: Plan = Plan::Turns(
+static STAGE_61: Plan = Plan::Turns(
     Look::Word(Word::Mod),
-    &Plan::Go(Stage::Stage21),
+    &Plan::Go(Stage::STAGE_21),
     &Plan::Turns(
         Look::Word(Word::Trait),
-        &Plan::Go(Stage::Stage22),
+        &Plan::Go(Stage::STAGE_22),
         &Plan::Turns(
             Look::MarkedAuto,
-            &Plan::Go(Stage::Stage23),
-            &Plan::Go(Stage::Stage60),
+            &Plan::Go(Stage::STAGE_23),
+            &Plan::Go(Stage::STAGE_60),
         ),
     ),
 );
 
-static STAGE62: Plan = Plan::Turns(
+static STAGE_62: Plan = Plan::Turns(
     Look::Word(Word::Type),
-    &Plan::Go(Stage::Stage13),
+    &Plan::Go(Stage::STAGE_13),
     &Plan::Turns(
         Look::Word(Word::Static),
-        &Plan::Go(Stage::Stage18),
+        &Plan::Go(Stage::STAGE_18),
         &Plan::Turns(
             Look::Word(Word::Use),
-            &Plan::Go(Stage::Stage20),
-            &Plan::Go(Stage::Stage61),
+            &Plan::Go(Stage::STAGE_20),
+            &Plan::Go(Stage::STAGE_61),
         ),
     ),
 );
 
-static STAGE63: Plan = Plan::Turns(
+static STAGE_63: Plan = Plan::Turns(
     Look::Word(Word::Struct),
-    &Plan::Go(Stage::Stage1),
+    &Plan::Go(Stage::STAGE_1),
     &Plan::Turns(
         Look::Word(Word::Enum),
-        &Plan::Go(Stage::Stage2),
+        &Plan::Go(Stage::STAGE_2),
         &Plan::Turns(
             Look::MarkedUnion,
-            &Plan::Go(Stage::Stage3),
-            &Plan::Go(Stage::Stage62),
+            &Plan::Go(Stage::STAGE_3),
+            &Plan::Go(Stage::STAGE_62),
         ),
     ),
 );
 
-static STAGE64: Plan = Plan::Rest(&Form::Then(
+static STAGE_64: Plan = Plan::Rest(&Form::Then(
     &Form::Inside(
         Delimiter::Brace,
         &Form::Then(
-            &Form::Rule(Rule::InnerAttributes),
-            &Form::Rule(Rule::ForeignItems),
+            &Form::Rule(Rule::INNER_ATTRIBUTES),
+            &Form::Rule(Rule::FOREIGN_ITEMS),
         ),
     ),
     &Form::Empty,
 ));
 
-static STAGE65: Plan = Plan::Reads(
+static STAGE_65: Plan = Plan::Reads(
     &Form::When(Look::StrLiteral, &Form::Token(Token::Str), &Form::Empty),
     &Plan::Turns(
         Look::Group(Delimiter::Brace),
-        &Plan::Go(Stage::Stage64),
-        &Plan::Go(Stage::Stage28),
+        &Plan::Go(Stage::STAGE_64),
+        &Plan::Go(Stage::STAGE_28),
     ),
 );
 
-static STAGE66: Plan = Plan::Rest(&Form::Then(&Form::Rule(Rule::ImplBody), &Form::Empty));
+static STAGE_66: Plan = Plan::Rest(&Form::Then(&Form::Rule(Rule::IMPL_BODY), &Form::Empty));
 
-static STAGE67: Plan = Plan::SelfType(&Plan::Go(Stage::Stage66));
+static STAGE_67: Plan = Plan::SelfType(&Plan::Go(Stage::STAGE_66));
 
-static STAGE68: Plan = Plan::Reads(&Form::Rule(Rule::TypePath), &Plan::Go(Stage::Stage67));
+static STAGE_68: Plan = Plan::Reads(&Form::Rule(Rule::TYPE_PATH), &Plan::Go(Stage::STAGE_67));
 
-static STAGE69: Plan = Plan::Kept(&Form::Then(
-    &Form::Rule(Rule::Type),
+static STAGE_69: Plan = Plan::Kept(&Form::Then(
+    &Form::Rule(Rule::TYPE),
     &Form::Then(
-        &Form::Rule(Rule::ForSelfType),
-        &Form::Then(&Form::Rule(Rule::ImplBody), &Form::Empty),
+        &Form::Rule(Rule::FOR_SELF_TYPE),
+        &Form::Then(&Form::Rule(Rule::IMPL_BODY), &Form::Empty),
     ),
 ));
 
-static STAGE70: Plan = Plan::Turns(
+static STAGE_70: Plan = Plan::Turns(
     Look::Group(Delimiter::Brace),
-    &Plan::Go(Stage::Stage66),
+    &Plan::Go(Stage::STAGE_66),
     &Plan::Turns(
         Look::Or(&Look::PathWord, &Look::Mark(Mark::PathSep)),
-        &Plan::Go(Stage::Stage68),
-        &Plan::Go(Stage::Stage69),
+        &Plan::Go(Stage::STAGE_68),
+        &Plan::Go(Stage::STAGE_69),
     ),
 );
 
-static STAGE71: Plan = Plan::Reads(
-    &Form::Rule(Rule::TypePath),
+static STAGE_71: Plan = Plan::Reads(
+    &Form::Rule(Rule::TYPE_PATH),
     &Plan::Turns(
         Look::Word(Word::For),
-        &Plan::Go(Stage::Stage67),
-        &Plan::Go(Stage::Stage66),
+        &Plan::Go(Stage::STAGE_67),
+        &Plan::Go(Stage::STAGE_66),
     ),
 );
 
-static STAGE72: Plan = Plan::Kept(&Form::Then(
-    &Form::Rule(Rule::ForSelfType),
-    &Form::Then(&Form::Rule(Rule::ImplBody), &Form::Empty),
+static STAGE_72: Plan = Plan::Kept(&Form::Then(
+    &Form::Rule(Rule::FOR_SELF_TYPE),
+    &Form::Then(&Form::Rule(Rule::IMPL_BODY), &Form::Empty),
 ));
 
-static STAGE73: Plan = Plan::Turns(
+static STAGE_73: Plan = Plan::Turns(
     Look::Or(&Look::PathWord, &Look::Mark(Mark::PathSep)),
-    &Plan::Go(Stage::Stage71),
+    &Plan::Go(Stage::STAGE_71),
     &Plan::Reads(
-        &Form::Rule(Rule::Type),
+        &Form::Rule(Rule::TYPE),
         &Plan::Turns(
             Look::Word(Word::For),
-            &Plan::Go(Stage::Stage72),
-            &Plan::Go(Stage::Stage66),
+            &Plan::Go(Stage::STAGE_72),
+            &Plan::Go(Stage::STAGE_66),
         ),
     ),
 );
 
-static STAGE74: Plan = Plan::Lists(&Plan::Led(&Plan::Turns(
+static STAGE_74: Plan = Plan::Lists(&Plan::Led(&Plan::Turns(
     Look::Mark(Mark::Not),
-    &Plan::Reads(&Form::Mark(Mark::Not), &Plan::Go(Stage::Stage70)),
-    &Plan::Go(Stage::Stage73),
+    &Plan::Reads(&Form::Mark(Mark::Not), &Plan::Go(Stage::STAGE_70)),
+    &Plan::Go(Stage::STAGE_73),
 )));
 
-static STAGE75: Plan = Plan::Reads(
+static STAGE_75: Plan = Plan::Reads(
     &Form::Token(Token::Word(Word::Impl)),
-    &Plan::Go(Stage::Stage74),
+    &Plan::Go(Stage::STAGE_74),
 );
 
-static STAGE76: Plan = Plan::Turns(
+static STAGE_76: Plan = Plan::Turns(
     Look::Word(Word::Impl),
-    &Plan::Go(Stage::Stage75),
+    &Plan::Go(Stage::STAGE_75),
     &Plan::Turns(
         Look::Word(Word::Extern),
         &Plan::Reads(
             &Form::Token(Token::Word(Word::Extern)),
-            &Plan::Go(Stage::Stage65),
+            &Plan::Go(Stage::STAGE_65),
         ),
-        &Plan::Go(Stage::Stage28),
+        &Plan::Go(Stage::STAGE_28),
     ),
 );
 
-static STAGE77: Plan = Plan::Turns(
+static STAGE_77: Plan = Plan::Turns(
     Look::Word(Word::Mod),
-    &Plan::Go(Stage::Stage21),
+    &Plan::Go(Stage::STAGE_21),
     &Plan::Turns(
         Look::Or(&Look::Word(Word::Trait), &Look::Word(Word::Auto)),
-        &Plan::Go(Stage::Stage23),
-        &Plan::Go(Stage::Stage76),
+        &Plan::Go(Stage::STAGE_23),
+        &Plan::Go(Stage::STAGE_76),
     ),
 );
 
-static STAGE78: Plan = Plan::Turns(
+static STAGE_78: Plan = Plan::Turns(
     Look::Or(&Look::Word(Word::Trait), &Look::Word(Word::Auto)),
-    &Plan::Go(Stage::Stage23),
+    &Plan::Go(Stage::STAGE_23),
     &Plan::Turns(
         Look::Word(Word::Impl),
-        &Plan::Go(Stage::Stage75),
-        &Plan::Go(Stage::Stage34),
+        &Plan::Go(Stage::STAGE_75),
+        &Plan::Go(Stage::STAGE_34),
     ),
 );
 
-static STAGE79: Plan = Plan::Turns(
+static STAGE_79: Plan = Plan::Turns(
     Look::Word(Word::Trait),
-    &Plan::Go(Stage::Stage38),
+    &Plan::Go(Stage::STAGE_38),
     &Plan::Turns(
         Look::MarkedAuto,
-        &Plan::Go(Stage::Stage23),
+        &Plan::Go(Stage::STAGE_23),
         &Plan::Turns(
             Look::Word(Word::Impl),
-            &Plan::Go(Stage::Stage75),
-            &Plan::Go(Stage::Stage47),
+            &Plan::Go(Stage::STAGE_75),
+            &Plan::Go(Stage::STAGE_47),
         ),
     ),
 );
 
-static STAGE80: Plan = Plan::Reads(
+static STAGE_80: Plan = Plan::Reads(
     &Form::Token(Token::Word(Word::Const)),
     &Plan::Turns(
         Look::Word(Word::Unsafe),
         &Plan::Reads(
             &Form::Token(Token::Word(Word::Unsafe)),
-            &Plan::Go(Stage::Stage78),
+            &Plan::Go(Stage::STAGE_78),
         ),
-        &Plan::Go(Stage::Stage79),
+        &Plan::Go(Stage::STAGE_79),
     ),
 );
 
-static STAGE81: Plan = Plan::Kept(&Form::Then(
+static STAGE_81: Plan = Plan::Kept(&Form::Then(
     &Form::When(
         Look::Word(Word::Const),
         &Form::Token(Token::Word(Word::Const)),
         &Form::Empty,
     ),
-    &Form::Then(&Form::Rule(Rule::BareTrait), &Form::Empty),
+    &Form::Then(&Form::Rule(Rule::BARE_TRAIT), &Form::Empty),
 ));
 
-static STAGE82: Plan = Plan::Turns(
+static STAGE_82: Plan = Plan::Turns(
     Look::Word(Word::For),
-    &Plan::Go(Stage::Stage72),
+    &Plan::Go(Stage::STAGE_72),
     &Plan::Turns(
         Look::Or(&Look::Word(Word::Where), &Look::Group(Delimiter::Brace)),
-        &Plan::Go(Stage::Stage66),
-        &Plan::Go(Stage::Stage81),
+        &Plan::Go(Stage::STAGE_66),
+        &Plan::Go(Stage::STAGE_81),
     ),
 );
 
-static STAGE83: Plan = Plan::Turns(
+static STAGE_83: Plan = Plan::Turns(
     Look::InRestriction,
     &Plan::Kept(&Form::Then(
-        &Form::Inside(Delimiter::Paren, &Form::Rule(Rule::Restriction)),
-        &Form::Part(Part::Planned23),
+        &Form::Inside(Delimiter::Paren, &Form::Rule(Rule::RESTRICTION)),
+        &Form::Part(Part::PLANNED_23),
     )),
     &Plan::Turns(
         Look::LoneWord,
-        &Plan::Reads(&Form::Rule(Rule::Type), &Plan::Go(Stage::Stage82)),
-        &Plan::Go(Stage::Stage74),
+        &Plan::Reads(&Form::Rule(Rule::TYPE), &Plan::Go(Stage::STAGE_82)),
+        &Plan::Go(Stage::STAGE_74),
     ),
 );
 
-static STAGE84: Plan = Plan::Rest(&Form::When(
+static STAGE_84: Plan = Plan::Rest(&Form::When(
     Look::NoMacroItem,
     &Form::Never(Fault::Unexpected),
     &Form::Then(
-        &Form::Rule(Rule::ModulePath),
+        &Form::Rule(Rule::MODULE_PATH),
         &Form::Then(
             &Form::When(
                 Look::Bang,
                 &Form::Mark(Mark::Not),
                 &Form::Never(Fault::Unexpected),
             ),
-            &Form::Part(Part::Planned24),
+            &Form::Part(Part::PLANNED_24),
         ),
     ),
 ));
 
-static STAGE85: Plan = Plan::Reads(
+static STAGE_85: Plan = Plan::Reads(
     &Form::When(
         Look::Word(Word::Const),
         &Form::Token(Token::Word(Word::Const)),
@@ -2028,188 +2607,188 @@ static STAGE85: Plan = Plan::Reads(
             &Form::Token(Token::Word(Word::Unsafe)),
             &Form::Empty,
         ),
-        &Plan::Go(Stage::Stage75),
+        &Plan::Go(Stage::STAGE_75),
     ),
 );
 
-static STAGE86: Plan = Plan::Turns(
+static STAGE_86: Plan = Plan::Turns(
     Look::Word(Word::Default),
     &Plan::Turns(
         Look::BeforeMacro,
-        &Plan::Go(Stage::Stage84),
+        &Plan::Go(Stage::STAGE_84),
         &Plan::Reads(
             &Form::Token(Token::Word(Word::Default)),
-            &Plan::Go(Stage::Stage85),
+            &Plan::Go(Stage::STAGE_85),
         ),
     ),
-    &Plan::Go(Stage::Stage84),
+    &Plan::Go(Stage::STAGE_84),
 );
 
-static STAGE87: Plan = Plan::Turns(
+static STAGE_87: Plan = Plan::Turns(
     Look::Word(Word::Const),
-    &Plan::Go(Stage::Stage80),
+    &Plan::Go(Stage::STAGE_80),
     &Plan::Turns(
         Look::Word(Word::Impl),
         &Plan::Reads(
             &Form::Token(Token::Word(Word::Impl)),
-            &Plan::Go(Stage::Stage83),
+            &Plan::Go(Stage::STAGE_83),
         ),
-        &Plan::Go(Stage::Stage86),
+        &Plan::Go(Stage::STAGE_86),
     ),
 );
 
-static STAGE88: Plan = Plan::Turns(
+static STAGE_88: Plan = Plan::Turns(
     Look::Word(Word::Extern),
     &Plan::Reads(
         &Form::Token(Token::Word(Word::Extern)),
         &Plan::Turns(
             Look::Word(Word::Crate),
-            &Plan::Go(Stage::Stage27),
-            &Plan::Go(Stage::Stage65),
+            &Plan::Go(Stage::STAGE_27),
+            &Plan::Go(Stage::STAGE_65),
         ),
     ),
     &Plan::Turns(
         Look::Word(Word::Unsafe),
         &Plan::Reads(
             &Form::Token(Token::Word(Word::Unsafe)),
-            &Plan::Go(Stage::Stage77),
+            &Plan::Go(Stage::STAGE_77),
         ),
-        &Plan::Go(Stage::Stage87),
+        &Plan::Go(Stage::STAGE_87),
     ),
 );
 
-static STAGE89: Plan = Plan::Turns(
+static STAGE_89: Plan = Plan::Turns(
     Look::Word(Word::Macro),
-    &Plan::Go(Stage::Stage24),
+    &Plan::Go(Stage::STAGE_24),
     &Plan::Turns(
         Look::Or(&Look::Word(Word::Fn), &Look::Word(Word::Async)),
-        &Plan::Go(Stage::Stage26),
-        &Plan::Go(Stage::Stage88),
+        &Plan::Go(Stage::STAGE_26),
+        &Plan::Go(Stage::STAGE_88),
     ),
 );
 
-static STAGE90: Plan = Plan::Turns(
+static STAGE_90: Plan = Plan::Turns(
     Look::Word(Word::Mod),
-    &Plan::Go(Stage::Stage21),
+    &Plan::Go(Stage::STAGE_21),
     &Plan::Turns(
         Look::Word(Word::Trait),
-        &Plan::Go(Stage::Stage22),
+        &Plan::Go(Stage::STAGE_22),
         &Plan::Turns(
             Look::MarkedAuto,
-            &Plan::Go(Stage::Stage23),
-            &Plan::Go(Stage::Stage89),
+            &Plan::Go(Stage::STAGE_23),
+            &Plan::Go(Stage::STAGE_89),
         ),
     ),
 );
 
-static STAGE91: Plan = Plan::Turns(
+static STAGE_91: Plan = Plan::Turns(
     Look::Word(Word::Type),
-    &Plan::Go(Stage::Stage13),
+    &Plan::Go(Stage::STAGE_13),
     &Plan::Turns(
         Look::Word(Word::Static),
-        &Plan::Go(Stage::Stage18),
+        &Plan::Go(Stage::STAGE_18),
         &Plan::Turns(
             Look::Word(Word::Use),
-            &Plan::Go(Stage::Stage20),
-            &Plan::Go(Stage::Stage90),
+            &Plan::Go(Stage::STAGE_20),
+            &Plan::Go(Stage::STAGE_90),
         ),
     ),
 );
 
-static STAGE92: Plan = Plan::Turns(
+static STAGE_92: Plan = Plan::Turns(
     Look::Word(Word::Struct),
-    &Plan::Go(Stage::Stage1),
+    &Plan::Go(Stage::STAGE_1),
     &Plan::Turns(
         Look::Word(Word::Enum),
-        &Plan::Go(Stage::Stage2),
+        &Plan::Go(Stage::STAGE_2),
         &Plan::Turns(
             Look::MarkedUnion,
-            &Plan::Go(Stage::Stage3),
-            &Plan::Go(Stage::Stage91),
+            &Plan::Go(Stage::STAGE_3),
+            &Plan::Go(Stage::STAGE_91),
         ),
     ),
 );
 
-static STAGE93: Plan = Plan::Turns(
+static STAGE_93: Plan = Plan::Turns(
     Look::Word(Word::Pub),
-    &Plan::Reads(&Form::Rule(Rule::Visibility), &Plan::Go(Stage::Stage55)),
+    &Plan::Reads(&Form::Rule(Rule::VISIBILITY), &Plan::Go(Stage::STAGE_55)),
     &Plan::Turns(
         Look::EmptyGroup,
-        &Plan::Reads(&Form::Rule(Rule::Visibility), &Plan::Go(Stage::Stage63)),
-        &Plan::Go(Stage::Stage92),
+        &Plan::Reads(&Form::Rule(Rule::VISIBILITY), &Plan::Go(Stage::STAGE_63)),
+        &Plan::Go(Stage::STAGE_92),
     ),
 );
 
-static STAGE94: Plan = Plan::Kept(&Form::Then(
-    &Form::Rule(Rule::Visibility),
+static STAGE_94: Plan = Plan::Kept(&Form::Then(
+    &Form::Rule(Rule::VISIBILITY),
     &Form::Then(
         &Form::When(
             Look::Word(Word::Default),
             &Form::Token(Token::Word(Word::Default)),
             &Form::Empty,
         ),
-        &Form::Part(Part::Planned35),
+        &Form::Part(Part::PLANNED_35),
     ),
 ));
 
-static STAGE95: Plan = Plan::Kept(&Form::Then(
-    &Form::Rule(Rule::Visibility),
+static STAGE_95: Plan = Plan::Kept(&Form::Then(
+    &Form::Rule(Rule::VISIBILITY),
     &Form::When(
         Look::Word(Word::Default),
-        &Form::Part(Part::Planned51),
+        &Form::Part(Part::PLANNED_51),
         &Form::Then(
             &Form::Token(Token::Word(Word::Const)),
             &Form::Then(
                 &Form::Token(Token::NameOrUnderscore),
-                &Form::Part(Part::Planned50),
+                &Form::Part(Part::PLANNED_50),
             ),
         ),
     ),
 ));
 
-static STAGE96: Plan = Plan::Kept(&Form::Then(
+static STAGE_96: Plan = Plan::Kept(&Form::Then(
     &Form::Token(Token::Word(Word::Default)),
     &Form::When(
         Look::Word(Word::Type),
-        &Form::Part(Part::Planned61),
+        &Form::Part(Part::PLANNED_61),
         &Form::When(
             Look::Word(Word::Const),
             &Form::Then(
                 &Form::Token(Token::Word(Word::Const)),
-                &Form::Part(Part::Planned59),
+                &Form::Part(Part::PLANNED_59),
             ),
-            &Form::Part(Part::Planned60),
+            &Form::Part(Part::PLANNED_60),
         ),
     ),
 ));
 
-static STAGE97: Plan = Plan::Rest(&Form::Then(
+static STAGE_97: Plan = Plan::Rest(&Form::Then(
     &Form::Token(Token::Word(Word::Type)),
     &Form::Then(
         &Form::Token(Token::Name),
-        &Form::Then(&Form::Rule(Rule::Generics), &Form::Part(Part::Planned63)),
+        &Form::Then(&Form::Rule(Rule::GENERICS), &Form::Part(Part::PLANNED_63)),
     ),
 ));
 
-static STAGE98: Plan = Plan::Reads(
+static STAGE_98: Plan = Plan::Reads(
     &Form::When(
         Look::Mark(Mark::Eq),
-        &Form::Then(&Form::Mark(Mark::Eq), &Form::Rule(Rule::WholeExpression)),
+        &Form::Then(&Form::Mark(Mark::Eq), &Form::Rule(Rule::WHOLE_EXPRESSION)),
         &Form::Empty,
     ),
-    &Plan::Go(Stage::Stage42),
+    &Plan::Go(Stage::STAGE_42),
 );
 
-static STAGE99: Plan = Plan::Turns(
+static STAGE_99: Plan = Plan::Turns(
     Look::Mark(Mark::Lt),
-    &Plan::Go(Stage::Stage40),
+    &Plan::Go(Stage::STAGE_40),
     &Plan::Reads(
         &Form::Mark(Mark::Colon),
-        &Plan::Reads(&Form::Rule(Rule::Type), &Plan::Go(Stage::Stage98)),
+        &Plan::Reads(&Form::Rule(Rule::TYPE), &Plan::Go(Stage::STAGE_98)),
     ),
 );
 
-static STAGE100: Plan = Plan::Turns(
+static STAGE_100: Plan = Plan::Turns(
     Look::Or(
         &Look::Word(Word::Async),
         &Look::Or(
@@ -2223,15 +2802,15 @@ static STAGE100: Plan = Plan::Turns(
             &Form::Token(Token::Word(Word::Async)),
             &Form::Empty,
         ),
-        &Form::Part(Part::Planned65),
+        &Form::Part(Part::PLANNED_65),
     )),
     &Plan::Reads(
         &Form::Token(Token::NameOrUnderscore),
-        &Plan::Go(Stage::Stage99),
+        &Plan::Go(Stage::STAGE_99),
     ),
 );
 
-static STAGE101: Plan = Plan::Rest(&Form::When(
+static STAGE_101: Plan = Plan::Rest(&Form::When(
     Look::Or(
         &Look::Word(Word::Async),
         &Look::Or(
@@ -2239,71 +2818,71 @@ static STAGE101: Plan = Plan::Rest(&Form::When(
             &Look::Or(&Look::Word(Word::Extern), &Look::Word(Word::Fn)),
         ),
     ),
-    &Form::Part(Part::Planned67),
+    &Form::Part(Part::PLANNED_67),
     &Form::When(
         Look::Or(&Look::Word(Word::SelfType), &Look::Word(Word::Default)),
         &Form::Never(Fault::Unexpected),
-        &Form::Part(Part::Planned66),
+        &Form::Part(Part::PLANNED_66),
     ),
 ));
 
-static STAGE102: Plan = Plan::Turns(
+static STAGE_102: Plan = Plan::Turns(
     Look::Word(Word::Type),
-    &Plan::Go(Stage::Stage97),
+    &Plan::Go(Stage::STAGE_97),
     &Plan::Turns(
         Look::Word(Word::Const),
         &Plan::Reads(
             &Form::Token(Token::Word(Word::Const)),
-            &Plan::Go(Stage::Stage100),
+            &Plan::Go(Stage::STAGE_100),
         ),
-        &Plan::Go(Stage::Stage101),
+        &Plan::Go(Stage::STAGE_101),
     ),
 );
 
-static STAGE103: Plan = Plan::Turns(
+static STAGE_103: Plan = Plan::Turns(
     Look::Word(Word::Pub),
-    &Plan::Go(Stage::Stage94),
+    &Plan::Go(Stage::STAGE_94),
     &Plan::Turns(
         Look::EmptyGroup,
-        &Plan::Go(Stage::Stage95),
+        &Plan::Go(Stage::STAGE_95),
         &Plan::Turns(
             Look::Word(Word::Default),
-            &Plan::Go(Stage::Stage96),
-            &Plan::Go(Stage::Stage102),
+            &Plan::Go(Stage::STAGE_96),
+            &Plan::Go(Stage::STAGE_102),
         ),
     ),
 );
 
-static STAGE104: Plan = Plan::Rest(&Form::Then(
+static STAGE_104: Plan = Plan::Rest(&Form::Then(
     &Form::Mark(Mark::Eq),
     &Form::Then(
-        &Form::Rule(Rule::Type),
+        &Form::Rule(Rule::TYPE),
         &Form::Then(
-            &Form::Rule(Rule::WhereClause),
+            &Form::Rule(Rule::WHERE_CLAUSE),
             &Form::Then(&Form::Mark(Mark::Semi), &Form::Empty),
         ),
     ),
 ));
 
-static STAGE105: Plan = Plan::Turns(
+static STAGE_105: Plan = Plan::Turns(
     Look::Mark(Mark::Eq),
-    &Plan::Go(Stage::Stage104),
+    &Plan::Go(Stage::STAGE_104),
     &Plan::Kept(&Form::When(
         Look::Mark(Mark::Colon),
-        &Form::Then(&Form::Mark(Mark::Colon), &Form::Part(Part::Planned69)),
-        &Form::Part(Part::Planned70),
+        &Form::Then(&Form::Mark(Mark::Colon), &Form::Part(Part::PLANNED_69)),
+        &Form::Part(Part::PLANNED_70),
     )),
 );
 
-static STAGE106: Plan = Plan::Reads(
+static STAGE_106: Plan = Plan::Reads(
     &Form::Token(Token::Word(Word::Type)),
     &Plan::Reads(
         &Form::Token(Token::Name),
-        &Plan::Reads(&Form::Rule(Rule::Generics), &Plan::Go(Stage::Stage105)),
+        &Plan::Reads(&Form::Rule(Rule::GENERICS), &Plan::Go(Stage::STAGE_105)),
     ),
 );
 
-static STAGE107: Plan = Plan::Turns(
+static STAGE_107: Plan = Plan::Turns(
     Look::Or(
         &Look::Word(Word::Async),
         &Look::Or(
@@ -2311,44 +2890,44 @@ static STAGE107: Plan = Plan::Turns(
             &Look::Or(&Look::Word(Word::Extern), &Look::Word(Word::Fn)),
         ),
     ),
-    &Plan::Go(Stage::Stage39),
-    &Plan::Go(Stage::Stage46),
+    &Plan::Go(Stage::STAGE_39),
+    &Plan::Go(Stage::STAGE_46),
 );
 
-static STAGE108: Plan = Plan::Reads(
+static STAGE_108: Plan = Plan::Reads(
     &Form::Token(Token::Word(Word::Const)),
-    &Plan::Go(Stage::Stage107),
+    &Plan::Go(Stage::STAGE_107),
 );
 
-static STAGE109: Plan = Plan::Turns(
+static STAGE_109: Plan = Plan::Turns(
     Look::Word(Word::Type),
-    &Plan::Go(Stage::Stage106),
+    &Plan::Go(Stage::STAGE_106),
     &Plan::Turns(
         Look::Word(Word::Const),
-        &Plan::Go(Stage::Stage108),
-        &Plan::Go(Stage::Stage26),
+        &Plan::Go(Stage::STAGE_108),
+        &Plan::Go(Stage::STAGE_26),
     ),
 );
 
-static STAGE110: Plan = Plan::Reads(
-    &Form::Rule(Rule::Visibility),
+static STAGE_110: Plan = Plan::Reads(
+    &Form::Rule(Rule::VISIBILITY),
     &Plan::Reads(
         &Form::When(
             Look::Word(Word::Default),
             &Form::Token(Token::Word(Word::Default)),
             &Form::Empty,
         ),
-        &Plan::Go(Stage::Stage109),
+        &Plan::Go(Stage::STAGE_109),
     ),
 );
 
-static STAGE111: Plan = Plan::Rest(&Form::When(
+static STAGE_111: Plan = Plan::Rest(&Form::When(
     Look::NoMacroItem,
     &Form::Never(Fault::Unexpected),
-    &Form::Part(Part::Planned71),
+    &Form::Part(Part::PLANNED_71),
 ));
 
-static STAGE112: Plan = Plan::Turns(
+static STAGE_112: Plan = Plan::Turns(
     Look::Or(
         &Look::Word(Word::Async),
         &Look::Or(
@@ -2356,134 +2935,137 @@ static STAGE112: Plan = Plan::Turns(
             &Look::Or(&Look::Word(Word::Extern), &Look::Word(Word::Fn)),
         ),
     ),
-    &Plan::Go(Stage::Stage26),
-    &Plan::Go(Stage::Stage111),
+    &Plan::Go(Stage::STAGE_26),
+    &Plan::Go(Stage::STAGE_111),
 );
 
-static STAGE113: Plan = Plan::Turns(
+static STAGE_113: Plan = Plan::Turns(
     Look::Word(Word::Default),
     &Plan::Turns(
         Look::BeforeMacro,
-        &Plan::Go(Stage::Stage111),
+        &Plan::Go(Stage::STAGE_111),
         &Plan::Reads(
             &Form::Token(Token::Word(Word::Default)),
-            &Plan::Go(Stage::Stage109),
+            &Plan::Go(Stage::STAGE_109),
         ),
     ),
     &Plan::Turns(
         Look::Word(Word::Type),
-        &Plan::Go(Stage::Stage106),
+        &Plan::Go(Stage::STAGE_106),
         &Plan::Turns(
             Look::Word(Word::Const),
-            &Plan::Go(Stage::Stage108),
-            &Plan::Go(Stage::Stage112),
+            &Plan::Go(Stage::STAGE_108),
+            &Plan::Go(Stage::STAGE_112),
         ),
     ),
 );
 
-static STAGE114: Plan = Plan::Reads(
+static STAGE_114: Plan = Plan::Reads(
     &Form::Mark(Mark::Colon),
     &Plan::Reads(
-        &Form::Rule(Rule::Type),
+        &Form::Rule(Rule::TYPE),
         &Plan::Turns(
             Look::Mark(Mark::Semi),
-            &Plan::Go(Stage::Stage6),
-            &Plan::Go(Stage::Stage16),
+            &Plan::Go(Stage::STAGE_6),
+            &Plan::Go(Stage::STAGE_16),
         ),
     ),
 );
 
-static STAGE115: Plan = Plan::Reads(
+static STAGE_115: Plan = Plan::Reads(
     &Form::When(
         Look::Word(Word::Mut),
         &Form::Token(Token::Word(Word::Mut)),
         &Form::Empty,
     ),
-    &Plan::Reads(&Form::Token(Token::Name), &Plan::Go(Stage::Stage114)),
+    &Plan::Reads(&Form::Token(Token::Name), &Plan::Go(Stage::STAGE_114)),
 );
 
-static STAGE116: Plan = Plan::Reads(
+static STAGE_116: Plan = Plan::Reads(
     &Form::Token(Token::Word(Word::Static)),
-    &Plan::Go(Stage::Stage115),
+    &Plan::Go(Stage::STAGE_115),
 );
 
-static STAGE117: Plan = Plan::Turns(
+static STAGE_117: Plan = Plan::Turns(
     Look::Mark(Mark::Semi),
-    &Plan::Go(Stage::Stage6),
-    &Plan::Kept(&Form::Then(&Form::Rule(Rule::Body), &Form::Empty)),
+    &Plan::Go(Stage::STAGE_6),
+    &Plan::Kept(&Form::Then(&Form::Rule(Rule::BODY), &Form::Empty)),
 );
 
-static STAGE118: Plan = Plan::Reads(
+static STAGE_118: Plan = Plan::Reads(
     &Form::When(
         Look::Word(Word::Extern),
-        &Form::Rule(Rule::Abi),
+        &Form::Rule(Rule::ABI),
         &Form::Empty,
     ),
-    &Plan::Reads(&Form::Rule(Rule::SignatureRest), &Plan::Go(Stage::Stage117)),
-);
-
-static STAGE119: Plan = Plan::Reads(
-    &Form::Rule(Rule::SafeOrUnsafe),
-    &Plan::Turns(
-        Look::Word(Word::Static),
-        &Plan::Go(Stage::Stage116),
-        &Plan::Go(Stage::Stage118),
+    &Plan::Reads(
+        &Form::Rule(Rule::SIGNATURE_REST),
+        &Plan::Go(Stage::STAGE_117),
     ),
 );
 
-static STAGE120: Plan = Plan::Kept(&Form::Then(
+static STAGE_119: Plan = Plan::Reads(
+    &Form::Rule(Rule::SAFE_OR_UNSAFE),
+    &Plan::Turns(
+        Look::Word(Word::Static),
+        &Plan::Go(Stage::STAGE_116),
+        &Plan::Go(Stage::STAGE_118),
+    ),
+);
+
+static STAGE_120: Plan = Plan::Kept(&Form::Then(
     &Form::Mark(Mark::Eq),
     &Form::Then(
-        &Form::Rule(Rule::Type),
+        &Form::Rule(Rule::TYPE),
         &Form::Then(&Form::Mark(Mark::Semi), &Form::Empty),
     ),
 ));
 
-static STAGE121: Plan = Plan::Turns(
+static STAGE_121: Plan = Plan::Turns(
     Look::Mark(Mark::Semi),
-    &Plan::Go(Stage::Stage6),
+    &Plan::Go(Stage::STAGE_6),
     &Plan::Kept(&Form::Then(
         &Form::Mark(Mark::Eq),
-        &Form::Then(&Form::Rule(Rule::Type), &Form::Part(Part::Planned72)),
+        &Form::Then(&Form::Rule(Rule::TYPE), &Form::Part(Part::PLANNED_72)),
     )),
 );
 
-static STAGE122: Plan = Plan::Turns(
+static STAGE_122: Plan = Plan::Turns(
     Look::Word(Word::Where),
     &Plan::Reads(
-        &Form::Rule(Rule::WhereClause),
+        &Form::Rule(Rule::WHERE_CLAUSE),
         &Plan::Turns(
             Look::Mark(Mark::Semi),
-            &Plan::Go(Stage::Stage6),
-            &Plan::Go(Stage::Stage120),
+            &Plan::Go(Stage::STAGE_6),
+            &Plan::Go(Stage::STAGE_120),
         ),
     ),
-    &Plan::Go(Stage::Stage121),
+    &Plan::Go(Stage::STAGE_121),
 );
 
-static STAGE123: Plan = Plan::Reads(
+static STAGE_123: Plan = Plan::Reads(
     &Form::Token(Token::Name),
     &Plan::Reads(
-        &Form::Rule(Rule::Generics),
+        &Form::Rule(Rule::GENERICS),
         &Plan::Turns(
             Look::Mark(Mark::Colon),
-            &Plan::Go(Stage::Stage4),
-            &Plan::Go(Stage::Stage122),
+            &Plan::Go(Stage::STAGE_4),
+            &Plan::Go(Stage::STAGE_122),
         ),
     ),
 );
 
-static STAGE124: Plan = Plan::Reads(
+static STAGE_124: Plan = Plan::Reads(
     &Form::Token(Token::Word(Word::Type)),
-    &Plan::Go(Stage::Stage123),
+    &Plan::Go(Stage::STAGE_123),
 );
 
-static STAGE125: Plan = Plan::Reads(
-    &Form::Rule(Rule::ForeignSignature),
-    &Plan::Go(Stage::Stage117),
+static STAGE_125: Plan = Plan::Reads(
+    &Form::Rule(Rule::FOREIGN_SIGNATURE),
+    &Plan::Go(Stage::STAGE_117),
 );
 
-static STAGE126: Plan = Plan::Turns(
+static STAGE_126: Plan = Plan::Turns(
     Look::Or(
         &Look::Word(Word::Const),
         &Look::Or(
@@ -2491,31 +3073,31 @@ static STAGE126: Plan = Plan::Turns(
             &Look::Or(&Look::Word(Word::Extern), &Look::Word(Word::Fn)),
         ),
     ),
-    &Plan::Go(Stage::Stage125),
-    &Plan::Go(Stage::Stage5),
+    &Plan::Go(Stage::STAGE_125),
+    &Plan::Go(Stage::STAGE_5),
 );
 
-static STAGE127: Plan = Plan::Turns(
+static STAGE_127: Plan = Plan::Turns(
     Look::Word(Word::Type),
-    &Plan::Go(Stage::Stage124),
+    &Plan::Go(Stage::STAGE_124),
     &Plan::Turns(
         Look::Word(Word::Static),
-        &Plan::Go(Stage::Stage116),
+        &Plan::Go(Stage::STAGE_116),
         &Plan::Turns(
             Look::Word(Word::Unsafe),
-            &Plan::Go(Stage::Stage119),
-            &Plan::Go(Stage::Stage126),
+            &Plan::Go(Stage::STAGE_119),
+            &Plan::Go(Stage::STAGE_126),
         ),
     ),
 );
 
-static STAGE128: Plan = Plan::Rest(&Form::When(
+static STAGE_128: Plan = Plan::Rest(&Form::When(
     Look::Word(Word::SelfType),
     &Form::Never(Fault::Unexpected),
-    &Form::Part(Part::Planned73),
+    &Form::Part(Part::PLANNED_73),
 ));
 
-static STAGE129: Plan = Plan::Turns(
+static STAGE_129: Plan = Plan::Turns(
     Look::Or(
         &Look::Word(Word::Const),
         &Look::Or(
@@ -2523,98 +3105,98 @@ static STAGE129: Plan = Plan::Turns(
             &Look::Or(&Look::Word(Word::Extern), &Look::Word(Word::Fn)),
         ),
     ),
-    &Plan::Go(Stage::Stage125),
-    &Plan::Go(Stage::Stage128),
+    &Plan::Go(Stage::STAGE_125),
+    &Plan::Go(Stage::STAGE_128),
 );
 
-static STAGE130: Plan = Plan::Turns(
+static STAGE_130: Plan = Plan::Turns(
     Look::Word(Word::Type),
-    &Plan::Go(Stage::Stage124),
+    &Plan::Go(Stage::STAGE_124),
     &Plan::Turns(
         Look::Word(Word::Static),
-        &Plan::Go(Stage::Stage116),
+        &Plan::Go(Stage::STAGE_116),
         &Plan::Turns(
             Look::Word(Word::Unsafe),
-            &Plan::Go(Stage::Stage119),
-            &Plan::Go(Stage::Stage129),
+            &Plan::Go(Stage::STAGE_119),
+            &Plan::Go(Stage::STAGE_129),
         ),
     ),
 );
 
-static STAGE131: Plan = Plan::Turns(
+static STAGE_131: Plan = Plan::Turns(
     Look::Word(Word::Safe),
     &Plan::Turns(
         Look::BeforeMacro,
-        &Plan::Go(Stage::Stage128),
+        &Plan::Go(Stage::STAGE_128),
         &Plan::Turns(
             Look::BeforeColons,
-            &Plan::Go(Stage::Stage128),
-            &Plan::Go(Stage::Stage119),
+            &Plan::Go(Stage::STAGE_128),
+            &Plan::Go(Stage::STAGE_119),
         ),
     ),
-    &Plan::Go(Stage::Stage130),
+    &Plan::Go(Stage::STAGE_130),
 );
 
-static STAGE132: Plan = Plan::Turns(
+static STAGE_132: Plan = Plan::Turns(
     Look::Or(&Look::Word(Word::Pub), &Look::EmptyGroup),
     &Plan::Reads(
-        &Form::Rule(Rule::Visibility),
+        &Form::Rule(Rule::VISIBILITY),
         &Plan::Turns(
             Look::Word(Word::Safe),
-            &Plan::Go(Stage::Stage119),
-            &Plan::Go(Stage::Stage127),
+            &Plan::Go(Stage::STAGE_119),
+            &Plan::Go(Stage::STAGE_127),
         ),
     ),
-    &Plan::Go(Stage::Stage131),
+    &Plan::Go(Stage::STAGE_131),
 );
 
-static STAGE133: Plan = Plan::Turns(
+static STAGE_133: Plan = Plan::Turns(
     Look::Item,
-    &Plan::Then(&Plan::Go(Stage::Stage93), &Form::Rule(Rule::Statements)),
-    &Plan::Rest(&Form::Then(&Form::Rule(Rule::StatementRest), &Form::Empty)),
+    &Plan::Then(&Plan::Go(Stage::STAGE_93), &Form::Rule(Rule::STATEMENTS)),
+    &Plan::Rest(&Form::Then(&Form::Rule(Rule::STATEMENT_REST), &Form::Empty)),
 );
 
-static STAGE134: Plan = Plan::Reads(
+static STAGE_134: Plan = Plan::Reads(
     &Form::Token(Token::Word(Word::Use)),
     &Plan::Turns(
         Look::Group(Delimiter::Brace),
-        &Plan::Rooted(&Plan::Go(Stage::Stage5), &Plan::Go(Stage::Stage6)),
-        &Plan::Go(Stage::Stage19),
+        &Plan::Rooted(&Plan::Go(Stage::STAGE_5), &Plan::Go(Stage::STAGE_6)),
+        &Plan::Go(Stage::STAGE_19),
     ),
 );
 
-static STAGE135: Plan = Plan::Reads(
-    &Form::Rule(Rule::Generics),
+static STAGE_135: Plan = Plan::Reads(
+    &Form::Rule(Rule::GENERICS),
     &Plan::Turns(
         Look::Word(Word::Where),
-        &Plan::Reads(&Form::Rule(Rule::WhereClause), &Plan::Go(Stage::Stage8)),
-        &Plan::Go(Stage::Stage10),
+        &Plan::Reads(&Form::Rule(Rule::WHERE_CLAUSE), &Plan::Go(Stage::STAGE_8)),
+        &Plan::Go(Stage::STAGE_10),
     ),
 );
 
-static STAGE136: Plan = Plan::Turns(
+static STAGE_136: Plan = Plan::Turns(
     Look::Or(&Look::PathWord, &Look::Mark(Mark::PathSep)),
-    &Plan::Go(Stage::Stage71),
+    &Plan::Go(Stage::STAGE_71),
     &Plan::Rest(&Form::Then(
-        &Form::Rule(Rule::Type),
-        &Form::Then(&Form::Rule(Rule::ImplBody), &Form::Empty),
+        &Form::Rule(Rule::TYPE),
+        &Form::Then(&Form::Rule(Rule::IMPL_BODY), &Form::Empty),
     )),
 );
 
-static STAGE137: Plan = Plan::Turns(
+static STAGE_137: Plan = Plan::Turns(
     Look::Mark(Mark::Not),
     &Plan::Reads(
         &Form::Mark(Mark::Not),
         &Plan::Turns(
             Look::Group(Delimiter::Brace),
-            &Plan::Go(Stage::Stage66),
-            &Plan::Go(Stage::Stage68),
+            &Plan::Go(Stage::STAGE_66),
+            &Plan::Go(Stage::STAGE_68),
         ),
     ),
-    &Plan::Go(Stage::Stage136),
+    &Plan::Go(Stage::STAGE_136),
 );
 
-static STAGE138: Plan = Plan::Reads(
+static STAGE_138: Plan = Plan::Reads(
     &Form::When(
         Look::Word(Word::Unsafe),
         &Form::Token(Token::Word(Word::Unsafe)),
@@ -2622,11 +3204,12 @@ static STAGE138: Plan = Plan::Reads(
     ),
     &Plan::Reads(
         &Form::Token(Token::Word(Word::Impl)),
-        &Plan::Lists(&Plan::Led(&Plan::Go(Stage::Stage137))),
+        &Plan::Lists(&Plan::Led(&Plan::Go(Stage::STAGE_137))),
     ),
 );
 
 /// How the plan begins.
+#[tactic(auto, unfolding(crate::specs::Names::rule_of, crate::specs::Parts::part_form, crate::specs::Stages::stage_course))]
 pub(crate) fn begin_of(planned: Planned) -> &'static Plan
     ensures { course_of result.now ≡ planned_course planned }
 {
@@ -2646,147 +3229,337 @@ pub(crate) fn begin_of(planned: Planned) -> &'static Plan
 }
 
 /// The plan of the stage.
+#[tactic(auto, unfolding(crate::specs::Stages::stage_course))]
 pub(crate) fn plan_of(stage: Stage) -> &'static Plan
     ensures { course_of result.now ≡ stage_course stage }
 {
-    match stage {
-        Stage::Stage1 => &STAGE1,
-        Stage::Stage2 => &STAGE2,
-        Stage::Stage3 => &STAGE3,
-        Stage::Stage4 => &STAGE4,
-        Stage::Stage5 => &STAGE5,
-        Stage::Stage6 => &STAGE6,
-        Stage::Stage7 => &STAGE7,
-        Stage::Stage8 => &STAGE8,
-        Stage::Stage9 => &STAGE9,
-        Stage::Stage10 => &STAGE10,
-        Stage::Stage11 => &STAGE11,
-        Stage::Stage12 => &STAGE12,
-        Stage::Stage13 => &STAGE13,
-        Stage::Stage14 => &STAGE14,
-        Stage::Stage15 => &STAGE15,
-        Stage::Stage16 => &STAGE16,
-        Stage::Stage17 => &STAGE17,
-        Stage::Stage18 => &STAGE18,
-        Stage::Stage19 => &STAGE19,
-        Stage::Stage20 => &STAGE20,
-        Stage::Stage21 => &STAGE21,
-        Stage::Stage22 => &STAGE22,
-        Stage::Stage23 => &STAGE23,
-        Stage::Stage24 => &STAGE24,
-        Stage::Stage25 => &STAGE25,
-        Stage::Stage26 => &STAGE26,
-        Stage::Stage27 => &STAGE27,
-        Stage::Stage28 => &STAGE28,
-        Stage::Stage29 => &STAGE29,
-        Stage::Stage30 => &STAGE30,
-        Stage::Stage31 => &STAGE31,
-        Stage::Stage32 => &STAGE32,
-        Stage::Stage33 => &STAGE33,
-        Stage::Stage34 => &STAGE34,
-        Stage::Stage35 => &STAGE35,
-        Stage::Stage36 => &STAGE36,
-        Stage::Stage37 => &STAGE37,
-        Stage::Stage38 => &STAGE38,
-        Stage::Stage39 => &STAGE39,
-        Stage::Stage40 => &STAGE40,
-        Stage::Stage41 => &STAGE41,
-        Stage::Stage42 => &STAGE42,
-        Stage::Stage43 => &STAGE43,
-        Stage::Stage44 => &STAGE44,
-        Stage::Stage45 => &STAGE45,
-        Stage::Stage46 => &STAGE46,
-        Stage::Stage47 => &STAGE47,
-        Stage::Stage48 => &STAGE48,
-        Stage::Stage49 => &STAGE49,
-        Stage::Stage50 => &STAGE50,
-        Stage::Stage51 => &STAGE51,
-        Stage::Stage52 => &STAGE52,
-        Stage::Stage53 => &STAGE53,
-        Stage::Stage54 => &STAGE54,
-        Stage::Stage55 => &STAGE55,
-        Stage::Stage56 => &STAGE56,
-        Stage::Stage57 => &STAGE57,
-        Stage::Stage58 => &STAGE58,
-        Stage::Stage59 => &STAGE59,
-        Stage::Stage60 => &STAGE60,
-        Stage::Stage61 => &STAGE61,
-        Stage::Stage62 => &STAGE62,
-        Stage::Stage63 => &STAGE63,
-        Stage::Stage64 => &STAGE64,
-        Stage::Stage65 => &STAGE65,
-        Stage::Stage66 => &STAGE66,
-        Stage::Stage67 => &STAGE67,
-        Stage::Stage68 => &STAGE68,
-        Stage::Stage69 => &STAGE69,
-        Stage::Stage70 => &STAGE70,
-        Stage::Stage71 => &STAGE71,
-        Stage::Stage72 => &STAGE72,
-        Stage::Stage73 => &STAGE73,
-        Stage::Stage74 => &STAGE74,
-        Stage::Stage75 => &STAGE75,
-        Stage::Stage76 => &STAGE76,
-        Stage::Stage77 => &STAGE77,
-        Stage::Stage78 => &STAGE78,
-        Stage::Stage79 => &STAGE79,
-        Stage::Stage80 => &STAGE80,
-        Stage::Stage81 => &STAGE81,
-        Stage::Stage82 => &STAGE82,
-        Stage::Stage83 => &STAGE83,
-        Stage::Stage84 => &STAGE84,
-        Stage::Stage85 => &STAGE85,
-        Stage::Stage86 => &STAGE86,
-        Stage::Stage87 => &STAGE87,
-        Stage::Stage88 => &STAGE88,
-        Stage::Stage89 => &STAGE89,
-        Stage::Stage90 => &STAGE90,
-        Stage::Stage91 => &STAGE91,
-        Stage::Stage92 => &STAGE92,
-        Stage::Stage93 => &STAGE93,
-        Stage::Stage94 => &STAGE94,
-        Stage::Stage95 => &STAGE95,
-        Stage::Stage96 => &STAGE96,
-        Stage::Stage97 => &STAGE97,
-        Stage::Stage98 => &STAGE98,
-        Stage::Stage99 => &STAGE99,
-        Stage::Stage100 => &STAGE100,
-        Stage::Stage101 => &STAGE101,
-        Stage::Stage102 => &STAGE102,
-        Stage::Stage103 => &STAGE103,
-        Stage::Stage104 => &STAGE104,
-        Stage::Stage105 => &STAGE105,
-        Stage::Stage106 => &STAGE106,
-        Stage::Stage107 => &STAGE107,
-        Stage::Stage108 => &STAGE108,
-        Stage::Stage109 => &STAGE109,
-        Stage::Stage110 => &STAGE110,
-        Stage::Stage111 => &STAGE111,
-        Stage::Stage112 => &STAGE112,
-        Stage::Stage113 => &STAGE113,
-        Stage::Stage114 => &STAGE114,
-        Stage::Stage115 => &STAGE115,
-        Stage::Stage116 => &STAGE116,
-        Stage::Stage117 => &STAGE117,
-        Stage::Stage118 => &STAGE118,
-        Stage::Stage119 => &STAGE119,
-        Stage::Stage120 => &STAGE120,
-        Stage::Stage121 => &STAGE121,
-        Stage::Stage122 => &STAGE122,
-        Stage::Stage123 => &STAGE123,
-        Stage::Stage124 => &STAGE124,
-        Stage::Stage125 => &STAGE125,
-        Stage::Stage126 => &STAGE126,
-        Stage::Stage127 => &STAGE127,
-        Stage::Stage128 => &STAGE128,
-        Stage::Stage129 => &STAGE129,
-        Stage::Stage130 => &STAGE130,
-        Stage::Stage131 => &STAGE131,
-        Stage::Stage132 => &STAGE132,
-        Stage::Stage133 => &STAGE133,
-        Stage::Stage134 => &STAGE134,
-        Stage::Stage135 => &STAGE135,
-        Stage::Stage136 => &STAGE136,
-        Stage::Stage137 => &STAGE137,
-        Stage::Stage138 => &STAGE138,
+    match stage.series {
+        Series::Series1 => series_1(stage.place),
+        Series::Series2 => series_2(stage.place),
+        Series::Series3 => series_3(stage.place),
+        Series::Series4 => series_4(stage.place),
+        Series::Series5 => series_5(stage.place),
+        Series::Series6 => series_6(stage.place),
+    }
+}
+
+/// The plan of the stage at this place.
+#[tactic(auto, using(std::proofs::lemmas::List::get_or_past), unfolding(crate::specs::Names::rule_of, crate::specs::Parts::part_form, crate::specs::Stages::stage_course))]
+fn series_1(place: u8) -> &'static Plan
+    ensures { course_of result.now ≡ series_1_course place }
+{
+    match place {
+        0 => &STAGE_1,
+        1 => &STAGE_2,
+        2 => &STAGE_3,
+        3 => &STAGE_4,
+        4 => &STAGE_5,
+        5 => &STAGE_6,
+        6 => &STAGE_7,
+        7 => &STAGE_8,
+        8 => &STAGE_9,
+        9 => &STAGE_10,
+        10 => &STAGE_11,
+        11 => &STAGE_12,
+        12 => &STAGE_13,
+        13 => &STAGE_14,
+        14 => &STAGE_15,
+        15 => &STAGE_16,
+        16 => &STAGE_17,
+        17 => &STAGE_18,
+        18 => &STAGE_19,
+        19 => &STAGE_20,
+        20 => &STAGE_21,
+        21 => &STAGE_22,
+        _ => &STAGE_23,
+    }
+}
+
+/// The plan of the stage at this place.
+#[tactic(auto, using(std::proofs::lemmas::List::get_or_past), unfolding(crate::specs::Names::rule_of, crate::specs::Parts::part_form, crate::specs::Stages::stage_course))]
+fn series_2(place: u8) -> &'static Plan
+    ensures { course_of result.now ≡ series_2_course place }
+{
+    match place {
+        0 => &STAGE_24,
+        1 => &STAGE_25,
+        2 => &STAGE_26,
+        3 => &STAGE_27,
+        4 => &STAGE_28,
+        5 => &STAGE_29,
+        6 => &STAGE_30,
+        7 => &STAGE_31,
+        8 => &STAGE_32,
+        9 => &STAGE_33,
+        10 => &STAGE_34,
+        11 => &STAGE_35,
+        12 => &STAGE_36,
+        13 => &STAGE_37,
+        14 => &STAGE_38,
+        15 => &STAGE_39,
+        16 => &STAGE_40,
+        17 => &STAGE_41,
+        18 => &STAGE_42,
+        19 => &STAGE_43,
+        20 => &STAGE_44,
+        21 => &STAGE_45,
+        _ => &STAGE_46,
+    }
+}
+
+/// The plan of the stage at this place.
+#[tactic(auto, using(std::proofs::lemmas::List::get_or_past), unfolding(crate::specs::Names::rule_of, crate::specs::Parts::part_form, crate::specs::Stages::stage_course))]
+fn series_3(place: u8) -> &'static Plan
+    ensures { course_of result.now ≡ series_3_course place }
+{
+    match place {
+        0 => &STAGE_47,
+        1 => &STAGE_48,
+        2 => &STAGE_49,
+        3 => &STAGE_50,
+        4 => &STAGE_51,
+        5 => &STAGE_52,
+        6 => &STAGE_53,
+        7 => &STAGE_54,
+        8 => &STAGE_55,
+        9 => &STAGE_56,
+        10 => &STAGE_57,
+        11 => &STAGE_58,
+        12 => &STAGE_59,
+        13 => &STAGE_60,
+        14 => &STAGE_61,
+        15 => &STAGE_62,
+        16 => &STAGE_63,
+        17 => &STAGE_64,
+        18 => &STAGE_65,
+        19 => &STAGE_66,
+        20 => &STAGE_67,
+        21 => &STAGE_68,
+        _ => &STAGE_69,
+    }
+}
+
+/// The plan of the stage at this place.
+#[tactic(auto, using(std::proofs::lemmas::List::get_or_past), unfolding(crate::specs::Names::rule_of, crate::specs::Parts::part_form, crate::specs::Stages::stage_course))]
+fn series_4(place: u8) -> &'static Plan
+    ensures { course_of result.now ≡ series_4_course place }
+{
+    match place {
+        0 => &STAGE_70,
+        1 => &STAGE_71,
+        2 => &STAGE_72,
+        3 => &STAGE_73,
+        4 => &STAGE_74,
+        5 => &STAGE_75,
+        6 => &STAGE_76,
+        7 => &STAGE_77,
+        8 => &STAGE_78,
+        9 => &STAGE_79,
+        10 => &STAGE_80,
+        11 => &STAGE_81,
+        12 => &STAGE_82,
+        13 => &STAGE_83,
+        14 => &STAGE_84,
+        15 => &STAGE_85,
+        16 => &STAGE_86,
+        17 => &STAGE_87,
+        18 => &STAGE_88,
+        19 => &STAGE_89,
+        20 => &STAGE_90,
+        21 => &STAGE_91,
+        _ => &STAGE_92,
+    }
+}
+
+/// The plan of the stage at this place.
+#[tactic(auto, using(std::proofs::lemmas::List::get_or_past), unfolding(crate::specs::Names::rule_of, crate::specs::Parts::part_form, crate::specs::Stages::stage_course))]
+fn series_5(place: u8) -> &'static Plan
+    ensures { course_of result.now ≡ series_5_course place }
+{
+    match place {
+        0 => &STAGE_93,
+        1 => &STAGE_94,
+        2 => &STAGE_95,
+        3 => &STAGE_96,
+        4 => &STAGE_97,
+        5 => &STAGE_98,
+        6 => &STAGE_99,
+        7 => &STAGE_100,
+        8 => &STAGE_101,
+        9 => &STAGE_102,
+        10 => &STAGE_103,
+        11 => &STAGE_104,
+        12 => &STAGE_105,
+        13 => &STAGE_106,
+        14 => &STAGE_107,
+        15 => &STAGE_108,
+        16 => &STAGE_109,
+        17 => &STAGE_110,
+        18 => &STAGE_111,
+        19 => &STAGE_112,
+        20 => &STAGE_113,
+        21 => &STAGE_114,
+        _ => &STAGE_115,
+    }
+}
+
+/// The plan of the stage at this place.
+#[tactic(auto, using(std::proofs::lemmas::List::get_or_past), unfolding(crate::specs::Names::rule_of, crate::specs::Parts::part_form, crate::specs::Stages::stage_course))]
+fn series_6(place: u8) -> &'static Plan
+    ensures { course_of result.now ≡ series_6_course place }
+{
+    match place {
+        0 => &STAGE_116,
+        1 => &STAGE_117,
+        2 => &STAGE_118,
+        3 => &STAGE_119,
+        4 => &STAGE_120,
+        5 => &STAGE_121,
+        6 => &STAGE_122,
+        7 => &STAGE_123,
+        8 => &STAGE_124,
+        9 => &STAGE_125,
+        10 => &STAGE_126,
+        11 => &STAGE_127,
+        12 => &STAGE_128,
+        13 => &STAGE_129,
+        14 => &STAGE_130,
+        15 => &STAGE_131,
+        16 => &STAGE_132,
+        17 => &STAGE_133,
+        18 => &STAGE_134,
+        19 => &STAGE_135,
+        20 => &STAGE_136,
+        21 => &STAGE_137,
+        _ => &STAGE_138,
+    }
+}
+
+/// The form of the part at this place.
+#[tactic(auto, using(std::proofs::lemmas::List::get_or_past), unfolding(crate::specs::Names::rule_of, crate::specs::Parts::part_form))]
+pub(crate) fn planned_1(place: u8) -> &'static Form
+    ensures { parse_form (grammar_of result.now) ≡ parse_form (planned_1_part place) }
+{
+    match place {
+        0 => &PLANNED_1,
+        1 => &PLANNED_2,
+        2 => &PLANNED_3,
+        3 => &PLANNED_4,
+        4 => &PLANNED_5,
+        5 => &PLANNED_6,
+        6 => &PLANNED_7,
+        7 => &PLANNED_8,
+        8 => &PLANNED_9,
+        9 => &PLANNED_10,
+        10 => &PLANNED_11,
+        11 => &PLANNED_12,
+        12 => &PLANNED_13,
+        13 => &PLANNED_14,
+        14 => &PLANNED_15,
+        15 => &PLANNED_16,
+        _ => &PLANNED_17,
+    }
+}
+
+/// The form of the part at this place.
+#[tactic(auto, using(std::proofs::lemmas::List::get_or_past), unfolding(crate::specs::Names::rule_of, crate::specs::Parts::part_form))]
+pub(crate) fn planned_2(place: u8) -> &'static Form
+    ensures { parse_form (grammar_of result.now) ≡ parse_form (planned_2_part place) }
+{
+    match place {
+        0 => &PLANNED_18,
+        1 => &PLANNED_19,
+        2 => &PLANNED_20,
+        3 => &PLANNED_21,
+        4 => &PLANNED_22,
+        5 => &PLANNED_23,
+        6 => &PLANNED_24,
+        7 => &PLANNED_25,
+        8 => &PLANNED_26,
+        9 => &PLANNED_27,
+        10 => &PLANNED_28,
+        11 => &PLANNED_29,
+        12 => &PLANNED_30,
+        13 => &PLANNED_31,
+        14 => &PLANNED_32,
+        15 => &PLANNED_33,
+        _ => &PLANNED_34,
+    }
+}
+
+/// The form of the part at this place.
+#[tactic(auto, using(std::proofs::lemmas::List::get_or_past), unfolding(crate::specs::Names::rule_of, crate::specs::Parts::part_form))]
+pub(crate) fn planned_3(place: u8) -> &'static Form
+    ensures { parse_form (grammar_of result.now) ≡ parse_form (planned_3_part place) }
+{
+    match place {
+        0 => &PLANNED_35,
+        1 => &PLANNED_36,
+        2 => &PLANNED_37,
+        3 => &PLANNED_38,
+        4 => &PLANNED_39,
+        5 => &PLANNED_40,
+        6 => &PLANNED_41,
+        7 => &PLANNED_42,
+        8 => &PLANNED_43,
+        9 => &PLANNED_44,
+        10 => &PLANNED_45,
+        11 => &PLANNED_46,
+        12 => &PLANNED_47,
+        13 => &PLANNED_48,
+        14 => &PLANNED_49,
+        15 => &PLANNED_50,
+        _ => &PLANNED_51,
+    }
+}
+
+/// The form of the part at this place.
+#[tactic(auto, using(std::proofs::lemmas::List::get_or_past), unfolding(crate::specs::Names::rule_of, crate::specs::Parts::part_form))]
+pub(crate) fn planned_4(place: u8) -> &'static Form
+    ensures { parse_form (grammar_of result.now) ≡ parse_form (planned_4_part place) }
+{
+    match place {
+        0 => &PLANNED_52,
+        1 => &PLANNED_53,
+        2 => &PLANNED_54,
+        3 => &PLANNED_55,
+        4 => &PLANNED_56,
+        5 => &PLANNED_57,
+        6 => &PLANNED_58,
+        7 => &PLANNED_59,
+        8 => &PLANNED_60,
+        9 => &PLANNED_61,
+        10 => &PLANNED_62,
+        11 => &PLANNED_63,
+        12 => &PLANNED_64,
+        13 => &PLANNED_65,
+        14 => &PLANNED_66,
+        15 => &PLANNED_67,
+        _ => &PLANNED_68,
+    }
+}
+
+/// The form of the part at this place.
+#[tactic(auto, using(std::proofs::lemmas::List::get_or_past), unfolding(crate::specs::Names::rule_of, crate::specs::Parts::part_form))]
+pub(crate) fn planned_5(place: u8) -> &'static Form
+    ensures { parse_form (grammar_of result.now) ≡ parse_form (planned_5_part place) }
+{
+    match place {
+        0 => &PLANNED_69,
+        1 => &PLANNED_70,
+        2 => &PLANNED_71,
+        3 => &PLANNED_72,
+        4 => &PLANNED_73,
+        5 => &PLANNED_74,
+        6 => &PLANNED_75,
+        7 => &PLANNED_76,
+        8 => &PLANNED_77,
+        9 => &PLANNED_78,
+        10 => &PLANNED_79,
+        11 => &PLANNED_80,
+        12 => &PLANNED_81,
+        13 => &PLANNED_82,
+        14 => &PLANNED_83,
+        _ => &PLANNED_84,
     }
 }

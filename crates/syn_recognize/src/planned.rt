@@ -35,11 +35,11 @@ use syn_tokens::token::{For, Gt, Lt};
 
 static PARAMETERS: Form = Form::Ordered(List::Parameters);
 
-static SELF_TYPE: Form = Form::Rule(Rule::ForSelfType);
+static SELF_TYPE: Form = Form::Rule(Rule::FOR_SELF_TYPE);
 
-static TREES_IN_BRACES: Form = Form::Inside(Delimiter::Brace, &Form::Rule(Rule::RootedTrees));
+static TREES_IN_BRACES: Form = Form::Inside(Delimiter::Brace, &Form::Rule(Rule::ROOTED_TREES));
 
-static STATEMENTS: Form = Form::Rule(Rule::Statements);
+static STATEMENTS: Form = Form::Rule(Rule::STATEMENTS);
 
 static NOTHING: Form = Form::Empty;
 
@@ -79,6 +79,7 @@ fn read_aside<'a>(
 }
 
 /// What stands behind an item that a plan reads.
+#[tactic(auto, unfolding(crate::specs::Names::rule_of))]
 fn behind(planned: Planned) -> &'static Form
     ensures { grammar_of result.now ≡ behind_form planned }
 {
@@ -167,7 +168,7 @@ fn turn<'a>(
 }
 
 /// Reads trees of a use in braces, and then goes on by whether one has `::` before it.
-#[tactic(auto, using(crate::proofs::Todo::push, crate::proofs::Guessed::rooted_is))]
+#[tactic(auto, using(crate::proofs::Todo::push, crate::proofs::Guessed::rooted_is), unfolding(crate::specs::Names::rule_of))]
 fn read_trees<'a>(
     one: &'static Plan,
     other: &'static Plan,
@@ -420,7 +421,7 @@ fn read_led<'a>(
 }
 
 /// Reads `for` and the self type of an impl, and goes on, with what is known where generics would be read behind `for`.
-#[tactic(auto, using(crate::proofs::Todo::push))]
+#[tactic(auto, using(crate::proofs::Todo::push), unfolding(crate::specs::Names::rule_of))]
 fn read_self_type<'a>(
     plan: &'static Plan,
     guess: Guess,

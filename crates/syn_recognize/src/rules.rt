@@ -34,942 +34,2429 @@ mod traits;
 mod types;
 mod visibilities;
 
-/// A rule of the grammar.
-#[derive(Clone, Copy)]
-pub enum Rule {
+/// Where rules stand: in which file, or part of one.
+#[derive(Clone, Copy, PartialEq, Eq)]
+enum Topic {
     Attributes,
-    InnerAttributes,
-    Meta,
-    UnsafePath,
-    UnsafeWord,
-    MetaValue,
-    ModulePath,
-    ModuleWords,
-    Visibility,
-    Restriction,
-    TypePath,
-    TypeWords,
-    MoreTypeWords,
-    TypeArguments,
-    ReturnType,
-    GenericArguments,
-    GenericArgument,
-    QualifiedPath,
-    PathAsType,
-    Type,
+    Visibilities,
     Types,
-    Constant,
     Generics,
-    LifetimeParameter,
-    Lifetimes,
-    ParameterBounds,
-    Bound,
-    TraitBound,
-    BoundLifetimes,
-    LifetimeParameters,
-    WhereClause,
-    Predicates,
-    Predicate,
-    PredicateBounds,
-    FieldsNamed,
-    NamedFields,
-    NamedField,
-    NamelessFields,
-    UnnamedField,
-    UnnamedFields,
-    FieldsUnnamed,
-    Variant,
-    Variants,
-    Structure,
-    StructureRest,
-    StructureBody,
-    Enumeration,
-    EnumerationRest,
-    UnionItem,
-    UnionItemRest,
-    DeriveInput,
-    ExpressionPath,
-    ExpressionWords,
-    QualifiedExpressionPath,
-    PathAsExpression,
-    MacroInvocation,
-    Pattern,
-    Patterns,
-    Expressions,
-    ArrayContent,
-    Block,
-    Body,
-    PlainBody,
-    NoInnerAttributes,
-    Primary,
-    LiteralFields,
-    LiteralField,
-    BlockLike,
-    IfExpression,
-    LoopExpression,
-    Postfixes,
-    Member,
-    Unary,
-    Casts,
-    Cast,
-    Products,
-    Product,
-    Sums,
-    Sum,
-    Shifts,
-    Shift,
-    BitAnds,
-    BitAnd,
-    BitXors,
-    BitXor,
-    BitOrs,
-    BitOr,
-    Compared,
-    Comparison,
-    Conjunctions,
-    Conjunction,
-    Disjunctions,
-    Disjunction,
-    Assigned,
-    WholeExpression,
-    PrimaryHead,
-    UnaryHead,
-    CastHead,
-    ProductsHead,
-    ProductHead,
-    SumsHead,
-    SumHead,
-    ShiftsHead,
-    ShiftHead,
-    BitAndsHead,
-    BitAndHead,
-    BitXorsHead,
-    BitXorHead,
-    BitOrsHead,
-    BitOrHead,
-    ComparedHead,
-    ComparisonHead,
-    ConjunctionsHead,
-    ConjunctionHead,
-    DisjunctionsHead,
-    DisjunctionHead,
-    AssignedHead,
-    WholeExpressionHead,
-    OperandRest,
-    Statements,
-    StatementRest,
-    AfterBlock,
-    AfterExpression,
-    Statement,
-    CrateMacro,
-    BraceMacro,
-    StatementEnd,
-    Local,
-    NoAttributes,
-    Receiver,
-    ReceiverRest,
-    Argument,
+    Fields,
     Inputs,
-    LaterInputs,
-    InputRest,
-    Variadic,
-    Abi,
-    UnsafeOnly,
-    SafeOrUnsafe,
-    Signature,
-    SignatureRest,
-    Function,
-    FunctionRest,
-    ConstItem,
-    ConstItemRest,
-    StaticItem,
-    StaticItemRest,
-    ExternCrate,
-    ExternCrateRest,
-    UseTree,
-    UseTrees,
-    RootMark,
-    RootedTree,
-    RootedTrees,
-    UseItem,
-    UseItemRest,
-    ModuleItem,
-    ModuleItemRest,
-    AliasBounds,
-    TypeBounds,
-    Alias,
-    TraitAlias,
-    TraitAliasRest,
-    TypeItem,
-    TypeItemRest,
-    MacroEnd,
-    MacroItem,
-    MacroItemRest,
-    MacroAsItem,
-    MacroAsItemRest,
-    BodilessFunction,
-    UntypedStatic,
-    ValuelessStatic,
-    OddConst,
-    MacroDefinition,
-    OddType,
-    Supertraits,
-    BareTrait,
-    TraitDefinition,
-    TraitDefinitionRest,
-    ConstAlias,
-    RestrictedTrait,
-    SelfType,
-    ForSelfType,
-    ImplBody,
-    ImplDefinition,
-    ImplDefinitionRest,
-    OddImpl,
-    VisibleConstImpl,
-    ForeignModule,
-    ForeignModuleRest,
-    MemberMacro,
-    BareTraitFunction,
-    BareTraitType,
-    TraitConst,
-    TraitFunction,
-    TraitType,
-    TraitMacro,
-    TraitMacroAsItem,
-    AnyConst,
-    OddTraitConst,
-    TraitItem,
-    TraitItems,
-    ImplConst,
-    ImplFunction,
-    ImplType,
-    ImplMacro,
-    ImplMacroAsItem,
-    BodilessImplFunction,
-    OddImplConst,
-    OddImplType,
-    ImplItem,
-    ImplItems,
-    ForeignSignature,
-    BareForeignStatic,
-    ForeignFunction,
-    ForeignStatic,
-    ForeignType,
-    ForeignMacro,
-    ForeignMacroAsItem,
-    ForeignBody,
-    ForeignValue,
-    OddForeignType,
-    ForeignItem,
-    ForeignItems,
-    Item,
-    Items,
-    File,
+    Patterns,
+    Lists,
+    Blocks,
+    Postfixes,
+    Operators,
+    Heads,
+    Statements,
+    Signatures,
+    Items1,
+    Items2,
+    KeptItems,
+    Traits,
+    Impls,
+    Foreign,
+    TraitMembers,
+    ImplMembers,
+    ForeignMembers,
+    Files,
+}
+
+/// A rule of the grammar: where it stands.
+#[derive(Clone, Copy, PartialEq, Eq)]
+pub struct Rule {
+    topic: Topic,
+    place: u8,
+}
+
+impl Rule {
+    pub const ATTRIBUTES: Rule = Rule {
+        topic: Topic::Attributes,
+        place: 0,
+    };
+
+    pub const INNER_ATTRIBUTES: Rule = Rule {
+        topic: Topic::Attributes,
+        place: 1,
+    };
+
+    pub const META: Rule = Rule {
+        topic: Topic::Attributes,
+        place: 2,
+    };
+
+    pub const UNSAFE_PATH: Rule = Rule {
+        topic: Topic::Attributes,
+        place: 3,
+    };
+
+    pub const UNSAFE_WORD: Rule = Rule {
+        topic: Topic::Attributes,
+        place: 4,
+    };
+
+    pub const META_VALUE: Rule = Rule {
+        topic: Topic::Attributes,
+        place: 5,
+    };
+
+    pub const MODULE_PATH: Rule = Rule {
+        topic: Topic::Attributes,
+        place: 6,
+    };
+
+    pub const MODULE_WORDS: Rule = Rule {
+        topic: Topic::Attributes,
+        place: 7,
+    };
+
+    pub const VISIBILITY: Rule = Rule {
+        topic: Topic::Visibilities,
+        place: 0,
+    };
+
+    pub const RESTRICTION: Rule = Rule {
+        topic: Topic::Visibilities,
+        place: 1,
+    };
+
+    pub const TYPE_PATH: Rule = Rule {
+        topic: Topic::Types,
+        place: 0,
+    };
+
+    pub const TYPE_WORDS: Rule = Rule {
+        topic: Topic::Types,
+        place: 1,
+    };
+
+    pub const MORE_TYPE_WORDS: Rule = Rule {
+        topic: Topic::Types,
+        place: 2,
+    };
+
+    pub const TYPE_ARGUMENTS: Rule = Rule {
+        topic: Topic::Types,
+        place: 3,
+    };
+
+    pub const RETURN_TYPE: Rule = Rule {
+        topic: Topic::Types,
+        place: 4,
+    };
+
+    pub const GENERIC_ARGUMENTS: Rule = Rule {
+        topic: Topic::Types,
+        place: 5,
+    };
+
+    pub const GENERIC_ARGUMENT: Rule = Rule {
+        topic: Topic::Types,
+        place: 6,
+    };
+
+    pub const QUALIFIED_PATH: Rule = Rule {
+        topic: Topic::Types,
+        place: 7,
+    };
+
+    pub const PATH_AS_TYPE: Rule = Rule {
+        topic: Topic::Types,
+        place: 8,
+    };
+
+    pub const TYPE: Rule = Rule {
+        topic: Topic::Types,
+        place: 9,
+    };
+
+    pub const TYPES: Rule = Rule {
+        topic: Topic::Types,
+        place: 10,
+    };
+
+    pub const CONSTANT: Rule = Rule {
+        topic: Topic::Types,
+        place: 11,
+    };
+
+    pub const GENERICS: Rule = Rule {
+        topic: Topic::Generics,
+        place: 0,
+    };
+
+    pub const LIFETIME_PARAMETER: Rule = Rule {
+        topic: Topic::Generics,
+        place: 1,
+    };
+
+    pub const LIFETIMES: Rule = Rule {
+        topic: Topic::Generics,
+        place: 2,
+    };
+
+    pub const PARAMETER_BOUNDS: Rule = Rule {
+        topic: Topic::Generics,
+        place: 3,
+    };
+
+    pub const BOUND: Rule = Rule {
+        topic: Topic::Generics,
+        place: 4,
+    };
+
+    pub const TRAIT_BOUND: Rule = Rule {
+        topic: Topic::Generics,
+        place: 5,
+    };
+
+    pub const BOUND_LIFETIMES: Rule = Rule {
+        topic: Topic::Generics,
+        place: 6,
+    };
+
+    pub const LIFETIME_PARAMETERS: Rule = Rule {
+        topic: Topic::Generics,
+        place: 7,
+    };
+
+    pub const WHERE_CLAUSE: Rule = Rule {
+        topic: Topic::Generics,
+        place: 8,
+    };
+
+    pub const PREDICATES: Rule = Rule {
+        topic: Topic::Generics,
+        place: 9,
+    };
+
+    pub const PREDICATE: Rule = Rule {
+        topic: Topic::Generics,
+        place: 10,
+    };
+
+    pub const PREDICATE_BOUNDS: Rule = Rule {
+        topic: Topic::Generics,
+        place: 11,
+    };
+
+    pub const FIELDS_NAMED: Rule = Rule {
+        topic: Topic::Fields,
+        place: 0,
+    };
+
+    pub const NAMED_FIELDS: Rule = Rule {
+        topic: Topic::Fields,
+        place: 1,
+    };
+
+    pub const NAMED_FIELD: Rule = Rule {
+        topic: Topic::Fields,
+        place: 2,
+    };
+
+    pub const NAMELESS_FIELDS: Rule = Rule {
+        topic: Topic::Fields,
+        place: 3,
+    };
+
+    pub const UNNAMED_FIELD: Rule = Rule {
+        topic: Topic::Fields,
+        place: 4,
+    };
+
+    pub const UNNAMED_FIELDS: Rule = Rule {
+        topic: Topic::Fields,
+        place: 5,
+    };
+
+    pub const FIELDS_UNNAMED: Rule = Rule {
+        topic: Topic::Fields,
+        place: 6,
+    };
+
+    pub const VARIANT: Rule = Rule {
+        topic: Topic::Fields,
+        place: 7,
+    };
+
+    pub const VARIANTS: Rule = Rule {
+        topic: Topic::Fields,
+        place: 8,
+    };
+
+    pub const STRUCTURE: Rule = Rule {
+        topic: Topic::Inputs,
+        place: 0,
+    };
+
+    pub const STRUCTURE_REST: Rule = Rule {
+        topic: Topic::Inputs,
+        place: 1,
+    };
+
+    pub const STRUCTURE_BODY: Rule = Rule {
+        topic: Topic::Inputs,
+        place: 2,
+    };
+
+    pub const ENUMERATION: Rule = Rule {
+        topic: Topic::Inputs,
+        place: 3,
+    };
+
+    pub const ENUMERATION_REST: Rule = Rule {
+        topic: Topic::Inputs,
+        place: 4,
+    };
+
+    pub const UNION_ITEM: Rule = Rule {
+        topic: Topic::Inputs,
+        place: 5,
+    };
+
+    pub const UNION_ITEM_REST: Rule = Rule {
+        topic: Topic::Inputs,
+        place: 6,
+    };
+
+    pub const DERIVE_INPUT: Rule = Rule {
+        topic: Topic::Inputs,
+        place: 7,
+    };
+
+    pub const EXPRESSION_PATH: Rule = Rule {
+        topic: Topic::Patterns,
+        place: 0,
+    };
+
+    pub const EXPRESSION_WORDS: Rule = Rule {
+        topic: Topic::Patterns,
+        place: 1,
+    };
+
+    pub const QUALIFIED_EXPRESSION_PATH: Rule = Rule {
+        topic: Topic::Patterns,
+        place: 2,
+    };
+
+    pub const PATH_AS_EXPRESSION: Rule = Rule {
+        topic: Topic::Patterns,
+        place: 3,
+    };
+
+    pub const MACRO_INVOCATION: Rule = Rule {
+        topic: Topic::Patterns,
+        place: 4,
+    };
+
+    pub const PATTERN: Rule = Rule {
+        topic: Topic::Patterns,
+        place: 5,
+    };
+
+    pub const PATTERNS: Rule = Rule {
+        topic: Topic::Patterns,
+        place: 6,
+    };
+
+    pub const EXPRESSIONS: Rule = Rule {
+        topic: Topic::Lists,
+        place: 0,
+    };
+
+    pub const ARRAY_CONTENT: Rule = Rule {
+        topic: Topic::Lists,
+        place: 1,
+    };
+
+    pub const BLOCK: Rule = Rule {
+        topic: Topic::Blocks,
+        place: 0,
+    };
+
+    pub const BODY: Rule = Rule {
+        topic: Topic::Blocks,
+        place: 1,
+    };
+
+    pub const PLAIN_BODY: Rule = Rule {
+        topic: Topic::Blocks,
+        place: 2,
+    };
+
+    pub const NO_INNER_ATTRIBUTES: Rule = Rule {
+        topic: Topic::Blocks,
+        place: 3,
+    };
+
+    pub const PRIMARY: Rule = Rule {
+        topic: Topic::Blocks,
+        place: 4,
+    };
+
+    pub const LITERAL_FIELDS: Rule = Rule {
+        topic: Topic::Blocks,
+        place: 5,
+    };
+
+    pub const LITERAL_FIELD: Rule = Rule {
+        topic: Topic::Blocks,
+        place: 6,
+    };
+
+    pub const BLOCK_LIKE: Rule = Rule {
+        topic: Topic::Blocks,
+        place: 7,
+    };
+
+    pub const IF_EXPRESSION: Rule = Rule {
+        topic: Topic::Blocks,
+        place: 8,
+    };
+
+    pub const LOOP_EXPRESSION: Rule = Rule {
+        topic: Topic::Blocks,
+        place: 9,
+    };
+
+    pub const POSTFIXES: Rule = Rule {
+        topic: Topic::Postfixes,
+        place: 0,
+    };
+
+    pub const MEMBER: Rule = Rule {
+        topic: Topic::Postfixes,
+        place: 1,
+    };
+
+    pub const UNARY: Rule = Rule {
+        topic: Topic::Postfixes,
+        place: 2,
+    };
+
+    pub const CASTS: Rule = Rule {
+        topic: Topic::Operators,
+        place: 0,
+    };
+
+    pub const CAST: Rule = Rule {
+        topic: Topic::Operators,
+        place: 1,
+    };
+
+    pub const PRODUCTS: Rule = Rule {
+        topic: Topic::Operators,
+        place: 2,
+    };
+
+    pub const PRODUCT: Rule = Rule {
+        topic: Topic::Operators,
+        place: 3,
+    };
+
+    pub const SUMS: Rule = Rule {
+        topic: Topic::Operators,
+        place: 4,
+    };
+
+    pub const SUM: Rule = Rule {
+        topic: Topic::Operators,
+        place: 5,
+    };
+
+    pub const SHIFTS: Rule = Rule {
+        topic: Topic::Operators,
+        place: 6,
+    };
+
+    pub const SHIFT: Rule = Rule {
+        topic: Topic::Operators,
+        place: 7,
+    };
+
+    pub const BIT_ANDS: Rule = Rule {
+        topic: Topic::Operators,
+        place: 8,
+    };
+
+    pub const BIT_AND: Rule = Rule {
+        topic: Topic::Operators,
+        place: 9,
+    };
+
+    pub const BIT_XORS: Rule = Rule {
+        topic: Topic::Operators,
+        place: 10,
+    };
+
+    pub const BIT_XOR: Rule = Rule {
+        topic: Topic::Operators,
+        place: 11,
+    };
+
+    pub const BIT_ORS: Rule = Rule {
+        topic: Topic::Operators,
+        place: 12,
+    };
+
+    pub const BIT_OR: Rule = Rule {
+        topic: Topic::Operators,
+        place: 13,
+    };
+
+    pub const COMPARED: Rule = Rule {
+        topic: Topic::Operators,
+        place: 14,
+    };
+
+    pub const COMPARISON: Rule = Rule {
+        topic: Topic::Operators,
+        place: 15,
+    };
+
+    pub const CONJUNCTIONS: Rule = Rule {
+        topic: Topic::Operators,
+        place: 16,
+    };
+
+    pub const CONJUNCTION: Rule = Rule {
+        topic: Topic::Operators,
+        place: 17,
+    };
+
+    pub const DISJUNCTIONS: Rule = Rule {
+        topic: Topic::Operators,
+        place: 18,
+    };
+
+    pub const DISJUNCTION: Rule = Rule {
+        topic: Topic::Operators,
+        place: 19,
+    };
+
+    pub const ASSIGNED: Rule = Rule {
+        topic: Topic::Operators,
+        place: 20,
+    };
+
+    pub const WHOLE_EXPRESSION: Rule = Rule {
+        topic: Topic::Operators,
+        place: 21,
+    };
+
+    pub const PRIMARY_HEAD: Rule = Rule {
+        topic: Topic::Heads,
+        place: 0,
+    };
+
+    pub const UNARY_HEAD: Rule = Rule {
+        topic: Topic::Heads,
+        place: 1,
+    };
+
+    pub const CAST_HEAD: Rule = Rule {
+        topic: Topic::Heads,
+        place: 2,
+    };
+
+    pub const PRODUCTS_HEAD: Rule = Rule {
+        topic: Topic::Heads,
+        place: 3,
+    };
+
+    pub const PRODUCT_HEAD: Rule = Rule {
+        topic: Topic::Heads,
+        place: 4,
+    };
+
+    pub const SUMS_HEAD: Rule = Rule {
+        topic: Topic::Heads,
+        place: 5,
+    };
+
+    pub const SUM_HEAD: Rule = Rule {
+        topic: Topic::Heads,
+        place: 6,
+    };
+
+    pub const SHIFTS_HEAD: Rule = Rule {
+        topic: Topic::Heads,
+        place: 7,
+    };
+
+    pub const SHIFT_HEAD: Rule = Rule {
+        topic: Topic::Heads,
+        place: 8,
+    };
+
+    pub const BIT_ANDS_HEAD: Rule = Rule {
+        topic: Topic::Heads,
+        place: 9,
+    };
+
+    pub const BIT_AND_HEAD: Rule = Rule {
+        topic: Topic::Heads,
+        place: 10,
+    };
+
+    pub const BIT_XORS_HEAD: Rule = Rule {
+        topic: Topic::Heads,
+        place: 11,
+    };
+
+    pub const BIT_XOR_HEAD: Rule = Rule {
+        topic: Topic::Heads,
+        place: 12,
+    };
+
+    pub const BIT_ORS_HEAD: Rule = Rule {
+        topic: Topic::Heads,
+        place: 13,
+    };
+
+    pub const BIT_OR_HEAD: Rule = Rule {
+        topic: Topic::Heads,
+        place: 14,
+    };
+
+    pub const COMPARED_HEAD: Rule = Rule {
+        topic: Topic::Heads,
+        place: 15,
+    };
+
+    pub const COMPARISON_HEAD: Rule = Rule {
+        topic: Topic::Heads,
+        place: 16,
+    };
+
+    pub const CONJUNCTIONS_HEAD: Rule = Rule {
+        topic: Topic::Heads,
+        place: 17,
+    };
+
+    pub const CONJUNCTION_HEAD: Rule = Rule {
+        topic: Topic::Heads,
+        place: 18,
+    };
+
+    pub const DISJUNCTIONS_HEAD: Rule = Rule {
+        topic: Topic::Heads,
+        place: 19,
+    };
+
+    pub const DISJUNCTION_HEAD: Rule = Rule {
+        topic: Topic::Heads,
+        place: 20,
+    };
+
+    pub const ASSIGNED_HEAD: Rule = Rule {
+        topic: Topic::Heads,
+        place: 21,
+    };
+
+    pub const WHOLE_EXPRESSION_HEAD: Rule = Rule {
+        topic: Topic::Heads,
+        place: 22,
+    };
+
+    pub const OPERAND_REST: Rule = Rule {
+        topic: Topic::Statements,
+        place: 0,
+    };
+
+    pub const STATEMENTS: Rule = Rule {
+        topic: Topic::Statements,
+        place: 1,
+    };
+
+    pub const STATEMENT_REST: Rule = Rule {
+        topic: Topic::Statements,
+        place: 2,
+    };
+
+    pub const AFTER_BLOCK: Rule = Rule {
+        topic: Topic::Statements,
+        place: 3,
+    };
+
+    pub const AFTER_EXPRESSION: Rule = Rule {
+        topic: Topic::Statements,
+        place: 4,
+    };
+
+    pub const STATEMENT: Rule = Rule {
+        topic: Topic::Statements,
+        place: 5,
+    };
+
+    pub const CRATE_MACRO: Rule = Rule {
+        topic: Topic::Statements,
+        place: 6,
+    };
+
+    pub const BRACE_MACRO: Rule = Rule {
+        topic: Topic::Statements,
+        place: 7,
+    };
+
+    pub const STATEMENT_END: Rule = Rule {
+        topic: Topic::Statements,
+        place: 8,
+    };
+
+    pub const LOCAL: Rule = Rule {
+        topic: Topic::Statements,
+        place: 9,
+    };
+
+    pub const NO_ATTRIBUTES: Rule = Rule {
+        topic: Topic::Signatures,
+        place: 0,
+    };
+
+    pub const RECEIVER: Rule = Rule {
+        topic: Topic::Signatures,
+        place: 1,
+    };
+
+    pub const RECEIVER_REST: Rule = Rule {
+        topic: Topic::Signatures,
+        place: 2,
+    };
+
+    pub const ARGUMENT: Rule = Rule {
+        topic: Topic::Signatures,
+        place: 3,
+    };
+
+    pub const INPUTS: Rule = Rule {
+        topic: Topic::Signatures,
+        place: 4,
+    };
+
+    pub const LATER_INPUTS: Rule = Rule {
+        topic: Topic::Signatures,
+        place: 5,
+    };
+
+    pub const INPUT_REST: Rule = Rule {
+        topic: Topic::Signatures,
+        place: 6,
+    };
+
+    pub const VARIADIC: Rule = Rule {
+        topic: Topic::Signatures,
+        place: 7,
+    };
+
+    pub const ABI: Rule = Rule {
+        topic: Topic::Signatures,
+        place: 8,
+    };
+
+    pub const UNSAFE_ONLY: Rule = Rule {
+        topic: Topic::Signatures,
+        place: 9,
+    };
+
+    pub const SAFE_OR_UNSAFE: Rule = Rule {
+        topic: Topic::Signatures,
+        place: 10,
+    };
+
+    pub const SIGNATURE: Rule = Rule {
+        topic: Topic::Signatures,
+        place: 11,
+    };
+
+    pub const SIGNATURE_REST: Rule = Rule {
+        topic: Topic::Signatures,
+        place: 12,
+    };
+
+    pub const FUNCTION: Rule = Rule {
+        topic: Topic::Items1,
+        place: 0,
+    };
+
+    pub const FUNCTION_REST: Rule = Rule {
+        topic: Topic::Items1,
+        place: 1,
+    };
+
+    pub const CONST_ITEM: Rule = Rule {
+        topic: Topic::Items1,
+        place: 2,
+    };
+
+    pub const CONST_ITEM_REST: Rule = Rule {
+        topic: Topic::Items1,
+        place: 3,
+    };
+
+    pub const STATIC_ITEM: Rule = Rule {
+        topic: Topic::Items1,
+        place: 4,
+    };
+
+    pub const STATIC_ITEM_REST: Rule = Rule {
+        topic: Topic::Items1,
+        place: 5,
+    };
+
+    pub const EXTERN_CRATE: Rule = Rule {
+        topic: Topic::Items1,
+        place: 6,
+    };
+
+    pub const EXTERN_CRATE_REST: Rule = Rule {
+        topic: Topic::Items1,
+        place: 7,
+    };
+
+    pub const USE_TREE: Rule = Rule {
+        topic: Topic::Items1,
+        place: 8,
+    };
+
+    pub const USE_TREES: Rule = Rule {
+        topic: Topic::Items1,
+        place: 9,
+    };
+
+    pub const ROOT_MARK: Rule = Rule {
+        topic: Topic::Items1,
+        place: 10,
+    };
+
+    pub const ROOTED_TREE: Rule = Rule {
+        topic: Topic::Items1,
+        place: 11,
+    };
+
+    pub const ROOTED_TREES: Rule = Rule {
+        topic: Topic::Items1,
+        place: 12,
+    };
+
+    pub const USE_ITEM: Rule = Rule {
+        topic: Topic::Items1,
+        place: 13,
+    };
+
+    pub const USE_ITEM_REST: Rule = Rule {
+        topic: Topic::Items1,
+        place: 14,
+    };
+
+    pub const MODULE_ITEM: Rule = Rule {
+        topic: Topic::Items2,
+        place: 0,
+    };
+
+    pub const MODULE_ITEM_REST: Rule = Rule {
+        topic: Topic::Items2,
+        place: 1,
+    };
+
+    pub const ALIAS_BOUNDS: Rule = Rule {
+        topic: Topic::Items2,
+        place: 2,
+    };
+
+    pub const TYPE_BOUNDS: Rule = Rule {
+        topic: Topic::Items2,
+        place: 3,
+    };
+
+    pub const ALIAS: Rule = Rule {
+        topic: Topic::Items2,
+        place: 4,
+    };
+
+    pub const TRAIT_ALIAS: Rule = Rule {
+        topic: Topic::Items2,
+        place: 5,
+    };
+
+    pub const TRAIT_ALIAS_REST: Rule = Rule {
+        topic: Topic::Items2,
+        place: 6,
+    };
+
+    pub const TYPE_ITEM: Rule = Rule {
+        topic: Topic::Items2,
+        place: 7,
+    };
+
+    pub const TYPE_ITEM_REST: Rule = Rule {
+        topic: Topic::Items2,
+        place: 8,
+    };
+
+    pub const MACRO_END: Rule = Rule {
+        topic: Topic::Items2,
+        place: 9,
+    };
+
+    pub const MACRO_ITEM: Rule = Rule {
+        topic: Topic::Items2,
+        place: 10,
+    };
+
+    pub const MACRO_ITEM_REST: Rule = Rule {
+        topic: Topic::Items2,
+        place: 11,
+    };
+
+    pub const MACRO_AS_ITEM: Rule = Rule {
+        topic: Topic::Items2,
+        place: 12,
+    };
+
+    pub const MACRO_AS_ITEM_REST: Rule = Rule {
+        topic: Topic::Items2,
+        place: 13,
+    };
+
+    pub const BODILESS_FUNCTION: Rule = Rule {
+        topic: Topic::KeptItems,
+        place: 0,
+    };
+
+    pub const UNTYPED_STATIC: Rule = Rule {
+        topic: Topic::KeptItems,
+        place: 1,
+    };
+
+    pub const VALUELESS_STATIC: Rule = Rule {
+        topic: Topic::KeptItems,
+        place: 2,
+    };
+
+    pub const ODD_CONST: Rule = Rule {
+        topic: Topic::KeptItems,
+        place: 3,
+    };
+
+    pub const MACRO_DEFINITION: Rule = Rule {
+        topic: Topic::KeptItems,
+        place: 4,
+    };
+
+    pub const ODD_TYPE: Rule = Rule {
+        topic: Topic::KeptItems,
+        place: 5,
+    };
+
+    pub const SUPERTRAITS: Rule = Rule {
+        topic: Topic::Traits,
+        place: 0,
+    };
+
+    pub const BARE_TRAIT: Rule = Rule {
+        topic: Topic::Traits,
+        place: 1,
+    };
+
+    pub const TRAIT_DEFINITION: Rule = Rule {
+        topic: Topic::Traits,
+        place: 2,
+    };
+
+    pub const TRAIT_DEFINITION_REST: Rule = Rule {
+        topic: Topic::Traits,
+        place: 3,
+    };
+
+    pub const CONST_ALIAS: Rule = Rule {
+        topic: Topic::Traits,
+        place: 4,
+    };
+
+    pub const RESTRICTED_TRAIT: Rule = Rule {
+        topic: Topic::Traits,
+        place: 5,
+    };
+
+    pub const SELF_TYPE: Rule = Rule {
+        topic: Topic::Impls,
+        place: 0,
+    };
+
+    pub const FOR_SELF_TYPE: Rule = Rule {
+        topic: Topic::Impls,
+        place: 1,
+    };
+
+    pub const IMPL_BODY: Rule = Rule {
+        topic: Topic::Impls,
+        place: 2,
+    };
+
+    pub const IMPL_DEFINITION: Rule = Rule {
+        topic: Topic::Impls,
+        place: 3,
+    };
+
+    pub const IMPL_DEFINITION_REST: Rule = Rule {
+        topic: Topic::Impls,
+        place: 4,
+    };
+
+    pub const ODD_IMPL: Rule = Rule {
+        topic: Topic::Impls,
+        place: 5,
+    };
+
+    pub const VISIBLE_CONST_IMPL: Rule = Rule {
+        topic: Topic::Impls,
+        place: 6,
+    };
+
+    pub const FOREIGN_MODULE: Rule = Rule {
+        topic: Topic::Foreign,
+        place: 0,
+    };
+
+    pub const FOREIGN_MODULE_REST: Rule = Rule {
+        topic: Topic::Foreign,
+        place: 1,
+    };
+
+    pub const MEMBER_MACRO: Rule = Rule {
+        topic: Topic::Foreign,
+        place: 2,
+    };
+
+    pub const BARE_TRAIT_FUNCTION: Rule = Rule {
+        topic: Topic::TraitMembers,
+        place: 0,
+    };
+
+    pub const BARE_TRAIT_TYPE: Rule = Rule {
+        topic: Topic::TraitMembers,
+        place: 1,
+    };
+
+    pub const TRAIT_CONST: Rule = Rule {
+        topic: Topic::TraitMembers,
+        place: 2,
+    };
+
+    pub const TRAIT_FUNCTION: Rule = Rule {
+        topic: Topic::TraitMembers,
+        place: 3,
+    };
+
+    pub const TRAIT_TYPE: Rule = Rule {
+        topic: Topic::TraitMembers,
+        place: 4,
+    };
+
+    pub const TRAIT_MACRO: Rule = Rule {
+        topic: Topic::TraitMembers,
+        place: 5,
+    };
+
+    pub const TRAIT_MACRO_AS_ITEM: Rule = Rule {
+        topic: Topic::TraitMembers,
+        place: 6,
+    };
+
+    pub const ANY_CONST: Rule = Rule {
+        topic: Topic::TraitMembers,
+        place: 7,
+    };
+
+    pub const ODD_TRAIT_CONST: Rule = Rule {
+        topic: Topic::TraitMembers,
+        place: 8,
+    };
+
+    pub const TRAIT_ITEM: Rule = Rule {
+        topic: Topic::TraitMembers,
+        place: 9,
+    };
+
+    pub const TRAIT_ITEMS: Rule = Rule {
+        topic: Topic::TraitMembers,
+        place: 10,
+    };
+
+    pub const IMPL_CONST: Rule = Rule {
+        topic: Topic::ImplMembers,
+        place: 0,
+    };
+
+    pub const IMPL_FUNCTION: Rule = Rule {
+        topic: Topic::ImplMembers,
+        place: 1,
+    };
+
+    pub const IMPL_TYPE: Rule = Rule {
+        topic: Topic::ImplMembers,
+        place: 2,
+    };
+
+    pub const IMPL_MACRO: Rule = Rule {
+        topic: Topic::ImplMembers,
+        place: 3,
+    };
+
+    pub const IMPL_MACRO_AS_ITEM: Rule = Rule {
+        topic: Topic::ImplMembers,
+        place: 4,
+    };
+
+    pub const BODILESS_IMPL_FUNCTION: Rule = Rule {
+        topic: Topic::ImplMembers,
+        place: 5,
+    };
+
+    pub const ODD_IMPL_CONST: Rule = Rule {
+        topic: Topic::ImplMembers,
+        place: 6,
+    };
+
+    pub const ODD_IMPL_TYPE: Rule = Rule {
+        topic: Topic::ImplMembers,
+        place: 7,
+    };
+
+    pub const IMPL_ITEM: Rule = Rule {
+        topic: Topic::ImplMembers,
+        place: 8,
+    };
+
+    pub const IMPL_ITEMS: Rule = Rule {
+        topic: Topic::ImplMembers,
+        place: 9,
+    };
+
+    pub const FOREIGN_SIGNATURE: Rule = Rule {
+        topic: Topic::ForeignMembers,
+        place: 0,
+    };
+
+    pub const BARE_FOREIGN_STATIC: Rule = Rule {
+        topic: Topic::ForeignMembers,
+        place: 1,
+    };
+
+    pub const FOREIGN_FUNCTION: Rule = Rule {
+        topic: Topic::ForeignMembers,
+        place: 2,
+    };
+
+    pub const FOREIGN_STATIC: Rule = Rule {
+        topic: Topic::ForeignMembers,
+        place: 3,
+    };
+
+    pub const FOREIGN_TYPE: Rule = Rule {
+        topic: Topic::ForeignMembers,
+        place: 4,
+    };
+
+    pub const FOREIGN_MACRO: Rule = Rule {
+        topic: Topic::ForeignMembers,
+        place: 5,
+    };
+
+    pub const FOREIGN_MACRO_AS_ITEM: Rule = Rule {
+        topic: Topic::ForeignMembers,
+        place: 6,
+    };
+
+    pub const FOREIGN_BODY: Rule = Rule {
+        topic: Topic::ForeignMembers,
+        place: 7,
+    };
+
+    pub const FOREIGN_VALUE: Rule = Rule {
+        topic: Topic::ForeignMembers,
+        place: 8,
+    };
+
+    pub const ODD_FOREIGN_TYPE: Rule = Rule {
+        topic: Topic::ForeignMembers,
+        place: 9,
+    };
+
+    pub const FOREIGN_ITEM: Rule = Rule {
+        topic: Topic::ForeignMembers,
+        place: 10,
+    };
+
+    pub const FOREIGN_ITEMS: Rule = Rule {
+        topic: Topic::ForeignMembers,
+        place: 11,
+    };
+
+    pub const ITEM: Rule = Rule {
+        topic: Topic::Files,
+        place: 0,
+    };
+
+    pub const ITEMS: Rule = Rule {
+        topic: Topic::Files,
+        place: 1,
+    };
+
+    pub const FILE: Rule = Rule {
+        topic: Topic::Files,
+        place: 2,
+    };
 }
 
 /// The form of the rule.
+#[tactic(auto, unfolding(crate::specs::Names::rule_of))]
 pub(crate) fn form_of(rule: Rule) -> &'static Form
     ensures { parse_form (grammar_of result.now) ≡ parse_form (table (rule_of rule)) }
 {
-    match rule {
-        Rule::Attributes => &attributes::ATTRIBUTES,
-        Rule::InnerAttributes => &attributes::INNER_ATTRIBUTES,
-        Rule::Meta => &attributes::META,
-        Rule::UnsafePath => &attributes::UNSAFE_PATH,
-        Rule::UnsafeWord => &attributes::UNSAFE_WORD,
-        Rule::MetaValue => &attributes::META_VALUE,
-        Rule::ModulePath => &attributes::MODULE_PATH,
-        Rule::ModuleWords => &attributes::MODULE_WORDS,
-        Rule::Visibility => &visibilities::VISIBILITY,
-        Rule::Restriction => &visibilities::RESTRICTION,
-        Rule::TypePath => &types::TYPE_PATH,
-        Rule::TypeWords => &types::TYPE_WORDS,
-        Rule::MoreTypeWords => &types::MORE_TYPE_WORDS,
-        Rule::TypeArguments => &types::TYPE_ARGUMENTS,
-        Rule::ReturnType => &types::RETURN_TYPE,
-        Rule::GenericArguments => &types::GENERIC_ARGUMENTS,
-        Rule::GenericArgument => &types::GENERIC_ARGUMENT,
-        Rule::QualifiedPath => &types::QUALIFIED_PATH,
-        Rule::PathAsType => &types::PATH_AS_TYPE,
-        Rule::Type => &types::TYPE,
-        Rule::Types => &types::TYPES,
-        Rule::Constant => &types::CONSTANT,
-        Rule::Generics => &generics::GENERICS,
-        Rule::LifetimeParameter => &generics::LIFETIME_PARAMETER,
-        Rule::Lifetimes => &generics::LIFETIMES,
-        Rule::ParameterBounds => &generics::PARAMETER_BOUNDS,
-        Rule::Bound => &generics::BOUND,
-        Rule::TraitBound => &generics::TRAIT_BOUND,
-        Rule::BoundLifetimes => &generics::BOUND_LIFETIMES,
-        Rule::LifetimeParameters => &generics::LIFETIME_PARAMETERS,
-        Rule::WhereClause => &generics::WHERE_CLAUSE,
-        Rule::Predicates => &generics::PREDICATES,
-        Rule::Predicate => &generics::PREDICATE,
-        Rule::PredicateBounds => &generics::PREDICATE_BOUNDS,
-        Rule::FieldsNamed => &fields::FIELDS_NAMED,
-        Rule::NamedFields => &fields::NAMED_FIELDS,
-        Rule::NamedField => &fields::NAMED_FIELD,
-        Rule::NamelessFields => &fields::NAMELESS_FIELDS,
-        Rule::UnnamedField => &fields::UNNAMED_FIELD,
-        Rule::UnnamedFields => &fields::UNNAMED_FIELDS,
-        Rule::FieldsUnnamed => &fields::FIELDS_UNNAMED,
-        Rule::Variant => &fields::VARIANT,
-        Rule::Variants => &fields::VARIANTS,
-        Rule::Structure => &inputs::STRUCTURE,
-        Rule::StructureRest => &inputs::STRUCTURE_REST,
-        Rule::StructureBody => &inputs::STRUCTURE_BODY,
-        Rule::Enumeration => &inputs::ENUMERATION,
-        Rule::EnumerationRest => &inputs::ENUMERATION_REST,
-        Rule::UnionItem => &inputs::UNION_ITEM,
-        Rule::UnionItemRest => &inputs::UNION_ITEM_REST,
-        Rule::DeriveInput => &inputs::DERIVE_INPUT,
-        Rule::ExpressionPath => &patterns::EXPRESSION_PATH,
-        Rule::ExpressionWords => &patterns::EXPRESSION_WORDS,
-        Rule::QualifiedExpressionPath => &patterns::QUALIFIED_EXPRESSION_PATH,
-        Rule::PathAsExpression => &patterns::PATH_AS_EXPRESSION,
-        Rule::MacroInvocation => &patterns::MACRO_INVOCATION,
-        Rule::Pattern => &patterns::PATTERN,
-        Rule::Patterns => &patterns::PATTERNS,
-        Rule::Expressions => &lists::EXPRESSIONS,
-        Rule::ArrayContent => &lists::ARRAY_CONTENT,
-        Rule::Block => &blocks::BLOCK,
-        Rule::Body => &blocks::BODY,
-        Rule::PlainBody => &blocks::PLAIN_BODY,
-        Rule::NoInnerAttributes => &blocks::NO_INNER_ATTRIBUTES,
-        Rule::Primary => &blocks::PRIMARY,
-        Rule::LiteralFields => &blocks::LITERAL_FIELDS,
-        Rule::LiteralField => &blocks::LITERAL_FIELD,
-        Rule::BlockLike => &blocks::BLOCK_LIKE,
-        Rule::IfExpression => &blocks::IF_EXPRESSION,
-        Rule::LoopExpression => &blocks::LOOP_EXPRESSION,
-        Rule::Postfixes => &postfixes::POSTFIXES,
-        Rule::Member => &postfixes::MEMBER,
-        Rule::Unary => &postfixes::UNARY,
-        Rule::Casts => &operators::CASTS,
-        Rule::Cast => &operators::CAST,
-        Rule::Products => &operators::PRODUCTS,
-        Rule::Product => &operators::PRODUCT,
-        Rule::Sums => &operators::SUMS,
-        Rule::Sum => &operators::SUM,
-        Rule::Shifts => &operators::SHIFTS,
-        Rule::Shift => &operators::SHIFT,
-        Rule::BitAnds => &operators::BIT_ANDS,
-        Rule::BitAnd => &operators::BIT_AND,
-        Rule::BitXors => &operators::BIT_XORS,
-        Rule::BitXor => &operators::BIT_XOR,
-        Rule::BitOrs => &operators::BIT_ORS,
-        Rule::BitOr => &operators::BIT_OR,
-        Rule::Compared => &operators::COMPARED,
-        Rule::Comparison => &operators::COMPARISON,
-        Rule::Conjunctions => &operators::CONJUNCTIONS,
-        Rule::Conjunction => &operators::CONJUNCTION,
-        Rule::Disjunctions => &operators::DISJUNCTIONS,
-        Rule::Disjunction => &operators::DISJUNCTION,
-        Rule::Assigned => &operators::ASSIGNED,
-        Rule::WholeExpression => &operators::WHOLE_EXPRESSION,
-        Rule::PrimaryHead => &heads::PRIMARY_HEAD,
-        Rule::UnaryHead => &heads::UNARY_HEAD,
-        Rule::CastHead => &heads::CAST_HEAD,
-        Rule::ProductsHead => &heads::PRODUCTS_HEAD,
-        Rule::ProductHead => &heads::PRODUCT_HEAD,
-        Rule::SumsHead => &heads::SUMS_HEAD,
-        Rule::SumHead => &heads::SUM_HEAD,
-        Rule::ShiftsHead => &heads::SHIFTS_HEAD,
-        Rule::ShiftHead => &heads::SHIFT_HEAD,
-        Rule::BitAndsHead => &heads::BIT_ANDS_HEAD,
-        Rule::BitAndHead => &heads::BIT_AND_HEAD,
-        Rule::BitXorsHead => &heads::BIT_XORS_HEAD,
-        Rule::BitXorHead => &heads::BIT_XOR_HEAD,
-        Rule::BitOrsHead => &heads::BIT_ORS_HEAD,
-        Rule::BitOrHead => &heads::BIT_OR_HEAD,
-        Rule::ComparedHead => &heads::COMPARED_HEAD,
-        Rule::ComparisonHead => &heads::COMPARISON_HEAD,
-        Rule::ConjunctionsHead => &heads::CONJUNCTIONS_HEAD,
-        Rule::ConjunctionHead => &heads::CONJUNCTION_HEAD,
-        Rule::DisjunctionsHead => &heads::DISJUNCTIONS_HEAD,
-        Rule::DisjunctionHead => &heads::DISJUNCTION_HEAD,
-        Rule::AssignedHead => &heads::ASSIGNED_HEAD,
-        Rule::WholeExpressionHead => &heads::WHOLE_EXPRESSION_HEAD,
-        Rule::OperandRest => &statements::OPERAND_REST,
-        Rule::Statements => &statements::STATEMENTS,
-        Rule::StatementRest => &statements::STATEMENT_REST,
-        Rule::AfterBlock => &statements::AFTER_BLOCK,
-        Rule::AfterExpression => &statements::AFTER_EXPRESSION,
-        Rule::Statement => &statements::STATEMENT,
-        Rule::CrateMacro => &statements::CRATE_MACRO,
-        Rule::BraceMacro => &statements::BRACE_MACRO,
-        Rule::StatementEnd => &statements::STATEMENT_END,
-        Rule::Local => &statements::LOCAL,
-        Rule::NoAttributes => &signatures::NO_ATTRIBUTES,
-        Rule::Receiver => &signatures::RECEIVER,
-        Rule::ReceiverRest => &signatures::RECEIVER_REST,
-        Rule::Argument => &signatures::ARGUMENT,
-        Rule::Inputs => &signatures::INPUTS,
-        Rule::LaterInputs => &signatures::LATER_INPUTS,
-        Rule::InputRest => &signatures::INPUT_REST,
-        Rule::Variadic => &signatures::VARIADIC,
-        Rule::Abi => &signatures::ABI,
-        Rule::UnsafeOnly => &signatures::UNSAFE_ONLY,
-        Rule::SafeOrUnsafe => &signatures::SAFE_OR_UNSAFE,
-        Rule::Signature => &signatures::SIGNATURE,
-        Rule::SignatureRest => &signatures::SIGNATURE_REST,
-        Rule::Function => &items::FUNCTION,
-        Rule::FunctionRest => &items::FUNCTION_REST,
-        Rule::ConstItem => &items::CONST_ITEM,
-        Rule::ConstItemRest => &items::CONST_ITEM_REST,
-        Rule::StaticItem => &items::STATIC_ITEM,
-        Rule::StaticItemRest => &items::STATIC_ITEM_REST,
-        Rule::ExternCrate => &items::EXTERN_CRATE,
-        Rule::ExternCrateRest => &items::EXTERN_CRATE_REST,
-        Rule::UseTree => &items::USE_TREE,
-        Rule::UseTrees => &items::USE_TREES,
-        Rule::RootMark => &items::ROOT_MARK,
-        Rule::RootedTree => &items::ROOTED_TREE,
-        Rule::RootedTrees => &items::ROOTED_TREES,
-        Rule::UseItem => &items::USE_ITEM,
-        Rule::UseItemRest => &items::USE_ITEM_REST,
-        Rule::ModuleItem => &items::MODULE_ITEM,
-        Rule::ModuleItemRest => &items::MODULE_ITEM_REST,
-        Rule::AliasBounds => &items::ALIAS_BOUNDS,
-        Rule::TypeBounds => &items::TYPE_BOUNDS,
-        Rule::Alias => &items::ALIAS,
-        Rule::TraitAlias => &items::TRAIT_ALIAS,
-        Rule::TraitAliasRest => &items::TRAIT_ALIAS_REST,
-        Rule::TypeItem => &items::TYPE_ITEM,
-        Rule::TypeItemRest => &items::TYPE_ITEM_REST,
-        Rule::MacroEnd => &items::MACRO_END,
-        Rule::MacroItem => &items::MACRO_ITEM,
-        Rule::MacroItemRest => &items::MACRO_ITEM_REST,
-        Rule::MacroAsItem => &items::MACRO_AS_ITEM,
-        Rule::MacroAsItemRest => &items::MACRO_AS_ITEM_REST,
-        Rule::BodilessFunction => &kept_items::BODILESS_FUNCTION,
-        Rule::UntypedStatic => &kept_items::UNTYPED_STATIC,
-        Rule::ValuelessStatic => &kept_items::VALUELESS_STATIC,
-        Rule::OddConst => &kept_items::ODD_CONST,
-        Rule::MacroDefinition => &kept_items::MACRO_DEFINITION,
-        Rule::OddType => &kept_items::ODD_TYPE,
-        Rule::Supertraits => &traits::SUPERTRAITS,
-        Rule::BareTrait => &traits::BARE_TRAIT,
-        Rule::TraitDefinition => &traits::TRAIT_DEFINITION,
-        Rule::TraitDefinitionRest => &traits::TRAIT_DEFINITION_REST,
-        Rule::ConstAlias => &traits::CONST_ALIAS,
-        Rule::RestrictedTrait => &traits::RESTRICTED_TRAIT,
-        Rule::SelfType => &impls::SELF_TYPE,
-        Rule::ForSelfType => &impls::FOR_SELF_TYPE,
-        Rule::ImplBody => &impls::IMPL_BODY,
-        Rule::ImplDefinition => &impls::IMPL_DEFINITION,
-        Rule::ImplDefinitionRest => &impls::IMPL_DEFINITION_REST,
-        Rule::OddImpl => &impls::ODD_IMPL,
-        Rule::VisibleConstImpl => &impls::VISIBLE_CONST_IMPL,
-        Rule::ForeignModule => &foreign::FOREIGN_MODULE,
-        Rule::ForeignModuleRest => &foreign::FOREIGN_MODULE_REST,
-        Rule::MemberMacro => &foreign::MEMBER_MACRO,
-        Rule::BareTraitFunction => &trait_members::BARE_TRAIT_FUNCTION,
-        Rule::BareTraitType => &trait_members::BARE_TRAIT_TYPE,
-        Rule::TraitConst => &trait_members::TRAIT_CONST,
-        Rule::TraitFunction => &trait_members::TRAIT_FUNCTION,
-        Rule::TraitType => &trait_members::TRAIT_TYPE,
-        Rule::TraitMacro => &trait_members::TRAIT_MACRO,
-        Rule::TraitMacroAsItem => &trait_members::TRAIT_MACRO_AS_ITEM,
-        Rule::AnyConst => &trait_members::ANY_CONST,
-        Rule::OddTraitConst => &trait_members::ODD_TRAIT_CONST,
-        Rule::TraitItem => &trait_members::TRAIT_ITEM,
-        Rule::TraitItems => &trait_members::TRAIT_ITEMS,
-        Rule::ImplConst => &impl_members::IMPL_CONST,
-        Rule::ImplFunction => &impl_members::IMPL_FUNCTION,
-        Rule::ImplType => &impl_members::IMPL_TYPE,
-        Rule::ImplMacro => &impl_members::IMPL_MACRO,
-        Rule::ImplMacroAsItem => &impl_members::IMPL_MACRO_AS_ITEM,
-        Rule::BodilessImplFunction => &impl_members::BODILESS_IMPL_FUNCTION,
-        Rule::OddImplConst => &impl_members::ODD_IMPL_CONST,
-        Rule::OddImplType => &impl_members::ODD_IMPL_TYPE,
-        Rule::ImplItem => &impl_members::IMPL_ITEM,
-        Rule::ImplItems => &impl_members::IMPL_ITEMS,
-        Rule::ForeignSignature => &foreign_members::FOREIGN_SIGNATURE,
-        Rule::BareForeignStatic => &foreign_members::BARE_FOREIGN_STATIC,
-        Rule::ForeignFunction => &foreign_members::FOREIGN_FUNCTION,
-        Rule::ForeignStatic => &foreign_members::FOREIGN_STATIC,
-        Rule::ForeignType => &foreign_members::FOREIGN_TYPE,
-        Rule::ForeignMacro => &foreign_members::FOREIGN_MACRO,
-        Rule::ForeignMacroAsItem => &foreign_members::FOREIGN_MACRO_AS_ITEM,
-        Rule::ForeignBody => &foreign_members::FOREIGN_BODY,
-        Rule::ForeignValue => &foreign_members::FOREIGN_VALUE,
-        Rule::OddForeignType => &foreign_members::ODD_FOREIGN_TYPE,
-        Rule::ForeignItem => &foreign_members::FOREIGN_ITEM,
-        Rule::ForeignItems => &foreign_members::FOREIGN_ITEMS,
-        Rule::Item => &files::ITEM,
-        Rule::Items => &files::ITEMS,
-        Rule::File => &files::FILE,
+    match rule.topic {
+        Topic::Attributes => attributes::form_at(rule.place),
+        Topic::Visibilities => visibilities::form_at(rule.place),
+        Topic::Types => types::form_at(rule.place),
+        Topic::Generics => generics::form_at(rule.place),
+        Topic::Fields => fields::form_at(rule.place),
+        Topic::Inputs => inputs::form_at(rule.place),
+        Topic::Patterns => patterns::form_at(rule.place),
+        Topic::Lists => lists::form_at(rule.place),
+        Topic::Blocks => blocks::form_at(rule.place),
+        Topic::Postfixes => postfixes::form_at(rule.place),
+        Topic::Operators => operators::form_at(rule.place),
+        Topic::Heads => heads::form_at(rule.place),
+        Topic::Statements => statements::form_at(rule.place),
+        Topic::Signatures => signatures::form_at(rule.place),
+        Topic::Items1 => items::form_at_1(rule.place),
+        Topic::Items2 => items::form_at_2(rule.place),
+        Topic::KeptItems => kept_items::form_at(rule.place),
+        Topic::Traits => traits::form_at(rule.place),
+        Topic::Impls => impls::form_at(rule.place),
+        Topic::Foreign => foreign::form_at(rule.place),
+        Topic::TraitMembers => trait_members::form_at(rule.place),
+        Topic::ImplMembers => impl_members::form_at(rule.place),
+        Topic::ForeignMembers => foreign_members::form_at(rule.place),
+        Topic::Files => files::form_at(rule.place),
     }
 }
 
-/// A part of a rule's form that has a static of its own: Rattle's own compiler takes no larger ones.
+/// Where parts stand: of which rules they are.
 #[derive(Clone, Copy)]
-pub enum Part {
-    TypeWords1,
-    TypeWords2,
-    MoreTypeWords1,
-    MoreTypeWords2,
-    QualifiedPath1,
-    Type1,
-    Type2,
-    Type3,
-    Constant1,
-    Generics1,
-    Generics2,
-    Generics3,
-    Predicate1,
-    NamedField1,
-    NamedField2,
-    Variant1,
-    Variant2,
-    StructureBody1,
-    EnumerationRest1,
-    ExpressionWords1,
-    ExpressionWords2,
-    QualifiedExpressionPath1,
-    Pattern1,
-    Pattern2,
-    Pattern3,
-    ArrayContent1,
-    Primary1,
-    Primary2,
-    Primary3,
-    Primary4,
-    Primary5,
-    Primary6,
-    LiteralFields1,
-    LiteralField1,
-    BlockLike1,
-    IfExpression1,
-    LoopExpression1,
-    LoopExpression2,
-    Postfixes1,
-    Postfixes2,
-    Postfixes3,
-    Member1,
-    Member2,
-    Unary1,
-    Unary2,
-    Unary3,
-    Products1,
-    Products2,
-    Sums1,
-    Shifts1,
-    Compared1,
-    Compared2,
-    Compared3,
-    Assigned1,
-    Assigned2,
-    Assigned3,
-    Assigned4,
-    Assigned5,
-    PrimaryHead1,
-    PrimaryHead2,
-    PrimaryHead3,
-    PrimaryHead4,
-    PrimaryHead5,
-    UnaryHead1,
-    UnaryHead2,
-    UnaryHead3,
-    ProductsHead1,
-    ProductsHead2,
-    SumsHead1,
-    ShiftsHead1,
-    ComparedHead1,
-    ComparedHead2,
-    ComparedHead3,
-    AssignedHead1,
-    AssignedHead2,
-    AssignedHead3,
-    AssignedHead4,
-    AssignedHead5,
-    OperandRest1,
-    OperandRest2,
-    StatementRest1,
-    StatementRest2,
-    StatementRest3,
-    Local1,
-    Local2,
-    ReceiverRest1,
-    ReceiverRest2,
-    ReceiverRest3,
-    Inputs1,
-    Signature1,
-    SignatureRest1,
-    ConstItemRest1,
-    StaticItemRest1,
-    ExternCrateRest1,
-    UseTree1,
-    ModuleItemRest1,
-    Alias1,
-    MacroItemRest1,
-    UntypedStatic1,
-    ValuelessStatic1,
-    OddConst1,
-    OddConst2,
-    OddConst3,
-    OddConst4,
-    OddConst5,
-    OddType1,
-    OddType2,
-    OddType3,
-    BareTrait1,
-    BareTrait2,
-    RestrictedTrait1,
-    OddImpl1,
-    OddImpl2,
-    OddImpl3,
-    OddImpl4,
-    VisibleConstImpl1,
-    VisibleConstImpl2,
-    VisibleConstImpl3,
-    BareTraitType1,
-    TraitConst1,
-    AnyConst1,
-    AnyConst2,
-    OddTraitConst1,
-    OddTraitConst2,
-    OddTraitConst3,
-    OddTraitConst4,
-    ImplConst1,
-    ImplConst2,
-    ImplType1,
-    OddImplConst1,
-    OddImplConst2,
-    OddImplConst3,
-    OddImplConst4,
-    OddImplConst5,
-    OddImplType1,
-    OddImplType2,
-    OddImplType3,
-    ForeignSignature1,
-    BareForeignStatic1,
-    ForeignType1,
-    OddForeignType1,
-    OddForeignType2,
-    OddForeignType3,
-    OddForeignType4,
-    OddForeignType5,
+enum Group {
+    Types,
+    Generics,
+    Fields,
+    Inputs,
+    Patterns,
+    Lists,
+    Blocks,
+    Postfixes,
+    Operators,
+    Heads,
+    Statements,
+    Signatures,
+    Items,
+    KeptItems,
+    Traits,
+    Impls,
+    TraitMembers,
+    ImplMembers,
+    ForeignMembers,
     Planned1,
     Planned2,
     Planned3,
     Planned4,
     Planned5,
-    Planned6,
-    Planned7,
-    Planned8,
-    Planned9,
-    Planned10,
-    Planned11,
-    Planned12,
-    Planned13,
-    Planned14,
-    Planned15,
-    Planned16,
-    Planned17,
-    Planned18,
-    Planned19,
-    Planned20,
-    Planned21,
-    Planned22,
-    Planned23,
-    Planned24,
-    Planned25,
-    Planned26,
-    Planned27,
-    Planned28,
-    Planned29,
-    Planned30,
-    Planned31,
-    Planned32,
-    Planned33,
-    Planned34,
-    Planned35,
-    Planned36,
-    Planned37,
-    Planned38,
-    Planned39,
-    Planned40,
-    Planned41,
-    Planned42,
-    Planned43,
-    Planned44,
-    Planned45,
-    Planned46,
-    Planned47,
-    Planned48,
-    Planned49,
-    Planned50,
-    Planned51,
-    Planned52,
-    Planned53,
-    Planned54,
-    Planned55,
-    Planned56,
-    Planned57,
-    Planned58,
-    Planned59,
-    Planned60,
-    Planned61,
-    Planned62,
-    Planned63,
-    Planned64,
-    Planned65,
-    Planned66,
-    Planned67,
-    Planned68,
-    Planned69,
-    Planned70,
-    Planned71,
-    Planned72,
-    Planned73,
-    Planned74,
-    Planned75,
-    Planned76,
-    Planned77,
-    Planned78,
-    Planned79,
-    Planned80,
-    Planned81,
-    Planned82,
-    Planned83,
-    Planned84,
+}
+
+/// A part of a rule's form that has a static of its own: Rattle's own compiler takes no larger ones.
+#[derive(Clone, Copy)]
+pub(crate) struct Part {
+    group: Group,
+    place: u8,
+}
+
+impl Part {
+    pub(crate) const TYPE_WORDS_1: Part = Part {
+        group: Group::Types,
+        place: 0,
+    };
+
+    pub(crate) const TYPE_WORDS_2: Part = Part {
+        group: Group::Types,
+        place: 1,
+    };
+
+    pub(crate) const MORE_TYPE_WORDS_1: Part = Part {
+        group: Group::Types,
+        place: 2,
+    };
+
+    pub(crate) const MORE_TYPE_WORDS_2: Part = Part {
+        group: Group::Types,
+        place: 3,
+    };
+
+    pub(crate) const QUALIFIED_PATH_1: Part = Part {
+        group: Group::Types,
+        place: 4,
+    };
+
+    pub(crate) const TYPE_1: Part = Part {
+        group: Group::Types,
+        place: 5,
+    };
+
+    pub(crate) const TYPE_2: Part = Part {
+        group: Group::Types,
+        place: 6,
+    };
+
+    pub(crate) const TYPE_3: Part = Part {
+        group: Group::Types,
+        place: 7,
+    };
+
+    pub(crate) const CONSTANT_1: Part = Part {
+        group: Group::Types,
+        place: 8,
+    };
+
+    pub(crate) const GENERICS_1: Part = Part {
+        group: Group::Generics,
+        place: 0,
+    };
+
+    pub(crate) const GENERICS_2: Part = Part {
+        group: Group::Generics,
+        place: 1,
+    };
+
+    pub(crate) const GENERICS_3: Part = Part {
+        group: Group::Generics,
+        place: 2,
+    };
+
+    pub(crate) const PREDICATE_1: Part = Part {
+        group: Group::Generics,
+        place: 3,
+    };
+
+    pub(crate) const NAMED_FIELD_1: Part = Part {
+        group: Group::Fields,
+        place: 0,
+    };
+
+    pub(crate) const NAMED_FIELD_2: Part = Part {
+        group: Group::Fields,
+        place: 1,
+    };
+
+    pub(crate) const VARIANT_1: Part = Part {
+        group: Group::Fields,
+        place: 2,
+    };
+
+    pub(crate) const VARIANT_2: Part = Part {
+        group: Group::Fields,
+        place: 3,
+    };
+
+    pub(crate) const STRUCTURE_BODY_1: Part = Part {
+        group: Group::Inputs,
+        place: 0,
+    };
+
+    pub(crate) const ENUMERATION_REST_1: Part = Part {
+        group: Group::Inputs,
+        place: 1,
+    };
+
+    pub(crate) const EXPRESSION_WORDS_1: Part = Part {
+        group: Group::Patterns,
+        place: 0,
+    };
+
+    pub(crate) const EXPRESSION_WORDS_2: Part = Part {
+        group: Group::Patterns,
+        place: 1,
+    };
+
+    pub(crate) const QUALIFIED_EXPRESSION_PATH_1: Part = Part {
+        group: Group::Patterns,
+        place: 2,
+    };
+
+    pub(crate) const PATTERN_1: Part = Part {
+        group: Group::Patterns,
+        place: 3,
+    };
+
+    pub(crate) const PATTERN_2: Part = Part {
+        group: Group::Patterns,
+        place: 4,
+    };
+
+    pub(crate) const PATTERN_3: Part = Part {
+        group: Group::Patterns,
+        place: 5,
+    };
+
+    pub(crate) const ARRAY_CONTENT_1: Part = Part {
+        group: Group::Lists,
+        place: 0,
+    };
+
+    pub(crate) const PRIMARY_1: Part = Part {
+        group: Group::Blocks,
+        place: 0,
+    };
+
+    pub(crate) const PRIMARY_2: Part = Part {
+        group: Group::Blocks,
+        place: 1,
+    };
+
+    pub(crate) const PRIMARY_3: Part = Part {
+        group: Group::Blocks,
+        place: 2,
+    };
+
+    pub(crate) const PRIMARY_4: Part = Part {
+        group: Group::Blocks,
+        place: 3,
+    };
+
+    pub(crate) const PRIMARY_5: Part = Part {
+        group: Group::Blocks,
+        place: 4,
+    };
+
+    pub(crate) const PRIMARY_6: Part = Part {
+        group: Group::Blocks,
+        place: 5,
+    };
+
+    pub(crate) const LITERAL_FIELDS_1: Part = Part {
+        group: Group::Blocks,
+        place: 6,
+    };
+
+    pub(crate) const LITERAL_FIELD_1: Part = Part {
+        group: Group::Blocks,
+        place: 7,
+    };
+
+    pub(crate) const BLOCK_LIKE_1: Part = Part {
+        group: Group::Blocks,
+        place: 8,
+    };
+
+    pub(crate) const IF_EXPRESSION_1: Part = Part {
+        group: Group::Blocks,
+        place: 9,
+    };
+
+    pub(crate) const LOOP_EXPRESSION_1: Part = Part {
+        group: Group::Blocks,
+        place: 10,
+    };
+
+    pub(crate) const LOOP_EXPRESSION_2: Part = Part {
+        group: Group::Blocks,
+        place: 11,
+    };
+
+    pub(crate) const POSTFIXES_1: Part = Part {
+        group: Group::Postfixes,
+        place: 0,
+    };
+
+    pub(crate) const POSTFIXES_2: Part = Part {
+        group: Group::Postfixes,
+        place: 1,
+    };
+
+    pub(crate) const POSTFIXES_3: Part = Part {
+        group: Group::Postfixes,
+        place: 2,
+    };
+
+    pub(crate) const MEMBER_1: Part = Part {
+        group: Group::Postfixes,
+        place: 3,
+    };
+
+    pub(crate) const MEMBER_2: Part = Part {
+        group: Group::Postfixes,
+        place: 4,
+    };
+
+    pub(crate) const UNARY_1: Part = Part {
+        group: Group::Postfixes,
+        place: 5,
+    };
+
+    pub(crate) const UNARY_2: Part = Part {
+        group: Group::Postfixes,
+        place: 6,
+    };
+
+    pub(crate) const UNARY_3: Part = Part {
+        group: Group::Postfixes,
+        place: 7,
+    };
+
+    pub(crate) const PRODUCTS_1: Part = Part {
+        group: Group::Operators,
+        place: 0,
+    };
+
+    pub(crate) const PRODUCTS_2: Part = Part {
+        group: Group::Operators,
+        place: 1,
+    };
+
+    pub(crate) const SUMS_1: Part = Part {
+        group: Group::Operators,
+        place: 2,
+    };
+
+    pub(crate) const SHIFTS_1: Part = Part {
+        group: Group::Operators,
+        place: 3,
+    };
+
+    pub(crate) const COMPARED_1: Part = Part {
+        group: Group::Operators,
+        place: 4,
+    };
+
+    pub(crate) const COMPARED_2: Part = Part {
+        group: Group::Operators,
+        place: 5,
+    };
+
+    pub(crate) const COMPARED_3: Part = Part {
+        group: Group::Operators,
+        place: 6,
+    };
+
+    pub(crate) const ASSIGNED_1: Part = Part {
+        group: Group::Operators,
+        place: 7,
+    };
+
+    pub(crate) const ASSIGNED_2: Part = Part {
+        group: Group::Operators,
+        place: 8,
+    };
+
+    pub(crate) const ASSIGNED_3: Part = Part {
+        group: Group::Operators,
+        place: 9,
+    };
+
+    pub(crate) const ASSIGNED_4: Part = Part {
+        group: Group::Operators,
+        place: 10,
+    };
+
+    pub(crate) const ASSIGNED_5: Part = Part {
+        group: Group::Operators,
+        place: 11,
+    };
+
+    pub(crate) const PRIMARY_HEAD_1: Part = Part {
+        group: Group::Heads,
+        place: 0,
+    };
+
+    pub(crate) const PRIMARY_HEAD_2: Part = Part {
+        group: Group::Heads,
+        place: 1,
+    };
+
+    pub(crate) const PRIMARY_HEAD_3: Part = Part {
+        group: Group::Heads,
+        place: 2,
+    };
+
+    pub(crate) const PRIMARY_HEAD_4: Part = Part {
+        group: Group::Heads,
+        place: 3,
+    };
+
+    pub(crate) const PRIMARY_HEAD_5: Part = Part {
+        group: Group::Heads,
+        place: 4,
+    };
+
+    pub(crate) const UNARY_HEAD_1: Part = Part {
+        group: Group::Heads,
+        place: 5,
+    };
+
+    pub(crate) const UNARY_HEAD_2: Part = Part {
+        group: Group::Heads,
+        place: 6,
+    };
+
+    pub(crate) const UNARY_HEAD_3: Part = Part {
+        group: Group::Heads,
+        place: 7,
+    };
+
+    pub(crate) const PRODUCTS_HEAD_1: Part = Part {
+        group: Group::Heads,
+        place: 8,
+    };
+
+    pub(crate) const PRODUCTS_HEAD_2: Part = Part {
+        group: Group::Heads,
+        place: 9,
+    };
+
+    pub(crate) const SUMS_HEAD_1: Part = Part {
+        group: Group::Heads,
+        place: 10,
+    };
+
+    pub(crate) const SHIFTS_HEAD_1: Part = Part {
+        group: Group::Heads,
+        place: 11,
+    };
+
+    pub(crate) const COMPARED_HEAD_1: Part = Part {
+        group: Group::Heads,
+        place: 12,
+    };
+
+    pub(crate) const COMPARED_HEAD_2: Part = Part {
+        group: Group::Heads,
+        place: 13,
+    };
+
+    pub(crate) const COMPARED_HEAD_3: Part = Part {
+        group: Group::Heads,
+        place: 14,
+    };
+
+    pub(crate) const ASSIGNED_HEAD_1: Part = Part {
+        group: Group::Heads,
+        place: 15,
+    };
+
+    pub(crate) const ASSIGNED_HEAD_2: Part = Part {
+        group: Group::Heads,
+        place: 16,
+    };
+
+    pub(crate) const ASSIGNED_HEAD_3: Part = Part {
+        group: Group::Heads,
+        place: 17,
+    };
+
+    pub(crate) const ASSIGNED_HEAD_4: Part = Part {
+        group: Group::Heads,
+        place: 18,
+    };
+
+    pub(crate) const ASSIGNED_HEAD_5: Part = Part {
+        group: Group::Heads,
+        place: 19,
+    };
+
+    pub(crate) const OPERAND_REST_1: Part = Part {
+        group: Group::Statements,
+        place: 0,
+    };
+
+    pub(crate) const OPERAND_REST_2: Part = Part {
+        group: Group::Statements,
+        place: 1,
+    };
+
+    pub(crate) const STATEMENT_REST_1: Part = Part {
+        group: Group::Statements,
+        place: 2,
+    };
+
+    pub(crate) const STATEMENT_REST_2: Part = Part {
+        group: Group::Statements,
+        place: 3,
+    };
+
+    pub(crate) const STATEMENT_REST_3: Part = Part {
+        group: Group::Statements,
+        place: 4,
+    };
+
+    pub(crate) const LOCAL_1: Part = Part {
+        group: Group::Statements,
+        place: 5,
+    };
+
+    pub(crate) const LOCAL_2: Part = Part {
+        group: Group::Statements,
+        place: 6,
+    };
+
+    pub(crate) const RECEIVER_REST_1: Part = Part {
+        group: Group::Signatures,
+        place: 0,
+    };
+
+    pub(crate) const RECEIVER_REST_2: Part = Part {
+        group: Group::Signatures,
+        place: 1,
+    };
+
+    pub(crate) const RECEIVER_REST_3: Part = Part {
+        group: Group::Signatures,
+        place: 2,
+    };
+
+    pub(crate) const INPUTS_1: Part = Part {
+        group: Group::Signatures,
+        place: 3,
+    };
+
+    pub(crate) const SIGNATURE_1: Part = Part {
+        group: Group::Signatures,
+        place: 4,
+    };
+
+    pub(crate) const SIGNATURE_REST_1: Part = Part {
+        group: Group::Signatures,
+        place: 5,
+    };
+
+    pub(crate) const CONST_ITEM_REST_1: Part = Part {
+        group: Group::Items,
+        place: 0,
+    };
+
+    pub(crate) const STATIC_ITEM_REST_1: Part = Part {
+        group: Group::Items,
+        place: 1,
+    };
+
+    pub(crate) const EXTERN_CRATE_REST_1: Part = Part {
+        group: Group::Items,
+        place: 2,
+    };
+
+    pub(crate) const USE_TREE_1: Part = Part {
+        group: Group::Items,
+        place: 3,
+    };
+
+    pub(crate) const MODULE_ITEM_REST_1: Part = Part {
+        group: Group::Items,
+        place: 4,
+    };
+
+    pub(crate) const ALIAS_1: Part = Part {
+        group: Group::Items,
+        place: 5,
+    };
+
+    pub(crate) const MACRO_ITEM_REST_1: Part = Part {
+        group: Group::Items,
+        place: 6,
+    };
+
+    pub(crate) const UNTYPED_STATIC_1: Part = Part {
+        group: Group::KeptItems,
+        place: 0,
+    };
+
+    pub(crate) const VALUELESS_STATIC_1: Part = Part {
+        group: Group::KeptItems,
+        place: 1,
+    };
+
+    pub(crate) const ODD_CONST_1: Part = Part {
+        group: Group::KeptItems,
+        place: 2,
+    };
+
+    pub(crate) const ODD_CONST_2: Part = Part {
+        group: Group::KeptItems,
+        place: 3,
+    };
+
+    pub(crate) const ODD_CONST_3: Part = Part {
+        group: Group::KeptItems,
+        place: 4,
+    };
+
+    pub(crate) const ODD_CONST_4: Part = Part {
+        group: Group::KeptItems,
+        place: 5,
+    };
+
+    pub(crate) const ODD_CONST_5: Part = Part {
+        group: Group::KeptItems,
+        place: 6,
+    };
+
+    pub(crate) const ODD_TYPE_1: Part = Part {
+        group: Group::KeptItems,
+        place: 7,
+    };
+
+    pub(crate) const ODD_TYPE_2: Part = Part {
+        group: Group::KeptItems,
+        place: 8,
+    };
+
+    pub(crate) const ODD_TYPE_3: Part = Part {
+        group: Group::KeptItems,
+        place: 9,
+    };
+
+    pub(crate) const BARE_TRAIT_1: Part = Part {
+        group: Group::Traits,
+        place: 0,
+    };
+
+    pub(crate) const BARE_TRAIT_2: Part = Part {
+        group: Group::Traits,
+        place: 1,
+    };
+
+    pub(crate) const RESTRICTED_TRAIT_1: Part = Part {
+        group: Group::Traits,
+        place: 2,
+    };
+
+    pub(crate) const ODD_IMPL_1: Part = Part {
+        group: Group::Impls,
+        place: 0,
+    };
+
+    pub(crate) const ODD_IMPL_2: Part = Part {
+        group: Group::Impls,
+        place: 1,
+    };
+
+    pub(crate) const ODD_IMPL_3: Part = Part {
+        group: Group::Impls,
+        place: 2,
+    };
+
+    pub(crate) const ODD_IMPL_4: Part = Part {
+        group: Group::Impls,
+        place: 3,
+    };
+
+    pub(crate) const VISIBLE_CONST_IMPL_1: Part = Part {
+        group: Group::Impls,
+        place: 4,
+    };
+
+    pub(crate) const VISIBLE_CONST_IMPL_2: Part = Part {
+        group: Group::Impls,
+        place: 5,
+    };
+
+    pub(crate) const VISIBLE_CONST_IMPL_3: Part = Part {
+        group: Group::Impls,
+        place: 6,
+    };
+
+    pub(crate) const BARE_TRAIT_TYPE_1: Part = Part {
+        group: Group::TraitMembers,
+        place: 0,
+    };
+
+    pub(crate) const TRAIT_CONST_1: Part = Part {
+        group: Group::TraitMembers,
+        place: 1,
+    };
+
+    pub(crate) const ANY_CONST_1: Part = Part {
+        group: Group::TraitMembers,
+        place: 2,
+    };
+
+    pub(crate) const ANY_CONST_2: Part = Part {
+        group: Group::TraitMembers,
+        place: 3,
+    };
+
+    pub(crate) const ODD_TRAIT_CONST_1: Part = Part {
+        group: Group::TraitMembers,
+        place: 4,
+    };
+
+    pub(crate) const ODD_TRAIT_CONST_2: Part = Part {
+        group: Group::TraitMembers,
+        place: 5,
+    };
+
+    pub(crate) const ODD_TRAIT_CONST_3: Part = Part {
+        group: Group::TraitMembers,
+        place: 6,
+    };
+
+    pub(crate) const ODD_TRAIT_CONST_4: Part = Part {
+        group: Group::TraitMembers,
+        place: 7,
+    };
+
+    pub(crate) const IMPL_CONST_1: Part = Part {
+        group: Group::ImplMembers,
+        place: 0,
+    };
+
+    pub(crate) const IMPL_CONST_2: Part = Part {
+        group: Group::ImplMembers,
+        place: 1,
+    };
+
+    pub(crate) const IMPL_TYPE_1: Part = Part {
+        group: Group::ImplMembers,
+        place: 2,
+    };
+
+    pub(crate) const ODD_IMPL_CONST_1: Part = Part {
+        group: Group::ImplMembers,
+        place: 3,
+    };
+
+    pub(crate) const ODD_IMPL_CONST_2: Part = Part {
+        group: Group::ImplMembers,
+        place: 4,
+    };
+
+    pub(crate) const ODD_IMPL_CONST_3: Part = Part {
+        group: Group::ImplMembers,
+        place: 5,
+    };
+
+    pub(crate) const ODD_IMPL_CONST_4: Part = Part {
+        group: Group::ImplMembers,
+        place: 6,
+    };
+
+    pub(crate) const ODD_IMPL_CONST_5: Part = Part {
+        group: Group::ImplMembers,
+        place: 7,
+    };
+
+    pub(crate) const ODD_IMPL_TYPE_1: Part = Part {
+        group: Group::ImplMembers,
+        place: 8,
+    };
+
+    pub(crate) const ODD_IMPL_TYPE_2: Part = Part {
+        group: Group::ImplMembers,
+        place: 9,
+    };
+
+    pub(crate) const ODD_IMPL_TYPE_3: Part = Part {
+        group: Group::ImplMembers,
+        place: 10,
+    };
+
+    pub(crate) const FOREIGN_SIGNATURE_1: Part = Part {
+        group: Group::ForeignMembers,
+        place: 0,
+    };
+
+    pub(crate) const BARE_FOREIGN_STATIC_1: Part = Part {
+        group: Group::ForeignMembers,
+        place: 1,
+    };
+
+    pub(crate) const FOREIGN_TYPE_1: Part = Part {
+        group: Group::ForeignMembers,
+        place: 2,
+    };
+
+    pub(crate) const ODD_FOREIGN_TYPE_1: Part = Part {
+        group: Group::ForeignMembers,
+        place: 3,
+    };
+
+    pub(crate) const ODD_FOREIGN_TYPE_2: Part = Part {
+        group: Group::ForeignMembers,
+        place: 4,
+    };
+
+    pub(crate) const ODD_FOREIGN_TYPE_3: Part = Part {
+        group: Group::ForeignMembers,
+        place: 5,
+    };
+
+    pub(crate) const ODD_FOREIGN_TYPE_4: Part = Part {
+        group: Group::ForeignMembers,
+        place: 6,
+    };
+
+    pub(crate) const ODD_FOREIGN_TYPE_5: Part = Part {
+        group: Group::ForeignMembers,
+        place: 7,
+    };
+
+    pub(crate) const PLANNED_1: Part = Part {
+        group: Group::Planned1,
+        place: 0,
+    };
+
+    pub(crate) const PLANNED_2: Part = Part {
+        group: Group::Planned1,
+        place: 1,
+    };
+
+    pub(crate) const PLANNED_3: Part = Part {
+        group: Group::Planned1,
+        place: 2,
+    };
+
+    pub(crate) const PLANNED_4: Part = Part {
+        group: Group::Planned1,
+        place: 3,
+    };
+
+    pub(crate) const PLANNED_5: Part = Part {
+        group: Group::Planned1,
+        place: 4,
+    };
+
+    pub(crate) const PLANNED_6: Part = Part {
+        group: Group::Planned1,
+        place: 5,
+    };
+
+    pub(crate) const PLANNED_7: Part = Part {
+        group: Group::Planned1,
+        place: 6,
+    };
+
+    pub(crate) const PLANNED_8: Part = Part {
+        group: Group::Planned1,
+        place: 7,
+    };
+
+    pub(crate) const PLANNED_9: Part = Part {
+        group: Group::Planned1,
+        place: 8,
+    };
+
+    pub(crate) const PLANNED_10: Part = Part {
+        group: Group::Planned1,
+        place: 9,
+    };
+
+    pub(crate) const PLANNED_11: Part = Part {
+        group: Group::Planned1,
+        place: 10,
+    };
+
+    pub(crate) const PLANNED_12: Part = Part {
+        group: Group::Planned1,
+        place: 11,
+    };
+
+    pub(crate) const PLANNED_13: Part = Part {
+        group: Group::Planned1,
+        place: 12,
+    };
+
+    pub(crate) const PLANNED_14: Part = Part {
+        group: Group::Planned1,
+        place: 13,
+    };
+
+    pub(crate) const PLANNED_15: Part = Part {
+        group: Group::Planned1,
+        place: 14,
+    };
+
+    pub(crate) const PLANNED_16: Part = Part {
+        group: Group::Planned1,
+        place: 15,
+    };
+
+    pub(crate) const PLANNED_17: Part = Part {
+        group: Group::Planned1,
+        place: 16,
+    };
+
+    pub(crate) const PLANNED_18: Part = Part {
+        group: Group::Planned2,
+        place: 0,
+    };
+
+    pub(crate) const PLANNED_19: Part = Part {
+        group: Group::Planned2,
+        place: 1,
+    };
+
+    pub(crate) const PLANNED_20: Part = Part {
+        group: Group::Planned2,
+        place: 2,
+    };
+
+    pub(crate) const PLANNED_21: Part = Part {
+        group: Group::Planned2,
+        place: 3,
+    };
+
+    pub(crate) const PLANNED_22: Part = Part {
+        group: Group::Planned2,
+        place: 4,
+    };
+
+    pub(crate) const PLANNED_23: Part = Part {
+        group: Group::Planned2,
+        place: 5,
+    };
+
+    pub(crate) const PLANNED_24: Part = Part {
+        group: Group::Planned2,
+        place: 6,
+    };
+
+    pub(crate) const PLANNED_25: Part = Part {
+        group: Group::Planned2,
+        place: 7,
+    };
+
+    pub(crate) const PLANNED_26: Part = Part {
+        group: Group::Planned2,
+        place: 8,
+    };
+
+    pub(crate) const PLANNED_27: Part = Part {
+        group: Group::Planned2,
+        place: 9,
+    };
+
+    pub(crate) const PLANNED_28: Part = Part {
+        group: Group::Planned2,
+        place: 10,
+    };
+
+    pub(crate) const PLANNED_29: Part = Part {
+        group: Group::Planned2,
+        place: 11,
+    };
+
+    pub(crate) const PLANNED_30: Part = Part {
+        group: Group::Planned2,
+        place: 12,
+    };
+
+    pub(crate) const PLANNED_31: Part = Part {
+        group: Group::Planned2,
+        place: 13,
+    };
+
+    pub(crate) const PLANNED_32: Part = Part {
+        group: Group::Planned2,
+        place: 14,
+    };
+
+    pub(crate) const PLANNED_33: Part = Part {
+        group: Group::Planned2,
+        place: 15,
+    };
+
+    pub(crate) const PLANNED_34: Part = Part {
+        group: Group::Planned2,
+        place: 16,
+    };
+
+    pub(crate) const PLANNED_35: Part = Part {
+        group: Group::Planned3,
+        place: 0,
+    };
+
+    pub(crate) const PLANNED_36: Part = Part {
+        group: Group::Planned3,
+        place: 1,
+    };
+
+    pub(crate) const PLANNED_37: Part = Part {
+        group: Group::Planned3,
+        place: 2,
+    };
+
+    pub(crate) const PLANNED_38: Part = Part {
+        group: Group::Planned3,
+        place: 3,
+    };
+
+    pub(crate) const PLANNED_39: Part = Part {
+        group: Group::Planned3,
+        place: 4,
+    };
+
+    pub(crate) const PLANNED_40: Part = Part {
+        group: Group::Planned3,
+        place: 5,
+    };
+
+    pub(crate) const PLANNED_41: Part = Part {
+        group: Group::Planned3,
+        place: 6,
+    };
+
+    pub(crate) const PLANNED_42: Part = Part {
+        group: Group::Planned3,
+        place: 7,
+    };
+
+    pub(crate) const PLANNED_43: Part = Part {
+        group: Group::Planned3,
+        place: 8,
+    };
+
+    pub(crate) const PLANNED_44: Part = Part {
+        group: Group::Planned3,
+        place: 9,
+    };
+
+    pub(crate) const PLANNED_45: Part = Part {
+        group: Group::Planned3,
+        place: 10,
+    };
+
+    pub(crate) const PLANNED_46: Part = Part {
+        group: Group::Planned3,
+        place: 11,
+    };
+
+    pub(crate) const PLANNED_47: Part = Part {
+        group: Group::Planned3,
+        place: 12,
+    };
+
+    pub(crate) const PLANNED_48: Part = Part {
+        group: Group::Planned3,
+        place: 13,
+    };
+
+    pub(crate) const PLANNED_49: Part = Part {
+        group: Group::Planned3,
+        place: 14,
+    };
+
+    pub(crate) const PLANNED_50: Part = Part {
+        group: Group::Planned3,
+        place: 15,
+    };
+
+    pub(crate) const PLANNED_51: Part = Part {
+        group: Group::Planned3,
+        place: 16,
+    };
+
+    pub(crate) const PLANNED_52: Part = Part {
+        group: Group::Planned4,
+        place: 0,
+    };
+
+    pub(crate) const PLANNED_53: Part = Part {
+        group: Group::Planned4,
+        place: 1,
+    };
+
+    pub(crate) const PLANNED_54: Part = Part {
+        group: Group::Planned4,
+        place: 2,
+    };
+
+    pub(crate) const PLANNED_55: Part = Part {
+        group: Group::Planned4,
+        place: 3,
+    };
+
+    pub(crate) const PLANNED_56: Part = Part {
+        group: Group::Planned4,
+        place: 4,
+    };
+
+    pub(crate) const PLANNED_57: Part = Part {
+        group: Group::Planned4,
+        place: 5,
+    };
+
+    pub(crate) const PLANNED_58: Part = Part {
+        group: Group::Planned4,
+        place: 6,
+    };
+
+    pub(crate) const PLANNED_59: Part = Part {
+        group: Group::Planned4,
+        place: 7,
+    };
+
+    pub(crate) const PLANNED_60: Part = Part {
+        group: Group::Planned4,
+        place: 8,
+    };
+
+    pub(crate) const PLANNED_61: Part = Part {
+        group: Group::Planned4,
+        place: 9,
+    };
+
+    pub(crate) const PLANNED_62: Part = Part {
+        group: Group::Planned4,
+        place: 10,
+    };
+
+    pub(crate) const PLANNED_63: Part = Part {
+        group: Group::Planned4,
+        place: 11,
+    };
+
+    pub(crate) const PLANNED_64: Part = Part {
+        group: Group::Planned4,
+        place: 12,
+    };
+
+    pub(crate) const PLANNED_65: Part = Part {
+        group: Group::Planned4,
+        place: 13,
+    };
+
+    pub(crate) const PLANNED_66: Part = Part {
+        group: Group::Planned4,
+        place: 14,
+    };
+
+    pub(crate) const PLANNED_67: Part = Part {
+        group: Group::Planned4,
+        place: 15,
+    };
+
+    pub(crate) const PLANNED_68: Part = Part {
+        group: Group::Planned4,
+        place: 16,
+    };
+
+    pub(crate) const PLANNED_69: Part = Part {
+        group: Group::Planned5,
+        place: 0,
+    };
+
+    pub(crate) const PLANNED_70: Part = Part {
+        group: Group::Planned5,
+        place: 1,
+    };
+
+    pub(crate) const PLANNED_71: Part = Part {
+        group: Group::Planned5,
+        place: 2,
+    };
+
+    pub(crate) const PLANNED_72: Part = Part {
+        group: Group::Planned5,
+        place: 3,
+    };
+
+    pub(crate) const PLANNED_73: Part = Part {
+        group: Group::Planned5,
+        place: 4,
+    };
+
+    pub(crate) const PLANNED_74: Part = Part {
+        group: Group::Planned5,
+        place: 5,
+    };
+
+    pub(crate) const PLANNED_75: Part = Part {
+        group: Group::Planned5,
+        place: 6,
+    };
+
+    pub(crate) const PLANNED_76: Part = Part {
+        group: Group::Planned5,
+        place: 7,
+    };
+
+    pub(crate) const PLANNED_77: Part = Part {
+        group: Group::Planned5,
+        place: 8,
+    };
+
+    pub(crate) const PLANNED_78: Part = Part {
+        group: Group::Planned5,
+        place: 9,
+    };
+
+    pub(crate) const PLANNED_79: Part = Part {
+        group: Group::Planned5,
+        place: 10,
+    };
+
+    pub(crate) const PLANNED_80: Part = Part {
+        group: Group::Planned5,
+        place: 11,
+    };
+
+    pub(crate) const PLANNED_81: Part = Part {
+        group: Group::Planned5,
+        place: 12,
+    };
+
+    pub(crate) const PLANNED_82: Part = Part {
+        group: Group::Planned5,
+        place: 13,
+    };
+
+    pub(crate) const PLANNED_83: Part = Part {
+        group: Group::Planned5,
+        place: 14,
+    };
+
+    pub(crate) const PLANNED_84: Part = Part {
+        group: Group::Planned5,
+        place: 15,
+    };
 }
 
 /// The form of the part.
+#[tactic(auto, unfolding(crate::specs::Parts::part_form))]
 pub(crate) fn form_of_part(part: Part) -> &'static Form
     ensures { parse_form (grammar_of result.now) ≡ parse_form (part_form part) }
 {
-    match part {
-        Part::TypeWords1 => &types::TYPE_WORDS_1,
-        Part::TypeWords2 => &types::TYPE_WORDS_2,
-        Part::MoreTypeWords1 => &types::MORE_TYPE_WORDS_1,
-        Part::MoreTypeWords2 => &types::MORE_TYPE_WORDS_2,
-        Part::QualifiedPath1 => &types::QUALIFIED_PATH_1,
-        Part::Type1 => &types::TYPE_1,
-        Part::Type2 => &types::TYPE_2,
-        Part::Type3 => &types::TYPE_3,
-        Part::Constant1 => &types::CONSTANT_1,
-        Part::Generics1 => &generics::GENERICS_1,
-        Part::Generics2 => &generics::GENERICS_2,
-        Part::Generics3 => &generics::GENERICS_3,
-        Part::Predicate1 => &generics::PREDICATE_1,
-        Part::NamedField1 => &fields::NAMED_FIELD_1,
-        Part::NamedField2 => &fields::NAMED_FIELD_2,
-        Part::Variant1 => &fields::VARIANT_1,
-        Part::Variant2 => &fields::VARIANT_2,
-        Part::StructureBody1 => &inputs::STRUCTURE_BODY_1,
-        Part::EnumerationRest1 => &inputs::ENUMERATION_REST_1,
-        Part::ExpressionWords1 => &patterns::EXPRESSION_WORDS_1,
-        Part::ExpressionWords2 => &patterns::EXPRESSION_WORDS_2,
-        Part::QualifiedExpressionPath1 => &patterns::QUALIFIED_EXPRESSION_PATH_1,
-        Part::Pattern1 => &patterns::PATTERN_1,
-        Part::Pattern2 => &patterns::PATTERN_2,
-        Part::Pattern3 => &patterns::PATTERN_3,
-        Part::ArrayContent1 => &lists::ARRAY_CONTENT_1,
-        Part::Primary1 => &blocks::PRIMARY_1,
-        Part::Primary2 => &blocks::PRIMARY_2,
-        Part::Primary3 => &blocks::PRIMARY_3,
-        Part::Primary4 => &blocks::PRIMARY_4,
-        Part::Primary5 => &blocks::PRIMARY_5,
-        Part::Primary6 => &blocks::PRIMARY_6,
-        Part::LiteralFields1 => &blocks::LITERAL_FIELDS_1,
-        Part::LiteralField1 => &blocks::LITERAL_FIELD_1,
-        Part::BlockLike1 => &blocks::BLOCK_LIKE_1,
-        Part::IfExpression1 => &blocks::IF_EXPRESSION_1,
-        Part::LoopExpression1 => &blocks::LOOP_EXPRESSION_1,
-        Part::LoopExpression2 => &blocks::LOOP_EXPRESSION_2,
-        Part::Postfixes1 => &postfixes::POSTFIXES_1,
-        Part::Postfixes2 => &postfixes::POSTFIXES_2,
-        Part::Postfixes3 => &postfixes::POSTFIXES_3,
-        Part::Member1 => &postfixes::MEMBER_1,
-        Part::Member2 => &postfixes::MEMBER_2,
-        Part::Unary1 => &postfixes::UNARY_1,
-        Part::Unary2 => &postfixes::UNARY_2,
-        Part::Unary3 => &postfixes::UNARY_3,
-        Part::Products1 => &operators::PRODUCTS_1,
-        Part::Products2 => &operators::PRODUCTS_2,
-        Part::Sums1 => &operators::SUMS_1,
-        Part::Shifts1 => &operators::SHIFTS_1,
-        Part::Compared1 => &operators::COMPARED_1,
-        Part::Compared2 => &operators::COMPARED_2,
-        Part::Compared3 => &operators::COMPARED_3,
-        Part::Assigned1 => &operators::ASSIGNED_1,
-        Part::Assigned2 => &operators::ASSIGNED_2,
-        Part::Assigned3 => &operators::ASSIGNED_3,
-        Part::Assigned4 => &operators::ASSIGNED_4,
-        Part::Assigned5 => &operators::ASSIGNED_5,
-        Part::PrimaryHead1 => &heads::PRIMARY_HEAD_1,
-        Part::PrimaryHead2 => &heads::PRIMARY_HEAD_2,
-        Part::PrimaryHead3 => &heads::PRIMARY_HEAD_3,
-        Part::PrimaryHead4 => &heads::PRIMARY_HEAD_4,
-        Part::PrimaryHead5 => &heads::PRIMARY_HEAD_5,
-        Part::UnaryHead1 => &heads::UNARY_HEAD_1,
-        Part::UnaryHead2 => &heads::UNARY_HEAD_2,
-        Part::UnaryHead3 => &heads::UNARY_HEAD_3,
-        Part::ProductsHead1 => &heads::PRODUCTS_HEAD_1,
-        Part::ProductsHead2 => &heads::PRODUCTS_HEAD_2,
-        Part::SumsHead1 => &heads::SUMS_HEAD_1,
-        Part::ShiftsHead1 => &heads::SHIFTS_HEAD_1,
-        Part::ComparedHead1 => &heads::COMPARED_HEAD_1,
-        Part::ComparedHead2 => &heads::COMPARED_HEAD_2,
-        Part::ComparedHead3 => &heads::COMPARED_HEAD_3,
-        Part::AssignedHead1 => &heads::ASSIGNED_HEAD_1,
-        Part::AssignedHead2 => &heads::ASSIGNED_HEAD_2,
-        Part::AssignedHead3 => &heads::ASSIGNED_HEAD_3,
-        Part::AssignedHead4 => &heads::ASSIGNED_HEAD_4,
-        Part::AssignedHead5 => &heads::ASSIGNED_HEAD_5,
-        Part::OperandRest1 => &statements::OPERAND_REST_1,
-        Part::OperandRest2 => &statements::OPERAND_REST_2,
-        Part::StatementRest1 => &statements::STATEMENT_REST_1,
-        Part::StatementRest2 => &statements::STATEMENT_REST_2,
-        Part::StatementRest3 => &statements::STATEMENT_REST_3,
-        Part::Local1 => &statements::LOCAL_1,
-        Part::Local2 => &statements::LOCAL_2,
-        Part::ReceiverRest1 => &signatures::RECEIVER_REST_1,
-        Part::ReceiverRest2 => &signatures::RECEIVER_REST_2,
-        Part::ReceiverRest3 => &signatures::RECEIVER_REST_3,
-        Part::Inputs1 => &signatures::INPUTS_1,
-        Part::Signature1 => &signatures::SIGNATURE_1,
-        Part::SignatureRest1 => &signatures::SIGNATURE_REST_1,
-        Part::ConstItemRest1 => &items::CONST_ITEM_REST_1,
-        Part::StaticItemRest1 => &items::STATIC_ITEM_REST_1,
-        Part::ExternCrateRest1 => &items::EXTERN_CRATE_REST_1,
-        Part::UseTree1 => &items::USE_TREE_1,
-        Part::ModuleItemRest1 => &items::MODULE_ITEM_REST_1,
-        Part::Alias1 => &items::ALIAS_1,
-        Part::MacroItemRest1 => &items::MACRO_ITEM_REST_1,
-        Part::UntypedStatic1 => &kept_items::UNTYPED_STATIC_1,
-        Part::ValuelessStatic1 => &kept_items::VALUELESS_STATIC_1,
-        Part::OddConst1 => &kept_items::ODD_CONST_1,
-        Part::OddConst2 => &kept_items::ODD_CONST_2,
-        Part::OddConst3 => &kept_items::ODD_CONST_3,
-        Part::OddConst4 => &kept_items::ODD_CONST_4,
-        Part::OddConst5 => &kept_items::ODD_CONST_5,
-        Part::OddType1 => &kept_items::ODD_TYPE_1,
-        Part::OddType2 => &kept_items::ODD_TYPE_2,
-        Part::OddType3 => &kept_items::ODD_TYPE_3,
-        Part::BareTrait1 => &traits::BARE_TRAIT_1,
-        Part::BareTrait2 => &traits::BARE_TRAIT_2,
-        Part::RestrictedTrait1 => &traits::RESTRICTED_TRAIT_1,
-        Part::OddImpl1 => &impls::ODD_IMPL_1,
-        Part::OddImpl2 => &impls::ODD_IMPL_2,
-        Part::OddImpl3 => &impls::ODD_IMPL_3,
-        Part::OddImpl4 => &impls::ODD_IMPL_4,
-        Part::VisibleConstImpl1 => &impls::VISIBLE_CONST_IMPL_1,
-        Part::VisibleConstImpl2 => &impls::VISIBLE_CONST_IMPL_2,
-        Part::VisibleConstImpl3 => &impls::VISIBLE_CONST_IMPL_3,
-        Part::BareTraitType1 => &trait_members::BARE_TRAIT_TYPE_1,
-        Part::TraitConst1 => &trait_members::TRAIT_CONST_1,
-        Part::AnyConst1 => &trait_members::ANY_CONST_1,
-        Part::AnyConst2 => &trait_members::ANY_CONST_2,
-        Part::OddTraitConst1 => &trait_members::ODD_TRAIT_CONST_1,
-        Part::OddTraitConst2 => &trait_members::ODD_TRAIT_CONST_2,
-        Part::OddTraitConst3 => &trait_members::ODD_TRAIT_CONST_3,
-        Part::OddTraitConst4 => &trait_members::ODD_TRAIT_CONST_4,
-        Part::ImplConst1 => &impl_members::IMPL_CONST_1,
-        Part::ImplConst2 => &impl_members::IMPL_CONST_2,
-        Part::ImplType1 => &impl_members::IMPL_TYPE_1,
-        Part::OddImplConst1 => &impl_members::ODD_IMPL_CONST_1,
-        Part::OddImplConst2 => &impl_members::ODD_IMPL_CONST_2,
-        Part::OddImplConst3 => &impl_members::ODD_IMPL_CONST_3,
-        Part::OddImplConst4 => &impl_members::ODD_IMPL_CONST_4,
-        Part::OddImplConst5 => &impl_members::ODD_IMPL_CONST_5,
-        Part::OddImplType1 => &impl_members::ODD_IMPL_TYPE_1,
-        Part::OddImplType2 => &impl_members::ODD_IMPL_TYPE_2,
-        Part::OddImplType3 => &impl_members::ODD_IMPL_TYPE_3,
-        Part::ForeignSignature1 => &foreign_members::FOREIGN_SIGNATURE_1,
-        Part::BareForeignStatic1 => &foreign_members::BARE_FOREIGN_STATIC_1,
-        Part::ForeignType1 => &foreign_members::FOREIGN_TYPE_1,
-        Part::OddForeignType1 => &foreign_members::ODD_FOREIGN_TYPE_1,
-        Part::OddForeignType2 => &foreign_members::ODD_FOREIGN_TYPE_2,
-        Part::OddForeignType3 => &foreign_members::ODD_FOREIGN_TYPE_3,
-        Part::OddForeignType4 => &foreign_members::ODD_FOREIGN_TYPE_4,
-        Part::OddForeignType5 => &foreign_members::ODD_FOREIGN_TYPE_5,
-        Part::Planned1 => &crate::plan::PLANNED_1,
-        Part::Planned2 => &crate::plan::PLANNED_2,
-        Part::Planned3 => &crate::plan::PLANNED_3,
-        Part::Planned4 => &crate::plan::PLANNED_4,
-        Part::Planned5 => &crate::plan::PLANNED_5,
-        Part::Planned6 => &crate::plan::PLANNED_6,
-        Part::Planned7 => &crate::plan::PLANNED_7,
-        Part::Planned8 => &crate::plan::PLANNED_8,
-        Part::Planned9 => &crate::plan::PLANNED_9,
-        Part::Planned10 => &crate::plan::PLANNED_10,
-        Part::Planned11 => &crate::plan::PLANNED_11,
-        Part::Planned12 => &crate::plan::PLANNED_12,
-        Part::Planned13 => &crate::plan::PLANNED_13,
-        Part::Planned14 => &crate::plan::PLANNED_14,
-        Part::Planned15 => &crate::plan::PLANNED_15,
-        Part::Planned16 => &crate::plan::PLANNED_16,
-        Part::Planned17 => &crate::plan::PLANNED_17,
-        Part::Planned18 => &crate::plan::PLANNED_18,
-        Part::Planned19 => &crate::plan::PLANNED_19,
-        Part::Planned20 => &crate::plan::PLANNED_20,
-        Part::Planned21 => &crate::plan::PLANNED_21,
-        Part::Planned22 => &crate::plan::PLANNED_22,
-        Part::Planned23 => &crate::plan::PLANNED_23,
-        Part::Planned24 => &crate::plan::PLANNED_24,
-        Part::Planned25 => &crate::plan::PLANNED_25,
-        Part::Planned26 => &crate::plan::PLANNED_26,
-        Part::Planned27 => &crate::plan::PLANNED_27,
-        Part::Planned28 => &crate::plan::PLANNED_28,
-        Part::Planned29 => &crate::plan::PLANNED_29,
-        Part::Planned30 => &crate::plan::PLANNED_30,
-        Part::Planned31 => &crate::plan::PLANNED_31,
-        Part::Planned32 => &crate::plan::PLANNED_32,
-        Part::Planned33 => &crate::plan::PLANNED_33,
-        Part::Planned34 => &crate::plan::PLANNED_34,
-        Part::Planned35 => &crate::plan::PLANNED_35,
-        Part::Planned36 => &crate::plan::PLANNED_36,
-        Part::Planned37 => &crate::plan::PLANNED_37,
-        Part::Planned38 => &crate::plan::PLANNED_38,
-        Part::Planned39 => &crate::plan::PLANNED_39,
-        Part::Planned40 => &crate::plan::PLANNED_40,
-        Part::Planned41 => &crate::plan::PLANNED_41,
-        Part::Planned42 => &crate::plan::PLANNED_42,
-        Part::Planned43 => &crate::plan::PLANNED_43,
-        Part::Planned44 => &crate::plan::PLANNED_44,
-        Part::Planned45 => &crate::plan::PLANNED_45,
-        Part::Planned46 => &crate::plan::PLANNED_46,
-        Part::Planned47 => &crate::plan::PLANNED_47,
-        Part::Planned48 => &crate::plan::PLANNED_48,
-        Part::Planned49 => &crate::plan::PLANNED_49,
-        Part::Planned50 => &crate::plan::PLANNED_50,
-        Part::Planned51 => &crate::plan::PLANNED_51,
-        Part::Planned52 => &crate::plan::PLANNED_52,
-        Part::Planned53 => &crate::plan::PLANNED_53,
-        Part::Planned54 => &crate::plan::PLANNED_54,
-        Part::Planned55 => &crate::plan::PLANNED_55,
-        Part::Planned56 => &crate::plan::PLANNED_56,
-        Part::Planned57 => &crate::plan::PLANNED_57,
-        Part::Planned58 => &crate::plan::PLANNED_58,
-        Part::Planned59 => &crate::plan::PLANNED_59,
-        Part::Planned60 => &crate::plan::PLANNED_60,
-        Part::Planned61 => &crate::plan::PLANNED_61,
-        Part::Planned62 => &crate::plan::PLANNED_62,
-        Part::Planned63 => &crate::plan::PLANNED_63,
-        Part::Planned64 => &crate::plan::PLANNED_64,
-        Part::Planned65 => &crate::plan::PLANNED_65,
-        Part::Planned66 => &crate::plan::PLANNED_66,
-        Part::Planned67 => &crate::plan::PLANNED_67,
-        Part::Planned68 => &crate::plan::PLANNED_68,
-        Part::Planned69 => &crate::plan::PLANNED_69,
-        Part::Planned70 => &crate::plan::PLANNED_70,
-        Part::Planned71 => &crate::plan::PLANNED_71,
-        Part::Planned72 => &crate::plan::PLANNED_72,
-        Part::Planned73 => &crate::plan::PLANNED_73,
-        Part::Planned74 => &crate::plan::PLANNED_74,
-        Part::Planned75 => &crate::plan::PLANNED_75,
-        Part::Planned76 => &crate::plan::PLANNED_76,
-        Part::Planned77 => &crate::plan::PLANNED_77,
-        Part::Planned78 => &crate::plan::PLANNED_78,
-        Part::Planned79 => &crate::plan::PLANNED_79,
-        Part::Planned80 => &crate::plan::PLANNED_80,
-        Part::Planned81 => &crate::plan::PLANNED_81,
-        Part::Planned82 => &crate::plan::PLANNED_82,
-        Part::Planned83 => &crate::plan::PLANNED_83,
-        Part::Planned84 => &crate::plan::PLANNED_84,
+    match part.group {
+        Group::Types => types::part_at(part.place),
+        Group::Generics => generics::part_at(part.place),
+        Group::Fields => fields::part_at(part.place),
+        Group::Inputs => inputs::part_at(part.place),
+        Group::Patterns => patterns::part_at(part.place),
+        Group::Lists => lists::part_at(part.place),
+        Group::Blocks => blocks::part_at(part.place),
+        Group::Postfixes => postfixes::part_at(part.place),
+        Group::Operators => operators::part_at(part.place),
+        Group::Heads => heads::part_at(part.place),
+        Group::Statements => statements::part_at(part.place),
+        Group::Signatures => signatures::part_at(part.place),
+        Group::Items => items::part_at(part.place),
+        Group::KeptItems => kept_items::part_at(part.place),
+        Group::Traits => traits::part_at(part.place),
+        Group::Impls => impls::part_at(part.place),
+        Group::TraitMembers => trait_members::part_at(part.place),
+        Group::ImplMembers => impl_members::part_at(part.place),
+        Group::ForeignMembers => foreign_members::part_at(part.place),
+        Group::Planned1 => crate::plan::planned_1(part.place),
+        Group::Planned2 => crate::plan::planned_2(part.place),
+        Group::Planned3 => crate::plan::planned_3(part.place),
+        Group::Planned4 => crate::plan::planned_4(part.place),
+        Group::Planned5 => crate::plan::planned_5(part.place),
     }
 }

@@ -554,7 +554,7 @@ fn copy_rest(mark: Mark, out: &mut Writer, input: &mut ParseBuffer<'_>) -> Parse
 // BY BRACES
 
 /// Reads a whole expression, and then one of two forms, by whether its last token tree is a group in braces.
-#[tactic(auto, using(crate::proofs::Todo::push, crate::proofs::Todo::value_is))]
+#[tactic(auto, using(crate::proofs::Todo::push, crate::proofs::Todo::value_is), unfolding(crate::specs::Names::rule_of))]
 fn read_value<'a>(
     one: &'static Form,
     other: &'static Form,
@@ -565,7 +565,7 @@ fn read_value<'a>(
     ensures { Steps IsSyntax steps.old.items (copy_form (either (such trailing_brace (grammar.rule whole_expression) & grammar_of one.now) (such no_trailing_brace (grammar.rule whole_expression) & grammar_of other.now)) out.now input.now) result steps.new.items out.now input.now }
 {
     steps.push(Step::ByBraces(one, other, input.fork()))?;
-    steps.push(Step::Form(form_of(Rule::WholeExpression)))?;
+    steps.push(Step::Form(form_of(Rule::WHOLE_EXPRESSION)))?;
     Ok(())
 }
 

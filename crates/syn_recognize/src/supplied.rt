@@ -30,26 +30,27 @@ pub enum Nameless {
     Input,
 }
 
-static PATTERN: Form = Form::Rule(Rule::Pattern);
+static PATTERN: Form = Form::Rule(Rule::PATTERN);
 
 static COLON: Form = Form::Mark(Mark::Colon);
 
-static ARGUMENT: Form = Form::Rule(Rule::Type);
+static ARGUMENT: Form = Form::Rule(Rule::TYPE);
 
 static INPUT: Form = Form::When(
     Look::Mark(Mark::DotDotDot),
-    &Form::Rule(Rule::Variadic),
+    &Form::Rule(Rule::VARIADIC),
     &Form::Then(
-        &Form::Rule(Rule::Type),
+        &Form::Rule(Rule::TYPE),
         &Form::When(
             Look::Mark(Mark::Comma),
-            &Form::Then(&Form::Mark(Mark::Comma), &Form::Rule(Rule::LaterInputs)),
+            &Form::Then(&Form::Mark(Mark::Comma), &Form::Rule(Rule::LATER_INPUTS)),
             &Form::Empty,
         ),
     ),
 );
 
 /// What stands behind the name and its colon, as a form.
+#[tactic(auto, unfolding(crate::specs::Names::rule_of))]
 fn typed(nameless: Nameless) -> &'static Form
     ensures { grammar_of result.now ≡ typed_form nameless }
 {
@@ -60,6 +61,7 @@ fn typed(nameless: Nameless) -> &'static Form
 }
 
 /// Reads a pattern, a colon and what stands behind them. Where a name stands before `<`, this stands alone, and `_ :` is written before it.
+#[tactic(auto, unfolding(crate::specs::Names::rule_of))]
 pub(crate) fn read_supplied<'a>(
     nameless: Nameless,
     steps: &mut Vec<Step<'a>>,

@@ -47,7 +47,7 @@ pub(crate) struct Place<'a> {
 /// It goes down to the group in which the token stands, past each tree before it once.
 pub(crate) fn place_at<'a>(byte: usize, rule: Rule, tokens: &'a TokenStream) -> Place<'a> {
     let context = match rule {
-        Rule::UseTree => Context::Use,
+        Rule::USE_TREE => Context::Use,
         _ => Context::Other,
     };
     let mut place = Place::begins(context, tokens.cursor());

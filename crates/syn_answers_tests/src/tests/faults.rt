@@ -46,7 +46,7 @@ const USES: &[Refused] = &[
 /// A use renames to an identifier or `_`.
 #[test]
 fn renames(rt: HostRuntime) {
-    assert_faults(&rt, rt.alloc(), Rule::Item, USES);
+    assert_faults(&rt, rt.alloc(), Rule::ITEM, USES);
 }
 
 const RECEIVERS: &[Refused] = &[
@@ -62,7 +62,7 @@ const RECEIVERS: &[Refused] = &[
 /// A path isn't a receiver, whatever it begins with.
 #[test]
 fn receivers_alone(rt: HostRuntime) {
-    assert_faults(&rt, rt.alloc(), Rule::Receiver, RECEIVERS);
+    assert_faults(&rt, rt.alloc(), Rule::RECEIVER, RECEIVERS);
 }
 
 const ARGUMENTS: &[Refused] = &[
@@ -104,7 +104,7 @@ const ARGUMENTS: &[Refused] = &[
 /// A receiver stands first.
 #[test]
 fn receivers_among_arguments(rt: HostRuntime) {
-    assert_faults(&rt, rt.alloc(), Rule::Signature, ARGUMENTS);
+    assert_faults(&rt, rt.alloc(), Rule::SIGNATURE, ARGUMENTS);
 }
 
 const IMPLS: &[Refused] = &[
@@ -156,7 +156,7 @@ const IMPLS: &[Refused] = &[
 /// An impl is of a trait where `for` stands, and a negative one always.
 #[test]
 fn traits_of_impls(rt: HostRuntime) {
-    assert_faults(&rt, rt.alloc(), Rule::ImplDefinition, IMPLS);
+    assert_faults(&rt, rt.alloc(), Rule::IMPL_DEFINITION, IMPLS);
 }
 
 /// A list of items says the same.

@@ -50,13 +50,13 @@ impl Read for ForeignItem {
 
     ghost meaning = { meaning_of_rule rules.foreign_item };
 
-    #[tactic(auto, using(crate::proofs::WholeReads::foreign_attributes_refused, crate::proofs::WholeReads::foreign_refused, crate::proofs::WholeReads::foreign_read, crate::proofs::WholeReads::foreign_moved, crate::proofs::WholeReads::foreign_kept, crate::proofs::WholeReads::foreign_kept_moved))]
+    #[tactic(auto, using(crate::proofs::WholeReads::foreign_attributes_refused, crate::proofs::WholeReads::foreign_refused, crate::proofs::WholeReads::foreign_read, crate::proofs::WholeReads::foreign_moved, crate::proofs::WholeReads::foreign_kept, crate::proofs::WholeReads::foreign_kept_moved), unfolding(syn_recognize::specs::Names::rule_of))]
     fn read(input: &mut ParseBuffer<'_>) -> Parsed<ForeignItem> {
         let start = input.fork();
         let attrs = outer_attributes(input)?;
         match foreign_item_behind(attrs, input) {
             Ok(Some(member)) => Ok(member),
-            Ok(None) => Ok(ForeignItem::Verbatim(kept_tokens(Rule::ForeignItem, &start, input)?)),
+            Ok(None) => Ok(ForeignItem::Verbatim(kept_tokens(Rule::FOREIGN_ITEM, &start, input)?)),
             Err(refusal) => Err(refusal),
         }
     }

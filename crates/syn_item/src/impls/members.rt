@@ -67,13 +67,13 @@ impl Read for ImplItem {
 
     ghost meaning = { meaning_of_rule rules.impl_item };
 
-    #[tactic(auto, using(crate::proofs::WholeReads::impl_attributes_refused, crate::proofs::WholeReads::impl_refused, crate::proofs::WholeReads::impl_read, crate::proofs::WholeReads::impl_moved, crate::proofs::WholeReads::impl_kept, crate::proofs::WholeReads::impl_kept_moved))]
+    #[tactic(auto, using(crate::proofs::WholeReads::impl_attributes_refused, crate::proofs::WholeReads::impl_refused, crate::proofs::WholeReads::impl_read, crate::proofs::WholeReads::impl_moved, crate::proofs::WholeReads::impl_kept, crate::proofs::WholeReads::impl_kept_moved), unfolding(syn_recognize::specs::Names::rule_of))]
     fn read(input: &mut ParseBuffer<'_>) -> Parsed<ImplItem> {
         let start = input.fork();
         let attrs = outer_attributes(input)?;
         match impl_item_behind(attrs, input) {
             Ok(Some(member)) => Ok(member),
-            Ok(None) => Ok(ImplItem::Verbatim(kept_tokens(Rule::ImplItem, &start, input)?)),
+            Ok(None) => Ok(ImplItem::Verbatim(kept_tokens(Rule::IMPL_ITEM, &start, input)?)),
             Err(refusal) => Err(refusal),
         }
     }

@@ -93,13 +93,13 @@ impl Read for Item {
 
     ghost meaning = { meaning_of_rule rules.item };
 
-    #[tactic(auto, using(crate::proofs::WholeReads::item_attributes_refused))]
+    #[tactic(auto, using(crate::proofs::WholeReads::item_attributes_refused), unfolding(syn_recognize::specs::Names::rule_of))]
     fn read(input: &mut ParseBuffer<'_>) -> Parsed<Item> {
         let start = input.fork();
         let attrs = outer_attributes(input)?;
         match item_behind(attrs, input) {
             Ok(Some(item)) => Ok(item),
-            Ok(None) => Ok(Item::Verbatim(kept_tokens(Rule::Item, &start, input)?)),
+            Ok(None) => Ok(Item::Verbatim(kept_tokens(Rule::ITEM, &start, input)?)),
             Err(refusal) => Err(refusal),
         }
     }

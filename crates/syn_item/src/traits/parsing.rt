@@ -175,13 +175,13 @@ impl Read for TraitItem {
 
     ghost meaning = { meaning_of_rule rules.trait_item };
 
-    #[tactic(auto, using(crate::proofs::WholeReads::trait_attributes_refused, crate::proofs::WholeReads::trait_refused, crate::proofs::WholeReads::trait_read, crate::proofs::WholeReads::trait_moved, crate::proofs::WholeReads::trait_kept, crate::proofs::WholeReads::trait_kept_moved))]
+    #[tactic(auto, using(crate::proofs::WholeReads::trait_attributes_refused, crate::proofs::WholeReads::trait_refused, crate::proofs::WholeReads::trait_read, crate::proofs::WholeReads::trait_moved, crate::proofs::WholeReads::trait_kept, crate::proofs::WholeReads::trait_kept_moved), unfolding(syn_recognize::specs::Names::rule_of))]
     fn read(input: &mut ParseBuffer<'_>) -> Parsed<TraitItem> {
         let start = input.fork();
         let attrs = outer_attributes(input)?;
         match trait_item_behind(attrs, input) {
             Ok(Some(member)) => Ok(member),
-            Ok(None) => Ok(TraitItem::Verbatim(kept_tokens(Rule::TraitItem, &start, input)?)),
+            Ok(None) => Ok(TraitItem::Verbatim(kept_tokens(Rule::TRAIT_ITEM, &start, input)?)),
             Err(refusal) => Err(refusal),
         }
     }

@@ -1,6 +1,12 @@
 //! Written by tools/recognizers.py; edits are lost.
 //!
 //! Attributes, and paths in module style.
+ghost use Rattle.std.specs.Prelude.{◌≡◌};
+ghost use Rattle.syn_grammar.specs.Run.{parse_form};
+ghost use Rattle.syn_grammar.specs.Table.{table};
+ghost use Rattle.syn_recognize.specs.Forms.{grammar_of};
+ghost use Rattle.syn_recognize.specs.Names.{attributes_rule};
+
 use crate::fault::Fault;
 use crate::form::Form;
 use crate::look::Look;
@@ -12,60 +18,60 @@ use syn_tokens::delimiter::Delimiter;
 
 /// Outer attributes: as long as `#` stands next, `#` and a group in brackets with an attribute's meta. Inner attributes
 /// that a tree made by hand holds at a node without a place for them are not printed.
-pub(super) static ATTRIBUTES: Form = Form::When(
+static ATTRIBUTES: Form = Form::When(
     Look::Mark(Mark::Pound),
     &Form::Then(
         &Form::Then(
             &Form::Mark(Mark::Pound),
-            &Form::Inside(Delimiter::Bracket, &Form::Rule(Rule::Meta)),
+            &Form::Inside(Delimiter::Bracket, &Form::Rule(Rule::META)),
         ),
-        &Form::Rule(Rule::Attributes),
+        &Form::Rule(Rule::ATTRIBUTES),
     ),
     &Form::Unshown,
 );
 
 /// Inner attributes: as long as `#` stands next and `!` behind it, these and a group in brackets with an attribute's
 /// meta. Outer attributes that a tree made by hand holds among them are not printed.
-pub(super) static INNER_ATTRIBUTES: Form = Form::When(
+static INNER_ATTRIBUTES: Form = Form::When(
     Look::InnerAttribute,
     &Form::Then(
         &Form::Then(
             &Form::Mark(Mark::Pound),
             &Form::Then(
                 &Form::Mark(Mark::Not),
-                &Form::Inside(Delimiter::Bracket, &Form::Rule(Rule::Meta)),
+                &Form::Inside(Delimiter::Bracket, &Form::Rule(Rule::META)),
             ),
         ),
-        &Form::Rule(Rule::InnerAttributes),
+        &Form::Rule(Rule::INNER_ATTRIBUTES),
     ),
     &Form::Unshown,
 );
 
 /// The meta of an attribute: a path in module style or `unsafe`, and its value.
-pub(super) static META: Form = Form::Then(
+static META: Form = Form::Then(
     &Form::Shaped(
         Shape::Untagged,
         &Form::When(
             Look::Word(Word::Unsafe),
-            &Form::Rule(Rule::UnsafePath),
-            &Form::Rule(Rule::ModulePath),
+            &Form::Rule(Rule::UNSAFE_PATH),
+            &Form::Rule(Rule::MODULE_PATH),
         ),
     ),
-    &Form::Rule(Rule::MetaValue),
+    &Form::Rule(Rule::META_VALUE),
 );
 
 /// The word `unsafe` as a path of one word. (A meta asks for it only where `unsafe` stands next.)
-pub(super) static UNSAFE_PATH: Form = Form::Then(
+static UNSAFE_PATH: Form = Form::Then(
     &Form::When(
         Look::Mark(Mark::PathSep),
         &Form::Never(Fault::Unexpected),
         &Form::Empty,
     ),
-    &Form::Rule(Rule::UnsafeWord),
+    &Form::Rule(Rule::UNSAFE_WORD),
 );
 
 /// The word `unsafe`, which no `::` follows.
-pub(super) static UNSAFE_WORD: Form = Form::Then(
+static UNSAFE_WORD: Form = Form::Then(
     &Form::Shaped(
         Shape::Untagged,
         &Form::Then(
@@ -81,7 +87,7 @@ pub(super) static UNSAFE_WORD: Form = Form::Then(
 );
 
 /// The value of an attribute: a group of any content; or `=` and all that is left, one token tree at least; or nothing.
-pub(super) static META_VALUE: Form = Form::When(
+static META_VALUE: Form = Form::When(
     Look::Group(Delimiter::Paren),
     &Form::Raw(Delimiter::Paren),
     &Form::When(
@@ -100,18 +106,18 @@ pub(super) static META_VALUE: Form = Form::When(
 );
 
 /// A path in module style: `::` where it stands next, and then the words of the path.
-pub(super) static MODULE_PATH: Form = Form::Then(
+static MODULE_PATH: Form = Form::Then(
     &Form::When(
         Look::Mark(Mark::PathSep),
         &Form::Mark(Mark::PathSep),
         &Form::Empty,
     ),
-    &Form::Rule(Rule::ModuleWords),
+    &Form::Rule(Rule::MODULE_WORDS),
 );
 
 /// The words of a path: an identifier that isn't a keyword, `self`, `Self`, `super` or `crate`; and where `::` stands
 /// next, that mark and the words that follow.
-pub(super) static MODULE_WORDS: Form = Form::Then(
+static MODULE_WORDS: Form = Form::Then(
     &Form::Shaped(
         Shape::Untagged,
         &Form::Then(
@@ -121,7 +127,24 @@ pub(super) static MODULE_WORDS: Form = Form::Then(
     ),
     &Form::When(
         Look::Mark(Mark::PathSep),
-        &Form::Then(&Form::Mark(Mark::PathSep), &Form::Rule(Rule::ModuleWords)),
+        &Form::Then(&Form::Mark(Mark::PathSep), &Form::Rule(Rule::MODULE_WORDS)),
         &Form::Empty,
     ),
 );
+
+/// The form of the rule at this place.
+#[tactic(auto, using(std::proofs::lemmas::List::get_or_past), unfolding(crate::specs::Names::rule_of, crate::specs::Parts::part_form))]
+pub(super) fn form_at(place: u8) -> &'static Form
+    ensures { parse_form (grammar_of result.now) ≡ parse_form (table (attributes_rule place)) }
+{
+    match place {
+        0 => &ATTRIBUTES,
+        1 => &INNER_ATTRIBUTES,
+        2 => &META,
+        3 => &UNSAFE_PATH,
+        4 => &UNSAFE_WORD,
+        5 => &META_VALUE,
+        6 => &MODULE_PATH,
+        _ => &MODULE_WORDS,
+    }
+}

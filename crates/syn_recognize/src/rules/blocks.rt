@@ -1,6 +1,13 @@
 //! Written by tools/recognizers.py; edits are lost.
 //!
 //! Blocks, and expressions with nothing before or behind them.
+ghost use Rattle.std.specs.Prelude.{◌≡◌};
+ghost use Rattle.syn_grammar.specs.Run.{parse_form};
+ghost use Rattle.syn_grammar.specs.Table.{table};
+ghost use Rattle.syn_recognize.specs.Forms.{grammar_of};
+ghost use Rattle.syn_recognize.specs.Names.{blocks_rule};
+ghost use Rattle.syn_recognize.specs.Parts.{blocks_part};
+
 use crate::fault::Fault;
 use crate::form::Form;
 use crate::left_out::Place;
@@ -12,29 +19,29 @@ use crate::words::{Mark, Word};
 use syn_tokens::delimiter::Delimiter;
 
 /// A block without inner attributes: statements in braces.
-pub(super) static BLOCK: Form = Form::Inside(Delimiter::Brace, &Form::Rule(Rule::Statements));
+static BLOCK: Form = Form::Inside(Delimiter::Brace, &Form::Rule(Rule::STATEMENTS));
 
 /// A block: inner attributes and statements, in braces.
-pub(super) static BODY: Form = Form::Inside(
+static BODY: Form = Form::Inside(
     Delimiter::Brace,
     &Form::Then(
-        &Form::Rule(Rule::InnerAttributes),
-        &Form::Rule(Rule::Statements),
+        &Form::Rule(Rule::INNER_ATTRIBUTES),
+        &Form::Rule(Rule::STATEMENTS),
     ),
 );
 
 /// A block where inner attributes aren't read; those that a tree made by hand holds are printed.
-pub(super) static PLAIN_BODY: Form = Form::Inside(
+static PLAIN_BODY: Form = Form::Inside(
     Delimiter::Brace,
     &Form::Then(
-        &Form::Rule(Rule::NoInnerAttributes),
-        &Form::Rule(Rule::Statements),
+        &Form::Rule(Rule::NO_INNER_ATTRIBUTES),
+        &Form::Rule(Rule::STATEMENTS),
     ),
 );
 
 /// No inner attributes: `#` must not stand next with `!` behind it. Inner attributes that a tree made by hand holds are
 /// printed.
-pub(super) static NO_INNER_ATTRIBUTES: Form = Form::When(
+static NO_INNER_ATTRIBUTES: Form = Form::When(
     Look::InnerAttribute,
     &Form::Never(Fault::Unexpected),
     &Form::Unshown,
@@ -44,7 +51,7 @@ pub(super) static NO_INNER_ATTRIBUTES: Form = Form::When(
 /// brackets, an invisible group that holds an expression, a block or what ends with one, `return` with an expression or
 /// without it, `break` or `continue` with a lifetime or without it, or a path, with the fields of a struct literal in
 /// braces behind it or without them. Behind `break` and its lifetime nothing stands that an expression may begin with.
-pub(super) static PRIMARY: Form = Form::Shaped(
+static PRIMARY: Form = Form::Shaped(
     Shape::Choice,
     &Form::When(
         Look::Word(Word::True),
@@ -58,24 +65,24 @@ pub(super) static PRIMARY: Form = Form::Shaped(
                 Shape::Operand(Variant::Lit),
                 &Form::Token(Token::Word(Word::False)),
             ),
-            &Form::Part(Part::Primary6),
+            &Form::Part(Part::PRIMARY_6),
         ),
     ),
 );
 
 /// A part of `primary`.
-pub(super) static PRIMARY_1: Form = Form::Shaped(
+static PRIMARY_1: Form = Form::Shaped(
     Shape::Chain,
     &Form::Then(
         &Form::Shaped(
             Shape::Operand(Variant::Path),
-            &Form::Rule(Rule::PathAsExpression),
+            &Form::Rule(Rule::PATH_AS_EXPRESSION),
         ),
         &Form::When(
             Look::Group(Delimiter::Brace),
             &Form::Shaped(
                 Shape::Fields,
-                &Form::Inside(Delimiter::Brace, &Form::Rule(Rule::LiteralFields)),
+                &Form::Inside(Delimiter::Brace, &Form::Rule(Rule::LITERAL_FIELDS)),
             ),
             &Form::Empty,
         ),
@@ -83,7 +90,7 @@ pub(super) static PRIMARY_1: Form = Form::Shaped(
 );
 
 /// A part of `primary`.
-pub(super) static PRIMARY_2: Form = Form::Shaped(
+static PRIMARY_2: Form = Form::Shaped(
     Shape::Operand(Variant::Break),
     &Form::Then(
         &Form::Token(Token::Word(Word::Break)),
@@ -99,9 +106,9 @@ pub(super) static PRIMARY_2: Form = Form::Shaped(
 );
 
 /// A part of `primary`.
-pub(super) static PRIMARY_3: Form = Form::When(
+static PRIMARY_3: Form = Form::When(
     Look::Word(Word::Break),
-    &Form::Part(Part::Primary2),
+    &Form::Part(Part::PRIMARY_2),
     &Form::When(
         Look::Word(Word::Continue),
         &Form::Shaped(
@@ -111,14 +118,14 @@ pub(super) static PRIMARY_3: Form = Form::When(
                 &Form::When(Look::Lifetime, &Form::Lifetime, &Form::Empty),
             ),
         ),
-        &Form::Part(Part::Primary1),
+        &Form::Part(Part::PRIMARY_1),
     ),
 );
 
 /// A part of `primary`.
-pub(super) static PRIMARY_4: Form = Form::When(
+static PRIMARY_4: Form = Form::When(
     Look::BlockLike,
-    &Form::Rule(Rule::BlockLike),
+    &Form::Rule(Rule::BLOCK_LIKE),
     &Form::When(
         Look::Word(Word::Return),
         &Form::Shaped(
@@ -127,72 +134,76 @@ pub(super) static PRIMARY_4: Form = Form::When(
                 &Form::Token(Token::Word(Word::Return)),
                 &Form::When(
                     Look::WholeExpression,
-                    &Form::Rule(Rule::WholeExpression),
+                    &Form::Rule(Rule::WHOLE_EXPRESSION),
                     &Form::Empty,
                 ),
             ),
         ),
-        &Form::Part(Part::Primary3),
+        &Form::Part(Part::PRIMARY_3),
     ),
 );
 
 /// A part of `primary`.
-pub(super) static PRIMARY_5: Form = Form::When(
+static PRIMARY_5: Form = Form::When(
     Look::Group(Delimiter::Bracket),
     &Form::Shaped(
         Shape::Bracketed,
-        &Form::Inside(Delimiter::Bracket, &Form::Rule(Rule::ArrayContent)),
+        &Form::Inside(Delimiter::Bracket, &Form::Rule(Rule::ARRAY_CONTENT)),
     ),
     &Form::When(
         Look::Group(Delimiter::None),
         &Form::Shaped(
             Shape::Operand(Variant::Grouped),
-            &Form::Inside(Delimiter::None, &Form::Rule(Rule::WholeExpression)),
+            &Form::Inside(Delimiter::None, &Form::Rule(Rule::WHOLE_EXPRESSION)),
         ),
-        &Form::Part(Part::Primary4),
+        &Form::Part(Part::PRIMARY_4),
     ),
 );
 
 /// A part of `primary`.
-pub(super) static PRIMARY_6: Form = Form::When(
+static PRIMARY_6: Form = Form::When(
     Look::AnyLiteral,
     &Form::Shaped(Shape::Operand(Variant::Lit), &Form::Token(Token::Literal)),
     &Form::When(
         Look::Macro,
         &Form::Shaped(
             Shape::Operand(Variant::Macro),
-            &Form::Rule(Rule::MacroInvocation),
+            &Form::Rule(Rule::MACRO_INVOCATION),
         ),
         &Form::When(
             Look::Group(Delimiter::Paren),
             &Form::Shaped(
                 Shape::Bracketed,
-                &Form::Inside(Delimiter::Paren, &Form::Rule(Rule::Expressions)),
+                &Form::Inside(Delimiter::Paren, &Form::Rule(Rule::EXPRESSIONS)),
             ),
-            &Form::Part(Part::Primary5),
+            &Form::Part(Part::PRIMARY_5),
         ),
     ),
 );
 
 /// The fields of a struct literal, separated by commas; the last comma may stand or not. Behind them, or alone, `..`
 /// and an expression may stand, with nothing behind it.
-pub(super) static LITERAL_FIELDS: Form = Form::Shaped(
+static LITERAL_FIELDS: Form = Form::Shaped(
     Shape::Based,
-    &Form::When(Look::Ended, &Form::Empty, &Form::Part(Part::LiteralFields1)),
+    &Form::When(
+        Look::Ended,
+        &Form::Empty,
+        &Form::Part(Part::LITERAL_FIELDS_1),
+    ),
 );
 
 /// A part of `literal_fields`.
-pub(super) static LITERAL_FIELDS_1: Form = Form::When(
+static LITERAL_FIELDS_1: Form = Form::When(
     Look::Mark(Mark::DotDot),
     &Form::Then(
         &Form::Mark(Mark::DotDot),
-        &Form::Rule(Rule::WholeExpression),
+        &Form::Rule(Rule::WHOLE_EXPRESSION),
     ),
     &Form::Then(
-        &Form::Rule(Rule::LiteralField),
+        &Form::Rule(Rule::LITERAL_FIELD),
         &Form::When(
             Look::Mark(Mark::Comma),
-            &Form::Then(&Form::Mark(Mark::Comma), &Form::Rule(Rule::LiteralFields)),
+            &Form::Then(&Form::Mark(Mark::Comma), &Form::Rule(Rule::LITERAL_FIELDS)),
             &Form::Empty,
         ),
     ),
@@ -200,50 +211,56 @@ pub(super) static LITERAL_FIELDS_1: Form = Form::When(
 
 /// A field of a struct literal: attributes; and a number, `:` and an expression, or a name, with `:` and an expression
 /// behind it or alone. An expression behind a name alone that a tree made by hand holds is not printed.
-pub(super) static LITERAL_FIELD: Form = Form::Then(
-    &Form::Rule(Rule::Attributes),
+static LITERAL_FIELD: Form = Form::Then(
+    &Form::Rule(Rule::ATTRIBUTES),
     &Form::When(
         Look::Integer,
         &Form::Then(
             &Form::Token(Token::Index),
-            &Form::Then(&Form::Mark(Mark::Colon), &Form::Rule(Rule::WholeExpression)),
+            &Form::Then(
+                &Form::Mark(Mark::Colon),
+                &Form::Rule(Rule::WHOLE_EXPRESSION),
+            ),
         ),
-        &Form::Part(Part::LiteralField1),
+        &Form::Part(Part::LITERAL_FIELD_1),
     ),
 );
 
 /// A part of `literal_field`.
-pub(super) static LITERAL_FIELD_1: Form = Form::Then(
+static LITERAL_FIELD_1: Form = Form::Then(
     &Form::Token(Token::Name),
     &Form::When(
         Look::Mark(Mark::Colon),
-        &Form::Then(&Form::Mark(Mark::Colon), &Form::Rule(Rule::WholeExpression)),
+        &Form::Then(
+            &Form::Mark(Mark::Colon),
+            &Form::Rule(Rule::WHOLE_EXPRESSION),
+        ),
         &Form::Unshown,
     ),
 );
 
 /// A block, or what ends with one: `if`, an `unsafe` block, or a block or a loop with a label or without it.
-pub(super) static BLOCK_LIKE: Form = Form::Shaped(
+static BLOCK_LIKE: Form = Form::Shaped(
     Shape::Choice,
     &Form::When(
         Look::Word(Word::If),
-        &Form::Rule(Rule::IfExpression),
+        &Form::Rule(Rule::IF_EXPRESSION),
         &Form::When(
             Look::Word(Word::Unsafe),
             &Form::Shaped(
                 Shape::Operand(Variant::Unsafe),
                 &Form::Then(
                     &Form::Token(Token::Word(Word::Unsafe)),
-                    &Form::Rule(Rule::Body),
+                    &Form::Rule(Rule::BODY),
                 ),
             ),
-            &Form::Part(Part::BlockLike1),
+            &Form::Part(Part::BLOCK_LIKE_1),
         ),
     ),
 );
 
 /// A part of `block_like`.
-pub(super) static BLOCK_LIKE_1: Form = Form::Shaped(
+static BLOCK_LIKE_1: Form = Form::Shaped(
     Shape::Labelled,
     &Form::Then(
         &Form::When(
@@ -253,25 +270,25 @@ pub(super) static BLOCK_LIKE_1: Form = Form::Shaped(
         ),
         &Form::When(
             Look::Group(Delimiter::Brace),
-            &Form::Shaped(Shape::Operand(Variant::Block), &Form::Rule(Rule::Body)),
-            &Form::Rule(Rule::LoopExpression),
+            &Form::Shaped(Shape::Operand(Variant::Block), &Form::Rule(Rule::BODY)),
+            &Form::Rule(Rule::LOOP_EXPRESSION),
         ),
     ),
 );
 
 /// `if`: an expression, in which a path takes no braces, and a block; and behind `else`, where it stands next, a block
 /// or another `if`.
-pub(super) static IF_EXPRESSION: Form = Form::Shaped(
+static IF_EXPRESSION: Form = Form::Shaped(
     Shape::Operand(Variant::If),
     &Form::Then(
         &Form::Token(Token::Word(Word::If)),
         &Form::Then(
-            &Form::Rule(Rule::WholeExpressionHead),
+            &Form::Rule(Rule::WHOLE_EXPRESSION_HEAD),
             &Form::Then(
-                &Form::Rule(Rule::Block),
+                &Form::Rule(Rule::BLOCK),
                 &Form::When(
                     Look::Word(Word::Else),
-                    &Form::Part(Part::IfExpression1),
+                    &Form::Part(Part::IF_EXPRESSION_1),
                     &Form::Empty,
                 ),
             ),
@@ -280,7 +297,7 @@ pub(super) static IF_EXPRESSION: Form = Form::Shaped(
 );
 
 /// A part of `if_expression`.
-pub(super) static IF_EXPRESSION_1: Form = Form::Then(
+static IF_EXPRESSION_1: Form = Form::Then(
     &Form::Token(Token::Word(Word::Else)),
     &Form::When(
         Look::Group(Delimiter::Brace),
@@ -292,16 +309,16 @@ pub(super) static IF_EXPRESSION_1: Form = Form::Then(
                     &Form::Never(Fault::Unexpected),
                     &Form::Empty,
                 ),
-                &Form::Rule(Rule::PlainBody),
+                &Form::Rule(Rule::PLAIN_BODY),
             ),
         ),
-        &Form::Rule(Rule::IfExpression),
+        &Form::Rule(Rule::IF_EXPRESSION),
     ),
 );
 
 /// A loop: `loop` and a block; `while`, an expression and a block; or `for`, a pattern, `in`, an expression and a
 /// block. In these expressions a path takes no braces.
-pub(super) static LOOP_EXPRESSION: Form = Form::Shaped(
+static LOOP_EXPRESSION: Form = Form::Shaped(
     Shape::Choice,
     &Form::When(
         Look::Word(Word::Loop),
@@ -309,25 +326,25 @@ pub(super) static LOOP_EXPRESSION: Form = Form::Shaped(
             Shape::Operand(Variant::Loop),
             &Form::Then(
                 &Form::Token(Token::Word(Word::Loop)),
-                &Form::Rule(Rule::Body),
+                &Form::Rule(Rule::BODY),
             ),
         ),
-        &Form::Part(Part::LoopExpression2),
+        &Form::Part(Part::LOOP_EXPRESSION_2),
     ),
 );
 
 /// A part of `loop_expression`.
-pub(super) static LOOP_EXPRESSION_1: Form = Form::Shaped(
+static LOOP_EXPRESSION_1: Form = Form::Shaped(
     Shape::Operand(Variant::ForLoop),
     &Form::Then(
         &Form::Token(Token::Word(Word::For)),
         &Form::Then(
-            &Form::Rule(Rule::Pattern),
+            &Form::Rule(Rule::PATTERN),
             &Form::Then(
                 &Form::TokenAt(Token::Word(Word::In), Place::Behind),
                 &Form::Then(
-                    &Form::Rule(Rule::WholeExpressionHead),
-                    &Form::Rule(Rule::Body),
+                    &Form::Rule(Rule::WHOLE_EXPRESSION_HEAD),
+                    &Form::Rule(Rule::BODY),
                 ),
             ),
         ),
@@ -335,17 +352,57 @@ pub(super) static LOOP_EXPRESSION_1: Form = Form::Shaped(
 );
 
 /// A part of `loop_expression`.
-pub(super) static LOOP_EXPRESSION_2: Form = Form::When(
+static LOOP_EXPRESSION_2: Form = Form::When(
     Look::Word(Word::While),
     &Form::Shaped(
         Shape::Operand(Variant::While),
         &Form::Then(
             &Form::Token(Token::Word(Word::While)),
             &Form::Then(
-                &Form::Rule(Rule::WholeExpressionHead),
-                &Form::Rule(Rule::Body),
+                &Form::Rule(Rule::WHOLE_EXPRESSION_HEAD),
+                &Form::Rule(Rule::BODY),
             ),
         ),
     ),
-    &Form::Part(Part::LoopExpression1),
+    &Form::Part(Part::LOOP_EXPRESSION_1),
 );
+
+/// The form of the rule at this place.
+#[tactic(auto, using(std::proofs::lemmas::List::get_or_past), unfolding(crate::specs::Names::rule_of, crate::specs::Parts::part_form))]
+pub(super) fn form_at(place: u8) -> &'static Form
+    ensures { parse_form (grammar_of result.now) ≡ parse_form (table (blocks_rule place)) }
+{
+    match place {
+        0 => &BLOCK,
+        1 => &BODY,
+        2 => &PLAIN_BODY,
+        3 => &NO_INNER_ATTRIBUTES,
+        4 => &PRIMARY,
+        5 => &LITERAL_FIELDS,
+        6 => &LITERAL_FIELD,
+        7 => &BLOCK_LIKE,
+        8 => &IF_EXPRESSION,
+        _ => &LOOP_EXPRESSION,
+    }
+}
+
+/// The form of the part at this place.
+#[tactic(auto, using(std::proofs::lemmas::List::get_or_past), unfolding(crate::specs::Names::rule_of, crate::specs::Parts::part_form))]
+pub(super) fn part_at(place: u8) -> &'static Form
+    ensures { parse_form (grammar_of result.now) ≡ parse_form (blocks_part place) }
+{
+    match place {
+        0 => &PRIMARY_1,
+        1 => &PRIMARY_2,
+        2 => &PRIMARY_3,
+        3 => &PRIMARY_4,
+        4 => &PRIMARY_5,
+        5 => &PRIMARY_6,
+        6 => &LITERAL_FIELDS_1,
+        7 => &LITERAL_FIELD_1,
+        8 => &BLOCK_LIKE_1,
+        9 => &IF_EXPRESSION_1,
+        10 => &LOOP_EXPRESSION_1,
+        _ => &LOOP_EXPRESSION_2,
+    }
+}

@@ -1,6 +1,12 @@
 //! Written by tools/recognizers.py; edits are lost.
 //!
 //! Foreign modules.
+ghost use Rattle.std.specs.Prelude.{◌≡◌};
+ghost use Rattle.syn_grammar.specs.Run.{parse_form};
+ghost use Rattle.syn_grammar.specs.Table.{table};
+ghost use Rattle.syn_recognize.specs.Forms.{grammar_of};
+ghost use Rattle.syn_recognize.specs.Names.{foreign_rule};
+
 use crate::fault::Fault;
 use crate::form::Form;
 use crate::look::Look;
@@ -10,25 +16,25 @@ use crate::words::{Mark, Word};
 use syn_tokens::delimiter::Delimiter;
 
 /// A foreign module: attributes, and what stands behind them.
-pub(super) static FOREIGN_MODULE: Form = Form::Then(
-    &Form::Rule(Rule::Attributes),
-    &Form::Rule(Rule::ForeignModuleRest),
+static FOREIGN_MODULE: Form = Form::Then(
+    &Form::Rule(Rule::ATTRIBUTES),
+    &Form::Rule(Rule::FOREIGN_MODULE_REST),
 );
 
 /// A foreign module behind its attributes: perhaps `unsafe`, an ABI, and inner attributes and members in braces.
-pub(super) static FOREIGN_MODULE_REST: Form = Form::Then(
+static FOREIGN_MODULE_REST: Form = Form::Then(
     &Form::When(
         Look::Word(Word::Unsafe),
         &Form::Token(Token::Word(Word::Unsafe)),
         &Form::Empty,
     ),
     &Form::Then(
-        &Form::Rule(Rule::Abi),
+        &Form::Rule(Rule::ABI),
         &Form::Inside(
             Delimiter::Brace,
             &Form::Then(
-                &Form::Rule(Rule::InnerAttributes),
-                &Form::Rule(Rule::ForeignItems),
+                &Form::Rule(Rule::INNER_ATTRIBUTES),
+                &Form::Rule(Rule::FOREIGN_ITEMS),
             ),
         ),
     ),
@@ -36,14 +42,26 @@ pub(super) static FOREIGN_MODULE_REST: Form = Form::Then(
 
 /// A macro as a member of a trait, an impl or a foreign module, behind its attributes: a path in module style, `!` that
 /// isn't `!=`, and a group of any content, behind which `;` stands unless it is in braces.
-pub(super) static MEMBER_MACRO: Form = Form::Then(
-    &Form::Rule(Rule::ModulePath),
+static MEMBER_MACRO: Form = Form::Then(
+    &Form::Rule(Rule::MODULE_PATH),
     &Form::Then(
         &Form::When(
             Look::Bang,
             &Form::Mark(Mark::Not),
             &Form::Never(Fault::Unexpected),
         ),
-        &Form::Rule(Rule::MacroEnd),
+        &Form::Rule(Rule::MACRO_END),
     ),
 );
+
+/// The form of the rule at this place.
+#[tactic(auto, using(std::proofs::lemmas::List::get_or_past), unfolding(crate::specs::Names::rule_of, crate::specs::Parts::part_form))]
+pub(super) fn form_at(place: u8) -> &'static Form
+    ensures { parse_form (grammar_of result.now) ≡ parse_form (table (foreign_rule place)) }
+{
+    match place {
+        0 => &FOREIGN_MODULE,
+        1 => &FOREIGN_MODULE_REST,
+        _ => &MEMBER_MACRO,
+    }
+}

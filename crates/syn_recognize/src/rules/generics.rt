@@ -1,6 +1,13 @@
 //! Written by tools/recognizers.py; edits are lost.
 //!
 //! Generics, bounds and where clauses.
+ghost use Rattle.std.specs.Prelude.{◌≡◌};
+ghost use Rattle.syn_grammar.specs.Run.{parse_form};
+ghost use Rattle.syn_grammar.specs.Table.{table};
+ghost use Rattle.syn_recognize.specs.Forms.{grammar_of};
+ghost use Rattle.syn_recognize.specs.Names.{generics_rule};
+ghost use Rattle.syn_recognize.specs.Parts.{generics_part};
+
 use crate::fading::Fading;
 use crate::form::Form;
 use crate::look::Look;
@@ -11,18 +18,18 @@ use syn_tokens::delimiter::Delimiter;
 
 /// Generics where `<` stands next: lifetime parameters and others in any order, separated by commas; the last comma may
 /// stand or not. Lifetimes are printed first; without parameters nothing is printed.
-pub(super) static GENERICS: Form = Form::Generics;
+static GENERICS: Form = Form::Generics;
 
 /// A part of `generics`.
-pub(super) static GENERICS_1: Form = Form::Then(
+static GENERICS_1: Form = Form::Then(
     &Form::Token(Token::Name),
     &Form::Then(
         &Form::Mark(Mark::Colon),
         &Form::Then(
-            &Form::Rule(Rule::Type),
+            &Form::Rule(Rule::TYPE),
             &Form::When(
                 Look::Mark(Mark::Eq),
-                &Form::Then(&Form::Mark(Mark::Eq), &Form::Rule(Rule::Constant)),
+                &Form::Then(&Form::Mark(Mark::Eq), &Form::Rule(Rule::CONSTANT)),
                 &Form::Empty,
             ),
         ),
@@ -30,46 +37,46 @@ pub(super) static GENERICS_1: Form = Form::Then(
 );
 
 /// A part of `generics`.
-pub(super) static GENERICS_2: Form = Form::Then(
+static GENERICS_2: Form = Form::Then(
     &Form::Token(Token::Name),
     &Form::Then(
         &Form::Fading(Fading::Bounds),
         &Form::When(
             Look::Mark(Mark::Eq),
-            &Form::Then(&Form::Mark(Mark::Eq), &Form::Rule(Rule::Type)),
+            &Form::Then(&Form::Mark(Mark::Eq), &Form::Rule(Rule::TYPE)),
             &Form::Empty,
         ),
     ),
 );
 
 /// A part of `generics`.
-pub(super) static GENERICS_3: Form = Form::Then(
-    &Form::Rule(Rule::Attributes),
+static GENERICS_3: Form = Form::Then(
+    &Form::Rule(Rule::ATTRIBUTES),
     &Form::When(
         Look::Word(Word::Const),
         &Form::Then(
             &Form::Token(Token::Word(Word::Const)),
-            &Form::Part(Part::Generics1),
+            &Form::Part(Part::GENERICS_1),
         ),
-        &Form::Part(Part::Generics2),
+        &Form::Part(Part::GENERICS_2),
     ),
 );
 
 /// A lifetime parameter: attributes, a lifetime, and perhaps lifetimes behind a colon. Without these the colon isn't
 /// printed.
-pub(super) static LIFETIME_PARAMETER: Form = Form::Then(
-    &Form::Rule(Rule::Attributes),
+static LIFETIME_PARAMETER: Form = Form::Then(
+    &Form::Rule(Rule::ATTRIBUTES),
     &Form::Then(&Form::Lifetime, &Form::Fading(Fading::Lifetimes)),
 );
 
 /// Lifetimes, joined by `+`; they may be none, and may end with `+`.
-pub(super) static LIFETIMES: Form = Form::When(
+static LIFETIMES: Form = Form::When(
     Look::Lifetime,
     &Form::Then(
         &Form::Lifetime,
         &Form::When(
             Look::Mark(Mark::Plus),
-            &Form::Then(&Form::Mark(Mark::Plus), &Form::Rule(Rule::Lifetimes)),
+            &Form::Then(&Form::Mark(Mark::Plus), &Form::Rule(Rule::LIFETIMES)),
             &Form::Empty,
         ),
     ),
@@ -78,32 +85,32 @@ pub(super) static LIFETIMES: Form = Form::When(
 
 /// The bounds of a parameter, joined by `+`, up to what ends them at the start or behind a `+`; they may be none, and
 /// may end with `+`.
-pub(super) static PARAMETER_BOUNDS: Form = Form::When(
+static PARAMETER_BOUNDS: Form = Form::When(
     Look::ParameterEnd,
     &Form::Empty,
     &Form::Then(
-        &Form::Rule(Rule::Bound),
+        &Form::Rule(Rule::BOUND),
         &Form::When(
             Look::Mark(Mark::Plus),
-            &Form::Then(&Form::Mark(Mark::Plus), &Form::Rule(Rule::ParameterBounds)),
+            &Form::Then(&Form::Mark(Mark::Plus), &Form::Rule(Rule::PARAMETER_BOUNDS)),
             &Form::Empty,
         ),
     ),
 );
 
 /// A bound: a lifetime, or a trait, alone or in parentheses.
-pub(super) static BOUND: Form = Form::When(
+static BOUND: Form = Form::When(
     Look::Lifetime,
     &Form::Lifetime,
     &Form::When(
         Look::Group(Delimiter::Paren),
-        &Form::Inside(Delimiter::Paren, &Form::Rule(Rule::TraitBound)),
-        &Form::Rule(Rule::TraitBound),
+        &Form::Inside(Delimiter::Paren, &Form::Rule(Rule::TRAIT_BOUND)),
+        &Form::Rule(Rule::TRAIT_BOUND),
     ),
 );
 
 /// A trait as a bound: perhaps `?`, perhaps `for` and lifetimes, and a path.
-pub(super) static TRAIT_BOUND: Form = Form::Then(
+static TRAIT_BOUND: Form = Form::Then(
     &Form::When(
         Look::Mark(Mark::Question),
         &Form::Mark(Mark::Question),
@@ -114,31 +121,34 @@ pub(super) static TRAIT_BOUND: Form = Form::Then(
             Look::Word(Word::For),
             &Form::Then(
                 &Form::Token(Token::Word(Word::For)),
-                &Form::Rule(Rule::BoundLifetimes),
+                &Form::Rule(Rule::BOUND_LIFETIMES),
             ),
             &Form::Empty,
         ),
-        &Form::Rule(Rule::TypePath),
+        &Form::Rule(Rule::TYPE_PATH),
     ),
 );
 
 /// The lifetimes behind `for`: lifetime parameters in `< >`.
-pub(super) static BOUND_LIFETIMES: Form = Form::Then(
+static BOUND_LIFETIMES: Form = Form::Then(
     &Form::Mark(Mark::Lt),
-    &Form::Then(&Form::Rule(Rule::LifetimeParameters), &Form::Mark(Mark::Gt)),
+    &Form::Then(
+        &Form::Rule(Rule::LIFETIME_PARAMETERS),
+        &Form::Mark(Mark::Gt),
+    ),
 );
 
 /// Lifetime parameters up to `>`, separated by commas; the last comma may stand or not.
-pub(super) static LIFETIME_PARAMETERS: Form = Form::When(
+static LIFETIME_PARAMETERS: Form = Form::When(
     Look::Mark(Mark::Gt),
     &Form::Empty,
     &Form::Then(
-        &Form::Rule(Rule::LifetimeParameter),
+        &Form::Rule(Rule::LIFETIME_PARAMETER),
         &Form::When(
             Look::Mark(Mark::Comma),
             &Form::Then(
                 &Form::Mark(Mark::Comma),
-                &Form::Rule(Rule::LifetimeParameters),
+                &Form::Rule(Rule::LIFETIME_PARAMETERS),
             ),
             &Form::Empty,
         ),
@@ -146,18 +156,18 @@ pub(super) static LIFETIME_PARAMETERS: Form = Form::When(
 );
 
 /// A where clause where `where` stands next. Without predicates nothing is printed.
-pub(super) static WHERE_CLAUSE: Form = Form::Fading(Fading::Predicates);
+static WHERE_CLAUSE: Form = Form::Fading(Fading::Predicates);
 
 /// The predicates of a where clause, separated by commas, up to what ends them at the start or behind a comma; the last
 /// comma may stand or not.
-pub(super) static PREDICATES: Form = Form::When(
+static PREDICATES: Form = Form::When(
     Look::PredicateEnd,
     &Form::Empty,
     &Form::Then(
-        &Form::Rule(Rule::Predicate),
+        &Form::Rule(Rule::PREDICATE),
         &Form::When(
             Look::Mark(Mark::Comma),
-            &Form::Then(&Form::Mark(Mark::Comma), &Form::Rule(Rule::Predicates)),
+            &Form::Then(&Form::Mark(Mark::Comma), &Form::Rule(Rule::PREDICATES)),
             &Form::Empty,
         ),
     ),
@@ -165,42 +175,79 @@ pub(super) static PREDICATES: Form = Form::When(
 
 /// A predicate: a lifetime, a colon and lifetimes; or a type, with `for` and lifetimes before it or without them, a
 /// colon and bounds.
-pub(super) static PREDICATE: Form = Form::When(
+static PREDICATE: Form = Form::When(
     Look::Lifetime,
     &Form::Then(
         &Form::Lifetime,
-        &Form::Then(&Form::Mark(Mark::Colon), &Form::Rule(Rule::Lifetimes)),
+        &Form::Then(&Form::Mark(Mark::Colon), &Form::Rule(Rule::LIFETIMES)),
     ),
-    &Form::Part(Part::Predicate1),
+    &Form::Part(Part::PREDICATE_1),
 );
 
 /// A part of `predicate`.
-pub(super) static PREDICATE_1: Form = Form::Then(
+static PREDICATE_1: Form = Form::Then(
     &Form::When(
         Look::Word(Word::For),
         &Form::Then(
             &Form::Token(Token::Word(Word::For)),
-            &Form::Rule(Rule::BoundLifetimes),
+            &Form::Rule(Rule::BOUND_LIFETIMES),
         ),
         &Form::Empty,
     ),
     &Form::Then(
-        &Form::Rule(Rule::Type),
-        &Form::Then(&Form::Mark(Mark::Colon), &Form::Rule(Rule::PredicateBounds)),
+        &Form::Rule(Rule::TYPE),
+        &Form::Then(
+            &Form::Mark(Mark::Colon),
+            &Form::Rule(Rule::PREDICATE_BOUNDS),
+        ),
     ),
 );
 
 /// The bounds of a predicate, joined by `+`, up to what ends them at the start or behind a `+`; they may be none, and
 /// may end with `+`.
-pub(super) static PREDICATE_BOUNDS: Form = Form::When(
+static PREDICATE_BOUNDS: Form = Form::When(
     Look::PredicateEnd,
     &Form::Empty,
     &Form::Then(
-        &Form::Rule(Rule::Bound),
+        &Form::Rule(Rule::BOUND),
         &Form::When(
             Look::Mark(Mark::Plus),
-            &Form::Then(&Form::Mark(Mark::Plus), &Form::Rule(Rule::PredicateBounds)),
+            &Form::Then(&Form::Mark(Mark::Plus), &Form::Rule(Rule::PREDICATE_BOUNDS)),
             &Form::Empty,
         ),
     ),
 );
+
+/// The form of the rule at this place.
+#[tactic(auto, using(std::proofs::lemmas::List::get_or_past), unfolding(crate::specs::Names::rule_of, crate::specs::Parts::part_form))]
+pub(super) fn form_at(place: u8) -> &'static Form
+    ensures { parse_form (grammar_of result.now) ≡ parse_form (table (generics_rule place)) }
+{
+    match place {
+        0 => &GENERICS,
+        1 => &LIFETIME_PARAMETER,
+        2 => &LIFETIMES,
+        3 => &PARAMETER_BOUNDS,
+        4 => &BOUND,
+        5 => &TRAIT_BOUND,
+        6 => &BOUND_LIFETIMES,
+        7 => &LIFETIME_PARAMETERS,
+        8 => &WHERE_CLAUSE,
+        9 => &PREDICATES,
+        10 => &PREDICATE,
+        _ => &PREDICATE_BOUNDS,
+    }
+}
+
+/// The form of the part at this place.
+#[tactic(auto, using(std::proofs::lemmas::List::get_or_past), unfolding(crate::specs::Names::rule_of, crate::specs::Parts::part_form))]
+pub(super) fn part_at(place: u8) -> &'static Form
+    ensures { parse_form (grammar_of result.now) ≡ parse_form (generics_part place) }
+{
+    match place {
+        0 => &GENERICS_1,
+        1 => &GENERICS_2,
+        2 => &GENERICS_3,
+        _ => &PREDICATE_1,
+    }
+}

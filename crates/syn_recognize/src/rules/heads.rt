@@ -1,6 +1,13 @@
 //! Written by tools/recognizers.py; edits are lost.
 //!
 //! Expressions in the heads of `if`, `while` and `for`.
+ghost use Rattle.std.specs.Prelude.{◌≡◌};
+ghost use Rattle.syn_grammar.specs.Run.{parse_form};
+ghost use Rattle.syn_grammar.specs.Table.{table};
+ghost use Rattle.syn_recognize.specs.Forms.{grammar_of};
+ghost use Rattle.syn_recognize.specs.Names.{heads_rule};
+ghost use Rattle.syn_recognize.specs.Parts.{heads_part};
+
 use crate::fault::Fault;
 use crate::form::Form;
 use crate::look::Look;
@@ -11,7 +18,7 @@ use crate::words::{Mark, Word};
 use syn_tokens::delimiter::Delimiter;
 
 /// The same as `primary`, in the head of an `if`, a `while` or a `for`: there a path takes no braces.
-pub(super) static PRIMARY_HEAD: Form = Form::Shaped(
+static PRIMARY_HEAD: Form = Form::Shaped(
     Shape::Choice,
     &Form::When(
         Look::Word(Word::True),
@@ -25,13 +32,13 @@ pub(super) static PRIMARY_HEAD: Form = Form::Shaped(
                 Shape::Operand(Variant::Lit),
                 &Form::Token(Token::Word(Word::False)),
             ),
-            &Form::Part(Part::PrimaryHead5),
+            &Form::Part(Part::PRIMARY_HEAD_5),
         ),
     ),
 );
 
 /// A part of `primary_head`.
-pub(super) static PRIMARY_HEAD_1: Form = Form::Shaped(
+static PRIMARY_HEAD_1: Form = Form::Shaped(
     Shape::Operand(Variant::Break),
     &Form::Then(
         &Form::Token(Token::Word(Word::Break)),
@@ -47,9 +54,9 @@ pub(super) static PRIMARY_HEAD_1: Form = Form::Shaped(
 );
 
 /// A part of `primary_head`.
-pub(super) static PRIMARY_HEAD_2: Form = Form::When(
+static PRIMARY_HEAD_2: Form = Form::When(
     Look::Word(Word::Break),
-    &Form::Part(Part::PrimaryHead1),
+    &Form::Part(Part::PRIMARY_HEAD_1),
     &Form::When(
         Look::Word(Word::Continue),
         &Form::Shaped(
@@ -61,15 +68,15 @@ pub(super) static PRIMARY_HEAD_2: Form = Form::When(
         ),
         &Form::Shaped(
             Shape::Operand(Variant::Path),
-            &Form::Rule(Rule::PathAsExpression),
+            &Form::Rule(Rule::PATH_AS_EXPRESSION),
         ),
     ),
 );
 
 /// A part of `primary_head`.
-pub(super) static PRIMARY_HEAD_3: Form = Form::When(
+static PRIMARY_HEAD_3: Form = Form::When(
     Look::BlockLike,
-    &Form::Rule(Rule::BlockLike),
+    &Form::Rule(Rule::BLOCK_LIKE),
     &Form::When(
         Look::Word(Word::Return),
         &Form::Shaped(
@@ -78,61 +85,64 @@ pub(super) static PRIMARY_HEAD_3: Form = Form::When(
                 &Form::Token(Token::Word(Word::Return)),
                 &Form::When(
                     Look::WholeExpression,
-                    &Form::Rule(Rule::WholeExpressionHead),
+                    &Form::Rule(Rule::WHOLE_EXPRESSION_HEAD),
                     &Form::Empty,
                 ),
             ),
         ),
-        &Form::Part(Part::PrimaryHead2),
+        &Form::Part(Part::PRIMARY_HEAD_2),
     ),
 );
 
 /// A part of `primary_head`.
-pub(super) static PRIMARY_HEAD_4: Form = Form::When(
+static PRIMARY_HEAD_4: Form = Form::When(
     Look::Group(Delimiter::Bracket),
     &Form::Shaped(
         Shape::Bracketed,
-        &Form::Inside(Delimiter::Bracket, &Form::Rule(Rule::ArrayContent)),
+        &Form::Inside(Delimiter::Bracket, &Form::Rule(Rule::ARRAY_CONTENT)),
     ),
     &Form::When(
         Look::Group(Delimiter::None),
         &Form::Shaped(
             Shape::Operand(Variant::Grouped),
-            &Form::Inside(Delimiter::None, &Form::Rule(Rule::WholeExpression)),
+            &Form::Inside(Delimiter::None, &Form::Rule(Rule::WHOLE_EXPRESSION)),
         ),
-        &Form::Part(Part::PrimaryHead3),
+        &Form::Part(Part::PRIMARY_HEAD_3),
     ),
 );
 
 /// A part of `primary_head`.
-pub(super) static PRIMARY_HEAD_5: Form = Form::When(
+static PRIMARY_HEAD_5: Form = Form::When(
     Look::AnyLiteral,
     &Form::Shaped(Shape::Operand(Variant::Lit), &Form::Token(Token::Literal)),
     &Form::When(
         Look::Macro,
         &Form::Shaped(
             Shape::Operand(Variant::Macro),
-            &Form::Rule(Rule::MacroInvocation),
+            &Form::Rule(Rule::MACRO_INVOCATION),
         ),
         &Form::When(
             Look::Group(Delimiter::Paren),
             &Form::Shaped(
                 Shape::Bracketed,
-                &Form::Inside(Delimiter::Paren, &Form::Rule(Rule::Expressions)),
+                &Form::Inside(Delimiter::Paren, &Form::Rule(Rule::EXPRESSIONS)),
             ),
-            &Form::Part(Part::PrimaryHead4),
+            &Form::Part(Part::PRIMARY_HEAD_4),
         ),
     ),
 );
 
 /// The same as `unary`, in the head of an `if`, a `while` or a `for`: there a path takes no braces.
-pub(super) static UNARY_HEAD: Form = Form::Shaped(
+static UNARY_HEAD: Form = Form::Shaped(
     Shape::Leading,
-    &Form::Then(&Form::Rule(Rule::Attributes), &Form::Part(Part::UnaryHead3)),
+    &Form::Then(
+        &Form::Rule(Rule::ATTRIBUTES),
+        &Form::Part(Part::UNARY_HEAD_3),
+    ),
 );
 
 /// A part of `unary_head`.
-pub(super) static UNARY_HEAD_1: Form = Form::Shaped(
+static UNARY_HEAD_1: Form = Form::Shaped(
     Shape::Operand(Variant::Reference),
     &Form::Then(
         &Form::Mark(Mark::And),
@@ -142,162 +152,171 @@ pub(super) static UNARY_HEAD_1: Form = Form::Shaped(
                 &Form::Token(Token::Word(Word::Mut)),
                 &Form::Empty,
             ),
-            &Form::Rule(Rule::UnaryHead),
+            &Form::Rule(Rule::UNARY_HEAD),
         ),
     ),
 );
 
 /// A part of `unary_head`.
-pub(super) static UNARY_HEAD_2: Form = Form::When(
+static UNARY_HEAD_2: Form = Form::When(
     Look::Mark(Mark::Star),
     &Form::Shaped(
         Shape::Operand(Variant::Unary),
-        &Form::Then(&Form::Mark(Mark::Star), &Form::Rule(Rule::UnaryHead)),
+        &Form::Then(&Form::Mark(Mark::Star), &Form::Rule(Rule::UNARY_HEAD)),
     ),
     &Form::When(
         Look::Mark(Mark::And),
-        &Form::Part(Part::UnaryHead1),
+        &Form::Part(Part::UNARY_HEAD_1),
         &Form::Shaped(
             Shape::Chain,
-            &Form::Then(&Form::Rule(Rule::PrimaryHead), &Form::Rule(Rule::Postfixes)),
+            &Form::Then(
+                &Form::Rule(Rule::PRIMARY_HEAD),
+                &Form::Rule(Rule::POSTFIXES),
+            ),
         ),
     ),
 );
 
 /// A part of `unary_head`.
-pub(super) static UNARY_HEAD_3: Form = Form::When(
+static UNARY_HEAD_3: Form = Form::When(
     Look::Mark(Mark::Minus),
     &Form::Shaped(
         Shape::Operand(Variant::Unary),
-        &Form::Then(&Form::Mark(Mark::Minus), &Form::Rule(Rule::UnaryHead)),
+        &Form::Then(&Form::Mark(Mark::Minus), &Form::Rule(Rule::UNARY_HEAD)),
     ),
     &Form::When(
         Look::Mark(Mark::Not),
         &Form::Shaped(
             Shape::Operand(Variant::Unary),
-            &Form::Then(&Form::Mark(Mark::Not), &Form::Rule(Rule::UnaryHead)),
+            &Form::Then(&Form::Mark(Mark::Not), &Form::Rule(Rule::UNARY_HEAD)),
         ),
-        &Form::Part(Part::UnaryHead2),
+        &Form::Part(Part::UNARY_HEAD_2),
     ),
 );
 
 /// The same as `cast`, in the head of an `if`, a `while` or a `for`: there a path takes no braces.
-pub(super) static CAST_HEAD: Form = Form::Shaped(
+static CAST_HEAD: Form = Form::Shaped(
     Shape::Chain,
-    &Form::Then(&Form::Rule(Rule::UnaryHead), &Form::Rule(Rule::Casts)),
+    &Form::Then(&Form::Rule(Rule::UNARY_HEAD), &Form::Rule(Rule::CASTS)),
 );
 
 /// The same as `products`, in the head of an `if`, a `while` or a `for`: there a path takes no braces.
-pub(super) static PRODUCTS_HEAD: Form = Form::When(
+static PRODUCTS_HEAD: Form = Form::When(
     Look::But(&Look::Mark(Mark::Star), &Look::Mark(Mark::StarEq)),
     &Form::Then(
         &Form::Shaped(
             Shape::Operator(Variant::Binary),
-            &Form::Then(&Form::Mark(Mark::Star), &Form::Rule(Rule::CastHead)),
+            &Form::Then(&Form::Mark(Mark::Star), &Form::Rule(Rule::CAST_HEAD)),
         ),
-        &Form::Rule(Rule::ProductsHead),
+        &Form::Rule(Rule::PRODUCTS_HEAD),
     ),
-    &Form::Part(Part::ProductsHead2),
+    &Form::Part(Part::PRODUCTS_HEAD_2),
 );
 
 /// A part of `products_head`.
-pub(super) static PRODUCTS_HEAD_1: Form = Form::When(
+static PRODUCTS_HEAD_1: Form = Form::When(
     Look::But(&Look::Mark(Mark::Percent), &Look::Mark(Mark::PercentEq)),
     &Form::Then(
         &Form::Shaped(
             Shape::Operator(Variant::Binary),
-            &Form::Then(&Form::Mark(Mark::Percent), &Form::Rule(Rule::CastHead)),
+            &Form::Then(&Form::Mark(Mark::Percent), &Form::Rule(Rule::CAST_HEAD)),
         ),
-        &Form::Rule(Rule::ProductsHead),
+        &Form::Rule(Rule::PRODUCTS_HEAD),
     ),
     &Form::Empty,
 );
 
 /// A part of `products_head`.
-pub(super) static PRODUCTS_HEAD_2: Form = Form::When(
+static PRODUCTS_HEAD_2: Form = Form::When(
     Look::But(&Look::Mark(Mark::Slash), &Look::Mark(Mark::SlashEq)),
     &Form::Then(
         &Form::Shaped(
             Shape::Operator(Variant::Binary),
-            &Form::Then(&Form::Mark(Mark::Slash), &Form::Rule(Rule::CastHead)),
+            &Form::Then(&Form::Mark(Mark::Slash), &Form::Rule(Rule::CAST_HEAD)),
         ),
-        &Form::Rule(Rule::ProductsHead),
+        &Form::Rule(Rule::PRODUCTS_HEAD),
     ),
-    &Form::Part(Part::ProductsHead1),
+    &Form::Part(Part::PRODUCTS_HEAD_1),
 );
 
 /// The same as `product`, in the head of an `if`, a `while` or a `for`: there a path takes no braces.
-pub(super) static PRODUCT_HEAD: Form = Form::Shaped(
+static PRODUCT_HEAD: Form = Form::Shaped(
     Shape::Chain,
-    &Form::Then(&Form::Rule(Rule::CastHead), &Form::Rule(Rule::ProductsHead)),
+    &Form::Then(
+        &Form::Rule(Rule::CAST_HEAD),
+        &Form::Rule(Rule::PRODUCTS_HEAD),
+    ),
 );
 
 /// The same as `sums`, in the head of an `if`, a `while` or a `for`: there a path takes no braces.
-pub(super) static SUMS_HEAD: Form = Form::When(
+static SUMS_HEAD: Form = Form::When(
     Look::But(&Look::Mark(Mark::Plus), &Look::Mark(Mark::PlusEq)),
     &Form::Then(
         &Form::Shaped(
             Shape::Operator(Variant::Binary),
-            &Form::Then(&Form::Mark(Mark::Plus), &Form::Rule(Rule::ProductHead)),
+            &Form::Then(&Form::Mark(Mark::Plus), &Form::Rule(Rule::PRODUCT_HEAD)),
         ),
-        &Form::Rule(Rule::SumsHead),
+        &Form::Rule(Rule::SUMS_HEAD),
     ),
-    &Form::Part(Part::SumsHead1),
+    &Form::Part(Part::SUMS_HEAD_1),
 );
 
 /// A part of `sums_head`.
-pub(super) static SUMS_HEAD_1: Form = Form::When(
+static SUMS_HEAD_1: Form = Form::When(
     Look::But(&Look::Mark(Mark::Minus), &Look::Mark(Mark::MinusEq)),
     &Form::Then(
         &Form::Shaped(
             Shape::Operator(Variant::Binary),
-            &Form::Then(&Form::Mark(Mark::Minus), &Form::Rule(Rule::ProductHead)),
+            &Form::Then(&Form::Mark(Mark::Minus), &Form::Rule(Rule::PRODUCT_HEAD)),
         ),
-        &Form::Rule(Rule::SumsHead),
+        &Form::Rule(Rule::SUMS_HEAD),
     ),
     &Form::Empty,
 );
 
 /// The same as `sum`, in the head of an `if`, a `while` or a `for`: there a path takes no braces.
-pub(super) static SUM_HEAD: Form = Form::Shaped(
+static SUM_HEAD: Form = Form::Shaped(
     Shape::Chain,
-    &Form::Then(&Form::Rule(Rule::ProductHead), &Form::Rule(Rule::SumsHead)),
+    &Form::Then(
+        &Form::Rule(Rule::PRODUCT_HEAD),
+        &Form::Rule(Rule::SUMS_HEAD),
+    ),
 );
 
 /// The same as `shifts`, in the head of an `if`, a `while` or a `for`: there a path takes no braces.
-pub(super) static SHIFTS_HEAD: Form = Form::When(
+static SHIFTS_HEAD: Form = Form::When(
     Look::But(&Look::Mark(Mark::Shl), &Look::Mark(Mark::ShlEq)),
     &Form::Then(
         &Form::Shaped(
             Shape::Operator(Variant::Binary),
-            &Form::Then(&Form::Mark(Mark::Shl), &Form::Rule(Rule::SumHead)),
+            &Form::Then(&Form::Mark(Mark::Shl), &Form::Rule(Rule::SUM_HEAD)),
         ),
-        &Form::Rule(Rule::ShiftsHead),
+        &Form::Rule(Rule::SHIFTS_HEAD),
     ),
-    &Form::Part(Part::ShiftsHead1),
+    &Form::Part(Part::SHIFTS_HEAD_1),
 );
 
 /// A part of `shifts_head`.
-pub(super) static SHIFTS_HEAD_1: Form = Form::When(
+static SHIFTS_HEAD_1: Form = Form::When(
     Look::But(&Look::Mark(Mark::Shr), &Look::Mark(Mark::ShrEq)),
     &Form::Then(
         &Form::Shaped(
             Shape::Operator(Variant::Binary),
-            &Form::Then(&Form::Mark(Mark::Shr), &Form::Rule(Rule::SumHead)),
+            &Form::Then(&Form::Mark(Mark::Shr), &Form::Rule(Rule::SUM_HEAD)),
         ),
-        &Form::Rule(Rule::ShiftsHead),
+        &Form::Rule(Rule::SHIFTS_HEAD),
     ),
     &Form::Empty,
 );
 
 /// The same as `shift`, in the head of an `if`, a `while` or a `for`: there a path takes no braces.
-pub(super) static SHIFT_HEAD: Form = Form::Shaped(
+static SHIFT_HEAD: Form = Form::Shaped(
     Shape::Chain,
-    &Form::Then(&Form::Rule(Rule::SumHead), &Form::Rule(Rule::ShiftsHead)),
+    &Form::Then(&Form::Rule(Rule::SUM_HEAD), &Form::Rule(Rule::SHIFTS_HEAD)),
 );
 
 /// The same as `bit_ands`, in the head of an `if`, a `while` or a `for`: there a path takes no braces.
-pub(super) static BIT_ANDS_HEAD: Form = Form::When(
+static BIT_ANDS_HEAD: Form = Form::When(
     Look::But(
         &Look::Mark(Mark::And),
         &Look::Or(&Look::Mark(Mark::AndAnd), &Look::Mark(Mark::AndEq)),
@@ -305,43 +324,46 @@ pub(super) static BIT_ANDS_HEAD: Form = Form::When(
     &Form::Then(
         &Form::Shaped(
             Shape::Operator(Variant::Binary),
-            &Form::Then(&Form::Mark(Mark::And), &Form::Rule(Rule::ShiftHead)),
+            &Form::Then(&Form::Mark(Mark::And), &Form::Rule(Rule::SHIFT_HEAD)),
         ),
-        &Form::Rule(Rule::BitAndsHead),
+        &Form::Rule(Rule::BIT_ANDS_HEAD),
     ),
     &Form::Empty,
 );
 
 /// The same as `bit_and`, in the head of an `if`, a `while` or a `for`: there a path takes no braces.
-pub(super) static BIT_AND_HEAD: Form = Form::Shaped(
+static BIT_AND_HEAD: Form = Form::Shaped(
     Shape::Chain,
-    &Form::Then(&Form::Rule(Rule::ShiftHead), &Form::Rule(Rule::BitAndsHead)),
+    &Form::Then(
+        &Form::Rule(Rule::SHIFT_HEAD),
+        &Form::Rule(Rule::BIT_ANDS_HEAD),
+    ),
 );
 
 /// The same as `bit_xors`, in the head of an `if`, a `while` or a `for`: there a path takes no braces.
-pub(super) static BIT_XORS_HEAD: Form = Form::When(
+static BIT_XORS_HEAD: Form = Form::When(
     Look::But(&Look::Mark(Mark::Caret), &Look::Mark(Mark::CaretEq)),
     &Form::Then(
         &Form::Shaped(
             Shape::Operator(Variant::Binary),
-            &Form::Then(&Form::Mark(Mark::Caret), &Form::Rule(Rule::BitAndHead)),
+            &Form::Then(&Form::Mark(Mark::Caret), &Form::Rule(Rule::BIT_AND_HEAD)),
         ),
-        &Form::Rule(Rule::BitXorsHead),
+        &Form::Rule(Rule::BIT_XORS_HEAD),
     ),
     &Form::Empty,
 );
 
 /// The same as `bit_xor`, in the head of an `if`, a `while` or a `for`: there a path takes no braces.
-pub(super) static BIT_XOR_HEAD: Form = Form::Shaped(
+static BIT_XOR_HEAD: Form = Form::Shaped(
     Shape::Chain,
     &Form::Then(
-        &Form::Rule(Rule::BitAndHead),
-        &Form::Rule(Rule::BitXorsHead),
+        &Form::Rule(Rule::BIT_AND_HEAD),
+        &Form::Rule(Rule::BIT_XORS_HEAD),
     ),
 );
 
 /// The same as `bit_ors`, in the head of an `if`, a `while` or a `for`: there a path takes no braces.
-pub(super) static BIT_ORS_HEAD: Form = Form::When(
+static BIT_ORS_HEAD: Form = Form::When(
     Look::But(
         &Look::Mark(Mark::Or),
         &Look::Or(&Look::Mark(Mark::OrOr), &Look::Mark(Mark::OrEq)),
@@ -349,153 +371,159 @@ pub(super) static BIT_ORS_HEAD: Form = Form::When(
     &Form::Then(
         &Form::Shaped(
             Shape::Operator(Variant::Binary),
-            &Form::Then(&Form::Mark(Mark::Or), &Form::Rule(Rule::BitXorHead)),
+            &Form::Then(&Form::Mark(Mark::Or), &Form::Rule(Rule::BIT_XOR_HEAD)),
         ),
-        &Form::Rule(Rule::BitOrsHead),
+        &Form::Rule(Rule::BIT_ORS_HEAD),
     ),
     &Form::Empty,
 );
 
 /// The same as `bit_or`, in the head of an `if`, a `while` or a `for`: there a path takes no braces.
-pub(super) static BIT_OR_HEAD: Form = Form::Shaped(
+static BIT_OR_HEAD: Form = Form::Shaped(
     Shape::Chain,
-    &Form::Then(&Form::Rule(Rule::BitXorHead), &Form::Rule(Rule::BitOrsHead)),
+    &Form::Then(
+        &Form::Rule(Rule::BIT_XOR_HEAD),
+        &Form::Rule(Rule::BIT_ORS_HEAD),
+    ),
 );
 
 /// The same as `compared`, in the head of an `if`, a `while` or a `for`: there a path takes no braces.
-pub(super) static COMPARED_HEAD: Form = Form::When(
+static COMPARED_HEAD: Form = Form::When(
     Look::Mark(Mark::EqEq),
     &Form::Shaped(
         Shape::Operator(Variant::Binary),
-        &Form::Then(&Form::Mark(Mark::EqEq), &Form::Rule(Rule::BitOrHead)),
+        &Form::Then(&Form::Mark(Mark::EqEq), &Form::Rule(Rule::BIT_OR_HEAD)),
     ),
     &Form::When(
         Look::Mark(Mark::Ne),
         &Form::Shaped(
             Shape::Operator(Variant::Binary),
-            &Form::Then(&Form::Mark(Mark::Ne), &Form::Rule(Rule::BitOrHead)),
+            &Form::Then(&Form::Mark(Mark::Ne), &Form::Rule(Rule::BIT_OR_HEAD)),
         ),
-        &Form::Part(Part::ComparedHead3),
+        &Form::Part(Part::COMPARED_HEAD_3),
     ),
 );
 
 /// A part of `compared_head`.
-pub(super) static COMPARED_HEAD_1: Form = Form::When(
+static COMPARED_HEAD_1: Form = Form::When(
     Look::Mark(Mark::Le),
     &Form::Shaped(
         Shape::Operator(Variant::Binary),
-        &Form::Then(&Form::Mark(Mark::Le), &Form::Rule(Rule::BitOrHead)),
+        &Form::Then(&Form::Mark(Mark::Le), &Form::Rule(Rule::BIT_OR_HEAD)),
     ),
     &Form::When(
         Look::Mark(Mark::Ge),
         &Form::Shaped(
             Shape::Operator(Variant::Binary),
-            &Form::Then(&Form::Mark(Mark::Ge), &Form::Rule(Rule::BitOrHead)),
+            &Form::Then(&Form::Mark(Mark::Ge), &Form::Rule(Rule::BIT_OR_HEAD)),
         ),
         &Form::Empty,
     ),
 );
 
 /// A part of `compared_head`.
-pub(super) static COMPARED_HEAD_2: Form = Form::When(
+static COMPARED_HEAD_2: Form = Form::When(
     Look::But(
         &Look::Mark(Mark::Gt),
         &Look::Or(&Look::Mark(Mark::Ge), &Look::Mark(Mark::Shr)),
     ),
     &Form::Shaped(
         Shape::Operator(Variant::Binary),
-        &Form::Then(&Form::Mark(Mark::Gt), &Form::Rule(Rule::BitOrHead)),
+        &Form::Then(&Form::Mark(Mark::Gt), &Form::Rule(Rule::BIT_OR_HEAD)),
     ),
-    &Form::Part(Part::ComparedHead1),
+    &Form::Part(Part::COMPARED_HEAD_1),
 );
 
 /// A part of `compared_head`.
-pub(super) static COMPARED_HEAD_3: Form = Form::When(
+static COMPARED_HEAD_3: Form = Form::When(
     Look::But(
         &Look::Mark(Mark::Lt),
         &Look::Or(&Look::Mark(Mark::Le), &Look::Mark(Mark::Shl)),
     ),
     &Form::Shaped(
         Shape::Operator(Variant::Binary),
-        &Form::Then(&Form::Mark(Mark::Lt), &Form::Rule(Rule::BitOrHead)),
+        &Form::Then(&Form::Mark(Mark::Lt), &Form::Rule(Rule::BIT_OR_HEAD)),
     ),
-    &Form::Part(Part::ComparedHead2),
+    &Form::Part(Part::COMPARED_HEAD_2),
 );
 
 /// The same as `comparison`, in the head of an `if`, a `while` or a `for`: there a path takes no braces.
-pub(super) static COMPARISON_HEAD: Form = Form::Shaped(
+static COMPARISON_HEAD: Form = Form::Shaped(
     Shape::Chain,
     &Form::Then(
-        &Form::Rule(Rule::BitOrHead),
-        &Form::Rule(Rule::ComparedHead),
+        &Form::Rule(Rule::BIT_OR_HEAD),
+        &Form::Rule(Rule::COMPARED_HEAD),
     ),
 );
 
 /// The same as `conjunctions`, in the head of an `if`, a `while` or a `for`: there a path takes no braces.
-pub(super) static CONJUNCTIONS_HEAD: Form = Form::When(
+static CONJUNCTIONS_HEAD: Form = Form::When(
     Look::Mark(Mark::AndAnd),
     &Form::Then(
         &Form::Shaped(
             Shape::Operator(Variant::Binary),
-            &Form::Then(&Form::Mark(Mark::AndAnd), &Form::Rule(Rule::ComparisonHead)),
+            &Form::Then(
+                &Form::Mark(Mark::AndAnd),
+                &Form::Rule(Rule::COMPARISON_HEAD),
+            ),
         ),
-        &Form::Rule(Rule::ConjunctionsHead),
+        &Form::Rule(Rule::CONJUNCTIONS_HEAD),
     ),
     &Form::Empty,
 );
 
 /// The same as `conjunction`, in the head of an `if`, a `while` or a `for`: there a path takes no braces.
-pub(super) static CONJUNCTION_HEAD: Form = Form::Shaped(
+static CONJUNCTION_HEAD: Form = Form::Shaped(
     Shape::Chain,
     &Form::Then(
-        &Form::Rule(Rule::ComparisonHead),
-        &Form::Rule(Rule::ConjunctionsHead),
+        &Form::Rule(Rule::COMPARISON_HEAD),
+        &Form::Rule(Rule::CONJUNCTIONS_HEAD),
     ),
 );
 
 /// The same as `disjunctions`, in the head of an `if`, a `while` or a `for`: there a path takes no braces.
-pub(super) static DISJUNCTIONS_HEAD: Form = Form::When(
+static DISJUNCTIONS_HEAD: Form = Form::When(
     Look::Mark(Mark::OrOr),
     &Form::Then(
         &Form::Shaped(
             Shape::Operator(Variant::Binary),
-            &Form::Then(&Form::Mark(Mark::OrOr), &Form::Rule(Rule::ConjunctionHead)),
+            &Form::Then(&Form::Mark(Mark::OrOr), &Form::Rule(Rule::CONJUNCTION_HEAD)),
         ),
-        &Form::Rule(Rule::DisjunctionsHead),
+        &Form::Rule(Rule::DISJUNCTIONS_HEAD),
     ),
     &Form::Empty,
 );
 
 /// The same as `disjunction`, in the head of an `if`, a `while` or a `for`: there a path takes no braces.
-pub(super) static DISJUNCTION_HEAD: Form = Form::Shaped(
+static DISJUNCTION_HEAD: Form = Form::Shaped(
     Shape::Chain,
     &Form::Then(
-        &Form::Rule(Rule::ConjunctionHead),
-        &Form::Rule(Rule::DisjunctionsHead),
+        &Form::Rule(Rule::CONJUNCTION_HEAD),
+        &Form::Rule(Rule::DISJUNCTIONS_HEAD),
     ),
 );
 
 /// The same as `assigned`, in the head of an `if`, a `while` or a `for`: there a path takes no braces.
-pub(super) static ASSIGNED_HEAD: Form = Form::When(
+static ASSIGNED_HEAD: Form = Form::When(
     Look::But(&Look::Mark(Mark::Eq), &Look::Mark(Mark::EqEq)),
     &Form::Shaped(
         Shape::Operator(Variant::Assign),
         &Form::Then(
             &Form::Mark(Mark::Eq),
-            &Form::Rule(Rule::WholeExpressionHead),
+            &Form::Rule(Rule::WHOLE_EXPRESSION_HEAD),
         ),
     ),
-    &Form::Part(Part::AssignedHead5),
+    &Form::Part(Part::ASSIGNED_HEAD_5),
 );
 
 /// A part of `assigned_head`.
-pub(super) static ASSIGNED_HEAD_1: Form = Form::When(
+static ASSIGNED_HEAD_1: Form = Form::When(
     Look::Mark(Mark::ShlEq),
     &Form::Shaped(
         Shape::Operator(Variant::Binary),
         &Form::Then(
             &Form::Mark(Mark::ShlEq),
-            &Form::Rule(Rule::WholeExpressionHead),
+            &Form::Rule(Rule::WHOLE_EXPRESSION_HEAD),
         ),
     ),
     &Form::When(
@@ -504,7 +532,7 @@ pub(super) static ASSIGNED_HEAD_1: Form = Form::When(
             Shape::Operator(Variant::Binary),
             &Form::Then(
                 &Form::Mark(Mark::ShrEq),
-                &Form::Rule(Rule::WholeExpressionHead),
+                &Form::Rule(Rule::WHOLE_EXPRESSION_HEAD),
             ),
         ),
         &Form::Empty,
@@ -512,13 +540,13 @@ pub(super) static ASSIGNED_HEAD_1: Form = Form::When(
 );
 
 /// A part of `assigned_head`.
-pub(super) static ASSIGNED_HEAD_2: Form = Form::When(
+static ASSIGNED_HEAD_2: Form = Form::When(
     Look::Mark(Mark::AndEq),
     &Form::Shaped(
         Shape::Operator(Variant::Binary),
         &Form::Then(
             &Form::Mark(Mark::AndEq),
-            &Form::Rule(Rule::WholeExpressionHead),
+            &Form::Rule(Rule::WHOLE_EXPRESSION_HEAD),
         ),
     ),
     &Form::When(
@@ -527,21 +555,21 @@ pub(super) static ASSIGNED_HEAD_2: Form = Form::When(
             Shape::Operator(Variant::Binary),
             &Form::Then(
                 &Form::Mark(Mark::OrEq),
-                &Form::Rule(Rule::WholeExpressionHead),
+                &Form::Rule(Rule::WHOLE_EXPRESSION_HEAD),
             ),
         ),
-        &Form::Part(Part::AssignedHead1),
+        &Form::Part(Part::ASSIGNED_HEAD_1),
     ),
 );
 
 /// A part of `assigned_head`.
-pub(super) static ASSIGNED_HEAD_3: Form = Form::When(
+static ASSIGNED_HEAD_3: Form = Form::When(
     Look::Mark(Mark::PercentEq),
     &Form::Shaped(
         Shape::Operator(Variant::Binary),
         &Form::Then(
             &Form::Mark(Mark::PercentEq),
-            &Form::Rule(Rule::WholeExpressionHead),
+            &Form::Rule(Rule::WHOLE_EXPRESSION_HEAD),
         ),
     ),
     &Form::When(
@@ -550,21 +578,21 @@ pub(super) static ASSIGNED_HEAD_3: Form = Form::When(
             Shape::Operator(Variant::Binary),
             &Form::Then(
                 &Form::Mark(Mark::CaretEq),
-                &Form::Rule(Rule::WholeExpressionHead),
+                &Form::Rule(Rule::WHOLE_EXPRESSION_HEAD),
             ),
         ),
-        &Form::Part(Part::AssignedHead2),
+        &Form::Part(Part::ASSIGNED_HEAD_2),
     ),
 );
 
 /// A part of `assigned_head`.
-pub(super) static ASSIGNED_HEAD_4: Form = Form::When(
+static ASSIGNED_HEAD_4: Form = Form::When(
     Look::Mark(Mark::StarEq),
     &Form::Shaped(
         Shape::Operator(Variant::Binary),
         &Form::Then(
             &Form::Mark(Mark::StarEq),
-            &Form::Rule(Rule::WholeExpressionHead),
+            &Form::Rule(Rule::WHOLE_EXPRESSION_HEAD),
         ),
     ),
     &Form::When(
@@ -573,21 +601,21 @@ pub(super) static ASSIGNED_HEAD_4: Form = Form::When(
             Shape::Operator(Variant::Binary),
             &Form::Then(
                 &Form::Mark(Mark::SlashEq),
-                &Form::Rule(Rule::WholeExpressionHead),
+                &Form::Rule(Rule::WHOLE_EXPRESSION_HEAD),
             ),
         ),
-        &Form::Part(Part::AssignedHead3),
+        &Form::Part(Part::ASSIGNED_HEAD_3),
     ),
 );
 
 /// A part of `assigned_head`.
-pub(super) static ASSIGNED_HEAD_5: Form = Form::When(
+static ASSIGNED_HEAD_5: Form = Form::When(
     Look::Mark(Mark::PlusEq),
     &Form::Shaped(
         Shape::Operator(Variant::Binary),
         &Form::Then(
             &Form::Mark(Mark::PlusEq),
-            &Form::Rule(Rule::WholeExpressionHead),
+            &Form::Rule(Rule::WHOLE_EXPRESSION_HEAD),
         ),
     ),
     &Form::When(
@@ -596,20 +624,20 @@ pub(super) static ASSIGNED_HEAD_5: Form = Form::When(
             Shape::Operator(Variant::Binary),
             &Form::Then(
                 &Form::Mark(Mark::MinusEq),
-                &Form::Rule(Rule::WholeExpressionHead),
+                &Form::Rule(Rule::WHOLE_EXPRESSION_HEAD),
             ),
         ),
-        &Form::Part(Part::AssignedHead4),
+        &Form::Part(Part::ASSIGNED_HEAD_4),
     ),
 );
 
 /// The same as `whole_expression`, in the head of an `if`, a `while` or a `for`: there a path takes no braces.
-pub(super) static WHOLE_EXPRESSION_HEAD: Form = Form::Shaped(
+static WHOLE_EXPRESSION_HEAD: Form = Form::Shaped(
     Shape::Chain,
     &Form::Then(
-        &Form::Rule(Rule::DisjunctionHead),
+        &Form::Rule(Rule::DISJUNCTION_HEAD),
         &Form::Then(
-            &Form::Rule(Rule::AssignedHead),
+            &Form::Rule(Rule::ASSIGNED_HEAD),
             &Form::When(
                 Look::Unfinished,
                 &Form::Never(Fault::Unexpected),
@@ -618,3 +646,64 @@ pub(super) static WHOLE_EXPRESSION_HEAD: Form = Form::Shaped(
         ),
     ),
 );
+
+/// The form of the rule at this place.
+#[tactic(auto, using(std::proofs::lemmas::List::get_or_past), unfolding(crate::specs::Names::rule_of, crate::specs::Parts::part_form))]
+pub(super) fn form_at(place: u8) -> &'static Form
+    ensures { parse_form (grammar_of result.now) ≡ parse_form (table (heads_rule place)) }
+{
+    match place {
+        0 => &PRIMARY_HEAD,
+        1 => &UNARY_HEAD,
+        2 => &CAST_HEAD,
+        3 => &PRODUCTS_HEAD,
+        4 => &PRODUCT_HEAD,
+        5 => &SUMS_HEAD,
+        6 => &SUM_HEAD,
+        7 => &SHIFTS_HEAD,
+        8 => &SHIFT_HEAD,
+        9 => &BIT_ANDS_HEAD,
+        10 => &BIT_AND_HEAD,
+        11 => &BIT_XORS_HEAD,
+        12 => &BIT_XOR_HEAD,
+        13 => &BIT_ORS_HEAD,
+        14 => &BIT_OR_HEAD,
+        15 => &COMPARED_HEAD,
+        16 => &COMPARISON_HEAD,
+        17 => &CONJUNCTIONS_HEAD,
+        18 => &CONJUNCTION_HEAD,
+        19 => &DISJUNCTIONS_HEAD,
+        20 => &DISJUNCTION_HEAD,
+        21 => &ASSIGNED_HEAD,
+        _ => &WHOLE_EXPRESSION_HEAD,
+    }
+}
+
+/// The form of the part at this place.
+#[tactic(auto, using(std::proofs::lemmas::List::get_or_past), unfolding(crate::specs::Names::rule_of, crate::specs::Parts::part_form))]
+pub(super) fn part_at(place: u8) -> &'static Form
+    ensures { parse_form (grammar_of result.now) ≡ parse_form (heads_part place) }
+{
+    match place {
+        0 => &PRIMARY_HEAD_1,
+        1 => &PRIMARY_HEAD_2,
+        2 => &PRIMARY_HEAD_3,
+        3 => &PRIMARY_HEAD_4,
+        4 => &PRIMARY_HEAD_5,
+        5 => &UNARY_HEAD_1,
+        6 => &UNARY_HEAD_2,
+        7 => &UNARY_HEAD_3,
+        8 => &PRODUCTS_HEAD_1,
+        9 => &PRODUCTS_HEAD_2,
+        10 => &SUMS_HEAD_1,
+        11 => &SHIFTS_HEAD_1,
+        12 => &COMPARED_HEAD_1,
+        13 => &COMPARED_HEAD_2,
+        14 => &COMPARED_HEAD_3,
+        15 => &ASSIGNED_HEAD_1,
+        16 => &ASSIGNED_HEAD_2,
+        17 => &ASSIGNED_HEAD_3,
+        18 => &ASSIGNED_HEAD_4,
+        _ => &ASSIGNED_HEAD_5,
+    }
+}

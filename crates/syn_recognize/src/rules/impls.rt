@@ -1,6 +1,13 @@
 //! Written by tools/recognizers.py; edits are lost.
 //!
 //! Impls.
+ghost use Rattle.std.specs.Prelude.{◌≡◌};
+ghost use Rattle.syn_grammar.specs.Run.{parse_form};
+ghost use Rattle.syn_grammar.specs.Table.{table};
+ghost use Rattle.syn_recognize.specs.Forms.{grammar_of};
+ghost use Rattle.syn_recognize.specs.Names.{impls_rule};
+ghost use Rattle.syn_recognize.specs.Parts.{impls_part};
+
 use crate::fault::Fault;
 use crate::form::Form;
 use crate::list::List;
@@ -12,74 +19,80 @@ use crate::words::{Mark, Word};
 use syn_tokens::delimiter::Delimiter;
 
 /// The self type of an impl behind `for`. (Where it would be read as generics, empty generics of the impl are printed.)
-pub(super) static SELF_TYPE: Form = Form::Rule(Rule::Type);
+static SELF_TYPE: Form = Form::Rule(Rule::TYPE);
 
 /// `for` and the self type.
-pub(super) static FOR_SELF_TYPE: Form = Form::Then(
+static FOR_SELF_TYPE: Form = Form::Then(
     &Form::Token(Token::Word(Word::For)),
-    &Form::Only(Rule::SelfType),
+    &Form::Only(Rule::SELF_TYPE),
 );
 
 /// What ends an impl: a where clause, and inner attributes and members in braces.
-pub(super) static IMPL_BODY: Form = Form::Then(
-    &Form::Rule(Rule::WhereClause),
+static IMPL_BODY: Form = Form::Then(
+    &Form::Rule(Rule::WHERE_CLAUSE),
     &Form::Inside(
         Delimiter::Brace,
         &Form::Then(
-            &Form::Rule(Rule::InnerAttributes),
-            &Form::Rule(Rule::ImplItems),
+            &Form::Rule(Rule::INNER_ATTRIBUTES),
+            &Form::Rule(Rule::IMPL_ITEMS),
         ),
     ),
 );
 
 /// An impl: attributes, and what stands behind them.
-pub(super) static IMPL_DEFINITION: Form = Form::Then(
-    &Form::Rule(Rule::Attributes),
-    &Form::Rule(Rule::ImplDefinitionRest),
+static IMPL_DEFINITION: Form = Form::Then(
+    &Form::Rule(Rule::ATTRIBUTES),
+    &Form::Rule(Rule::IMPL_DEFINITION_REST),
 );
 
 /// An impl behind its attributes: perhaps `default`, perhaps `const`, perhaps `unsafe`, `impl` and generics; the never
 /// type, `!` and a path with `for` and a type, a path with `for` and a type or alone, or a type that is no plain path;
 /// and what ends it.
-pub(super) static IMPL_DEFINITION_REST: Form = Form::Planned(Planned::ImplDefinitionRest);
+static IMPL_DEFINITION_REST: Form = Form::Planned(Planned::ImplDefinitionRest);
 
 /// An impl for a type whose first type is no plain path, behind its attributes. It is kept as tokens by itself: printed
 /// anew, its first type might be read as generics.
-pub(super) static ODD_IMPL: Form = Form::Captured(&Form::Then(
+static ODD_IMPL: Form = Form::Captured(&Form::Then(
     &Form::When(
         Look::Word(Word::Default),
         &Form::Token(Token::Word(Word::Default)),
         &Form::Empty,
     ),
-    &Form::Part(Part::OddImpl4),
+    &Form::Part(Part::ODD_IMPL_4),
 ));
 
 /// A part of `odd_impl`.
-pub(super) static ODD_IMPL_1: Form = Form::When(
+static ODD_IMPL_1: Form = Form::When(
     Look::Group(Delimiter::Brace),
     &Form::Never(Fault::Unexpected),
     &Form::When(
         Look::Or(&Look::PathWord, &Look::Mark(Mark::PathSep)),
         &Form::Never(Fault::Unexpected),
         &Form::Then(
-            &Form::Rule(Rule::Type),
-            &Form::Then(&Form::Rule(Rule::ForSelfType), &Form::Rule(Rule::ImplBody)),
+            &Form::Rule(Rule::TYPE),
+            &Form::Then(
+                &Form::Rule(Rule::FOR_SELF_TYPE),
+                &Form::Rule(Rule::IMPL_BODY),
+            ),
         ),
     ),
 );
 
 /// A part of `odd_impl`.
-pub(super) static ODD_IMPL_2: Form = Form::When(
+static ODD_IMPL_2: Form = Form::When(
     Look::Or(&Look::PathWord, &Look::Mark(Mark::PathSep)),
     &Form::Never(Fault::Unexpected),
     &Form::Then(
-        &Form::Rule(Rule::Type),
-        &Form::Then(&Form::Rule(Rule::ForSelfType), &Form::Rule(Rule::ImplBody)),
+        &Form::Rule(Rule::TYPE),
+        &Form::Then(
+            &Form::Rule(Rule::FOR_SELF_TYPE),
+            &Form::Rule(Rule::IMPL_BODY),
+        ),
     ),
 );
 
 /// A part of `odd_impl`.
-pub(super) static ODD_IMPL_3: Form = Form::Then(
+static ODD_IMPL_3: Form = Form::Then(
     &Form::Token(Token::Word(Word::Impl)),
     &Form::Then(
         &Form::When(
@@ -89,14 +102,14 @@ pub(super) static ODD_IMPL_3: Form = Form::Then(
         ),
         &Form::When(
             Look::Mark(Mark::Not),
-            &Form::Then(&Form::Mark(Mark::Not), &Form::Part(Part::OddImpl1)),
-            &Form::Part(Part::OddImpl2),
+            &Form::Then(&Form::Mark(Mark::Not), &Form::Part(Part::ODD_IMPL_1)),
+            &Form::Part(Part::ODD_IMPL_2),
         ),
     ),
 );
 
 /// A part of `odd_impl`.
-pub(super) static ODD_IMPL_4: Form = Form::Then(
+static ODD_IMPL_4: Form = Form::Then(
     &Form::When(
         Look::Word(Word::Const),
         &Form::Token(Token::Word(Word::Const)),
@@ -108,59 +121,62 @@ pub(super) static ODD_IMPL_4: Form = Form::Then(
             &Form::Token(Token::Word(Word::Unsafe)),
             &Form::Empty,
         ),
-        &Form::Part(Part::OddImpl3),
+        &Form::Part(Part::ODD_IMPL_3),
     ),
 );
 
 /// An impl with a visibility and `const`, behind its attributes, with any first type. It is kept as tokens by itself,
 /// as another.
-pub(super) static VISIBLE_CONST_IMPL: Form = Form::Captured(&Form::Then(
+static VISIBLE_CONST_IMPL: Form = Form::Captured(&Form::Then(
     &Form::Token(Token::Word(Word::Pub)),
     &Form::Then(
         &Form::When(
             Look::Restriction,
-            &Form::Inside(Delimiter::Paren, &Form::Rule(Rule::Restriction)),
+            &Form::Inside(Delimiter::Paren, &Form::Rule(Rule::RESTRICTION)),
             &Form::Empty,
         ),
         &Form::Then(
             &Form::Token(Token::Word(Word::Const)),
-            &Form::Part(Part::VisibleConstImpl3),
+            &Form::Part(Part::VISIBLE_CONST_IMPL_3),
         ),
     ),
 ));
 
 /// A part of `visible_const_impl`.
-pub(super) static VISIBLE_CONST_IMPL_1: Form = Form::Then(
+static VISIBLE_CONST_IMPL_1: Form = Form::Then(
     &Form::Mark(Mark::Not),
     &Form::When(
         Look::Group(Delimiter::Brace),
-        &Form::Rule(Rule::ImplBody),
+        &Form::Rule(Rule::IMPL_BODY),
         &Form::Then(
-            &Form::Rule(Rule::Type),
-            &Form::Then(&Form::Rule(Rule::ForSelfType), &Form::Rule(Rule::ImplBody)),
+            &Form::Rule(Rule::TYPE),
+            &Form::Then(
+                &Form::Rule(Rule::FOR_SELF_TYPE),
+                &Form::Rule(Rule::IMPL_BODY),
+            ),
         ),
     ),
 );
 
 /// A part of `visible_const_impl`.
-pub(super) static VISIBLE_CONST_IMPL_2: Form = Form::When(
+static VISIBLE_CONST_IMPL_2: Form = Form::When(
     Look::Mark(Mark::Not),
-    &Form::Part(Part::VisibleConstImpl1),
+    &Form::Part(Part::VISIBLE_CONST_IMPL_1),
     &Form::Then(
-        &Form::Rule(Rule::Type),
+        &Form::Rule(Rule::TYPE),
         &Form::Then(
             &Form::When(
                 Look::Word(Word::For),
-                &Form::Rule(Rule::ForSelfType),
+                &Form::Rule(Rule::FOR_SELF_TYPE),
                 &Form::Empty,
             ),
-            &Form::Rule(Rule::ImplBody),
+            &Form::Rule(Rule::IMPL_BODY),
         ),
     ),
 );
 
 /// A part of `visible_const_impl`.
-pub(super) static VISIBLE_CONST_IMPL_3: Form = Form::Then(
+static VISIBLE_CONST_IMPL_3: Form = Form::Then(
     &Form::When(
         Look::Word(Word::Unsafe),
         &Form::Token(Token::Word(Word::Unsafe)),
@@ -174,7 +190,39 @@ pub(super) static VISIBLE_CONST_IMPL_3: Form = Form::Then(
                 &Form::Ordered(List::Parameters),
                 &Form::Empty,
             ),
-            &Form::Part(Part::VisibleConstImpl2),
+            &Form::Part(Part::VISIBLE_CONST_IMPL_2),
         ),
     ),
 );
+
+/// The form of the rule at this place.
+#[tactic(auto, using(std::proofs::lemmas::List::get_or_past), unfolding(crate::specs::Names::rule_of, crate::specs::Parts::part_form))]
+pub(super) fn form_at(place: u8) -> &'static Form
+    ensures { parse_form (grammar_of result.now) ≡ parse_form (table (impls_rule place)) }
+{
+    match place {
+        0 => &SELF_TYPE,
+        1 => &FOR_SELF_TYPE,
+        2 => &IMPL_BODY,
+        3 => &IMPL_DEFINITION,
+        4 => &IMPL_DEFINITION_REST,
+        5 => &ODD_IMPL,
+        _ => &VISIBLE_CONST_IMPL,
+    }
+}
+
+/// The form of the part at this place.
+#[tactic(auto, using(std::proofs::lemmas::List::get_or_past), unfolding(crate::specs::Names::rule_of, crate::specs::Parts::part_form))]
+pub(super) fn part_at(place: u8) -> &'static Form
+    ensures { parse_form (grammar_of result.now) ≡ parse_form (impls_part place) }
+{
+    match place {
+        0 => &ODD_IMPL_1,
+        1 => &ODD_IMPL_2,
+        2 => &ODD_IMPL_3,
+        3 => &ODD_IMPL_4,
+        4 => &VISIBLE_CONST_IMPL_1,
+        5 => &VISIBLE_CONST_IMPL_2,
+        _ => &VISIBLE_CONST_IMPL_3,
+    }
+}

@@ -1,6 +1,13 @@
 //! Written by tools/recognizers.py; edits are lost.
 //!
 //! Structs, enums, unions, and the input of a derive.
+ghost use Rattle.std.specs.Prelude.{◌≡◌};
+ghost use Rattle.syn_grammar.specs.Run.{parse_form};
+ghost use Rattle.syn_grammar.specs.Table.{table};
+ghost use Rattle.syn_recognize.specs.Forms.{grammar_of};
+ghost use Rattle.syn_recognize.specs.Names.{inputs_rule};
+ghost use Rattle.syn_recognize.specs.Parts.{inputs_part};
+
 use crate::form::Form;
 use crate::look::Look;
 use crate::plan::Planned;
@@ -10,21 +17,21 @@ use crate::words::{Mark, Word};
 use syn_tokens::delimiter::Delimiter;
 
 /// A struct: attributes, and what stands behind them.
-pub(super) static STRUCTURE: Form = Form::Then(
-    &Form::Rule(Rule::Attributes),
-    &Form::Rule(Rule::StructureRest),
+static STRUCTURE: Form = Form::Then(
+    &Form::Rule(Rule::ATTRIBUTES),
+    &Form::Rule(Rule::STRUCTURE_REST),
 );
 
 /// A struct behind its attributes: a visibility, `struct`, a name, generics and a body.
-pub(super) static STRUCTURE_REST: Form = Form::Then(
-    &Form::Rule(Rule::Visibility),
+static STRUCTURE_REST: Form = Form::Then(
+    &Form::Rule(Rule::VISIBILITY),
     &Form::Then(
         &Form::Token(Token::Word(Word::Struct)),
         &Form::Then(
             &Form::Token(Token::Name),
             &Form::Then(
-                &Form::Rule(Rule::Generics),
-                &Form::Rule(Rule::StructureBody),
+                &Form::Rule(Rule::GENERICS),
+                &Form::Rule(Rule::STRUCTURE_BODY),
             ),
         ),
     ),
@@ -32,70 +39,70 @@ pub(super) static STRUCTURE_REST: Form = Form::Then(
 
 /// What follows a struct's generics: fields in parentheses, a where clause and `;`; or a where clause, and then fields
 /// in braces or `;` alone. A semicolon behind braces that a tree made by hand holds is not printed.
-pub(super) static STRUCTURE_BODY: Form = Form::When(
+static STRUCTURE_BODY: Form = Form::When(
     Look::Group(Delimiter::Paren),
     &Form::Then(
-        &Form::Rule(Rule::FieldsUnnamed),
-        &Form::Then(&Form::Rule(Rule::WhereClause), &Form::Mark(Mark::Semi)),
+        &Form::Rule(Rule::FIELDS_UNNAMED),
+        &Form::Then(&Form::Rule(Rule::WHERE_CLAUSE), &Form::Mark(Mark::Semi)),
     ),
-    &Form::Part(Part::StructureBody1),
+    &Form::Part(Part::STRUCTURE_BODY_1),
 );
 
 /// A part of `structure_body`.
-pub(super) static STRUCTURE_BODY_1: Form = Form::Then(
-    &Form::Rule(Rule::WhereClause),
+static STRUCTURE_BODY_1: Form = Form::Then(
+    &Form::Rule(Rule::WHERE_CLAUSE),
     &Form::When(
         Look::Group(Delimiter::Brace),
-        &Form::Then(&Form::Unshown, &Form::Rule(Rule::FieldsNamed)),
+        &Form::Then(&Form::Unshown, &Form::Rule(Rule::FIELDS_NAMED)),
         &Form::Mark(Mark::Semi),
     ),
 );
 
 /// An enum: attributes, and what stands behind them.
-pub(super) static ENUMERATION: Form = Form::Then(
-    &Form::Rule(Rule::Attributes),
-    &Form::Rule(Rule::EnumerationRest),
+static ENUMERATION: Form = Form::Then(
+    &Form::Rule(Rule::ATTRIBUTES),
+    &Form::Rule(Rule::ENUMERATION_REST),
 );
 
 /// An enum behind its attributes: a visibility, `enum`, a name, generics, a where clause, and its variants in braces.
-pub(super) static ENUMERATION_REST: Form = Form::Then(
-    &Form::Rule(Rule::Visibility),
-    &Form::Part(Part::EnumerationRest1),
+static ENUMERATION_REST: Form = Form::Then(
+    &Form::Rule(Rule::VISIBILITY),
+    &Form::Part(Part::ENUMERATION_REST_1),
 );
 
 /// A part of `enumeration_rest`.
-pub(super) static ENUMERATION_REST_1: Form = Form::Then(
+static ENUMERATION_REST_1: Form = Form::Then(
     &Form::Token(Token::Word(Word::Enum)),
     &Form::Then(
         &Form::Token(Token::Name),
         &Form::Then(
-            &Form::Rule(Rule::Generics),
+            &Form::Rule(Rule::GENERICS),
             &Form::Then(
-                &Form::Rule(Rule::WhereClause),
-                &Form::Inside(Delimiter::Brace, &Form::Rule(Rule::Variants)),
+                &Form::Rule(Rule::WHERE_CLAUSE),
+                &Form::Inside(Delimiter::Brace, &Form::Rule(Rule::VARIANTS)),
             ),
         ),
     ),
 );
 
 /// A union: attributes, and what stands behind them.
-pub(super) static UNION_ITEM: Form = Form::Then(
-    &Form::Rule(Rule::Attributes),
-    &Form::Rule(Rule::UnionItemRest),
+static UNION_ITEM: Form = Form::Then(
+    &Form::Rule(Rule::ATTRIBUTES),
+    &Form::Rule(Rule::UNION_ITEM_REST),
 );
 
 /// A union behind its attributes: a visibility, `union`, a name, generics, a where clause, and its fields in braces.
-pub(super) static UNION_ITEM_REST: Form = Form::Then(
-    &Form::Rule(Rule::Visibility),
+static UNION_ITEM_REST: Form = Form::Then(
+    &Form::Rule(Rule::VISIBILITY),
     &Form::Then(
         &Form::Token(Token::Word(Word::Union)),
         &Form::Then(
             &Form::Token(Token::Name),
             &Form::Then(
-                &Form::Rule(Rule::Generics),
+                &Form::Rule(Rule::GENERICS),
                 &Form::Then(
-                    &Form::Rule(Rule::WhereClause),
-                    &Form::Rule(Rule::FieldsNamed),
+                    &Form::Rule(Rule::WHERE_CLAUSE),
+                    &Form::Rule(Rule::FIELDS_NAMED),
                 ),
             ),
         ),
@@ -103,4 +110,32 @@ pub(super) static UNION_ITEM_REST: Form = Form::Then(
 );
 
 /// The input of a derive: a struct, an enum or a union.
-pub(super) static DERIVE_INPUT: Form = Form::Planned(Planned::DeriveInput);
+static DERIVE_INPUT: Form = Form::Planned(Planned::DeriveInput);
+
+/// The form of the rule at this place.
+#[tactic(auto, using(std::proofs::lemmas::List::get_or_past), unfolding(crate::specs::Names::rule_of, crate::specs::Parts::part_form))]
+pub(super) fn form_at(place: u8) -> &'static Form
+    ensures { parse_form (grammar_of result.now) ≡ parse_form (table (inputs_rule place)) }
+{
+    match place {
+        0 => &STRUCTURE,
+        1 => &STRUCTURE_REST,
+        2 => &STRUCTURE_BODY,
+        3 => &ENUMERATION,
+        4 => &ENUMERATION_REST,
+        5 => &UNION_ITEM,
+        6 => &UNION_ITEM_REST,
+        _ => &DERIVE_INPUT,
+    }
+}
+
+/// The form of the part at this place.
+#[tactic(auto, using(std::proofs::lemmas::List::get_or_past), unfolding(crate::specs::Names::rule_of, crate::specs::Parts::part_form))]
+pub(super) fn part_at(place: u8) -> &'static Form
+    ensures { parse_form (grammar_of result.now) ≡ parse_form (inputs_part place) }
+{
+    match place {
+        0 => &STRUCTURE_BODY_1,
+        _ => &ENUMERATION_REST_1,
+    }
+}

@@ -1,6 +1,13 @@
 //! Written by tools/recognizers.py; edits are lost.
 //!
 //! Items.
+ghost use Rattle.std.specs.Prelude.{◌≡◌};
+ghost use Rattle.syn_grammar.specs.Run.{parse_form};
+ghost use Rattle.syn_grammar.specs.Table.{table};
+ghost use Rattle.syn_recognize.specs.Forms.{grammar_of};
+ghost use Rattle.syn_recognize.specs.Names.{items_1_rule, items_2_rule};
+ghost use Rattle.syn_recognize.specs.Parts.{items_part};
+
 use crate::fault::Fault;
 use crate::form::Form;
 use crate::look::Look;
@@ -11,67 +18,67 @@ use crate::words::{Mark, Word};
 use syn_tokens::delimiter::Delimiter;
 
 /// A function: attributes, and what stands behind them.
-pub(super) static FUNCTION: Form = Form::Then(
-    &Form::Rule(Rule::Attributes),
-    &Form::Rule(Rule::FunctionRest),
+static FUNCTION: Form = Form::Then(
+    &Form::Rule(Rule::ATTRIBUTES),
+    &Form::Rule(Rule::FUNCTION_REST),
 );
 
 /// A function behind its attributes: a visibility, a signature and a body. Modifiers that a tree made by hand holds are
 /// not printed.
-pub(super) static FUNCTION_REST: Form = Form::Then(
-    &Form::Rule(Rule::Visibility),
+static FUNCTION_REST: Form = Form::Then(
+    &Form::Rule(Rule::VISIBILITY),
     &Form::Then(
         &Form::Unshown,
-        &Form::Then(&Form::Rule(Rule::Signature), &Form::Rule(Rule::Body)),
+        &Form::Then(&Form::Rule(Rule::SIGNATURE), &Form::Rule(Rule::BODY)),
     ),
 );
 
 /// A constant: attributes, and what stands behind them.
-pub(super) static CONST_ITEM: Form = Form::Then(
-    &Form::Rule(Rule::Attributes),
-    &Form::Rule(Rule::ConstItemRest),
+static CONST_ITEM: Form = Form::Then(
+    &Form::Rule(Rule::ATTRIBUTES),
+    &Form::Rule(Rule::CONST_ITEM_REST),
 );
 
 /// A constant behind its attributes: a visibility, `const`, a name or `_`, a type, a value and `;`. Modifiers and
 /// generics that a tree made by hand holds are not printed.
-pub(super) static CONST_ITEM_REST: Form = Form::Then(
-    &Form::Rule(Rule::Visibility),
+static CONST_ITEM_REST: Form = Form::Then(
+    &Form::Rule(Rule::VISIBILITY),
     &Form::Then(
         &Form::Unshown,
         &Form::Then(
             &Form::Token(Token::Word(Word::Const)),
             &Form::Then(
                 &Form::Token(Token::NameOrUnderscore),
-                &Form::Part(Part::ConstItemRest1),
+                &Form::Part(Part::CONST_ITEM_REST_1),
             ),
         ),
     ),
 );
 
 /// A part of `const_item_rest`.
-pub(super) static CONST_ITEM_REST_1: Form = Form::Then(
+static CONST_ITEM_REST_1: Form = Form::Then(
     &Form::Unshown,
     &Form::Then(
         &Form::Mark(Mark::Colon),
         &Form::Then(
-            &Form::Rule(Rule::Type),
+            &Form::Rule(Rule::TYPE),
             &Form::Then(
                 &Form::Mark(Mark::Eq),
-                &Form::Then(&Form::Rule(Rule::WholeExpression), &Form::Mark(Mark::Semi)),
+                &Form::Then(&Form::Rule(Rule::WHOLE_EXPRESSION), &Form::Mark(Mark::Semi)),
             ),
         ),
     ),
 );
 
 /// A static: attributes, and what stands behind them.
-pub(super) static STATIC_ITEM: Form = Form::Then(
-    &Form::Rule(Rule::Attributes),
-    &Form::Rule(Rule::StaticItemRest),
+static STATIC_ITEM: Form = Form::Then(
+    &Form::Rule(Rule::ATTRIBUTES),
+    &Form::Rule(Rule::STATIC_ITEM_REST),
 );
 
 /// A static behind its attributes: a visibility, `static`, perhaps `mut`, a name, a type, a value and `;`.
-pub(super) static STATIC_ITEM_REST: Form = Form::Then(
-    &Form::Rule(Rule::Visibility),
+static STATIC_ITEM_REST: Form = Form::Then(
+    &Form::Rule(Rule::VISIBILITY),
     &Form::Then(
         &Form::Token(Token::Word(Word::Static)),
         &Form::Then(
@@ -80,44 +87,44 @@ pub(super) static STATIC_ITEM_REST: Form = Form::Then(
                 &Form::Token(Token::Word(Word::Mut)),
                 &Form::Empty,
             ),
-            &Form::Part(Part::StaticItemRest1),
+            &Form::Part(Part::STATIC_ITEM_REST_1),
         ),
     ),
 );
 
 /// A part of `static_item_rest`.
-pub(super) static STATIC_ITEM_REST_1: Form = Form::Then(
+static STATIC_ITEM_REST_1: Form = Form::Then(
     &Form::Token(Token::Name),
     &Form::Then(
         &Form::Mark(Mark::Colon),
         &Form::Then(
-            &Form::Rule(Rule::Type),
+            &Form::Rule(Rule::TYPE),
             &Form::Then(
                 &Form::Mark(Mark::Eq),
-                &Form::Then(&Form::Rule(Rule::WholeExpression), &Form::Mark(Mark::Semi)),
+                &Form::Then(&Form::Rule(Rule::WHOLE_EXPRESSION), &Form::Mark(Mark::Semi)),
             ),
         ),
     ),
 );
 
 /// An extern crate: attributes, and what stands behind them.
-pub(super) static EXTERN_CRATE: Form = Form::Then(
-    &Form::Rule(Rule::Attributes),
-    &Form::Rule(Rule::ExternCrateRest),
+static EXTERN_CRATE: Form = Form::Then(
+    &Form::Rule(Rule::ATTRIBUTES),
+    &Form::Rule(Rule::EXTERN_CRATE_REST),
 );
 
 /// An extern crate behind its attributes: a visibility, `extern crate`, a name or `self`, perhaps `as` and a name or
 /// `_`, and `;`.
-pub(super) static EXTERN_CRATE_REST: Form = Form::Then(
-    &Form::Rule(Rule::Visibility),
+static EXTERN_CRATE_REST: Form = Form::Then(
+    &Form::Rule(Rule::VISIBILITY),
     &Form::Then(
         &Form::Token(Token::Word(Word::Extern)),
-        &Form::Part(Part::ExternCrateRest1),
+        &Form::Part(Part::EXTERN_CRATE_REST_1),
     ),
 );
 
 /// A part of `extern_crate_rest`.
-pub(super) static EXTERN_CRATE_REST_1: Form = Form::Then(
+static EXTERN_CRATE_REST_1: Form = Form::Then(
     &Form::Token(Token::Word(Word::Crate)),
     &Form::Then(
         &Form::Token(Token::NameOrSelf),
@@ -137,22 +144,22 @@ pub(super) static EXTERN_CRATE_REST_1: Form = Form::Then(
 
 /// A tree of a use: `*`; trees in braces; or a name, `self`, `super`, `crate` or `try`, with `::` and a tree behind it,
 /// with `as` and a name or `_`, or alone.
-pub(super) static USE_TREE: Form = Form::When(
+static USE_TREE: Form = Form::When(
     Look::Mark(Mark::Star),
     &Form::Mark(Mark::Star),
     &Form::When(
         Look::Group(Delimiter::Brace),
-        &Form::Inside(Delimiter::Brace, &Form::Rule(Rule::UseTrees)),
-        &Form::Part(Part::UseTree1),
+        &Form::Inside(Delimiter::Brace, &Form::Rule(Rule::USE_TREES)),
+        &Form::Part(Part::USE_TREE_1),
     ),
 );
 
 /// A part of `use_tree`.
-pub(super) static USE_TREE_1: Form = Form::Then(
+static USE_TREE_1: Form = Form::Then(
     &Form::Token(Token::UseWord),
     &Form::When(
         Look::Mark(Mark::PathSep),
-        &Form::Then(&Form::Mark(Mark::PathSep), &Form::Rule(Rule::UseTree)),
+        &Form::Then(&Form::Mark(Mark::PathSep), &Form::Rule(Rule::USE_TREE)),
         &Form::When(
             Look::Word(Word::As),
             &Form::Then(
@@ -165,68 +172,68 @@ pub(super) static USE_TREE_1: Form = Form::Then(
 );
 
 /// Trees of a use, separated by commas; the last comma may stand or not.
-pub(super) static USE_TREES: Form = Form::When(
+static USE_TREES: Form = Form::When(
     Look::Ended,
     &Form::Empty,
     &Form::Then(
-        &Form::Rule(Rule::UseTree),
+        &Form::Rule(Rule::USE_TREE),
         &Form::When(
             Look::Mark(Mark::Comma),
-            &Form::Then(&Form::Mark(Mark::Comma), &Form::Rule(Rule::UseTrees)),
+            &Form::Then(&Form::Mark(Mark::Comma), &Form::Rule(Rule::USE_TREES)),
             &Form::Empty,
         ),
     ),
 );
 
 /// The mark `::` before a tree of a use in braces.
-pub(super) static ROOT_MARK: Form = Form::Mark(Mark::PathSep);
+static ROOT_MARK: Form = Form::Mark(Mark::PathSep);
 
 /// A tree of a use in braces that stand behind `use` itself, or as a tree in such braces: with `::` before it or
 /// without it.
-pub(super) static ROOTED_TREE: Form = Form::When(
+static ROOTED_TREE: Form = Form::When(
     Look::Mark(Mark::PathSep),
-    &Form::Then(&Form::Only(Rule::RootMark), &Form::Rule(Rule::UseTree)),
+    &Form::Then(&Form::Only(Rule::ROOT_MARK), &Form::Rule(Rule::USE_TREE)),
     &Form::When(
         Look::Group(Delimiter::Brace),
-        &Form::Inside(Delimiter::Brace, &Form::Rule(Rule::RootedTrees)),
-        &Form::Rule(Rule::UseTree),
+        &Form::Inside(Delimiter::Brace, &Form::Rule(Rule::ROOTED_TREES)),
+        &Form::Rule(Rule::USE_TREE),
     ),
 );
 
 /// Such trees, separated by commas; the last comma may stand or not.
-pub(super) static ROOTED_TREES: Form = Form::When(
+static ROOTED_TREES: Form = Form::When(
     Look::Ended,
     &Form::Empty,
     &Form::Then(
-        &Form::Rule(Rule::RootedTree),
+        &Form::Rule(Rule::ROOTED_TREE),
         &Form::When(
             Look::Mark(Mark::Comma),
-            &Form::Then(&Form::Mark(Mark::Comma), &Form::Rule(Rule::RootedTrees)),
+            &Form::Then(&Form::Mark(Mark::Comma), &Form::Rule(Rule::ROOTED_TREES)),
             &Form::Empty,
         ),
     ),
 );
 
 /// A use: attributes, and what stands behind them.
-pub(super) static USE_ITEM: Form = Form::Then(
-    &Form::Rule(Rule::Attributes),
-    &Form::Rule(Rule::UseItemRest),
+static USE_ITEM: Form = Form::Then(
+    &Form::Rule(Rule::ATTRIBUTES),
+    &Form::Rule(Rule::USE_ITEM_REST),
 );
 
 /// A use behind its attributes: a visibility, `use`, trees in braces of which none has `::` before it, or a tree with
 /// `::` before it or without it, and `;`.
-pub(super) static USE_ITEM_REST: Form = Form::Planned(Planned::UseItemRest);
+static USE_ITEM_REST: Form = Form::Planned(Planned::UseItemRest);
 
 /// A module: attributes, and what stands behind them.
-pub(super) static MODULE_ITEM: Form = Form::Then(
-    &Form::Rule(Rule::Attributes),
-    &Form::Rule(Rule::ModuleItemRest),
+static MODULE_ITEM: Form = Form::Then(
+    &Form::Rule(Rule::ATTRIBUTES),
+    &Form::Rule(Rule::MODULE_ITEM_REST),
 );
 
 /// A module behind its attributes: a visibility, perhaps `unsafe`, `mod`, a name or `try`, and `;` or inner attributes
 /// and items in braces. A semicolon with the braces that a tree made by hand holds is not printed.
-pub(super) static MODULE_ITEM_REST: Form = Form::Then(
-    &Form::Rule(Rule::Visibility),
+static MODULE_ITEM_REST: Form = Form::Then(
+    &Form::Rule(Rule::VISIBILITY),
     &Form::Then(
         &Form::When(
             Look::Word(Word::Unsafe),
@@ -235,13 +242,13 @@ pub(super) static MODULE_ITEM_REST: Form = Form::Then(
         ),
         &Form::Then(
             &Form::Token(Token::Word(Word::Mod)),
-            &Form::Part(Part::ModuleItemRest1),
+            &Form::Part(Part::MODULE_ITEM_REST_1),
         ),
     ),
 );
 
 /// A part of `module_item_rest`.
-pub(super) static MODULE_ITEM_REST_1: Form = Form::Then(
+static MODULE_ITEM_REST_1: Form = Form::Then(
     &Form::Token(Token::NameOrTry),
     &Form::When(
         Look::Mark(Mark::Semi),
@@ -250,7 +257,10 @@ pub(super) static MODULE_ITEM_REST_1: Form = Form::Then(
             &Form::Unshown,
             &Form::Inside(
                 Delimiter::Brace,
-                &Form::Then(&Form::Rule(Rule::InnerAttributes), &Form::Rule(Rule::Items)),
+                &Form::Then(
+                    &Form::Rule(Rule::INNER_ATTRIBUTES),
+                    &Form::Rule(Rule::ITEMS),
+                ),
             ),
         ),
     ),
@@ -258,14 +268,14 @@ pub(super) static MODULE_ITEM_REST_1: Form = Form::Then(
 
 /// The bounds of a trait alias, joined by `+`, up to what ends them at the start or behind a `+`; they may be none, and
 /// may end with `+`.
-pub(super) static ALIAS_BOUNDS: Form = Form::When(
+static ALIAS_BOUNDS: Form = Form::When(
     Look::Or(&Look::Word(Word::Where), &Look::Mark(Mark::Semi)),
     &Form::Empty,
     &Form::Then(
-        &Form::Rule(Rule::Bound),
+        &Form::Rule(Rule::BOUND),
         &Form::When(
             Look::Mark(Mark::Plus),
-            &Form::Then(&Form::Mark(Mark::Plus), &Form::Rule(Rule::AliasBounds)),
+            &Form::Then(&Form::Mark(Mark::Plus), &Form::Rule(Rule::ALIAS_BOUNDS)),
             &Form::Empty,
         ),
     ),
@@ -273,68 +283,65 @@ pub(super) static ALIAS_BOUNDS: Form = Form::When(
 
 /// The bounds of a type, joined by `+`, up to what ends them at the start or behind a `+`; they may be none, and may
 /// end with `+`.
-pub(super) static TYPE_BOUNDS: Form = Form::When(
+static TYPE_BOUNDS: Form = Form::When(
     Look::Or(
         &Look::Word(Word::Where),
         &Look::Or(&Look::Mark(Mark::Eq), &Look::Mark(Mark::Semi)),
     ),
     &Form::Empty,
     &Form::Then(
-        &Form::Rule(Rule::Bound),
+        &Form::Rule(Rule::BOUND),
         &Form::When(
             Look::Mark(Mark::Plus),
-            &Form::Then(&Form::Mark(Mark::Plus), &Form::Rule(Rule::TypeBounds)),
+            &Form::Then(&Form::Mark(Mark::Plus), &Form::Rule(Rule::TYPE_BOUNDS)),
             &Form::Empty,
         ),
     ),
 );
 
 /// A trait alias without attributes and visibility: `trait`, a name, generics, `=`, bounds, a where clause and `;`.
-pub(super) static ALIAS: Form = Form::Then(
+static ALIAS: Form = Form::Then(
     &Form::Token(Token::Word(Word::Trait)),
-    &Form::Part(Part::Alias1),
+    &Form::Part(Part::ALIAS_1),
 );
 
 /// A part of `alias`.
-pub(super) static ALIAS_1: Form = Form::Then(
+static ALIAS_1: Form = Form::Then(
     &Form::Token(Token::Name),
     &Form::Then(
-        &Form::Rule(Rule::Generics),
+        &Form::Rule(Rule::GENERICS),
         &Form::Then(
             &Form::Mark(Mark::Eq),
             &Form::Then(
-                &Form::Rule(Rule::AliasBounds),
-                &Form::Then(&Form::Rule(Rule::WhereClause), &Form::Mark(Mark::Semi)),
+                &Form::Rule(Rule::ALIAS_BOUNDS),
+                &Form::Then(&Form::Rule(Rule::WHERE_CLAUSE), &Form::Mark(Mark::Semi)),
             ),
         ),
     ),
 );
 
 /// A trait alias: attributes, and what stands behind them.
-pub(super) static TRAIT_ALIAS: Form = Form::Then(
-    &Form::Rule(Rule::Attributes),
-    &Form::Rule(Rule::TraitAliasRest),
+static TRAIT_ALIAS: Form = Form::Then(
+    &Form::Rule(Rule::ATTRIBUTES),
+    &Form::Rule(Rule::TRAIT_ALIAS_REST),
 );
 
 /// A trait alias behind its attributes: a visibility, and the alias.
-pub(super) static TRAIT_ALIAS_REST: Form = Form::Then(
-    &Form::Rule(Rule::Visibility),
-    &Form::Rule(Rule::Alias),
-);
+static TRAIT_ALIAS_REST: Form = Form::Then(&Form::Rule(Rule::VISIBILITY), &Form::Rule(Rule::ALIAS));
 
 /// A type alias: attributes, and what stands behind them.
-pub(super) static TYPE_ITEM: Form = Form::Then(
-    &Form::Rule(Rule::Attributes),
-    &Form::Rule(Rule::TypeItemRest),
+static TYPE_ITEM: Form = Form::Then(
+    &Form::Rule(Rule::ATTRIBUTES),
+    &Form::Rule(Rule::TYPE_ITEM_REST),
 );
 
 /// A type alias behind its attributes: a visibility, `type`, a name, generics, `=` and a type with a where clause
 /// before the `=` or behind the type, and `;`. Modifiers, and the place of a clause without predicates, that a tree
 /// made by hand holds are not printed.
-pub(super) static TYPE_ITEM_REST: Form = Form::Planned(Planned::TypeItemRest);
+static TYPE_ITEM_REST: Form = Form::Planned(Planned::TypeItemRest);
 
 /// What ends a macro that stands as an item: a group in braces, or one in parentheses or brackets and `;`.
-pub(super) static MACRO_END: Form = Form::When(
+static MACRO_END: Form = Form::When(
     Look::Group(Delimiter::Paren),
     &Form::Then(&Form::Raw(Delimiter::Paren), &Form::Mark(Mark::Semi)),
     &Form::When(
@@ -345,20 +352,20 @@ pub(super) static MACRO_END: Form = Form::When(
 );
 
 /// A macro as an item, of any path: attributes, and what stands behind them.
-pub(super) static MACRO_ITEM: Form = Form::Then(
-    &Form::Rule(Rule::Attributes),
-    &Form::Rule(Rule::MacroItemRest),
+static MACRO_ITEM: Form = Form::Then(
+    &Form::Rule(Rule::ATTRIBUTES),
+    &Form::Rule(Rule::MACRO_ITEM_REST),
 );
 
 /// A macro as an item, behind its attributes: a path in module style, `!` that isn't `!=`, perhaps a name or `try`, and
 /// a group of any content, behind which `;` stands unless it is in braces.
-pub(super) static MACRO_ITEM_REST: Form = Form::Then(
-    &Form::Rule(Rule::ModulePath),
-    &Form::Part(Part::MacroItemRest1),
+static MACRO_ITEM_REST: Form = Form::Then(
+    &Form::Rule(Rule::MODULE_PATH),
+    &Form::Part(Part::MACRO_ITEM_REST_1),
 );
 
 /// A part of `macro_item_rest`.
-pub(super) static MACRO_ITEM_REST_1: Form = Form::Then(
+static MACRO_ITEM_REST_1: Form = Form::Then(
     &Form::When(
         Look::Bang,
         &Form::Mark(Mark::Not),
@@ -370,19 +377,82 @@ pub(super) static MACRO_ITEM_REST_1: Form = Form::Then(
             &Form::Token(Token::NameOrTry),
             &Form::Empty,
         ),
-        &Form::Rule(Rule::MacroEnd),
+        &Form::Rule(Rule::MACRO_END),
     ),
 );
 
 /// A macro among items: attributes, and what stands behind them.
-pub(super) static MACRO_AS_ITEM: Form = Form::Then(
-    &Form::Rule(Rule::Attributes),
-    &Form::Rule(Rule::MacroAsItemRest),
+static MACRO_AS_ITEM: Form = Form::Then(
+    &Form::Rule(Rule::ATTRIBUTES),
+    &Form::Rule(Rule::MACRO_AS_ITEM_REST),
 );
 
 /// A macro among items, behind its attributes: its path begins neither with `Self`, nor with `default` before `::`.
-pub(super) static MACRO_AS_ITEM_REST: Form = Form::When(
+static MACRO_AS_ITEM_REST: Form = Form::When(
     Look::NoMacroItem,
     &Form::Never(Fault::Unexpected),
-    &Form::Rule(Rule::MacroItemRest),
+    &Form::Rule(Rule::MACRO_ITEM_REST),
 );
+
+/// The form of the rule at this place.
+#[tactic(auto, using(std::proofs::lemmas::List::get_or_past), unfolding(crate::specs::Names::rule_of, crate::specs::Parts::part_form))]
+pub(super) fn form_at_1(place: u8) -> &'static Form
+    ensures { parse_form (grammar_of result.now) ≡ parse_form (table (items_1_rule place)) }
+{
+    match place {
+        0 => &FUNCTION,
+        1 => &FUNCTION_REST,
+        2 => &CONST_ITEM,
+        3 => &CONST_ITEM_REST,
+        4 => &STATIC_ITEM,
+        5 => &STATIC_ITEM_REST,
+        6 => &EXTERN_CRATE,
+        7 => &EXTERN_CRATE_REST,
+        8 => &USE_TREE,
+        9 => &USE_TREES,
+        10 => &ROOT_MARK,
+        11 => &ROOTED_TREE,
+        12 => &ROOTED_TREES,
+        13 => &USE_ITEM,
+        _ => &USE_ITEM_REST,
+    }
+}
+
+/// The form of the rule at this place.
+#[tactic(auto, using(std::proofs::lemmas::List::get_or_past), unfolding(crate::specs::Names::rule_of, crate::specs::Parts::part_form))]
+pub(super) fn form_at_2(place: u8) -> &'static Form
+    ensures { parse_form (grammar_of result.now) ≡ parse_form (table (items_2_rule place)) }
+{
+    match place {
+        0 => &MODULE_ITEM,
+        1 => &MODULE_ITEM_REST,
+        2 => &ALIAS_BOUNDS,
+        3 => &TYPE_BOUNDS,
+        4 => &ALIAS,
+        5 => &TRAIT_ALIAS,
+        6 => &TRAIT_ALIAS_REST,
+        7 => &TYPE_ITEM,
+        8 => &TYPE_ITEM_REST,
+        9 => &MACRO_END,
+        10 => &MACRO_ITEM,
+        11 => &MACRO_ITEM_REST,
+        12 => &MACRO_AS_ITEM,
+        _ => &MACRO_AS_ITEM_REST,
+    }
+}
+
+/// The form of the part at this place.
+#[tactic(auto, using(std::proofs::lemmas::List::get_or_past), unfolding(crate::specs::Names::rule_of, crate::specs::Parts::part_form))]
+pub(super) fn part_at(place: u8) -> &'static Form
+    ensures { parse_form (grammar_of result.now) ≡ parse_form (items_part place) }
+{
+    match place {
+        0 => &CONST_ITEM_REST_1,
+        1 => &STATIC_ITEM_REST_1,
+        2 => &EXTERN_CRATE_REST_1,
+        3 => &USE_TREE_1,
+        4 => &MODULE_ITEM_REST_1,
+        5 => &ALIAS_1,
+        _ => &MACRO_ITEM_REST_1,
+    }
+}

@@ -1,6 +1,13 @@
 //! Written by tools/recognizers.py; edits are lost.
 //!
 //! Items that are kept as tokens.
+ghost use Rattle.std.specs.Prelude.{◌≡◌};
+ghost use Rattle.syn_grammar.specs.Run.{parse_form};
+ghost use Rattle.syn_grammar.specs.Table.{table};
+ghost use Rattle.syn_recognize.specs.Forms.{grammar_of};
+ghost use Rattle.syn_recognize.specs.Names.{kept_items_rule};
+ghost use Rattle.syn_recognize.specs.Parts.{kept_items_part};
+
 use crate::form::Form;
 use crate::list::List;
 use crate::look::Look;
@@ -10,22 +17,22 @@ use crate::words::{Mark, Word};
 use syn_tokens::delimiter::Delimiter;
 
 /// A function without a body, which is kept as tokens, behind its attributes: a visibility, a signature and `;`.
-pub(super) static BODILESS_FUNCTION: Form = Form::Then(
-    &Form::Rule(Rule::Visibility),
-    &Form::Then(&Form::Rule(Rule::Signature), &Form::Mark(Mark::Semi)),
+static BODILESS_FUNCTION: Form = Form::Then(
+    &Form::Rule(Rule::VISIBILITY),
+    &Form::Then(&Form::Rule(Rule::SIGNATURE), &Form::Mark(Mark::Semi)),
 );
 
 /// A static without a type, which is kept as tokens, behind its attributes.
-pub(super) static UNTYPED_STATIC: Form = Form::Then(
-    &Form::Rule(Rule::Visibility),
+static UNTYPED_STATIC: Form = Form::Then(
+    &Form::Rule(Rule::VISIBILITY),
     &Form::Then(
         &Form::Token(Token::Word(Word::Static)),
-        &Form::Part(Part::UntypedStatic1),
+        &Form::Part(Part::UNTYPED_STATIC_1),
     ),
 );
 
 /// A part of `untyped_static`.
-pub(super) static UNTYPED_STATIC_1: Form = Form::Then(
+static UNTYPED_STATIC_1: Form = Form::Then(
     &Form::When(
         Look::Word(Word::Mut),
         &Form::Token(Token::Word(Word::Mut)),
@@ -35,22 +42,22 @@ pub(super) static UNTYPED_STATIC_1: Form = Form::Then(
         &Form::Token(Token::Name),
         &Form::Then(
             &Form::Mark(Mark::Eq),
-            &Form::Then(&Form::Rule(Rule::WholeExpression), &Form::Mark(Mark::Semi)),
+            &Form::Then(&Form::Rule(Rule::WHOLE_EXPRESSION), &Form::Mark(Mark::Semi)),
         ),
     ),
 );
 
 /// A static without a value, which is kept as tokens, behind its attributes.
-pub(super) static VALUELESS_STATIC: Form = Form::Then(
-    &Form::Rule(Rule::Visibility),
+static VALUELESS_STATIC: Form = Form::Then(
+    &Form::Rule(Rule::VISIBILITY),
     &Form::Then(
         &Form::Token(Token::Word(Word::Static)),
-        &Form::Part(Part::ValuelessStatic1),
+        &Form::Part(Part::VALUELESS_STATIC_1),
     ),
 );
 
 /// A part of `valueless_static`.
-pub(super) static VALUELESS_STATIC_1: Form = Form::Then(
+static VALUELESS_STATIC_1: Form = Form::Then(
     &Form::When(
         Look::Word(Word::Mut),
         &Form::Token(Token::Word(Word::Mut)),
@@ -60,24 +67,24 @@ pub(super) static VALUELESS_STATIC_1: Form = Form::Then(
         &Form::Token(Token::Name),
         &Form::Then(
             &Form::Mark(Mark::Colon),
-            &Form::Then(&Form::Rule(Rule::Type), &Form::Mark(Mark::Semi)),
+            &Form::Then(&Form::Rule(Rule::TYPE), &Form::Mark(Mark::Semi)),
         ),
     ),
 );
 
 /// A constant with generics, with a where clause or without a value, which is kept as tokens, behind its attributes.
-pub(super) static ODD_CONST: Form = Form::Then(
-    &Form::Rule(Rule::Visibility),
-    &Form::Part(Part::OddConst5),
+static ODD_CONST: Form = Form::Then(
+    &Form::Rule(Rule::VISIBILITY),
+    &Form::Part(Part::ODD_CONST_5),
 );
 
 /// A part of `odd_const`.
-pub(super) static ODD_CONST_1: Form = Form::Then(
+static ODD_CONST_1: Form = Form::Then(
     &Form::When(
         Look::Word(Word::Where),
         &Form::Then(
             &Form::Token(Token::Word(Word::Where)),
-            &Form::Rule(Rule::Predicates),
+            &Form::Rule(Rule::PREDICATES),
         ),
         &Form::Empty,
     ),
@@ -85,30 +92,30 @@ pub(super) static ODD_CONST_1: Form = Form::Then(
 );
 
 /// A part of `odd_const`.
-pub(super) static ODD_CONST_2: Form = Form::Then(
+static ODD_CONST_2: Form = Form::Then(
     &Form::Mark(Mark::Colon),
     &Form::Then(
-        &Form::Rule(Rule::Type),
+        &Form::Rule(Rule::TYPE),
         &Form::Then(
             &Form::When(
                 Look::Mark(Mark::Eq),
-                &Form::Then(&Form::Mark(Mark::Eq), &Form::Rule(Rule::WholeExpression)),
+                &Form::Then(&Form::Mark(Mark::Eq), &Form::Rule(Rule::WHOLE_EXPRESSION)),
                 &Form::Empty,
             ),
-            &Form::Part(Part::OddConst1),
+            &Form::Part(Part::ODD_CONST_1),
         ),
     ),
 );
 
 /// A part of `odd_const`.
-pub(super) static ODD_CONST_3: Form = Form::Then(
+static ODD_CONST_3: Form = Form::Then(
     &Form::Mark(Mark::Eq),
     &Form::Then(
-        &Form::Rule(Rule::WholeExpression),
+        &Form::Rule(Rule::WHOLE_EXPRESSION),
         &Form::Then(
             &Form::Then(
                 &Form::Token(Token::Word(Word::Where)),
-                &Form::Rule(Rule::Predicates),
+                &Form::Rule(Rule::PREDICATES),
             ),
             &Form::Mark(Mark::Semi),
         ),
@@ -116,17 +123,17 @@ pub(super) static ODD_CONST_3: Form = Form::Then(
 );
 
 /// A part of `odd_const`.
-pub(super) static ODD_CONST_4: Form = Form::Then(
-    &Form::Rule(Rule::Type),
+static ODD_CONST_4: Form = Form::Then(
+    &Form::Rule(Rule::TYPE),
     &Form::When(
         Look::Mark(Mark::Eq),
-        &Form::Part(Part::OddConst3),
+        &Form::Part(Part::ODD_CONST_3),
         &Form::Then(
             &Form::When(
                 Look::Word(Word::Where),
                 &Form::Then(
                     &Form::Token(Token::Word(Word::Where)),
-                    &Form::Rule(Rule::Predicates),
+                    &Form::Rule(Rule::PREDICATES),
                 ),
                 &Form::Empty,
             ),
@@ -136,7 +143,7 @@ pub(super) static ODD_CONST_4: Form = Form::Then(
 );
 
 /// A part of `odd_const`.
-pub(super) static ODD_CONST_5: Form = Form::Then(
+static ODD_CONST_5: Form = Form::Then(
     &Form::Token(Token::Word(Word::Const)),
     &Form::Then(
         &Form::Token(Token::NameOrUnderscore),
@@ -144,17 +151,17 @@ pub(super) static ODD_CONST_5: Form = Form::Then(
             Look::Mark(Mark::Lt),
             &Form::Then(
                 &Form::Ordered(List::Parameters),
-                &Form::Part(Part::OddConst2),
+                &Form::Part(Part::ODD_CONST_2),
             ),
-            &Form::Then(&Form::Mark(Mark::Colon), &Form::Part(Part::OddConst4)),
+            &Form::Then(&Form::Mark(Mark::Colon), &Form::Part(Part::ODD_CONST_4)),
         ),
     ),
 );
 
 /// A definition by `macro`, which is kept as tokens, behind its attributes: a visibility, `macro`, a name, perhaps
 /// parentheses, and braces, both of any content.
-pub(super) static MACRO_DEFINITION: Form = Form::Then(
-    &Form::Rule(Rule::Visibility),
+static MACRO_DEFINITION: Form = Form::Then(
+    &Form::Rule(Rule::VISIBILITY),
     &Form::Then(
         &Form::Token(Token::Word(Word::Macro)),
         &Form::Then(
@@ -172,32 +179,32 @@ pub(super) static MACRO_DEFINITION: Form = Form::Then(
 );
 
 /// A type alias with bounds or without a type, which is kept as tokens, behind its attributes.
-pub(super) static ODD_TYPE: Form = Form::Then(
-    &Form::Rule(Rule::Visibility),
+static ODD_TYPE: Form = Form::Then(
+    &Form::Rule(Rule::VISIBILITY),
     &Form::Then(
         &Form::Token(Token::Word(Word::Type)),
         &Form::Then(
             &Form::Token(Token::Name),
             &Form::Then(
-                &Form::Rule(Rule::Generics),
-                &Form::Then(&Form::Part(Part::OddType3), &Form::Mark(Mark::Semi)),
+                &Form::Rule(Rule::GENERICS),
+                &Form::Then(&Form::Part(Part::ODD_TYPE_3), &Form::Mark(Mark::Semi)),
             ),
         ),
     ),
 );
 
 /// A part of `odd_type`.
-pub(super) static ODD_TYPE_1: Form = Form::When(
+static ODD_TYPE_1: Form = Form::When(
     Look::Mark(Mark::Eq),
     &Form::Then(
         &Form::Mark(Mark::Eq),
         &Form::Then(
-            &Form::Rule(Rule::Type),
+            &Form::Rule(Rule::TYPE),
             &Form::When(
                 Look::Word(Word::Where),
                 &Form::Then(
                     &Form::Token(Token::Word(Word::Where)),
-                    &Form::Rule(Rule::Predicates),
+                    &Form::Rule(Rule::PREDICATES),
                 ),
                 &Form::Empty,
             ),
@@ -207,35 +214,72 @@ pub(super) static ODD_TYPE_1: Form = Form::When(
 );
 
 /// A part of `odd_type`.
-pub(super) static ODD_TYPE_2: Form = Form::When(
+static ODD_TYPE_2: Form = Form::When(
     Look::Word(Word::Where),
     &Form::Then(
         &Form::Then(
             &Form::Token(Token::Word(Word::Where)),
-            &Form::Rule(Rule::Predicates),
+            &Form::Rule(Rule::PREDICATES),
         ),
         &Form::When(
             Look::Mark(Mark::Eq),
-            &Form::Then(&Form::Mark(Mark::Eq), &Form::Rule(Rule::Type)),
+            &Form::Then(&Form::Mark(Mark::Eq), &Form::Rule(Rule::TYPE)),
             &Form::Empty,
         ),
     ),
-    &Form::Part(Part::OddType1),
+    &Form::Part(Part::ODD_TYPE_1),
 );
 
 /// A part of `odd_type`.
-pub(super) static ODD_TYPE_3: Form = Form::When(
+static ODD_TYPE_3: Form = Form::When(
     Look::Mark(Mark::Colon),
     &Form::Then(
         &Form::Mark(Mark::Colon),
-        &Form::Then(&Form::Rule(Rule::TypeBounds), &Form::Part(Part::OddType2)),
+        &Form::Then(
+            &Form::Rule(Rule::TYPE_BOUNDS),
+            &Form::Part(Part::ODD_TYPE_2),
+        ),
     ),
     &Form::When(
         Look::Word(Word::Where),
         &Form::Then(
             &Form::Token(Token::Word(Word::Where)),
-            &Form::Rule(Rule::Predicates),
+            &Form::Rule(Rule::PREDICATES),
         ),
         &Form::Empty,
     ),
 );
+
+/// The form of the rule at this place.
+#[tactic(auto, using(std::proofs::lemmas::List::get_or_past), unfolding(crate::specs::Names::rule_of, crate::specs::Parts::part_form))]
+pub(super) fn form_at(place: u8) -> &'static Form
+    ensures { parse_form (grammar_of result.now) ≡ parse_form (table (kept_items_rule place)) }
+{
+    match place {
+        0 => &BODILESS_FUNCTION,
+        1 => &UNTYPED_STATIC,
+        2 => &VALUELESS_STATIC,
+        3 => &ODD_CONST,
+        4 => &MACRO_DEFINITION,
+        _ => &ODD_TYPE,
+    }
+}
+
+/// The form of the part at this place.
+#[tactic(auto, using(std::proofs::lemmas::List::get_or_past), unfolding(crate::specs::Names::rule_of, crate::specs::Parts::part_form))]
+pub(super) fn part_at(place: u8) -> &'static Form
+    ensures { parse_form (grammar_of result.now) ≡ parse_form (kept_items_part place) }
+{
+    match place {
+        0 => &UNTYPED_STATIC_1,
+        1 => &VALUELESS_STATIC_1,
+        2 => &ODD_CONST_1,
+        3 => &ODD_CONST_2,
+        4 => &ODD_CONST_3,
+        5 => &ODD_CONST_4,
+        6 => &ODD_CONST_5,
+        7 => &ODD_TYPE_1,
+        8 => &ODD_TYPE_2,
+        _ => &ODD_TYPE_3,
+    }
+}

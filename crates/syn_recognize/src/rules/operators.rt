@@ -1,6 +1,13 @@
 //! Written by tools/recognizers.py; edits are lost.
 //!
 //! Operators, and whole expressions.
+ghost use Rattle.std.specs.Prelude.{◌≡◌};
+ghost use Rattle.syn_grammar.specs.Run.{parse_form};
+ghost use Rattle.syn_grammar.specs.Table.{table};
+ghost use Rattle.syn_recognize.specs.Forms.{grammar_of};
+ghost use Rattle.syn_recognize.specs.Names.{operators_rule};
+ghost use Rattle.syn_recognize.specs.Parts.{operators_part};
+
 use crate::fault::Fault;
 use crate::form::Form;
 use crate::look::Look;
@@ -10,135 +17,135 @@ use crate::token::Token;
 use crate::words::{Mark, Word};
 
 /// Casts, any number of them: `as` and a type.
-pub(super) static CASTS: Form = Form::When(
+static CASTS: Form = Form::When(
     Look::Word(Word::As),
     &Form::Then(
         &Form::Shaped(
             Shape::Operator(Variant::Cast),
-            &Form::Then(&Form::Token(Token::Word(Word::As)), &Form::Rule(Rule::Type)),
+            &Form::Then(&Form::Token(Token::Word(Word::As)), &Form::Rule(Rule::TYPE)),
         ),
-        &Form::Rule(Rule::Casts),
+        &Form::Rule(Rule::CASTS),
     ),
     &Form::Empty,
 );
 
 /// A unary level and its casts.
-pub(super) static CAST: Form = Form::Shaped(
+static CAST: Form = Form::Shaped(
     Shape::Chain,
-    &Form::Then(&Form::Rule(Rule::Unary), &Form::Rule(Rule::Casts)),
+    &Form::Then(&Form::Rule(Rule::UNARY), &Form::Rule(Rule::CASTS)),
 );
 
 /// What an operand is multiplied with or divided by, any number of times.
-pub(super) static PRODUCTS: Form = Form::When(
+static PRODUCTS: Form = Form::When(
     Look::But(&Look::Mark(Mark::Star), &Look::Mark(Mark::StarEq)),
     &Form::Then(
         &Form::Shaped(
             Shape::Operator(Variant::Binary),
-            &Form::Then(&Form::Mark(Mark::Star), &Form::Rule(Rule::Cast)),
+            &Form::Then(&Form::Mark(Mark::Star), &Form::Rule(Rule::CAST)),
         ),
-        &Form::Rule(Rule::Products),
+        &Form::Rule(Rule::PRODUCTS),
     ),
-    &Form::Part(Part::Products2),
+    &Form::Part(Part::PRODUCTS_2),
 );
 
 /// A part of `products`.
-pub(super) static PRODUCTS_1: Form = Form::When(
+static PRODUCTS_1: Form = Form::When(
     Look::But(&Look::Mark(Mark::Percent), &Look::Mark(Mark::PercentEq)),
     &Form::Then(
         &Form::Shaped(
             Shape::Operator(Variant::Binary),
-            &Form::Then(&Form::Mark(Mark::Percent), &Form::Rule(Rule::Cast)),
+            &Form::Then(&Form::Mark(Mark::Percent), &Form::Rule(Rule::CAST)),
         ),
-        &Form::Rule(Rule::Products),
+        &Form::Rule(Rule::PRODUCTS),
     ),
     &Form::Empty,
 );
 
 /// A part of `products`.
-pub(super) static PRODUCTS_2: Form = Form::When(
+static PRODUCTS_2: Form = Form::When(
     Look::But(&Look::Mark(Mark::Slash), &Look::Mark(Mark::SlashEq)),
     &Form::Then(
         &Form::Shaped(
             Shape::Operator(Variant::Binary),
-            &Form::Then(&Form::Mark(Mark::Slash), &Form::Rule(Rule::Cast)),
+            &Form::Then(&Form::Mark(Mark::Slash), &Form::Rule(Rule::CAST)),
         ),
-        &Form::Rule(Rule::Products),
+        &Form::Rule(Rule::PRODUCTS),
     ),
-    &Form::Part(Part::Products1),
+    &Form::Part(Part::PRODUCTS_1),
 );
 
 /// A product: casts with `*`, `/` and `%` between them, grouped from the left.
-pub(super) static PRODUCT: Form = Form::Shaped(
+static PRODUCT: Form = Form::Shaped(
     Shape::Chain,
-    &Form::Then(&Form::Rule(Rule::Cast), &Form::Rule(Rule::Products)),
+    &Form::Then(&Form::Rule(Rule::CAST), &Form::Rule(Rule::PRODUCTS)),
 );
 
 /// What is added to an operand or taken from it, any number of times.
-pub(super) static SUMS: Form = Form::When(
+static SUMS: Form = Form::When(
     Look::But(&Look::Mark(Mark::Plus), &Look::Mark(Mark::PlusEq)),
     &Form::Then(
         &Form::Shaped(
             Shape::Operator(Variant::Binary),
-            &Form::Then(&Form::Mark(Mark::Plus), &Form::Rule(Rule::Product)),
+            &Form::Then(&Form::Mark(Mark::Plus), &Form::Rule(Rule::PRODUCT)),
         ),
-        &Form::Rule(Rule::Sums),
+        &Form::Rule(Rule::SUMS),
     ),
-    &Form::Part(Part::Sums1),
+    &Form::Part(Part::SUMS_1),
 );
 
 /// A part of `sums`.
-pub(super) static SUMS_1: Form = Form::When(
+static SUMS_1: Form = Form::When(
     Look::But(&Look::Mark(Mark::Minus), &Look::Mark(Mark::MinusEq)),
     &Form::Then(
         &Form::Shaped(
             Shape::Operator(Variant::Binary),
-            &Form::Then(&Form::Mark(Mark::Minus), &Form::Rule(Rule::Product)),
+            &Form::Then(&Form::Mark(Mark::Minus), &Form::Rule(Rule::PRODUCT)),
         ),
-        &Form::Rule(Rule::Sums),
+        &Form::Rule(Rule::SUMS),
     ),
     &Form::Empty,
 );
 
 /// A sum: products with `+` and `-` between them, grouped from the left.
-pub(super) static SUM: Form = Form::Shaped(
+static SUM: Form = Form::Shaped(
     Shape::Chain,
-    &Form::Then(&Form::Rule(Rule::Product), &Form::Rule(Rule::Sums)),
+    &Form::Then(&Form::Rule(Rule::PRODUCT), &Form::Rule(Rule::SUMS)),
 );
 
 /// What an operand is shifted by, any number of times.
-pub(super) static SHIFTS: Form = Form::When(
+static SHIFTS: Form = Form::When(
     Look::But(&Look::Mark(Mark::Shl), &Look::Mark(Mark::ShlEq)),
     &Form::Then(
         &Form::Shaped(
             Shape::Operator(Variant::Binary),
-            &Form::Then(&Form::Mark(Mark::Shl), &Form::Rule(Rule::Sum)),
+            &Form::Then(&Form::Mark(Mark::Shl), &Form::Rule(Rule::SUM)),
         ),
-        &Form::Rule(Rule::Shifts),
+        &Form::Rule(Rule::SHIFTS),
     ),
-    &Form::Part(Part::Shifts1),
+    &Form::Part(Part::SHIFTS_1),
 );
 
 /// A part of `shifts`.
-pub(super) static SHIFTS_1: Form = Form::When(
+static SHIFTS_1: Form = Form::When(
     Look::But(&Look::Mark(Mark::Shr), &Look::Mark(Mark::ShrEq)),
     &Form::Then(
         &Form::Shaped(
             Shape::Operator(Variant::Binary),
-            &Form::Then(&Form::Mark(Mark::Shr), &Form::Rule(Rule::Sum)),
+            &Form::Then(&Form::Mark(Mark::Shr), &Form::Rule(Rule::SUM)),
         ),
-        &Form::Rule(Rule::Shifts),
+        &Form::Rule(Rule::SHIFTS),
     ),
     &Form::Empty,
 );
 
 /// A shift: sums with `<<` and `>>` between them, grouped from the left.
-pub(super) static SHIFT: Form = Form::Shaped(
+static SHIFT: Form = Form::Shaped(
     Shape::Chain,
-    &Form::Then(&Form::Rule(Rule::Sum), &Form::Rule(Rule::Shifts)),
+    &Form::Then(&Form::Rule(Rule::SUM), &Form::Rule(Rule::SHIFTS)),
 );
 
 /// The operands behind `&`, any number of them.
-pub(super) static BIT_ANDS: Form = Form::When(
+static BIT_ANDS: Form = Form::When(
     Look::But(
         &Look::Mark(Mark::And),
         &Look::Or(&Look::Mark(Mark::AndAnd), &Look::Mark(Mark::AndEq)),
@@ -146,40 +153,40 @@ pub(super) static BIT_ANDS: Form = Form::When(
     &Form::Then(
         &Form::Shaped(
             Shape::Operator(Variant::Binary),
-            &Form::Then(&Form::Mark(Mark::And), &Form::Rule(Rule::Shift)),
+            &Form::Then(&Form::Mark(Mark::And), &Form::Rule(Rule::SHIFT)),
         ),
-        &Form::Rule(Rule::BitAnds),
+        &Form::Rule(Rule::BIT_ANDS),
     ),
     &Form::Empty,
 );
 
 /// Shifts with `&` between them, grouped from the left.
-pub(super) static BIT_AND: Form = Form::Shaped(
+static BIT_AND: Form = Form::Shaped(
     Shape::Chain,
-    &Form::Then(&Form::Rule(Rule::Shift), &Form::Rule(Rule::BitAnds)),
+    &Form::Then(&Form::Rule(Rule::SHIFT), &Form::Rule(Rule::BIT_ANDS)),
 );
 
 /// The operands behind `^`, any number of them.
-pub(super) static BIT_XORS: Form = Form::When(
+static BIT_XORS: Form = Form::When(
     Look::But(&Look::Mark(Mark::Caret), &Look::Mark(Mark::CaretEq)),
     &Form::Then(
         &Form::Shaped(
             Shape::Operator(Variant::Binary),
-            &Form::Then(&Form::Mark(Mark::Caret), &Form::Rule(Rule::BitAnd)),
+            &Form::Then(&Form::Mark(Mark::Caret), &Form::Rule(Rule::BIT_AND)),
         ),
-        &Form::Rule(Rule::BitXors),
+        &Form::Rule(Rule::BIT_XORS),
     ),
     &Form::Empty,
 );
 
 /// What `bit_and` reads with `^` between, grouped from the left.
-pub(super) static BIT_XOR: Form = Form::Shaped(
+static BIT_XOR: Form = Form::Shaped(
     Shape::Chain,
-    &Form::Then(&Form::Rule(Rule::BitAnd), &Form::Rule(Rule::BitXors)),
+    &Form::Then(&Form::Rule(Rule::BIT_AND), &Form::Rule(Rule::BIT_XORS)),
 );
 
 /// The operands behind `|`, any number of them.
-pub(super) static BIT_ORS: Form = Form::When(
+static BIT_ORS: Form = Form::When(
     Look::But(
         &Look::Mark(Mark::Or),
         &Look::Or(&Look::Mark(Mark::OrOr), &Look::Mark(Mark::OrEq)),
@@ -187,181 +194,190 @@ pub(super) static BIT_ORS: Form = Form::When(
     &Form::Then(
         &Form::Shaped(
             Shape::Operator(Variant::Binary),
-            &Form::Then(&Form::Mark(Mark::Or), &Form::Rule(Rule::BitXor)),
+            &Form::Then(&Form::Mark(Mark::Or), &Form::Rule(Rule::BIT_XOR)),
         ),
-        &Form::Rule(Rule::BitOrs),
+        &Form::Rule(Rule::BIT_ORS),
     ),
     &Form::Empty,
 );
 
 /// What `bit_xor` reads with `|` between, grouped from the left.
-pub(super) static BIT_OR: Form = Form::Shaped(
+static BIT_OR: Form = Form::Shaped(
     Shape::Chain,
-    &Form::Then(&Form::Rule(Rule::BitXor), &Form::Rule(Rule::BitOrs)),
+    &Form::Then(&Form::Rule(Rule::BIT_XOR), &Form::Rule(Rule::BIT_ORS)),
 );
 
 /// What an operand is compared with, once at most.
-pub(super) static COMPARED: Form = Form::When(
+static COMPARED: Form = Form::When(
     Look::Mark(Mark::EqEq),
     &Form::Shaped(
         Shape::Operator(Variant::Binary),
-        &Form::Then(&Form::Mark(Mark::EqEq), &Form::Rule(Rule::BitOr)),
+        &Form::Then(&Form::Mark(Mark::EqEq), &Form::Rule(Rule::BIT_OR)),
     ),
     &Form::When(
         Look::Mark(Mark::Ne),
         &Form::Shaped(
             Shape::Operator(Variant::Binary),
-            &Form::Then(&Form::Mark(Mark::Ne), &Form::Rule(Rule::BitOr)),
+            &Form::Then(&Form::Mark(Mark::Ne), &Form::Rule(Rule::BIT_OR)),
         ),
-        &Form::Part(Part::Compared3),
+        &Form::Part(Part::COMPARED_3),
     ),
 );
 
 /// A part of `compared`.
-pub(super) static COMPARED_1: Form = Form::When(
+static COMPARED_1: Form = Form::When(
     Look::Mark(Mark::Le),
     &Form::Shaped(
         Shape::Operator(Variant::Binary),
-        &Form::Then(&Form::Mark(Mark::Le), &Form::Rule(Rule::BitOr)),
+        &Form::Then(&Form::Mark(Mark::Le), &Form::Rule(Rule::BIT_OR)),
     ),
     &Form::When(
         Look::Mark(Mark::Ge),
         &Form::Shaped(
             Shape::Operator(Variant::Binary),
-            &Form::Then(&Form::Mark(Mark::Ge), &Form::Rule(Rule::BitOr)),
+            &Form::Then(&Form::Mark(Mark::Ge), &Form::Rule(Rule::BIT_OR)),
         ),
         &Form::Empty,
     ),
 );
 
 /// A part of `compared`.
-pub(super) static COMPARED_2: Form = Form::When(
+static COMPARED_2: Form = Form::When(
     Look::But(
         &Look::Mark(Mark::Gt),
         &Look::Or(&Look::Mark(Mark::Ge), &Look::Mark(Mark::Shr)),
     ),
     &Form::Shaped(
         Shape::Operator(Variant::Binary),
-        &Form::Then(&Form::Mark(Mark::Gt), &Form::Rule(Rule::BitOr)),
+        &Form::Then(&Form::Mark(Mark::Gt), &Form::Rule(Rule::BIT_OR)),
     ),
-    &Form::Part(Part::Compared1),
+    &Form::Part(Part::COMPARED_1),
 );
 
 /// A part of `compared`.
-pub(super) static COMPARED_3: Form = Form::When(
+static COMPARED_3: Form = Form::When(
     Look::But(
         &Look::Mark(Mark::Lt),
         &Look::Or(&Look::Mark(Mark::Le), &Look::Mark(Mark::Shl)),
     ),
     &Form::Shaped(
         Shape::Operator(Variant::Binary),
-        &Form::Then(&Form::Mark(Mark::Lt), &Form::Rule(Rule::BitOr)),
+        &Form::Then(&Form::Mark(Mark::Lt), &Form::Rule(Rule::BIT_OR)),
     ),
-    &Form::Part(Part::Compared2),
+    &Form::Part(Part::COMPARED_2),
 );
 
 /// A comparison: an operand, or two with `==`, `!=`, `<`, `>`, `<=` or `>=` between them.
-pub(super) static COMPARISON: Form = Form::Shaped(
+static COMPARISON: Form = Form::Shaped(
     Shape::Chain,
-    &Form::Then(&Form::Rule(Rule::BitOr), &Form::Rule(Rule::Compared)),
+    &Form::Then(&Form::Rule(Rule::BIT_OR), &Form::Rule(Rule::COMPARED)),
 );
 
 /// The operands behind `&&`, any number of them.
-pub(super) static CONJUNCTIONS: Form = Form::When(
+static CONJUNCTIONS: Form = Form::When(
     Look::Mark(Mark::AndAnd),
     &Form::Then(
         &Form::Shaped(
             Shape::Operator(Variant::Binary),
-            &Form::Then(&Form::Mark(Mark::AndAnd), &Form::Rule(Rule::Comparison)),
+            &Form::Then(&Form::Mark(Mark::AndAnd), &Form::Rule(Rule::COMPARISON)),
         ),
-        &Form::Rule(Rule::Conjunctions),
+        &Form::Rule(Rule::CONJUNCTIONS),
     ),
     &Form::Empty,
 );
 
 /// Comparisons with `&&` between them, grouped from the left.
-pub(super) static CONJUNCTION: Form = Form::Shaped(
+static CONJUNCTION: Form = Form::Shaped(
     Shape::Chain,
     &Form::Then(
-        &Form::Rule(Rule::Comparison),
-        &Form::Rule(Rule::Conjunctions),
+        &Form::Rule(Rule::COMPARISON),
+        &Form::Rule(Rule::CONJUNCTIONS),
     ),
 );
 
 /// The operands behind `||`, any number of them.
-pub(super) static DISJUNCTIONS: Form = Form::When(
+static DISJUNCTIONS: Form = Form::When(
     Look::Mark(Mark::OrOr),
     &Form::Then(
         &Form::Shaped(
             Shape::Operator(Variant::Binary),
-            &Form::Then(&Form::Mark(Mark::OrOr), &Form::Rule(Rule::Conjunction)),
+            &Form::Then(&Form::Mark(Mark::OrOr), &Form::Rule(Rule::CONJUNCTION)),
         ),
-        &Form::Rule(Rule::Disjunctions),
+        &Form::Rule(Rule::DISJUNCTIONS),
     ),
     &Form::Empty,
 );
 
 /// What `conjunction` reads with `||` between, grouped from the left.
-pub(super) static DISJUNCTION: Form = Form::Shaped(
+static DISJUNCTION: Form = Form::Shaped(
     Shape::Chain,
     &Form::Then(
-        &Form::Rule(Rule::Conjunction),
-        &Form::Rule(Rule::Disjunctions),
+        &Form::Rule(Rule::CONJUNCTION),
+        &Form::Rule(Rule::DISJUNCTIONS),
     ),
 );
 
 /// What is assigned to an operand, by `=` or an operator with `=`; it groups from the right.
-pub(super) static ASSIGNED: Form = Form::When(
+static ASSIGNED: Form = Form::When(
     Look::But(&Look::Mark(Mark::Eq), &Look::Mark(Mark::EqEq)),
     &Form::Shaped(
         Shape::Operator(Variant::Assign),
-        &Form::Then(&Form::Mark(Mark::Eq), &Form::Rule(Rule::WholeExpression)),
+        &Form::Then(&Form::Mark(Mark::Eq), &Form::Rule(Rule::WHOLE_EXPRESSION)),
     ),
-    &Form::Part(Part::Assigned5),
+    &Form::Part(Part::ASSIGNED_5),
 );
 
 /// A part of `assigned`.
-pub(super) static ASSIGNED_1: Form = Form::When(
+static ASSIGNED_1: Form = Form::When(
     Look::Mark(Mark::ShlEq),
     &Form::Shaped(
         Shape::Operator(Variant::Binary),
-        &Form::Then(&Form::Mark(Mark::ShlEq), &Form::Rule(Rule::WholeExpression)),
+        &Form::Then(
+            &Form::Mark(Mark::ShlEq),
+            &Form::Rule(Rule::WHOLE_EXPRESSION),
+        ),
     ),
     &Form::When(
         Look::Mark(Mark::ShrEq),
         &Form::Shaped(
             Shape::Operator(Variant::Binary),
-            &Form::Then(&Form::Mark(Mark::ShrEq), &Form::Rule(Rule::WholeExpression)),
+            &Form::Then(
+                &Form::Mark(Mark::ShrEq),
+                &Form::Rule(Rule::WHOLE_EXPRESSION),
+            ),
         ),
         &Form::Empty,
     ),
 );
 
 /// A part of `assigned`.
-pub(super) static ASSIGNED_2: Form = Form::When(
+static ASSIGNED_2: Form = Form::When(
     Look::Mark(Mark::AndEq),
     &Form::Shaped(
         Shape::Operator(Variant::Binary),
-        &Form::Then(&Form::Mark(Mark::AndEq), &Form::Rule(Rule::WholeExpression)),
+        &Form::Then(
+            &Form::Mark(Mark::AndEq),
+            &Form::Rule(Rule::WHOLE_EXPRESSION),
+        ),
     ),
     &Form::When(
         Look::Mark(Mark::OrEq),
         &Form::Shaped(
             Shape::Operator(Variant::Binary),
-            &Form::Then(&Form::Mark(Mark::OrEq), &Form::Rule(Rule::WholeExpression)),
+            &Form::Then(&Form::Mark(Mark::OrEq), &Form::Rule(Rule::WHOLE_EXPRESSION)),
         ),
-        &Form::Part(Part::Assigned1),
+        &Form::Part(Part::ASSIGNED_1),
     ),
 );
 
 /// A part of `assigned`.
-pub(super) static ASSIGNED_3: Form = Form::When(
+static ASSIGNED_3: Form = Form::When(
     Look::Mark(Mark::PercentEq),
     &Form::Shaped(
         Shape::Operator(Variant::Binary),
         &Form::Then(
             &Form::Mark(Mark::PercentEq),
-            &Form::Rule(Rule::WholeExpression),
+            &Form::Rule(Rule::WHOLE_EXPRESSION),
         ),
     ),
     &Form::When(
@@ -370,21 +386,21 @@ pub(super) static ASSIGNED_3: Form = Form::When(
             Shape::Operator(Variant::Binary),
             &Form::Then(
                 &Form::Mark(Mark::CaretEq),
-                &Form::Rule(Rule::WholeExpression),
+                &Form::Rule(Rule::WHOLE_EXPRESSION),
             ),
         ),
-        &Form::Part(Part::Assigned2),
+        &Form::Part(Part::ASSIGNED_2),
     ),
 );
 
 /// A part of `assigned`.
-pub(super) static ASSIGNED_4: Form = Form::When(
+static ASSIGNED_4: Form = Form::When(
     Look::Mark(Mark::StarEq),
     &Form::Shaped(
         Shape::Operator(Variant::Binary),
         &Form::Then(
             &Form::Mark(Mark::StarEq),
-            &Form::Rule(Rule::WholeExpression),
+            &Form::Rule(Rule::WHOLE_EXPRESSION),
         ),
     ),
     &Form::When(
@@ -393,21 +409,21 @@ pub(super) static ASSIGNED_4: Form = Form::When(
             Shape::Operator(Variant::Binary),
             &Form::Then(
                 &Form::Mark(Mark::SlashEq),
-                &Form::Rule(Rule::WholeExpression),
+                &Form::Rule(Rule::WHOLE_EXPRESSION),
             ),
         ),
-        &Form::Part(Part::Assigned3),
+        &Form::Part(Part::ASSIGNED_3),
     ),
 );
 
 /// A part of `assigned`.
-pub(super) static ASSIGNED_5: Form = Form::When(
+static ASSIGNED_5: Form = Form::When(
     Look::Mark(Mark::PlusEq),
     &Form::Shaped(
         Shape::Operator(Variant::Binary),
         &Form::Then(
             &Form::Mark(Mark::PlusEq),
-            &Form::Rule(Rule::WholeExpression),
+            &Form::Rule(Rule::WHOLE_EXPRESSION),
         ),
     ),
     &Form::When(
@@ -416,21 +432,21 @@ pub(super) static ASSIGNED_5: Form = Form::When(
             Shape::Operator(Variant::Binary),
             &Form::Then(
                 &Form::Mark(Mark::MinusEq),
-                &Form::Rule(Rule::WholeExpression),
+                &Form::Rule(Rule::WHOLE_EXPRESSION),
             ),
         ),
-        &Form::Part(Part::Assigned4),
+        &Form::Part(Part::ASSIGNED_4),
     ),
 );
 
 /// Any expression. Behind it no postfix and no comparison stands: behind a cast, or behind a comparison, these are
 /// refused.
-pub(super) static WHOLE_EXPRESSION: Form = Form::Shaped(
+static WHOLE_EXPRESSION: Form = Form::Shaped(
     Shape::Chain,
     &Form::Then(
-        &Form::Rule(Rule::Disjunction),
+        &Form::Rule(Rule::DISJUNCTION),
         &Form::Then(
-            &Form::Rule(Rule::Assigned),
+            &Form::Rule(Rule::ASSIGNED),
             &Form::When(
                 Look::Unfinished,
                 &Form::Never(Fault::Unexpected),
@@ -439,3 +455,55 @@ pub(super) static WHOLE_EXPRESSION: Form = Form::Shaped(
         ),
     ),
 );
+
+/// The form of the rule at this place.
+#[tactic(auto, using(std::proofs::lemmas::List::get_or_past), unfolding(crate::specs::Names::rule_of, crate::specs::Parts::part_form))]
+pub(super) fn form_at(place: u8) -> &'static Form
+    ensures { parse_form (grammar_of result.now) ≡ parse_form (table (operators_rule place)) }
+{
+    match place {
+        0 => &CASTS,
+        1 => &CAST,
+        2 => &PRODUCTS,
+        3 => &PRODUCT,
+        4 => &SUMS,
+        5 => &SUM,
+        6 => &SHIFTS,
+        7 => &SHIFT,
+        8 => &BIT_ANDS,
+        9 => &BIT_AND,
+        10 => &BIT_XORS,
+        11 => &BIT_XOR,
+        12 => &BIT_ORS,
+        13 => &BIT_OR,
+        14 => &COMPARED,
+        15 => &COMPARISON,
+        16 => &CONJUNCTIONS,
+        17 => &CONJUNCTION,
+        18 => &DISJUNCTIONS,
+        19 => &DISJUNCTION,
+        20 => &ASSIGNED,
+        _ => &WHOLE_EXPRESSION,
+    }
+}
+
+/// The form of the part at this place.
+#[tactic(auto, using(std::proofs::lemmas::List::get_or_past), unfolding(crate::specs::Names::rule_of, crate::specs::Parts::part_form))]
+pub(super) fn part_at(place: u8) -> &'static Form
+    ensures { parse_form (grammar_of result.now) ≡ parse_form (operators_part place) }
+{
+    match place {
+        0 => &PRODUCTS_1,
+        1 => &PRODUCTS_2,
+        2 => &SUMS_1,
+        3 => &SHIFTS_1,
+        4 => &COMPARED_1,
+        5 => &COMPARED_2,
+        6 => &COMPARED_3,
+        7 => &ASSIGNED_1,
+        8 => &ASSIGNED_2,
+        9 => &ASSIGNED_3,
+        10 => &ASSIGNED_4,
+        _ => &ASSIGNED_5,
+    }
+}

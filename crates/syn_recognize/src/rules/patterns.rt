@@ -1,6 +1,13 @@
 //! Written by tools/recognizers.py; edits are lost.
 //!
 //! Paths in expressions, macros and patterns.
+ghost use Rattle.std.specs.Prelude.{◌≡◌};
+ghost use Rattle.syn_grammar.specs.Run.{parse_form};
+ghost use Rattle.syn_grammar.specs.Table.{table};
+ghost use Rattle.syn_recognize.specs.Forms.{grammar_of};
+ghost use Rattle.syn_recognize.specs.Names.{patterns_rule};
+ghost use Rattle.syn_recognize.specs.Parts.{patterns_part};
+
 use crate::fault::Fault;
 use crate::form::Form;
 use crate::left_out::Place;
@@ -12,73 +19,73 @@ use crate::words::{Mark, Word};
 use syn_tokens::delimiter::Delimiter;
 
 /// A path in an expression or a pattern: `::` where it stands next, and then its words.
-pub(super) static EXPRESSION_PATH: Form = Form::Then(
+static EXPRESSION_PATH: Form = Form::Then(
     &Form::When(
         Look::Mark(Mark::PathSep),
         &Form::Mark(Mark::PathSep),
         &Form::Empty,
     ),
-    &Form::Rule(Rule::ExpressionWords),
+    &Form::Rule(Rule::EXPRESSION_WORDS),
 );
 
 /// The words of a path in an expression or a pattern: each an identifier that isn't a keyword, or `Self`, with its
 /// arguments where `::` and `<` stand next; or `self`, `super` or `crate`; and where `::` stands next, that mark and
 /// more words.
-pub(super) static EXPRESSION_WORDS: Form = Form::Then(
+static EXPRESSION_WORDS: Form = Form::Then(
     &Form::Shaped(
         Shape::Untagged,
         &Form::When(
             Look::Or(&Look::Name, &Look::Word(Word::SelfType)),
-            &Form::Part(Part::ExpressionWords1),
+            &Form::Part(Part::EXPRESSION_WORDS_1),
             &Form::Then(
                 &Form::TokenAt(Token::NameOrPathStart, Place::Expression),
                 &Form::Shaped(Shape::Untagged, &Form::Empty),
             ),
         ),
     ),
-    &Form::Part(Part::ExpressionWords2),
+    &Form::Part(Part::EXPRESSION_WORDS_2),
 );
 
 /// A part of `expression_words`.
-pub(super) static EXPRESSION_WORDS_1: Form = Form::Then(
+static EXPRESSION_WORDS_1: Form = Form::Then(
     &Form::Token(Token::NameOrSelfType),
     &Form::Shaped(
         Shape::Untagged,
         &Form::When(
             Look::Turbofish,
-            &Form::Rule(Rule::TypeArguments),
+            &Form::Rule(Rule::TYPE_ARGUMENTS),
             &Form::Empty,
         ),
     ),
 );
 
 /// A part of `expression_words`.
-pub(super) static EXPRESSION_WORDS_2: Form = Form::When(
+static EXPRESSION_WORDS_2: Form = Form::When(
     Look::Mark(Mark::PathSep),
     &Form::Then(
         &Form::Mark(Mark::PathSep),
-        &Form::Rule(Rule::ExpressionWords),
+        &Form::Rule(Rule::EXPRESSION_WORDS),
     ),
     &Form::Empty,
 );
 
 /// A qualified path in an expression or a pattern: a type in `< >`, with `as` and a path behind it or without them;
 /// then `::` and words. An `as` that a tree made by hand holds without a path is not printed.
-pub(super) static QUALIFIED_EXPRESSION_PATH: Form = Form::Then(
+static QUALIFIED_EXPRESSION_PATH: Form = Form::Then(
     &Form::Mark(Mark::Lt),
     &Form::Then(
-        &Form::Rule(Rule::Type),
-        &Form::Part(Part::QualifiedExpressionPath1),
+        &Form::Rule(Rule::TYPE),
+        &Form::Part(Part::QUALIFIED_EXPRESSION_PATH_1),
     ),
 );
 
 /// A part of `qualified_expression_path`.
-pub(super) static QUALIFIED_EXPRESSION_PATH_1: Form = Form::Then(
+static QUALIFIED_EXPRESSION_PATH_1: Form = Form::Then(
     &Form::When(
         Look::Word(Word::As),
         &Form::Then(
             &Form::Token(Token::Word(Word::As)),
-            &Form::Rule(Rule::TypePath),
+            &Form::Rule(Rule::TYPE_PATH),
         ),
         &Form::Unshown,
     ),
@@ -86,21 +93,21 @@ pub(super) static QUALIFIED_EXPRESSION_PATH_1: Form = Form::Then(
         &Form::Mark(Mark::Gt),
         &Form::Then(
             &Form::Mark(Mark::PathSep),
-            &Form::Rule(Rule::ExpressionWords),
+            &Form::Rule(Rule::EXPRESSION_WORDS),
         ),
     ),
 );
 
 /// A path as an expression: a qualified path where `<` stands next, or a path.
-pub(super) static PATH_AS_EXPRESSION: Form = Form::When(
+static PATH_AS_EXPRESSION: Form = Form::When(
     Look::Mark(Mark::Lt),
-    &Form::Rule(Rule::QualifiedExpressionPath),
-    &Form::Rule(Rule::ExpressionPath),
+    &Form::Rule(Rule::QUALIFIED_EXPRESSION_PATH),
+    &Form::Rule(Rule::EXPRESSION_PATH),
 );
 
 /// A macro: a path in module style, `!` that isn't `!=`, and a group of any content.
-pub(super) static MACRO_INVOCATION: Form = Form::Then(
-    &Form::Rule(Rule::ModulePath),
+static MACRO_INVOCATION: Form = Form::Then(
+    &Form::Rule(Rule::MODULE_PATH),
     &Form::Then(
         &Form::When(
             Look::Bang,
@@ -121,14 +128,14 @@ pub(super) static MACRO_INVOCATION: Form = Form::Then(
 
 /// A pattern: `_`; a tuple or a pattern in parentheses; a path, qualified or not, with patterns in parentheses behind
 /// it or without them; or a name, with `ref` or `mut` or both before it or without them, behind which no `::` stands.
-pub(super) static PATTERN: Form = Form::When(
+static PATTERN: Form = Form::When(
     Look::Word(Word::Underscore),
     &Form::Token(Token::Word(Word::Underscore)),
-    &Form::Part(Part::Pattern3),
+    &Form::Part(Part::PATTERN_3),
 );
 
 /// A part of `pattern`.
-pub(super) static PATTERN_1: Form = Form::Then(
+static PATTERN_1: Form = Form::Then(
     &Form::When(
         Look::Word(Word::Ref),
         &Form::Token(Token::Word(Word::Ref)),
@@ -145,9 +152,9 @@ pub(super) static PATTERN_1: Form = Form::Then(
 );
 
 /// A part of `pattern`.
-pub(super) static PATTERN_2: Form = Form::When(
+static PATTERN_2: Form = Form::When(
     Look::Or(&Look::Word(Word::Ref), &Look::Word(Word::Mut)),
-    &Form::Part(Part::Pattern1),
+    &Form::Part(Part::PATTERN_1),
     &Form::Then(
         &Form::TokenAt(Token::Name, Place::Pattern),
         &Form::When(
@@ -159,33 +166,64 @@ pub(super) static PATTERN_2: Form = Form::When(
 );
 
 /// A part of `pattern`.
-pub(super) static PATTERN_3: Form = Form::When(
+static PATTERN_3: Form = Form::When(
     Look::Group(Delimiter::Paren),
-    &Form::Inside(Delimiter::Paren, &Form::Rule(Rule::Patterns)),
+    &Form::Inside(Delimiter::Paren, &Form::Rule(Rule::PATTERNS)),
     &Form::When(
         Look::PatternPath,
         &Form::Then(
-            &Form::Rule(Rule::PathAsExpression),
+            &Form::Rule(Rule::PATH_AS_EXPRESSION),
             &Form::When(
                 Look::Group(Delimiter::Paren),
-                &Form::Inside(Delimiter::Paren, &Form::Rule(Rule::Patterns)),
+                &Form::Inside(Delimiter::Paren, &Form::Rule(Rule::PATTERNS)),
                 &Form::Empty,
             ),
         ),
-        &Form::Part(Part::Pattern2),
+        &Form::Part(Part::PATTERN_2),
     ),
 );
 
 /// Patterns, separated by commas; the last comma may stand or not.
-pub(super) static PATTERNS: Form = Form::When(
+static PATTERNS: Form = Form::When(
     Look::Ended,
     &Form::Empty,
     &Form::Then(
-        &Form::Rule(Rule::Pattern),
+        &Form::Rule(Rule::PATTERN),
         &Form::When(
             Look::Mark(Mark::Comma),
-            &Form::Then(&Form::Mark(Mark::Comma), &Form::Rule(Rule::Patterns)),
+            &Form::Then(&Form::Mark(Mark::Comma), &Form::Rule(Rule::PATTERNS)),
             &Form::Empty,
         ),
     ),
 );
+
+/// The form of the rule at this place.
+#[tactic(auto, using(std::proofs::lemmas::List::get_or_past), unfolding(crate::specs::Names::rule_of, crate::specs::Parts::part_form))]
+pub(super) fn form_at(place: u8) -> &'static Form
+    ensures { parse_form (grammar_of result.now) ≡ parse_form (table (patterns_rule place)) }
+{
+    match place {
+        0 => &EXPRESSION_PATH,
+        1 => &EXPRESSION_WORDS,
+        2 => &QUALIFIED_EXPRESSION_PATH,
+        3 => &PATH_AS_EXPRESSION,
+        4 => &MACRO_INVOCATION,
+        5 => &PATTERN,
+        _ => &PATTERNS,
+    }
+}
+
+/// The form of the part at this place.
+#[tactic(auto, using(std::proofs::lemmas::List::get_or_past), unfolding(crate::specs::Names::rule_of, crate::specs::Parts::part_form))]
+pub(super) fn part_at(place: u8) -> &'static Form
+    ensures { parse_form (grammar_of result.now) ≡ parse_form (patterns_part place) }
+{
+    match place {
+        0 => &EXPRESSION_WORDS_1,
+        1 => &EXPRESSION_WORDS_2,
+        2 => &QUALIFIED_EXPRESSION_PATH_1,
+        3 => &PATTERN_1,
+        4 => &PATTERN_2,
+        _ => &PATTERN_3,
+    }
+}

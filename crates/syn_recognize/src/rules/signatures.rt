@@ -1,6 +1,13 @@
 //! Written by tools/recognizers.py; edits are lost.
 //!
 //! Signatures and their parameters.
+ghost use Rattle.std.specs.Prelude.{◌≡◌};
+ghost use Rattle.syn_grammar.specs.Run.{parse_form};
+ghost use Rattle.syn_grammar.specs.Table.{table};
+ghost use Rattle.syn_recognize.specs.Forms.{grammar_of};
+ghost use Rattle.syn_recognize.specs.Names.{signatures_rule};
+ghost use Rattle.syn_recognize.specs.Parts.{signatures_part};
+
 use crate::fault::Fault;
 use crate::form::Form;
 use crate::look::Look;
@@ -12,36 +19,36 @@ use crate::words::{Mark, Word};
 use syn_tokens::delimiter::Delimiter;
 
 /// No attributes: `#` must not stand next. Attributes that a tree made by hand holds are printed.
-pub(super) static NO_ATTRIBUTES: Form = Form::When(
+static NO_ATTRIBUTES: Form = Form::When(
     Look::Mark(Mark::Pound),
     &Form::Never(Fault::Unexpected),
     &Form::Unshown,
 );
 
 /// A receiver alone, before which no attributes are read.
-pub(super) static RECEIVER: Form = Form::Then(
-    &Form::Rule(Rule::NoAttributes),
-    &Form::Rule(Rule::ReceiverRest),
+static RECEIVER: Form = Form::Then(
+    &Form::Rule(Rule::NO_ATTRIBUTES),
+    &Form::Rule(Rule::RECEIVER_REST),
 );
 
 /// A receiver behind its attributes: `&`, perhaps with a lifetime and `mut`, and `self`; or `self`, perhaps with `mut`
 /// before it and a type behind a colon. No `::` follows the `self`. Behind `&` a second `mut` that a tree made by hand
 /// holds is not printed.
-pub(super) static RECEIVER_REST: Form = Form::When(
+static RECEIVER_REST: Form = Form::When(
     Look::Mark(Mark::And),
-    &Form::Part(Part::ReceiverRest3),
+    &Form::Part(Part::RECEIVER_REST_3),
     &Form::Then(
         &Form::When(
             Look::Word(Word::Mut),
             &Form::Token(Token::Word(Word::Mut)),
             &Form::Empty,
         ),
-        &Form::Part(Part::ReceiverRest2),
+        &Form::Part(Part::RECEIVER_REST_2),
     ),
 );
 
 /// A part of `receiver_rest`.
-pub(super) static RECEIVER_REST_1: Form = Form::Then(
+static RECEIVER_REST_1: Form = Form::Then(
     &Form::When(
         Look::Word(Word::Mut),
         &Form::Token(Token::Word(Word::Mut)),
@@ -61,74 +68,74 @@ pub(super) static RECEIVER_REST_1: Form = Form::Then(
 );
 
 /// A part of `receiver_rest`.
-pub(super) static RECEIVER_REST_2: Form = Form::Then(
+static RECEIVER_REST_2: Form = Form::Then(
     &Form::Token(Token::Word(Word::SelfValue)),
     &Form::When(
         Look::Mark(Mark::PathSep),
         &Form::Never(Fault::Unexpected),
         &Form::When(
             Look::Mark(Mark::Colon),
-            &Form::Then(&Form::Mark(Mark::Colon), &Form::Rule(Rule::Type)),
+            &Form::Then(&Form::Mark(Mark::Colon), &Form::Rule(Rule::TYPE)),
             &Form::Empty,
         ),
     ),
 );
 
 /// A part of `receiver_rest`.
-pub(super) static RECEIVER_REST_3: Form = Form::Then(
+static RECEIVER_REST_3: Form = Form::Then(
     &Form::Mark(Mark::And),
     &Form::Then(
         &Form::When(Look::Lifetime, &Form::Lifetime, &Form::Empty),
-        &Form::Part(Part::ReceiverRest1),
+        &Form::Part(Part::RECEIVER_REST_1),
     ),
 );
 
 /// A parameter of a function: attributes, and a receiver; or a pattern, a colon and a type. Where a name stands before
 /// `<`, the type stands alone, and `_ :` before it counts as read.
-pub(super) static ARGUMENT: Form = Form::Then(
-    &Form::Rule(Rule::Attributes),
+static ARGUMENT: Form = Form::Then(
+    &Form::Rule(Rule::ATTRIBUTES),
     &Form::When(
         Look::Receiver,
-        &Form::Rule(Rule::ReceiverRest),
+        &Form::Rule(Rule::RECEIVER_REST),
         &Form::Supplied(Nameless::Argument),
     ),
 );
 
 /// The parameters of a function, separated by commas; the last comma may stand or not. A receiver stands first only.
-pub(super) static INPUTS: Form = Form::Shaped(
+static INPUTS: Form = Form::Shaped(
     Shape::Parameters,
-    &Form::When(Look::Ended, &Form::Empty, &Form::Part(Part::Inputs1)),
+    &Form::When(Look::Ended, &Form::Empty, &Form::Part(Part::INPUTS_1)),
 );
 
 /// A part of `inputs`.
-pub(super) static INPUTS_1: Form = Form::Then(
-    &Form::Rule(Rule::Attributes),
+static INPUTS_1: Form = Form::Then(
+    &Form::Rule(Rule::ATTRIBUTES),
     &Form::When(
         Look::Receiver,
         &Form::Then(
-            &Form::Rule(Rule::ReceiverRest),
+            &Form::Rule(Rule::RECEIVER_REST),
             &Form::When(
                 Look::Mark(Mark::Comma),
-                &Form::Then(&Form::Mark(Mark::Comma), &Form::Rule(Rule::LaterInputs)),
+                &Form::Then(&Form::Mark(Mark::Comma), &Form::Rule(Rule::LATER_INPUTS)),
                 &Form::Empty,
             ),
         ),
-        &Form::Rule(Rule::InputRest),
+        &Form::Rule(Rule::INPUT_REST),
     ),
 );
 
 /// The parameters behind the first, of which none is a receiver.
-pub(super) static LATER_INPUTS: Form = Form::Shaped(
+static LATER_INPUTS: Form = Form::Shaped(
     Shape::Parameters,
     &Form::When(
         Look::Ended,
         &Form::Empty,
         &Form::Then(
-            &Form::Rule(Rule::Attributes),
+            &Form::Rule(Rule::ATTRIBUTES),
             &Form::When(
                 Look::Receiver,
                 &Form::Never(Fault::Unexpected),
-                &Form::Rule(Rule::InputRest),
+                &Form::Rule(Rule::INPUT_REST),
             ),
         ),
     ),
@@ -137,14 +144,14 @@ pub(super) static LATER_INPUTS: Form = Form::Shaped(
 /// A parameter that is no receiver, behind its attributes, and those that follow: a variadic one, with a pattern and a
 /// colon before it or without them; or a pattern, a colon and a type, and behind a comma the others. Where a name
 /// stands before `<`, the type stands alone, and `_ :` before it counts as read.
-pub(super) static INPUT_REST: Form = Form::When(
+static INPUT_REST: Form = Form::When(
     Look::Mark(Mark::DotDotDot),
-    &Form::Rule(Rule::Variadic),
+    &Form::Rule(Rule::VARIADIC),
     &Form::Supplied(Nameless::Input),
 );
 
 /// `...`, and perhaps a comma, and nothing behind them.
-pub(super) static VARIADIC: Form = Form::Then(
+static VARIADIC: Form = Form::Then(
     &Form::Mark(Mark::DotDotDot),
     &Form::Then(
         &Form::When(
@@ -157,20 +164,20 @@ pub(super) static VARIADIC: Form = Form::Then(
 );
 
 /// An ABI: `extern`, with a string behind it or without one.
-pub(super) static ABI: Form = Form::Then(
+static ABI: Form = Form::Then(
     &Form::Token(Token::Word(Word::Extern)),
     &Form::When(Look::StrLiteral, &Form::Token(Token::Str), &Form::Empty),
 );
 
 /// `unsafe` where it stands next, or nothing.
-pub(super) static UNSAFE_ONLY: Form = Form::When(
+static UNSAFE_ONLY: Form = Form::When(
     Look::Word(Word::Unsafe),
     &Form::Shaped(Shape::Untagged, &Form::Token(Token::Word(Word::Unsafe))),
     &Form::Empty,
 );
 
 /// `safe` or `unsafe` where it stands next, or nothing.
-pub(super) static SAFE_OR_UNSAFE: Form = Form::When(
+static SAFE_OR_UNSAFE: Form = Form::When(
     Look::Or(&Look::Word(Word::Safe), &Look::Word(Word::Unsafe)),
     &Form::Shaped(
         Shape::Untagged,
@@ -184,53 +191,90 @@ pub(super) static SAFE_OR_UNSAFE: Form = Form::When(
 );
 
 /// A signature: `const`, `async`, `unsafe` and an ABI, each of them or not, and what begins with `fn`.
-pub(super) static SIGNATURE: Form = Form::Then(
+static SIGNATURE: Form = Form::Then(
     &Form::When(
         Look::Word(Word::Const),
         &Form::Token(Token::Word(Word::Const)),
         &Form::Empty,
     ),
-    &Form::Part(Part::Signature1),
+    &Form::Part(Part::SIGNATURE_1),
 );
 
 /// A part of `signature`.
-pub(super) static SIGNATURE_1: Form = Form::Then(
+static SIGNATURE_1: Form = Form::Then(
     &Form::When(
         Look::Word(Word::Async),
         &Form::Token(Token::Word(Word::Async)),
         &Form::Empty,
     ),
     &Form::Then(
-        &Form::Rule(Rule::UnsafeOnly),
+        &Form::Rule(Rule::UNSAFE_ONLY),
         &Form::Then(
             &Form::When(
                 Look::Word(Word::Extern),
-                &Form::Rule(Rule::Abi),
+                &Form::Rule(Rule::ABI),
                 &Form::Empty,
             ),
-            &Form::Rule(Rule::SignatureRest),
+            &Form::Rule(Rule::SIGNATURE_REST),
         ),
     ),
 );
 
 /// What follows a signature's modifiers: `fn`, a name, generics, parameters in parentheses, a return type and a where
 /// clause.
-pub(super) static SIGNATURE_REST: Form = Form::Then(
+static SIGNATURE_REST: Form = Form::Then(
     &Form::Token(Token::Word(Word::Fn)),
-    &Form::Part(Part::SignatureRest1),
+    &Form::Part(Part::SIGNATURE_REST_1),
 );
 
 /// A part of `signature_rest`.
-pub(super) static SIGNATURE_REST_1: Form = Form::Then(
+static SIGNATURE_REST_1: Form = Form::Then(
     &Form::Token(Token::Name),
     &Form::Then(
-        &Form::Rule(Rule::Generics),
+        &Form::Rule(Rule::GENERICS),
         &Form::Then(
-            &Form::Inside(Delimiter::Paren, &Form::Rule(Rule::Inputs)),
+            &Form::Inside(Delimiter::Paren, &Form::Rule(Rule::INPUTS)),
             &Form::Then(
-                &Form::Rule(Rule::ReturnType),
-                &Form::Rule(Rule::WhereClause),
+                &Form::Rule(Rule::RETURN_TYPE),
+                &Form::Rule(Rule::WHERE_CLAUSE),
             ),
         ),
     ),
 );
+
+/// The form of the rule at this place.
+#[tactic(auto, using(std::proofs::lemmas::List::get_or_past), unfolding(crate::specs::Names::rule_of, crate::specs::Parts::part_form))]
+pub(super) fn form_at(place: u8) -> &'static Form
+    ensures { parse_form (grammar_of result.now) ≡ parse_form (table (signatures_rule place)) }
+{
+    match place {
+        0 => &NO_ATTRIBUTES,
+        1 => &RECEIVER,
+        2 => &RECEIVER_REST,
+        3 => &ARGUMENT,
+        4 => &INPUTS,
+        5 => &LATER_INPUTS,
+        6 => &INPUT_REST,
+        7 => &VARIADIC,
+        8 => &ABI,
+        9 => &UNSAFE_ONLY,
+        10 => &SAFE_OR_UNSAFE,
+        11 => &SIGNATURE,
+        _ => &SIGNATURE_REST,
+    }
+}
+
+/// The form of the part at this place.
+#[tactic(auto, using(std::proofs::lemmas::List::get_or_past), unfolding(crate::specs::Names::rule_of, crate::specs::Parts::part_form))]
+pub(super) fn part_at(place: u8) -> &'static Form
+    ensures { parse_form (grammar_of result.now) ≡ parse_form (signatures_part place) }
+{
+    match place {
+        0 => &RECEIVER_REST_1,
+        1 => &RECEIVER_REST_2,
+        2 => &RECEIVER_REST_3,
+        3 => &INPUTS_1,
+        4 => &SIGNATURE_1,
+        _ => &SIGNATURE_REST_1,
+    }
+}

@@ -1,6 +1,13 @@
 //! Written by tools/recognizers.py; edits are lost.
 //!
 //! Statements.
+ghost use Rattle.std.specs.Prelude.{◌≡◌};
+ghost use Rattle.syn_grammar.specs.Run.{parse_form};
+ghost use Rattle.syn_grammar.specs.Table.{table};
+ghost use Rattle.syn_recognize.specs.Forms.{grammar_of};
+ghost use Rattle.syn_recognize.specs.Names.{statements_rule};
+ghost use Rattle.syn_recognize.specs.Parts.{statements_part};
+
 use crate::fault::Fault;
 use crate::form::Form;
 use crate::left_out::Place;
@@ -14,36 +21,39 @@ use syn_tokens::delimiter::Delimiter;
 
 /// What may follow the first operand of a statement that begins with a block or a macro in braces: postfixes, casts and
 /// operators of each level.
-pub(super) static OPERAND_REST: Form = Form::Then(
-    &Form::Rule(Rule::Postfixes),
-    &Form::Part(Part::OperandRest2),
+static OPERAND_REST: Form = Form::Then(
+    &Form::Rule(Rule::POSTFIXES),
+    &Form::Part(Part::OPERAND_REST_2),
 );
 
 /// A part of `operand_rest`.
-pub(super) static OPERAND_REST_1: Form = Form::Then(
-    &Form::Rule(Rule::BitXors),
+static OPERAND_REST_1: Form = Form::Then(
+    &Form::Rule(Rule::BIT_XORS),
     &Form::Then(
-        &Form::Rule(Rule::BitOrs),
+        &Form::Rule(Rule::BIT_ORS),
         &Form::Then(
-            &Form::Rule(Rule::Compared),
+            &Form::Rule(Rule::COMPARED),
             &Form::Then(
-                &Form::Rule(Rule::Conjunctions),
-                &Form::Then(&Form::Rule(Rule::Disjunctions), &Form::Rule(Rule::Assigned)),
+                &Form::Rule(Rule::CONJUNCTIONS),
+                &Form::Then(&Form::Rule(Rule::DISJUNCTIONS), &Form::Rule(Rule::ASSIGNED)),
             ),
         ),
     ),
 );
 
 /// A part of `operand_rest`.
-pub(super) static OPERAND_REST_2: Form = Form::Then(
-    &Form::Rule(Rule::Casts),
+static OPERAND_REST_2: Form = Form::Then(
+    &Form::Rule(Rule::CASTS),
     &Form::Then(
-        &Form::Rule(Rule::Products),
+        &Form::Rule(Rule::PRODUCTS),
         &Form::Then(
-            &Form::Rule(Rule::Sums),
+            &Form::Rule(Rule::SUMS),
             &Form::Then(
-                &Form::Rule(Rule::Shifts),
-                &Form::Then(&Form::Rule(Rule::BitAnds), &Form::Part(Part::OperandRest1)),
+                &Form::Rule(Rule::SHIFTS),
+                &Form::Then(
+                    &Form::Rule(Rule::BIT_ANDS),
+                    &Form::Part(Part::OPERAND_REST_1),
+                ),
             ),
         ),
     ),
@@ -51,7 +61,7 @@ pub(super) static OPERAND_REST_2: Form = Form::Then(
 
 /// Statements to the end: none; `;` alone and more; or one, its attributes first, and more. An item that is kept as
 /// tokens is kept with its attributes.
-pub(super) static STATEMENTS: Form = Form::When(
+static STATEMENTS: Form = Form::When(
     Look::Ended,
     &Form::Empty,
     &Form::Shaped(
@@ -60,7 +70,7 @@ pub(super) static STATEMENTS: Form = Form::When(
             Look::Mark(Mark::Semi),
             &Form::Shaped(
                 Shape::Lone,
-                &Form::Then(&Form::Mark(Mark::Semi), &Form::Rule(Rule::Statements)),
+                &Form::Then(&Form::Mark(Mark::Semi), &Form::Rule(Rule::STATEMENTS)),
             ),
             &Form::Shaped(Shape::Listed, &Form::Planned(Planned::Statements)),
         ),
@@ -69,9 +79,9 @@ pub(super) static STATEMENTS: Form = Form::When(
 
 /// A statement that is no item, behind its attributes, and the statements that follow: a macro in braces, a local, a
 /// block or what ends with one, or an expression.
-pub(super) static STATEMENT_REST: Form = Form::When(
+static STATEMENT_REST: Form = Form::When(
     Look::CrateMacro,
-    &Form::Part(Part::StatementRest3),
+    &Form::Part(Part::STATEMENT_REST_3),
     &Form::When(
         Look::BraceMacro,
         &Form::Shaped(
@@ -79,91 +89,94 @@ pub(super) static STATEMENT_REST: Form = Form::When(
             &Form::Then(
                 &Form::Shaped(
                     Shape::Operand(Variant::Macro),
-                    &Form::Rule(Rule::MacroInvocation),
+                    &Form::Rule(Rule::MACRO_INVOCATION),
                 ),
-                &Form::Rule(Rule::AfterBlock),
+                &Form::Rule(Rule::AFTER_BLOCK),
             ),
         ),
-        &Form::Part(Part::StatementRest2),
+        &Form::Part(Part::STATEMENT_REST_2),
     ),
 );
 
 /// A part of `statement_rest`.
-pub(super) static STATEMENT_REST_1: Form = Form::When(
+static STATEMENT_REST_1: Form = Form::When(
     Look::BlockLike,
     &Form::Shaped(
         Shape::Said,
-        &Form::Then(&Form::Rule(Rule::BlockLike), &Form::Rule(Rule::AfterBlock)),
+        &Form::Then(
+            &Form::Rule(Rule::BLOCK_LIKE),
+            &Form::Rule(Rule::AFTER_BLOCK),
+        ),
     ),
     &Form::Shaped(
         Shape::Said,
         &Form::Then(
-            &Form::Rule(Rule::WholeExpression),
-            &Form::Rule(Rule::AfterExpression),
+            &Form::Rule(Rule::WHOLE_EXPRESSION),
+            &Form::Rule(Rule::AFTER_EXPRESSION),
         ),
     ),
 );
 
 /// A part of `statement_rest`.
-pub(super) static STATEMENT_REST_2: Form = Form::When(
+static STATEMENT_REST_2: Form = Form::When(
     Look::Word(Word::Let),
     &Form::Shaped(
         Shape::ALocal,
-        &Form::Then(&Form::Rule(Rule::Local), &Form::Rule(Rule::Statements)),
+        &Form::Then(&Form::Rule(Rule::LOCAL), &Form::Rule(Rule::STATEMENTS)),
     ),
-    &Form::Part(Part::StatementRest1),
+    &Form::Part(Part::STATEMENT_REST_1),
 );
 
 /// A part of `statement_rest`.
-pub(super) static STATEMENT_REST_3: Form = Form::Shaped(
+static STATEMENT_REST_3: Form = Form::Shaped(
     Shape::SaidMacro,
     &Form::Then(
         &Form::Shaped(
             Shape::Operand(Variant::Macro),
-            &Form::Rule(Rule::MacroInvocation),
+            &Form::Rule(Rule::MACRO_INVOCATION),
         ),
         &Form::When(
             Look::PostfixMark,
             &Form::Never(Fault::Unexpected),
-            &Form::Rule(Rule::AfterBlock),
+            &Form::Rule(Rule::AFTER_BLOCK),
         ),
     ),
 );
 
 /// What follows a block or a macro in braces, in a list of statements: `;` and more; what goes on it, and what follows
 /// an expression; or more.
-pub(super) static AFTER_BLOCK: Form = Form::When(
+static AFTER_BLOCK: Form = Form::When(
     Look::Mark(Mark::Semi),
-    &Form::Then(&Form::Mark(Mark::Semi), &Form::Rule(Rule::Statements)),
+    &Form::Then(&Form::Mark(Mark::Semi), &Form::Rule(Rule::STATEMENTS)),
     &Form::When(
         Look::PostfixMark,
         &Form::Then(
-            &Form::Rule(Rule::OperandRest),
-            &Form::Rule(Rule::AfterExpression),
+            &Form::Rule(Rule::OPERAND_REST),
+            &Form::Rule(Rule::AFTER_EXPRESSION),
         ),
-        &Form::Rule(Rule::Statements),
+        &Form::Rule(Rule::STATEMENTS),
     ),
 );
 
 /// What follows an expression, in a list of statements: `;` and more, or the end.
-pub(super) static AFTER_EXPRESSION: Form = Form::When(
+static AFTER_EXPRESSION: Form = Form::When(
     Look::Mark(Mark::Semi),
-    &Form::Then(&Form::Mark(Mark::Semi), &Form::Rule(Rule::Statements)),
+    &Form::Then(&Form::Mark(Mark::Semi), &Form::Rule(Rule::STATEMENTS)),
     &Form::When(Look::Ended, &Form::Empty, &Form::Never(Fault::MissingEnd)),
 );
 
 /// A statement alone: an item, which is kept as tokens with its attributes, or is of a kind; or attributes, and a macro
 /// in braces, a block or what ends with one, with `;` or without it; one of these that goes on, or another expression,
 /// with `;`; or a local.
-pub(super) static STATEMENT: Form = Form::Planned(Planned::Statement);
+static STATEMENT: Form = Form::Planned(Planned::Statement);
 
 /// A macro of `crate` with a group in braces, as a statement alone: a macro, with `;` or without it; but where what
 /// goes on an expression stands next, an item, and that is left.
-pub(super) static CRATE_MACRO: Form = Form::Planned(Planned::CrateMacro);
+static CRATE_MACRO: Form = Form::Planned(Planned::CrateMacro);
 
 /// A macro with a group in braces.
-pub(super) static BRACE_MACRO: Form = Form::Then(
-    &Form::Rule(Rule::ModulePath),
+static BRACE_MACRO: Form = Form::Then(
+    &Form::Rule(Rule::MODULE_PATH),
     &Form::Then(
         &Form::When(
             Look::Bang,
@@ -183,13 +196,13 @@ pub(super) static BRACE_MACRO: Form = Form::Then(
 );
 
 /// What follows a block or a macro in braces, in a statement alone: `;`; what goes on it, and `;`; or nothing.
-pub(super) static STATEMENT_END: Form = Form::When(
+static STATEMENT_END: Form = Form::When(
     Look::Mark(Mark::Semi),
     &Form::MarkElse(Mark::Semi, Fault::MissingSemi),
     &Form::When(
         Look::PostfixMark,
         &Form::Then(
-            &Form::Rule(Rule::OperandRest),
+            &Form::Rule(Rule::OPERAND_REST),
             &Form::MarkElse(Mark::Semi, Fault::MissingSemi),
         ),
         &Form::Empty,
@@ -198,23 +211,23 @@ pub(super) static STATEMENT_END: Form = Form::When(
 
 /// A local: `let`, a pattern with a type behind a colon or without one, `=` and an expression or none, and `;`. Behind
 /// an expression that doesn't end with braces, `else` and a block may stand.
-pub(super) static LOCAL: Form = Form::Then(
+static LOCAL: Form = Form::Then(
     &Form::Token(Token::Word(Word::Let)),
     &Form::Then(
         &Form::Then(
-            &Form::Rule(Rule::Pattern),
+            &Form::Rule(Rule::PATTERN),
             &Form::When(
                 Look::Mark(Mark::Colon),
-                &Form::Then(&Form::Mark(Mark::Colon), &Form::Rule(Rule::Type)),
+                &Form::Then(&Form::Mark(Mark::Colon), &Form::Rule(Rule::TYPE)),
                 &Form::Empty,
             ),
         ),
-        &Form::Part(Part::Local2),
+        &Form::Part(Part::LOCAL_2),
     ),
 );
 
 /// A part of `local`.
-pub(super) static LOCAL_1: Form = Form::Shaped(
+static LOCAL_1: Form = Form::Shaped(
     Shape::Untagged,
     &Form::When(
         Look::Word(Word::Else),
@@ -228,7 +241,7 @@ pub(super) static LOCAL_1: Form = Form::Shaped(
                         &Form::Never(Fault::Unexpected),
                         &Form::Empty,
                     ),
-                    &Form::Rule(Rule::PlainBody),
+                    &Form::Rule(Rule::PLAIN_BODY),
                 ),
             ),
         ),
@@ -237,7 +250,7 @@ pub(super) static LOCAL_1: Form = Form::Shaped(
 );
 
 /// A part of `local`.
-pub(super) static LOCAL_2: Form = Form::Then(
+static LOCAL_2: Form = Form::Then(
     &Form::When(
         Look::Mark(Mark::Eq),
         &Form::Then(
@@ -246,7 +259,7 @@ pub(super) static LOCAL_2: Form = Form::Then(
                 Shape::Untagged,
                 &Form::ByBraces(
                     &Form::Shaped(Shape::Untagged, &Form::Empty),
-                    &Form::Part(Part::Local1),
+                    &Form::Part(Part::LOCAL_1),
                 ),
             ),
         ),
@@ -254,3 +267,38 @@ pub(super) static LOCAL_2: Form = Form::Then(
     ),
     &Form::MarkAt(Mark::Semi, Place::Behind),
 );
+
+/// The form of the rule at this place.
+#[tactic(auto, using(std::proofs::lemmas::List::get_or_past), unfolding(crate::specs::Names::rule_of, crate::specs::Parts::part_form))]
+pub(super) fn form_at(place: u8) -> &'static Form
+    ensures { parse_form (grammar_of result.now) ≡ parse_form (table (statements_rule place)) }
+{
+    match place {
+        0 => &OPERAND_REST,
+        1 => &STATEMENTS,
+        2 => &STATEMENT_REST,
+        3 => &AFTER_BLOCK,
+        4 => &AFTER_EXPRESSION,
+        5 => &STATEMENT,
+        6 => &CRATE_MACRO,
+        7 => &BRACE_MACRO,
+        8 => &STATEMENT_END,
+        _ => &LOCAL,
+    }
+}
+
+/// The form of the part at this place.
+#[tactic(auto, using(std::proofs::lemmas::List::get_or_past), unfolding(crate::specs::Names::rule_of, crate::specs::Parts::part_form))]
+pub(super) fn part_at(place: u8) -> &'static Form
+    ensures { parse_form (grammar_of result.now) ≡ parse_form (statements_part place) }
+{
+    match place {
+        0 => &OPERAND_REST_1,
+        1 => &OPERAND_REST_2,
+        2 => &STATEMENT_REST_1,
+        3 => &STATEMENT_REST_2,
+        4 => &STATEMENT_REST_3,
+        5 => &LOCAL_1,
+        _ => &LOCAL_2,
+    }
+}

@@ -1,6 +1,13 @@
 //! Written by tools/recognizers.py; edits are lost.
 //!
 //! Traits.
+ghost use Rattle.std.specs.Prelude.{◌≡◌};
+ghost use Rattle.syn_grammar.specs.Run.{parse_form};
+ghost use Rattle.syn_grammar.specs.Table.{table};
+ghost use Rattle.syn_recognize.specs.Forms.{grammar_of};
+ghost use Rattle.syn_recognize.specs.Names.{traits_rule};
+ghost use Rattle.syn_recognize.specs.Parts.{traits_part};
+
 use crate::fading::Fading;
 use crate::fault::Fault;
 use crate::form::Form;
@@ -12,14 +19,14 @@ use syn_tokens::delimiter::Delimiter;
 
 /// The bounds of a trait, joined by `+`, up to what ends them at the start or behind a `+`; they may be none, and may
 /// end with `+`.
-pub(super) static SUPERTRAITS: Form = Form::When(
+static SUPERTRAITS: Form = Form::When(
     Look::Or(&Look::Word(Word::Where), &Look::Group(Delimiter::Brace)),
     &Form::Empty,
     &Form::Then(
-        &Form::Rule(Rule::Bound),
+        &Form::Rule(Rule::BOUND),
         &Form::When(
             Look::Mark(Mark::Plus),
-            &Form::Then(&Form::Mark(Mark::Plus), &Form::Rule(Rule::Supertraits)),
+            &Form::Then(&Form::Mark(Mark::Plus), &Form::Rule(Rule::SUPERTRAITS)),
             &Form::Empty,
         ),
     ),
@@ -27,27 +34,27 @@ pub(super) static SUPERTRAITS: Form = Form::When(
 
 /// A trait without what stands before `unsafe`: perhaps `unsafe`, perhaps `auto`, `trait`, a name, generics, bounds
 /// behind a colon, a where clause, and inner attributes and members in braces. Without bounds the colon isn't printed.
-pub(super) static BARE_TRAIT: Form = Form::Then(
+static BARE_TRAIT: Form = Form::Then(
     &Form::When(
         Look::Word(Word::Unsafe),
         &Form::Token(Token::Word(Word::Unsafe)),
         &Form::Empty,
     ),
-    &Form::Part(Part::BareTrait2),
+    &Form::Part(Part::BARE_TRAIT_2),
 );
 
 /// A part of `bare_trait`.
-pub(super) static BARE_TRAIT_1: Form = Form::Then(
-    &Form::Rule(Rule::Generics),
+static BARE_TRAIT_1: Form = Form::Then(
+    &Form::Rule(Rule::GENERICS),
     &Form::Then(
         &Form::Fading(Fading::Supertraits),
         &Form::Then(
-            &Form::Rule(Rule::WhereClause),
+            &Form::Rule(Rule::WHERE_CLAUSE),
             &Form::Inside(
                 Delimiter::Brace,
                 &Form::Then(
-                    &Form::Rule(Rule::InnerAttributes),
-                    &Form::Rule(Rule::TraitItems),
+                    &Form::Rule(Rule::INNER_ATTRIBUTES),
+                    &Form::Rule(Rule::TRAIT_ITEMS),
                 ),
             ),
         ),
@@ -55,7 +62,7 @@ pub(super) static BARE_TRAIT_1: Form = Form::Then(
 );
 
 /// A part of `bare_trait`.
-pub(super) static BARE_TRAIT_2: Form = Form::Then(
+static BARE_TRAIT_2: Form = Form::Then(
     &Form::When(
         Look::Word(Word::Auto),
         &Form::Token(Token::Word(Word::Auto)),
@@ -63,53 +70,53 @@ pub(super) static BARE_TRAIT_2: Form = Form::Then(
     ),
     &Form::Then(
         &Form::Token(Token::Word(Word::Trait)),
-        &Form::Then(&Form::Token(Token::Name), &Form::Part(Part::BareTrait1)),
+        &Form::Then(&Form::Token(Token::Name), &Form::Part(Part::BARE_TRAIT_1)),
     ),
 );
 
 /// A trait: attributes, and what stands behind them.
-pub(super) static TRAIT_DEFINITION: Form = Form::Then(
-    &Form::Rule(Rule::Attributes),
-    &Form::Rule(Rule::TraitDefinitionRest),
+static TRAIT_DEFINITION: Form = Form::Then(
+    &Form::Rule(Rule::ATTRIBUTES),
+    &Form::Rule(Rule::TRAIT_DEFINITION_REST),
 );
 
 /// A trait behind its attributes: a visibility, perhaps `const`, and the trait.
-pub(super) static TRAIT_DEFINITION_REST: Form = Form::Then(
-    &Form::Rule(Rule::Visibility),
+static TRAIT_DEFINITION_REST: Form = Form::Then(
+    &Form::Rule(Rule::VISIBILITY),
     &Form::Then(
         &Form::When(
             Look::Word(Word::Const),
             &Form::Token(Token::Word(Word::Const)),
             &Form::Empty,
         ),
-        &Form::Rule(Rule::BareTrait),
+        &Form::Rule(Rule::BARE_TRAIT),
     ),
 );
 
 /// A trait alias with `const`, which is kept as tokens, behind its attributes: a visibility, `const`, and the alias.
-pub(super) static CONST_ALIAS: Form = Form::Then(
-    &Form::Rule(Rule::Visibility),
+static CONST_ALIAS: Form = Form::Then(
+    &Form::Rule(Rule::VISIBILITY),
     &Form::Then(
         &Form::Token(Token::Word(Word::Const)),
-        &Form::Rule(Rule::Alias),
+        &Form::Rule(Rule::ALIAS),
     ),
 );
 
 /// A trait with a restriction, which is kept as tokens, behind its attributes: a visibility, `impl`, the restriction in
 /// parentheses, perhaps `const`, and the trait.
-pub(super) static RESTRICTED_TRAIT: Form = Form::Then(
-    &Form::Rule(Rule::Visibility),
+static RESTRICTED_TRAIT: Form = Form::Then(
+    &Form::Rule(Rule::VISIBILITY),
     &Form::Then(
         &Form::Token(Token::Word(Word::Impl)),
-        &Form::Part(Part::RestrictedTrait1),
+        &Form::Part(Part::RESTRICTED_TRAIT_1),
     ),
 );
 
 /// A part of `restricted_trait`.
-pub(super) static RESTRICTED_TRAIT_1: Form = Form::Then(
+static RESTRICTED_TRAIT_1: Form = Form::Then(
     &Form::When(
         Look::Restriction,
-        &Form::Inside(Delimiter::Paren, &Form::Rule(Rule::Restriction)),
+        &Form::Inside(Delimiter::Paren, &Form::Rule(Rule::RESTRICTION)),
         &Form::Never(Fault::Unexpected),
     ),
     &Form::Then(
@@ -118,6 +125,33 @@ pub(super) static RESTRICTED_TRAIT_1: Form = Form::Then(
             &Form::Token(Token::Word(Word::Const)),
             &Form::Empty,
         ),
-        &Form::Rule(Rule::BareTrait),
+        &Form::Rule(Rule::BARE_TRAIT),
     ),
 );
+
+/// The form of the rule at this place.
+#[tactic(auto, using(std::proofs::lemmas::List::get_or_past), unfolding(crate::specs::Names::rule_of, crate::specs::Parts::part_form))]
+pub(super) fn form_at(place: u8) -> &'static Form
+    ensures { parse_form (grammar_of result.now) ≡ parse_form (table (traits_rule place)) }
+{
+    match place {
+        0 => &SUPERTRAITS,
+        1 => &BARE_TRAIT,
+        2 => &TRAIT_DEFINITION,
+        3 => &TRAIT_DEFINITION_REST,
+        4 => &CONST_ALIAS,
+        _ => &RESTRICTED_TRAIT,
+    }
+}
+
+/// The form of the part at this place.
+#[tactic(auto, using(std::proofs::lemmas::List::get_or_past), unfolding(crate::specs::Names::rule_of, crate::specs::Parts::part_form))]
+pub(super) fn part_at(place: u8) -> &'static Form
+    ensures { parse_form (grammar_of result.now) ≡ parse_form (traits_part place) }
+{
+    match place {
+        0 => &BARE_TRAIT_1,
+        1 => &BARE_TRAIT_2,
+        _ => &RESTRICTED_TRAIT_1,
+    }
+}

@@ -1,6 +1,13 @@
 //! Written by tools/recognizers.py; edits are lost.
 //!
 //! Paths in types, and types.
+ghost use Rattle.std.specs.Prelude.{◌≡◌};
+ghost use Rattle.syn_grammar.specs.Run.{parse_form};
+ghost use Rattle.syn_grammar.specs.Table.{table};
+ghost use Rattle.syn_recognize.specs.Forms.{grammar_of};
+ghost use Rattle.syn_recognize.specs.Names.{types_rule};
+ghost use Rattle.syn_recognize.specs.Parts.{types_part};
+
 use crate::fault::Fault;
 use crate::form::Form;
 use crate::left_out::Place;
@@ -13,95 +20,101 @@ use crate::words::{Mark, Word};
 use syn_tokens::delimiter::Delimiter;
 
 /// A path in a type: `::` where it stands next, and then its words with their arguments.
-pub(super) static TYPE_PATH: Form = Form::Then(
+static TYPE_PATH: Form = Form::Then(
     &Form::When(
         Look::Mark(Mark::PathSep),
         &Form::Mark(Mark::PathSep),
         &Form::Empty,
     ),
-    &Form::Rule(Rule::TypeWords),
+    &Form::Rule(Rule::TYPE_WORDS),
 );
 
 /// The words of a path in a type: each an identifier that isn't a keyword, or `Self`, with its arguments where they
 /// stand next; or `self`, `super` or `crate`; and where `::` stands next, that mark and more words.
-pub(super) static TYPE_WORDS: Form = Form::Then(
+static TYPE_WORDS: Form = Form::Then(
     &Form::Shaped(
         Shape::Untagged,
         &Form::When(
             Look::Or(&Look::Name, &Look::Word(Word::SelfType)),
-            &Form::Part(Part::TypeWords1),
+            &Form::Part(Part::TYPE_WORDS_1),
             &Form::Then(
                 &Form::TokenAt(Token::NameOrPathStart, Place::Type),
                 &Form::Shaped(Shape::Untagged, &Form::Empty),
             ),
         ),
     ),
-    &Form::Part(Part::TypeWords2),
+    &Form::Part(Part::TYPE_WORDS_2),
 );
 
 /// A part of `type_words`.
-pub(super) static TYPE_WORDS_1: Form = Form::Then(
+static TYPE_WORDS_1: Form = Form::Then(
     &Form::Token(Token::NameOrSelfType),
     &Form::Shaped(
         Shape::Untagged,
         &Form::When(
             Look::Arguments,
-            &Form::Rule(Rule::TypeArguments),
+            &Form::Rule(Rule::TYPE_ARGUMENTS),
             &Form::Empty,
         ),
     ),
 );
 
 /// A part of `type_words`.
-pub(super) static TYPE_WORDS_2: Form = Form::When(
+static TYPE_WORDS_2: Form = Form::When(
     Look::Mark(Mark::PathSep),
-    &Form::Then(&Form::Mark(Mark::PathSep), &Form::Rule(Rule::MoreTypeWords)),
+    &Form::Then(
+        &Form::Mark(Mark::PathSep),
+        &Form::Rule(Rule::MORE_TYPE_WORDS),
+    ),
     &Form::Empty,
 );
 
 /// The words of a path in a type behind `::`, which are read as its first ones.
-pub(super) static MORE_TYPE_WORDS: Form = Form::Then(
+static MORE_TYPE_WORDS: Form = Form::Then(
     &Form::Shaped(
         Shape::Untagged,
         &Form::When(
             Look::Or(&Look::Name, &Look::Word(Word::SelfType)),
-            &Form::Part(Part::MoreTypeWords1),
+            &Form::Part(Part::MORE_TYPE_WORDS_1),
             &Form::Then(
                 &Form::TokenAt(Token::NameOrPathStart, Place::Type),
                 &Form::Shaped(Shape::Untagged, &Form::Empty),
             ),
         ),
     ),
-    &Form::Part(Part::MoreTypeWords2),
+    &Form::Part(Part::MORE_TYPE_WORDS_2),
 );
 
 /// A part of `more_type_words`.
-pub(super) static MORE_TYPE_WORDS_1: Form = Form::Then(
+static MORE_TYPE_WORDS_1: Form = Form::Then(
     &Form::Token(Token::NameOrSelfType),
     &Form::Shaped(
         Shape::Untagged,
         &Form::When(
             Look::Arguments,
-            &Form::Rule(Rule::TypeArguments),
+            &Form::Rule(Rule::TYPE_ARGUMENTS),
             &Form::Empty,
         ),
     ),
 );
 
 /// A part of `more_type_words`.
-pub(super) static MORE_TYPE_WORDS_2: Form = Form::When(
+static MORE_TYPE_WORDS_2: Form = Form::When(
     Look::Mark(Mark::PathSep),
-    &Form::Then(&Form::Mark(Mark::PathSep), &Form::Rule(Rule::MoreTypeWords)),
+    &Form::Then(
+        &Form::Mark(Mark::PathSep),
+        &Form::Rule(Rule::MORE_TYPE_WORDS),
+    ),
     &Form::Empty,
 );
 
 /// The arguments of a word in a type's path: types in parentheses and a return type; or generic arguments in `< >`,
 /// with `::` before them or without it. (A path asks for them only where they stand next.)
-pub(super) static TYPE_ARGUMENTS: Form = Form::When(
+static TYPE_ARGUMENTS: Form = Form::When(
     Look::Group(Delimiter::Paren),
     &Form::Then(
-        &Form::Inside(Delimiter::Paren, &Form::Rule(Rule::Types)),
-        &Form::Rule(Rule::ReturnType),
+        &Form::Inside(Delimiter::Paren, &Form::Rule(Rule::TYPES)),
+        &Form::Rule(Rule::RETURN_TYPE),
     ),
     &Form::Then(
         &Form::When(
@@ -109,27 +122,27 @@ pub(super) static TYPE_ARGUMENTS: Form = Form::When(
             &Form::Mark(Mark::PathSep),
             &Form::Empty,
         ),
-        &Form::Rule(Rule::GenericArguments),
+        &Form::Rule(Rule::GENERIC_ARGUMENTS),
     ),
 );
 
 /// A return type: `->` and a type, or nothing.
-pub(super) static RETURN_TYPE: Form = Form::When(
+static RETURN_TYPE: Form = Form::When(
     Look::Mark(Mark::RArrow),
-    &Form::Then(&Form::Mark(Mark::RArrow), &Form::Rule(Rule::Type)),
+    &Form::Then(&Form::Mark(Mark::RArrow), &Form::Rule(Rule::TYPE)),
     &Form::Empty,
 );
 
 /// Generic arguments in `< >`: lifetimes and others in any order, separated by commas; the last comma may stand or not.
 /// Lifetimes are printed first.
-pub(super) static GENERIC_ARGUMENTS: Form = Form::Ordered(List::Arguments);
+static GENERIC_ARGUMENTS: Form = Form::Ordered(List::Arguments);
 
 /// A generic argument that isn't a lifetime: a name, `=` and a type, where `=` follows the name; a constant; or a type.
-pub(super) static GENERIC_ARGUMENT: Form = Form::When(
+static GENERIC_ARGUMENT: Form = Form::When(
     Look::Association,
     &Form::Then(
         &Form::Token(Token::Name),
-        &Form::Then(&Form::Mark(Mark::Eq), &Form::Rule(Rule::Type)),
+        &Form::Then(&Form::Mark(Mark::Eq), &Form::Rule(Rule::TYPE)),
     ),
     &Form::When(
         Look::Or(
@@ -139,47 +152,47 @@ pub(super) static GENERIC_ARGUMENT: Form = Form::When(
                 &Look::Or(&Look::Word(Word::False), &Look::AnyLiteral),
             ),
         ),
-        &Form::Rule(Rule::Constant),
-        &Form::Rule(Rule::Type),
+        &Form::Rule(Rule::CONSTANT),
+        &Form::Rule(Rule::TYPE),
     ),
 );
 
 /// A qualified path in a type: a type in `< >`, with `as` and a path behind it or without them; then `::` and words. An
 /// `as` that a tree made by hand holds without a path is not printed.
-pub(super) static QUALIFIED_PATH: Form = Form::Then(
+static QUALIFIED_PATH: Form = Form::Then(
     &Form::Mark(Mark::Lt),
-    &Form::Then(&Form::Rule(Rule::Type), &Form::Part(Part::QualifiedPath1)),
+    &Form::Then(&Form::Rule(Rule::TYPE), &Form::Part(Part::QUALIFIED_PATH_1)),
 );
 
 /// A part of `qualified_path`.
-pub(super) static QUALIFIED_PATH_1: Form = Form::Then(
+static QUALIFIED_PATH_1: Form = Form::Then(
     &Form::When(
         Look::Word(Word::As),
         &Form::Then(
             &Form::Token(Token::Word(Word::As)),
-            &Form::Rule(Rule::TypePath),
+            &Form::Rule(Rule::TYPE_PATH),
         ),
         &Form::Unshown,
     ),
     &Form::Then(
         &Form::Mark(Mark::Gt),
-        &Form::Then(&Form::Mark(Mark::PathSep), &Form::Rule(Rule::TypeWords)),
+        &Form::Then(&Form::Mark(Mark::PathSep), &Form::Rule(Rule::TYPE_WORDS)),
     ),
 );
 
 /// A path as a type: a qualified path where `<` stands next, or a path.
-pub(super) static PATH_AS_TYPE: Form = Form::When(
+static PATH_AS_TYPE: Form = Form::When(
     Look::Mark(Mark::Lt),
-    &Form::Rule(Rule::QualifiedPath),
-    &Form::Rule(Rule::TypePath),
+    &Form::Rule(Rule::QUALIFIED_PATH),
+    &Form::Rule(Rule::TYPE_PATH),
 );
 
 /// A type: a reference, perhaps with a lifetime and `mut`; a pointer, `const` or `mut`; a tuple or a type in
 /// parentheses; a slice, or an array with an expression as its length; the never type; an invisible group that holds a
 /// type; or a path, qualified or not.
-pub(super) static TYPE: Form = Form::When(
+static TYPE: Form = Form::When(
     Look::Mark(Mark::And),
-    &Form::Part(Part::Type3),
+    &Form::Part(Part::TYPE_3),
     &Form::When(
         Look::Mark(Mark::Star),
         &Form::Then(
@@ -190,47 +203,47 @@ pub(super) static TYPE: Form = Form::When(
                     &Form::Token(Token::Word(Word::Const)),
                     &Form::Token(Token::Word(Word::Mut)),
                 ),
-                &Form::Rule(Rule::Type),
+                &Form::Rule(Rule::TYPE),
             ),
         ),
-        &Form::Part(Part::Type2),
+        &Form::Part(Part::TYPE_2),
     ),
 );
 
 /// A part of `type`.
-pub(super) static TYPE_1: Form = Form::Inside(
+static TYPE_1: Form = Form::Inside(
     Delimiter::Bracket,
     &Form::Then(
-        &Form::Rule(Rule::Type),
+        &Form::Rule(Rule::TYPE),
         &Form::When(
             Look::Mark(Mark::Semi),
-            &Form::Then(&Form::Mark(Mark::Semi), &Form::Rule(Rule::WholeExpression)),
+            &Form::Then(&Form::Mark(Mark::Semi), &Form::Rule(Rule::WHOLE_EXPRESSION)),
             &Form::Empty,
         ),
     ),
 );
 
 /// A part of `type`.
-pub(super) static TYPE_2: Form = Form::When(
+static TYPE_2: Form = Form::When(
     Look::Group(Delimiter::Paren),
-    &Form::Inside(Delimiter::Paren, &Form::Rule(Rule::Types)),
+    &Form::Inside(Delimiter::Paren, &Form::Rule(Rule::TYPES)),
     &Form::When(
         Look::Group(Delimiter::Bracket),
-        &Form::Part(Part::Type1),
+        &Form::Part(Part::TYPE_1),
         &Form::When(
             Look::Mark(Mark::Not),
             &Form::Mark(Mark::Not),
             &Form::When(
                 Look::Group(Delimiter::None),
-                &Form::Inside(Delimiter::None, &Form::Rule(Rule::Type)),
-                &Form::Rule(Rule::PathAsType),
+                &Form::Inside(Delimiter::None, &Form::Rule(Rule::TYPE)),
+                &Form::Rule(Rule::PATH_AS_TYPE),
             ),
         ),
     ),
 );
 
 /// A part of `type`.
-pub(super) static TYPE_3: Form = Form::Then(
+static TYPE_3: Form = Form::Then(
     &Form::Mark(Mark::And),
     &Form::Then(
         &Form::When(Look::Lifetime, &Form::Lifetime, &Form::Empty),
@@ -240,20 +253,20 @@ pub(super) static TYPE_3: Form = Form::Then(
                 &Form::Token(Token::Word(Word::Mut)),
                 &Form::Empty,
             ),
-            &Form::Rule(Rule::Type),
+            &Form::Rule(Rule::TYPE),
         ),
     ),
 );
 
 /// Types, separated by commas; the last comma may stand or not.
-pub(super) static TYPES: Form = Form::When(
+static TYPES: Form = Form::When(
     Look::Ended,
     &Form::Empty,
     &Form::Then(
-        &Form::Rule(Rule::Type),
+        &Form::Rule(Rule::TYPE),
         &Form::When(
             Look::Mark(Mark::Comma),
-            &Form::Then(&Form::Mark(Mark::Comma), &Form::Rule(Rule::Types)),
+            &Form::Then(&Form::Mark(Mark::Comma), &Form::Rule(Rule::TYPES)),
             &Form::Empty,
         ),
     ),
@@ -261,7 +274,7 @@ pub(super) static TYPES: Form = Form::When(
 
 /// A constant: a block, a literal, `true` or `false`. As a value it is an expression, and no attributes are read before
 /// it.
-pub(super) static CONSTANT: Form = Form::Shaped(
+static CONSTANT: Form = Form::Shaped(
     Shape::Choice,
     &Form::When(
         Look::Group(Delimiter::Brace),
@@ -273,15 +286,15 @@ pub(super) static CONSTANT: Form = Form::Shaped(
                     &Form::Never(Fault::Unexpected),
                     &Form::Empty,
                 ),
-                &Form::Rule(Rule::PlainBody),
+                &Form::Rule(Rule::PLAIN_BODY),
             ),
         ),
-        &Form::Part(Part::Constant1),
+        &Form::Part(Part::CONSTANT_1),
     ),
 );
 
 /// A part of `constant`.
-pub(super) static CONSTANT_1: Form = Form::When(
+static CONSTANT_1: Form = Form::When(
     Look::Word(Word::True),
     &Form::Shaped(
         Shape::Operand(Variant::Lit),
@@ -296,3 +309,42 @@ pub(super) static CONSTANT_1: Form = Form::When(
         &Form::Shaped(Shape::Operand(Variant::Lit), &Form::Token(Token::Literal)),
     ),
 );
+
+/// The form of the rule at this place.
+#[tactic(auto, using(std::proofs::lemmas::List::get_or_past), unfolding(crate::specs::Names::rule_of, crate::specs::Parts::part_form))]
+pub(super) fn form_at(place: u8) -> &'static Form
+    ensures { parse_form (grammar_of result.now) ≡ parse_form (table (types_rule place)) }
+{
+    match place {
+        0 => &TYPE_PATH,
+        1 => &TYPE_WORDS,
+        2 => &MORE_TYPE_WORDS,
+        3 => &TYPE_ARGUMENTS,
+        4 => &RETURN_TYPE,
+        5 => &GENERIC_ARGUMENTS,
+        6 => &GENERIC_ARGUMENT,
+        7 => &QUALIFIED_PATH,
+        8 => &PATH_AS_TYPE,
+        9 => &TYPE,
+        10 => &TYPES,
+        _ => &CONSTANT,
+    }
+}
+
+/// The form of the part at this place.
+#[tactic(auto, using(std::proofs::lemmas::List::get_or_past), unfolding(crate::specs::Names::rule_of, crate::specs::Parts::part_form))]
+pub(super) fn part_at(place: u8) -> &'static Form
+    ensures { parse_form (grammar_of result.now) ≡ parse_form (types_part place) }
+{
+    match place {
+        0 => &TYPE_WORDS_1,
+        1 => &TYPE_WORDS_2,
+        2 => &MORE_TYPE_WORDS_1,
+        3 => &MORE_TYPE_WORDS_2,
+        4 => &QUALIFIED_PATH_1,
+        5 => &TYPE_1,
+        6 => &TYPE_2,
+        7 => &TYPE_3,
+        _ => &CONSTANT_1,
+    }
+}

@@ -1,6 +1,12 @@
 //! Written by tools/recognizers.py; edits are lost.
 //!
 //! Visibilities.
+ghost use Rattle.std.specs.Prelude.{◌≡◌};
+ghost use Rattle.syn_grammar.specs.Run.{parse_form};
+ghost use Rattle.syn_grammar.specs.Table.{table};
+ghost use Rattle.syn_recognize.specs.Forms.{grammar_of};
+ghost use Rattle.syn_recognize.specs.Names.{visibilities_rule};
+
 use crate::form::Form;
 use crate::look::Look;
 use crate::rules::Rule;
@@ -11,13 +17,13 @@ use syn_tokens::delimiter::Delimiter;
 /// A visibility: `pub` with its restriction in parentheses, `pub` alone, or nothing. Parentheses belong to it where
 /// they hold `crate`, `self` or `super` alone, or begin with `in`; then they must hold a restriction. Any others are
 /// left. An invisible group without content stands for one that isn't written, and is never printed.
-pub(super) static VISIBILITY: Form = Form::When(
+static VISIBILITY: Form = Form::When(
     Look::Word(Word::Pub),
     &Form::Then(
         &Form::Token(Token::Word(Word::Pub)),
         &Form::When(
             Look::Restriction,
-            &Form::Inside(Delimiter::Paren, &Form::Rule(Rule::Restriction)),
+            &Form::Inside(Delimiter::Paren, &Form::Rule(Rule::RESTRICTION)),
             &Form::Empty,
         ),
     ),
@@ -29,11 +35,22 @@ pub(super) static VISIBILITY: Form = Form::When(
 
 /// What the parentheses of a visibility hold: `in` where it stands next, and a path in module style. (A visibility asks
 /// for it only before `in`, or where `crate`, `self` or `super` stands alone.)
-pub(super) static RESTRICTION: Form = Form::Then(
+static RESTRICTION: Form = Form::Then(
     &Form::When(
         Look::Word(Word::In),
         &Form::Token(Token::Word(Word::In)),
         &Form::Empty,
     ),
-    &Form::Rule(Rule::ModulePath),
+    &Form::Rule(Rule::MODULE_PATH),
 );
+
+/// The form of the rule at this place.
+#[tactic(auto, using(std::proofs::lemmas::List::get_or_past), unfolding(crate::specs::Names::rule_of, crate::specs::Parts::part_form))]
+pub(super) fn form_at(place: u8) -> &'static Form
+    ensures { parse_form (grammar_of result.now) ≡ parse_form (table (visibilities_rule place)) }
+{
+    match place {
+        0 => &VISIBILITY,
+        _ => &RESTRICTION,
+    }
+}

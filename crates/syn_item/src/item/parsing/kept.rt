@@ -44,11 +44,12 @@ pub(super) fn type_or_kept(begun: Begun, input: &mut ParseBuffer<'_>) -> Parsed<
 
 /// Whether `=` stands behind the where clause that stands next, if one does. The clause is read by the recognizer, which makes no tree.
 /// Refused only where memory is.
+#[tactic(auto, unfolding(syn_recognize::specs::Names::rule_of))]
 fn is_alias(input: &ParseBuffer<'_>) -> Parsed<bool>
     ensures { OrMemory IsSyntax result (λ answer. answer ≡ equals_ahead (parse_rule rules.where_clause input.now)) }
 {
     let mut ahead = input.fork();
-    match read_by(Rule::WhereClause, &mut ahead) {
+    match read_by(Rule::WHERE_CLAUSE, &mut ahead) {
         Ok(()) => Ok(ahead.peek::<Eq>()),
         Err(Refusal::Memory(at)) => Err(Refusal::Memory(at)),
         Err(Refusal::Syntax { .. }) => Ok(true),
@@ -116,10 +117,11 @@ fn is_rooted_group(input: &ParseBuffer<'_>) -> Parsed<bool>
 
 /// Whether a use stands next that isn't kept as its tokens. It is read by the recognizer, which makes no tree. Refused only where memory
 /// is.
+#[tactic(auto, unfolding(syn_recognize::specs::Names::rule_of))]
 fn is_use(input: &ParseBuffer<'_>) -> Parsed<bool>
     ensures { OrMemory IsSyntax result (λ answer. IsRead answer (parse_rule rules.use_item_rest input.now)) }
 {
-    match read_by(Rule::UseItemRest, &mut input.fork()) {
+    match read_by(Rule::USE_ITEM_REST, &mut input.fork()) {
         Ok(()) => Ok(true),
         Err(Refusal::Memory(at)) => Err(Refusal::Memory(at)),
         Err(Refusal::Syntax { .. }) => Ok(false),

@@ -13,6 +13,7 @@ use Rattle.syn_recognize.proofs.Todo.{push}
 use Rattle.syn_recognize.proofs.supplied.read_supplied.Goals as goal
 
 pub returns-then-at_unnamed : goal.returns-then-at_unnamed
+unfolding Rattle.syn_recognize.specs.Names.rule_of Rattle.syn_recognize.specs.Parts.part_form
 returns-then-at_unnamed c =
     let l = c.args.steps.now.items in
     let w = c.args.out.now in
@@ -24,6 +25,7 @@ returns-then-at_unnamed c =
     ap (todo l) (without_name c.args.nameless w v ts h written ∙ ap (λ g. copy_form g v ts) (sym c.typed.ensures)) ∙ pushed
 
 pub returns : goal.returns
+unfolding Rattle.syn_recognize.specs.Names.rule_of Rattle.syn_recognize.specs.Parts.part_form
 returns c =
     let l = c.args.steps.now.items in
     let w = c.args.out.now in

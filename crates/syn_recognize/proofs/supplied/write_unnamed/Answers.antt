@@ -9,6 +9,7 @@ use Rattle.syn_recognize.proofs.SuppliedNames.{unnamed_stands}
 use Rattle.syn_recognize.proofs.supplied.write_unnamed.Goals as goal
 
 pub returns : goal.returns
+unfolding Rattle.syn_recognize.specs.Names.rule_of Rattle.syn_recognize.specs.Parts.part_form
 returns c =
     let s = c.span-span.result in
     let h : sees (at_unnamed Before_less) c.args.input.now ≡ true = search rules in
