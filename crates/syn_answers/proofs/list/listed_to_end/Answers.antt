@@ -2,12 +2,15 @@ use Rattle.syn_grammar.specs.Promises.{Refused}
 use Rattle.syn_grammar.specs.Rules.{file}
 use Rattle.syn_answers.proofs.Listing.{begun, unbegun, gone_on, refused, same_err}
 use Rattle.syn_answers.proofs.list.listed_to_end.Goals as goal
+use Rattle.syn_recognize.specs.Names as names
 
 pub returns-in_err-read_by-clause-refused : goal.returns-in_err-read_by-clause-refused
+unfolding names.rule_of
 returns-in_err-read_by-clause-refused c =
     same_err c.from_residual.result c.in_err-read_by.field-0.0 (Refused file c.args.tokens.now) c.from_residual.ensures.1 (λ s. unbegun c.args.tokens.now c.new-input.result c.new-input.ensures (c.in_err-read_by.ensures.reads s))
 
 pub items-init : goal.items-init
+unfolding names.rule_of
 items-init c = begun c.args.tokens.now c.new-input.result _ c.new-list.result.items c.new-input.ensures c.new-list.ensures.items c.in_ok-read_by.ensures.reads
 
 pub returns-in_err-item-clause-refused : goal.returns-in_err-item-clause-refused
