@@ -208,7 +208,7 @@ const_impl_plan unwritten a c u =
 const_impl_plan plain a c u =
     impl_plan a absent c u
 
--- After an optional `unsafe` (in two forms: for a foreign module and for a signature) and `extern`: an optional literal, then a foreign module, if there is no visibility, or a function.
+-- After an optional `unsafe` (in two forms: of a foreign module and of a signature) and `extern`: an optional literal, and a foreign module or a function.
 unfoldable pub extern_plan : Place → Syntax → Syntax → Syntax → Syntax → Syntax → Plan
 extern_plan plain a v m u e =
     reads (when at_literal Str then plainly (literal_of (Str ∷ [])) else empty) λ l.

@@ -18,7 +18,7 @@ member_of k l = Node (Case k (parts l))
 abbrev pub no_clause : Syntax
 no_clause = Node (Vanishing false absent)
 
--- After `const` a function continues: the rest of a signature begins with `async`, `unsafe`, `extern` or `fn`.
+-- The next token continues a signature after `const`: `async`, `unsafe`, `extern` or `fn`.
 abbrev pub at_function : Look
 at_function = at_word w_async or_else at_word w_unsafe or_else at_extern or_else at_word w_fn
 
