@@ -89,7 +89,7 @@ one_said said k (l ∷ ks) e w = go (or_split (same_rule k l) (among k ks) e) (o
     go (inl q) ih = ap said (same_rule_eq k l q) ∙ and_left (said l) _ w
     go (inr q) ih = ih q (and_right (said l) _ w)
 
--- a look that asks for no fact asks for the terminal alone
+-- a look that tests no fact tests the terminal alone
 pub by_terminal : (c : Look) (a b : Lookahead) → asks_fact c ≡ false → a.terminal ≡ b.terminal → answers c a ≡ answers c b
 by_terminal ended a b w e = ap is_ended e
 by_terminal at_name a b w e = ap is_name e

@@ -24,7 +24,7 @@ abbrev pub rest : Grammar → Grammar
 rest (a & k) = k
 rest g = g
 
--- both end with the same rule: no list is read by what stands before it, in both
+-- both end with the same rule, and the part before it reads no list in either
 abbrev pub trailed : Grammar → Grammar → Bool
 trailed (a & rule j) (b & rule k) = same_rule j k
 trailed _ _ = false

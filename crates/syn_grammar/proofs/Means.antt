@@ -104,7 +104,7 @@ comma_is m r s (x ∷ []) q e h =
     (h.0, h.1 ∙ ap₂ (λ n p. punct n h.0 p r) a (sym b))
 comma_is m r s (x ∷ y ∷ l) q e h = absurd (cc e)
 
--- a comma is seen where one stands
+-- a comma is seen where there is one
 comma_seen : (j : Bool) (f : Terminal) → starts_mark comma (char_terminal 44 j f) ≡ true
 comma_seen false f = refl
 comma_seen true (Punctuation l) = refl

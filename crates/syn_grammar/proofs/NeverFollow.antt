@@ -1,4 +1,4 @@
--- Conditions that what stands behind a form never meets.
+-- Conditions that never hold of what follows a form.
 use Rattle.std.proofs.Common.{◌≡◌, Bool, true, false, List, [], ◌∷◌, refl, sym, true≢false, subst, ◌⊎◌, inl, inr}
 use Rattle.syn_grammar.specs.Tokens.{Stream, Look, Lookahead, lookahead, pick}
 use Rattle.syn_grammar.specs.Rules.{Rule}

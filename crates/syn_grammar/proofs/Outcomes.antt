@@ -79,7 +79,7 @@ abbrev rest_or : Out → Stream → Stream
 rest_or (Some p) r = p.1
 rest_or None r = r
 
--- equal answers are equal in both parts
+-- equal results are equal in both parts
 both_same : (a c : Syntax) (b d : Stream) → ◌≡◌ {A = Out} (Some (a, b)) (Some (c, d)) → (a ≡ c) × (b ≡ d)
 both_same a c b d e = (ap (λ o. tree_or o a) e, ap (λ o. rest_or o b) e)
 

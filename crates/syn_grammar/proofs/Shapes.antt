@@ -214,7 +214,7 @@ module _ {M : Type 0} {op : M → M → M} {m : Syntax → M} (law : IsSum M op 
   untag_sum (Right s) = law.shaped untagged s ∙ sym (law.right s)
   untag_sum s = law.shaped untagged s
 
-  -- lists with something behind them
+  -- lists with something after them
   no_members_sum : m no_members ≡ m Nothing
   no_members_sum = law.node (Left Nothing) ∙ law.left Nothing
 

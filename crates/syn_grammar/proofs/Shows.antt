@@ -76,7 +76,7 @@ shown_alone k ts s r w e R =
 pub show_is_read : ShowIsRead
 show_is_read k w ts s e = shown_alone k ts s end w e (at_end (shown_summary_of false k) (full_ends k))
 
--- ---- before the end, whatever stood behind
+-- ---- before the end, whatever followed
 abbrev no_looks : List Look → Bool
 no_looks [] = true
 no_looks (c ∷ A) = false
@@ -85,7 +85,7 @@ none_agree : (A : List Look) (a b : Lookahead) → no_looks A ≡ true → Agree
 none_agree [] a b e = tt
 none_agree (c ∷ A) a b e = absurd (true≢false (sym e))
 
--- a form with this summary asks nothing of what follows that the end might answer otherwise
+-- a form with this summary tests nothing of what follows that might differ at the end
 abbrev cut_well : Summary → Bool
 cut_well p = and (no_looks p.ends) (and (clear p.halts Ended) (clear p.shuns Ended))
 
@@ -130,7 +130,7 @@ show_stands_alone k w ts s r e = go (or_split (cut_well (shown_summary_of false 
     go (inr v) = shown_cut k ts s r (and_left (reads_shown k) _ (cut_holds k w)) v e
 
 -- ---- and before a mark
--- a form with this summary stands before the end as before this mark
+-- a form with this summary reads the same before the end as before this mark
 abbrev ends_as : Summary → Text → Bool
 ends_as p m = and (known_mark m) (every (λ f. keeps p (move f Ended [])) (mark_first_set m))
 

@@ -46,7 +46,7 @@ lookahead_like (punct c j sp m) (punct c' j' sp' m') h =
 lookahead_like (group d o c i m) (group d' o' c' i' m') h = ap₂ group_lookahead h.0 (lookahead_like i i' h.1)
 lookahead_like _ _ h = elim h [ ]
 
--- what stands before rests that differ in spans alone
+-- the tokens before rests that differ in spans alone
 like_before : (a b r r' : Stream) → Like (a ⧺ r) (b ⧺ r') → Like r r' → plain a ≡ plain b
 like_before a b r r' h k =
     let e : plain a ⧺ plain r ≡ plain b ⧺ plain r = sym (plain_append a r) ∙ plain_of_like (a ⧺ r) (b ⧺ r') h ∙ plain_append b r' ∙ ap (λ z. plain b ⧺ z) (sym (plain_of_like r r' k)) in

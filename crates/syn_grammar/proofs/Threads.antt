@@ -242,8 +242,8 @@ pub data Frame : Type 0 where
   in_shape : Shape → Frame
   in_vanishing : Bool → Frame
   in_such : Test → Frame
-  and_behind : Grammar → Frame  -- then this form, behind generics
-  with_generics : Syntax → Frame  -- what stands behind these generics
+  and_behind : Grammar → Frame  -- then this form, after generics
+  with_generics : Syntax → Frame  -- what follows these generics
 
 abbrev pub apply : Frame → Out → Out
 apply (and_next h) o = and_then o (parse_form h)
@@ -396,7 +396,7 @@ abbrev pub picked : {A : Type 0} → Bool → A → Option A → Option A
 picked true a o = Some a
 picked false a o = o
 
--- two forms that read the same, what their tokens tell aside
+-- two forms that read the same, the facts of their tokens aside
 abbrev pub matches : Grammar → Grammar → Bool
 matches (token b k) (token c j) = same_choice k j
 matches (mark b x) (mark c y) = same_text x y
@@ -419,7 +419,7 @@ matches_is (when c then g else h) (when d then x else y) m e =
     ∙ ap₂ (branch (sees d m)) (matches_is g x m (and_left (matches g x) _ q)) (matches_is h y m (and_right (matches g x) _ q))
 matches_is g h m e = ap (λ z. parse_form z m) (same_eq g h e)
 
--- the piece a stands next: what is left behind it
+-- the piece a is next: what is left after it
 abbrev pub eat : ℕ → Known → Grammar → State → Option (List Frame)
 eat zero l a t = None
 eat (suc n) l a (reading g k) =
@@ -678,7 +678,7 @@ finish_list_is (suc n) l (g ∷ fs) m e w = go (opened l g) refl (λ xs q. finis
 
 pub data Thread : Type 0 where
   of_kind : State → Thread  -- a kind of its own
-  of_kept : State → Thread  -- kept as tokens
+  of_kept : State → Thread  -- verbatim
   listed : List Grammar → Thread  -- the same, where the forms are of no interest
 
 abbrev pub keep : Rule → Stream → Option Stream → Out
@@ -826,7 +826,7 @@ abbrev pub TriedAll : Test → Syntax → List Thread → Type 0
 TriedAll q s [] = Unit {0}
 TriedAll q s (t ∷ ths) = TriedThread q s t × TriedAll q s ths
 
--- what it is known to answer
+-- its known result
 abbrev pub verdict : Test → Bool → Test → Bool
 verdict q b p = pick (same_test q p) b (no b)
 
@@ -885,7 +885,7 @@ passed_all_is k ts q s b (of_kept t ∷ ths) m w h = ap₂ (λ y z. first (keep 
     go None = refl
 passed_all_is k ts q s b (listed fs ∷ ths) m w h = elim w.0 [ ]
 
--- ---- A PLAN FITS ALTERNATIVES, of which this is known of what stands next
+-- ---- A PLAN FITS ALTERNATIVES, where this is known of the next token
 
 abbrev pub all_kept : List Thread → Bool
 all_kept [] = true

@@ -6,7 +6,7 @@ use Rattle.syn_grammar.specs.Grammar.{Syntax, Nothing, Token, Mark, Lifetime, Bo
 use Rattle.syn_grammar.proofs.Sets.{and_left, and_right}
 use Rattle.syn_grammar.proofs.Streams.{visible_append}
 
--- no invisible group stands in what was read
+-- no invisible group is in what was read
 abbrev seen : Syntax → Bool
 seen (Both s t) = and (seen s) (seen t)
 seen (Left s) = seen s
