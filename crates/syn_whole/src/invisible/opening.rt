@@ -176,8 +176,8 @@ impl<'t> Opening<'t> {
         (0, self.opened.len())
     }
 
-    /// Whether the group certainly has to be opened. `next` is what the token at `place` starts: the first one in the group, or after
-    /// it if it is empty.
+    /// Whether the group certainly has to be opened. `next` is what the token at `place` starts: the first one in the group, or
+    /// after it if it is empty.
     fn opens_by(&self, group: usize, next: Beginning, place: usize) -> bool {
         match next {
             Beginning::Nothing => true,
