@@ -7,7 +7,7 @@ use Rattle.syn_parse.specs.Refusals.{IsRefusedAs}
 use Rattle.syn_parse.specs.declared.read.refusal.Refusal.{Refusal}
 use Rattle.syn_parse.specs.declared.read.refusal.Refusal.TheVariants.{Memory, Syntax}
 
--- a refusal of the tokens becomes a syntax error
+-- a refusal for syntax becomes a syntax error
 pub syntax_becomes_error : (r : Refusal) (e : List FaultValue) → IsRefusedAs r e → IsSyntax r → IsSyntaxError e
 syntax_becomes_error (Memory at) e h s = absurd s
 syntax_becomes_error (Syntax span text) e h s = subst IsSyntaxError (sym h) tt

@@ -19,13 +19,13 @@ and_right : (a b : Bool) → (a && b) ≡ true → b ≡ true
 and_right true b e = e
 and_right false b e = absurd (true≢false (sym e))
 
--- no character that passes stands at the front
+-- the first character is not one that passes
 first_fails : (test : ℕ → Bool) (cs bytes : List ℕ) → encodes cs ≡ bytes → scalars cs ≡ true
     → ((c : ℕ) (rest : List ℕ) → IsScalar c → bytes ≡ encode_utf8 c ++ rest → test c ≡ false) → first_passes test cs ≡ false
 first_fails test [] bytes e s h = refl
 first_fails test (c ∷ cs) bytes e s h = h c (encodes cs) (and_left _ _ s) (sym e)
 
--- the first character, if there is one, passes where the text is empty or begins with one that does
+-- the first character, if there is one, passes if the text is empty or starts with one that does
 pub passes_there : (test : ℕ → Bool) (bytes rest : List ℕ) → IsUtf8 bytes → EmptyOrStartsWithPassing test bytes rest → (c : ℕ) (cs : List ℕ) → chars bytes ≡ c ∷ cs → test c ≡ true
 passes_there test [] rest u h c cs e = let none : [] ≡ c ∷ cs = sym chars-nil ∙ e in absurd (cc)
 passes_there test (b ∷ bytes) rest u h c cs e =
@@ -34,7 +34,7 @@ passes_there test (b ∷ bytes) rest u h c cs e =
     let same : found.0 ≡ c = cc in
     subst (λ (n : ℕ). test n ≡ true) same found.1
 
--- what is left when all characters that pass are cut off
+-- what remains when all characters that pass are cut off
 pub trimmed_stops : (test : ℕ → Bool) (bytes : List ℕ) → IsUtf8 bytes → (o : Option ℕ) → FindsPrefixBy test bytes o → IfSome o (λ n. n ≡ 0) → begins_by test bytes ≡ false
 trimmed_stops test bytes u None h z = first_fails test (chars bytes) bytes (encodes-chars bytes u) (scalars-chars bytes u) h
 trimmed_stops test bytes u (Some n) h z = absurd (omega (arith, z, h.2.ends, (len_utf8_bounds h.0).0))

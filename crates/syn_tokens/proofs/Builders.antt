@@ -175,7 +175,7 @@ module _ (es : List Entry) (ps : List Pending) (n : ℕ) (b : IsBuilt es ps n) (
   whole : es ≡ laid ((kept_last es ps n b around p e).around ++ (kept_last es ps n b around p e).innermost ∷ []) (stream_in es)
   whole = let l = kept_last es ps n b around p e in b.encoded ∙ ap (λ gs. laid gs (stream_in es)) l.is
 
-  -- its opening delimiter stands before all that came later
+  -- its opening delimiter comes before all that was added later
   pub stands_before : p.at + 1 ≤ length es
   stands_before =
       let l = kept_last es ps n b around p e in

@@ -138,6 +138,6 @@ laid_closed gs g c s =
     ∙ ap (λ es. laid gs g.outer ++ es) (delimited g c s)
     ∙ laid_more gs g.outer (closed g c s)
 
--- so many entries, with those of the innermost open group behind its delimiter
+-- so many entries, with those of the innermost open group after its delimiter
 pub length_laid : (gs : List OpenGroup) (g : OpenGroup) (s : Stream) → length (laid (gs ++ g ∷ []) s) ≡ length (laid gs g.outer) + 1 + length (encode s)
 length_laid gs g s = omega (arith, ap length (laid_open gs g s), length-append (laid gs g.outer) (open_delimiter g ∷ encode s))

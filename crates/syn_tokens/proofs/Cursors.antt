@@ -16,7 +16,7 @@ use Rattle.syn_tokens.specs.declared.stream.entry.Token.TheVariants as E
 abbrev closing_of : grammar.Delimiter → grammar.Span → ℕ → Close
 closing_of d c n = record { delimiter = delimiter_from d; span = from c; trees = n }
 
--- what stands behind an opening delimiter
+-- what follows an opening delimiter
 record Begins (o : Open) (rest : List Entry) (ts : Stream) : Type 0 where
   pub inner : Stream
   pub after : Stream
@@ -43,7 +43,7 @@ begins o rest (group d p c i m) h = record {
       ap (λ f. group f p c i m) (sym (delimiter_back d)) ∙ ap (λ (q : Open). group (delimiter_of q.delimiter) (at q.span) c i m) (sym e);
 }
 
--- its closing delimiter stands where it says
+-- its closing delimiter is where it says
 pub closes : (o : Open) (rest : List Entry) (n : ℕ) → IsFlat (E.Open o ∷ rest) n → Closes rest o.skip
 closes o rest n flat =
     let b = begins o rest (decode (E.Open o ∷ rest)) flat.encoded in

@@ -31,7 +31,7 @@ after_end : (n : ℕ) → after n end ≡ end
 after_end zero = refl
 after_end (suc n) = refl
 
--- nothing stands behind the end
+-- nothing follows the end
 pub after_ended : (n k : ℕ) (ts : Stream) → after n ts ≡ end → n ≤ k → after k ts ≡ end
 after_ended zero k ts e h = ap (after k) e ∙ after_end k
 after_ended (suc n) zero ts e h = absurd (omega arith)
@@ -57,7 +57,7 @@ length_first (suc n) (leaf x sp m) = omega (arith, length_first n m)
 length_first (suc n) (punct c j sp m) = omega (arith, length_first n m)
 length_first (suc n) (group d o c i m) = omega (arith, length_first n m)
 
--- the tree at a place stands first behind those before it
+-- the tree at an index is the first after those before it
 pub place_is : (n : ℕ) (ts : Stream) (x : TokenTreeRef) (r : Stream) → after n ts ≡ before_next x r → place n ts ≡ before_next x end
 place_is n ts x r e = go n ts ∙ ap (place 0) e ∙ one x r
   where

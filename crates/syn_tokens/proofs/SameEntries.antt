@@ -15,7 +15,7 @@ use Rattle.syn_tokens.specs.declared.stream.entry.Close.{Close}
 use Rattle.syn_tokens.specs.declared.stream.entry.Token.{Token as Entry}
 use Rattle.syn_tokens.specs.declared.stream.entry.Token.TheVariants as E
 
--- what may stand behind the entries of a group's content or of a whole stream
+-- what may follow the entries of a group's content or of a whole stream
 data Behind : Type 0 where
   nothing : Behind
   sign : Close → List Entry → Behind

@@ -20,13 +20,13 @@ use Rattle.syn_tokens.specs.declared.stream.entry.Token.TheVariants as E
 pub record OpenGroup : Type 0 where
   pub delimiter : Delimiter
   pub opening : Span
-  pub outer : Stream  -- what stands before it in the group around it, or in the whole stream
+  pub outer : Stream  -- the trees before it in the enclosing group, or in the whole stream
 
--- what it began with, and what stands there now
+-- what it began with, and what is there now
 pub record Building : Type 0 where
   pub before : Stream
   pub open_groups : List OpenGroup  -- from the outermost to the innermost
-  pub stream : Stream  -- what stands so far in the innermost open group, or in the whole stream
+  pub stream : Stream  -- the trees so far in the innermost open group, or in the whole stream
 
 abbrev pub coded_group : Coded OpenGroup
 coded_group = code_by (Delimiter × (Span × Stream)) (coded× delimiter.the_row.coded (coded× span.the_row.coded stream_code)) (λ g. (g.delimiter, (g.opening, g.outer))) (λ p. record { delimiter = p.0; opening = p.1.0; outer = p.1.1 }) (λ _. refl)
@@ -36,7 +36,7 @@ coded_building = code_by (Stream × (List OpenGroup × Stream)) (coded× stream_
 
 -- THE ENTRIES SO FAR
 
--- the opening delimiter of a group that is still open: how far its closing delimiter stands isn't known yet
+-- the opening delimiter of a group that is still open: the position of its closing delimiter isn't known yet
 abbrev pub open_delimiter : OpenGroup → Entry
 open_delimiter g = E.Open (record { delimiter = g.delimiter; span = g.opening; skip = 0 })
 
@@ -44,7 +44,7 @@ abbrev pub laid : List OpenGroup → Stream → List Entry
 laid [] s = encode s
 laid (g ∷ gs) s = encode g.outer ++ open_delimiter g ∷ laid gs s
 
--- the groups that are open, from what stands before the first of them and from the content of each
+-- the open groups, from the trees before the first of them and from the content of each
 abbrev pub groups : Stream → List (Open × Stream) → List OpenGroup
 groups s [] = []
 groups s (p ∷ ps) = record { delimiter = p.0.delimiter; opening = p.0.span; outer = s } ∷ groups p.1 ps
@@ -86,7 +86,7 @@ abbrev pub IsUnbalanced : Span → Type 0 → List FaultValue → Type 0
 IsUnbalanced s reason [] = Unit {0}
 IsUnbalanced s reason (f ∷ fs) = (f ∷ fs ≡ unbalanced s) × reason
 
--- WHAT PRINTS DO, in words that are opened where a proof asks for it
+-- WHAT PRINTS DO, in definitions that a proof unfolds where it needs to
 
 -- these trees were added
 unfoldable pub added : Building → Stream → Building

@@ -1,4 +1,4 @@
--- What an error tells.
+-- The contents of errors.
 use Rattle.std.specs.Prelude.{ℕ, List, [], ◌∷◌, ◌++◌, Option, None, Some, take, codes}
 use Rattle.std.specs.Coded.{Coded, coded×, coded_list, coded_ℕ}
 use Rattle.syn_tokens.specs.declared.span.Span.{Span}
@@ -20,12 +20,12 @@ abbrev pub IsSyntaxError : List FaultValue → Type 0
 IsSyntaxError [] = ⊥
 IsSyntaxError (f ∷ fs) = Unit {0}
 
--- where the first fault is; where memory was refused no contract says what is told
+-- the position of the first fault; no contract covers the message if memory was refused
 abbrev pub first_span : List FaultValue → Span
 first_span [] = record { start = 0; end = 0 }
 first_span (f ∷ fs) = f.0
 
--- the text of the first fault; where memory was refused no contract says what is told
+-- the text of the first fault; no contract covers the message if memory was refused
 abbrev pub first_text : List FaultValue → Option (List ℕ)
 first_text [] = None
 first_text (f ∷ fs) = Some f.1
@@ -36,6 +36,6 @@ combined [] gs = []
 combined (f ∷ fs) [] = []
 combined (f ∷ fs) (g ∷ gs) = take 4 (f ∷ fs ++ g ∷ gs)
 
--- a word or a mark was expected, which stands in backquotes
+-- a word or a mark was expected, which is in backquotes
 abbrev pub expected : List ℕ → List ℕ
 expected x = codes "expected `" ++ x ++ codes "`"

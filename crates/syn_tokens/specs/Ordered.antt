@@ -3,12 +3,12 @@ use Rattle.std.specs.Prelude.{Bool, List, [], ◌∷◌}
 use Rattle.syn_grammar.specs.Tokens.{Span, call_site, pick}
 use Rattle.syn_grammar.specs.Grammar.{Syntax, Nothing, Mark, Both, Left, Right, Node, Done, Last, More}
 
--- where a mark of one character stands
+-- the span of a mark of one character
 abbrev pub place_of : Syntax → Span
 place_of (Mark (x ∷ [])) = x.1
 place_of s = call_site
 
--- a list, where this tells which of its members are printed first
+-- a list, where this test decides which members are printed first
 abbrev pub ordered_of : (Syntax → Bool) → Syntax → Syntax
 ordered_of is_first (Node (Left Nothing)) = Done
 ordered_of is_first (Node (Right (Both s (Right Nothing)))) = Last (is_first s) s

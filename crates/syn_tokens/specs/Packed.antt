@@ -1,4 +1,4 @@
--- How a stream keeps tokens and delimiters of groups.
+-- How a stream stores tokens and delimiters of groups.
 use Rattle.std.specs.Prelude.{◌≡◌, IsTrue}
 use Rattle.syn_tokens.specs.Idents.{is_keyword}
 use Rattle.syn_tokens.specs.CompactSpans.{wide}
@@ -8,7 +8,7 @@ use Rattle.syn_tokens.specs.declared.stream.entry.Token.TheVariants as E
 use Rattle.syn_tokens.specs.declared.stream.entry.Packed.TheVariants as P
 use Rattle.syn_tokens.specs.declared.stream.entry.Far.TheVariants as F
 
--- what has no compact span
+-- an entry without a compact span
 abbrev pub far_token : F.the_data → Token
 far_token (F.Ident i) = E.Ident i
 far_token (F.Literal l) = E.Literal l

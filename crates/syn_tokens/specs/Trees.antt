@@ -20,7 +20,7 @@ abbrev pub stream_of : List TokenTree → Stream
 stream_of [] = end
 stream_of (t ∷ l) = before t (stream_of l)
 
--- where a tree stands
+-- the span of a tree
 abbrev pub span_of : TokenTree → Span
 span_of (T.Ident i) = i.span
 span_of (T.Literal l) = l.span

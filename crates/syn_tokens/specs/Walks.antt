@@ -14,7 +14,7 @@ trees_of (leaf (literal k x) sp m) = T.Literal (record { kind = kind_from k; tex
 trees_of (punct c j sp m) = T.Punct (record { character = c; spacing = spacing_from j; span = from sp }) ∷ trees_of m
 trees_of (group d o c i m) = T.Group (record { delimiter = delimiter_from d; opening = from o; closing = from c; content = i }) ∷ trees_of m
 
--- the stream that these trees are, one behind another
+-- the stream of these trees, in order
 abbrev pub in_turn : List TokenTreeRef → Stream
 in_turn [] = end
 in_turn (t ∷ l) = before_next t (in_turn l)
