@@ -39,7 +39,7 @@ mod block;
 
 pub use block::{BlockOf, DeferredBlock};
 
-/// A type of the trees that a deferred one stands for. It may stand above all types that hold a deferred tree.
+/// A tree type that a deferred one opens to. Its crate may be above all crates whose types hold a deferred tree.
 pub trait TreeOf<const KIND: usize>: ToTokens + Drop {
     ghost use Rattle.syn_grammar.specs.Grammar.{Syntax};
     ghost use Rattle.syn_grammar.specs.Run.{parse_rule};
@@ -47,7 +47,7 @@ pub trait TreeOf<const KIND: usize>: ToTokens + Drop {
     ghost use Rattle.syn_parse.specs.Refusals.{IsSyntax};
     ghost use Rattle.syn_recognize.specs.DeferredTokens.{kind_rule};
 
-    /// What a tree stands for, as the kind's rule reads it.
+    /// The syntax of a tree, as the kind's rule reads it.
     ghost whole: { Self → Syntax };
 
     /// Reads a tree by the kind's rule. Refused for the input only where the rule computes nothing.
@@ -110,7 +110,7 @@ impl<const KIND: usize> Deferred<KIND> {
         Deferred::kept(tokens.shown, Some(tokens.printed), alloc)
     }
 
-    /// The same, where what is printed is told only if it isn't what is shown.
+    /// The same, with the printed tokens given only where they differ from the shown ones.
     fn kept(
         shown: TokenStream,
         printed: Option<TokenStream>,
@@ -137,7 +137,7 @@ impl<const KIND: usize> Deferred<KIND> {
         &self.shown
     }
 
-    /// Its tokens as they are printed: in lists in `< >` lifetimes stand first.
+    /// Its tokens as they are printed: in lists in `< >` lifetimes come first.
     fn printed(&self) -> &TokenStream
         ensures { result.now ≡ print self.now }
     {
@@ -147,8 +147,8 @@ impl<const KIND: usize> Deferred<KIND> {
         }
     }
 
-    /// The tree that it stands for, spans included. Refused only where memory is, and where the tree's type reads no tree that is
-    /// nested so deep.
+    /// Parses the tree from its tokens, with their spans. Fails only where memory is refused, or where the tree's type doesn't accept this
+    /// nesting depth.
     pub fn open<T: TreeOf<KIND>>(&self) -> Result<T>
         ensures ok { IfOk result (λ tree. T.whole tree ≡ self.now) }
         ensures memory { IfErr result (λ e. e ≡ []) }
@@ -206,7 +206,7 @@ fn tokens_of<const KIND: usize>(input: &mut ParseBuffer<'_>) -> Parsed<ShownAndP
     recognized_and_printed(rule_of_kind(KIND), input)
 }
 
-/// Reads a tree, and keeps its tokens alone. Statements and items in a row aren't read so: what goes them on may stand behind them.
+/// Reads a tree and stores only its tokens. Excludes statements and items in a row: the tokens after them may continue them.
 pub fn read_deferred<const KIND: usize>(input: &mut ParseBuffer<'_>) -> Parsed<Deferred<KIND>>
     requires { stands_alone (kind_rule KIND) ≡ true }
     ensures reads { Computes IsSyntax itself (parse_rule (kind_rule KIND) input.old) result input.new }

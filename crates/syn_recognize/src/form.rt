@@ -19,12 +19,12 @@ pub enum Form {
     /// Never read, for this reason.
     Never(Fault),
     Token(Token),
-    /// A token at a place where another form could stand in Rust.
+    /// A token at a place where Rust accepts another form too.
     TokenAt(Token, Place),
     Mark(Mark),
     /// A mark at such a place.
     MarkAt(Mark, Place),
-    /// A mark, refused for this reason where it doesn't stand.
+    /// A mark, refused for this reason where another token is next.
     MarkElse(Mark, Fault),
     Lifetime,
     Then(&'static Form, &'static Form),
@@ -38,7 +38,7 @@ pub enum Form {
     Unshown,
     /// A list in `< >`.
     Ordered(List),
-    /// Parameters in `< >`, where `<` stands next; not printed where there are none.
+    /// Parameters in `< >`, if `<` is next; not printed where there are none.
     Generics,
     /// A part that isn't printed where its list is empty.
     Fading(Fading),
@@ -50,7 +50,7 @@ pub enum Form {
     Planned(Planned),
     /// A union of this rule alone.
     Only(Rule),
-    /// A pattern, a colon and what stands behind them; where a name stands before `<`, this alone, and `_ :` before it counts as read.
+    /// A pattern, a colon and what follows them; where a name is before `<`, only what follows, with an implied `_ :` before it.
     Supplied(Nameless),
     /// A whole expression, and what follows it: the first form where its last token tree is a group in braces, else the second.
     ByBraces(&'static Form, &'static Form),

@@ -1,4 +1,4 @@
-//! Members that stand behind some other member of a list in `< >`, and are printed before it.
+//! Members that follow some other member of a list in `< >`, and are printed before it.
 ghost use Rattle.std.specs.Prelude.{◌≡◌, ◌↔◌, ◌∷◌, [], map, IsTrue, MatchOption};
 ghost use Rattle.syn_tokens.specs.Spans.{at};
 ghost use Rattle.syn_recognize.specs.Late.{guess_of};
@@ -9,7 +9,7 @@ use std::marker::Model;
 use syn_tokens::span::Span;
 use syn_tokens::stream::TokenStream;
 
-/// Such a member, as it is printed, and where the comma behind it stands; 0 to 0 where there is none.
+/// Such a member, as it is printed, and the span of the comma after it; 0 to 0 where there is none.
 #[derive(Drop)]
 pub struct Late {
     pub tokens: TokenStream,

@@ -1,4 +1,4 @@
-//! What a rule reads where it is known what stands next: forms of operands without the conditions that this rules out.
+//! Rules specialised to the next token: forms without the alternatives that it rules out.
 ghost use Rattle.std.specs.Prelude.{◌≡◌};
 ghost use Rattle.syn_grammar.specs.Rules.{attributes, expression_words, generic_argument, member, meta, module_path, postfixes, statement_rest, statements, more_type_words, type, type_arguments, type_path, type_words, unary, unary_head, visibility};
 ghost use Rattle.syn_grammar.specs.Table.{table};
@@ -147,7 +147,7 @@ static EXPRESSION_WORDS: Form = Form::Then(
     &Form::Part(Part::EXPRESSION_WORDS_2),
 );
 
-/// A statement that begins with one, behind its attributes, and those that follow: a macro in braces, or an expression.
+/// A statement that begins with one, after its attributes, and those that follow: a macro in braces, or an expression.
 static STATEMENT: Form = Form::When(
     Look::BraceMacro,
     &Form::Then(
@@ -169,7 +169,7 @@ static LISTED: Form = Form::When(
 
 static EMPTY: Form = Form::Empty;
 
-/// A form that is read as the rule is, where this stands next.
+/// The form of this rule, specialised to this next token.
 #[tactic(auto, using(crate::proofs::Opened::opens_rule), unfolding(crate::specs::Names::rule_of, crate::specs::Parts::part_form))]
 #[inline(never)]
 pub(crate) fn opened(rule: Rule, next: First) -> &'static Form
@@ -212,7 +212,7 @@ pub(crate) fn operand(next: First) -> &'static Form
     }
 }
 
-/// A form that is read as a unary level is where such a group stands next.
+/// The form of a unary level, specialised to this next group.
 #[tactic(auto, using(crate::proofs::Opened::opens_rule), unfolding(crate::specs::Names::rule_of))]
 fn group_operand(delimiter: Delimiter) -> &'static Form
     ensures { Opens (first.Group delimiter) (grammar_of result.now) unary }
@@ -240,7 +240,7 @@ pub(crate) fn head_operand(next: First) -> &'static Form
     }
 }
 
-/// A form that is read as a unary level in a head is where such a group stands next.
+/// The form of a unary level in a head, specialised to this next group.
 #[tactic(auto, using(crate::proofs::Opened::opens_rule), unfolding(crate::specs::Names::rule_of))]
 fn group_head_operand(delimiter: Delimiter) -> &'static Form
     ensures { Opens (first.Group delimiter) (grammar_of result.now) unary_head }
@@ -267,7 +267,7 @@ fn postfix(next: First) -> &'static Form
     }
 }
 
-/// A form that is read as postfixes are where this character of a mark stands next.
+/// The form of postfixes, specialised to this next character.
 #[tactic(auto, using(crate::proofs::Opened::opens_rule, crate::proofs::Beginnings::dot_postfix), unfolding(crate::specs::Names::rule_of, crate::specs::Parts::part_form))]
 fn postfix_by_mark(character: char) -> &'static Form
     ensures { Opens (first.Mark character) (grammar_of result.now) postfixes }
@@ -292,7 +292,7 @@ fn type_by(next: First) -> &'static Form
     }
 }
 
-/// A form that is read as a type is where this character of a mark stands next.
+/// The form of a type, specialised to this next character.
 #[tactic(auto, using(crate::proofs::Opened::opens_rule, crate::proofs::Beginnings::colon_type, crate::proofs::Beginnings::less_type), unfolding(crate::specs::Names::rule_of))]
 fn type_by_mark(character: char) -> &'static Form
     ensures { Opens (first.Mark character) (grammar_of result.now) type }
@@ -304,7 +304,7 @@ fn type_by_mark(character: char) -> &'static Form
     }
 }
 
-/// A form that is read as a type is where such a group stands next.
+/// The form of a type, specialised to this next group.
 #[tactic(auto, using(crate::proofs::Opened::opens_rule), unfolding(crate::specs::Names::rule_of))]
 fn type_by_group(delimiter: Delimiter) -> &'static Form
     ensures { Opens (first.Group delimiter) (grammar_of result.now) type }
@@ -340,7 +340,7 @@ fn words_by(next: First) -> &'static Form
     }
 }
 
-/// A form that is read as the words of a type's path behind the first are.
+/// The form of the segments of a type's path after the first.
 #[tactic(auto, using(crate::proofs::Opened::opens_rule), unfolding(crate::specs::Names::rule_of, crate::specs::Parts::part_form))]
 fn more_words_by(next: First) -> &'static Form
     ensures { Opens next (grammar_of result.now) more_type_words }
@@ -362,7 +362,7 @@ fn arguments_by(next: First) -> &'static Form
     }
 }
 
-/// A form that is read as such arguments are where this character of a mark stands next.
+/// The form of generic arguments, specialised to this next character.
 #[tactic(auto, using(crate::proofs::Opened::opens_rule, crate::proofs::Beginnings::less_arguments), unfolding(crate::specs::Names::rule_of))]
 fn arguments_by_mark(character: char) -> &'static Form
     ensures { Opens (first.Mark character) (grammar_of result.now) type_arguments }
@@ -431,7 +431,7 @@ fn visibility_by(next: First) -> &'static Form
     }
 }
 
-/// Whether a postfix may stand next.
+/// Whether the next token may begin a postfix.
 fn may_follow(next: First) -> bool
     ensures { result ≡ loud (table postfixes) next }
 {
@@ -441,14 +441,14 @@ fn may_follow(next: First) -> bool
         || is_mark('.', next)
 }
 
-/// Whether an attribute may stand next.
+/// Whether the next token may begin an attribute.
 fn may_be_attribute(next: First) -> bool
     ensures { result ≡ loud (table attributes) next }
 {
     is_mark('#', next)
 }
 
-/// Whether a visibility that is written may stand next.
+/// Whether the next token may begin a visibility that is written.
 fn may_be_visibility(next: First) -> bool
     ensures { result ≡ loud (table visibility) next }
 {
@@ -489,7 +489,7 @@ fn statements_by(next: First) -> &'static Form
     }
 }
 
-/// A form that is read as a statement behind its attributes is, with those that follow.
+/// The form of a statement after its attributes, with those that follow.
 #[tactic(auto, using(crate::proofs::Opened::opens_rule), unfolding(crate::specs::Names::rule_of))]
 fn statement_by(next: First) -> &'static Form
     ensures { Opens next (grammar_of result.now) statement_rest }

@@ -65,8 +65,8 @@ fn write_guessing(
     done
 }
 
-/// Reads what the rule reads, and keeps nothing of it. It takes no memory but for what is still to be done, and no stack. Refused, with
-/// a fault at a token that can't stand there, or where memory is, it says nothing of what is left.
+/// Reads what the rule reads, and stores none of it. Allocates only the deferred steps, and uses no stack. Fails at a token that the rule
+/// refuses, or where memory is refused; then nothing is known of the cursor.
 #[tactic(auto, using(crate::proofs::Shown::read, crate::proofs::Shown::not_read, crate::proofs::Shown::kept, crate::proofs::Shown::moved))]
 pub fn read_by(rule: Rule, input: &mut ParseBuffer<'_>) -> Parsed<()>
     ensures reads { ReadsBy IsSyntax (rule_of rule) input.old result input.new }
@@ -85,9 +85,8 @@ pub struct ShownAndPrinted {
     pub printed: TokenStream,
 }
 
-/// Reads what the rule reads: its tokens as they are shown, and as they are printed; each is written by a reading of its own. What was
-/// noted of lists and plans is known before, or it is guessed that nothing was: a wrong guess is refused as memory is, and `mistaken` says
-/// so.
+/// Reads what the rule reads, once for its tokens as they are shown and once as they are printed. `notes` are the notes on lists and plans,
+/// or none as a guess. A wrong guess sets `mistaken` and returns `Refusal::Memory`.
 #[tactic(auto, using(crate::proofs::Shown::not_read))]
 fn both_by(
     rule: Rule,
@@ -140,9 +139,9 @@ fn noted(rule: Rule, input: &ParseBuffer<'_>) -> Parsed<Notes>
     Ok(notes)
 }
 
-/// Reads what the rule reads: its tokens as they are shown, and as they are printed. All is read twice, and three more times where
-/// something is kept as tokens, or where a list in `< >` has a lifetime behind another member, or an impl is printed with `< >`. Refused,
-/// it says nothing of what is left.
+/// Reads what the rule reads: its tokens as they are shown, and as they are printed. Reads all twice, and three more times where something
+/// is stored verbatim, where a list in `< >` has a lifetime after another member, or where an impl is printed with `< >`. On failure
+/// nothing is known of the cursor.
 pub fn recognized_and_printed(rule: Rule, input: &mut ParseBuffer<'_>) -> Parsed<ShownAndPrinted>
     ensures reads { ShowsAndPrints IsSyntax (rule_of rule) input.old result input.new }
     ensures kept { Kept input.old result input.new }
@@ -160,9 +159,9 @@ pub fn recognized_and_printed(rule: Rule, input: &mut ParseBuffer<'_>) -> Parsed
     }
 }
 
-/// Reads what the rule reads: its tokens as they are printed. They are written once; all is read once, and three times where something
-/// is kept as tokens, or where a list in `< >` has a lifetime behind another member, or an impl is printed with `< >`. Refused, it says
-/// nothing of what is left.
+/// Reads what the rule reads: its tokens as they are printed. Writes them once. Reads all once, and three times where something is stored
+/// verbatim, where a list in `< >` has a lifetime after another member, or where an impl is printed with `< >`. On failure nothing is known
+/// of the cursor.
 pub fn printed_by(rule: Rule, input: &mut ParseBuffer<'_>) -> Parsed<TokenStream>
     ensures reads { Prints IsSyntax (rule_of rule) input.old result input.new }
     ensures kept { Kept input.old result input.new }

@@ -1,5 +1,5 @@
-//! Lists in `< >`, of members that are printed first, and others. Shown, their members stand as they are read. Printed, the first ones
-//! that stand behind some other member were noted when the list was shown, are written before it, and compared where they are read.
+//! Lists in `< >`, of members that are printed first, and others. Shown, the members keep their order. Printed, the first ones that follow
+//! some other member were noted when the list was shown; they are written before it, and compared where they are read.
 ghost use Rattle.std.specs.Prelude.{◌≡◌, true, false, [], ◌∷◌, map, OnOk};
 ghost use Rattle.syn_grammar.specs.Promises.{OrMemory};
 ghost use Rattle.syn_grammar.specs.Grammar.{ordered, at_row_end};
@@ -112,7 +112,7 @@ pub(crate) fn note<'a>(
     Ok(())
 }
 
-/// Where the comma stands that stands next; 0 to 0 where none does.
+/// The span of the comma that is next; 0 to 0 where there is none.
 fn comma_at(input: &ParseBuffer<'_>) -> Span {
     if input.peek::<Comma>() {
         input.span()
@@ -256,8 +256,7 @@ fn read_late<'a>(
     Ok(())
 }
 
-/// Goes on behind a late member, and its comma, with what was written before. It is the one that is expected, or what was guessed of
-/// the list was wrong.
+/// Continues after a late member and its comma with the output before it. Another member than the expected one is a wrong guess.
 #[tactic(auto, using(crate::proofs::Todo::push, crate::proofs::Lists::late_last, crate::proofs::Lists::late_more))]
 pub(crate) fn skip_late<'a>(
     list: List,
@@ -288,7 +287,7 @@ pub(crate) fn skip_late<'a>(
     Ok(())
 }
 
-/// Where a comma stands.
+/// The span of a comma.
 fn place_of(comma: &Comma) -> Span
     ensures { at result ≡ span_of (comma_syntax comma.now) }
 {

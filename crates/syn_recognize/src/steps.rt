@@ -50,7 +50,7 @@ use syn_tokens::token::{DelimiterKind, kind};
 
 static EMPTY: Form = Form::Empty;
 
-/// Does one step, and those behind it up to the next token.
+/// Does one step, and those after it up to the next token.
 #[tactic(auto, using(crate::proofs::Todo::guessing_leads))]
 pub(crate) fn take<'a>(
     step: Step<'a>,
@@ -99,7 +99,7 @@ fn take_other<'a>(
     }
 }
 
-/// Reads the levels that stand behind an operand, from the first number on up to the second: the first of them that may read something.
+/// Reads the levels of this range after an operand: the first of them that can match.
 fn read_levels<'a>(
     from: usize,
     to: usize,
@@ -116,7 +116,7 @@ fn read_levels<'a>(
     Ok(())
 }
 
-/// Reads a level, and puts off those behind it.
+/// Reads a level, and defers those after it.
 #[tactic(auto, using(crate::proofs::Todo::goes_read, crate::proofs::Todo::goes_first, crate::proofs::Ladder::begun))]
 fn read_level<'a>(
     level: usize,
@@ -135,7 +135,7 @@ fn read_level<'a>(
     read_form(form, steps, out, input)
 }
 
-/// Reads a form, or says what is to be read for it; where nothing is to be read for it, the same of what was put off.
+/// Reads a form after descending to the first part that reads something itself.
 #[tactic(auto, using(crate::proofs::Todo::goes_read, crate::proofs::Todo::guessing_leads))]
 fn read_form<'a>(
     form: &'static Form,
@@ -152,7 +152,7 @@ fn read_form<'a>(
     }
 }
 
-/// Goes down to the first form that reads something itself, and puts off what follows it. Refused only where memory is.
+/// Descends to the first form that reads something itself, and defers what follows it. Refused only where memory is.
 #[tactic(auto, using(crate::proofs::Todo::goes_here))]
 fn descend<'a>(
     form: &'static Form,
@@ -176,7 +176,7 @@ fn descend<'a>(
     Err(Refusal::Memory(None))
 }
 
-/// Behind a form that reads nothing: the form that was put off last, where that is one.
+/// After a form that reads nothing: the last deferred step, if it is a form.
 #[tactic(auto, using(crate::proofs::Copied::empty_is, crate::proofs::Copied::unshown_is))]
 fn resumed<'a>(
     form: &'static Form,
@@ -195,7 +195,7 @@ fn resumed<'a>(
     }
 }
 
-/// The form that was put off last, where that is one; of levels that were, what the first of them reads that may read something.
+/// Pops the last deferred step if it is a form; of a range of operator levels, takes the first that can match.
 #[tactic(auto, using(crate::proofs::Todo::goes_back))]
 fn next_form<'a>(
     next: First,
@@ -219,7 +219,7 @@ fn next_form<'a>(
     }
 }
 
-/// What the first level reads that may read something; the others are put off.
+/// The form of the first level that can match; defers the levels after it.
 #[tactic(auto, using(crate::proofs::Ladder::goes_up, crate::proofs::Ladder::goes_past))]
 fn next_level<'a>(
     from: usize,
@@ -243,8 +243,7 @@ fn next_level<'a>(
     Ok(form)
 }
 
-/// The form that begins where this one does, of those that it is made of, where it is made of some; what follows that is put off.
-/// Refused only where memory is.
+/// The form with which this composed form begins; defers the rest. None where the form is not composed. Refused only where memory is.
 #[tactic(auto, using(crate::proofs::Todo::goes_here, crate::proofs::Copied::shaped_is))]
 fn below<'a>(
     form: &'static Form,
@@ -267,7 +266,7 @@ fn below<'a>(
     }
 }
 
-/// Goes on with the first of two forms, and puts off the second.
+/// Continues with the first of two forms, and defers the second.
 #[tactic(auto, using(crate::proofs::Todo::goes_first, crate::proofs::Copied::then_is))]
 fn put_off<'a>(
     one: &'static Form,
@@ -298,7 +297,7 @@ fn begin_only(rule: Rule, out: &Writer, input: &ParseBuffer<'_>) -> &'static For
     form_of(rule)
 }
 
-/// Chooses a form by what stands next, which is this.
+/// Chooses a form by the next token.
 #[tactic(auto, using(crate::proofs::Copied::when_is))]
 fn choose(
     look: &Look,
@@ -318,7 +317,7 @@ fn choose(
     }
 }
 
-/// Goes on with the form of a rule; of an operand with levels behind it with that of a unary one, and puts off the levels.
+/// Continues with the form of a rule; of an operand with operator levels, with that of a unary one, and defers the levels.
 fn begin_rule<'a>(
     rule: Rule,
     next: First,
@@ -415,7 +414,7 @@ fn read_leaf<'a>(
     }
 }
 
-/// Reads and writes a mark, and says this where it doesn't stand.
+/// Reads and writes a mark; refuses with this fault if another token is next.
 fn copy_mark_else(
     mark: Mark,
     fault: Fault,
@@ -470,7 +469,7 @@ fn enter_by<'a, K: DelimiterKind>(
     Ok(())
 }
 
-/// Ends a group, and goes on behind it.
+/// Ends a group, and continues after it.
 #[tactic(auto, using(syn_grammar::proofs::Looks::sees_ended))]
 fn leave<'a>(
     delimiter: Delimiter,

@@ -104,7 +104,7 @@ pub(crate) fn copy_token(token: Token, out: &mut Writer, input: &mut ParseBuffer
     }
 }
 
-/// Reads and writes the word of this text; where it doesn't stand, this is said.
+/// Reads and writes the word with this text; reports `expected` if another token is next.
 #[tactic(auto, using(crate::proofs::Writes::word_is))]
 pub(crate) fn copy_text(
     text: &'static str,
@@ -121,7 +121,7 @@ pub(crate) fn copy_text(
     Ok(())
 }
 
-/// Reads and writes the mark of this character; where it doesn't stand, this is said.
+/// Reads and writes the mark of this character; reports `expected` if another token is next.
 #[tactic(auto, using(crate::proofs::Writes::one_is))]
 pub(crate) fn copy_mark1(
     c: char,
@@ -137,7 +137,7 @@ pub(crate) fn copy_mark1(
     Ok(())
 }
 
-/// Reads and writes the mark of these characters; where it doesn't stand, this is said.
+/// Reads and writes the mark of these characters; reports `expected` if another token is next.
 #[tactic(auto, using(crate::proofs::Writes::two_are))]
 pub(crate) fn copy_mark2(
     c: char,
@@ -156,7 +156,7 @@ pub(crate) fn copy_mark2(
     Ok(())
 }
 
-/// Reads and writes the mark of these characters; where it doesn't stand, this is said.
+/// Reads and writes the mark of these characters; reports `expected` if another token is next.
 #[tactic(auto, using(crate::proofs::Writes::three_are))]
 pub(crate) fn copy_mark3(
     c: char,

@@ -193,15 +193,14 @@ impl Writer {
         self.mistaken
     }
 
-    /// Notes that what the plan of this number reads is kept as tokens.
+    /// Notes that the tokens of the plan of this number are stored verbatim.
     pub(crate) fn note_kept(&mut self, plan: usize)
         ensures { self.new ≡ self.old }
     {
         self.notes.note_kept(plan);
     }
 
-    /// Notes that what stands behind the generics of the impl that the plan of this number reads, or its self type, would be read as
-    /// generics.
+    /// Notes that the tokens after the generics of this plan's impl, or its self type, would be read as generics.
     pub(crate) fn note_lead(&mut self, plan: Option<usize>)
         ensures { self.new ≡ self.old }
     {
@@ -287,7 +286,7 @@ impl Writer {
         }
     }
 
-    /// Writes nothing, so that what follows is written aside, as it is printed. Answers what was written so far.
+    /// Sets the output aside: what follows is written aside, as it is printed. Returns the output so far.
     pub(crate) fn print_aside(&mut self) -> Parsed<Box<Writer>>
         ensures before { OrMemory IsSyntax result (λ before. before.value ≡ self.old) }
         ensures blank { OrMemory IsSyntax result (λ before. self.new ≡ blank true) }
@@ -297,7 +296,7 @@ impl Writer {
         Ok(Box::new(self.alloc, before)?)
     }
 
-    /// Drops what is written from here on. Answers what was written so far.
+    /// Drops what is written from here on. Returns the output so far.
     pub(crate) fn drop_aside(&mut self) -> Parsed<Box<Writer>>
         ensures before { OrMemory IsSyntax result (λ before. before.value ≡ self.old) }
         ensures dropping { OrMemory IsSyntax result (λ before. self.new ≡ unwritten) }
@@ -307,7 +306,7 @@ impl Writer {
         Ok(Box::new(self.alloc, before)?)
     }
 
-    /// Goes on with what was written before, and answers what was written aside.
+    /// Restores the output that was set aside, and returns what was written aside.
     pub(crate) fn put_back(&mut self, before: Box<Writer>) -> Parsed<TokenStream>
         ensures aside { OrMemory IsSyntax result (λ aside. aside ≡ stream_of self.old) }
         ensures before { OrMemory IsSyntax result (λ aside. self.new ≡ before.value) }

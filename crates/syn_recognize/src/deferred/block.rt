@@ -27,7 +27,7 @@ use syn_tokens::syntactic::compare::Compared;
 use syn_tokens::syntactic::try_clone::TryClone;
 use syn_tokens::token::{Brace, kind};
 
-/// A type of the blocks that a deferred one stands for.
+/// A block type that a deferred block opens to.
 pub trait BlockOf: Syntactic + Drop {
     ghost use Rattle.syn_grammar.specs.Rules as rules;
     ghost use Rattle.syn_grammar.specs.Run.{wrap, parse_rule};
@@ -64,8 +64,8 @@ impl Syntactic for DeferredBlock {
 }
 
 impl DeferredBlock {
-    /// The block that it stands for, spans included. Refused only where memory is, and where the block's type reads no statements
-    /// that are nested so deep.
+    /// Parses the block from its tokens, with their spans. Fails only where memory is refused, or where the block's type doesn't accept
+    /// this nesting depth.
     pub fn open<B: BlockOf>(&self) -> Result<B>
         ensures ok { IfOk result (λ block. B.syntax block ≡ self.now) }
         ensures memory { IfErr result (λ e. e ≡ []) }
