@@ -226,7 +226,7 @@ module _ (k : Rule) (b : Stream) (w : Written) where
 pub data Parts : Type 0 where
   none : Parts
   piece : Syntax → Parts
-  untagged : Syntax → Parts  -- the value of a piece without what says that it has no tag
+  untagged : Syntax → Parts  -- the value of a piece without the mark that it has no tag
   both : Parts → Parts → Parts
 
 abbrev pub behind : Bool → Stream → Parts → Stream

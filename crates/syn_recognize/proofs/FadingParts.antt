@@ -174,7 +174,7 @@ module _ (k : fading.Fading) (w : Written) (ts : Stream) where
 abbrev pub parameters : Grammar
 parameters = ordered (rule lifetime_parameter) parameter
 
--- of parameters of which there is one
+-- of at least one parameter
 pub parameters_never : (x : Syntax) (m ts : Stream) → take_mark less ts ≡ Some (x, m) → sees at_row_end m ≡ false → NeverBare (parse_form parameters ts)
 parameters_never x m ts h s = subst NeverBare (sym (ap (λ o. row_opened o (rows (member List-m.Parameters))) h)) (listed (rows (member List-m.Parameters) m) some)
   where

@@ -1,4 +1,4 @@
--- Statements of which the first begins with a word, and with no attribute: where no item is next, it is one that isn't stored verbatim.
+-- Statements, where the first begins with a word and has no attribute: if no item is next, it is one that isn't stored verbatim.
 use Rattle.std.proofs.Common.{◌≡◌, Bool, true, false, [], ◌∷◌, Some, None, refl, sym, ap, subst, ◌∙◌, true≢false}
 use Rattle.syn_grammar.specs.Tokens.{Stream, pick}
 use Rattle.syn_grammar.specs.Rules.{Rule, attributes, kept_in_block, statement_rest, statements}

@@ -1,4 +1,4 @@
--- What the grammar tells of paths and of the `:` before one, by peeks.
+-- What the grammar states of paths and of the `:` before one, by peeks.
 use Rattle.std.proofs.Common.{◌≡◌, ℕ, Bool, true, false, List, [], ◌∷◌, ◌++◌, nat_eq, Some, None, refl, sym, ap, ◌∙◌, subst, true≢false}
 use Rattle.std.proofs.lemmas.Bool.{eqb-true}
 use Rattle.syn_grammar.specs.Words.{Text, keywords, contextual, colon, exclamation, less, pound, w_async, w_auto, w_const, w_crate, w_default, w_mut, w_self, w_Self_type, w_static, w_super, w_union, w_unsafe}

@@ -14,7 +14,7 @@ use crate::writer::Writer;
 use syn_parse::buffer::ParseBuffer;
 use syn_parse::read::refusal::{Parsed, Refusal};
 
-/// Reads a part that is never printed, where the look holds.
+/// Reads a part that is never printed, if the lookahead holds.
 #[tactic(auto, using(crate::proofs::Todo::push, crate::proofs::WrittenAside::hidden_absent, crate::proofs::WrittenAside::hidden_is))]
 pub(crate) fn read_hidden<'a>(
     look: &Look,
@@ -42,7 +42,7 @@ pub(crate) fn forget(before: Box<Writer>, out: &mut Writer, input: &ParseBuffer<
     Ok(())
 }
 
-/// Reads a part that is kept as the tokens that it is read of.
+/// Reads a part whose tokens are copied unchanged.
 #[tactic(auto, using(crate::proofs::Todo::push, crate::proofs::WrittenAside::captured_is))]
 pub(crate) fn read_captured<'a>(
     form: &'static Form,

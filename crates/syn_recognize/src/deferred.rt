@@ -1,5 +1,5 @@
-//! Deferred trees: trees that are kept as their tokens, and read when somebody opens them. A type may hold one that leads
-//! back to itself through its tree: nothing that is kept, read, copied, compared, printed or dropped knows the tree's type.
+//! Deferred trees: trees that are stored as their tokens, and parsed when they are opened. A type may hold one that leads back to itself
+//! through its tree, because nothing that is stored, read, copied, compared, printed or dropped depends on the tree's type.
 ghost use Rattle.std.specs.Prelude.{◌≡◌, ◌↔◌, [], true, None, Some, IfOk, IfErr, OnOk, IsTrue};
 ghost use Rattle.syn_grammar.specs.Tokens.{end};
 ghost use Rattle.syn_grammar.specs.Grammar.{rule, show, print, plain_syntax};
@@ -50,7 +50,7 @@ pub trait TreeOf<const KIND: usize>: ToTokens + Drop {
     /// The syntax of a tree, as the kind's rule reads it.
     ghost whole: { Self → Syntax };
 
-    /// Reads a tree by the kind's rule. Refused for the input only where the rule computes nothing.
+    /// Reads a tree by the kind's rule. Reports a syntax error only where the rule derives nothing.
     fn read_tree(input: &mut ParseBuffer<'_>) -> Parsed<Self>
         ensures reads { Computes IsSyntax Self.whole (parse_rule (kind_rule KIND) input.old) result input.new };
 }
@@ -73,9 +73,9 @@ pub type DeferredItems = Deferred<4>;
 /// A tree as its tokens, which are known to be one of its kind.
 #[derive(Drop)]
 pub struct Deferred<const KIND: usize> {
-    /// What is shown of the tree, from which it is read.
+    /// The shown tokens of the tree, from which it is parsed.
     shown: Box<TokenStream>,
-    /// What is printed of it, where that isn't what is shown.
+    /// The printed tokens, where they differ from the shown ones.
     printed: Option<Box<TokenStream>>,
 }
 
@@ -98,8 +98,8 @@ impl<const KIND: usize> Syntactic for Deferred<KIND> {
 }
 
 impl<const KIND: usize> Deferred<KIND> {
-    /// These tokens: the kind's rule reads the shown ones as a whole, they are what is shown of what it reads, and the printed
-    /// ones are what is printed of it.
+    /// A tree from its tokens: the kind's rule reads all of the shown ones, they are the shown tokens of that tree, and the printed ones
+    /// are its printed tokens.
     fn of(tokens: ShownAndPrinted, alloc: Global) -> std::result::Result<Deferred<KIND>, AllocError>
         requires { IsDeferred (kind_rule KIND) tokens.shown tokens.printed }
         ensures { IfOk result (λ deferred. deferred ≡ read_as (kind_rule KIND) tokens.shown) }
@@ -157,7 +157,7 @@ impl<const KIND: usize> Deferred<KIND> {
         Ok(T::read_tree(&mut input)?)
     }
 
-    /// A tree as what its print is read as. It is refused where its print is not read as a whole, and where memory is.
+    /// The tree that the print of this one is read as. Fails where the print is not read as a whole, or where memory is refused.
     #[tactic(auto, using(syn_parse::proofs::Refused::refused_by_syntax))]
     pub fn new<T: TreeOf<KIND>>(tree: &T, alloc: Global) -> Result<Deferred<KIND>>
         ensures { Computes IsSyntaxError itself (whole_only (parse_rule (kind_rule KIND) (print (T.syntax tree.now)))) result end }
@@ -168,7 +168,7 @@ impl<const KIND: usize> Deferred<KIND> {
     }
 }
 
-/// The print of a tree; refused only where memory is.
+/// The print of a tree. Fails only where memory is refused.
 fn printed_tokens<T: ToTokens>(tree: &T, alloc: Global) -> Parsed<TokenStream>
     ensures print { IfOk result (λ stream. stream ≡ print (T.syntax tree.now)) }
     ensures memory { IfErr result (λ e. e ≡ Memory None) }
@@ -180,7 +180,7 @@ fn printed_tokens<T: ToTokens>(tree: &T, alloc: Global) -> Parsed<TokenStream>
     }
 }
 
-/// The rule by which such a tree is read.
+/// The rule that reads such a tree.
 #[tactic(auto, unfolding(crate::specs::Names::rule_of))]
 fn rule_of_kind(kind: usize) -> Rule
     ensures { rule_of result ≡ kind_rule kind }
@@ -216,7 +216,7 @@ pub fn read_deferred<const KIND: usize>(input: &mut ParseBuffer<'_>) -> Parsed<D
     Ok(Deferred::of(tokens, input.alloc())?)
 }
 
-/// Reads a tree that is all that is left of a group or stream, and keeps its tokens alone.
+/// Reads a tree up to the end of a group or stream, and stores only its tokens.
 pub fn read_deferred_rest<const KIND: usize>(input: &mut ParseBuffer<'_>) -> Parsed<Deferred<KIND>>
     ensures reads { Computes IsSyntax itself (whole_only (parse_rule (kind_rule KIND) input.old)) result input.new }
     ensures ended { OnOk result (input.new ≡ end) }
@@ -253,7 +253,7 @@ impl<const KIND: usize> Compared for Deferred<KIND> {
     }
 }
 
-/// Two are equal exactly where their trees are once every span is 0 to 0: where their tokens are. It takes no memory.
+/// Two trees are equal exactly where they are once every span is 0 to 0, which is where their tokens are equal. Allocates nothing.
 impl<const KIND: usize> PartialEq for Deferred<KIND> {
     ghost eq = { same_by itself };
 

@@ -216,7 +216,7 @@ fn read_parameters<'a>(
     Ok(())
 }
 
-/// Reads generics, of which nothing is printed where they have no parameters.
+/// Reads generics; without parameters nothing of them is printed.
 #[tactic(auto, using(crate::proofs::FadingParts::generics_bare, crate::proofs::FadingParts::generics_kept, crate::proofs::FadingParts::generics_refused, crate::proofs::FadingParts::generics_open))]
 fn read_printed_generics<'a>(
     steps: &mut Vec<Step<'a>>,

@@ -16,7 +16,7 @@ use syn_tokens::delimiter::Delimiter;
 #[derive(Clone, Copy)]
 pub enum Form {
     Empty,
-    /// Never read, for this reason.
+    /// Never read; refused for this reason.
     Never(Fault),
     Token(Token),
     /// A token at a place where Rust accepts another form too.
@@ -42,11 +42,11 @@ pub enum Form {
     Generics,
     /// A part that isn't printed where its list is empty.
     Fading(Fading),
-    /// A part that is never printed, where the look holds.
+    /// A part that is never printed, if the lookahead holds.
     Hidden(&'static Look, &'static Form),
-    /// A part that is kept as the tokens that it is read of.
+    /// A part whose tokens are copied unchanged.
     Captured(&'static Form),
-    /// One of several rules that begin alike: read by a plan.
+    /// One of several rules with a common beginning, which a plan reads.
     Planned(Planned),
     /// A union of this rule alone.
     Only(Rule),

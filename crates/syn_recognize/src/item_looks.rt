@@ -263,7 +263,7 @@ pub fn at_unnamed(input: &ParseBuffer<'_>) -> bool
     input.peek::<Ident>() && input.peek2::<Lt>()
 }
 
-/// A parameter of generics, or the `>` where there is none.
+/// A generic parameter, or the `>` of an empty list.
 struct FirstParameter;
 
 impl Peek for FirstParameter {

@@ -115,7 +115,7 @@ pub(crate) fn first_level(from: usize, to: usize, next: First) -> usize
     to
 }
 
-/// Whether it is clear at once that no level matches this next token.
+/// Whether this next token alone rules out every level.
 fn ends(next: First) -> bool
     ensures { result ≡ ends next }
 {

@@ -104,7 +104,7 @@ pub fn at_restriction(input: &ParseBuffer<'_>) -> bool
     }
 }
 
-/// Whether `crate`, `self` or `super` is all that is left.
+/// Whether only `crate`, `self` or `super` is left.
 pub(crate) fn is_lone_word(content: &ParseBuffer<'_>) -> bool
     ensures { result ≡ lone_word content.now }
 {

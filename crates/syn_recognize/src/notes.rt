@@ -11,7 +11,7 @@ pub(crate) struct PlanNote {
     pub(crate) kept: bool,
     /// The tokens after the impl's generics, or its self type, would be read as generics.
     pub(crate) leads: bool,
-    /// How many lists were noted before it.
+    /// How many lists were noted before this plan.
     lists: usize,
 }
 
@@ -39,7 +39,7 @@ impl Notes {
         }
     }
 
-    /// The same, of which no plan was used yet.
+    /// The same notes, of which no plan is used yet.
     pub(crate) fn anew(self) -> Notes {
         let Notes {
             late,
@@ -55,7 +55,7 @@ impl Notes {
         }
     }
 
-    /// One more list has another member than lifetimes: its number.
+    /// Begins the notes of one more list with another member than lifetimes; returns its number.
     pub(crate) fn begin_list(&mut self) -> Result<usize, AllocError> {
         let number = self.late.len();
         self.late.push_back(Vec::new(self.alloc))?;
@@ -70,7 +70,7 @@ impl Notes {
         }
     }
 
-    /// What was noted of the next list.
+    /// Takes the notes of the next list.
     pub(crate) fn next_list(&mut self) -> Vec<Late> {
         match self.late.pop_front() {
             Some(noted) => noted,
@@ -78,7 +78,7 @@ impl Notes {
         }
     }
 
-    /// One more plan begins: its number.
+    /// Begins the notes of one more plan; returns its number.
     pub(crate) fn begin_plan(&mut self) -> Result<usize, AllocError> {
         let number = self.plans.len();
         self.plans.push(PlanNote {
@@ -89,7 +89,7 @@ impl Notes {
         Ok(number)
     }
 
-    /// What was noted of the next plan.
+    /// Takes the notes of the next plan.
     pub(crate) fn next_plan(&mut self) -> PlanNote {
         match self.plans.get(self.used) {
             Some(noted) => {
@@ -115,7 +115,7 @@ impl Notes {
         }
     }
 
-    /// In the impl that the plan of this number reads generics would be read.
+    /// Notes that generics would be read in the impl of this plan.
     pub(crate) fn note_lead(&mut self, plan: usize) {
         if let Some(noted) = self.plans.get_mut(plan) {
             noted.leads = true;

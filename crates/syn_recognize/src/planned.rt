@@ -224,7 +224,7 @@ fn follow<'a>(
     Ok(())
 }
 
-/// It is of a kind: reads what is left.
+/// It is of a kind: reads the rest.
 #[tactic(auto, using(crate::proofs::Todo::push))]
 fn read_rest<'a>(
     form: &'static Form,
@@ -268,7 +268,7 @@ fn read_kept<'a>(
     Ok(())
 }
 
-/// Notes that what the plan of this number reads is kept, and nothing more of it: reads what is left.
+/// Notes that the tokens of the plan of this number are stored verbatim, and reads the rest without taking notes.
 #[tactic(auto, using(crate::proofs::Todo::push, crate::proofs::WrittenAside::dropped_is))]
 fn note_kept<'a>(
     form: &'static Form,
@@ -327,7 +327,7 @@ fn show_lists<'a>(
     Ok(())
 }
 
-/// The same, where generics without parameters are printed by a guess. Nothing is guessed where trees are shown.
+/// The same, where generics without parameters are printed as guessed. Nothing is guessed where trees are shown.
 #[tactic(auto, using(crate::proofs::ImplGenerics::none_absent, crate::proofs::ImplGenerics::none_bare, crate::proofs::ImplGenerics::none_open, crate::proofs::ImplGenerics::none_refused, crate::proofs::ImplGenerics::some_kept))]
 fn print_lists<'a>(
     plan: &'static Plan,
@@ -392,7 +392,7 @@ fn go_on_guessed<'a>(
     Ok(())
 }
 
-/// Writes generics without parameters as `< >` where this is so, else nothing.
+/// Writes `< >` for generics without parameters if they are guessed to be printed, else nothing.
 #[tactic(auto, using(crate::proofs::ImplGenerics::both_marks, crate::proofs::Writes::adds_none))]
 fn write_none(leads: bool, out: &mut Writer) -> Result<(), AllocError>
     ensures { OnOk result (out.new ≡ adds out.old (guessed_generics leads)) }
@@ -437,7 +437,7 @@ fn read_self_type<'a>(
     Ok(())
 }
 
-/// What is still guessed where generics would be read, or not. Refused as memory is where the guess was wrong.
+/// Compares the guess with whether generics would be read here, and returns what is still guessed. A wrong guess returns `Refusal::Memory`.
 fn compared(guess: Guess, it: bool, out: &mut Writer) -> Parsed<Guess>
     ensures kept { IfOk result (λ g. g.kept ≡ guess.kept) }
     ensures leads { IfOk result (λ g. (q : Option Bool → Copy) → led_by guess.leads it q ≡ q g.leads) }

@@ -1,4 +1,4 @@
-//! Reads past what a rule reads, step by step, without recursion.
+//! Reads what a rule reads, step by step, without recursion.
 ghost use Rattle.std.specs.Prelude.{◌≡◌, None, IfErr};
 ghost use Rattle.syn_grammar.specs.Run.{parse_rule};
 ghost use Rattle.syn_grammar.specs.Promises.{Kept, OrMemory, Takes};
@@ -31,7 +31,7 @@ fn run<'a>(steps: &mut Vec<Step<'a>>, out: &mut Writer, input: &mut ParseBuffer<
     Err(Refusal::Memory(None))
 }
 
-/// These tokens once more. Refused only where memory is.
+/// A copy of these tokens. Fails only where memory is refused.
 pub(crate) fn copy_of(tokens: &TokenStream) -> Parsed<TokenStream>
     ensures { OrMemory IsSyntax result (λ copy. copy ≡ tokens.now) }
 {
@@ -51,7 +51,7 @@ fn write_rule(rule: Rule, out: &mut Writer, input: &mut ParseBuffer<'_>) -> Pars
     run(&mut steps, out, input)
 }
 
-/// Reads the rule, and writes its tokens. Where it is refused, `mistaken` says whether what was guessed of lists and plans was wrong.
+/// Reads the rule, and writes its tokens. On failure, `mistaken` is whether a guess about lists and plans was wrong.
 fn write_guessing(
     rule: Rule,
     out: &mut Writer,
@@ -78,7 +78,7 @@ pub fn read_by(rule: Rule, input: &mut ParseBuffer<'_>) -> Parsed<()>
     Ok(())
 }
 
-/// What was read: its tokens as they are shown, and as they are printed.
+/// The tokens that were read, as they are shown, and as they are printed.
 #[derive(Drop)]
 pub struct ShownAndPrinted {
     pub shown: TokenStream,
@@ -108,8 +108,8 @@ fn both_by(
     Ok(ShownAndPrinted { shown, printed })
 }
 
-/// Reads what the rule reads, and writes its tokens as they are printed, with what was noted of lists and plans; a wrong guess is refused
-/// as memory is, and `mistaken` says so.
+/// Reads what the rule reads, and writes its tokens as they are printed. `notes` are the notes on lists and plans. A wrong guess sets
+/// `mistaken` and returns `Refusal::Memory`.
 #[tactic(auto, using(crate::proofs::Shown::not_read, crate::proofs::Shown::kept, crate::proofs::Shown::moved))]
 fn printed_with(
     rule: Rule,
@@ -127,7 +127,7 @@ fn printed_with(
     Ok(printed)
 }
 
-/// How lists and plans are in what the rule reads. It is refused where the rule reads nothing, and where memory is.
+/// The notes on lists and plans in what the rule reads. Fails where the rule reads nothing, or where memory is refused.
 #[tactic(auto, using(crate::proofs::Shown::not_read))]
 fn noted(rule: Rule, input: &ParseBuffer<'_>) -> Parsed<Notes>
     ensures { IfErr result (λ e. IsSyntax e → parse_rule (rule_of rule) input.now ≡ None) }

@@ -23,7 +23,7 @@ pub(crate) fn told(refusal: Refusal, form: &Form, input: &ParseBuffer<'_>) -> Re
     }
 }
 
-/// The refusal of what is left over in a group.
+/// The refusal of tokens left over in a group.
 pub(crate) fn left_over(input: &ParseBuffer<'_>) -> Refusal
     ensures { IsSyntax result }
 {
@@ -81,7 +81,7 @@ fn token_at_end(token: Token) -> Option<&'static str> {
     }
 }
 
-/// What is said where a group with these delimiters is expected at the end.
+/// The error message where a group with these delimiters is expected at the end.
 fn group_at_end(delimiter: Delimiter) -> &'static str {
     match delimiter {
         Delimiter::Paren => "unexpected end of input, expected parentheses",

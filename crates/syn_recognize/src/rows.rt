@@ -71,7 +71,7 @@ pub(crate) fn read_row<'a>(
     read_other(list, number, steps, out, input)
 }
 
-/// Reads a member that is printed first; where it is a late one, it is read twice, once aside, to be noted as it is printed.
+/// Reads a member that is printed first. A late one is read twice: first aside, to note it as it is printed.
 #[tactic(auto, using(crate::proofs::Todo::push, crate::proofs::Lists::noted_is))]
 fn read_first<'a>(
     list: List,
@@ -95,7 +95,7 @@ fn read_first<'a>(
     }
 }
 
-/// Notes what was written aside as a late member, goes back there, and on with what was written before.
+/// Notes what was written aside as a late member, returns to its beginning, and restores the output before it.
 pub(crate) fn note<'a>(
     before: Box<Writer>,
     begin: &ParseBuffer<'a>,
@@ -138,7 +138,7 @@ fn read_other<'a>(
     Ok(())
 }
 
-/// The number of a list that has another member now; none where nothing is to be noted.
+/// The number of a list that has another member now; none where nothing is noted.
 fn number_of(number: Option<usize>, out: &mut Writer) -> Result<Option<usize>, AllocError>
     ensures { out.new ≡ out.old }
 {
@@ -209,7 +209,7 @@ pub(crate) fn read_others<'a>(
     read_another(list, late, steps, out, input)
 }
 
-/// Refused where members are still expected: then what was guessed of the list was wrong.
+/// Refuses late members that are still expected: the guess about the list was wrong.
 fn no_more(late: &Guesses, out: &mut Writer) -> Parsed<()>
     ensures none { OrMemory IsSyntax result (λ x. late.now ≡ []) }
     ensures unchanged { out.new ≡ out.old }
@@ -237,7 +237,7 @@ fn read_another<'a>(
     Ok(())
 }
 
-/// Reads a late member aside, as it was written already.
+/// Reads aside a late member that was written before.
 #[tactic(auto, using(crate::proofs::Todo::push))]
 fn read_late<'a>(
     list: List,

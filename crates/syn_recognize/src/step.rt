@@ -20,11 +20,12 @@ pub enum Step<'a> {
     Row(List, Option<usize>),
     /// Reads what follows a member of such a list.
     RowRest(List, Option<usize>),
-    /// Reads what is left of such a list, of which these members were written already.
+    /// Reads the rest of such a list, whose late members, these, are written already.
     Others(List, Guesses),
     /// Reads what follows another member there.
     OthersRest(List, Guesses),
-    /// Notes what was written aside as a late member of the list of that number, goes back there, and on with what was written before.
+    /// Notes what was written aside as a late member of the list of that number, returns to its beginning, and restores the output before
+    /// it.
     Note(Box<Writer>, ParseBuffer<'a>, usize),
     /// Requires that the tokens written aside are the next late member, and restores the output before it.
     Skip(List, Box<Writer>, Guesses),
@@ -34,7 +35,7 @@ pub enum Step<'a> {
     Capture(Box<Writer>, ParseBuffer<'a>),
     /// Reads the levels of operators from the first number on, those that bind most tightly first, up to the second.
     Levels(usize, usize),
-    /// Reads the first form where a group in braces was read last, from there on, else the second.
+    /// Reads the first form if the last token tree since then is a group in braces, else the second.
     ByBraces(&'static Form, &'static Form, ParseBuffer<'a>),
     /// Follows a plan.
     Plan(&'static Plan, Guess),

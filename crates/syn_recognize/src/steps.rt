@@ -67,7 +67,7 @@ pub(crate) fn take<'a>(
     }
 }
 
-/// Does a step that isn't to read a form, or levels.
+/// Does a step other than reading a form or levels.
 #[tactic(auto, using(crate::proofs::Todo::guessing))]
 fn take_other<'a>(
     step: Step<'a>,
@@ -337,7 +337,7 @@ fn begin_rule<'a>(
     }
 }
 
-/// The same of rules of heads, and of others.
+/// The same for rules of heads, and for others.
 #[tactic(auto, using(crate::proofs::Opened::goes_opened))]
 fn begin_other<'a>(
     rule: Rule,
@@ -358,7 +358,7 @@ fn begin_other<'a>(
     }
 }
 
-/// Begins a plan, or reads another form that isn't made of one that begins where it does.
+/// Begins a plan, or reads another form that isn't composed.
 #[tactic(auto, using(crate::proofs::Todo::guessing))]
 fn read_begun<'a>(
     form: &'static Form,
@@ -374,7 +374,7 @@ fn read_begun<'a>(
     }
 }
 
-/// Reads a form that isn't made of another that begins where it does, and isn't read by a plan.
+/// Reads a form that isn't composed and isn't read by a plan.
 #[tactic(auto, unfolding(crate::specs::Copies::copy_form))]
 fn read_leaf<'a>(
     form: &'static Form,
@@ -488,7 +488,7 @@ fn leave<'a>(
     Ok(())
 }
 
-/// Reads and writes a group, as it is.
+/// Reads a group, and copies it unchanged.
 fn copy_group(delimiter: Delimiter, out: &mut Writer, input: &mut ParseBuffer<'_>) -> Parsed<()>
     ensures { Runs IsSyntax (copy_form (grammar.raw (delimiter_of delimiter)) out.old input.old) result out.new input.new }
 {
@@ -500,7 +500,7 @@ fn copy_group(delimiter: Delimiter, out: &mut Writer, input: &mut ParseBuffer<'_
     }
 }
 
-/// Reads and writes a group with these delimiters, as it is.
+/// Reads a group with these delimiters, and copies it unchanged.
 #[tactic(auto, using(crate::proofs::Copied::raw_is, crate::proofs::Copied::not_raw))]
 fn copy_group_by<K: DelimiterKind>(out: &mut Writer, input: &mut ParseBuffer<'_>) -> Parsed<()>
     ensures { Runs IsSyntax (copy_form (grammar.raw K.delimiter) out.old input.old) result out.new input.new }
@@ -512,7 +512,7 @@ fn copy_group_by<K: DelimiterKind>(out: &mut Writer, input: &mut ParseBuffer<'_>
     Ok(())
 }
 
-/// Writes all that is left, as it is; where what is written is dropped, nothing is copied.
+/// Copies all that is left unchanged; copies nothing where the output is dropped.
 #[tactic(auto, using(crate::proofs::Writes::adds_nothing))]
 fn append_all(input: &mut ParseBuffer<'_>, out: &mut Writer) -> Parsed<()>
     ensures { OrMemory IsSyntax result (λ x. out.new ≡ adds out.old input.old) }
@@ -525,7 +525,7 @@ fn append_all(input: &mut ParseBuffer<'_>, out: &mut Writer) -> Parsed<()>
     Ok(())
 }
 
-/// A copy of all that is left, which is then read. Refused only where memory is.
+/// A copy of all that is left, which is consumed. Fails only where memory is refused.
 fn all_of(input: &mut ParseBuffer<'_>) -> Parsed<TokenStream>
     ensures copy { OrMemory IsSyntax result (λ copy. copy ≡ input.old) }
     ensures read { OnOk result (input.new ≡ end) }
@@ -536,7 +536,7 @@ fn all_of(input: &mut ParseBuffer<'_>) -> Parsed<TokenStream>
     }
 }
 
-/// Reads and writes a mark, and all that is left.
+/// Reads and writes a mark, and copies all that is left.
 #[tactic(auto, using(crate::proofs::Copied::rest_more, crate::proofs::Copied::rest_none, crate::proofs::Copied::rest_not))]
 fn copy_rest(mark: Mark, out: &mut Writer, input: &mut ParseBuffer<'_>) -> Parsed<()>
     ensures { Runs IsSyntax (copy_form (grammar.rest_after (mark_text mark)) out.old input.old) result out.new input.new }
@@ -568,7 +568,7 @@ fn read_value<'a>(
     Ok(())
 }
 
-/// Reads the first form where a group in braces was read last, from there on, else the second.
+/// Reads the first form if the last token tree since then is a group in braces, else the second.
 #[tactic(auto, using(crate::proofs::Todo::push))]
 fn read_by_braces<'a>(
     one: &'static Form,

@@ -1,4 +1,4 @@
-//! The name of a parameter, which is supplied where none is written.
+//! The name of a parameter, which is supplied where it is left out.
 ghost use Rattle.std.specs.Prelude.{◌≡◌, true, OnOk};
 ghost use Rattle.syn_grammar.specs.Tokens.{Before_less};
 ghost use Rattle.syn_grammar.specs.Grammar.{at_unnamed};
