@@ -1,9 +1,9 @@
-//! What an item looks like. A guess decides nothing: it is what is tried first.
+//! What an item looks like. A guess decides nothing: it only selects the kind that is tried first.
 use crate::list::ItemKind;
 use syn_tokens::delimiter::Delimiter;
 use syn_tokens::stream::cursor::{Cursor, TokenTreeRef};
 
-/// The kind that the first words tell which stand in no group. It looks no further than to the end of the item.
+/// The kind that the first words outside of groups suggest. Looks no further than the end of the item.
 pub(crate) fn guess(trees: &Cursor<'_>) -> ItemKind {
     let mut rest = trees.fork();
     for _tree in 0..trees.len() {
@@ -18,7 +18,7 @@ pub(crate) fn guess(trees: &Cursor<'_>) -> ItemKind {
     ItemKind::Verbatim
 }
 
-/// What a tree tells of the item in which it stands, with what stands behind it.
+/// The kind that a tree and the trees after it suggest.
 fn told_by(tree: &TokenTreeRef<'_>, behind: &Cursor<'_>) -> Option<ItemKind> {
     match tree {
         TokenTreeRef::Ident(ident) => told_by_word(ident.text(), behind),
@@ -35,7 +35,7 @@ fn told_by(tree: &TokenTreeRef<'_>, behind: &Cursor<'_>) -> Option<ItemKind> {
     }
 }
 
-/// What a word tells.
+/// The kind that a word suggests.
 fn told_by_word(word: &str, behind: &Cursor<'_>) -> Option<ItemKind> {
     match word {
         "crate" => Some(ItemKind::ExternCrate),
@@ -55,7 +55,7 @@ fn told_by_word(word: &str, behind: &Cursor<'_>) -> Option<ItemKind> {
     }
 }
 
-/// This kind, where a name stands next, or `_`.
+/// This kind, if a name or `_` is next.
 fn told_before_name(kind: ItemKind, behind: &Cursor<'_>) -> Option<ItemKind> {
     let (ident, _) = behind.split_ident()?;
     match ident.text() {

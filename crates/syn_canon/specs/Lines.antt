@@ -4,7 +4,7 @@ use Rattle.syn_grammar.specs.Tokens.{Stream}
 use Rattle.syn_grammar.specs.Rules.{Rule, structure, enumeration, union_item, function, const_item, static_item, extern_crate, use_item, module_item, trait_alias, type_item, macro_as_item, trait_definition, impl_definition, foreign_module}
 use Rattle.syn_grammar.specs.Listed.{Name, Listed, FileLists}
 
--- how a kind of items is written, by the rule that reads it; one that is kept as tokens is `verbatim`
+-- how a kind of items is written, by the rule that reads it; `verbatim` for an item that is stored verbatim
 abbrev pub kind_word : Rule → List ℕ
 kind_word const_item = codes "const"
 kind_word enumeration = codes "enum"

@@ -1,6 +1,6 @@
 //! Written by tools/recognizers.py; edits are lost.
 //!
-//! Blocks, and expressions with nothing before or behind them.
+//! Blocks, and expressions without prefixes and postfixes.
 ghost use Rattle.std.specs.Prelude.{◌≡◌};
 ghost use Rattle.syn_grammar.specs.Run.{parse_form};
 ghost use Rattle.syn_grammar.specs.Table.{table};

@@ -1,6 +1,6 @@
 //! Written by tools/recognizers.py; edits are lost.
 //!
-//! Items that are kept as tokens.
+//! Items that are stored verbatim.
 ghost use Rattle.std.specs.Prelude.{◌≡◌};
 ghost use Rattle.syn_grammar.specs.Run.{parse_form};
 ghost use Rattle.syn_grammar.specs.Table.{table};
