@@ -129,7 +129,10 @@ static ARGUMENT: Form = Form::When(
 );
 
 /// The meta of an attribute that begins with an identifier that is no keyword.
-static META: Form = Form::Then(&Form::Rule(Rule::MODULE_WORDS), &Form::Rule(Rule::META_VALUE));
+static META: Form = Form::Then(
+    &Form::Rule(Rule::MODULE_WORDS),
+    &Form::Rule(Rule::META_VALUE),
+);
 
 /// The segments of an expression's path that begins with an identifier that is no keyword.
 static EXPRESSION_WORDS: Form = Form::Then(
