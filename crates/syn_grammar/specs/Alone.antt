@@ -1,4 +1,4 @@
--- TOKENS THAT ARE STORED AND PARSED AGAIN. The laws hold of every token stream, visible or not.
+-- TOKENS THAT ARE STORED AND PARSED AGAIN. The laws hold for every token stream, visible or not.
 use Rattle.std.specs.Prelude.{◌≡◌, ◌↔◌, ℕ, zero, suc, Bool, true, false, List, [], ◌∷◌, Some, nat_eq}
 use Rattle.syn_grammar.specs.Words.{Text, long_marks}
 use Rattle.syn_grammar.specs.Tokens.{Stream, end, plain, or, and, no, begins_text, one_of_texts, Punctuation, Asked, asked, Look, at_mark, ahead, ◌or_else◌, ◌and_also◌, ◌but_not◌, lookahead, answers}
@@ -120,14 +120,14 @@ ValuesForgetSpans = (k : Rule) (a b : Stream) (s t : Syntax) → plain a ≡ pla
 abbrev pub ShowIsRead : Type 0
 ShowIsRead = (k : Rule) → reads_shown k ≡ true → (ts : Stream) (s : Syntax) → parse_rule k ts ≡ Some (s, end) → parse_rule k (show s) ≡ Some (s, end)
 
--- If a rule that is independent of its rest reads a value before a rest, it reads the tokens of that value as a whole, as the same value with the same spans.
+-- If a rule of `stands_alone` reads a value before a rest, it reads the tokens of that value as a whole, as the same value with the same spans.
 abbrev pub ShowStandsAlone : Type 0
 ShowStandsAlone = (k : Rule) → stands_alone k ≡ true → (ts : Stream) (s : Syntax) (r : Stream) → parse_rule k ts ≡ Some (s, r) → parse_rule k (show s) ≡ Some (s, end)
 
--- The same for a rule that reads a value before one of these marks.
+-- The same for a value that a rule reads before a mark of `stands_before`.
 abbrev pub ShowStandsBefore : Type 0
 ShowStandsBefore = (k : Rule) (m : Text) → one_of_texts m (stands_before k) ≡ true → (ts : Stream) (s : Syntax) (r : Stream) → parse_rule k ts ≡ Some (s, r) → sees (at_mark m) r ≡ true → parse_rule k (show s) ≡ Some (s, end)
 
--- If such a rule reads two whole token streams, the values are equal up to spans if and only if their tokens are.
+-- If a rule of `reads_shown` reads two whole token streams, the values are equal up to spans if and only if their tokens are.
 abbrev pub SameShow : Type 0
 SameShow = (k : Rule) → reads_shown k ≡ true → (a b : Stream) (s t : Syntax) → parse_rule k a ≡ Some (s, end) → parse_rule k b ≡ Some (t, end) → (plain (show s) ≡ plain (show t)) ↔ (plain_syntax s ≡ plain_syntax t)

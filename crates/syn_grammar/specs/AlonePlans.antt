@@ -48,7 +48,7 @@ impl_alone =
     turns at_generics (reads kept_generics λ g. plain_types d c u k (Left g))
     (plain_types d c u k absent)
 
--- The plans read exactly what the rules read, with the same value. (They store nothing verbatim, so the rule given is arbitrary.) Hold of every stream.
+-- The plans read exactly what the rules read, with the same value. (They store nothing verbatim, so the rule given is arbitrary.) Hold for every stream.
 abbrev pub UseAlone : Type 0
 UseAlone = (ts : Stream) → parse_rule use_item_rest ts ≡ run_plan use_alone kept_item ts ts
 

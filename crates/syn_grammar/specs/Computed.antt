@@ -14,26 +14,26 @@ abbrev pub ParseMeans : Type 0
 ParseMeans = (k : Rule) (ts : Stream) → visible ts ≡ true →
     ((s : Syntax) (r : Stream) → (parse_rule k ts ≡ Some (s, r)) ↔ DerivesValue (rule k) s ts r) × ((parse_rule k ts ≡ None) ↔ NotDerived (rule k) ts)
 
--- The computed reading of a rule is that of its form. Holds of every stream.
+-- The computed reading of a rule is that of its form. Holds for every stream.
 abbrev pub ParseForms : Type 0
 ParseForms = (k : Rule) (ts : Stream) → parse_rule k ts ≡ wrap Node (parse_form (table k) ts)
 
--- The computed reading of a comma list is one step, then a list. Holds of every stream.
+-- The computed reading of a comma list is one step, then a list. Holds for every stream.
 abbrev pub ParseRows : Type 0
 ParseRows = (g h : Grammar) (ts : Stream) → rows (union (parse_form g) (parse_form h)) ts ≡ row_step (union (parse_form g) (parse_form h)) (rows (union (parse_form g) (parse_form h))) ts
 
--- The computed reading doesn't leave more tokens, counted at every depth, than it got. Holds of every stream.
+-- The computed reading doesn't leave more tokens, counted at every depth, than it got. Holds for every stream.
 abbrev pub ParseOnward : Type 0
 ParseOnward = (k : Rule) (ts : Stream) (s : Syntax) (r : Stream) → parse_rule k ts ≡ Some (s, r) → left r ≤ left ts
 
--- The value of a tree prints as the tree does. Holds of every tree.
+-- The value of a tree prints as the tree does. Holds for every tree.
 abbrev pub ValuePrints : Type 0
 ValuePrints = (s : Syntax) → print (value_of s) ≡ print s
 
--- From one stream a rule reads trees of at most one value, with one rest. Holds of every stream.
+-- From one stream a rule reads trees of at most one value, with one rest. Holds for every stream.
 abbrev pub OneValue : Type 0
 OneValue = (k : Rule) (ts : Stream) (s t : Syntax) (r q : Stream) → DerivesValue (rule k) s ts r → DerivesValue (rule k) t ts q → (s ≡ t) × (r ≡ q)
 
--- The value of a captured part is any tokens before this rest of which the form has some derivation. Holds of every stream and form.
+-- The value of a captured part is any tokens before this rest of which the form has some derivation. Holds for every stream and form.
 abbrev pub CapturedIsSome : Type 0
 CapturedIsSome = (g : Grammar) (i ts r : Stream) → DerivesValue (captured g) (Captured Nothing i) ts r ↔ ((ts ≡ i ⧺ r) × ((s : Syntax) × DerivesPrefix table g s ts r))

@@ -1,4 +1,4 @@
--- THE ENTRY POINTS AGREE: a union of rules reads exactly what the rules of its kinds read. Hold of every stream.
+-- THE ENTRY POINTS AGREE: a union of rules reads exactly what the rules of its kinds read. Hold for every stream.
 use Rattle.std.specs.Prelude.{◌≡◌, ◌↔◌, Bool, true, false, List, [], Some}
 use Rattle.syn_grammar.specs.Tokens.{Stream, ◌⧺◌}
 use Rattle.syn_grammar.specs.Rules.{Rule, item, derive_input}

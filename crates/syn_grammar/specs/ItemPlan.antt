@@ -319,6 +319,6 @@ unfoldable pub item_plan : Plan
 item_plan =
     reads (rule attributes) λ a. item_behind a
 
--- The plan reads exactly what the rule reads, with the same value. Holds of every stream.
+-- The plan reads exactly what the rule reads, with the same value. Holds for every stream.
 abbrev pub ItemPlan : Type 0
 ItemPlan = (ts : Stream) → parse_rule item ts ≡ run_plan item_plan kept_item ts ts

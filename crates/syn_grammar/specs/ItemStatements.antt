@@ -19,7 +19,7 @@ item_listed (Both s l) = Node (Right (listing (Shaped an_item s) l))
 item_listed s = s
 
 -- If an item is next after the attributes, a statement is what `item` reads, with the attributes; and a list of statements is this and the
--- statements after it. Holds of every stream.
+-- statements after it. Holds for every stream.
 abbrev pub ItemStatements : Type 0
 ItemStatements = (ts m : Stream) (a : Syntax) → parse_rule attributes ts ≡ Some (a, m) → sees at_item m ≡ true →
     (parse_rule statement ts ≡ wrap item_statement (parse_rule item ts))

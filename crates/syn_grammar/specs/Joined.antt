@@ -1,4 +1,4 @@
--- FILES THAT ARE JOINED FROM ITEMS. The laws hold of every stream.
+-- FILES THAT ARE JOINED FROM ITEMS. The laws hold for every stream.
 use Rattle.std.specs.Prelude.{◌≡◌, true, List, [], ◌∷◌, map}
 use Rattle.syn_grammar.specs.Tokens.{Stream, end, ◌⧺◌, visible}
 use Rattle.syn_grammar.specs.Rules.{item, file}

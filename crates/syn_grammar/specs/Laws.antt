@@ -1,4 +1,4 @@
--- THE LAWS OF THE GRAMMAR, for every rule of the table. Unless a premise mentions visible streams, they hold of every token stream.
+-- THE LAWS OF THE GRAMMAR, for every rule of the table. Unless a premise mentions visible streams, they hold for every token stream.
 use Rattle.std.specs.Prelude.{◌≡◌, ◌↔◌, true}
 use Rattle.syn_grammar.specs.Tokens.{Stream, end, ◌⧺◌, plain, visible}
 use Rattle.syn_grammar.specs.Rules.{Rule}

@@ -28,7 +28,7 @@ abbrev pub TypeLeads : Type 0
 TypeLeads = (m r q : Stream) (t : Syntax) → parse_rule type m ≡ Some (t, r) → stands at_generics (print t ⧺ q) ≡ sees at_generics m
 
 -- AN IMPL after its generics, by the next tokens: `!` and braces; `!`, a path and `for` with a type; a path, with an optional `for` and type;
--- any other type. The test of the print (`led`) agrees with the tokens. Hold of every stream.
+-- any other type. The test of the print (`led`) agrees with the tokens. Hold for every stream.
 abbrev pub NeverLed : Type 0
 NeverLed = (m n r : Stream) (x b : Syntax) → Reads (punctuation exclamation) m x n → Reads (rule impl_body) n b r → led (renew (Left (Both x (Left b)))) ≡ sees at_generics m
 

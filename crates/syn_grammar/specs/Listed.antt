@@ -154,11 +154,11 @@ name_ahead function ts = name_past w_fn ts
 name_ahead macro_as_item ts = name_next (past a_bang ts)
 name_ahead _ ts = None
 
--- The name of an item is at this place. Holds of every stream.
+-- The name of an item is at this place. Holds for every stream.
 abbrev pub NamesStandAhead : Type 0
 NamesStandAhead = (k : Rule) (ts : Stream) (s : Syntax) (r : Stream) → IsKind item k → DerivesPrefix table (rule k) (Node s) ts r → name_in k (behind_attributes s) ≡ name_ahead k ts
 
--- A FILE'S LIST IS BUILT ITEM BY ITEM. Hold of every stream.
+-- A FILE'S LIST IS BUILT ITEM BY ITEM. Hold for every stream.
 
 -- After inner attributes the list is empty.
 abbrev pub ListingBegins : Type 0

@@ -196,7 +196,7 @@ foreign_item_plan =
     (safety_plan a inherited)))
     (foreign_member_plan a inherited (foreign_macro_plan a)))
 
--- The plans read exactly what the rules read, with the same values. Hold of every stream.
+-- The plans read exactly what the rules read, with the same values. Hold for every stream.
 abbrev pub TraitItemPlan : Type 0
 TraitItemPlan = (ts : Stream) → parse_rule trait_item ts ≡ run_plan trait_item_plan kept_trait_item ts ts
 
@@ -210,7 +210,7 @@ ForeignItemPlan = (ts : Stream) → parse_rule foreign_item ts ≡ run_plan fore
 abbrev pub PlansMarked : Type 0
 PlansMarked = Marked false item_plan × (Marked false trait_item_plan × (Marked false impl_item_plan × Marked false foreign_item_plan))
 
--- These plans write exactly the tokens (`show`) of the values that the rules read. Holds of every stream.
+-- These plans write exactly the tokens (`show`) of the values that the rules read. Holds for every stream.
 abbrev pub PlansShow : Type 0
 PlansShow = (ts : Stream) →
     (show_plan item_plan ts end ts ≡ shown_out (parse_rule item ts)) × ((show_plan trait_item_plan ts end ts ≡ shown_out (parse_rule trait_item ts))

@@ -208,7 +208,7 @@ runs P (captured g) = λ ts. caught ts (runs P g ts)
 runs P (row g h) = rows (union (runs P g) (runs P h))
 runs P (ordered g h) = λ ts. row_opened (take_mark less ts) (rows (union (runs P g) (runs P h)))
 
--- with at most this depth of nested rules
+-- what a rule reads, with at most this depth of nested rules
 unfoldable pub run : ℕ → Rule → Parser
 run zero k ts = None
 run (suc n) k ts = wrap Node (runs (run n) (table k) ts)

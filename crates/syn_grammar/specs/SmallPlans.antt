@@ -33,7 +33,7 @@ local_value_plan =
     (turns (at_word w_else) (reads (plainly (word w_else)) λ k. reads else_block λ b. ends (value_and_else e (Left (Both k b))))
     (ends (value_and_else e (Right Nothing))))
 
--- The plans read exactly what the forms read, with the same values. (They store nothing verbatim, so the rule given is arbitrary.) Hold of every stream.
+-- The plans read exactly what the forms read, with the same values. (They store nothing verbatim, so the rule given is arbitrary.) Hold for every stream.
 abbrev pub DeriveInputPlan : Type 0
 DeriveInputPlan = (ts : Stream) → parse_rule derive_input ts ≡ run_plan derive_input_plan kept_item ts ts
 

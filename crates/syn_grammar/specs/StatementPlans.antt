@@ -37,7 +37,7 @@ abbrev pub StatementPlan : Type 0
 StatementPlan = (ts : Stream) → parse_rule statement ts ≡
     follow (λ a m. by_test (sees at_item m) (wrap item_statement (run_plan (item_behind a) kept_item ts m)) (wrap (of_other a) (parse_form other_statement m))) (parse_rule attributes ts)
 
--- The same for a list of statements that is not at its end and has no `;` next. Holds of every stream.
+-- The same for a list of statements that is not at its end and has no `;` next. Holds for every stream.
 abbrev pub StatementsPlan : Type 0
 StatementsPlan = (ts : Stream) → sees ended ts ≡ false → sees at_semicolon ts ≡ false → parse_rule statements ts ≡
     follow (λ a m. by_test (sees at_item m) (wrap item_listed (and_then (run_plan (item_behind a) kept_item ts m) (parse_rule statements))) (wrap (other_listed a) (parse_rule statement_rest m))) (parse_rule attributes ts)
@@ -70,6 +70,6 @@ crate_macro_plan =
     turns at_postfix_mark (ends (crate_item (parts (p ∷ x ∷ n ∷ g ∷ []))))
     fails))
 
--- The plan reads exactly what the rule reads, with the same value. (It stores nothing verbatim, so the rule given is arbitrary.) Holds of every stream.
+-- The plan reads exactly what the rule reads, with the same value. (It stores nothing verbatim, so the rule given is arbitrary.) Holds for every stream.
 abbrev pub CrateMacroPlan : Type 0
 CrateMacroPlan = (ts : Stream) → parse_rule crate_macro ts ≡ run_plan crate_macro_plan kept_item ts ts

@@ -137,7 +137,7 @@ at_association = at_name and_also ahead Before_equals
 abbrev pub at_parameter_end : Look
 at_parameter_end = at_comma or_else at_greater or_else at_equals
 
--- The bounds of a predicate, or the where clause, end here: at the end, a group in braces, `,`, `;`, `=` or a `:` that isn't `::`.
+-- A token that ends a where clause or the bounds of a predicate is next: a group in braces, `,`, `;`, `=` or a `:` that isn't `::`; or the stream ends.
 abbrev pub at_predicate_end : Look
 at_predicate_end = ended or_else at_brace or_else at_comma or_else at_semicolon or_else at_equals or_else at_lone_colon
 
@@ -361,7 +361,7 @@ no_else = shaped untagged empty
 abbrev pub else_block : Grammar
 else_block = shaped (operand Block) ((when at_lifetime then never else empty) & rule plain_body)
 
--- A word that begins an item if the tokens after it decide so: forms before it may test every fact of its lookahead.
+-- A word that begins an item only with certain tokens after it: other forms may test every fact of its lookahead.
 abbrev pub item_word : Text → Grammar
 item_word x = asking (word x)
 

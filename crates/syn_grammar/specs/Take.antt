@@ -85,14 +85,14 @@ unfoldable pub take_group : Delimiter → Stream → Option Opened
 take_group d (group d' o c i r) = only (same_delimiter d d') (Some (record { opening = o; closing = c; content = i; rest = r }))
 take_group d _ = None
 
--- how many token trees there are
+-- the number of token trees
 abbrev pub length : Stream → ℕ
 length end = 0
 length (leaf x sp m) = suc (length m)
 length (punct c j sp m) = suc (length m)
 length (group d o c i m) = suc (length m)
 
--- so many token trees
+-- the first n token trees
 abbrev pub first : ℕ → Stream → Stream
 first zero ts = end
 first (suc n) end = end

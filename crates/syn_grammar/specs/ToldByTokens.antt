@@ -99,13 +99,13 @@ all_spare a said x [] = true
 all_spare a said x (p ∷ l) = and (spares a said x p.0) (all_spare a said x l)
 
 -- A TYPE ALIAS, after parts without `where`: a where clause, `=`, a type and a where clause pass the test `one_where` if and only if `where`
--- occurs at most once among all tokens read. Holds of every stream.
+-- occurs at most once among all tokens read. Holds for every stream.
 abbrev pub OneWhereTold : Type 0
 OneWhereTold = (l : List Piece) (b m : Stream) (w q t x : Syntax) → all_spare true wordless w_where l ≡ true →
     WasRead ((rule where_clause, x) ∷ (rule type, t) ∷ (punctuation equals, q) ∷ (rule where_clause, w) ∷ l) b m → has_one_where (before b m) ≡ holds one_where (parts (w ∷ q ∷ t ∷ x ∷ []))
 
 -- A USE, after attributes and a visibility, both optional: a tree in its braces has `::` before it if and only if such a `:` occurs among the tokens.
--- Holds of every stream.
+-- Holds for every stream.
 abbrev pub RootMarkTold : Type 0
 RootMarkTold = (l : List Piece) (b m : Stream) (k t : Syntax) → all_spare false opening w_use l ≡ true →
     WasRead ((inside Brace (rule rooted_trees), t) ∷ (plainly (word w_use), k) ∷ l) b m → use_roots (before b m) ≡ holds (has root_mark) t

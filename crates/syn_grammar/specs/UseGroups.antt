@@ -23,7 +23,7 @@ unrooted (Right (Right (Node s))) = s
 unrooted s = s
 
 -- What the first rule reads, the second one reads too, as trees none of which has `::` before it; and what the second one reads of
--- such trees, the first one reads. Holds of every stream.
+-- such trees, the first one reads. Holds for every stream.
 abbrev pub UseGroups : Type 0
 UseGroups = (ts : Stream) (s : Syntax) (r : Stream) →
     (parse_rule use_trees ts ≡ Some (Node s, r) → (parse_rule rooted_trees ts ≡ Some (Node (rooted s), r)) × ((has_part root_mark (rooted s) ≡ false) × (unrooted (rooted s) ≡ s)))

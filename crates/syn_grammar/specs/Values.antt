@@ -1,5 +1,5 @@
 -- THE VALUE OF A SHAPED FORM: of an expression, a statement or the parameters of a function, in the structure of the Rust types.
--- An expression is `Shaped (expr variant) (Both attributes fields)`. The left operand of an operator, the function of a call etc. are fields, so chains nest to the left.
+-- An expression is `Shaped (expr variant) (Both attributes fields)`. The left operand of an operator, the function of a call etc. are fields: chains nest to the left.
 use Rattle.std.specs.Prelude.{Bool, true, false}
 use Rattle.syn_grammar.specs.Tokens.{end, Paren, Bracket}
 use Rattle.syn_grammar.specs.Shape.{Variant, Path, Struct, Binary, Assign, Cast, Verbatim, Field, MethodCall, Parens, Tuple, Array, Repeat, Macro, Shape, expr, operand, bracketed, behind_it, operator, dotted, fields, choice, chain, leading, labelled, attributed, listed, lone, said, said_macro, a_local, an_item, untagged, parameters, based, single}
