@@ -68,7 +68,7 @@ module _ {T P : Type 0} (first : Syntax → Bool) (v : T → Syntax) (w : P → 
       wrap_wrap (ordered_onto first v w l) (More (first (v x.0)) (v x.0) (place_of (w x.1))) o
       ∙ wrap_same _ _ (λ s. sym (ordered_more l x s)) o
 
-  -- members, and one without a comma; or none
+  -- members, and one without a comma; or no member
   pub ordered_last : (l : List (T × P)) (t : T) → ordered_onto first v w l (Last (first (v t)) (v t)) ≡ ordered_of first (list_of v w l (Some t))
   ordered_last [] t = refl
   ordered_last (y ∷ l) t = ap (More (first (v y.0)) (v y.0) (place_of (w y.1))) (ordered_last l t)

@@ -35,7 +35,7 @@ form_list_told f g m n short v w l o ts r k e =
 pub form_list_unread : (f g : Form) → Meaning f → Meaning g → ParsesSome g → (ts : Stream) → visible ts ≡ true → terminated (parse f) (parse g) ts ≡ None → NotDerivedList f g ts
 form_list_unread f g m n short ts k e = list_unread (parse f) (parse g) (Derives f) (Derives g) (law_by f m) (law_by g n) (list_is f g m short) short ts k e
 
--- an error that is passed on
+-- an error that is propagated
 pub list_err : {T P E : Type 0} (refusal : E → Type 0) (v : T → Syntax) (w : P → Syntax) (f g : Form) (ts : Stream) (r : Result (Sequence T P) E) (e : E) →
     IsErrAnd r (λ f. f ≡ e) → (visible ts ≡ true → refusal e → NotDerivedList f g ts) → ListOutcome refusal v w f g ts r
 list_err refusal v w g h ts (Ok l) e i u = absurd i

@@ -8,7 +8,7 @@ use Rattle.syn_grammar.specs.Run.{value_of}
 use Rattle.syn_grammar.proofs.Takes.{end_found}
 use Rattle.syn_parse.specs.Form.{Form, of, keyword, ◌followed_by◌, choice, in_group, list, such_that, parse, Derives, Meaning, NotDerivedWhole, WholeOutcome}
 
--- an error that is passed on
+-- an error that is propagated
 pub whole_err : {X E : Type 0} (refusal : E → Type 0) (view : X → Syntax) (f : Form) (ts : Stream) (r : Result X E) (e : E) →
     IsErrAnd r (λ f. f ≡ e) → (visible ts ≡ true → refusal e → NotDerivedWhole f ts) → WholeOutcome refusal view f ts r
 whole_err refusal view g ts (Ok x) e h u = absurd h

@@ -32,7 +32,7 @@ is_of_literals (literal_of l) = true
 is_of_literals index = true
 is_of_literals _ = false
 
--- no identifier; no literal; no character of a mark
+-- not an identifier; not a literal; not a character of a mark
 abbrev pub NoIdent : Stream → Type 0
 NoIdent ts = (k : Kind) → is_of_idents k ≡ true → take_token k ts ≡ None
 

@@ -22,7 +22,7 @@ use Rattle.syn_parse.specs.Terminated.{terminated, DerivesList}
 
 -- Conditions on the next tokens, by which forms choose.
 pub data Condition : Type 0 where
-  by : Look → Condition  -- a look of the grammar
+  by : Look → Condition  -- a condition of the grammar
   at_keyword : Text → Condition  -- the identifier of this text, whether or not the grammar knows it
   at_punctuation : Text → Condition  -- these characters, all but the last joint, whether or not they are a mark of the grammar
 
@@ -142,7 +142,7 @@ abbrev pub NotDerivedWhole : Form → Stream → Type 0
 NotDerivedWhole (of g) ts = says.NotDerivedWhole g ts
 NotDerivedWhole f ts = (s : Syntax) → Derives f s ts end → ⊥
 
--- the same of a whole stream
+-- the same for a whole stream
 abbrev pub WholeOutcome : {X E : Type 0} → (E → Type 0) → (X → Syntax) → Form → Stream → Result X E → Type 0
 WholeOutcome refusal view f ts (Ok x) = visible ts ≡ true → DerivesWhole f (view x) ts
 WholeOutcome refusal view f ts (Err e) = visible ts ≡ true → refusal e → NotDerivedWhole f ts

@@ -9,7 +9,7 @@ use Rattle.syn_tokens.specs.Punct.{is_punct_character}
 use Rattle.syn_reader.specs.Scanning.{Absent, first_passes, is_comment_sign, drop_while, begins_comment, begins_raw_name, after_word, begins_raw_string, begins_byte, closed, after_quote, after_raw_string, raw_string_at, prefixed_at, after_b, literal_from, lettered, number_at}
 use Rattle.syn_tokens.specs.declared.literal.LitKind.TheVariants.{Str, ByteStr, CStr}
 
--- a character that passes isn't one that doesn't
+-- a character that passes differs from one that doesn't
 apart : (test : ℕ → Bool) (c d : ℕ) → test c ≡ true → test d ≡ false → (c == d) ≡ false
 apart test c d h g = go (c == d) refl
   where

@@ -76,7 +76,7 @@ cut_passes test R finds bytes (n ∷ ns) rest u h =
     let found = finds h.0 (Some n) h.2 in
     one_more test bytes h.0 rest found.0 (cut_passes test R finds bytes ns h.0 u h.1) found.1 (found.2.split ∙ ap (λ r. encode_utf8 found.0 ++ r) (sym h.3))
 
--- without characters that pass, up to one that doesn't
+-- the rest after the characters that pass, from the first one that doesn't
 dropped : (test : ℕ → Bool) (xs ys : List ℕ) → list_all test xs ≡ true → first_passes test ys ≡ false → drop_while test (xs ++ ys) ≡ ys
 dropped test [] [] h e = refl
 dropped test [] (y ∷ ys) h e = rw e refl

@@ -23,7 +23,7 @@ abbrev pub AllWithin : ℕ → List OpenGroup → Type 0
 AllWithin n [] = Unit {0}
 AllWithin n (o ∷ os) = (o.opening.start < o.opening.end) × (o.opening.end ≤ n) × AllWithin n os
 
--- up to byte j the text is cut into pieces whose tokens were added
+-- the text up to byte j is split into pieces whose tokens were added
 abbrev pub Builds : List ℕ → TreeBuilder → ℕ → Type 0
 Builds text b j = (pieces : List (Piece × Span)) × IsCut text 0 pieces j × (tokens_so_far b ≡ all_tokens pieces) × AllWithin (length text) b.inner.open_groups
 

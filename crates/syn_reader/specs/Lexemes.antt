@@ -40,7 +40,7 @@ IsDelimiter c s (Open d t) = (opening_delimiter (delimiter_of d) ≡ c ∷ []) �
 IsDelimiter c s (Close d t) = (closing_delimiter (delimiter_of d) ≡ c ∷ []) × (is_visible (delimiter_of d) ≡ true) × (t ≡ s)
 IsDelimiter c s _ = ⊥
 
--- what is taken for an identifier is one
+-- the text of an identifier is one
 abbrev pub IsNamed : Lexeme → Type 0
 IsNamed (Ident x s) = IsTrue (is_identifier x.now)
 IsNamed _ = Unit {0}

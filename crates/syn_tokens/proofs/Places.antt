@@ -1,4 +1,4 @@
--- Trees by their places.
+-- Trees by their indices.
 use Rattle.std.proofs.Common.{◌≡◌, ℕ, zero, suc, ◌-◌, ◌≤◌, List, ◌∷◌, ◌++◌, length, length-append, take, min, refl, sym, ap, ◌∙◌, append_assoc, arith}
 use Rattle.std.proofs.lemmas.List.{take_at}
 use Rattle.syn_grammar.specs.Tokens.{Stream, end, leaf, punct, group}
@@ -91,6 +91,6 @@ front_is n ts es rest e f =
     omega (arith, ap length e, ap length f, ap length (encode_first n ts), length-append (encode (grammar.first n ts)) (encode (after n ts))) in
     ap (take (length es - length rest)) (e ∙ encode_first n ts) ∙ take_at (encode (grammar.first n ts)) (encode (after n ts)) (length es - length rest) long
 
--- and where they are found from their number alone
+-- and these entries, from their number alone
 pub cut_first : (n : ℕ) (ts : Stream) (es : List Entry) (k : ℕ) → es ≡ encode ts → k ≡ length (encode (grammar.first n ts)) → take k es ≡ encode (grammar.first n ts)
 cut_first n ts es k e h = ap (take k) (e ∙ encode_first n ts) ∙ take_at (encode (grammar.first n ts)) (encode (after n ts)) k (sym h)

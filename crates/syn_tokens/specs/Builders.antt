@@ -16,7 +16,7 @@ abbrev pub places : ℕ → List OpenGroup → List Pending
 places n [] = []
 places n (g ∷ gs) = pending (n + length (encode g.outer)) g ∷ places (n + length (encode g.outer) + 1) gs
 
--- these entries were added so far, with these groups open, and so many trees in the innermost of them
+-- the state of a builder: these entries, these open groups, and so many trees in the innermost of them
 pub record IsBuilt (es : List Entry) (ps : List Pending) (trees : ℕ) : Type 0 where
   pub encoded : es ≡ laid (groups_in es) (stream_in es)
   pub placed : ps ≡ places 0 (groups_in es)

@@ -16,7 +16,7 @@ use Rattle.syn_tokens.specs.declared.stream.entry.Open.{Open}
 use Rattle.syn_tokens.specs.declared.stream.entry.Token.{Token as Entry}
 use Rattle.syn_tokens.specs.declared.stream.entry.Token.TheVariants as E
 
--- a group whose closing delimiter is still to come
+-- a group that is not closed yet
 pub record OpenGroup : Type 0 where
   pub delimiter : Delimiter
   pub opening : Span
@@ -60,13 +60,13 @@ groups_in es = groups (states es).trees (states es).opened
 abbrev pub stream_in : List Entry → Stream
 stream_in es = content (states es).trees (states es).opened
 
--- where the first of these entries were there from the beginning
+-- the state of a builder that began with the first `n` of these entries
 abbrev pub building : ℕ → List Entry → Building
 building n es = record { before = decode (take n es); open_groups = groups_in es; stream = stream_in es }
 
 -- WHAT CALLS DO
 
--- the innermost open group is closed, and is a tree of the group around it
+-- the innermost open group is closed, and becomes a tree of the enclosing group
 pub record Closes (delimiter : Delimiter) (closing : Span) (old new : Building) : Type 0 where
   pub around : List OpenGroup
   pub innermost : OpenGroup
@@ -81,7 +81,7 @@ NotOpen d b = (around : List OpenGroup) (g : OpenGroup) → b.open_groups ≡ ar
 abbrev pub unbalanced : Span → List FaultValue
 unbalanced s = (s, codes "unbalanced group") ∷ []
 
--- memory was refused, or a delimiter there closes no group, for which this is the reason
+-- memory was refused, or a delimiter there closes no group, for this reason
 abbrev pub IsUnbalanced : Span → Type 0 → List FaultValue → Type 0
 IsUnbalanced s reason [] = Unit {0}
 IsUnbalanced s reason (f ∷ fs) = (f ∷ fs ≡ unbalanced s) × reason
@@ -113,7 +113,7 @@ is_open_in (g ∷ gs) = true
 unfoldable pub is_open : Building → Bool
 is_open b = is_open_in b.open_groups
 
--- outside of the innermost open group, which ends here and is a tree of the group around it
+-- outside of the innermost open group, which ends here and becomes a tree of the enclosing group
 abbrev pub closed_in : Stream → List OpenGroup → grammar.Span → Stream → Building
 closed_in before [] c s = record { before = before; open_groups = []; stream = s }
 closed_in before (g ∷ gs) c s =

@@ -1,4 +1,4 @@
--- Comparisons where spans don't count.
+-- Comparisons that ignore spans.
 use Rattle.std.specs.Prelude.{Bool}
 use Rattle.std.specs.Cmp.{IsEquivalence, IsPartialEquivalence, partial_equiv_from_equiv, on_equiv}
 use Rattle.syn_grammar.specs.Grammar.{Syntax, plain_syntax}

@@ -1,4 +1,4 @@
--- What a cursor finds.
+-- The results of a cursor.
 use Rattle.std.specs.Prelude.{◌≡◌, ℕ, List, ◌∷◌, ◌++◌, length}
 use Rattle.syn_grammar.specs.Tokens.{ident, literal, Stream, leaf, punct, group}
 use Rattle.syn_tokens.specs.Spans.{at}

@@ -5,7 +5,7 @@ use Rattle.syn_tokens.specs.declared.span.Span.{Span}
 use Rattle.syn_tokens.specs.contracts.span.Span as span
 use Rattle.syn_tokens.specs.declared.error.Fault.{Fault}
 
--- where, and the text
+-- the span and the text
 abbrev pub FaultValue : Type 0
 FaultValue = Span × List ℕ
 
@@ -15,7 +15,7 @@ coded_fault = coded× span.the_row.coded (coded_list coded_ℕ)
 abbrev pub fault_of : Fault → FaultValue
 fault_of f = (f.span, f.text.now)
 
--- there are faults: the tokens are no such thing, and memory was not refused
+-- a syntax error: there are faults, so memory was not refused
 abbrev pub IsSyntaxError : List FaultValue → Type 0
 IsSyntaxError [] = ⊥
 IsSyntaxError (f ∷ fs) = Unit {0}
@@ -30,7 +30,7 @@ abbrev pub first_text : List FaultValue → Option (List ℕ)
 first_text [] = None
 first_text (f ∷ fs) = Some f.1
 
--- the first four faults of two errors; memory with anything is memory
+-- the first four faults of two errors; refused memory takes precedence
 abbrev pub combined : List FaultValue → List FaultValue → List FaultValue
 combined [] gs = []
 combined (f ∷ fs) [] = []

@@ -7,7 +7,7 @@ use Rattle.syn_tokens.specs.declared.delimiter.Delimiter.{Delimiter}
 use Rattle.syn_tokens.specs.declared.stream.entry.Token.{Token as Entry}
 use Rattle.syn_tokens.specs.declared.stream.entry.Token.TheVariants as E
 
--- the entry is no identifier; no character of a mark
+-- the entry is not an identifier; not a character of a mark
 abbrev pub IsNoIdent : Entry → Type 0
 IsNoIdent (E.Ident i) = ⊥
 IsNoIdent _ = Unit {0}

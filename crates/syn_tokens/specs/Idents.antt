@@ -16,7 +16,7 @@ pub record IdentValue : Type 0 where
 unfoldable pub is_keyword : Text → Bool
 is_keyword x = one_of_texts x keywords
 
--- `_`, or what may start an identifier
+-- `_`, or a character that may start an identifier
 abbrev pub may_start : ℕ → Bool
 may_start c = c == 95 || is_xid_start c
 

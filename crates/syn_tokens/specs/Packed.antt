@@ -24,7 +24,7 @@ unpacked (P.Open delimiter place skip) = E.Open (record { delimiter = delimiter;
 unpacked (P.Close delimiter place trees) = E.Close (record { delimiter = delimiter; span = wide place; trees = trees })
 unpacked (P.Far far) = far_token far.value
 
--- it is known whether an identifier is a keyword, and marks are made of their characters
+-- the flag says whether an identifier is a keyword, and the characters of marks are allowed there
 abbrev pub IsPacked : P.the_data → Type 0
 IsPacked (P.Ident keyword place text) = keyword ≡ is_keyword text
 IsPacked (P.Punct spacing character place) = IsTrue (is_punct_character character)

@@ -1,4 +1,4 @@
--- The trees of a stream by their places.
+-- The trees of a stream by their indices.
 use Rattle.std.specs.Prelude.{ℕ, zero, suc}
 use Rattle.syn_grammar.specs.Tokens.{Stream, end, leaf, punct, group}
 

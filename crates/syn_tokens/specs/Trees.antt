@@ -1,4 +1,4 @@
--- The stream that a list of token trees is.
+-- The stream of a list of token trees.
 use Rattle.std.specs.Prelude.{List, [], ◌∷◌}
 use Rattle.syn_grammar.specs.Tokens.{ident, literal, Stream, end, leaf, punct, group}
 use Rattle.syn_tokens.specs.Spans.{at}

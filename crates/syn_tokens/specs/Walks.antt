@@ -6,7 +6,7 @@ use Rattle.syn_tokens.specs.Cursors.{before_next}
 use Rattle.syn_tokens.specs.declared.stream.cursor.TokenTreeRef.{TokenTreeRef}
 use Rattle.syn_tokens.specs.declared.stream.cursor.TokenTreeRef.TheVariants as T
 
--- its trees in order, each group as one
+-- its trees in order, a group counts as one
 abbrev pub trees_of : Stream → List TokenTreeRef
 trees_of end = []
 trees_of (leaf (ident x) sp m) = T.Ident (record { text = x; span = from sp }) ∷ trees_of m

@@ -113,7 +113,7 @@ impl Ident {
         }
     }
 
-    /// Whether it is a keyword, and its text.
+    /// The keyword flag and the text.
     pub(crate) fn into_parts(self) -> (bool, Text)
         ensures { result ≡ (is_keyword self.text, self.text) }
     {

@@ -11,7 +11,7 @@ use syn_tokens::stream::cursor::{Cursor, TokenTreeRef};
 pub enum First {
     /// There is no next tree.
     Ended,
-    /// An identifier that is no keyword.
+    /// An identifier that is not a keyword.
     Name,
     /// A keyword.
     Keyword,

@@ -1,4 +1,4 @@
-//! How identifiers are spelled.
+//! The spelling of identifiers.
 ghost use Rattle.std.specs.Prelude.{◌≡◌};
 ghost use Rattle.std.specs.List.{list_all};
 ghost use Rattle.std.specs.Str.{chars};

@@ -111,7 +111,7 @@ impl<'a> Cursor<'a> {
         Cursor { entries, trees }
     }
 
-    /// A cursor over no tree.
+    /// An empty cursor.
     pub fn none() -> Cursor<'a>
         ensures { result ≡ end }
     {
