@@ -82,7 +82,7 @@ class Mutations(unittest.TestCase):
         self.table.write_text(self.table.read_text().rstrip() + '\n--\n-- New.\ntable new =\n    plainly (word w_pub) & punctuation comma\n')
         lacking = self.borders().lacking(['new'])
         for change in ['`pub` may be left out', '`,` may stand again at the end', '`pub` may be any identifier']:
-            self.assertIn(f'`new`: no example tells the table from one in which {change}', lacking)
+            self.assertIn(f'`new`: no example detects the change "{change}"', lacking)
 
     def test_a_name_that_a_choice_has_seen_to(self):
         self.table.write_text(self.table.read_text().rstrip() + '\n--\n-- New.\ntable new =\n    when at_name then plainly name & plainly name else punctuation comma\n')
@@ -117,7 +117,7 @@ class Mutations(unittest.TestCase):
     def test_listed_changes(self):
         listed = read_equivalent(HERE / 'equivalent_mutants.txt')
         told = {**listed, ('structure_rest', 'the name may also be `crate`'): 'wrongly'}
-        self.assertIn('but the example `struct_rest_crate` tells it', '\n'.join(self.borders(told).lacking(['structure_rest'])))
+        self.assertIn('but the example `struct_rest_crate` detects it', '\n'.join(self.borders(told).lacking(['structure_rest'])))
         unknown = {**listed, ('structure', 'it is blue'): 'wrongly'}
         self.assertIn('is no change of this rule', '\n'.join(self.borders(unknown).lacking(['structure'])))
 

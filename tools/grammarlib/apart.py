@@ -59,7 +59,7 @@ class Apart:
                 and not set(starts.first_set(g)) & set(starts.first_set(h)))
 
     def sides(self, form):
-        """A form that turns by what stands next: the look and its two sides."""
+        """A form that branches on the next token: the look and its two sides."""
         if form[0] == 'when':
             return form[1], form[2], form[3]
         if form[0] == 'generics_before':

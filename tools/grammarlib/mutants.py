@@ -1,7 +1,7 @@
-"""Wrong tables: of each rule the forms that differ from its own by one change, each with a sentence that tells the change.
+"""Wrong tables: for each rule the forms that differ from its own by one change, each with a sentence that describes the change.
 
 What a change may be: a part left out, optional, twice, or again at another place; an optional part required; the two ways of a choice
-exchanged; a condition that asks for less or for something else; a word, a mark or a pair of delimiters that may also be another one;
+exchanged; a condition that tests less or something else; a word, a mark or a pair of delimiters that may also be another one;
 a name that may be a keyword; a group whose content isn't read to its end, or may be empty.
 """
 from collections import Counter
@@ -13,7 +13,7 @@ from .starts import LOOKS, Starts
 from .tokens import stream
 
 DELIMITERS = {'Paren': '( )', 'Brace': '{ }', 'Bracket': '[ ]'}
-# keywords that stand where names do, and one that doesn't
+# keywords that may take the place of names, and one that may not
 PATH_WORDS = ['self', 'Self', 'super', 'crate']
 KEYWORDS = PATH_WORDS + ['_', 'fn']
 # marks that are easily taken for one another
@@ -40,14 +40,14 @@ def reads_nothing(form):
 
 
 def children(form):
-    """The places in a form at which other forms stand."""
+    """The places of the forms directly in a form."""
     if form[0] in ('token', 'mark', 'rule', 'one_of', 'raw', 'rest_after', 'inside'):
         return [2] if form[0] == 'inside' else []
     return [n for n in range(1, len(form)) if is_form(form[n]) and not (form[0] in ('such', 'shaped', 'supplied') and n == 1)]
 
 
 def places(form, path=()):
-    """Each form that stands in this one, itself too, with the way to it."""
+    """This form and each form in it, with the path to it."""
     yield path, form
     for n in children(form):
         yield from places(form[n], path + (n,))
@@ -127,7 +127,7 @@ class Mutants:
         return self.distinct(rule, self.changes(self.table[rule]))
 
     def of_facts(self, rule):
-        """The changes of what the rule's tokens promise to tell: they alter nothing that is read, but a law may refuse them."""
+        """The changes of the facts that the rule's tokens promise: they alter nothing that is read, but a law may refuse them."""
         form = self.table[rule]
         quiet = {'token': (), 'mark': False}
         return self.distinct(rule, ((f'{self.name(part)} promises no facts', put(form, path, (part[0], quiet[part[0]], part[2])))
@@ -160,7 +160,7 @@ class Mutants:
                 yield change, put(form, path, sequence(new))
 
     def guard(self, form, path):
-        """The terminals with which what stands at this place may begin, where a choice has seen to it; else None."""
+        """The terminals with which the form at this place may begin, where a choice has tested for them; else None."""
         above = self.above(form, path)
         while above and (above[0] == 'shaped' or (above[0] == '&' and path[-1] == 1)):
             path = path[:-1]
@@ -170,7 +170,7 @@ class Mutants:
         return {f for f in self.terminals() if self.lookaheads.may(above[1], f)}
 
     def above(self, form, path):
-        """The form in which what stands at this place is a part."""
+        """The form of which the form at this place is a part."""
         return next((f for p, f in places(form) if path and p == path[:-1]), None)
 
     def of_members(self, parts, guard):
@@ -198,12 +198,12 @@ class Mutants:
         return ('when', self.first(part), part, EMPTY)
 
     def is_idle_behind(self, before, part):
-        """What the optional part begins with never stands behind these."""
+        """The optional part never begins after these."""
         made = self.optional(part)
         return bool(before) and made[0] == 'when' and made[3] == EMPTY and made[1] in self.starts.never_follow([], sequence(before))
 
     def first(self, part):
-        """What the part begins with stands next."""
+        """The look that holds where the part begins."""
         made = {'Name': lambda f: ('at_name',), 'Word': lambda f: ('at_word', f[1]), 'Punctuation': lambda f: ('at_mark', f[1]),
                 'Literal': lambda f: ('at_literal', f[1]), 'Delimited': lambda f: ('at_empty_group',) if f[2] else ('at_group', f[1])}
         return any_of([made[f[0]](f) for f in self.starts.first_set(part)] or [('ended',)])
@@ -299,7 +299,7 @@ class Mutants:
         return not any(f in starts.first_set(yes) or f in starts.first_set(other) for f in differ)
 
     def may_differ(self, look, new, terminal):
-        """Lookaheads with this terminal may answer the two conditions differently."""
+        """The two conditions may differ for lookaheads with this terminal."""
         lookaheads, kind = self.lookaheads, look[0]
         if look == new:
             return False
@@ -406,7 +406,7 @@ class Mutants:
                 yield f'{self.name(part)} may also be a literal', put(form, path, ('either', part, part[:2] + (('literal_of', (('Int',), ('Str',))),)))
 
     def comes_there(self, form, path):
-        """Whether a terminal may come to the token at this place: not where a choice in whose first way it stands first has seen to it."""
+        """Whether the token at this place may be tried on a terminal: not where a choice that begins with the token has tested for it."""
         guard = self.guard(form, path)
         return lambda terminal: guard is None or terminal in guard
 
