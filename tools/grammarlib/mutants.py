@@ -185,12 +185,12 @@ class Mutants:
             if part[0] == 'when' and part[2] == NEVER:
                 continue  # a refusal
             if not self.is_idle_behind(before + [part], part):
-                yield f'{name} stands twice', before + [part, part] + behind
+                yield f'{name} occurs twice', before + [part, part] + behind
             for place in [p for p in range(len(parts) + 1) if p != n]:
                 if place == 0 and guard is not None and not guard & first_set or self.is_idle_behind(parts[:place], part):
                     continue
                 where = f'before {self.name(parts[place])}' if place < len(parts) else 'at the end'
-                yield f'{name} may stand again {where}', parts[:place] + [self.optional(part)] + parts[place:]
+                yield f'{name} may occur again {where}', parts[:place] + [self.optional(part)] + parts[place:]
 
     def optional(self, part):
         if self.starts.nullable(part):
@@ -215,7 +215,7 @@ class Mutants:
         if kind == 'when':
             yield from self.of_choice(part)
         elif kind == 'vanishing':
-            yield f'{self.name(part)} always stands there', part[3]
+            yield f'{self.name(part)} is always there', part[3]
             for change, look in self.of_look(part[2], ()):
                 yield change, part[:2] + (look,) + part[3:]
         elif kind == 'inside':
@@ -223,7 +223,7 @@ class Mutants:
             yield f'{self.name(part)} may hold anything', ('raw', part[1])
             if not self.reads_nothing(part[2]):
                 yield f'{self.name(part)} may be empty', ('inside', part[1], ('when', ('ended',), EMPTY, part[2]))
-            yield f'{self.name(part)} stands without its delimiters', part[2]
+            yield f'{self.name(part)} has no delimiters', part[2]
         elif kind == 'one_of':
             for n, rule in enumerate(part[1]):
                 yield f'no {rule[0]}', ('one_of', part[1][:n] + part[1][n + 1:])
@@ -264,7 +264,7 @@ class Mutants:
         kind = look[0]
         if kind == 'ended':
             for text in marks:
-                yield f'where `{text}` stands too', either(look, ('at_mark', text))
+                yield f'where `{text}` is next too', either(look, ('at_mark', text))
         if kind in JOINED:
             yield f'where only {self.look_name(look[1])}', look[1]
             if kind != 'but_not':
@@ -272,17 +272,17 @@ class Mutants:
         if kind == 'at_mark':
             longer = [m for m in self.lookaheads.long_marks if m.startswith(look[1]) and m != look[1]]
             for text in [look[1][:-1]] * (len(look[1]) > 1) + longer[:2]:
-                yield f'where `{text}` stands and not `{look[1]}`', ('at_mark', text)
+                yield f'where `{text}` is next and not `{look[1]}`', ('at_mark', text)
         if kind == 'at_group':
             for other in DELIMITERS:
                 if (other,) != look[1]:
-                    yield f'where {DELIMITERS[other]} stands too', either(look, ('at_group', (other,)))
+                    yield f'where {DELIMITERS[other]} is next too', either(look, ('at_group', (other,)))
         if kind == 'at_empty_group':
-            yield 'where an invisible group with content stands too', ('at_group', INVISIBLE)
+            yield 'where an invisible group with content is next too', ('at_group', INVISIBLE)
         if kind in ('at_word', 'at_mark', 'at_name'):
-            yield 'where nothing stands too', either(look, ('ended',))
+            yield 'at the end too', either(look, ('ended',))
         if kind == 'at_word':
-            yield f'where a name stands too', either(look, ('at_name',))
+            yield f'where a name is next too', either(look, ('at_name',))
 
     def terminals(self):
         signs = list("~!@#$%^&*-=+|;:,<.>/?'") + self.lookaheads.long_marks

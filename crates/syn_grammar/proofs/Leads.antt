@@ -25,7 +25,7 @@ use Rattle.syn_grammar.proofs.Means.{told, parse_rule_told}
 use Rattle.syn_grammar.proofs.Alone.{of_every_rule, one_said}
 use Rattle.syn_grammar.proofs.ToldByTokens.{word_leaf}
 
--- ---- A CHARACTER STANDS FIRST: of marks only those that begin with it
+-- ---- A CHARACTER IS FIRST: the only marks there are those that begin with it
 
 -- a type continues from the name before this
 abbrev type_goes_on : Look

@@ -133,7 +133,7 @@ meaning_of_optional c g m ts v = (λ s r. (told_of s r, found_of s r), (none_of,
         go None e = refl
         go (Some p) e = let t = told_of p.0 p.1 e in absurd (u t.0 p.1 t.1)
 
--- OF A WHOLE STREAM: the parser answered, and nothing is left
+-- OF A WHOLE STREAM: the parser returned a value, and nothing is left
 pub whole_ok : (g : Grammar) → Meaning g → (ts : Stream) (s : Syntax) → visible ts ≡ true → parse_form g ts ≡ Some (s, end) → DerivesWholeValue g s ts
 whole_ok g m ts s v e = ((m ts v).0 s end).0 e
 

@@ -316,8 +316,8 @@ back_is (in_such q ∷ k) s m = refl
 back_is (and_behind h ∷ k) s m = refl
 back_is (with_generics t ∷ k) s m = back_is k (Impl t s) m
 
--- What was read (true: of which nothing is shown) loses nothing on its way back: only what is shown of nothing stands in a part that is never
--- printed.
+-- Nothing that was read is lost on the way back (true: no token of it is shown): a part that is never printed holds only values that
+-- show no tokens.
 abbrev pub calm : Bool → List Frame → Bool
 calm q [] = true
 calm q (and_next h ∷ k) = true
