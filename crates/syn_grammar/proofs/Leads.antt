@@ -1,4 +1,4 @@
--- What leads an impl is seen in its tokens as in its print.
+-- Whether generics lead an impl is seen in its tokens as in its print.
 use Rattle.std.proofs.Common.{◌≡◌, ℕ, Bool, true, false, List, [], ◌∷◌, ◌++◌, Some, None, refl, sym, ap, ap₂, ◌∙◌, subst, true≢false, ◌⊎◌, inl, inr}
 use Rattle.std.specs.Prelude.{nat_eq}
 use Rattle.syn_grammar.specs.Words.{Text, keywords, contextual, w_as, w_const, w_for, w_self, w_super, w_crate, w_Self_type, long_marks, less, less_equals, greater, pound, lifetime_mark, colon, colons, exclamation}
