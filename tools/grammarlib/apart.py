@@ -20,7 +20,7 @@ class Apart:
         self.starts, self.lookaheads, self.table = starts, starts.lookaheads, starts.table
 
     def openings(self, form):
-        """Forms that together read what this one reads, one step simpler (none: it can't be opened)."""
+        """Forms that together read what this one reads, one step simpler (an empty list if there are none)."""
         kind = form[0]
         if kind == '&':
             rest = form[2]

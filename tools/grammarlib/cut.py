@@ -51,7 +51,7 @@ class Cuts:
         self.cut = self.greatest(self.cuts)
 
     def greatest(self, test):
-        """The most rules of which each passes the test, where those are taken to pass it."""
+        """The largest set of rules that all pass the test, where the test takes the set for granted."""
         good = set(self.table)
         while True:
             fewer = {rule for rule in good if test(good, self.table[rule])}

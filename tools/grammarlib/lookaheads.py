@@ -185,7 +185,7 @@ class Lookaheads:
         """The terminal of a mark that is seen whole, as it is printed."""
         return ('Punctuation', text) if len(text) == 1 else self.join(text[0], self.mark_terminal(text[1:]))
 
-    # HOW A LOOK IS ANSWERED IN SOURCE AND PRINT
+    # A LOOK IN SOURCE AND PRINT
 
     def deaf(self, character, look):
         """No mark that meets the look continues a mark from this character."""

@@ -1,4 +1,4 @@
-"""The plans of unions, as the specifications have them, without their values: trees of what is read, what turns and how it ends.
+"""The plans of unions, as in the specifications but without values: trees of what is read, where it branches and how it ends.
 
 A plan is a tuple: ('reads', form, plan), ('apart', form, plan) (the same, of which no form is made with what follows), ('turns', look, plan, plan), ('tests', test, plan, plan), ('ends',), ('done',), ('fails',),
 ('then', plan, form) (a plan and a form after it), ('lists', plan) (generics of an impl, and what follows), and ('self', plan) (the self
@@ -121,7 +121,7 @@ class Reader:
         return self.plans.call(word, arguments, {})
 
     def argument(self):
-        """A place, a plan, a function to plans, or a value, of which nothing is kept."""
+        """A place, a plan, a function to plans, or a value (dropped)."""
         begin = self.at
         words = self.skip()
         inner = words[1:-1] if words[0] == '(' else words
