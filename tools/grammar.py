@@ -85,7 +85,7 @@ def tell_unexplained(source):
     told = page.read_text() if page.exists() else ''
     for rule in source.rules:
         if f'`{rule}`' not in told:
-            print(f'grammar: docs/GRAMMAR.md doesn\'t tell of the rule `{rule}`', file=sys.stderr)
+            print(f'grammar: docs/GRAMMAR.md doesn\'t describe the rule `{rule}`', file=sys.stderr)
 
 
 def lower(borders):
@@ -127,7 +127,7 @@ def main():
         path.unlink()
     for path in stale:
         path.write_text(written[path])
-    print(f'grammar: {len(source.rules)} rules; written: {named(stale) or "nothing, all files stood so"}')
+    print(f'grammar: {len(source.rules)} rules; written: {named(stale) or "nothing, all files are up to date"}')
 
 
 if __name__ == '__main__':

@@ -262,7 +262,7 @@ closed_cut g s x y r w a =
     let (c, e, k) = alone closed_of table closed_hold g s (x ⧺ r) (y ⧺ r) w a in
     subst (λ z. Derived g s z y × (lookahead z ≡ lookahead (x ⧺ r))) (sym (split_off x c y r e)) (k y)
 
--- what is read of the stream is some of it
+-- the tokens that are read are part of the stream
 some_cut : (g : Grammar) (s : Syntax) (x y r : Stream) → Derived g s (x ⧺ r) (y ⧺ r) → lowest g ≤ size x
 some_cut g s x y r a =
     let p = sized g s (x ⧺ r) (y ⧺ r) a in
@@ -339,7 +339,7 @@ off_stays l h s x y r w u a e = go (or_split (closes closed_of h) _ w)
     go (inl q) = ap (answers l) (closed_cut h s x y r q a).1 ∙ e
     go (inr q) = rest (or_split (fades_look l) _ q)
 
--- ---- what is read where the rest is cut off
+-- ---- the reading where the rest is cut off
 spelled_cut : (xs : List (ℕ × Span)) (x y r : Stream) → Spelled xs (x ⧺ r) (y ⧺ r) → Spelled xs x y
 spelled_cut xs x y r h =
     let (c, e, k) = spelled_alone xs (x ⧺ r) (y ⧺ r) h in
@@ -433,7 +433,7 @@ mutual
       )
   cut_row g h _ x y r w u e a = elim a [ ]
 
--- ---- the last token that is shown of what was read is no mark that is joined to what follows
+-- ---- the last shown token of a value is no mark that is joined to what follows
 abbrev spaced : Grammar → Bool
 spaced empty = true
 spaced (token b k) = true

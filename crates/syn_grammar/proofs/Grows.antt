@@ -1,4 +1,4 @@
--- A grammar that has grown reads what the grammar before read, lifted.
+-- A grammar that has grown reads everything that the earlier grammar reads, as the lifted tree.
 use Rattle.std.proofs.Common.{◌≡◌, Bool, true, false, List, [], ◌∷◌, refl, sym, ap, ap₂, ◌∙◌, subst, true≢false, ◌⊎◌, inl, inr}
 use Rattle.syn_grammar.specs.Tokens.{Brace, Stream, end, ◌⧺◌, or, and, no, pick, Terminal, Ended, Name, Word, Punctuation, Literal, Delimited, mem, same_text, same_fact, Look, at_group, lookahead, stands, is_group}
 use Rattle.syn_grammar.specs.Rules.{Rule, attributes, trait_definition, trait_definition_rest, impl_definition, impl_definition_rest, odd_impl, const_trait, const_impl, odd_const_impl, kept_item, kept_item_rest, kept_in_block, statements, statement, after_block, after_expression, array_content, assigned, bit_and, bit_ands, bit_or, bit_ors, bit_xor, bit_xors, cast, compared, comparison, conjunction, conjunctions, disjunction, disjunctions, expressions, file, item, items, literal_field, literal_fields, named_field, named_fields, operand_rest, primary, product, products, root_mark, rooted_tree, rooted_trees, shift, shifts, statement_rest, sum, sums, unary, use_tree, use_trees, variant, variants, whole_expression}
@@ -126,7 +126,7 @@ grows b a (row g h) (row g' h') = and (grows b false g g') (grows b false h h')
 grows b a (ordered g h) (ordered g' h') = and (grows b false g g') (grows b false h h')
 grows b a _ _ = false
 
--- so it is of each rule
+-- the same of each rule
 abbrev good_rule : Bool → Rule → Bool
 good_rule b k = or (or (is_part k) (or (is_list k) (no (or b (calm k))))) (grows b (needs k) (before k) (table k))
 

@@ -398,7 +398,7 @@ after_token_is (name_or xs) l y sp r e h = after_word_is (known_word l) l y sp r
 after_token_is (literal_of ks) l y sp r e h = after_word_is (known_word l) l y sp r h (known_word_is l (lookahead (leaf y sp r)) h)
 after_token_is index l y sp r e h = after_word_is (known_word l) l y sp r h (known_word_is l (lookahead (leaf y sp r)) h)
 
--- what is known of the content of a group with this delimiter
+-- what is known about the content of a group with this delimiter
 abbrev pub inside_group : Delimiter → Known → Known
 inside_group d [] = []
 inside_group d ((ahead n, v) ∷ l) = noted (asked_for n (asked_inside d)) v (inside_group d l)

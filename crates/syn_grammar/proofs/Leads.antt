@@ -1,4 +1,4 @@
--- What leads an impl is seen in its tokens as in its print.
+-- Whether generics lead an impl is seen in its tokens as in its print.
 use Rattle.std.proofs.Common.{◌≡◌, ℕ, Bool, true, false, List, [], ◌∷◌, ◌++◌, Some, None, refl, sym, ap, ap₂, ◌∙◌, subst, true≢false, ◌⊎◌, inl, inr}
 use Rattle.std.specs.Prelude.{nat_eq}
 use Rattle.syn_grammar.specs.Words.{Text, keywords, contextual, w_as, w_const, w_for, w_self, w_super, w_crate, w_Self_type, long_marks, less, less_equals, greater, pound, lifetime_mark, colon, colons, exclamation}
@@ -25,7 +25,7 @@ use Rattle.syn_grammar.proofs.Means.{told, parse_rule_told}
 use Rattle.syn_grammar.proofs.Alone.{of_every_rule, one_said}
 use Rattle.syn_grammar.proofs.ToldByTokens.{word_leaf}
 
--- ---- A CHARACTER STANDS FIRST: of marks only those that begin with it
+-- ---- A CHARACTER IS FIRST: the only marks there are those that begin with it
 
 -- a type continues from the name before this
 abbrev type_goes_on : Look

@@ -29,7 +29,7 @@ filled_off a (x ∷ l) e = refl
 abbrev none_ended : List Terminal → Bool
 none_ended l = every (λ f. no (is_ended f)) l
 
--- of the content of an invisible group: what is read of it and what is printed are both nothing, or neither is
+-- for the content of an invisible group: its tokens and its print are both empty, or neither is
 abbrev pub lasting : Delimiter → Summary → Bool
 lasting None p = and (no (filled p.gone)) (and (none_ended p.stays) (and (none_ended (firsts p.moves)) (none_ended (seconds p.moves))))
 lasting d p = true

@@ -1,4 +1,4 @@
--- How far a plan goes, for who reads by one: what looks answered and what was read.
+-- The steps of a reader that follows a plan: the results of looks and what was read.
 use Rattle.std.proofs.Common.{◌≡◌, Bool, true, false, List, [], ◌∷◌, Some, None, refl, sym, ap, ◌∙◌}
 use Rattle.syn_grammar.specs.Words.{w_pub, w_fn, semicolon}
 use Rattle.syn_grammar.specs.Tokens.{Stream, pick, Look, at_word}
@@ -14,7 +14,7 @@ use Rattle.syn_grammar.proofs.Takes.{sees_answers}
 use Rattle.syn_grammar.proofs.Known.{excludes, excludes_is, implies, implies_is, not_true}
 use Rattle.syn_grammar.proofs.ItemPlan.{item_plan_is}
 
--- what happened on the way: a look or a test answered so; a mark was met; or this was read, and this is left
+-- one step: the result of a look or a test; a mark; or this was read, and this is left
 pub data Event : Type 0 where
   went : Bool → Event
   marked : Event

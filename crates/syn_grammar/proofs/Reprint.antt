@@ -1,4 +1,4 @@
--- What is printed is read again, for every table whose summaries hold and whose forms are `fine`.
+-- Every print is read again, for every table whose summaries hold and whose forms are `fine`.
 use Rattle.std.proofs.Common.{◌≡◌, ℕ, Bool, true, false, List, [], ◌∷◌, ◌++◌, refl, sym, ap, ◌∙◌, ap₂, subst, true≢false, ◌⊎◌, inl, inr}
 use Rattle.syn_grammar.specs.Words.{colon, comma, less, greater, lifetime_mark}
 use Rattle.syn_grammar.specs.Tokens.{Span, Stream, end, leaf, punct, group, ◌⧺◌, or, and, no, pick, Terminal, Ended, Punctuation, Lookahead, lookahead_with, same_terminal, mem, Look, ended, at_mark, ◌or_else◌, answers, starts_mark, is_name, is_ended, asked, leaf_terminal, punctuation_lookahead, lookahead, stands, at_generics, at_parameter, Before_parameter, call_site}

@@ -1,4 +1,4 @@
--- Trees and streams are the same up to spans exactly where they are equal with every span 0 to 0.
+-- Trees and streams pass the tests of sameness exactly where they are equal with every span 0 to 0.
 use Rattle.std.proofs.Common.{◌≡◌, ℕ, Bool, true, false, ◌&&◌, List, [], ◌∷◌, refl, sym, ap, ap₂, ◌∙◌, true≢false}
 use Rattle.std.specs.Prelude.{◌↔◌, nat_eq}
 use Rattle.std.specs.Str.{bytes_eq}

@@ -1,4 +1,4 @@
--- Spans decide nothing: what is read of one stream is read of every stream that differs in its spans alone.
+-- Spans decide nothing: a form reads the same from every stream that differs in its spans alone.
 use Rattle.std.proofs.Common.{◌≡◌, ℕ, Bool, true, List, [], ◌∷◌, refl, sym, ap, ◌∙◌, ap₂, subst, inl, inr}
 use Rattle.syn_grammar.specs.Tokens.{Span, Delimiter, Leaf, Stream, end, leaf, ident, punct, group, ◌⧺◌, call_site, plain, lookahead_with, punctuation_lookahead, answers, lookahead, facts_for, asked, leaf_terminal, group_lookahead}
 use Rattle.syn_grammar.specs.Rules.{Rule}

@@ -1,4 +1,4 @@
--- A form that spares a word doesn't read it outside of groups: for every table whose rules do what is said of them.
+-- A form that spares a word doesn't read it outside of groups: for every table whose rules do as stated.
 use Rattle.std.proofs.Common.{◌≡◌, ℕ, Bool, true, false, List, [], ◌∷◌, ◌++◌, refl, sym, ap, ◌∙◌, true≢false, inl, inr}
 use Rattle.std.specs.Prelude.{nat_eq}
 use Rattle.syn_grammar.specs.Words.{Text, keywords, contextual}

@@ -1,4 +1,4 @@
--- A union is its alternatives side by side.
+-- A union reads what one of its alternatives reads; the alternatives are followed side by side.
 use Rattle.std.proofs.Common.{◌≡◌, List, [], ◌∷◌, ◌++◌, map, Option, Some, None, refl, sym, ap, ◌∙◌}
 use Rattle.syn_grammar.specs.Tokens.{Stream}
 use Rattle.syn_grammar.specs.Rules.{Rule, attributes}

@@ -202,7 +202,7 @@ pub group_takes : (d : Delimiter) (o c : Span) (i ts r : Stream) → ts ≡ grou
 unfolding take_group
 group_takes d o c i ts r e = ap (take_group d) e ∙ ap (λ b. only b (Some (record { opening = o; closing = c; content = i; rest = r }))) (eq-eqb (delimiter_number d) (delimiter_number d) refl)
 
--- ---- what stood before a rest
+-- ---- the tokens before a rest
 length_append : (a b : Stream) → length (a ⧺ b) ≡ length a + length b
 length_append end b = omega arith
 length_append (leaf x sp m) b = let e = length_append m b in omega arith

@@ -18,7 +18,7 @@ use Rattle.syn_grammar.proofs.Run.{parse_rule_is}
 use Rattle.syn_grammar.proofs.Begins.{only_at, never_at, not_there, not_here}
 use Rattle.syn_grammar.proofs.Known.{Holds, Known, after_token, after_token_is, clash, clash_is, inside_group, inside_group_is, not_false, not_true, noted, noted_is, some_is}
 
--- ---- FORMS ONE AFTER ANOTHER, of which only the rest is of interest
+-- ---- A SEQUENCE OF FORMS, where only the rest matters
 
 abbrev pub rest : Out → Option Stream
 rest (Some p) = Some p.1
@@ -232,7 +232,7 @@ gone_is (suc n) l (supplied f x y ∷ fs) m e w = no_rest (parse_form (supplied 
 gone_is (suc n) l (row x y ∷ fs) m e w = no_rest (parse_form (row x y) m) (recog fs) (barred_is l (row x y) m e w)
 gone_is (suc n) l (ordered x y ∷ fs) m e w = no_rest (parse_form (ordered x y) m) (recog fs) (barred_is l (ordered x y) m e w)
 
--- ---- AN ALTERNATIVE THAT WAS READ IN PART: what is read now, and what is made of it
+-- ---- A PARTLY READ ALTERNATIVE: the form that is read now, and the value that is made of it
 
 pub data Frame : Type 0 where
   and_next : Grammar → Frame  -- then this form
@@ -316,8 +316,8 @@ back_is (in_such q ∷ k) s m = refl
 back_is (and_behind h ∷ k) s m = refl
 back_is (with_generics t ∷ k) s m = back_is k (Impl t s) m
 
--- What was read (true: of which nothing is shown) loses nothing on its way back: only what is shown of nothing stands in a part that is never
--- printed.
+-- Nothing that was read is lost on the way back (true: no token of it is shown): a part that is never printed holds only values that
+-- show no tokens.
 abbrev pub calm : Bool → List Frame → Bool
 calm q [] = true
 calm q (and_next h ∷ k) = true
@@ -328,7 +328,7 @@ calm q (with_generics t ∷ k) = calm false k
 calm q (in_vanishing true ∷ k) = and q (calm true k)
 calm q (f ∷ k) = calm q k
 
--- by what is known, a choice is made
+-- the known facts decide a choice
 abbrev pub chosen : Bool → Bool → State → State → Option State
 chosen true b p q = Some p
 chosen false true p q = Some q
@@ -494,7 +494,7 @@ pub todo_none : (t : State) (m : Stream) → recog (todo t) m ≡ None → out t
 todo_none (reading g k) m e = todos_none k (parse_form g m) e
 todo_none (holding s k) m e = todos_none k (Some (s, m)) e
 
--- ---- THE SAME OF WHAT IS KEPT AS TOKENS, of which the forms are of no interest
+-- ---- THE SAME OF VERBATIM FORMS, whose forms don't matter
 
 abbrev pub opened : Known → Grammar → Option (List Grammar)
 opened l (g & h) = Some (g ∷ h ∷ [])
@@ -566,7 +566,7 @@ abbrev pub as_side : (List Grammar → Side) → Option (List Grammar) → Optio
 as_side f (Some xs) o = Some (f xs)
 as_side f None o = o
 
--- a form that is opened by what is known, and no rule
+-- a form that the known facts open, and no rule
 abbrev pub early : Known → Grammar → Option (List Grammar)
 early l (rule k) = None
 early l g = opened l g
@@ -616,7 +616,7 @@ side_is l a g = one (split g) refl
     one (Some xs) e = siding l a g (its xs) (λ fs m w. split_is l g xs fs m e w)
     one None e = two (split a) refl
 
--- these forms, at the front of those: what is left of those
+-- these forms are the first of those: the rest of those
 abbrev pub eat_list : ℕ → Known → List Grammar → List Grammar → Option (List Grammar)
 eat_list zero l bs fs = None
 eat_list (suc n) l [] fs = Some fs

@@ -21,14 +21,14 @@ use Rattle.syn_grammar.proofs.Alone.{of_every_rule, implies, by_implied, one_sai
 use Rattle.syn_grammar.proofs.UseGroups.{bare_parts}
 use Rattle.syn_grammar.proofs.Spared.{Often, never, once, more, again, add, count, Counts, joined, counts_none, spared}
 
--- ---- what is said of rules is so
+-- ---- what is stated of the rules holds
 where_spared : (k : Rule) → wordless k ≡ true → spares true wordless w_where (table k) ≡ true
 where_spared k = by_implied (wordless k) _ (of_every_rule (λ k. implies (wordless k) (spares true wordless w_where (table k))) refl refl k)
 
 use_spared : (k : Rule) → opening k ≡ true → spares false opening w_use (table k) ≡ true
 use_spared k = by_implied (opening k) _ (of_every_rule (λ k. implies (opening k) (spares false opening w_use (table k))) refl refl k)
 
--- ---- what was read piece by piece holds no such word
+-- ---- a value that was read piece by piece holds no such word
 module _ (a : Bool) (x : Text) (said : Rule → Bool) (spared_form : (g : Grammar) (s : Syntax) (ts r : Stream) → spares a said x g ≡ true → DerivesPrefix table g s ts r → Counts a x never ts r) where
   pieces_spared : (l : List Piece) (b m : Stream) → all_spare a said x l ≡ true → WasRead l b m → Counts a x never b m
   pieces_spared [] b m e h = counts_none a x b m h

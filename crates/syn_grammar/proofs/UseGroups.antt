@@ -1,4 +1,4 @@
--- Trees of a use in braces, of which none has `::` before it, are read alike by the two rules of them.
+-- The two rules for the trees of a use in braces agree where no tree begins with `::`.
 use Rattle.std.proofs.Common.{◌≡◌, Bool, true, false, Some, refl, sym, ap, ap₂, ◌∙◌, true≢false, ◌⊎◌, inl, inr}
 use Rattle.syn_grammar.specs.Tokens.{Stream, end, or, and, stands, lookahead}
 use Rattle.syn_grammar.specs.Rules.{Rule, use_tree, use_trees, rooted_tree, rooted_trees, root_mark}

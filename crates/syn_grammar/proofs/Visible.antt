@@ -1,4 +1,4 @@
--- What is printed of a visible stream is visible.
+-- The print of a visible stream is visible.
 use Rattle.std.proofs.Common.{◌≡◌, ℕ, Bool, true, false, List, [], ◌∷◌, refl, sym, ap, ◌∙◌, ap₂, inl, inr}
 use Rattle.syn_grammar.specs.Tokens.{Span, Delimiter, Stream, end, punct, group, ◌⧺◌, and, or, pick, is_visible, visible}
 use Rattle.syn_grammar.specs.Rules.{Rule}
