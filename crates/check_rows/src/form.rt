@@ -1,6 +1,6 @@
 //! What comes of a text by its canonical print.
 
-use crate::answer::{fault_told, told};
+use crate::answer::{fault_known, told};
 use crate::failure::Failure;
 use crate::item_forms::item_form_as;
 use crate::question::{FormQuestion, Heading};
@@ -73,7 +73,7 @@ fn canonical_text<T: Canonical + Drop>(alloc: Global, text: &str) -> Result<Stri
 
 /// The bytes at which the text is refused, and in which words.
 fn refusal<T: Canonical + Drop>(alloc: Global, text: &str) -> Result<String> {
-    fault_told(alloc, &fault(canonical_text::<T>(alloc, text))?)
+    fault_known(alloc, &fault(canonical_text::<T>(alloc, text))?)
 }
 
 /// `alike` or `unlike`; `unsure` where that depends on the order.

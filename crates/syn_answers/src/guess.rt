@@ -10,7 +10,7 @@ pub(crate) fn guess(trees: &Cursor<'_>) -> ItemKind {
         let Some((tree, behind)) = rest.split() else {
             return ItemKind::Verbatim;
         };
-        if let Some(kind) = told_by(&tree, &behind) {
+        if let Some(kind) = known_by(&tree, &behind) {
             return kind;
         }
         rest = behind;
@@ -19,9 +19,9 @@ pub(crate) fn guess(trees: &Cursor<'_>) -> ItemKind {
 }
 
 /// The kind that a tree and the trees after it suggest.
-fn told_by(tree: &TokenTreeRef<'_>, behind: &Cursor<'_>) -> Option<ItemKind> {
+fn known_by(tree: &TokenTreeRef<'_>, behind: &Cursor<'_>) -> Option<ItemKind> {
     match tree {
-        TokenTreeRef::Ident(ident) => told_by_word(ident.text(), behind),
+        TokenTreeRef::Ident(ident) => known_by_word(ident.text(), behind),
         TokenTreeRef::Literal(_) => None,
         TokenTreeRef::Punct(punct) => match punct.character() {
             '!' => Some(ItemKind::Macro),
@@ -36,7 +36,7 @@ fn told_by(tree: &TokenTreeRef<'_>, behind: &Cursor<'_>) -> Option<ItemKind> {
 }
 
 /// The kind that a word suggests.
-fn told_by_word(word: &str, behind: &Cursor<'_>) -> Option<ItemKind> {
+fn known_by_word(word: &str, behind: &Cursor<'_>) -> Option<ItemKind> {
     match word {
         "crate" => Some(ItemKind::ExternCrate),
         "enum" => Some(ItemKind::Enum),
@@ -49,14 +49,14 @@ fn told_by_word(word: &str, behind: &Cursor<'_>) -> Option<ItemKind> {
         "trait" => Some(ItemKind::Trait),
         "type" => Some(ItemKind::Ty),
         "use" => Some(ItemKind::Use),
-        "const" => told_before_name(ItemKind::Const, behind),
-        "union" => told_before_name(ItemKind::Union, behind),
+        "const" => known_before_name(ItemKind::Const, behind),
+        "union" => known_before_name(ItemKind::Union, behind),
         _ => None,
     }
 }
 
 /// This kind, if a name or `_` is next.
-fn told_before_name(kind: ItemKind, behind: &Cursor<'_>) -> Option<ItemKind> {
+fn known_before_name(kind: ItemKind, behind: &Cursor<'_>) -> Option<ItemKind> {
     let (ident, _) = behind.split_ident()?;
     match ident.text() {
         "_" => Some(kind),

@@ -72,7 +72,7 @@ fn behind<'a>(trees: &Cursor<'a>, marker: Marker) -> Cursor<'a>
 }
 
 /// The trees after `mut`, if it is next.
-pub(crate) fn behind_mut<'a>(trees: &Cursor<'a>) -> Cursor<'a>
+pub(crate) fn after_mut<'a>(trees: &Cursor<'a>) -> Cursor<'a>
     ensures { result ≡ grammar.past_mut trees.now }
 {
     let Some((ident, behind)) = trees.split_ident() else {
@@ -115,7 +115,7 @@ pub(crate) fn name_ahead(kind: ItemKind, input: &ParseBuffer<'_>) -> Parsed<Opti
         ItemKind::Impl => Ok(None),
         ItemKind::Macro => name(&behind(&trees, Marker::Bang)),
         ItemKind::Mod => name_behind(&trees, "mod"),
-        ItemKind::Static => name(&behind_mut(&behind(&trees, Marker::Word("static")))),
+        ItemKind::Static => name(&after_mut(&behind(&trees, Marker::Word("static")))),
         ItemKind::Struct => name_behind(&trees, "struct"),
         ItemKind::Trait => name_behind(&trees, "trait"),
         ItemKind::TraitAlias => name_behind(&trees, "trait"),

@@ -50,7 +50,7 @@ pub fn run<R: Read, W: Output, V: Output>(
     ensures flushed { result.status ≡ 0 → W.pending output.new ≡ [] }
     ensures quiet { result.status ≡ 0 → faults.new ≡ faults.old }
     ensures told { result.is_told ≡ true → result.status ≢ 0 → IsTold words.now (R.remaining input.old) result.status (V.contents faults.old) (V.contents faults.new) }
-    ensures told_flushed { result.is_told ≡ true → result.status ≢ 0 → V.pending faults.new ≡ [] }
+    ensures known_flushed { result.is_told ≡ true → result.status ≢ 0 → V.pending faults.new ≡ [] }
     ensures unread { result.status ≡ 2 → input.new ≡ input.old }
     ensures unwritten { 2 ≤ result.status → output.new ≡ output.old }
 {

@@ -17,7 +17,7 @@ use Rattle.syn_lower.specs.Parts.{first, group_syntax, second}
 use Rattle.syn_lower.specs.Types.{syntax_of_lifetime, syntax_of_Type, tuple_elements}
 use Rattle.syn_lower.specs.Bodies.{attributes_before_body, body}
 use Rattle.syn_expr_parse.specs.Operators.{syntax_of_BinOp, syntax_of_UnOp}
-pub use Rattle.syn_expr_parse.specs.Parts.{array_elements, behind_else, block_behind_else, field_member, in_braces, method_arguments, token_of}
+pub use Rattle.syn_expr_parse.specs.Parts.{array_elements, after_else, block_after_else, field_member, in_braces, method_arguments, token_of}
 use Rattle.syn_expr_parse.specs.StructLiterals.{field_of, literal_of_parts}
 use Rattle.syn_pat.specs.Patterns.{path_of, syntax_of_Pat}
 use Rattle.syn_expr.specs.declared.expr.Expr.TheVariants as Expr-m
@@ -199,7 +199,7 @@ view_ExprForLoop a =
 abbrev pub view_ExprIf : ExprIf-in.Inside → Syntax
 view_ExprIf a =
     Both (attributes_syntax a.attrs.items) (Both (if_syntax a.if_token) (Both (whole a.cond.value) (Both a.then_branch
-    (maybe (λ p. Both (else_syntax p.0) (behind_else (syntax_of_Expr p.1.value))) a.else_branch))))
+    (maybe (λ p. Both (else_syntax p.0) (after_else (syntax_of_Expr p.1.value))) a.else_branch))))
 
 -- which of the two an expression is
 abbrev pub is_block : Syntax → Bool

@@ -17,7 +17,7 @@ use Rattle.syn_tokens.specs.InOrder.{in_order}
 use Rattle.syn_lower.specs.Attributes.{every, inner_attributes_syntax, inner_listed, is_inner, is_outer, none_listed, outer_listed, shown_before, syntax_of_Attribute}
 use Rattle.syn_lower.specs.declared.attr.Attribute.{Attribute}
 use Rattle.syn_lower.specs.Bodies.{attributes_before_body, attributes_in_body, listed_before, listed_inside, outer_first}
-use Rattle.syn_expr_parse.specs.Parts.{behind_else}
+use Rattle.syn_expr_parse.specs.Parts.{after_else}
 use Rattle.syn_expr_parse.specs.BlockForms.{if_form, labelled_as, loop_form, while_form, for_form}
 
 -- one result has one value
@@ -117,14 +117,14 @@ read_if ts e r h = go (parse_form if_form ts) (if_expression_is ts)
         (Both no_attributes p.0, j)
 
 -- an `if` after `else`
-pub if_behind_else : (ts : Stream) (e : Syntax) (r : Stream) → parse_rule if_expression ts ≡ Some (Node e, r) → behind_else e ≡ Right (Node e)
-if_behind_else ts e r h =
+pub if_after_else : (ts : Stream) (e : Syntax) (r : Stream) → parse_rule if_expression ts ≡ Some (Node e, r) → after_else e ≡ Right (Node e)
+if_after_else ts e r h =
     let (s, i) = read_if ts e r h in
-    ap behind_else i ∙ sym (ap (λ z. Right (Node z)) i)
+    ap after_else i ∙ sym (ap (λ z. Right (Node z)) i)
 
 pub if_read : {T E : Type 0} (refusal : E → Type 0) (view : T → Syntax) (x : Out) (ts : Stream) (r : Result T E) (m : Stream) → sees at_brace ts ≡ false →
-    Computes refusal (λ e. Node (view e)) (parse_rule if_expression ts) r m → Computes refusal (λ e. behind_else (view e)) (branch (sees at_brace ts) x (parse_rule if_expression ts)) r m
-if_read refusal view x ts (Ok e) m h k = rw h (ap (wrap Right) k ∙ ap (λ s. Some (s, m)) (sym (if_behind_else ts (view e) m k)))
+    Computes refusal (λ e. Node (view e)) (parse_rule if_expression ts) r m → Computes refusal (λ e. after_else (view e)) (branch (sees at_brace ts) x (parse_rule if_expression ts)) r m
+if_read refusal view x ts (Ok e) m h k = rw h (ap (wrap Right) k ∙ ap (λ s. Some (s, m)) (sym (if_after_else ts (view e) m k)))
 if_read refusal view x ts (Err e) m h k = λ u. rw h (ap (wrap Right) (k u))
 
 -- ATTRIBUTES IN A BODY

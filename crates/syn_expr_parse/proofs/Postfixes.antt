@@ -16,7 +16,7 @@ use Rattle.syn_parse.proofs.FirstTokens.{no_literal_at_ident}
 use Rattle.syn_parse.proofs.Literals.{no_literal_seen}
 use Rattle.syn_lower.specs.TypeForms.{angle_bracketed_form}
 use Rattle.syn_expr_parse.specs.Parts.{method_arguments}
-use Rattle.syn_expr_parse.specs.Postfixes.{Link, arguments_form, behind_dot, behind_name, follow, generic_call_form, linked, links_form, named_form, postfix_links, then_more}
+use Rattle.syn_expr_parse.specs.Postfixes.{Link, arguments_form, after_dot, after_name, follow, generic_call_form, linked, links_form, named_form, postfix_links, then_more}
 
 through_node : (a : Syntax) (o : Out) → wrap (onto a) (wrap Node o) ≡ wrap (onto a) o
 through_node a None = refl
@@ -141,14 +141,14 @@ named_member ts h = member_is ts ∙ rw (no_integer ts h) refl
 
 -- after `.` and where no literal is next
 pub named_step : (b d : Syntax) (ts m : Stream) → take_mark dot ts ≡ Some (d, m) → sees at_any_literal m ≡ false →
-    linked dotted b (and_then (take_mark dot ts) (parse_rule member)) ≡ behind_dot b d (wrap Right (parse_form named_form m))
+    linked dotted b (and_then (take_mark dot ts) (parse_rule member)) ≡ after_dot b d (wrap Right (parse_form named_form m))
 named_step b d ts m e h = ap (λ o. linked dotted b (and_then o (parse_rule member))) e ∙ ap (λ o. linked dotted b (wrap (Both d) o)) (named_member m h)
 
 -- a call with generic arguments
 pub generic_called : (a d w generic s : Syntax) (ts r n : Stream) → sees at_colons ts ≡ true → parse_form angle_bracketed_form ts ≡ Some (generic, r) → parse_form arguments_form r ≡ Some (s, n) →
-    behind_name a d w (wrap Left (parse_form generic_call_form ts)) ≡ Some (new MethodCall (Both a (Both d (Node (Right (Both w (method_arguments (Some generic) s)))))), n)
+    after_name a d w (wrap Left (parse_form generic_call_form ts)) ≡ Some (new MethodCall (Both a (Both d (Node (Right (Both w (method_arguments (Some generic) s)))))), n)
 generic_called a d w generic s ts r n h e k =
-    ap (behind_name a d w) (generic_call_is ts generic r h e ∙ ap (wrap (method_arguments (Some generic))) k)
+    ap (after_name a d w) (generic_call_is ts generic r h e ∙ ap (wrap (method_arguments (Some generic))) k)
     ∙ ap (λ v. Some (new v (Both a (Both d (Node (Right (Both w (method_arguments (Some generic) s)))))), n)) (generic_variant d w generic s)
 
 -- what is made of what was read, where memory was there

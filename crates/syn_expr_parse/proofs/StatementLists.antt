@@ -157,8 +157,8 @@ module _ (b : Bool) (a : Syntax) where
       go None = refl
       go (Some y) = refl
 
-  block_behind : (e : Syntax) (m : Stream) → listed_as e (parse_form (table after_block) m) ≡ then_by (behind_block true b a e m) more
-  block_behind e m = go (sees at_semicolon m) (sees at_postfix_mark m)
+  block_after : (e : Syntax) (m : Stream) → listed_as e (parse_form (table after_block) m) ≡ then_by (behind_block true b a e m) more
+  block_after e m = go (sees at_semicolon m) (sees at_postfix_mark m)
     where
       last : (z : Out) → listed_as e (wrap Right (wrap Right z)) ≡ wrap (before_others (sentence b (moved a e) (Right Nothing))) z
       last None = refl
@@ -185,14 +185,14 @@ module _ (outer : Syntax) where
   built_branch false x (Some p) u v h k = k
 
   list_of_block : (s : Syntax) (m : Stream) → built (wrap (Shaped said) (wrap (Both s) (parse_rule after_block m))) ≡ then_by (behind_block true false a (core s) m) more
-  list_of_block s m = ap (λ o. built (wrap (Shaped said) (wrap (Both s) o))) (after_block_is m) ∙ go (parse_form (table after_block) m) ∙ block_behind false a (core s) m
+  list_of_block s m = ap (λ o. built (wrap (Shaped said) (wrap (Both s) o))) (after_block_is m) ∙ go (parse_form (table after_block) m) ∙ block_after false a (core s) m
     where
       go : (o : Out) → built (wrap (Shaped said) (wrap (Both s) (wrap Node o))) ≡ listed_as false a (core s) o
       go None = refl
       go (Some p) = refl
 
   list_of_macro : (s : Syntax) (m : Stream) → built (wrap (Shaped said_macro) (wrap (Both (new Macro s)) (parse_rule after_block m))) ≡ then_by (behind_block true true a (new Macro s) m) more
-  list_of_macro s m = ap (λ o. built (wrap (Shaped said_macro) (wrap (Both (new Macro s)) o))) (after_block_is m) ∙ go (parse_form (table after_block) m) ∙ block_behind true a (new Macro s) m
+  list_of_macro s m = ap (λ o. built (wrap (Shaped said_macro) (wrap (Both (new Macro s)) o))) (after_block_is m) ∙ go (parse_form (table after_block) m) ∙ block_after true a (new Macro s) m
     where
       go : (o : Out) → built (wrap (Shaped said_macro) (wrap (Both (new Macro s)) (wrap Node o))) ≡ listed_as true a (new Macro s) o
       go None = refl
@@ -202,7 +202,7 @@ module _ (outer : Syntax) where
   list_of_crate_macro s m =
       ap (λ o. built (wrap (Shaped said_macro) (wrap (Both (new Macro s)) (branch (sees at_postfix_mark m) None o)))) (after_block_is m)
       ∙ go (sees at_postfix_mark m) (parse_form (table after_block) m)
-      ∙ ap (pick (sees at_postfix_mark m) None) (block_behind true a (new Macro s) m)
+      ∙ ap (pick (sees at_postfix_mark m) None) (block_after true a (new Macro s) m)
       ∙ turn (sees at_postfix_mark m) (behind_block true true a (new Macro s) m)
     where
       go : (c : Bool) (o : Out) → built (wrap (Shaped said_macro) (wrap (Both (new Macro s)) (branch c None (wrap Node o)))) ≡ pick c None (listed_as true a (new Macro s) o)

@@ -99,10 +99,10 @@ going a ts (Some None) operand more = None
 going a ts None operand more = Some (a, ts)
 
 -- once at most
-abbrev pub going_once : Syntax → Stream → Option Out → Parser → Out
-going_once a ts (Some (Some o)) operand = joined Binary a o.0 (operand o.1)
-going_once a ts (Some None) operand = None
-going_once a ts None operand = Some (a, ts)
+abbrev pub continuing_once : Syntax → Stream → Option Out → Parser → Out
+continuing_once a ts (Some (Some o)) operand = joined Binary a o.0 (operand o.1)
+continuing_once a ts (Some None) operand = None
+continuing_once a ts None operand = Some (a, ts)
 
 -- an operand and its chain
 abbrev pub chained_out : Out → Parser → Out

@@ -40,14 +40,14 @@ label_syntax l = maybe (λ p. Both (syntax_of_lifetime p.0) (colon_syntax p.1)) 
 abbrev pub in_braces : Syntax → Syntax
 in_braces s = Group grammar.Brace call_site call_site (Shaped choice s)
 
-abbrev pub block_behind_else : Syntax → Syntax
-block_behind_else (Shaped (expr Block) s) = Shaped (expr Block) s
-block_behind_else s = in_braces s
+abbrev pub block_after_else : Syntax → Syntax
+block_after_else (Shaped (expr Block) s) = Shaped (expr Block) s
+block_after_else s = in_braces s
 
 -- a block or another `if`
-abbrev pub behind_else : Syntax → Syntax
-behind_else (Shaped (expr If) s) = Right (Node (Shaped (expr If) s))
-behind_else s = Left (block_behind_else s)
+abbrev pub after_else : Syntax → Syntax
+after_else (Shaped (expr If) s) = Right (Node (Shaped (expr If) s))
+after_else s = Left (block_after_else s)
 
 -- `else` and a block, or nothing
 abbrev pub diverging : Syntax → Syntax

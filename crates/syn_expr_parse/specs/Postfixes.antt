@@ -54,16 +54,16 @@ follow (l ∷ ls) a more ts = pick (sees l.0 ts) (then_more (linked l.1.0 a (par
 abbrev pub generic_call_form : Grammar
 generic_call_form = punctuation colons & rule generic_arguments & arguments_form
 
-abbrev pub behind_name_form : Grammar
-behind_name_form = when at_colons then generic_call_form else when at_paren then arguments_form else empty
+abbrev pub after_name_form : Grammar
+after_name_form = when at_colons then generic_call_form else when at_paren then arguments_form else empty
 
 abbrev pub named_form : Grammar
-named_form = plainly name & behind_name_form
+named_form = plainly name & after_name_form
 
 -- after a base and `.`
-abbrev pub behind_dot : Syntax → Syntax → Out → Out
-behind_dot base dot_token o = linked dotted base (wrap (Both dot_token) (wrap Node o))
+abbrev pub after_dot : Syntax → Syntax → Out → Out
+after_dot base dot_token o = linked dotted base (wrap (Both dot_token) (wrap Node o))
 
 -- after a name
-abbrev pub behind_name : Syntax → Syntax → Syntax → Out → Out
-behind_name base dot_token word o = behind_dot base dot_token (wrap Right (wrap (Both word) o))
+abbrev pub after_name : Syntax → Syntax → Syntax → Out → Out
+after_name base dot_token word o = after_dot base dot_token (wrap Right (wrap (Both word) o))

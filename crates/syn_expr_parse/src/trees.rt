@@ -18,7 +18,7 @@ ghost use Rattle.syn_lower.specs.Members.{syntax_of_Member};
 ghost use Rattle.syn_pat.specs.Patterns.{local_pattern, path_of, syntax_of_Pat};
 ghost use Rattle.syn_lower.specs.Bodies.{attributes_before_body, body as body_syntax};
 ghost use Rattle.syn_expr_parse.specs.Operators.{syntax_of_BinOp, syntax_of_UnOp};
-ghost use Rattle.syn_expr_parse.specs.Parts.{array_elements, behind_else, block_behind_else, diverging, field_member, label_syntax, method_arguments, statements_of, token_of};
+ghost use Rattle.syn_expr_parse.specs.Parts.{array_elements, after_else, block_after_else, diverging, field_member, label_syntax, method_arguments, statements_of, token_of};
 ghost use Rattle.syn_expr_parse.specs.Primary.{in_literal};
 ghost use Rattle.syn_expr_parse.specs.Spines.{spine_shown};
 ghost use Rattle.syn_expr_parse.specs.StructLiterals.{field_of, literal_of_parts, lone_field};
@@ -187,7 +187,7 @@ pub trait Trees {
         else_branch: Option<(Else, Box<Self::Expr>)>,
         alloc: Global,
     ) -> Parsed<Box<Self::Expr>>
-        ensures { OrMemory IsSyntax result (λ x. Self.expr_syntax x.value ≡ new Choosing (Both (if_syntax if_token) (Both (Node (Self.expr_syntax cond.value)) (Both (Self.block_syntax then_branch) (maybe (λ p. Both (else_syntax p.0) (behind_else (Self.expr_syntax p.1.value))) else_branch))))) };
+        ensures { OrMemory IsSyntax result (λ x. Self.expr_syntax x.value ≡ new Choosing (Both (if_syntax if_token) (Both (Node (Self.expr_syntax cond.value)) (Both (Self.block_syntax then_branch) (maybe (λ p. Both (else_syntax p.0) (after_else (Self.expr_syntax p.1.value))) else_branch))))) };
 
     /// An index, in brackets.
     fn expr_index(
@@ -374,7 +374,7 @@ pub trait Trees {
         expr: Box<Self::Expr>,
         diverge: Option<(Else, Box<Self::Expr>)>,
     ) -> Self::LocalInit
-        ensures { Self.init_syntax result ≡ Both (eq_syntax eq_token) (Shaped untagged (Both (Such (Node (Self.expr_syntax expr.value))) (diverging (maybe (λ p. Both (else_syntax p.0) (block_behind_else (Self.expr_syntax p.1.value))) diverge)))) };
+        ensures { Self.init_syntax result ≡ Both (eq_syntax eq_token) (Shaped untagged (Both (Such (Node (Self.expr_syntax expr.value))) (diverging (maybe (λ p. Both (else_syntax p.0) (block_after_else (Self.expr_syntax p.1.value))) diverge)))) };
 
     /// A local.
     fn local(

@@ -12,7 +12,7 @@ use Rattle.syn_grammar.proofs.Takes.{TreeAndRest}
 use Rattle.syn_lower.specs.Generics.{no_clause}
 use Rattle.syn_lower.specs.WhereClauses.{clause_form, clause_there}
 use Rattle.syn_grammar.proofs.Each.{where_clause_is}
-use Rattle.syn_item.specs.ItemForms.{aliased_form, place_by, told_alias}
+use Rattle.syn_item.specs.ItemForms.{aliased_form, place_by, known_alias}
 use Rattle.syn_item.specs.Simple.{aliased, place_aside, syntax_of_WhereClausePlacement}
 
 -- a clause if it is next, and none if it isn't
@@ -100,10 +100,10 @@ module _ (m0 m1 m2 m3 m : Stream) (w q t x : Syntax) where
       go false c k = absurd (cc k)
 
   -- so it is decided by both places
-  pub alias_told : parse_rule where_clause m0 ≡ Some (w, m1) → take_mark equals m1 ≡ Some (q, m2) → parse_rule type m2 ≡ Some (t, m3) → parse_rule where_clause m3 ≡ Some (x, m) →
-      parse_form aliased_form m0 ≡ told_alias is_early is_late w q t x m
-  alias_told iw iq it ix = go (and is_early is_late) refl
+  pub alias_known : parse_rule where_clause m0 ≡ Some (w, m1) → take_mark equals m1 ≡ Some (q, m2) → parse_rule type m2 ≡ Some (t, m3) → parse_rule where_clause m3 ≡ Some (x, m) →
+      parse_form aliased_form m0 ≡ known_alias is_early is_late w q t x m
+  alias_known iw iq it ix = go (and is_early is_late) refl
     where
-      go : (b : Bool) → and is_early is_late ≡ b → parse_form aliased_form m0 ≡ told_alias is_early is_late w q t x m
+      go : (b : Bool) → and is_early is_late ≡ b → parse_form aliased_form m0 ≡ known_alias is_early is_late w q t x m
       go true h = alias_refused iw iq it ix h ∙ sym (ap (λ (b : Bool). only (no b) (Some (aliased (syntax_of_WhereClausePlacement (place_by is_late)) (pick is_late x w) q t, m))) h)
       go false h = alias_placed iw iq it ix h ∙ sym (ap (λ (b : Bool). only (no b) (Some (aliased (syntax_of_WhereClausePlacement (place_by is_late)) (pick is_late x w) q t, m))) h)

@@ -167,9 +167,9 @@ inner_stand_inside ts l m r o i =
 
 -- IN BRACES, after the attributes, the rest is read to the end
 
-behind_closed : (d : Delimiter) (g : Opened) (f : Syntax → Syntax) (o : Out) → close d g (wrap f o) ≡ close d g (wrap f (whole_only o))
-behind_closed d g f None = refl
-behind_closed d g f (Some p) = go (is_end p.1) refl
+after_closed : (d : Delimiter) (g : Opened) (f : Syntax → Syntax) (o : Out) → close d g (wrap f o) ≡ close d g (wrap f (whole_only o))
+after_closed d g f None = refl
+after_closed d g f (Some p) = go (is_end p.1) refl
   where
     go : (b : Bool) → is_end p.1 ≡ b → close d g (Some (f p.0, p.1)) ≡ close d g (wrap f (only b (Some p)))
     go true e = refl
@@ -184,7 +184,7 @@ behind_attributes k (Some g) = go (parse_rule inner_attributes g.content)
   where
     go : (o : Out) → close Brace g (and_then o (parse_rule k)) ≡ close Brace g (and_then o (to_end k))
     go None = refl
-    go (Some p) = behind_closed Brace g (Both p.0) (parse_rule k p.1)
+    go (Some p) = after_closed Brace g (Both p.0) (parse_rule k p.1)
 
 pub body_read : (ts : Stream) → parse_rule body ts ≡ wrap Node (within Brace (take_group Brace ts) (λ i. and_then (parse_rule inner_attributes i) (to_end statements)))
 body_read ts = body_is ts ∙ ap (wrap Node) (behind_attributes statements (take_group Brace ts))

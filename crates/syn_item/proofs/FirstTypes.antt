@@ -12,7 +12,7 @@ use Rattle.syn_grammar.specs.Run.{and_impl, and_then, branch, first_rule, named,
 use Rattle.syn_grammar.specs.Promises.{Computes}
 use Rattle.syn_grammar.proofs.Each.{for_self_type_is, self_type_is}
 use Rattle.syn_lower.specs.Generics.{where_part}
-use Rattle.syn_item.specs.ImplForms.{ReadsBefore, bang_then, behind_impl_form, impl_generics_form, path_then, types_then}
+use Rattle.syn_item.specs.ImplForms.{ReadsBefore, bang_then, after_impl_form, impl_generics_form, path_then, types_then}
 use Rattle.syn_item.specs.Impls.{for_type, inherent, without_self_type}
 use Rattle.syn_item.proofs.NoSelfTypes.{left_as_read}
 
@@ -36,15 +36,15 @@ module _ (q : Stream) where
   no_for e = for_goes q ∙ ap (λ o. wrap Node (and_then o (first_rule parse_rule (self_type ∷ [])))) e
 
   module _ (s : Syntax) (q2 : Stream) (sign : take_token (word w_for) q ≡ Some (s, q2)) where
-    behind_for : parse_rule for_self_type q ≡ wrap Node (wrap (Both s) (wrap (Case self_type) (parse_rule type q2)))
-    behind_for = for_goes q ∙ ap (λ o. wrap Node (and_then o (first_rule parse_rule (self_type ∷ [])))) sign ∙ ap (λ o. wrap Node (wrap (Both s) o)) (first_self q2)
+    after_for : parse_rule for_self_type q ≡ wrap Node (wrap (Both s) (wrap (Case self_type) (parse_rule type q2)))
+    after_for = for_goes q ∙ ap (λ o. wrap Node (and_then o (first_rule parse_rule (self_type ∷ [])))) sign ∙ ap (λ o. wrap Node (wrap (Both s) o)) (first_self q2)
 
     no_type : parse_rule type q2 ≡ None → parse_rule for_self_type q ≡ None
-    no_type e = behind_for ∙ ap (λ o. wrap Node (wrap (Both s) (wrap (Case self_type) o))) e
+    no_type e = after_for ∙ ap (λ o. wrap Node (wrap (Both s) (wrap (Case self_type) o))) e
 
     for_read : (t : Syntax) (q3 : Stream) → parse_rule type q2 ≡ Some (t, q3) → parse_rule for_self_type q ≡ Some (for_type s t, q3)
     for_read t q3 e =
-        behind_for ∙ ap (λ o. wrap Node (wrap (Both s) (wrap (Case self_type) o))) e
+        after_for ∙ ap (λ o. wrap Node (wrap (Both s) (wrap (Case self_type) o))) e
         ∙ ap (λ (z : Syntax). Some (Node (Both s (Case self_type z)), q3)) (sym (left_as_read (rule type) q2 q3 t refl e))
 
 -- `!`, AND WHAT FOLLOWS IT
@@ -71,18 +71,18 @@ module _ (m : Stream) where
       abbrev negative : (Stream → Out) → Out → Out
       negative f o = wrap Left (wrap (Both x) (wrap Right (and_then o (λ q. and_then (parse_rule for_self_type q) f))))
 
-      behind_bang : (f : Stream → Out) → wrap Left (bang_then f m) ≡ negative f (parse_rule type_path r)
-      behind_bang f = ap (by_bang f) bang ∙ ap (λ b. wrap Left (wrap (Both x) (branch b (f r) (and_then (parse_rule type_path r) (λ q. and_then (parse_rule for_self_type q) f))))) no_brace
+      after_bang : (f : Stream → Out) → wrap Left (bang_then f m) ≡ negative f (parse_rule type_path r)
+      after_bang f = ap (by_bang f) bang ∙ ap (λ b. wrap Left (wrap (Both x) (branch b (f r) (and_then (parse_rule type_path r) (λ q. and_then (parse_rule for_self_type q) f))))) no_brace
 
       pub negative_path_refused : parse_rule type_path r ≡ None → (f : Stream → Out) → wrap Left (bang_then f m) ≡ None
-      negative_path_refused e f = behind_bang f ∙ ap (negative f) e
+      negative_path_refused e f = after_bang f ∙ ap (negative f) e
 
       module _ (t : Syntax) (q : Stream) (path : parse_rule type_path r ≡ Some (t, q)) where
         abbrev behind : (Stream → Out) → Out → Out
         behind f o = wrap Left (wrap (Both x) (wrap Right (wrap (Both t) (and_then o f))))
 
         behind_path : (f : Stream → Out) → wrap Left (bang_then f m) ≡ behind f (parse_rule for_self_type q)
-        behind_path f = behind_bang f ∙ ap (negative f) path
+        behind_path f = after_bang f ∙ ap (negative f) path
 
         pub negative_for_refused : take_token (word w_for) q ≡ None → (f : Stream → Out) → wrap Left (bang_then f m) ≡ None
         negative_for_refused e f = behind_path f ∙ ap (behind f) (no_for q e)
@@ -165,7 +165,7 @@ module _ (m : Stream) where
 
 module _ (mk : Syntax → Syntax) (m : Stream) where
   abbrev whole : Out
-  whole = wrap mk (parse_form behind_impl_form m)
+  whole = wrap mk (parse_form after_impl_form m)
 
   abbrev by_generics : Out → Out
   by_generics o = wrap mk (and_impl o (types_then (parse_rule impl_body)))

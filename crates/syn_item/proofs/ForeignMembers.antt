@@ -24,7 +24,7 @@ use Rattle.syn_recognize.proofs.PathLooks.{word_tells}
 use Rattle.syn_item.specs.Macros.{among_members}
 use Rattle.syn_item.specs.NextWords.{foreign_function_next, foreign_word, static_next}
 use Rattle.syn_item.specs.Planned.{Follows}
-use Rattle.syn_item.specs.Stages.{foreign_function_or_kept, foreign_item_plan_behind, foreign_static_or_kept, foreign_type_or_kept}
+use Rattle.syn_item.specs.Stages.{foreign_function_or_kept, foreign_item_plan_after, foreign_static_or_kept, foreign_type_or_kept}
 use Rattle.syn_item.proofs.ImplPlans.{none_written}
 use Rattle.syn_item.proofs.MemberFunctions.{past_word}
 use Rattle.syn_item.proofs.PlanRows.{of_macro, row_is}
@@ -245,12 +245,12 @@ module _ (k : Rule) (ts : Stream) (a v : Syntax) where
 
 module _ (k : Rule) (ts : Stream) (a : Syntax) (m : Stream) where
   abbrev run : Out
-  run = run_plan (foreign_item_plan_behind a) k ts m
+  run = run_plan (foreign_item_plan_after a) k ts m
 
   goes : (b : Bool) → or (sees (at_word w_pub) m) (sees at_empty_group m) ≡ b → run ≡ follow (λ v n. at k ts a v b n) (parse_rule visibility m)
-  unfolding foreign_item_plan_behind foreign_item_plan
-  goes true h = happened k ts (went true ∷ []) (foreign_item_plan_behind a) m (sees_or (at_word w_pub) at_empty_group m ∙ h, tt)
-  goes false h = happened k ts (went false ∷ []) (foreign_item_plan_behind a) m (sees_or (at_word w_pub) at_empty_group m ∙ h, tt) ∙ sym (ap (follow (λ v n. at k ts a v false n)) (none_written m h))
+  unfolding foreign_item_plan_after foreign_item_plan
+  goes true h = happened k ts (went true ∷ []) (foreign_item_plan_after a) m (sees_or (at_word w_pub) at_empty_group m ∙ h, tt)
+  goes false h = happened k ts (went false ∷ []) (foreign_item_plan_after a) m (sees_or (at_word w_pub) at_empty_group m ∙ h, tt) ∙ sym (ap (follow (λ v n. at k ts a v false n)) (none_written m h))
 
   pub visibility_refused : parse_rule visibility m ≡ None → run ≡ None
   visibility_refused e = goes (or (sees (at_word w_pub) m) (sees at_empty_group m)) refl ∙ ap (follow (λ v n. at k ts a v (or (sees (at_word w_pub) m) (sees at_empty_group m)) n)) e

@@ -24,8 +24,8 @@ past_word w ts p e =
 abbrev abi_form : Grammar
 abi_form = when at_extern then rule abi else empty
 
-abbrev behind_const_form : Grammar
-behind_const_form = optional_item_word w_async & rule unsafe_only & abi_form & rule signature_rest
+abbrev after_const_form : Grammar
+after_const_form = optional_item_word w_async & rule unsafe_only & abi_form & rule signature_rest
 
 module _ (k : Rule) (ts : Stream) (f : Syntax → Plan) where
   -- what follows a signature that was read
@@ -64,22 +64,22 @@ module _ (k : Rule) (ts : Stream) (f : Syntax → Plan) where
     async_goes None = refl
     async_goes (Some p) = unsafe_goes p.0 (parse_rule unsafe_only p.1)
 
-    pub after_const : (m : Stream) → run_plan (function_after_const f c) k ts m ≡ whole (parse_form behind_const_form m)
+    pub after_const : (m : Stream) → run_plan (function_after_const f c) k ts m ≡ whole (parse_form after_const_form m)
     unfolding function_after_const
     after_const m = async_goes (parse_form (optional_item_word w_async) m)
 
   -- `const` is next: by what follows it, a signature or something else
-  const_read : (o : Out) → on (wrap Node (and_then (wrap Left o) (parse_form behind_const_form))) ≡ follow (λ c r. on (wrap Node (wrap (Both (Left c)) (parse_form behind_const_form r)))) o
+  const_read : (o : Out) → on (wrap Node (and_then (wrap Left o) (parse_form after_const_form))) ≡ follow (λ c r. on (wrap Node (wrap (Both (Left c)) (parse_form after_const_form r)))) o
   const_read None = refl
   const_read (Some p) = refl
 
   pub signature_goes : (m : Stream) → sees (at_word w_const) m ≡ true → on (parse_rule signature m) ≡ follow (λ c r. run_plan (function_after_const f (Left c)) k ts r) (take_token (word w_const) m)
   signature_goes m h =
-      ap on (signature_is m ∙ ap (λ b. wrap Node (and_then (branch b (take_token (word w_const) m) (Some (Nothing, m))) (parse_form behind_const_form))) h)
+      ap on (signature_is m ∙ ap (λ b. wrap Node (and_then (branch b (take_token (word w_const) m) (Some (Nothing, m))) (parse_form after_const_form))) h)
       ∙ const_read (take_token (word w_const) m)
       ∙ each (take_token (word w_const) m)
     where
-      each : (o : Out) → follow (λ c r. on (wrap Node (wrap (Both (Left c)) (parse_form behind_const_form r)))) o ≡ follow (λ c r. run_plan (function_after_const f (Left c)) k ts r) o
+      each : (o : Out) → follow (λ c r. on (wrap Node (wrap (Both (Left c)) (parse_form after_const_form r)))) o ≡ follow (λ c r. run_plan (function_after_const f (Left c)) k ts r) o
       each None = refl
       each (Some p) = sym (after_const (Left p.0) p.1)
 

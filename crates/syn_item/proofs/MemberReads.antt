@@ -18,12 +18,12 @@ use Rattle.syn_item.specs.TraitForms.{function_end_form, trait_function_of}
 use Rattle.syn_item.proofs.ImplReads.{three_read}
 
 -- TWO PARTS that are read together, before others
-abbrev behind_two : Syntax → Syntax → Syntax
-behind_two (Both a b) rest = Both a (Both b rest)
-behind_two s rest = rest
+abbrev after_two : Syntax → Syntax → Syntax
+after_two (Both a b) rest = Both a (Both b rest)
+after_two s rest = rest
 
 abbrev two_on : (Stream → Out) → TreeAndRest → Out
-two_on rest x = wrap (behind_two x.0) (rest x.1)
+two_on rest x = wrap (after_two x.0) (rest x.1)
 
 module _ (p rest : Stream → Out) (t : Syntax) (n : Stream) where
   two_read : (o : Out) → and_then o p ≡ Some (t, n) → and_then o (λ r. and_then (p r) rest) ≡ two_on rest (t, n)

@@ -30,8 +30,8 @@ implemented_form =
     else rule type & rule impl_body
 
 -- generics, and what follows them
-abbrev pub behind_impl_form : Grammar
-behind_impl_form = generics_before (rule lifetime_parameter) parameter implemented_form
+abbrev pub after_impl_form : Grammar
+after_impl_form = generics_before (rule lifetime_parameter) parameter implemented_form
 
 -- an impl of what is before its generics, and of these and what follows them
 abbrev pub impl_of : ImplMarks → Syntax → Syntax

@@ -103,13 +103,13 @@ abbrev pub syntax_of_ItemImpl : Syntax → Syntax
 syntax_of_ItemImpl = Node
 
 -- of an impl, the generics and what follows them; and that alone
-abbrev pub behind_impl : Syntax → Syntax
-behind_impl (Both attrs (Node (Both defaultness (Both constness (Both unsafety (Both impl_token s)))))) = s
-behind_impl s = s
+abbrev pub after_impl : Syntax → Syntax
+after_impl (Both attrs (Node (Both defaultness (Both constness (Both unsafety (Both impl_token s)))))) = s
+after_impl s = s
 
-abbrev pub behind_list : Syntax → Syntax
-behind_list (Impl l s) = s
-behind_list s = s
+abbrev pub after_list : Syntax → Syntax
+after_list (Impl l s) = s
+after_list s = s
 
-abbrev pub behind_generics : Syntax → Syntax
-behind_generics s = behind_list (behind_impl s)
+abbrev pub after_generics : Syntax → Syntax
+after_generics s = after_list (after_impl s)

@@ -66,12 +66,12 @@ place_by true = WhereClausePlacement-m.Late
 place_by false = WhereClausePlacement-m.Early
 
 -- an alias by whether a clause is before `=` and after the type: nothing is read if both are
-abbrev pub told_alias : Bool → Bool → Syntax → Syntax → Syntax → Syntax → Stream → Out
-told_alias is_early is_late w q t x m = only (no (and is_early is_late)) (Some (aliased (syntax_of_WhereClausePlacement (place_by is_late)) (pick is_late x w) q t, m))
+abbrev pub known_alias : Bool → Bool → Syntax → Syntax → Syntax → Syntax → Stream → Out
+known_alias is_early is_late w q t x m = only (no (and is_early is_late)) (Some (aliased (syntax_of_WhereClausePlacement (place_by is_late)) (pick is_late x w) q t, m))
 
 -- the same of the clauses, `=` and the type that were read
 abbrev pub of_clauses : Clauses → Stream → Out
-of_clauses c m = told_alias c.is_early c.is_late (where_part c.early) (eq_syntax c.eq_token) (syntax_of_Type c.ty.value) (where_part c.late) m
+of_clauses c m = known_alias c.is_early c.is_late (where_part c.early) (eq_syntax c.eq_token) (syntax_of_Type c.ty.value) (where_part c.late) m
 
 -- where they are refused, nothing is read
 abbrev pub TellsAlias : {E : Type 0} → (E → Type 0) → Out → Result Clauses E → Stream → Type 0

@@ -17,8 +17,8 @@ place_of Place-m.Unwritten = unwritten
 place_of Place-m.Plain = plain
 
 -- after the visibility
-abbrev pub behind_place : Begun → Plan
-behind_place b = behind_visibility (place_of b.place) (attributes_syntax b.attrs.items) (syntax_of_Visibility b.vis)
+abbrev pub after_place : Begun → Plan
+after_place b = behind_visibility (place_of b.place) (attributes_syntax b.attrs.items) (syntax_of_Visibility b.vis)
 
 abbrev pub other_plan_of : Begun → Plan
 other_plan_of b = other_plan (place_of b.place) (attributes_syntax b.attrs.items)
@@ -48,8 +48,8 @@ abbrev pub other_kinds_plan : Begun → Plan
 other_kinds_plan b = other_kinds_turn (place_of b.place) (attributes_syntax b.attrs.items) (syntax_of_Visibility b.vis)
 
 -- an impl after its word
-abbrev pub impl_behind_marks : ImplMarks → Plan
-impl_behind_marks m =
+abbrev pub impl_after_marks : ImplMarks → Plan
+impl_after_marks m =
     impl_generics (attributes_syntax m.attrs.items) (maybe default_syntax m.defaultness) (maybe const_syntax m.constness) (maybe unsafe_syntax m.unsafety) (impl_syntax m.impl_token)
 
 -- an impl of a type in parentheses that hold one word, or a trait after such a restriction, after `impl`

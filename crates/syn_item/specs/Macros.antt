@@ -66,8 +66,8 @@ among_members s = s
 
 -- AS A GROUP IS READ, followed by what ends it: `;`, unless it is in braces
 
-unfoldable pub ended_behind : Syntax → Parser
-ended_behind (Right (Right s)) ts = Some (Right (Right s), ts)
-ended_behind (Right (Left s)) ts = wrap (λ semi. Right (Left (Both s semi))) (take_mark semicolon ts)
-ended_behind (Left s) ts = wrap (λ semi. Left (Both s semi)) (take_mark semicolon ts)
-ended_behind s ts = None
+unfoldable pub ended_after : Syntax → Parser
+ended_after (Right (Right s)) ts = Some (Right (Right s), ts)
+ended_after (Right (Left s)) ts = wrap (λ semi. Right (Left (Both s semi))) (take_mark semicolon ts)
+ended_after (Left s) ts = wrap (λ semi. Left (Both s semi)) (take_mark semicolon ts)
+ended_after s ts = None

@@ -14,9 +14,9 @@ generics_aside (Both (Node (Vanishing false (Right Nothing))) (Unshown Nothing))
 generics_aside generics = Unshown (Left generics)
 
 -- in braces, after inner attributes
-abbrev pub behind_inner : Syntax → Syntax → Syntax
-behind_inner inner (Group d o c s) = Group d o c (Both inner s)
-behind_inner inner s = Both inner s
+abbrev pub after_inner : Syntax → Syntax → Syntax
+after_inner inner (Group d o c s) = Group d o c (Both inner s)
+after_inner inner s = Both inner s
 
 -- members in order, as a rule that continues to the end reads them
 abbrev pub members_of : {T : Type 0} → (T → Syntax) → List T → Syntax

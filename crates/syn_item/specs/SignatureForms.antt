@@ -31,9 +31,9 @@ use Rattle.syn_item.specs.declared.sig.parsing.Qualifiers.{Qualifiers}
 abbrev pub qualifiers_syntax : Qualifiers → Syntax
 qualifiers_syntax q = Both (maybe const_syntax q.constness) (Both (maybe async_syntax q.asyncness) (Both (syntax_of_Safety q.safety) (maybe itself q.abi)))
 
-abbrev pub behind_qualifiers : Syntax → Syntax → Syntax
-behind_qualifiers (Both constness (Both asyncness (Both safety abi))) rest = Node (Both constness (Both asyncness (Both safety (Both abi rest))))
-behind_qualifiers s rest = Both s rest
+abbrev pub after_qualifiers : Syntax → Syntax → Syntax
+after_qualifiers (Both constness (Both asyncness (Both safety abi))) rest = Node (Both constness (Both asyncness (Both safety (Both abi rest))))
+after_qualifiers s rest = Both s rest
 
 -- a string, or nothing
 abbrev pub string_form : Grammar
@@ -96,21 +96,21 @@ unfoldable pub typed_parameter : Syntax → Parser
 typed_parameter attrs ts = after (named_pattern ts) (λ name m. wrap (typed_as attrs name) (parse_rule type m))
 
 -- a parameter alone, after its attributes
-abbrev pub argument_behind : Syntax → Parser
-argument_behind attrs ts = pick (sees at_receiver ts) (wrap receiver_argument (wrap (with_attributes attrs) (parse_rule receiver_rest ts))) (typed_parameter attrs ts)
+abbrev pub argument_after : Syntax → Parser
+argument_after attrs ts = pick (sees at_receiver ts) (wrap receiver_argument (wrap (with_attributes attrs) (parse_rule receiver_rest ts))) (typed_parameter attrs ts)
 
 -- a parameter in parentheses: one in the list, or a variadic one after it
 abbrev pub parameter_syntax : OneParameter-m.the_data → Syntax
 parameter_syntax (OneParameter-m.Input arg) = Left (syntax_of_FnArg arg)
 parameter_syntax (OneParameter-m.Variadic v) = Right v
 
-unfoldable pub parameter_behind : Syntax → Syntax → Parser
-parameter_behind attrs name ts =
+unfoldable pub parameter_after : Syntax → Syntax → Parser
+parameter_after attrs name ts =
     pick (sees at_ellipsis ts) (wrap (λ v. Right (of_variadic attrs (Left (Both (first name) (second name))) v)) (parse_rule variadic ts)) (wrap (λ t. Left (typed_as attrs name t)) (parse_rule type ts))
 
 unfoldable pub other_parameter : Syntax → Parser
 other_parameter attrs ts =
-    pick (sees at_ellipsis ts) (wrap (λ v. Right (of_variadic attrs (Right Nothing) v)) (parse_rule variadic ts)) (after (named_pattern ts) (parameter_behind attrs))
+    pick (sees at_ellipsis ts) (wrap (λ v. Right (of_variadic attrs (Right Nothing) v)) (parse_rule variadic ts)) (after (named_pattern ts) (parameter_after attrs))
 
 -- after its attributes, the first (true) or a later one
 abbrev pub next_parameter : Bool → Syntax → Parser
@@ -121,11 +121,11 @@ unfoldable pub read_parameter : Bool → Parser
 read_parameter first ts = after (parse_rule attributes ts) (next_parameter first)
 
 -- what follows a parameter: after a comma the others
-abbrev pub parameters_behind : Syntax → Parser
-parameters_behind (Left x) ts =
+abbrev pub parameters_after : Syntax → Parser
+parameters_after (Left x) ts =
     pick (sees at_comma ts) (after (take_mark comma ts) (λ sign m. wrap (λ l. Node (more_members parameters x sign l)) (parse_rule later_inputs m))) (Some (Node (one_member parameters x Nothing (Right Nothing)), ts))
-parameters_behind (Right v) ts = Some (Node (Shaped parameters (Both no_members (Left v))), ts)
-parameters_behind s ts = None
+parameters_after (Right v) ts = Some (Node (Shaped parameters (Both no_members (Left v))), ts)
+parameters_after s ts = None
 
 -- the rule of the first parameter and those after it, and the one of later parameters
 abbrev pub inputs_by : Bool → Parser

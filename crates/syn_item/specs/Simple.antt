@@ -18,7 +18,7 @@ use Rattle.syn_lower.specs.Types.{syntax_of_Type}
 use Rattle.syn_tree.specs.Derive.{item_of}
 use Rattle.syn_tree.specs.Modifiers.{syntax_of_ConstModifiers, syntax_of_TypeModifiers}
 use Rattle.syn_tree.specs.Restriction.{syntax_of_Visibility}
-use Rattle.syn_item.specs.Parts.{aside, behind_inner, generics_aside}
+use Rattle.syn_item.specs.Parts.{aside, after_inner, generics_aside}
 use Rattle.syn_item.specs.declared.simple.ItemConst.TheInside as ItemConst-in
 use Rattle.syn_item.specs.declared.simple.ItemExternCrate.TheInside as ItemExternCrate-in
 use Rattle.syn_item.specs.declared.simple.ItemMod.TheInside as ItemMod-in
@@ -120,7 +120,7 @@ content_syntax = maybe (λ p. group_syntax Brace p.0 p.1)
 
 -- what follows a module's name: items in braces, after which a `;` is never printed; or a `;`, which is printed in any case
 abbrev pub module_content : Syntax → Syntax → Syntax → Syntax
-module_content inner (Left content) semi_token = Right (Both (aside semi_token) (behind_inner inner content))
+module_content inner (Left content) semi_token = Right (Both (aside semi_token) (after_inner inner content))
 module_content inner s semi_token = Left (or_added semicolon semi_token)
 
 -- inner attributes are printed in the braces, and without braces never

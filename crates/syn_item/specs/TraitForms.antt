@@ -32,13 +32,13 @@ trait_of m o rest =
     item_of (attributes_syntax m.attrs.items) (syntax_of_Visibility m.vis) (Both (maybe const_syntax m.constness) (Node (Both (maybe unsafe_syntax m.unsafety) (Both o rest))))
 
 -- after generics
-abbrev pub behind_head : TraitHead → Syntax → Syntax
-behind_head h s =
+abbrev pub after_head : TraitHead → Syntax → Syntax
+after_head h s =
     trait_of h.marks (maybe auto_syntax h.auto_token) (Both (trait_syntax h.trait_token) (Both (syntax_of_ident h.ident) (Both (first h.generics) s)))
 
 -- after `unsafe`
-abbrev pub behind_marks : TraitMarks → Syntax → Syntax
-behind_marks m s =
+abbrev pub after_marks : TraitMarks → Syntax → Syntax
+after_marks m s =
     item_of (attributes_syntax m.attrs.items) (syntax_of_Visibility m.vis) (Both (maybe const_syntax m.constness) (Node (Both (maybe unsafe_syntax m.unsafety) s)))
 
 abbrev pub unmarked_form : Grammar

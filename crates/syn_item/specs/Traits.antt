@@ -81,11 +81,11 @@ abbrev pub syntax_of_ItemTrait : Syntax → Syntax
 syntax_of_ItemTrait = Node
 
 -- what follows `auto`, where that is allowed: the word of a trait, its name and the rest
-abbrev pub behind_auto : Syntax → Syntax
-behind_auto (Both attrs (Node (Both vis (Both constness (Node (Both unsafety (Both auto rest))))))) = rest
-behind_auto s = s
+abbrev pub after_auto : Syntax → Syntax
+after_auto (Both attrs (Node (Both vis (Both constness (Node (Both unsafety (Both auto rest))))))) = rest
+after_auto s = s
 
 -- what follows its name
-abbrev pub behind_name : Syntax → Syntax
-behind_name (Both attrs (Node (Both vis (Both constness (Node (Both unsafety (Both auto (Both word (Both ident rest))))))))) = rest
-behind_name s = s
+abbrev pub after_name : Syntax → Syntax
+after_name (Both attrs (Node (Both vis (Both constness (Node (Both unsafety (Both auto (Both word (Both ident rest))))))))) = rest
+after_name s = s

@@ -78,7 +78,7 @@ pub(crate) fn braced<T: Read + Drop>(
 }
 
 /// `=` and what follows it, if `=` is next.
-pub(crate) fn behind_equals<T: Read>(input: &mut ParseBuffer<'_>) -> Parsed<Option<(Eq, T)>>
+pub(crate) fn after_equals<T: Read>(input: &mut ParseBuffer<'_>) -> Parsed<Option<(Eq, T)>>
     ensures reads { Computes IsSyntax (λ o. maybe (pair_of eq_syntax T.syntax) o) (parse (optional (by table.at_equals) (punctuation equals followed_by T.form)) input.old) result input.new }
     ensures kept { Kept input.old result input.new }
 {

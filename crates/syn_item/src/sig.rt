@@ -148,7 +148,7 @@ fn print_last_comma(
 }
 
 /// Parameters before a variadic one, with a comma after the last of them.
-#[tactic(auto, using(syn_tokens::proofs::Prints::prints, crate::proofs::Parameters::print_comma_behind))]
+#[tactic(auto, using(syn_tokens::proofs::Prints::prints, crate::proofs::Parameters::print_comma_after))]
 fn print_before_variadic(
     inputs: &Punctuated<FnArg, Comma>,
     out: &mut StreamBuilder,

@@ -19,7 +19,7 @@ mod values;
 use crate::parts::{print_bounds_end, print_typed_value};
 use crate::use_tree::UseTree;
 pub(crate) use aliases::{
-    aliased_bounds, trait_alias, trait_alias_rest, type_alias, type_behind_head, type_rest,
+    aliased_bounds, trait_alias, trait_alias_rest, type_after_head, type_alias, type_rest,
 };
 pub(crate) use macro_items::{ended_group, macro_as_item_rest, macro_rest};
 pub(crate) use modules::{extern_crate, extern_crate_rest, module, module_rest};

@@ -8,7 +8,7 @@ ghost use Rattle.syn_tokens.specs.Leaves.{maybe};
 ghost use Rattle.syn_lower.specs.Attributes.{attributes_syntax};
 ghost use Rattle.syn_lower.specs.Bodies.{attributes_before_body, attributes_in_body};
 ghost use Rattle.syn_item.specs.Simple.{attributes_by_content};
-ghost use Rattle.syn_item.specs.Traits.{behind_auto, behind_name, function_end};
+ghost use Rattle.syn_item.specs.Traits.{after_auto, after_name, function_end};
 
 mod parsing;
 
@@ -112,8 +112,8 @@ pub struct TraitItemMacro {
 
 /// What follows a trait's name. Without bounds the colon isn't printed.
 #[tactic(auto, using(syn_tokens::proofs::Prints::prints, syn_lower::proofs::GenericPrints::print_bounds))]
-fn print_behind_name(item: &ItemTrait, out: &mut StreamBuilder) -> Result<(), AllocError>
-    ensures prints { OnOk result (out.new ≡ added out.old (print (behind_name item.now))) }
+fn print_after_name(item: &ItemTrait, out: &mut StreamBuilder) -> Result<(), AllocError>
+    ensures prints { OnOk result (out.new ≡ added out.old (print (after_name item.now))) }
     ensures begins { out.new.before ≡ out.old.before }
 {
     item.generics.print_params(out)?;
@@ -125,12 +125,12 @@ fn print_behind_name(item: &ItemTrait, out: &mut StreamBuilder) -> Result<(), Al
 /// The word of a trait, its name and what follows it.
 #[tactic(auto, using(syn_tokens::proofs::Prints::prints))]
 fn print_named(item: &ItemTrait, out: &mut StreamBuilder) -> Result<(), AllocError>
-    ensures prints { OnOk result (out.new ≡ added out.old (print (behind_auto item.now))) }
+    ensures prints { OnOk result (out.new ≡ added out.old (print (after_auto item.now))) }
     ensures begins { out.new.before ≡ out.old.before }
 {
     item.trait_token.print_in(out)?;
     item.ident.print_in(out)?;
-    print_behind_name(item, out)
+    print_after_name(item, out)
 }
 
 /// `unsafe` is printed before `auto`.

@@ -10,7 +10,7 @@ use Rattle.syn_tokens.specs.Lists.{listed}
 use Rattle.syn_tokens.specs.Listing.{joined_of}
 use Rattle.syn_tokens.specs.Rows.{row}
 use Rattle.syn_tokens.proofs.Rows.{joined_row}
-use Rattle.syn_lower.specs.QualifiedPaths.{part, surplus, words_in, separator_behind, words_behind, qualified}
+use Rattle.syn_lower.specs.QualifiedPaths.{part, surplus, words_in, separator_after, words_after, qualified}
 use Rattle.syn_lower.specs.QualifiedPrints.{word_part, words_row}
 
 pub print_part : {X : Type 0} (v : X → Syntax) (o : Option X) → print (part (maybe v o)) ≡ print (maybe v o)
@@ -47,7 +47,7 @@ module _ {T P : Type 0} (v : T → Syntax) (w : P → Syntax) (gt : Stream) wher
 
   -- the words inside, `>`, the mark after them and the others
   abbrev cut_print : ℕ → Syntax → Stream
-  cut_print n s = print (words_in n s) ⧺ (gt ⧺ (print (separator_behind n s) ⧺ print (words_behind n s)))
+  cut_print n s = print (words_in n s) ⧺ (gt ⧺ (print (separator_after n s) ⧺ print (words_after n s)))
 
   -- of one word alone, with a mark after it or without
   cut_last : (n k : ℕ) (t : T) → k ≡ 1 → cut_print n (joined_of {P = P} v w [] (Some t)) ≡ words_row v w gt k [] (Some t)
@@ -64,7 +64,7 @@ module _ {T P : Type 0} (v : T → Syntax) (w : P → Syntax) (gt : Stream) wher
       ∙ ap (λ j. words_row v w gt j (x ∷ l) o) (sym e)
 
   cut_later : (n k : ℕ) (x : T × P) (l : List (T × P)) (o : Option T) → 2 ≤ k → cut_print n (joined_of v w l o) ≡ words_row v w gt (k - 1) l o →
-      (print (v x.0) ⧺ (print (w x.1) ⧺ print (words_in n (joined_of v w l o)))) ⧺ (gt ⧺ (print (separator_behind n (joined_of v w l o)) ⧺ print (words_behind n (joined_of v w l o)))) ≡ words_row v w gt k (x ∷ l) o
+      (print (v x.0) ⧺ (print (w x.1) ⧺ print (words_in n (joined_of v w l o)))) ⧺ (gt ⧺ (print (separator_after n (joined_of v w l o)) ⧺ print (words_after n (joined_of v w l o)))) ≡ words_row v w gt k (x ∷ l) o
   cut_later n k x l o h e =
       append_append (print (v x.0)) _ _ ∙ ap (λ s. print (v x.0) ⧺ s) (append_append (print (w x.1)) _ _)
       ∙ ap (λ s. print (v x.0) ⧺ (print (w x.1) ⧺ s)) e

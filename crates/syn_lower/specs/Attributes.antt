@@ -44,11 +44,11 @@ abbrev pub syntax_of_MetaList : MetaList → Syntax
 syntax_of_MetaList m = meta_of m.path (filled m.tokens (syntax_of_MacroDelimiter m.delimiter))
 
 -- `=`, and all that is left
-abbrev pub behind_equals : Syntax → Stream → Syntax
-behind_equals sign tokens = Right (Right (Right (Left (Rest (marks_of sign) tokens))))
+abbrev pub after_equals : Syntax → Stream → Syntax
+after_equals sign tokens = Right (Right (Right (Left (Rest (marks_of sign) tokens))))
 
 abbrev pub syntax_of_MetaNameValue : MetaNameValue → Syntax
-syntax_of_MetaNameValue m = meta_of m.path (behind_equals (eq_syntax m.eq_token) m.value)
+syntax_of_MetaNameValue m = meta_of m.path (after_equals (eq_syntax m.eq_token) m.value)
 
 abbrev pub syntax_of_Meta : Meta-m.the_data → Syntax
 syntax_of_Meta (Meta-m.Path p) = meta_of p no_value

@@ -45,13 +45,13 @@ has_others [] = false
 has_others (x ∷ l) = or (no (is_lifetime x.0)) (has_others l)
 
 -- what is printed after a lifetime that is last
-abbrev pub behind_last : List (GenericParam-m.the_data × Comma) → Stream
-behind_last l = pick (has_others l) added_comma end
+abbrev pub after_last : List (GenericParam-m.the_data × Comma) → Stream
+after_last l = pick (has_others l) added_comma end
 
 -- all of them
 abbrev pub params_part : List (GenericParam-m.the_data × Comma) → Option GenericParam-m.the_data → Stream
 params_part l None = pairs_part true l ⧺ pairs_part false l
-params_part l (Some p) = pairs_part true l ⧺ (param_part true p (behind_last l) ⧺ (pairs_part false l ⧺ param_part false p end))
+params_part l (Some p) = pairs_part true l ⧺ (param_part true p (after_last l) ⧺ (pairs_part false l ⧺ param_part false p end))
 
 -- `<`, parameters and `>`, where there are some
 abbrev pub generics_part : Option Lt → List (GenericParam-m.the_data × Comma) → Option GenericParam-m.the_data → Option Gt → Stream

@@ -84,11 +84,11 @@ stands None = false
 stands (Some x) = true
 
 -- a sign that is there is written
-abbrev pub LtStands : Option Lt → Type 0
-LtStands lt_token = is_written (sign_of (maybe lt_syntax lt_token)) ≡ stands lt_token
+abbrev pub LtPresent : Option Lt → Type 0
+LtPresent lt_token = is_written (sign_of (maybe lt_syntax lt_token)) ≡ stands lt_token
 
-abbrev pub GtStands : Option Gt → Type 0
-GtStands gt_token = is_written (sign_of (maybe gt_syntax gt_token)) ≡ stands gt_token
+abbrev pub GtPresent : Option Gt → Type 0
+GtPresent gt_token = is_written (sign_of (maybe gt_syntax gt_token)) ≡ stands gt_token
 
 abbrev pub no_parameters : Syntax
 no_parameters = Node (Vanishing false (Right Nothing))

@@ -27,14 +27,14 @@ abbrev pub type_form : Grammar
 type_form = plainly name & bounds_form & (when at_equals then punctuation equals & rule type else empty)
 
 -- a parameter, after these attributes
-unfoldable pub lifetime_behind : Syntax → Parser
-lifetime_behind attrs ts = wrap (λ s. Node (Both attrs s)) (parse_form lifetime_form ts)
+unfoldable pub lifetime_after : Syntax → Parser
+lifetime_after attrs ts = wrap (λ s. Node (Both attrs s)) (parse_form lifetime_form ts)
 
-unfoldable pub const_behind : Syntax → Parser
-const_behind attrs ts = wrap (λ s. Both attrs (Left s)) (parse_form const_form ts)
+unfoldable pub const_after : Syntax → Parser
+const_after attrs ts = wrap (λ s. Both attrs (Left s)) (parse_form const_form ts)
 
-unfoldable pub type_behind : Syntax → Parser
-type_behind attrs ts = wrap (λ s. Both attrs (Right s)) (parse_form type_form ts)
+unfoldable pub type_after : Syntax → Parser
+type_after attrs ts = wrap (λ s. Both attrs (Right s)) (parse_form type_form ts)
 
 -- what follows what was read
 abbrev pub after : Out → (Syntax → Parser) → Out

@@ -67,8 +67,8 @@ association_form = telling Before_equals name & punctuation equals & rule type
 abbrev pub trait_form : Grammar
 trait_form = plainly (word w_as) & rule type_path
 
-abbrev pub behind_trait_form : Grammar
-behind_trait_form = punctuation greater & punctuation colons & rule type_words
+abbrev pub after_trait_form : Grammar
+after_trait_form = punctuation greater & punctuation colons & rule type_words
 
 -- the result of a qualified path, by that of what follows its type
 abbrev pub of_qualified : Syntax → Syntax → Out → Out

@@ -41,13 +41,13 @@ same_bound None None None None s t = and_true (same_syntax s t)
 
 -- AFTER ATTRIBUTES
 
-pub print_behind : (attrs s : Syntax) → print (behind_attributes attrs s) ≡ print attrs ⧺ print s
-print_behind (Node (Right (Unshown Nothing))) s = refl
-print_behind attrs s = refl
+pub print_after : (attrs s : Syntax) → print (behind_attributes attrs s) ≡ print attrs ⧺ print s
+print_after (Node (Right (Unshown Nothing))) s = refl
+print_after attrs s = refl
 
-pub behind_smaller : (attrs s : Syntax) → tree_size s ≤ tree_size (behind_attributes attrs s)
-behind_smaller (Node (Right (Unshown Nothing))) s = omega arith
-behind_smaller attrs s = omega arith
+pub after_smaller : (attrs s : Syntax) → tree_size s ≤ tree_size (behind_attributes attrs s)
+after_smaller (Node (Right (Unshown Nothing))) s = omega arith
+after_smaller attrs s = omega arith
 
 -- a pattern followed by its type: no attributes are taken for it
 module _ (s t x y : Syntax) where

@@ -29,8 +29,8 @@ abbrev pub word_form : Grammar
 word_form = shaped untagged (when at_named_word then named_word_form else other_word_form)
 
 -- what follows the type of a qualified path, and its trait: `>`, `::` and words
-abbrev pub behind_trait_form : Grammar
-behind_trait_form = punctuation greater & punctuation colons & rule expression_words
+abbrev pub after_trait_form : Grammar
+after_trait_form = punctuation greater & punctuation colons & rule expression_words
 
 -- a path, of its `::` and its words
 abbrev pub path_syntax : Option PathSep → List (Syntax × PathSep) → Option Syntax → Syntax

@@ -11,14 +11,14 @@ use Rattle.syn_parse.specs.Peeks.{past}
 -- attributes, a visibility and a type are there, and after them `=` and a default
 pub record HasDefault (ts default : Stream) : Type 0 where
   pub attrs : Syntax
-  pub behind_attrs : Stream
+  pub after_attrs : Stream
   pub vis : Syntax
-  pub behind_vis : Stream
+  pub after_vis : Stream
   pub ty : Syntax
   pub behind_type : Stream
-  pub reads_attrs : parse_rule attributes ts ≡ Some (attrs, behind_attrs)
-  pub reads_vis : parse_rule visibility behind_attrs ≡ Some (vis, behind_vis)
-  pub reads_type : parse_rule type behind_vis ≡ Some (ty, behind_type)
+  pub reads_attrs : parse_rule attributes ts ≡ Some (attrs, after_attrs)
+  pub reads_vis : parse_rule visibility after_attrs ≡ Some (vis, after_vis)
+  pub reads_type : parse_rule type after_vis ≡ Some (ty, behind_type)
   pub equals : sees at_equals behind_type ≡ true
   pub is : default ≡ past behind_type
 

@@ -170,7 +170,7 @@ fn union_item_rest(input: &mut ParseBuffer<'_>) -> Parsed<(Visibility, Ident, Ge
 }
 
 /// A struct, after these attributes and this visibility: `struct`, a name, generics, and fields in braces, in parentheses or none.
-pub fn struct_behind(
+pub fn struct_after_visibility(
     attrs: Vec<Attribute>,
     vis: Visibility,
     input: &mut ParseBuffer<'_>,
@@ -183,7 +183,7 @@ pub fn struct_behind(
 }
 
 /// An enum, after these attributes and this visibility: `enum`, a name, generics, a where clause, and variants in braces.
-pub fn enum_behind(
+pub fn enum_after_visibility(
     attrs: Vec<Attribute>,
     vis: Visibility,
     input: &mut ParseBuffer<'_>,
@@ -196,7 +196,7 @@ pub fn enum_behind(
 }
 
 /// A union, after these attributes and this visibility: `union`, a name, generics, a where clause, and fields in braces.
-pub fn union_behind(
+pub fn union_after_visibility(
     attrs: Vec<Attribute>,
     vis: Visibility,
     input: &mut ParseBuffer<'_>,

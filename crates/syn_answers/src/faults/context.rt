@@ -115,7 +115,7 @@ impl<'a> Place<'a> {
 
     /// Passes a tree that these trees follow.
     fn pass(&mut self, tree: &TokenTreeRef<'a>, behind: Cursor<'a>) {
-        self.before = self.before_behind(tree);
+        self.before = self.before_after(tree);
         self.angles.pass(tree);
         match tree {
             TokenTreeRef::Ident(ident) => self.pass_word(ident.text(), &behind),
@@ -127,7 +127,7 @@ impl<'a> Place<'a> {
     }
 
     /// What is before the place after this tree.
-    fn before_behind(&self, tree: &TokenTreeRef<'_>) -> Before {
+    fn before_after(&self, tree: &TokenTreeRef<'_>) -> Before {
         match tree {
             TokenTreeRef::Ident(ident) => {
                 if ident.is("as") {

@@ -2,7 +2,7 @@
 use crate::faults::Fault;
 use crate::faults::angles::Angles;
 use crate::faults::context::{Context, Place};
-use crate::faults::marks::{behind_lifetime, is_at, is_at_both, is_at_word};
+use crate::faults::marks::{after_lifetime, is_at, is_at_both, is_at_word};
 use syn_tokens::delimiter::Delimiter;
 use syn_tokens::punct::Punct;
 use syn_tokens::stream::cursor::{Cursor, TokenTreeRef};
@@ -20,7 +20,7 @@ fn is_at_generics(trees: &Cursor<'_>) -> bool {
 
 /// Whether a generic parameter is next: `#`, a lifetime, `const`, or an identifier after which no type continues.
 fn is_at_parameter(trees: &Cursor<'_>) -> bool {
-    if is_at('#', trees) || behind_lifetime(trees).is_some() || is_at_word("const", trees) {
+    if is_at('#', trees) || after_lifetime(trees).is_some() || is_at_word("const", trees) {
         return true;
     }
     match trees.split_ident() {
@@ -38,7 +38,7 @@ fn is_at_type_rest(trees: &Cursor<'_>) -> bool {
 }
 
 /// The tokens after the generics, if they are next.
-fn behind_generics<'a>(trees: &Cursor<'a>) -> Cursor<'a> {
+fn after_generics<'a>(trees: &Cursor<'a>) -> Cursor<'a> {
     let mut rest = trees.fork();
     if !is_at_generics(trees) {
         return rest;
@@ -65,8 +65,8 @@ struct Header<'a> {
 }
 
 /// The header after the generics of an impl.
-fn header_behind<'a>(behind_impl: &Cursor<'a>) -> Header<'a> {
-    let ty = behind_generics(behind_impl);
+fn header_after<'a>(after_impl: &Cursor<'a>) -> Header<'a> {
+    let ty = after_generics(after_impl);
     match ty.split_punct() {
         Some((punct, behind)) => {
             if punct.character() == '!' && !behind.is_at_group(Delimiter::Brace) {
@@ -87,7 +87,7 @@ pub(crate) fn negative_inherent(place: &Place<'_>) -> Option<Fault> {
     let Context::Impl(behind) = &place.context else {
         return None;
     };
-    negative(header_behind(behind).bang)
+    negative(header_after(behind).bang)
 }
 
 /// The error of this `!`.
@@ -105,7 +105,7 @@ pub(crate) fn no_trait(place: &Place<'_>) -> Option<Fault> {
         return None;
     };
     if is_at_word("for", &place.trees) {
-        no_trait_at(&header_behind(behind).ty)
+        no_trait_at(&header_after(behind).ty)
     } else {
         None
     }
@@ -125,7 +125,7 @@ pub(crate) fn negative_of_type(place: &Place<'_>) -> Option<Fault> {
     let Context::Impl(behind) = &place.context else {
         return None;
     };
-    let header = header_behind(behind);
+    let header = header_after(behind);
     if header.bang.is_none()
         || header.ty.len() != place.trees.len()
         || !is_at_other_type(&header.ty)

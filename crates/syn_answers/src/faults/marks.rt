@@ -37,7 +37,7 @@ pub(crate) fn is_at_both(first: char, second: char, trees: &Cursor<'_>) -> bool 
 }
 
 /// The tokens after the lifetime, if one is next.
-pub(crate) fn behind_lifetime<'a>(trees: &Cursor<'a>) -> Option<Cursor<'a>> {
+pub(crate) fn after_lifetime<'a>(trees: &Cursor<'a>) -> Option<Cursor<'a>> {
     let (_name, behind) = behind_joint('\'', trees)?.split_ident()?;
     Some(behind)
 }
@@ -46,7 +46,7 @@ pub(crate) fn behind_lifetime<'a>(trees: &Cursor<'a>) -> Option<Cursor<'a>> {
 pub(crate) fn behind_attributes<'a>(trees: &Cursor<'a>) -> Cursor<'a> {
     let mut rest = trees.fork();
     for _tree in 0..trees.len() {
-        let Some(behind) = behind_attribute(&rest) else {
+        let Some(behind) = after_attribute(&rest) else {
             return rest;
         };
         rest = behind;
@@ -55,7 +55,7 @@ pub(crate) fn behind_attributes<'a>(trees: &Cursor<'a>) -> Cursor<'a> {
 }
 
 /// The tokens after the attribute, if one is next.
-fn behind_attribute<'a>(trees: &Cursor<'a>) -> Option<Cursor<'a>> {
+fn after_attribute<'a>(trees: &Cursor<'a>) -> Option<Cursor<'a>> {
     let (punct, behind) = trees.split_punct()?;
     if punct.character() != '#' {
         return None;

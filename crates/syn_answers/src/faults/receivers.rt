@@ -1,21 +1,21 @@
 //! Receivers where none is accepted.
 use crate::faults::Fault;
 use crate::faults::context::{Before, Context, Place};
-use crate::faults::marks::{behind_attributes, behind_lifetime, is_at, is_at_both};
-use crate::names::behind_mut;
+use crate::faults::marks::{after_lifetime, behind_attributes, is_at, is_at_both};
+use crate::names::after_mut;
 use syn_tokens::ident::ident_ref::IdentRef;
 use syn_tokens::span::Span;
 use syn_tokens::stream::cursor::Cursor;
 
 /// The tokens after `&` and a lifetime, if they are next.
-fn behind_reference<'a>(trees: &Cursor<'a>) -> Cursor<'a> {
+fn after_reference<'a>(trees: &Cursor<'a>) -> Cursor<'a> {
     if !is_at('&', trees) {
         return trees.fork();
     }
     let Some((_and, behind)) = trees.split() else {
         return trees.fork();
     };
-    match behind_lifetime(&behind) {
+    match after_lifetime(&behind) {
         Some(behind) => behind,
         None => behind,
     }
@@ -23,7 +23,7 @@ fn behind_reference<'a>(trees: &Cursor<'a>) -> Cursor<'a> {
 
 /// The `self` of what looks like a receiver, if one is next, and the tokens after it.
 fn split_self<'a>(trees: &Cursor<'a>) -> Option<(IdentRef<'a>, Cursor<'a>)> {
-    let (ident, behind) = behind_mut(&behind_reference(trees)).split_ident()?;
+    let (ident, behind) = after_mut(&after_reference(trees)).split_ident()?;
     if ident.is("self") {
         Some((ident, behind))
     } else {

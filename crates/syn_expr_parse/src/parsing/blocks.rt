@@ -11,7 +11,7 @@ ghost use Rattle.syn_tokens.specs.Leaves.{maybe};
 ghost use Rattle.syn_lower.specs.Attributes.{none_listed};
 ghost use Rattle.syn_lower.specs.Parsing.{parse_rule, parse_form, Computes, Parses, Moved, Kept, MayBelow, MayHere, itself, IsSyntax};
 ghost use Rattle.syn_expr_parse.specs.BlockForms.{else_branch_form, for_form, label_form, labelled_as, labelled_form, loop_form, otherwise_form, unsafe_form, while_form};
-ghost use Rattle.syn_expr_parse.specs.Parts.{behind_else, block_behind_else, label_syntax};
+ghost use Rattle.syn_expr_parse.specs.Parts.{after_else, block_after_else, label_syntax};
 ghost use Rattle.syn_lower.specs.Bodies.{attributes_before_body, attributes_in_body, body as body_syntax};
 
 use crate::parsing::nested::{Block, Expr, Nested, Rung, Spot};
@@ -94,9 +94,9 @@ fn no_inner_attributes(input: &ParseBuffer<'_>) -> Parsed<()>
 #[tactic(auto, using(crate::proofs::Blocks::none_before))]
 pub(super) fn else_block<N: Nested>(nested: &N, input: &mut ParseBuffer<'_>) -> Parsed<Box<Expr<N>>>
     requires { MayBelow N.may nested.now input.old }
-    ensures reads { Computes IsSyntax (λ e. block_behind_else (N.Trees.expr_syntax e.value)) (parse_form table.else_block input.old) result input.new }
-    ensures block { IfOk result (λ e. behind_else (N.Trees.expr_syntax e.value) ≡ Left (block_behind_else (N.Trees.expr_syntax e.value))) }
-    ensures bare { IfOk result (λ e. block_behind_else (N.Trees.expr_syntax e.value) ≡ N.Trees.expr_syntax e.value) }
+    ensures reads { Computes IsSyntax (λ e. block_after_else (N.Trees.expr_syntax e.value)) (parse_form table.else_block input.old) result input.new }
+    ensures block { IfOk result (λ e. after_else (N.Trees.expr_syntax e.value) ≡ Left (block_after_else (N.Trees.expr_syntax e.value))) }
+    ensures bare { IfOk result (λ e. block_after_else (N.Trees.expr_syntax e.value) ≡ N.Trees.expr_syntax e.value) }
     ensures moved { Moved input.old result input.new }
 {
     if input.peek::<Lifetime>() {
@@ -259,7 +259,7 @@ fn otherwise<N: Nested>(
     input: &mut ParseBuffer<'_>,
 ) -> Parsed<Option<(Else, Box<Expr<N>>)>>
     requires { MayBelow N.may nested.now input.old }
-    ensures reads { Computes IsSyntax (λ o. maybe (λ p. Both (else_syntax p.0) (behind_else (N.Trees.expr_syntax p.1.value))) o) (parse_form otherwise_form input.old) result input.new }
+    ensures reads { Computes IsSyntax (λ o. maybe (λ p. Both (else_syntax p.0) (after_else (N.Trees.expr_syntax p.1.value))) o) (parse_form otherwise_form input.old) result input.new }
     ensures kept { Kept input.old result input.new }
 {
     if !input.peek::<Else>() {
@@ -271,10 +271,10 @@ fn otherwise<N: Nested>(
 }
 
 /// A block or another `if`, after `else`.
-#[tactic(auto, using(crate::proofs::Blocks::if_behind_else))]
+#[tactic(auto, using(crate::proofs::Blocks::if_after_else))]
 fn else_branch<N: Nested>(nested: &N, input: &mut ParseBuffer<'_>) -> Parsed<Box<Expr<N>>>
     requires { MayHere N.may nested.now input.old }
-    ensures reads { Computes IsSyntax (λ e. behind_else (N.Trees.expr_syntax e.value)) (parse_form else_branch_form input.old) result input.new }
+    ensures reads { Computes IsSyntax (λ e. after_else (N.Trees.expr_syntax e.value)) (parse_form else_branch_form input.old) result input.new }
     ensures moved { Moved input.old result input.new }
 {
     if input.peek::<Brace>() {

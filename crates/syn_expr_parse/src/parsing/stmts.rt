@@ -11,7 +11,7 @@ ghost use Rattle.syn_tokens.specs.Kinds.{else_syntax, eq_syntax, semi_syntax};
 ghost use Rattle.syn_tokens.specs.Leaves.{maybe};
 ghost use Rattle.syn_lower.specs.Attributes.{all_attributes_syntax, attributes_syntax};
 ghost use Rattle.syn_lower.specs.Parsing.{of, rule, meaning_of_rule, parse_rule, parse_form, Computes, Parses, MayParse, Moved, Kept, MayBelow, MayHere, itself, IsSyntax};
-ghost use Rattle.syn_expr_parse.specs.Parts.{block_behind_else, diverging as diverging_syntax, statements_of};
+ghost use Rattle.syn_expr_parse.specs.Parts.{block_after_else, diverging as diverging_syntax, statements_of};
 ghost use Rattle.syn_expr_parse.specs.Listed.{is_listed};
 ghost use Rattle.syn_expr_parse.specs.Spines.{spine_shown};
 ghost use Rattle.syn_expr_parse.specs.StatementForms.{behind_attributes, behind_block, crate_item, crate_macro_statement as crate_macro_statement_by, diverges, ending, expression_statement as expression_statement_by, item_next, item_statement, local_init_form, local_value as local_value_by, macro_statement as macro_statement_by, next_statement, statement_by, terminator as terminator_by};
@@ -92,7 +92,7 @@ fn statement_in<N: Nested>(place: Place, nested: &N, input: &mut ParseBuffer<'_>
         input.advance_to(&start);
         return item::<N>(input);
     }
-    statement_behind(place, attrs, nested, input)
+    statement_after(place, attrs, nested, input)
 }
 
 /// Whether an item is next, after its attributes. Refused only where memory is.
@@ -133,7 +133,7 @@ fn item<N: Nested>(input: &mut ParseBuffer<'_>) -> Parsed<Stmt<N>>
 }
 
 /// A statement that is no item, after its attributes.
-fn statement_behind<N: Nested>(
+fn statement_after<N: Nested>(
     place: Place,
     attrs: Vec<Attribute>,
     nested: &N,
@@ -356,7 +356,7 @@ fn diverging<'a, N: Nested>(
     input: &mut ParseBuffer<'a>,
 ) -> Parsed<Option<(Else, Box<Expr<N>>)>>
     requires { MayBelow N.may nested.now input.old }
-    ensures reads { Computes IsSyntax (λ o. diverging_syntax (maybe (λ p. Both (else_syntax p.0) (block_behind_else (N.Trees.expr_syntax p.1.value))) o)) (diverges (ends_by false (before start.now input.old)) input.old) result input.new }
+    ensures reads { Computes IsSyntax (λ o. diverging_syntax (maybe (λ p. Both (else_syntax p.0) (block_after_else (N.Trees.expr_syntax p.1.value))) o)) (diverges (ends_by false (before start.now input.old)) input.old) result input.new }
     ensures kept { Kept input.old result input.new }
 {
     if !input.peek::<Else>() || has_trailing_brace(start, input)? {

@@ -20,7 +20,7 @@ ghost use Rattle.syn_item.specs.Foreign.{syntax_of_ForeignItem};
 ghost use Rattle.syn_item.specs.ForeignForms.{bare_static_syntax, foreign_function_of};
 ghost use Rattle.syn_item.specs.NextWords.{foreign_function_next, static_next};
 ghost use Rattle.syn_item.specs.Planned.{Follows};
-ghost use Rattle.syn_item.specs.Stages.{foreign_function_or_kept, foreign_item_plan_behind, foreign_static_or_kept, foreign_type_or_kept};
+ghost use Rattle.syn_item.specs.Stages.{foreign_function_or_kept, foreign_item_plan_after, foreign_static_or_kept, foreign_type_or_kept};
 
 use super::{ForeignItem, ForeignItemFn, ForeignItemMacro, ForeignItemStatic, ForeignItemType};
 use crate::pieces::{kept_tokens, member_macro, type_head};
@@ -54,7 +54,7 @@ impl Read for ForeignItem {
     fn read(input: &mut ParseBuffer<'_>) -> Parsed<ForeignItem> {
         let start = input.fork();
         let attrs = outer_attributes(input)?;
-        match foreign_item_behind(attrs, input) {
+        match foreign_item_after(attrs, input) {
             Ok(Some(member)) => Ok(member),
             Ok(None) => Ok(ForeignItem::Verbatim(kept_tokens(Rule::FOREIGN_ITEM, &start, input)?)),
             Err(refusal) => Err(refusal),
@@ -64,11 +64,11 @@ impl Read for ForeignItem {
 
 /// A foreign member, after its attributes; `None` where it is kept verbatim.
 #[tactic(auto, using(crate::proofs::ForeignMembers::visibility_refused, crate::proofs::ForeignMembers::type_follows, crate::proofs::ForeignMembers::static_follows, crate::proofs::ForeignMembers::function_follows, crate::proofs::ForeignMembers::marked_refused, crate::proofs::ForeignMembers::self_refused, crate::proofs::ForeignMembers::macro_read, crate::proofs::ForeignMembers::macro_refused))]
-fn foreign_item_behind(
+fn foreign_item_after(
     attrs: Vec<Attribute>,
     input: &mut ParseBuffer<'_>,
 ) -> Parsed<Option<ForeignItem>>
-    ensures follows { (ts : Stream) → Follows IsSyntax syntax_of_ForeignItem rules.kept_foreign_item ts (run_plan (foreign_item_plan_behind (attributes_syntax attrs.items)) rules.kept_foreign_item ts input.old) result input.new }
+    ensures follows { (ts : Stream) → Follows IsSyntax syntax_of_ForeignItem rules.kept_foreign_item ts (run_plan (foreign_item_plan_after (attributes_syntax attrs.items)) rules.kept_foreign_item ts input.old) result input.new }
 {
     let is_marked = at_visibility(input);
     let vis = input.read()?;
@@ -136,12 +136,12 @@ fn foreign_function(
     if !input.peek::<Semi>() {
         return Ok(None);
     }
-    let function = behind_foreign_signature(attrs, vis, sig, input)?;
+    let function = after_foreign_signature(attrs, vis, sig, input)?;
     Ok(Some(ForeignItem::Fn(function)))
 }
 
 /// A foreign function, after its signature: its `;`.
-fn behind_foreign_signature(
+fn after_foreign_signature(
     attrs: Vec<Attribute>,
     vis: Visibility,
     sig: Signature,
@@ -229,7 +229,7 @@ impl Read for ForeignItemFn {
         let attrs = outer_attributes(input)?;
         let vis = input.read()?;
         let sig = foreign_signature(input)?;
-        behind_foreign_signature(attrs, vis, sig, input)
+        after_foreign_signature(attrs, vis, sig, input)
     }
 }
 

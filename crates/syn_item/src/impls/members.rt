@@ -17,7 +17,7 @@ ghost use Rattle.syn_item.specs.Impls.{syntax_of_ImplItem};
 ghost use Rattle.syn_item.specs.ItemForms.{value_form};
 ghost use Rattle.syn_item.specs.NextWords.{constant_next, impl_macro_next};
 ghost use Rattle.syn_item.specs.Planned.{Follows};
-ghost use Rattle.syn_item.specs.Stages.{impl_const_or_kept, impl_item_plan_behind};
+ghost use Rattle.syn_item.specs.Stages.{impl_const_or_kept, impl_item_plan_after};
 
 use super::{ImplItem, ImplItemConst, ImplItemFn, ImplItemMacro, ImplItemType};
 use crate::bodies::body;
@@ -71,7 +71,7 @@ impl Read for ImplItem {
     fn read(input: &mut ParseBuffer<'_>) -> Parsed<ImplItem> {
         let start = input.fork();
         let attrs = outer_attributes(input)?;
-        match impl_item_behind(attrs, input) {
+        match impl_item_after(attrs, input) {
             Ok(Some(member)) => Ok(member),
             Ok(None) => Ok(ImplItem::Verbatim(kept_tokens(Rule::IMPL_ITEM, &start, input)?)),
             Err(refusal) => Err(refusal),
@@ -81,9 +81,9 @@ impl Read for ImplItem {
 
 /// A member of an impl, after its attributes; `None` where it is kept verbatim.
 #[tactic(auto, using(crate::proofs::ImplPlans::member_follows, crate::proofs::ImplPlans::visibility_refused, crate::proofs::ImplPlans::default_refused, crate::proofs::ImplPlans::path_refused, crate::proofs::ImplPlans::macro_read, crate::proofs::ImplPlans::macro_refused))]
-fn impl_item_behind(attrs: Vec<Attribute>, input: &mut ParseBuffer<'_>) -> Parsed<Option<ImplItem>>
+fn impl_item_after(attrs: Vec<Attribute>, input: &mut ParseBuffer<'_>) -> Parsed<Option<ImplItem>>
     requires outer { all_attributes_syntax attrs.items ≡ attributes_syntax attrs.items }
-    ensures follows { (ts : Stream) → Follows IsSyntax syntax_of_ImplItem rules.kept_impl_item ts (run_plan (impl_item_plan_behind (attributes_syntax attrs.items)) rules.kept_impl_item ts input.old) result input.new }
+    ensures follows { (ts : Stream) → Follows IsSyntax syntax_of_ImplItem rules.kept_impl_item ts (run_plan (impl_item_plan_after (attributes_syntax attrs.items)) rules.kept_impl_item ts input.old) result input.new }
 {
     if at_impl_macro(input)? {
         if at_no_macro_item(input) {

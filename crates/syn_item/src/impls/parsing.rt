@@ -14,11 +14,11 @@ ghost use Rattle.syn_lower.specs.Parsing.{of, rule, meaning_of_rule, parse_rule,
 ghost use Rattle.syn_lower.specs.Generics.{where_part};
 ghost use Rattle.syn_lower.specs.Parts.{first};
 ghost use Rattle.syn_parse.specs.Form.{by};
-ghost use Rattle.syn_item.specs.ImplForms.{ReadsBefore, bang_then, behind_impl_form, impl_generics_form, impl_of, path_then, types_before, types_then};
+ghost use Rattle.syn_item.specs.ImplForms.{ReadsBefore, bang_then, after_impl_form, impl_generics_form, impl_of, path_then, types_before, types_then};
 ghost use Rattle.syn_item.specs.Impls.{kept_list, without_self_type};
 ghost use Rattle.syn_item.specs.NextWords.{odd_negative};
 ghost use Rattle.syn_item.specs.Planned.{Follows};
-ghost use Rattle.syn_item.specs.Stages.{impl_types_behind};
+ghost use Rattle.syn_item.specs.Stages.{impl_types_after};
 
 use super::ItemImpl;
 use crate::pieces::braced;
@@ -85,14 +85,14 @@ fn impl_definition_rest(attrs: Vec<Attribute>, input: &mut ParseBuffer<'_>) -> P
         unsafety,
         impl_token,
     };
-    behind_impl(marks, input)
+    after_impl(marks, input)
 }
 
 /// An impl, after its word.
 #[tactic(auto, using(crate::proofs::FirstTypes::generics_refused, crate::proofs::FirstTypes::types_refused, crate::proofs::FirstTypes::whole_read, crate::proofs::FirstTypes::whole_refused))]
-fn behind_impl(marks: ImplMarks, input: &mut ParseBuffer<'_>) -> Parsed<ItemImpl>
+fn after_impl(marks: ImplMarks, input: &mut ParseBuffer<'_>) -> Parsed<ItemImpl>
     requires outer { all_attributes_syntax marks.attrs.items ≡ attributes_syntax marks.attrs.items }
-    ensures reads { Computes IsSyntax itself (wrap (impl_of marks) (parse_form behind_impl_form input.old)) result input.new }
+    ensures reads { Computes IsSyntax itself (wrap (impl_of marks) (parse_form after_impl_form input.old)) result input.new }
     ensures moved { Moved input.old result input.new }
 {
     let generics = impl_generics(input)?;
@@ -158,7 +158,7 @@ fn implemented(input: &mut ParseBuffer<'_>) -> Parsed<ImplTypes>
     ensures moved { Moved input.old result input.new }
 {
     if input.peek::<Not>() {
-        return behind_bang(input);
+        return after_bang(input);
     }
     if input.peek::<ModulePath>() {
         return behind_path(input);
@@ -173,7 +173,7 @@ fn implemented(input: &mut ParseBuffer<'_>) -> Parsed<ImplTypes>
 
 /// `!`, and before braces nothing else, as a self type; else a path, `for` and a self type.
 #[tactic(auto, using(crate::proofs::FirstTypes::bang_refused, crate::proofs::FirstTypes::never_read, crate::proofs::FirstTypes::negative_path_refused, crate::proofs::FirstTypes::negative_for_refused, crate::proofs::FirstTypes::negative_type_refused, crate::proofs::FirstTypes::negative_read))]
-fn behind_bang(input: &mut ParseBuffer<'_>) -> Parsed<ImplTypes>
+fn after_bang(input: &mut ParseBuffer<'_>) -> Parsed<ImplTypes>
     ensures reads { ReadsBefore IsSyntax types_before (λ f. wrap Left (bang_then f input.old)) result input.new }
     ensures moved { Moved input.old result input.new }
 {
@@ -187,7 +187,7 @@ fn behind_bang(input: &mut ParseBuffer<'_>) -> Parsed<ImplTypes>
         });
     }
     let path = input.read()?;
-    let for_token = for_behind_bang(bang_token, input)?;
+    let for_token = for_after_bang(bang_token, input)?;
     let self_ty = input.read()?;
     Ok(ImplTypes {
         polarity: Some(bang_token),
@@ -197,7 +197,7 @@ fn behind_bang(input: &mut ParseBuffer<'_>) -> Parsed<ImplTypes>
 }
 
 /// The `for` after `!` and a path. Where none is next, the fault is at the `!`.
-fn for_behind_bang(bang_token: Not, input: &mut ParseBuffer<'_>) -> Parsed<For>
+fn for_after_bang(bang_token: Not, input: &mut ParseBuffer<'_>) -> Parsed<For>
     ensures reads { Computes IsSyntax for_syntax (parse_form (plainly (word w_for)) input.old) result input.new }
     ensures moved { Moved input.old result input.new }
 {
@@ -284,7 +284,7 @@ pub(crate) fn impl_or_kept(
     input: &mut ParseBuffer<'_>,
 ) -> Parsed<Option<ItemImpl>>
     requires outer { all_attributes_syntax marks.attrs.items ≡ attributes_syntax marks.attrs.items }
-    ensures follows { (ts : Stream) → Follows IsSyntax (λ item. Node (Case rules.impl_definition item)) rules.kept_item ts (run_plan (impl_types_behind marks (first generics)) rules.kept_item ts input.old) result input.new }
+    ensures follows { (ts : Stream) → Follows IsSyntax (λ item. Node (Case rules.impl_definition item)) rules.kept_item ts (run_plan (impl_types_after marks (first generics)) rules.kept_item ts input.old) result input.new }
 {
     if at_odd_negative(input) {
         return Ok(None);

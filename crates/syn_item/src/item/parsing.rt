@@ -9,7 +9,7 @@ ghost use Rattle.syn_grammar.specs.Tokens.{Stream, at_word, ◌or_else◌};
 ghost use Rattle.syn_grammar.specs.Words.{w_async, w_fn};
 ghost use Rattle.syn_lower.specs.Attributes.{all_attributes_syntax, attributes_syntax};
 ghost use Rattle.syn_lower.specs.Parsing.{of, rule, meaning_of_rule, IsSyntax};
-ghost use Rattle.syn_item.specs.ItemStages.{behind_place, other_kinds_plan, other_plan_of, place_of as place_in_grammar};
+ghost use Rattle.syn_item.specs.ItemStages.{after_place, other_kinds_plan, other_plan_of, place_of as place_in_grammar};
 ghost use Rattle.syn_item.specs.ItemTurns.{default_next, no_visibility, place_next};
 ghost use Rattle.syn_item.specs.Items.{syntax_of_Item};
 ghost use Rattle.syn_item.specs.Planned.{Follows};
@@ -22,7 +22,7 @@ mod traits;
 use super::Item;
 use crate::pieces::kept_tokens;
 use crate::simple::{macro_as_item_rest, module};
-use functions::{behind_const, behind_extern, behind_unsafe, function_or_kept};
+use functions::{after_extern, after_unsafe, behind_const, function_or_kept};
 use impls::{bare_impl, default_impl};
 use kept::{static_or_kept, type_or_kept, use_or_kept};
 use syn_lower::Attribute;
@@ -38,9 +38,9 @@ use syn_tokens::token::{
     Async, Const, Default, Enum, Extern, Fn, Impl, Mod, Pub, Static, Struct, Trait, Type, Unsafe,
     Use,
 };
-use syn_tree::item::{enum_behind, struct_behind, union_behind};
+use syn_tree::item::{enum_after_visibility, struct_after_visibility, union_after_visibility};
 use syn_tree::restriction::Visibility;
-use traits::{trait_behind, trait_or_alias};
+use traits::{trait_after, trait_or_alias};
 
 /// The place of an item, after its attributes.
 #[derive(Clone, Copy, Debug)]
@@ -133,18 +133,18 @@ fn place_of(input: &ParseBuffer<'_>) -> Place
 #[tactic(auto, using(crate::proofs::ItemPlans::struct_refused, crate::proofs::ItemPlans::enum_refused, crate::proofs::ItemPlans::union_refused, crate::proofs::ItemPlans::type_follows, crate::proofs::ItemPlans::static_follows, crate::proofs::ItemPlans::use_follows, crate::proofs::ItemPlans::mod_refused))]
 fn behind_visibility(begun: Begun, input: &mut ParseBuffer<'_>) -> Parsed<Option<Item>>
     requires outer { all_attributes_syntax begun.attrs.items ≡ attributes_syntax begun.attrs.items }
-    ensures follows { (ts : Stream) → Follows IsSyntax syntax_of_Item rules.kept_item ts (run_plan (behind_place begun) rules.kept_item ts input.old) result input.new }
+    ensures follows { (ts : Stream) → Follows IsSyntax syntax_of_Item rules.kept_item ts (run_plan (after_place begun) rules.kept_item ts input.old) result input.new }
 {
     if input.peek::<Struct>() {
-        let item = struct_behind(begun.attrs, begun.vis, input)?;
+        let item = struct_after_visibility(begun.attrs, begun.vis, input)?;
         return Ok(Some(Item::Struct(item)));
     }
     if input.peek::<Enum>() {
-        let item = enum_behind(begun.attrs, begun.vis, input)?;
+        let item = enum_after_visibility(begun.attrs, begun.vis, input)?;
         return Ok(Some(Item::Enum(item)));
     }
     if at_union(input) {
-        let item = union_behind(begun.attrs, begun.vis, input)?;
+        let item = union_after_visibility(begun.attrs, begun.vis, input)?;
         return Ok(Some(Item::Union(item)));
     }
     if input.peek::<Type>() {
@@ -173,7 +173,7 @@ fn other_kinds(begun: Begun, input: &mut ParseBuffer<'_>) -> Parsed<Option<Item>
         return trait_or_alias(begun, input);
     }
     if at_auto(input) {
-        return trait_behind(begun, None, None, input);
+        return trait_after(begun, None, None, input);
     }
     if input.peek::<token::Macro>() {
         return Ok(None);
@@ -182,10 +182,10 @@ fn other_kinds(begun: Begun, input: &mut ParseBuffer<'_>) -> Parsed<Option<Item>
         return function_or_kept(begun, input);
     }
     if input.peek::<Extern>() {
-        return behind_extern(begun, input);
+        return after_extern(begun, input);
     }
     if input.peek::<Unsafe>() {
-        return behind_unsafe(begun, input);
+        return after_unsafe(begun, input);
     }
     if input.peek::<Const>() {
         return behind_const(begun, input);

@@ -12,7 +12,7 @@ ghost use Rattle.syn_tokens.specs.Kinds.{colon_syntax, comma_syntax, self_value_
 ghost use Rattle.syn_tokens.specs.Leaves.{maybe};
 ghost use Rattle.syn_lower.specs.Attributes.{attributes_syntax};
 ghost use Rattle.syn_lower.specs.Parsing.{of, rule, meaning_of_rule, parse_form, parse_rule, sees, Computes, Kept, Moved, itself, IsSyntax, list_of};
-ghost use Rattle.syn_item.specs.SignatureForms.{with_attributes, is_first, kind_form, named_pattern, of_variadic, other_parameter, own_self_form, parameter_behind, parameter_syntax, read_parameter, reference_form, typed_parameter, wild_at};
+ghost use Rattle.syn_item.specs.SignatureForms.{with_attributes, is_first, kind_form, named_pattern, of_variadic, other_parameter, own_self_form, parameter_after, parameter_syntax, read_parameter, reference_form, typed_parameter, wild_at};
 ghost use Rattle.syn_item.specs.Signatures.{parameters_of, received, syntax_of_FnArg, syntax_of_ReceiverKind, typed_argument};
 ghost use Rattle.syn_pat.specs.Patterns.{syntax_of_Pat};
 
@@ -142,18 +142,18 @@ fn other(attrs: Vec<Attribute>, input: &mut ParseBuffer<'_>) -> Parsed<OneParame
         return Ok(OneParameter::Variadic(variadic(attrs, None, input)?));
     }
     let (pat, colon_token) = pattern(input)?;
-    behind_pattern(attrs, pat, colon_token, input)
+    after_pattern(attrs, pat, colon_token, input)
 }
 
 /// A parameter after its pattern and colon: `...` or a type.
-#[tactic(auto, using(crate::proofs::Receivers::typed_is), unfolding(crate::specs::SignatureForms::parameter_behind))]
-fn behind_pattern(
+#[tactic(auto, using(crate::proofs::Receivers::typed_is), unfolding(crate::specs::SignatureForms::parameter_after))]
+fn after_pattern(
     attrs: Vec<Attribute>,
     pat: Box<Pat>,
     colon_token: Colon,
     input: &mut ParseBuffer<'_>,
 ) -> Parsed<OneParameter>
-    ensures reads { Computes IsSyntax parameter_syntax (parameter_behind (attributes_syntax attrs.items) (Both (syntax_of_Pat pat.value) (colon_syntax colon_token)) input.old) result input.new }
+    ensures reads { Computes IsSyntax parameter_syntax (parameter_after (attributes_syntax attrs.items) (Both (syntax_of_Pat pat.value) (colon_syntax colon_token)) input.old) result input.new }
     ensures moved { Moved input.old result input.new }
 {
     if input.peek::<DotDotDot>() {

@@ -14,7 +14,7 @@ ghost use Rattle.syn_tokens.specs.Kinds.{fn_syntax};
 ghost use Rattle.syn_tokens.specs.Leaves.{maybe, syntax_of_ident, syntax_of_literal, syntax_of_word};
 ghost use Rattle.syn_lower.specs.Parts.{first};
 ghost use Rattle.syn_lower.specs.Parsing.{inside, of, meaning_of_rule, parse_form, parse_rule, sees, take_token, Computes, Kept, Moved, Parses, Outcome, itself, IsSyntax, IsSyntaxError};
-ghost use Rattle.syn_item.specs.SignatureForms.{behind_qualifiers, end_form, end_syntax, parameters_syntax, qualifiers_syntax, string_form};
+ghost use Rattle.syn_item.specs.SignatureForms.{after_qualifiers, end_form, end_syntax, parameters_syntax, qualifiers_syntax, string_form};
 ghost use Rattle.syn_item.specs.Signatures.{syntax_of_Safety};
 
 use crate::sig::parameters::{ParameterList, parameters};
@@ -81,7 +81,7 @@ pub(crate) fn signature_rest(
     qualifiers: Qualifiers,
     input: &mut ParseBuffer<'_>,
 ) -> Parsed<Signature>
-    ensures reads { Computes IsSyntax itself (wrap (behind_qualifiers (qualifiers_syntax qualifiers)) (parse_rule rules.signature_rest input.old)) result input.new }
+    ensures reads { Computes IsSyntax itself (wrap (after_qualifiers (qualifiers_syntax qualifiers)) (parse_rule rules.signature_rest input.old)) result input.new }
     ensures moved { Moved input.old result input.new }
 {
     let fn_token = input.read()?;
@@ -100,7 +100,7 @@ fn signature_of(
     parameters: (Paren, ParameterList),
     end: (ReturnType, Option<WhereClause>),
 ) -> Signature
-    ensures made { result ≡ behind_qualifiers (qualifiers_syntax qualifiers) (Node (Both (fn_syntax named.0) (Both (syntax_of_ident named.1) (Both (first named.2) (Both (parameters_syntax parameters) (end_syntax end)))))) }
+    ensures made { result ≡ after_qualifiers (qualifiers_syntax qualifiers) (Node (Both (fn_syntax named.0) (Both (syntax_of_ident named.1) (Both (first named.2) (Both (parameters_syntax parameters) (end_syntax end)))))) }
 {
     let (fn_token, ident, generics) = named;
     let (paren_token, parameters) = parameters;
@@ -235,7 +235,7 @@ pub(crate) fn unsafe_only(input: &mut ParseBuffer<'_>) -> Safety
 }
 
 /// The word of this kind where it is next. It takes no memory.
-#[tactic(auto, using(crate::proofs::Standing::word_stands, crate::proofs::Standing::no_word))]
+#[tactic(auto, using(crate::proofs::Standing::word_present, crate::proofs::Standing::no_word))]
 fn standing<K: WordKind>(input: &mut ParseBuffer<'_>) -> Option<Word<K>>
     ensures read { MatchOption result
         ((sees (at_word K.text) input.old ≡ false) × (input.new ≡ input.old))

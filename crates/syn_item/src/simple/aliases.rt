@@ -86,7 +86,7 @@ pub(crate) fn type_alias(
 }
 
 /// A type alias after its generics.
-pub(crate) fn type_behind_head(
+pub(crate) fn type_after_head(
     attrs: Vec<Attribute>,
     vis: Visibility,
     head: (token::Type, Ident, Generics),
@@ -154,7 +154,7 @@ struct Clauses {
 }
 
 /// `=` and a type, with a where clause before them, after them, or both.
-#[tactic(auto, using(crate::proofs::Aliases::alias_told, crate::proofs::Aliases::place_left))]
+#[tactic(auto, using(crate::proofs::Aliases::alias_known, crate::proofs::Aliases::place_left))]
 fn alias_clauses(input: &mut ParseBuffer<'_>) -> Parsed<Clauses>
     ensures told { TellsAlias IsSyntax (parse_form aliased_form input.old) result input.new }
     ensures place { IfOk result (λ c. place_aside (syntax_of_WhereClausePlacement (place_by c.is_late)) (pick c.is_late (where_part c.late) (where_part c.early)) ≡ Unshown Nothing) }

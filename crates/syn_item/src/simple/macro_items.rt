@@ -93,7 +93,7 @@ fn macro_name(input: &mut ParseBuffer<'_>) -> Parsed<Option<Ident>>
 }
 
 /// What ends a macro as an item or a member: a group in braces, or one in parentheses or brackets and `;`.
-#[tactic(auto, using(crate::proofs::Macros::macro_ended), unfolding(crate::specs::Macros::ended_behind))]
+#[tactic(auto, using(crate::proofs::Macros::macro_ended), unfolding(crate::specs::Macros::ended_after))]
 pub(crate) fn ended_group(
     input: &mut ParseBuffer<'_>,
 ) -> Parsed<(MacroDelimiter, TokenStream, Option<Semi>)>

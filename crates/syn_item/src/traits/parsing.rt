@@ -15,15 +15,15 @@ ghost use Rattle.syn_tree.specs.Restriction.{syntax_of_Visibility};
 ghost use Rattle.syn_item.specs.NextWords.{marked_next};
 ghost use Rattle.syn_item.specs.Planned.{Follows};
 ghost use Rattle.syn_item.specs.Simple.{attributes_by_content};
-ghost use Rattle.syn_item.specs.Stages.{trait_const_or_kept, trait_item_plan_behind};
-ghost use Rattle.syn_item.specs.TraitForms.{behind_head, behind_marks, function_end_form, named_form, named_syntax, trait_end_form, trait_function_of, unmarked_form};
+ghost use Rattle.syn_item.specs.Stages.{trait_const_or_kept, trait_item_plan_after};
+ghost use Rattle.syn_item.specs.TraitForms.{after_head, after_marks, function_end_form, named_form, named_syntax, trait_end_form, trait_function_of, unmarked_form};
 ghost use Rattle.syn_item.specs.Traits.{function_end, syntax_of_TraitItem};
 
 use super::{ItemTrait, TraitItem, TraitItemConst, TraitItemFn, TraitItemMacro, TraitItemType};
 use crate::bodies::body;
 use crate::names::{OrUnderscore, name_or};
 use crate::pieces::{
-    at_function, behind_equals, braced, colon_and_supertraits, colon_and_type_bounds, kept_tokens,
+    after_equals, at_function, braced, colon_and_supertraits, colon_and_type_bounds, kept_tokens,
     member_macro,
 };
 use crate::sig::Signature;
@@ -111,7 +111,7 @@ fn bare_trait(
 /// A trait, after its `unsafe`.
 pub(crate) fn unmarked_trait(marks: TraitMarks, input: &mut ParseBuffer<'_>) -> Parsed<ItemTrait>
     requires outer { all_attributes_syntax marks.attrs.items ≡ attributes_syntax marks.attrs.items }
-    ensures reads { Computes IsSyntax itself (wrap (behind_marks marks) (parse_form unmarked_form input.old)) result input.new }
+    ensures reads { Computes IsSyntax itself (wrap (after_marks marks) (parse_form unmarked_form input.old)) result input.new }
     ensures moved { Moved input.old result input.new }
 {
     let auto_token = input.read()?;
@@ -138,7 +138,7 @@ pub(crate) fn named_trait(input: &mut ParseBuffer<'_>) -> Parsed<(Trait, Ident, 
 #[tactic(auto, using(crate::proofs::MemberLists::trait_members))]
 pub(crate) fn trait_end(head: TraitHead, input: &mut ParseBuffer<'_>) -> Parsed<ItemTrait>
     requires outer { all_attributes_syntax head.marks.attrs.items ≡ attributes_syntax head.marks.attrs.items }
-    ensures reads { Computes IsSyntax itself (wrap (behind_head head) (parse_form trait_end_form input.old)) result input.new }
+    ensures reads { Computes IsSyntax itself (wrap (after_head head) (parse_form trait_end_form input.old)) result input.new }
     ensures moved { Moved input.old result input.new }
 {
     let (colon_token, supertraits) = colon_and_supertraits(input)?;
@@ -179,7 +179,7 @@ impl Read for TraitItem {
     fn read(input: &mut ParseBuffer<'_>) -> Parsed<TraitItem> {
         let start = input.fork();
         let attrs = outer_attributes(input)?;
-        match trait_item_behind(attrs, input) {
+        match trait_item_after(attrs, input) {
             Ok(Some(member)) => Ok(member),
             Ok(None) => Ok(TraitItem::Verbatim(kept_tokens(Rule::TRAIT_ITEM, &start, input)?)),
             Err(refusal) => Err(refusal),
@@ -189,12 +189,9 @@ impl Read for TraitItem {
 
 /// A member of a trait, after its attributes; `None` where it is kept verbatim.
 #[tactic(auto, using(crate::proofs::TraitPlans::marked_kept, crate::proofs::TraitPlans::type_read, crate::proofs::TraitPlans::type_refused, crate::proofs::TraitPlans::function_read, crate::proofs::TraitPlans::function_refused, crate::proofs::TraitPlans::const_follows, crate::proofs::TraitPlans::self_refused, crate::proofs::TraitPlans::macro_read, crate::proofs::TraitPlans::macro_refused))]
-fn trait_item_behind(
-    attrs: Vec<Attribute>,
-    input: &mut ParseBuffer<'_>,
-) -> Parsed<Option<TraitItem>>
+fn trait_item_after(attrs: Vec<Attribute>, input: &mut ParseBuffer<'_>) -> Parsed<Option<TraitItem>>
     requires outer { all_attributes_syntax attrs.items ≡ attributes_syntax attrs.items }
-    ensures follows { (ts : Stream) → Follows IsSyntax syntax_of_TraitItem rules.kept_trait_item ts (run_plan (trait_item_plan_behind (attributes_syntax attrs.items)) rules.kept_trait_item ts input.old) result input.new }
+    ensures follows { (ts : Stream) → Follows IsSyntax syntax_of_TraitItem rules.kept_trait_item ts (run_plan (trait_item_plan_after (attributes_syntax attrs.items)) rules.kept_trait_item ts input.old) result input.new }
 {
     if at_marked(input) {
         return Ok(None);
@@ -233,7 +230,7 @@ fn trait_const(attrs: Vec<Attribute>, input: &mut ParseBuffer<'_>) -> Parsed<Opt
     }
     let colon_token = input.read()?;
     let ty = input.read()?;
-    let default = behind_equals(input)?;
+    let default = after_equals(input)?;
     if !input.peek::<Semi>() {
         return Ok(None);
     }
@@ -266,7 +263,7 @@ impl Read for TraitItemConst {
             generics: Generics::empty(input.alloc()),
             colon_token: input.read()?,
             ty: input.read()?,
-            default: behind_equals(input)?,
+            default: after_equals(input)?,
             semi_token: input.read()?,
         })
     }
@@ -293,11 +290,11 @@ fn trait_function(attrs: Vec<Attribute>, input: &mut ParseBuffer<'_>) -> Parsed<
     ensures moved { Moved input.old result input.new }
 {
     let sig = input.read()?;
-    behind_trait_signature(attrs, sig, input)
+    after_trait_signature(attrs, sig, input)
 }
 
 /// The same, after its signature.
-fn behind_trait_signature(
+fn after_trait_signature(
     attrs: Vec<Attribute>,
     sig: Signature,
     input: &mut ParseBuffer<'_>,
@@ -355,7 +352,7 @@ fn trait_type(attrs: Vec<Attribute>, input: &mut ParseBuffer<'_>) -> Parsed<Trai
     let ident = input.read()?;
     let generics = Generics::read_params(input)?;
     let (colon_token, bounds) = colon_and_type_bounds(input)?;
-    let default = behind_equals(input)?;
+    let default = after_equals(input)?;
     let where_clause = where_clause(input)?;
     Ok(TraitItemType {
         attrs,

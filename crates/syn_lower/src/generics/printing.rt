@@ -5,7 +5,7 @@ ghost use Rattle.syn_grammar.specs.Grammar.{print};
 ghost use Rattle.syn_tokens.specs.Building.{added};
 ghost use Rattle.syn_tokens.specs.Kinds.{colon_syntax, plus_syntax};
 ghost use Rattle.syn_tokens.specs.Leaves.{maybe};
-ghost use Rattle.syn_lower.specs.GenericPrints.{behind_last, comma_at, has_others, is_lifetime, pairs_part, param_part, params_part, printed_with};
+ghost use Rattle.syn_lower.specs.GenericPrints.{after_last, comma_at, has_others, is_lifetime, pairs_part, param_part, params_part, printed_with};
 ghost use Rattle.syn_lower.specs.Generics.{clause_of};
 ghost use Rattle.syn_lower.specs.Parts.{first, or_added};
 
@@ -206,7 +206,7 @@ fn print_comma_before_others(
     pairs: &[(GenericParam, Comma)],
     out: &mut StreamBuilder,
 ) -> Result<(), AllocError>
-    ensures prints { OnOk result (out.new ≡ added out.old (behind_last pairs.now)) }
+    ensures prints { OnOk result (out.new ≡ added out.old (after_last pairs.now)) }
     ensures begins { out.new.before ≡ out.old.before }
 {
     if has_others(pairs) {

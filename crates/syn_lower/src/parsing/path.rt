@@ -9,7 +9,7 @@ ghost use Rattle.syn_tokens.specs.Kinds.{lt_syntax, path_sep_syntax};
 ghost use Rattle.syn_lower.specs.Parsing.{sees, parse_rule, parse_form, Computes, Parses, Moved, MayBelow, itself, IsSyntax, joined_of};
 ghost use Rattle.syn_lower.specs.Paths.{segment_form};
 ghost use Rattle.syn_lower.specs.QualifiedPaths.{syntax_of_TypePath};
-ghost use Rattle.syn_lower.specs.TypeForms.{behind_trait_form, named_word_form, of_qualified, trait_form, word_form};
+ghost use Rattle.syn_lower.specs.TypeForms.{after_trait_form, named_word_form, of_qualified, trait_form, word_form};
 ghost use Rattle.syn_lower.specs.Types.{syntax_of_Type};
 
 use super::Nested;
@@ -146,7 +146,7 @@ fn qualified_alone<N: Nested>(
     input: &mut ParseBuffer<'_>,
 ) -> Parsed<TypePath>
     requires { MayBelow N.may nested.now input.old }
-    ensures reads { Computes IsSyntax syntax_of_TypePath (of_qualified (lt_syntax lt_token) (syntax_of_Type ty.value) (and_then (Some (Right (Unshown Nothing), input.old)) (parse_form behind_trait_form))) result input.new }
+    ensures reads { Computes IsSyntax syntax_of_TypePath (of_qualified (lt_syntax lt_token) (syntax_of_Type ty.value) (and_then (Some (Right (Unshown Nothing), input.old)) (parse_form after_trait_form))) result input.new }
     ensures moved { Moved input.old result input.new }
 {
     let qself = QSelf {
@@ -174,7 +174,7 @@ fn qualified_by_trait<N: Nested>(
     input: &mut ParseBuffer<'_>,
 ) -> Parsed<TypePath>
     requires { MayBelow N.may nested.now input.old }
-    ensures reads { Computes IsSyntax syntax_of_TypePath (of_qualified (lt_syntax lt_token) (syntax_of_Type ty.value) (and_then (wrap Left (parse_form trait_form input.old)) (parse_form behind_trait_form))) result input.new }
+    ensures reads { Computes IsSyntax syntax_of_TypePath (of_qualified (lt_syntax lt_token) (syntax_of_Type ty.value) (and_then (wrap Left (parse_form trait_form input.old)) (parse_form after_trait_form))) result input.new }
     ensures moved { Moved input.old result input.new }
 {
     let as_token = input.read()?;

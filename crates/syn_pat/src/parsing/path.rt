@@ -10,7 +10,7 @@ ghost use Rattle.syn_lower.specs.Parsing.{sees, parse_rule, parse_form, Computes
 ghost use Rattle.syn_lower.specs.Paths.{syntax_of_PathArguments};
 ghost use Rattle.syn_lower.specs.TypeForms.{of_qualified, trait_form};
 ghost use Rattle.syn_lower.specs.Types.{syntax_of_Type};
-ghost use Rattle.syn_pat.specs.PathForms.{behind_trait_form, named_word_form, path_syntax, turbofish_form, word_form};
+ghost use Rattle.syn_pat.specs.PathForms.{after_trait_form, named_word_form, path_syntax, turbofish_form, word_form};
 ghost use Rattle.syn_pat.specs.Patterns.{path_of};
 
 use syn_lower::looks::at_named_word;
@@ -116,7 +116,7 @@ fn qualified_alone(
     ty: Box<Type>,
     input: &mut ParseBuffer<'_>,
 ) -> Parsed<(Option<QSelf>, Path)>
-    ensures reads { Computes IsSyntax (λ p. path_of p.0 p.1) (of_qualified (lt_syntax lt_token) (syntax_of_Type ty.value) (and_then (Some (Right (Unshown Nothing), input.old)) (parse_form behind_trait_form))) result input.new }
+    ensures reads { Computes IsSyntax (λ p. path_of p.0 p.1) (of_qualified (lt_syntax lt_token) (syntax_of_Type ty.value) (and_then (Some (Right (Unshown Nothing), input.old)) (parse_form after_trait_form))) result input.new }
     ensures moved { Moved input.old result input.new }
 {
     let qself = QSelf {
@@ -139,7 +139,7 @@ fn qualified_by_trait(
     ty: Box<Type>,
     input: &mut ParseBuffer<'_>,
 ) -> Parsed<(Option<QSelf>, Path)>
-    ensures reads { Computes IsSyntax (λ p. path_of p.0 p.1) (of_qualified (lt_syntax lt_token) (syntax_of_Type ty.value) (and_then (wrap Left (parse_form trait_form input.old)) (parse_form behind_trait_form))) result input.new }
+    ensures reads { Computes IsSyntax (λ p. path_of p.0 p.1) (of_qualified (lt_syntax lt_token) (syntax_of_Type ty.value) (and_then (wrap Left (parse_form trait_form input.old)) (parse_form after_trait_form))) result input.new }
     ensures moved { Moved input.old result input.new }
 {
     let as_token = input.read()?;

@@ -115,7 +115,7 @@ fn commas_in_generic_arguments(rt: HostRuntime) {
 
 /// What a label or an attribute is before may be generic arguments.
 #[test]
-fn commas_behind_labels(rt: HostRuntime) {
+fn commas_after_labels(rt: HostRuntime) {
     let text = value(
         &rt,
         repeated(rt.alloc(), 10_000, "", "a", " + break 'a <B<C, D>>::E"),

@@ -109,7 +109,7 @@ fn a_type_in_a_group(rt: HostRuntime) {
 }
 
 #[test]
-fn an_empty_group_behind_the_last_comma(rt: HostRuntime) {
+fn an_empty_group_after_the_last_comma(rt: HostRuntime) {
     let words = "struct S ( u8 , < > ) ;";
     let input: DeriveInput = tree(&rt, rt.alloc(), words);
     assert!(rt; is_plain(&input, false));

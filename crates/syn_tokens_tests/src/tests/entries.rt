@@ -244,7 +244,7 @@ fn has_group(stream: &TokenStream, place: usize, count: usize) -> bool {
 
 /// A group after fewer tokens than it has, after as many, and after more; the tokens are left where it is taken away.
 #[test]
-fn groups_behind_tokens(rt: HostRuntime) {
+fn groups_after_tokens(rt: HostRuntime) {
     for (before, inside) in [(0, 0), (0, 9), (2, 9), (9, 9), (9, 2), (9, 0)] {
         let mut stream = grouped(rt.alloc(), before, inside).expect(&rt, "a stream");
         let entries = before.saturating_add(inside).saturating_add(2);

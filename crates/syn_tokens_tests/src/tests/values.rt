@@ -199,7 +199,7 @@ fn is_refusal(refusal: Refusal, here: Span, text: &str) -> bool {
 }
 
 /// Whether an end that was looked for is reported.
-fn is_end_told(input: &ParseBuffer<'_>) -> bool {
+fn is_end_known(input: &ParseBuffer<'_>) -> bool {
     let mut lookahead = input.lookahead1();
     let seen = lookahead.peek::<End>();
     !seen
@@ -224,5 +224,5 @@ fn refusals(rt: HostRuntime) {
             "expected `::`"
         )
     );
-    assert!(rt; is_end_told(&input));
+    assert!(rt; is_end_known(&input));
 }

@@ -9,7 +9,7 @@ ghost use Rattle.syn_grammar.specs.Values.{core, new, onto};
 ghost use Rattle.syn_tokens.specs.Kinds.{as_syntax};
 ghost use Rattle.syn_lower.specs.Types.{syntax_of_Type};
 ghost use Rattle.syn_lower.specs.Parsing.{parse_rule, Computes, Kept, MayBelow, Parses, IsSyntax};
-ghost use Rattle.syn_expr_parse.specs.Levels.{assignment_operators, first_operator, going_once};
+ghost use Rattle.syn_expr_parse.specs.Levels.{assignment_operators, first_operator, continuing_once};
 ghost use Rattle.syn_expr_parse.specs.Spots.{within};
 
 use super::looks::at_equals_operator;
@@ -120,7 +120,7 @@ fn assigned_by_operator<N: Nested>(
     input: &mut ParseBuffer<'_>,
 ) -> Parsed<Box<Expr<N>>>
     requires { MayBelow N.may nested.now input.old }
-    ensures reads { Computes IsSyntax (λ e. N.Trees.expr_syntax e.value) (going_once (core (N.Trees.expr_syntax left.value)) input.old (first_operator assignment_operators input.old) (parse_rule (within spot rules.whole_expression))) result input.new }
+    ensures reads { Computes IsSyntax (λ e. N.Trees.expr_syntax e.value) (continuing_once (core (N.Trees.expr_syntax left.value)) input.old (first_operator assignment_operators input.old) (parse_rule (within spot rules.whole_expression))) result input.new }
     ensures kept { Kept input.old result input.new }
 {
     match assignment_operator(input)? {

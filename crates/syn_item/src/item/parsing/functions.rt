@@ -20,8 +20,8 @@ ghost use Rattle.syn_item.specs.ItemStages.{const_stage, extern_stage, function_
 ghost use Rattle.syn_item.specs.ItemTurns.{const_or_kept_turn, module_next, no_visibility};
 ghost use Rattle.syn_item.specs.Planned.{Follows};
 
-use super::impls::impl_behind;
-use super::traits::{const_trait, trait_behind};
+use super::impls::impl_after;
+use super::traits::{const_trait, trait_after};
 use super::{Begun, Place};
 use crate::foreign::foreign_module_rest;
 use crate::function::function;
@@ -52,7 +52,7 @@ pub(super) fn function_or_kept(begun: Begun, input: &mut ParseBuffer<'_>) -> Par
 }
 
 /// What begins with `extern`: an extern crate; without a visibility a foreign module; or a function.
-pub(super) fn behind_extern(begun: Begun, input: &mut ParseBuffer<'_>) -> Parsed<Option<Item>>
+pub(super) fn after_extern(begun: Begun, input: &mut ParseBuffer<'_>) -> Parsed<Option<Item>>
     requires outer { all_attributes_syntax begun.attrs.items ≡ attributes_syntax begun.attrs.items }
     requires next { sees at_extern input.old ≡ true }
     ensures follows { (ts : Stream) → Follows IsSyntax syntax_of_Item rules.kept_item ts (run_plan (extern_stage begun) rules.kept_item ts input.old) result input.new }
@@ -65,7 +65,7 @@ pub(super) fn behind_extern(begun: Begun, input: &mut ParseBuffer<'_>) -> Parsed
 }
 
 /// What begins with `unsafe`: a module, a trait, without a visibility an impl or a foreign module, or a function.
-pub(super) fn behind_unsafe(begun: Begun, input: &mut ParseBuffer<'_>) -> Parsed<Option<Item>>
+pub(super) fn after_unsafe(begun: Begun, input: &mut ParseBuffer<'_>) -> Parsed<Option<Item>>
     requires outer { all_attributes_syntax begun.attrs.items ≡ attributes_syntax begun.attrs.items }
     requires next { sees (at_word w_unsafe) input.old ≡ true }
     ensures follows { (ts : Stream) → Follows IsSyntax syntax_of_Item rules.kept_item ts (run_plan (unsafe_stage begun) rules.kept_item ts input.old) result input.new }
@@ -77,11 +77,11 @@ pub(super) fn behind_unsafe(begun: Begun, input: &mut ParseBuffer<'_>) -> Parsed
     }
     if is_before_trait(input) {
         let unsafety = input.read()?;
-        return trait_behind(begun, None, unsafety, input);
+        return trait_after(begun, None, unsafety, input);
     }
     if is_before_impl(&begun, input) {
         let unsafety = input.read()?;
-        return impl_behind(begun, None, unsafety, input);
+        return impl_after(begun, None, unsafety, input);
     }
     module_or_function(begun, input)
 }
@@ -149,7 +149,7 @@ pub(super) fn behind_const(begun: Begun, input: &mut ParseBuffer<'_>) -> Parsed<
     ensures follows { (ts : Stream) → Follows IsSyntax syntax_of_Item rules.kept_item ts (run_plan (const_stage begun) rules.kept_item ts input.old) result input.new }
 {
     if input.peek2::<Unsafe>() {
-        return behind_const_unsafe(begun, input);
+        return after_const_unsafe(begun, input);
     }
     if input.peek2::<Trait>() {
         let const_token = input.read()?;
@@ -157,7 +157,7 @@ pub(super) fn behind_const(begun: Begun, input: &mut ParseBuffer<'_>) -> Parsed<
     }
     if is_before_auto(input) {
         let constness = input.read()?;
-        return trait_behind(begun, constness, None, input);
+        return trait_after(begun, constness, None, input);
     }
     if input.peek2::<Impl>() {
         let constness = input.read()?;
@@ -191,7 +191,7 @@ fn is_before_unsafe_trait(input: &ParseBuffer<'_>) -> bool
 }
 
 /// What begins with `const unsafe`: a trait, an impl or a function.
-fn behind_const_unsafe(begun: Begun, input: &mut ParseBuffer<'_>) -> Parsed<Option<Item>>
+fn after_const_unsafe(begun: Begun, input: &mut ParseBuffer<'_>) -> Parsed<Option<Item>>
     requires outer { all_attributes_syntax begun.attrs.items ≡ attributes_syntax begun.attrs.items }
     requires next { and (sees (at_word w_const) input.old) (sees (at_word w_unsafe) (past input.old)) ≡ true }
     ensures follows { (ts : Stream) → Follows IsSyntax syntax_of_Item rules.kept_item ts (run_plan (const_stage begun) rules.kept_item ts input.old) result input.new }
@@ -199,7 +199,7 @@ fn behind_const_unsafe(begun: Begun, input: &mut ParseBuffer<'_>) -> Parsed<Opti
     if is_before_unsafe_trait(input) {
         let constness = input.read()?;
         let unsafety = input.read()?;
-        return trait_behind(begun, constness, unsafety, input);
+        return trait_after(begun, constness, unsafety, input);
     }
     if input.peek3::<Impl>() {
         let constness = input.read()?;
@@ -224,7 +224,7 @@ fn const_impl(
     match begun.place {
         Place::Public => Ok(None),
         Place::Unwritten => Err(input.refusal("unexpected token")),
-        Place::Plain => impl_behind(begun, constness, unsafety, input),
+        Place::Plain => impl_after(begun, constness, unsafety, input),
     }
 }
 

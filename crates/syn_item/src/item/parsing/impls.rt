@@ -11,7 +11,7 @@ ghost use Rattle.syn_lower.specs.Parsing.{IsSyntax};
 ghost use Rattle.syn_tokens.specs.Kinds.{const_syntax, unsafe_syntax};
 ghost use Rattle.syn_tokens.specs.Leaves.{maybe};
 ghost use Rattle.syn_item.specs.Items.{syntax_of_Item};
-ghost use Rattle.syn_item.specs.ItemStages.{bare_impl_plan_of, impl_behind_marks, lone_word_plan};
+ghost use Rattle.syn_item.specs.ItemStages.{bare_impl_plan_of, impl_after_marks, lone_word_plan};
 ghost use Rattle.syn_item.specs.ItemTurns.{default_impl_turn, default_next};
 ghost use Rattle.syn_item.specs.Planned.{Follows};
 
@@ -26,7 +26,7 @@ use syn_tokens::token::{Brace, Const, For, Unsafe, Where};
 
 /// An impl after its `const` and `unsafe`, each of them or not; `None` where it is kept verbatim: of what is no plain path for a type.
 #[tactic(auto, using(crate::proofs::ItemImpls::word_refused))]
-pub(super) fn impl_behind(
+pub(super) fn impl_after(
     begun: Begun,
     constness: Option<Const>,
     unsafety: Option<Unsafe>,
@@ -42,7 +42,7 @@ pub(super) fn impl_behind(
         unsafety,
         impl_token: input.read()?,
     };
-    behind_marks(marks, input)
+    after_marks(marks, input)
 }
 
 /// An impl that begins with `default`.
@@ -59,14 +59,14 @@ pub(super) fn default_impl(begun: Begun, input: &mut ParseBuffer<'_>) -> Parsed<
         unsafety: input.read()?,
         impl_token: input.read()?,
     };
-    behind_marks(marks, input)
+    after_marks(marks, input)
 }
 
 /// An impl, after its word; `None` where it is kept verbatim.
 #[tactic(auto, using(crate::proofs::ItemImpls::list_refused))]
-fn behind_marks(marks: ImplMarks, input: &mut ParseBuffer<'_>) -> Parsed<Option<Item>>
+fn after_marks(marks: ImplMarks, input: &mut ParseBuffer<'_>) -> Parsed<Option<Item>>
     requires outer { all_attributes_syntax marks.attrs.items ≡ attributes_syntax marks.attrs.items }
-    ensures follows { (ts : Stream) → Follows IsSyntax syntax_of_Item rules.kept_item ts (run_plan (impl_behind_marks marks) rules.kept_item ts input.old) result input.new }
+    ensures follows { (ts : Stream) → Follows IsSyntax syntax_of_Item rules.kept_item ts (run_plan (impl_after_marks marks) rules.kept_item ts input.old) result input.new }
 {
     let generics = impl_generics(input)?;
     match impl_or_kept(marks, generics, input)? {
@@ -97,7 +97,7 @@ pub(super) fn bare_impl(begun: Begun, input: &mut ParseBuffer<'_>) -> Parsed<Opt
     if at_lone_word(input) {
         return impl_of_parentheses(marks, input);
     }
-    behind_marks(marks, input)
+    after_marks(marks, input)
 }
 
 /// An impl of a type in parentheses that hold one word; `None` where these are a trait's restriction, or are before `for`.

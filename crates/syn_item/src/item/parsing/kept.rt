@@ -18,7 +18,7 @@ ghost use Rattle.syn_item.specs.Planned.{Follows, IsRead};
 use super::Begun;
 use crate::item::Item;
 use crate::pieces::type_head;
-use crate::simple::{ItemStatic, type_behind_head};
+use crate::simple::{ItemStatic, type_after_head};
 use crate::use_tree::use_item;
 use syn_parse::buffer::ParseBuffer;
 use syn_parse::read::refusal::{Parsed, Refusal};
@@ -38,7 +38,7 @@ pub(super) fn type_or_kept(begun: Begun, input: &mut ParseBuffer<'_>) -> Parsed<
     if !is_alias(input)? {
         return Ok(None);
     }
-    let item = type_behind_head(begun.attrs, begun.vis, head, input)?;
+    let item = type_after_head(begun.attrs, begun.vis, head, input)?;
     Ok(Some(Item::Ty(item)))
 }
 

@@ -26,7 +26,7 @@ use syn_tokens::token::{Const, Eq, Unsafe};
 
 /// A trait after its `const` and `unsafe`, each of them or not.
 #[tactic(auto, using(crate::proofs::ItemTraits::trait_refused))]
-pub(super) fn trait_behind(
+pub(super) fn trait_after(
     begun: Begun,
     constness: Option<Const>,
     unsafety: Option<Unsafe>,

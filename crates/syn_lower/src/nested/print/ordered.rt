@@ -143,14 +143,14 @@ fn print_comma_between<T: Ordered>(
     ensures begins { out.new.before ≡ out.old.before }
 {
     match list.trailing_value() {
-        Some(last) => print_comma_behind(last, list.pairs(), out),
+        Some(last) => print_comma_after(last, list.pairs(), out),
         None => Ok(()),
     }
 }
 
 /// The comma after this last member, if it is needed.
 #[tactic(auto, using(syn_tokens::proofs::Prints::prints))]
-fn print_comma_behind<T: Ordered>(
+fn print_comma_after<T: Ordered>(
     last: &T,
     pairs: &[(T, Comma)],
     out: &mut StreamBuilder,

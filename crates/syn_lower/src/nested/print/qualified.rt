@@ -30,12 +30,12 @@ pub fn print_qualified<N: PrintType>(
     let _words = &path.segments;
     qself.lt_token.print_in(out)?;
     nested.print_type(&qself.ty, out)?;
-    print_behind_type(nested, qself, path, out)
+    print_after_type(nested, qself, path, out)
 }
 
 /// What follows its type. A position after the last word counts as that; without a word inside no `as` is printed.
 #[tactic(auto, using(syn_tokens::proofs::Prints::prints, crate::proofs::QualifiedPaths::print_no_word_inside, crate::proofs::QualifiedPaths::print_words_inside, crate::proofs::QualifiedPaths::print_part, crate::specs::Falls::qualified_size, crate::proofs::Smaller::in_joined))]
-fn print_behind_type<N: PrintType>(
+fn print_after_type<N: PrintType>(
     nested: &N,
     qself: &QSelf,
     path: &Path,

@@ -21,11 +21,11 @@ use Rattle.syn_item.specs.ItemStages.{place_of}
 use Rattle.syn_item.specs.ItemTurns.{const_turn}
 use Rattle.syn_item.specs.Planned.{Follows}
 use Rattle.syn_item.proofs.ConstPlans.{unsafe_function_follows, unsafe_impl_follows, unsafe_trait_follows}
-use Rattle.syn_item.proofs.ItemWords.{ReadWord, word_told}
+use Rattle.syn_item.proofs.ItemWords.{ReadWord, word_known}
 use Rattle.syn_item.proofs.MemberFunctions.{past_word}
 use Rattle.std.specs.Prelude.{Err}
 use Rattle.syn_item.proofs.Followed.{refused_by}
-use Rattle.syn_item.proofs.item.parsing.functions.behind_const_unsafe.Goals as goal
+use Rattle.syn_item.proofs.item.parsing.functions.after_const_unsafe.Goals as goal
 
 -- a word that is next and isn't read where it may be absent is no token
 no_token : (o : Out) → wrap Left o ≡ None → o ≡ None
@@ -37,7 +37,7 @@ unsafe_refused : (k : Rule) (ts : Stream) (p : Place) (a v : Syntax) (m : Stream
     parse_form (optional_item_word w_unsafe) r ≡ None → run_plan (const_turn p a v) k ts m ≡ None
 unfolding behind_const
 unsafe_refused k ts p a v m next c r read none =
-    let (x, q, e) = word_told w_const m c r (and_left (sees (at_word w_const) m) _ next) read in
+    let (x, q, e) = word_known w_const m c r (and_left (sees (at_word w_const) m) _ next) read in
     let s : sees (at_word w_unsafe) r ≡ true = ap (sees (at_word w_unsafe)) (sym (past_word w_const m (x, r) e)) ∙ and_right (sees (at_word w_const) m) _ next in
     let missed : take_token (word w_unsafe) r ≡ None = no_token (take_token (word w_unsafe) r) (sym (ap (λ b. branch b (take_token (word w_unsafe) r) (Some (Nothing, r))) s) ∙ none) in
     happened k ts (took x r ∷ went true ∷ []) (const_turn p a v) m (e, (s, tt)) ∙ refused_there k ts (left_over (took x r ∷ went true ∷ []) (const_turn p a v)) r missed
@@ -70,8 +70,8 @@ returns-then-is_before_unsafe_trait c =
     let n = c.read-then-is_before_unsafe_trait.new.self in
     let unsafe_read : parse_form (optional_item_word w_unsafe) r ≡ Some (u, n) = search rules in
     let here : or (sees (at_word w_trait) (past (past m))) (sees (at_word w_auto) (past (past m))) ≡ true = search rules in
-    let follows : (ts : Stream) → Follows IsSyntax syntax_of_Item kept_item ts (run_plan (const_turn p a v) kept_item ts m) c.trait_behind.result c.trait_behind.new.input =
-    λ ts. unsafe_trait_follows kept_item ts p a v m next IsSyntax syntax_of_Item c.trait_behind.result c.trait_behind.new.input k r const_read u n unsafe_read here (c.trait_behind.ensures.follows ts) in
+    let follows : (ts : Stream) → Follows IsSyntax syntax_of_Item kept_item ts (run_plan (const_turn p a v) kept_item ts m) c.trait_after.result c.trait_after.new.input =
+    λ ts. unsafe_trait_follows kept_item ts p a v m next IsSyntax syntax_of_Item c.trait_after.result c.trait_after.new.input k r const_read u n unsafe_read here (c.trait_after.ensures.follows ts) in
     search (rules, follows)
 
 pub returns-in_err-unsafety-2 : goal.returns-in_err-unsafety-2

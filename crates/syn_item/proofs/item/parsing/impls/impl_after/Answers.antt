@@ -13,7 +13,7 @@ use Rattle.syn_lower.specs.Parsing.{IsSyntax}
 use Rattle.syn_item.specs.Items.{syntax_of_Item}
 use Rattle.syn_item.specs.Planned.{Follows}
 use Rattle.syn_item.proofs.ItemImpls.{word_follows}
-use Rattle.syn_item.proofs.item.parsing.impls.impl_behind.Goals as goal
+use Rattle.syn_item.proofs.item.parsing.impls.impl_after.Goals as goal
 
 pub returns : goal.returns
 returns c =
@@ -24,6 +24,6 @@ returns c =
     let w = impl_syntax c.in_ok-read.field-0 in
     let r = c.read.new.self in
     let word_read : take_token (word w_impl) m ≡ Some (w, r) = search rules in
-    let follows : (ts : Stream) → Follows IsSyntax syntax_of_Item kept_item ts (run_plan (impl_plan a absent k u) kept_item ts m) c.behind_marks.result c.behind_marks.new.input =
-    λ ts. word_follows kept_item ts a absent k u m IsSyntax syntax_of_Item c.behind_marks.result c.behind_marks.new.input w r word_read (c.behind_marks.ensures.follows ts) in
+    let follows : (ts : Stream) → Follows IsSyntax syntax_of_Item kept_item ts (run_plan (impl_plan a absent k u) kept_item ts m) c.after_marks.result c.after_marks.new.input =
+    λ ts. word_follows kept_item ts a absent k u m IsSyntax syntax_of_Item c.after_marks.result c.after_marks.new.input w r word_read (c.after_marks.ensures.follows ts) in
     search (rules, follows)

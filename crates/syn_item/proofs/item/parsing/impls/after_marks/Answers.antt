@@ -13,7 +13,7 @@ use Rattle.syn_item.specs.ImplForms.{impl_generics_form}
 use Rattle.syn_item.specs.Impls.{kept_list}
 use Rattle.syn_item.specs.Planned.{OnlyKept}
 use Rattle.syn_item.proofs.ItemImpls.{types_kept, types_read, types_refused}
-use Rattle.syn_item.proofs.item.parsing.impls.behind_marks.Goals as goal
+use Rattle.syn_item.proofs.item.parsing.impls.after_marks.Goals as goal
 
 pub returns-in_err-item : goal.returns-in_err-item
 returns-in_err-item c =

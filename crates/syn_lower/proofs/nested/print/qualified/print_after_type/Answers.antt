@@ -11,7 +11,7 @@ use Rattle.syn_tokens.proofs.Prints.{added_more}
 use Rattle.syn_lower.specs.QualifiedPaths.{behind_type}
 use Rattle.syn_lower.specs.QualifiedPrints.{words_row}
 use Rattle.syn_lower.proofs.QualifiedPaths.{print_words_inside, print_part}
-use Rattle.syn_lower.proofs.nested.print.qualified.print_behind_type.Goals as goal
+use Rattle.syn_lower.proofs.nested.print.qualified.print_after_type.Goals as goal
 
 pub returns-in_ok-print_in-4-clause-prints : goal.returns-in_ok-print_in-4-clause-prints
 returns-in_ok-print_in-4-clause-prints g c =

@@ -20,7 +20,7 @@ use Rattle.syn_item.specs.Planned.{Follows}
 use Rattle.syn_item.proofs.ItemWords.{crate_read, crate_refused, no_crate_follows}
 use Rattle.std.specs.Prelude.{Err}
 use Rattle.syn_item.proofs.Followed.{refused_by}
-use Rattle.syn_item.proofs.item.parsing.functions.behind_extern.Goals as goal
+use Rattle.syn_item.proofs.item.parsing.functions.after_extern.Goals as goal
 
 pub returns-in_err-item : goal.returns-in_err-item
 returns-in_err-item c =

@@ -12,7 +12,7 @@ use Rattle.syn_tree.specs.Derive.{item_of}
 use Rattle.syn_tree.specs.Restriction.{syntax_of_Visibility}
 use Rattle.syn_item.specs.TraitForms.{unmarked_form}
 use Rattle.syn_item.proofs.ItemTraits.{trait_read}
-use Rattle.syn_item.proofs.item.parsing.traits.trait_behind.Goals as goal
+use Rattle.syn_item.proofs.item.parsing.traits.trait_after.Goals as goal
 
 pub returns : goal.returns
 returns c =

@@ -21,7 +21,7 @@ use Rattle.syn_item.specs.Planned.{Follows}
 use Rattle.syn_item.proofs.ItemWords.{impl_follows, mod_read, mod_refused, rest_follows, trait_follows}
 use Rattle.std.specs.Prelude.{Err}
 use Rattle.syn_item.proofs.Followed.{refused_by}
-use Rattle.syn_item.proofs.item.parsing.functions.behind_unsafe.Goals as goal
+use Rattle.syn_item.proofs.item.parsing.functions.after_unsafe.Goals as goal
 
 pub returns-in_err-item : goal.returns-in_err-item
 returns-in_err-item c =
@@ -67,8 +67,8 @@ returns-then-is_before_trait c =
     let read : parse_form (optional_item_word w_unsafe) m ≡ Some (u, r) = search rules in
     let no_mod : sees (at_word w_mod) (past m) ≡ false = search rules in
     let here : or (sees (at_word w_trait) (past m)) (sees (at_word w_auto) (past m)) ≡ true = search rules in
-    let follows : (ts : Stream) → Follows IsSyntax syntax_of_Item kept_item ts (run_plan (unsafe_turn p a v) kept_item ts m) c.trait_behind.result c.trait_behind.new.input =
-    λ ts. trait_follows kept_item ts p a v m next u r read no_mod IsSyntax syntax_of_Item c.trait_behind.result c.trait_behind.new.input here (c.trait_behind.ensures.follows ts) in
+    let follows : (ts : Stream) → Follows IsSyntax syntax_of_Item kept_item ts (run_plan (unsafe_turn p a v) kept_item ts m) c.trait_after.result c.trait_after.new.input =
+    λ ts. trait_follows kept_item ts p a v m next u r read no_mod IsSyntax syntax_of_Item c.trait_after.result c.trait_after.new.input here (c.trait_after.ensures.follows ts) in
     search (rules, follows)
 
 pub returns-then-is_before_impl : goal.returns-then-is_before_impl
@@ -84,8 +84,8 @@ returns-then-is_before_impl c =
     let no_mod : sees (at_word w_mod) (past m) ≡ false = search rules in
     let no_trait : or (sees (at_word w_trait) (past m)) (sees (at_word w_auto) (past m)) ≡ false = search rules in
     let here : and (no_visibility p) (sees (at_word w_impl) (past m)) ≡ true = search rules in
-    let follows : (ts : Stream) → Follows IsSyntax syntax_of_Item kept_item ts (run_plan (unsafe_turn p a v) kept_item ts m) c.impl_behind.result c.impl_behind.new.input =
-    λ ts. impl_follows kept_item ts p a v m next u r read no_mod IsSyntax syntax_of_Item c.impl_behind.result c.impl_behind.new.input no_trait here (c.impl_behind.ensures.follows ts) in
+    let follows : (ts : Stream) → Follows IsSyntax syntax_of_Item kept_item ts (run_plan (unsafe_turn p a v) kept_item ts m) c.impl_after.result c.impl_after.new.input =
+    λ ts. impl_follows kept_item ts p a v m next u r read no_mod IsSyntax syntax_of_Item c.impl_after.result c.impl_after.new.input no_trait here (c.impl_after.ensures.follows ts) in
     search (rules, follows)
 
 pub returns : goal.returns

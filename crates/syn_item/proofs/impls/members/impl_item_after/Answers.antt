@@ -13,9 +13,9 @@ use Rattle.syn_tree.specs.Restriction.{syntax_of_Visibility}
 use Rattle.syn_item.specs.Impls.{syntax_of_ImplItem}
 use Rattle.syn_item.specs.NextWords.{impl_macro_next}
 use Rattle.syn_item.specs.Planned.{Follows}
-use Rattle.syn_item.specs.Stages.{impl_item_plan_behind}
+use Rattle.syn_item.specs.Stages.{impl_item_plan_after}
 use Rattle.syn_item.proofs.ImplPlans.{member_follows}
-use Rattle.syn_item.proofs.impls.members.impl_item_behind.Goals as goal
+use Rattle.syn_item.proofs.impls.members.impl_item_after.Goals as goal
 
 pub returns : goal.returns
 returns c =
@@ -28,6 +28,6 @@ returns c =
     let no_macro : impl_macro_next m ≡ false = search rules in
     let visibility_read : parse_rule visibility m ≡ Some (v, n) = search rules in
     let default_read : parse_form (optional w_default) n ≡ Some (d, r) = search rules in
-    let follows : (ts : Stream) → Follows IsSyntax syntax_of_ImplItem kept_impl_item ts (run_plan (impl_item_plan_behind a) kept_impl_item ts m) c.impl_member.result c.impl_member.new.input =
+    let follows : (ts : Stream) → Follows IsSyntax syntax_of_ImplItem kept_impl_item ts (run_plan (impl_item_plan_after a) kept_impl_item ts m) c.impl_member.result c.impl_member.new.input =
     λ ts. member_follows kept_impl_item ts a m IsSyntax syntax_of_ImplItem c.impl_member.result c.impl_member.new.input no_macro v d n r visibility_read default_read (c.impl_member.ensures.follows ts) in
     search (rules, follows)

@@ -13,9 +13,9 @@ use Rattle.syn_item.specs.Foreign.{syntax_of_ForeignItem}
 use Rattle.syn_item.specs.Macros.{among_members}
 use Rattle.syn_item.specs.NextWords.{foreign_function_next, static_next}
 use Rattle.syn_item.specs.Planned.{Follows}
-use Rattle.syn_item.specs.Stages.{foreign_item_plan_behind}
+use Rattle.syn_item.specs.Stages.{foreign_item_plan_after}
 use Rattle.syn_item.proofs.ForeignMembers.{function_follows, macro_read, static_follows, type_follows}
-use Rattle.syn_item.proofs.foreign.members.foreign_item_behind.Goals as goal
+use Rattle.syn_item.proofs.foreign.members.foreign_item_after.Goals as goal
 
 pub returns-then-peek : goal.returns-then-peek
 returns-then-peek c =
@@ -27,7 +27,7 @@ returns-then-peek c =
     let marks : b ≡ or (sees (at_word w_pub) m) (sees at_empty_group m) = search rules in
     let vis : parse_rule visibility m ≡ Some (v, n) = search rules in
     let here : sees (at_word w_type) n ≡ true = search rules in
-    let follows : (ts : Stream) → Follows IsSyntax syntax_of_ForeignItem kept_foreign_item ts (run_plan (foreign_item_plan_behind a) kept_foreign_item ts m) c.foreign_type.result c.foreign_type.new.input =
+    let follows : (ts : Stream) → Follows IsSyntax syntax_of_ForeignItem kept_foreign_item ts (run_plan (foreign_item_plan_after a) kept_foreign_item ts m) c.foreign_type.result c.foreign_type.new.input =
     λ ts. type_follows kept_foreign_item ts a m b marks v n vis IsSyntax syntax_of_ForeignItem c.foreign_type.result c.foreign_type.new.input here (c.foreign_type.ensures.follows ts) in
     search (rules, follows)
 
@@ -42,7 +42,7 @@ returns-then-at_static c =
     let vis : parse_rule visibility m ≡ Some (v, n) = search rules in
     let no_type : sees (at_word w_type) n ≡ false = search rules in
     let here : static_next n ≡ true = search rules in
-    let follows : (ts : Stream) → Follows IsSyntax syntax_of_ForeignItem kept_foreign_item ts (run_plan (foreign_item_plan_behind a) kept_foreign_item ts m) c.foreign_static.result c.foreign_static.new.input =
+    let follows : (ts : Stream) → Follows IsSyntax syntax_of_ForeignItem kept_foreign_item ts (run_plan (foreign_item_plan_after a) kept_foreign_item ts m) c.foreign_static.result c.foreign_static.new.input =
     λ ts. static_follows kept_foreign_item ts a m b marks v n vis IsSyntax syntax_of_ForeignItem c.foreign_static.result c.foreign_static.new.input no_type here (c.foreign_static.ensures.follows ts) in
     search (rules, follows)
 
@@ -58,7 +58,7 @@ returns-then-branch c =
     let no_type : sees (at_word w_type) n ≡ false = search rules in
     let no_static : static_next n ≡ false = search rules in
     let here : foreign_function_next b n ≡ true = search rules in
-    let follows : (ts : Stream) → Follows IsSyntax syntax_of_ForeignItem kept_foreign_item ts (run_plan (foreign_item_plan_behind a) kept_foreign_item ts m) c.foreign_function.result c.foreign_function.new.input =
+    let follows : (ts : Stream) → Follows IsSyntax syntax_of_ForeignItem kept_foreign_item ts (run_plan (foreign_item_plan_after a) kept_foreign_item ts m) c.foreign_function.result c.foreign_function.new.input =
     λ ts. function_follows kept_foreign_item ts a m b marks v n vis IsSyntax syntax_of_ForeignItem c.foreign_function.result c.foreign_function.new.input no_type no_static here (c.foreign_function.ensures.follows ts) in
     search (rules, follows)
 
@@ -79,6 +79,6 @@ returns c =
     let t = c.in_ok-foreign_macro.field-0 in
     let r = c.foreign_macro.new.input in
     let read : wrap (Both a) (parse_rule member_macro n) ≡ Some (t, r) = search rules in
-    let made : (ts : Stream) → run_plan (foreign_item_plan_behind a) kept_foreign_item ts m ≡ Some (Node (Case foreign_macro_as_item (among_members t)), r) =
+    let made : (ts : Stream) → run_plan (foreign_item_plan_after a) kept_foreign_item ts m ≡ Some (Node (Case foreign_macro_as_item (among_members t)), r) =
     λ ts. macro_read kept_foreign_item ts a m b marks v n vis no_type no_static no_function unmarked no_self t r read in
     search (rules, made)

@@ -8,14 +8,14 @@ use Rattle.syn_grammar.specs.Run.{parse_rule}
 use Rattle.syn_tokens.specs.Kinds.{for_syntax, not_syntax}
 use Rattle.syn_lower.specs.Types.{syntax_of_Type}
 use Rattle.syn_item.proofs.FirstTypes.{negative_read}
-use Rattle.syn_item.proofs.impls.parsing.behind_bang.Goals as goal
+use Rattle.syn_item.proofs.impls.parsing.after_bang.Goals as goal
 
 pub returns-clause-reads : goal.returns-clause-reads
 returns-clause-reads c = λ f.
     let m = c.args.input.now in
     let r = c.read.new.self in
     let q = c.read-2.new.self in
-    let n = c.for_behind_bang.new.input in
+    let n = c.for_after_bang.new.input in
     let z = c.read-3.new.self in
     let x = not_syntax c.in_ok-bang_token.bang_token in
     let t = c.in_ok-path.path in
