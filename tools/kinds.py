@@ -33,85 +33,16 @@ import argparse
 import sys
 from pathlib import Path
 
+from kindslib.conversions import conversions
 from kindslib.grammar import rows
 from kindslib.impls import comparisons, copies, prints
+from kindslib.items import listing
 from kindslib.lists import comma_lists
 from kindslib.program import answers_of_streams, canonical, comparisons_of_answers, dispatch, kind_enum, kind_specs
 from kindslib.source import LOWEST, Fault, Source
 from kindslib.sweep import sweeps, variant_names
+from kindslib.table import INNER, KINDS, OTHERS, PARSED, ROWS, TEXTS
 from kindslib.views import endings, plain_views
-
-# the program's word, the type, the rule that reads it
-KINDS = [
-    ("file", "File", "file"),
-    ("item", "Item", "item"),
-    ("derive", "DeriveInput", "derive_input"),
-    ("visibility", "Visibility", "visibility"),
-    ("variant", "Variant", "variant"),
-    ("named-field", "NamedField", "named_field"),
-    ("unnamed-field", "UnnamedField", "unnamed_field"),
-    ("fields-named", "FieldsNamed", "fields_named"),
-    ("fields-unnamed", "FieldsUnnamed", "fields_unnamed"),
-    ("signature", "Signature", "signature"),
-    ("fn-arg", "FnArg", "argument"),
-    ("receiver", "Receiver", "receiver"),
-    ("use-tree", "UseTree", "use_tree"),
-    ("trait-item", "TraitItem", "trait_item"),
-    ("impl-item", "ImplItem", "impl_item"),
-    ("foreign-item", "ForeignItem", "foreign_item"),
-    ("item-const", "ItemConst", "const_item"),
-    ("item-enum", "ItemEnum", "enumeration"),
-    ("item-extern-crate", "ItemExternCrate", "extern_crate"),
-    ("item-fn", "ItemFn", "function"),
-    ("item-foreign-mod", "ItemForeignMod", "foreign_module"),
-    ("item-impl", "ItemImpl", "impl_definition"),
-    ("item-macro", "ItemMacro", "macro_item"),
-    ("item-mod", "ItemMod", "module_item"),
-    ("item-static", "ItemStatic", "static_item"),
-    ("item-struct", "ItemStruct", "structure"),
-    ("item-trait", "ItemTrait", "trait_definition"),
-    ("item-trait-alias", "ItemTraitAlias", "trait_alias"),
-    ("item-type", "ItemType", "type_item"),
-    ("item-union", "ItemUnion", "union_item"),
-    ("item-use", "ItemUse", "use_item"),
-    ("block", "Block", "block"),
-    ("stmt", "Stmt", "statement"),
-    ("stmts", "Stmts", "statements"),
-]
-
-# what else is read by one rule, and is no KIND of the program: the type, the rule
-OTHERS = [
-    ("SafeOrUnsafe", "safe_or_unsafe"),
-    ("UnsafeOnly", "unsafe_only"),
-    ("Abi", "abi"),
-    ("TraitItemConst", "trait_const"),
-    ("TraitItemFn", "trait_function"),
-    ("TraitItemMacro", "trait_macro"),
-    ("TraitItemType", "trait_type"),
-    ("ImplItemConst", "impl_const"),
-    ("ImplItemFn", "impl_function"),
-    ("ImplItemMacro", "impl_macro"),
-    ("ImplItemType", "impl_type"),
-    ("ForeignItemFn", "foreign_function"),
-    ("ForeignItemMacro", "foreign_macro"),
-    ("ForeignItemStatic", "foreign_static"),
-    ("ForeignItemType", "foreign_type"),
-    ("Macro", "macro_invocation"),
-    ("Pat", "pattern"),
-    ("LifetimeParam", "lifetime_parameter"),
-    ("Path", "type_path"),
-    ("ReturnType", "return_type"),
-    ("Type", "type"),
-    ("TypeParamBound", "bound"),
-    ("TypePath", "path_as_type"),
-    ("WherePredicate", "predicate"),
-]
-
-# what is read by one rule, but without the node around it that the rule makes: the type, the rule
-INNER = [("Expr", "whole_expression")]
-# what has a parser, and no canonical print: types, and tokens that hold a text
-PARSED = ["Expr", "Generics", "Lit", "WhereClause"]
-TEXTS = ["Ident", "Lifetime"]
 
 # lists with one value at least, which end with one
 JOINED = {("Path", "segments")}
@@ -186,6 +117,8 @@ def outputs():
     files.update(comma_lists(source, table))
     files[page] = rows(source, table, page, patterns, operators, expressions, items)
     trees = together(crates)
+    files.update(conversions(trees, CRATES))
+    files.update(listing(trees, ROWS["program"], table, CRATES))
     files[CRATES / "syn/src/kinds.rt"] = canonical(trees, [kind[1:] for kind in KINDS] + OTHERS)
     files[CRATES / "syn_canon/src/kind.rt"] = kind_enum(KINDS)
     files[CRATES / "syn_canon/src/by_kind.rt"] = dispatch(KINDS)

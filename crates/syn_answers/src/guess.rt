@@ -35,6 +35,8 @@ fn told_by(tree: &TokenTreeRef<'_>, behind: &Cursor<'_>) -> Option<ItemKind> {
     }
 }
 
+// Written by tools/kinds.py down to the next such comment; edit tools/kinds.txt.
+
 /// What a word tells.
 fn told_by_word(word: &str, behind: &Cursor<'_>) -> Option<ItemKind> {
     match word {
@@ -54,6 +56,8 @@ fn told_by_word(word: &str, behind: &Cursor<'_>) -> Option<ItemKind> {
         _ => None,
     }
 }
+
+// End of the part that tools/kinds.py writes.
 
 /// This kind, where a name stands next, or `_`.
 fn told_before_name(kind: ItemKind, behind: &Cursor<'_>) -> Option<ItemKind> {

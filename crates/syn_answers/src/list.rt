@@ -20,6 +20,8 @@ use syn_tokens::error::Result;
 use syn_tokens::ident::Ident;
 use syn_tokens::stream::TokenStream;
 
+// Written by tools/kinds.py down to the next such comment; edit tools/kinds.txt.
+
 /// The kinds of items, by what the trees of each are called.
 #[derive(Clone, Copy, Debug, PartialEq, Eq)]
 pub enum ItemKind {
@@ -42,6 +44,8 @@ pub enum ItemKind {
     Verbatim,
 }
 
+// End of the part that tools/kinds.py writes.
+
 /// The kind of an item, and its name. An impl, a use, a foreign module and what is kept as tokens have none, nor has a macro
 /// without a name behind its `!`; of a constant it may be `_`, of an extern crate `self`.
 #[derive(Debug, Drop)]
@@ -49,6 +53,8 @@ pub struct ListedItem {
     pub kind: ItemKind,
     pub name: Option<Ident>,
 }
+
+// Written by tools/kinds.py down to the next such comment; edit tools/kinds.txt.
 
 /// The rule that reads items of this kind.
 #[tactic(auto, unfolding(syn_recognize::specs::Names::rule_of))]
@@ -75,6 +81,8 @@ fn rule_by(kind: ItemKind) -> Option<Rule>
     }
 }
 
+// End of the part that tools/kinds.py writes.
+
 /// Reads an item of this kind, and says whether there was one; where there was none, nothing is read.
 fn try_kind(kind: ItemKind, input: &mut ParseBuffer<'_>) -> Parsed<bool>
     ensures { KindTried IsSyntax kind input.old result input.new }
@@ -92,6 +100,8 @@ fn try_kind(kind: ItemKind, input: &mut ParseBuffer<'_>) -> Parsed<bool>
         Err(Refusal::Memory(at)) => Err(Refusal::Memory(at)),
     }
 }
+
+// Written by tools/kinds.py down to the next such comment; edit tools/kinds.txt.
 
 /// Reads an item of one of the kinds that are most common.
 fn try_common(input: &mut ParseBuffer<'_>) -> Parsed<Option<ItemKind>>
@@ -158,6 +168,8 @@ fn try_rare(input: &mut ParseBuffer<'_>) -> Parsed<Option<ItemKind>>
     }
     Ok(None)
 }
+
+// End of the part that tools/kinds.py writes.
 
 /// Reads an item of any kind, and says which it is: where none of the kinds reads it, it is kept as tokens.
 #[tactic(auto, using(crate::proofs::Listing::kept), unfolding(syn_recognize::specs::Names::rule_of))]

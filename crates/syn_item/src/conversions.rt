@@ -1,3 +1,5 @@
+//! Written by tools/kinds.py; edits are lost.
+//!
 //! What a kind of items, of trees of a use or of parameters is one of: the struct becomes its variant. Nothing is copied, and no memory
 //! is taken.
 ghost use Rattle.std.specs.Prelude.{◌≡◌};
@@ -11,7 +13,7 @@ use crate::simple::{
     ItemConst, ItemExternCrate, ItemMacro, ItemMod, ItemStatic, ItemTraitAlias, ItemType, ItemUse,
 };
 use crate::use_tree::{UseGlob, UseGroup, UseName, UsePath, UseRename, UseTree};
-use syn_pat::PatType;
+use syn_pat::pat::PatType;
 
 impl From<ItemConst> for Item {
     ghost use Rattle.syn_item.specs.declared.item.Item.TheVariants as items;

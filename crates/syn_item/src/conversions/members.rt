@@ -1,3 +1,5 @@
+//! Written by tools/kinds.py; edits are lost.
+//!
 //! Traits, impls, foreign modules and what derives are made for become items; members become members of any kind. Nothing is copied, and
 //! no memory is taken.
 ghost use Rattle.std.specs.Prelude.{◌≡◌};
