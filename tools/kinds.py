@@ -34,11 +34,14 @@ import sys
 from pathlib import Path
 
 from kindslib.conversions import conversions
+from kindslib.exports import exports
 from kindslib.grammar import rows
 from kindslib.impls import comparisons, copies, prints
 from kindslib.items import listing
 from kindslib.lists import comma_lists
+from kindslib.outlines import outlines
 from kindslib.program import answers_of_streams, canonical, comparisons_of_answers, dispatch, kind_enum, kind_specs
+from kindslib.rows import row_kinds
 from kindslib.source import LOWEST, Fault, Source
 from kindslib.sweep import sweeps, variant_names
 from kindslib.table import INNER, KINDS, OTHERS, PARSED, ROWS, TEXTS
@@ -118,6 +121,7 @@ def outputs():
     files[page] = rows(source, table, page, patterns, operators, expressions, items)
     trees = together(crates)
     files.update(conversions(trees, CRATES))
+    files.update(exports(trees, CRATES))
     files.update(listing(trees, ROWS["program"], table, CRATES))
     files[CRATES / "syn/src/kinds.rt"] = canonical(trees, [kind[1:] for kind in KINDS] + OTHERS)
     files[CRATES / "syn_canon/src/kind.rt"] = kind_enum(KINDS)
@@ -126,6 +130,8 @@ def outputs():
     files[CRATES / "tree_answers/src/by_kind.rt"] = comparisons_of_answers(trees, KINDS)
     files[CRATES / "cut_streams/src/by_kind.rt"] = answers_of_streams(trees, [kind[1:] for kind in KINDS] + OTHERS + INNER)
     kinds, others = [name for _, name, _ in KINDS], [name for name, _ in OTHERS]
+    files.update(row_kinds(trees, [*kinds, *others], PARSED, CRATES))
+    files.update(outlines(trees, CRATES))
     files[CRATES / "memory_sweep/src/by_kind.rt"] = sweeps(trees, kinds, others, PARSED, TEXTS)
     files[CRATES / "memory_sweep/src/variants.rt"] = variant_names(trees, [*kinds, *others, *PARSED], TEXTS)
     return files

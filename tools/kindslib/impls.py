@@ -153,30 +153,32 @@ def tactic(lemmas):
 WRITTEN = "Written by tools/kinds.py; edits are lost."
 
 
-def import_line(path, names):
+def import_line(path, names, use="use"):
+    """An import of these names, in the layout of `rt fmt`; `use` may be indented, and public."""
     names = sorted(set(names))
     inside = names[0] if len(names) == 1 else "{" + ", ".join(names) + "}"
-    line = f"use {path}::{inside};"
+    line = f"{use} {path}::{inside};"
     if len(line) <= 100:
         return line + "\n"
-    lines, line = [], "   "
+    margin = " " * (len(use) - len(use.lstrip()))
+    lines, line = [], f"{margin}   "
     for name in names:
         if len(line) + len(name) + 2 > 99:
             lines.append(line)
-            line = "   "
+            line = f"{margin}   "
         line += f" {name},"
-    return f"use {path}::{{\n" + "\n".join(lines + [line]) + "\n};\n"
+    return f"{use} {path}::{{\n" + "\n".join(lines + [line]) + f"\n{margin}}};\n"
 
 
-def import_lines(uses):
-    """The imports of these names, by their paths: in the order of `rt fmt`, where several names of one module stand behind the
+def import_lines(uses, use="use"):
+    """The imports of these names, by their paths: in the order of `rt fmt`, where several names of one module are after the
     modules in it."""
     def key(item):
         path, names = item
         names = sorted(set(names))
         return [*path.split("::"), names[0] if len(names) == 1 else "\x7f"]
 
-    return "".join(import_line(path, names) for path, names in sorted(uses.items(), key=key))
+    return "".join(import_line(path, names, use) for path, names in sorted(uses.items(), key=key))
 
 
 def folder(source, name, title, one, attribute=""):

@@ -35,7 +35,7 @@ fn told_by(tree: &TokenTreeRef<'_>, behind: &Cursor<'_>) -> Option<ItemKind> {
     }
 }
 
-// Written by tools/kinds.py down to the next such comment; edit tools/kinds.txt.
+// Written by tools/kinds.py down to the next such comment; edits are lost.
 
 /// What a word tells.
 fn told_by_word(word: &str, behind: &Cursor<'_>) -> Option<ItemKind> {

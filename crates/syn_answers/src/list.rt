@@ -20,7 +20,7 @@ use syn_tokens::error::Result;
 use syn_tokens::ident::Ident;
 use syn_tokens::stream::TokenStream;
 
-// Written by tools/kinds.py down to the next such comment; edit tools/kinds.txt.
+// Written by tools/kinds.py down to the next such comment; edits are lost.
 
 /// The kinds of items, by what the trees of each are called.
 #[derive(Clone, Copy, Debug, PartialEq, Eq)]
@@ -54,7 +54,7 @@ pub struct ListedItem {
     pub name: Option<Ident>,
 }
 
-// Written by tools/kinds.py down to the next such comment; edit tools/kinds.txt.
+// Written by tools/kinds.py down to the next such comment; edits are lost.
 
 /// The rule that reads items of this kind.
 #[tactic(auto, unfolding(syn_recognize::specs::Names::rule_of))]
@@ -101,7 +101,7 @@ fn try_kind(kind: ItemKind, input: &mut ParseBuffer<'_>) -> Parsed<bool>
     }
 }
 
-// Written by tools/kinds.py down to the next such comment; edit tools/kinds.txt.
+// Written by tools/kinds.py down to the next such comment; edits are lost.
 
 /// Reads an item of one of the kinds that are most common.
 fn try_common(input: &mut ParseBuffer<'_>) -> Parsed<Option<ItemKind>>

@@ -101,7 +101,7 @@ fn name_behind(trees: &Cursor<'_>, word: &'static str) -> Parsed<Option<Ident>>
     name(&behind(trees, Marker::Word(word)))
 }
 
-// Written by tools/kinds.py down to the next such comment; edit tools/kinds.txt.
+// Written by tools/kinds.py down to the next such comment; edits are lost.
 
 /// The name of the item of this kind that begins here.
 pub(crate) fn name_ahead(kind: ItemKind, input: &ParseBuffer<'_>) -> Parsed<Option<Ident>>

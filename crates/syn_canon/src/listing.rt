@@ -12,7 +12,7 @@ use std::alloc::Global;
 use syn_answers::list::{ItemKind, ListedItem, list_items};
 use syn_tokens::stream::TokenStream;
 
-// Written by tools/kinds.py down to the next such comment; edit tools/kinds.txt.
+// Written by tools/kinds.py down to the next such comment; edits are lost.
 
 /// How a kind of items is written.
 fn word_of(kind: ItemKind) -> &'static str

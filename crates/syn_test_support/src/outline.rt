@@ -1,5 +1,6 @@
 //! Texts that show trees whole: each token with its spans, each part that is there.
 
+mod choices;
 mod exprs;
 mod items;
 mod members;

@@ -7,9 +7,8 @@ use super::parts::{
 use crate::outline::{Outlined, TreeText};
 use syn::file::File;
 use syn::item::{
-    Item, ItemConst, ItemExternCrate, ItemFn, ItemForeignMod, ItemImpl, ItemMacro, ItemMod,
-    ItemStatic, ItemTrait, ItemTraitAlias, ItemType, ItemUse, Items, StaticMutability,
-    WhereClausePlacement,
+    ItemConst, ItemExternCrate, ItemFn, ItemForeignMod, ItemImpl, ItemMacro, ItemMod, ItemStatic,
+    ItemTrait, ItemTraitAlias, ItemType, ItemUse, Items, StaticMutability, WhereClausePlacement,
 };
 
 impl Outlined for File {
@@ -27,32 +26,6 @@ impl Outlined for Items {
         out.word("Items");
         for item in &self.0 {
             item.show(out);
-        }
-    }
-}
-
-impl Outlined for Item {
-    fn show(&self, out: &mut TreeText) {
-        match self {
-            Item::Const(item) => item.show(out),
-            Item::Enum(item) => item.show(out),
-            Item::ExternCrate(item) => item.show(out),
-            Item::Fn(item) => item.show(out),
-            Item::ForeignMod(item) => item.show(out),
-            Item::Impl(item) => item.show(out),
-            Item::Macro(item) => item.show(out),
-            Item::Mod(item) => item.show(out),
-            Item::Static(item) => item.show(out),
-            Item::Struct(item) => item.show(out),
-            Item::Trait(item) => item.show(out),
-            Item::TraitAlias(item) => item.show(out),
-            Item::Ty(item) => item.show(out),
-            Item::Union(item) => item.show(out),
-            Item::Use(item) => item.show(out),
-            Item::Verbatim(tokens) => {
-                out.word("Verbatim");
-                tokens.show(out);
-            }
         }
     }
 }

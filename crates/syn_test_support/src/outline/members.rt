@@ -3,25 +3,9 @@
 use super::parts::{node, show_bounds, show_mark, show_modifier, show_semi, show_type};
 use crate::outline::{Outlined, TreeText};
 use syn::item::{
-    ForeignItem, ForeignItemFn, ForeignItemMacro, ForeignItemStatic, ForeignItemType, ImplItem,
-    ImplItemConst, ImplItemFn, ImplItemMacro, ImplItemType, TraitItem, TraitItemConst, TraitItemFn,
-    TraitItemMacro, TraitItemType,
+    ForeignItemFn, ForeignItemMacro, ForeignItemStatic, ForeignItemType, ImplItemConst, ImplItemFn,
+    ImplItemMacro, ImplItemType, TraitItemConst, TraitItemFn, TraitItemMacro, TraitItemType,
 };
-
-impl Outlined for TraitItem {
-    fn show(&self, out: &mut TreeText) {
-        match self {
-            TraitItem::Const(member) => member.show(out),
-            TraitItem::Fn(member) => member.show(out),
-            TraitItem::Ty(member) => member.show(out),
-            TraitItem::Macro(member) => member.show(out),
-            TraitItem::Verbatim(tokens) => {
-                out.word("Verbatim");
-                tokens.show(out);
-            }
-        }
-    }
-}
 
 impl Outlined for TraitItemConst {
     fn show(&self, out: &mut TreeText) {
@@ -75,21 +59,6 @@ impl Outlined for TraitItemMacro {
     }
 }
 
-impl Outlined for ImplItem {
-    fn show(&self, out: &mut TreeText) {
-        match self {
-            ImplItem::Const(member) => member.show(out),
-            ImplItem::Fn(member) => member.show(out),
-            ImplItem::Ty(member) => member.show(out),
-            ImplItem::Macro(member) => member.show(out),
-            ImplItem::Verbatim(tokens) => {
-                out.word("Verbatim");
-                tokens.show(out);
-            }
-        }
-    }
-}
-
 impl Outlined for ImplItemConst {
     fn show(&self, out: &mut TreeText) {
         out.attributes(&self.attrs);
@@ -135,21 +104,6 @@ impl Outlined for ImplItemMacro {
         node("ImplItemMacro", &self.attrs, out);
         self.mac.show(out);
         show_semi(&self.semi_token, out);
-    }
-}
-
-impl Outlined for ForeignItem {
-    fn show(&self, out: &mut TreeText) {
-        match self {
-            ForeignItem::Fn(member) => member.show(out),
-            ForeignItem::Static(member) => member.show(out),
-            ForeignItem::Ty(member) => member.show(out),
-            ForeignItem::Macro(member) => member.show(out),
-            ForeignItem::Verbatim(tokens) => {
-                out.word("Verbatim");
-                tokens.show(out);
-            }
-        }
     }
 }
 
