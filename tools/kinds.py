@@ -35,6 +35,7 @@ from pathlib import Path
 
 from kindslib.conversions import conversions
 from kindslib.exports import exports
+from kindslib.fields import missing_fields
 from kindslib.grammar import rows
 from kindslib.impls import comparisons, copies, prints
 from kindslib.items import listing
@@ -72,6 +73,8 @@ UNPRINTED = {
 }
 
 CRATES = Path("crates")
+# the crates of trees
+TREES = [LOWEST, "syn_pat", "syn_expr_parse", "syn_expr", "syn_tree", "syn_item"]
 
 
 class Together:
@@ -139,7 +142,7 @@ def outputs():
 
 def leftovers(files):
     """Files in the folders that are this script's alone which it wouldn't write."""
-    folders = [CRATES / crate / name for crate in (LOWEST, "syn_pat", "syn_expr_parse", "syn_expr", "syn_tree", "syn_item") for name in ("src/copies", "src/compare", "src/prints", "proofs/comma_lists")]
+    folders = [CRATES / crate / name for crate in TREES for name in ("src/copies", "src/compare", "src/prints", "proofs/comma_lists")]
     return [path for folder in folders for path in sorted(folder.rglob("*.*t*")) if path.is_file() and path not in files]
 
 
@@ -156,7 +159,10 @@ def main():
         stale += [f"{path} (nothing is to stand there)" for path in leftovers(files)]
         if stale:
             sys.exit("kinds: not as this script writes them: " + ", ".join(stale))
-        print(f"kinds: {len(files)} files as written")
+        missing, count = missing_fields([CRATES / name for name in TREES])
+        if missing or not count:
+            sys.exit("kinds: fields that the view of their struct leaves out: " + (", ".join(missing) or "no field was found"))
+        print(f"kinds: {len(files)} files as written, each of {count} fields in its view")
         return
     for path in leftovers(files):
         path.unlink()
