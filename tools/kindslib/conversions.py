@@ -24,15 +24,14 @@ OTHERS = [Enum("UseTree", "trees", "tree"), Enum("FnArg", "args", "arg")]
 ENUMS = [ITEM, *MEMBERS, *OTHERS]
 
 HEADS = {
-    "conversions.rt": """//! What a kind of items, of trees of a use or of parameters is one of: the struct becomes its variant. Nothing is copied, and no memory
-//! is taken.
+    "conversions.rt": """//! Conversions of items, use trees and parameters into the enums that hold them. Nothing is copied or allocated.
 ghost use Rattle.std.specs.Prelude.{◌≡◌};
 
 mod members;
 
 """,
-    "conversions/members.rt": """//! Traits, impls, foreign modules and what derives are made for become items; members become members of any kind. Nothing is copied, and
-//! no memory is taken.
+    "conversions/members.rt": """//! Conversions of items with members, structs, enums and unions into `Item`, and of members into the enums that hold them. Nothing is
+//! copied or allocated.
 ghost use Rattle.std.specs.Prelude.{◌≡◌};
 
 """,

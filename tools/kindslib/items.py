@@ -9,13 +9,15 @@ from .source import Fault
 # What `Item` holds that has no kind of its own.
 VERBATIM = "Verbatim"
 KEPT = "kept_item"
+# The syntax of a variant whose tree is not its rule's tree.
+SYNTAX = {"Macro": "(among_items t)"}
 # Keywords of items that are always verbatim.
 VERBATIM_WORDS = ["macro"]
 # The functions that try the kinds: each its share, in the order of the table.
 TRIES = [
-    ("try_common", "Reads an item of one of the kinds that are most common."),
-    ("try_others", "Reads an item of one of these kinds."),
-    ("try_rare", "Reads an item of one of the kinds that are rare."),
+    ("try_common", "Tries the most common kinds."),
+    ("try_others", "Tries the kinds that are neither common nor rare."),
+    ("try_rare", "Tries the rarest kinds."),
 ]
 SHARE = 5
 
@@ -38,10 +40,10 @@ def shares(kinds):
 
 def listed_variants(kinds):
     names = "".join(f"    {variant},\n" for variant, _ in kinds)
-    return f"""/// The kinds of items, by what the trees of each are called.
+    return f"""/// The kinds of items, named as the variants of `Item`.
 #[derive(Clone, Copy, Debug, PartialEq, Eq)]
 pub enum ItemKind {{
-{names}    /// What has no kind of its own, and is kept as its tokens.
+{names}    /// An item without a kind of its own, stored verbatim.
     {VERBATIM},
 }}
 """
@@ -49,7 +51,7 @@ pub enum ItemKind {{
 
 def rule_by(kinds):
     arms = "".join(f"        ItemKind::{variant} => Some(Rule::{constant(row.listed)}),\n" for variant, row in kinds)
-    return f"""/// The rule that reads items of this kind.
+    return f"""/// The rule that parses items of this kind.
 #[tactic(auto, unfolding(syn_recognize::specs::Names::rule_of))]
 fn rule_by(kind: ItemKind) -> Option<Rule>
     ensures {{ MatchOption result (kind ≡ K.{VERBATIM}) (λ rule. names.rule_of rule ≡ rule_of kind) }}
@@ -106,7 +108,7 @@ def told_by_word(kinds):
     by_word = {row.more["guess"]: variant for variant, row in kinds if "guess" in row.more} | dict.fromkeys(VERBATIM_WORDS, VERBATIM)
     plain = "".join(f'        "{word}" => Some(ItemKind::{by_word[word]}),\n' for word in sorted(by_word) if not word.endswith("?"))
     before_name = "".join(f'        "{word[:-1]}" => told_before_name(ItemKind::{by_word[word]}, behind),\n' for word in sorted(by_word) if word.endswith("?"))
-    return f"""/// What a word tells.
+    return f"""/// The kind that this keyword indicates, if any.
 fn told_by_word(word: &str, behind: &Cursor<'_>) -> Option<ItemKind> {{
     match word {{
 {plain}{before_name}        _ => None,
@@ -117,7 +119,7 @@ fn told_by_word(word: &str, behind: &Cursor<'_>) -> Option<ItemKind> {{
 
 def spec_rules(kinds):
     rows = "".join(f"rule_of K.{variant} = rules.{row.listed}\n" for variant, row in kinds)
-    return f"""-- the rule that reads items of this kind
+    return f"""-- the rule that parses items of this kind
 abbrev pub rule_of : ItemKind → Rule
 {rows}rule_of K.{VERBATIM} = rules.{KEPT}
 """
@@ -125,7 +127,7 @@ abbrev pub rule_of : ItemKind → Rule
 
 def are_kinds(kinds):
     rows = "".join(f"is_kind K.{variant} = refl\n" for variant, _ in [*kinds, (VERBATIM, None)])
-    return f"""-- each kind is one of those of an item
+    return f"""-- each kind is one of the kinds of `item`
 pub is_kind : (kind : ItemKind) → IsKind rules.item (rule_of kind)
 {rows}"""
 
@@ -147,7 +149,7 @@ def kept(kinds, table):
         raise Fault(f"the kinds of items in tools/kinds.txt aren't those of the union `item`: {', '.join(sorted(set(rules) ^ set(by_rule)))}")
     steps = "".join(f"(no rules.{rule} {places[by_rule[rule]]}, " for rule in rules)
     common, others, rare = map(spec_list, shares(kinds))
-    return f"""-- what none of the kinds reads is
+    return f"""-- an item that no kind parses is verbatim
 pub kept : (ts : Stream) (s : Syntax) (r : Stream) → parse_rule rules.item ts ≡ Some (s, r) → NoneOf ({common}) ts →
     NoneOf ({others}) ts → NoneOf ({rare}) ts → (t : Syntax) × (parse_rule rules.{KEPT} ts ≡ Some (t, r))
 kept ts s r e a b c =
@@ -170,15 +172,28 @@ def word_imports(table):
 
 def spec_words(kinds):
     rows = "".join(f'kind_word {row.listed} = codes "{row.listed_word}"\n' for _, row in kinds)
-    return f"""-- how a kind of items is written, by the rule that reads it; one that is kept as tokens is `verbatim`
+    return f"""-- the word of a kind of items, by its rule; a verbatim item is `verbatim`
 abbrev pub kind_word : Rule → List ℕ
 {rows}kind_word _ = codes "verbatim"
 """
 
 
+def item_imports(kinds):
+    """The import of the rules of all variants."""
+    return f"use Rattle.syn_grammar.specs.Rules.{{{', '.join(sorted([KEPT, *(row.listed for _, row in kinds)]))}}}\n"
+
+
+def item_syntax(kinds):
+    """The syntax of an item, by its variant."""
+    rows = "".join(f"syntax_of_Item (Item-m.{variant} t) = Node (Case {row.listed} {SYNTAX.get(variant, 't')})\n" for variant, row in kinds)
+    return f"""abbrev pub syntax_of_Item : Item-m.the_data → Syntax
+{rows}syntax_of_Item (Item-m.{VERBATIM} tokens) = Node (Case {KEPT} (Captured Nothing tokens))
+"""
+
+
 def word_of(kinds):
     arms = "".join(f'        ItemKind::{variant} => "{row.listed_word}",\n' for variant, row in kinds)
-    return f"""/// How a kind of items is written.
+    return f"""/// The word of a kind of items.
 fn word_of(kind: ItemKind) -> &'static str
     ensures {{ result.now ≡ kind_word (rule_of kind) }}
 {{
@@ -190,9 +205,10 @@ fn word_of(kind: ItemKind) -> &'static str
 
 
 def listing(source, rows, table, crates):
-    """The parts of syn_answers and syn_canon that go by the kinds of items."""
+    """The parts of syn_item, syn_answers and syn_canon that go by the kinds of items."""
     kinds, table = item_kinds(source, rows), table.read_text()
     parts = {
+        "syn_item/specs/Items.antt": [item_imports(kinds), item_syntax(kinds)],
         "syn_answers/src/list.rt": [
             listed_variants(kinds),
             rule_by(kinds),

@@ -64,7 +64,7 @@ past_all m ts i n h e = ap (past m) (none_left ts (omega (arith, h, e)))
 
 -- ---- kinds
 -- Written by tools/kinds.py down to the next such comment; edits are lost.
--- each kind is one of those of an item
+-- each kind is one of the kinds of `item`
 pub is_kind : (kind : ItemKind) → IsKind rules.item (rule_of kind)
 is_kind K.Const = refl
 is_kind K.Enum = refl
@@ -102,7 +102,7 @@ abbrev Kept : Stream → Stream → Rule → Type 0
 Kept ts r k = (t : Syntax) → parse_rule k ts ≡ Some (Node t, r) → (u : Syntax) × (parse_rule rules.kept_item ts ≡ Some (u, r))
 
 -- Written by tools/kinds.py down to the next such comment; edits are lost.
--- what none of the kinds reads is
+-- an item that no kind parses is verbatim
 pub kept : (ts : Stream) (s : Syntax) (r : Stream) → parse_rule rules.item ts ≡ Some (s, r) → NoneOf (K.Fn ∷ K.Struct ∷ K.Impl ∷ K.Enum ∷ K.Use ∷ []) ts →
     NoneOf (K.Const ∷ K.Mod ∷ K.Trait ∷ K.Ty ∷ K.Macro ∷ []) ts → NoneOf (K.Static ∷ K.ExternCrate ∷ K.ForeignMod ∷ K.Union ∷ K.TraitAlias ∷ []) ts → (t : Syntax) × (parse_rule rules.kept_item ts ≡ Some (t, r))
 kept ts s r e a b c =

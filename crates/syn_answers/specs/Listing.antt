@@ -20,7 +20,7 @@ use Rattle.syn_answers.specs.declared.names.Marker.TheVariants as M
 -- KINDS AND NAMES
 
 -- Written by tools/kinds.py down to the next such comment; edits are lost.
--- the rule that reads items of this kind
+-- the rule that parses items of this kind
 abbrev pub rule_of : ItemKind → Rule
 rule_of K.Const = rules.const_item
 rule_of K.Enum = rules.enumeration

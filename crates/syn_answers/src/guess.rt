@@ -37,7 +37,7 @@ fn told_by(tree: &TokenTreeRef<'_>, behind: &Cursor<'_>) -> Option<ItemKind> {
 
 // Written by tools/kinds.py down to the next such comment; edits are lost.
 
-/// What a word tells.
+/// The kind that this keyword indicates, if any.
 fn told_by_word(word: &str, behind: &Cursor<'_>) -> Option<ItemKind> {
     match word {
         "crate" => Some(ItemKind::ExternCrate),

@@ -22,7 +22,7 @@ use syn_tokens::stream::TokenStream;
 
 // Written by tools/kinds.py down to the next such comment; edits are lost.
 
-/// The kinds of items, by what the trees of each are called.
+/// The kinds of items, named as the variants of `Item`.
 #[derive(Clone, Copy, Debug, PartialEq, Eq)]
 pub enum ItemKind {
     Const,
@@ -40,7 +40,7 @@ pub enum ItemKind {
     Ty,
     Union,
     Use,
-    /// What has no kind of its own, and is kept as its tokens.
+    /// An item without a kind of its own, stored verbatim.
     Verbatim,
 }
 
@@ -56,7 +56,7 @@ pub struct ListedItem {
 
 // Written by tools/kinds.py down to the next such comment; edits are lost.
 
-/// The rule that reads items of this kind.
+/// The rule that parses items of this kind.
 #[tactic(auto, unfolding(syn_recognize::specs::Names::rule_of))]
 fn rule_by(kind: ItemKind) -> Option<Rule>
     ensures { MatchOption result (kind ≡ K.Verbatim) (λ rule. names.rule_of rule ≡ rule_of kind) }
@@ -103,7 +103,7 @@ fn try_kind(kind: ItemKind, input: &mut ParseBuffer<'_>) -> Parsed<bool>
 
 // Written by tools/kinds.py down to the next such comment; edits are lost.
 
-/// Reads an item of one of the kinds that are most common.
+/// Tries the most common kinds.
 fn try_common(input: &mut ParseBuffer<'_>) -> Parsed<Option<ItemKind>>
     ensures { KindsTried IsSyntax (K.Fn ∷ K.Struct ∷ K.Impl ∷ K.Enum ∷ K.Use ∷ []) input.old result input.new }
 {
@@ -125,7 +125,7 @@ fn try_common(input: &mut ParseBuffer<'_>) -> Parsed<Option<ItemKind>>
     Ok(None)
 }
 
-/// Reads an item of one of these kinds.
+/// Tries the kinds that are neither common nor rare.
 fn try_others(input: &mut ParseBuffer<'_>) -> Parsed<Option<ItemKind>>
     ensures { KindsTried IsSyntax (K.Const ∷ K.Mod ∷ K.Trait ∷ K.Ty ∷ K.Macro ∷ []) input.old result input.new }
 {
@@ -147,7 +147,7 @@ fn try_others(input: &mut ParseBuffer<'_>) -> Parsed<Option<ItemKind>>
     Ok(None)
 }
 
-/// Reads an item of one of the kinds that are rare.
+/// Tries the rarest kinds.
 fn try_rare(input: &mut ParseBuffer<'_>) -> Parsed<Option<ItemKind>>
     ensures { KindsTried IsSyntax (K.Static ∷ K.ExternCrate ∷ K.ForeignMod ∷ K.Union ∷ K.TraitAlias ∷ []) input.old result input.new }
 {

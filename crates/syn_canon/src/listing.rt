@@ -14,7 +14,7 @@ use syn_tokens::stream::TokenStream;
 
 // Written by tools/kinds.py down to the next such comment; edits are lost.
 
-/// How a kind of items is written.
+/// The word of a kind of items.
 fn word_of(kind: ItemKind) -> &'static str
     ensures { result.now ≡ kind_word (rule_of kind) }
 {

@@ -1,7 +1,6 @@
 //! Written by tools/kinds.py; edits are lost.
 //!
-//! What a kind of items, of trees of a use or of parameters is one of: the struct becomes its variant. Nothing is copied, and no memory
-//! is taken.
+//! Conversions of items, use trees and parameters into the enums that hold them. Nothing is copied or allocated.
 ghost use Rattle.std.specs.Prelude.{◌≡◌};
 
 mod members;

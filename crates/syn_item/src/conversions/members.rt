@@ -1,7 +1,7 @@
 //! Written by tools/kinds.py; edits are lost.
 //!
-//! Traits, impls, foreign modules and what derives are made for become items; members become members of any kind. Nothing is copied, and
-//! no memory is taken.
+//! Conversions of items with members, structs, enums and unions into `Item`, and of members into the enums that hold them. Nothing is
+//! copied or allocated.
 ghost use Rattle.std.specs.Prelude.{◌≡◌};
 
 use crate::foreign::{
