@@ -1,8 +1,8 @@
 //! Texts that show trees whole: each token with its spans, each part that is there.
 
-mod choices;
 mod exprs;
 mod items;
+mod kinds;
 mod members;
 mod ops;
 mod parts;
