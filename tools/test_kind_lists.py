@@ -132,7 +132,7 @@ class Lists(unittest.TestCase):
         self.assertTrue(text.endswith('        "T16" => call(),\n        _ => other(heading),\n    }\n}\n'))
 
     def test_an_outline_goes_by_the_variants(self):
-        self.write("syn_test_support/src/outline/items.rt", "impl Outlined for ItemFn {\n}\n")
+        self.write("syn_test_support/src/outline.rt", "impl Outlined for ItemFn {\n}\n")
         (text,) = outlines.outlines(self.source, self.crates).values()
         self.assertIn("            Item::Ty(item) => item.show(out),\n            Item::Verbatim(tokens) => {\n", text)
         self.assertIn("impl Outlined for ItemType {\n    fn show(&self, out: &mut TreeText) {\n        self.ident.show(out);\n    }\n}\n", text)
