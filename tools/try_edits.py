@@ -23,7 +23,7 @@ An edit is a file of lines:
     clause: skips by loop-character-preserved      the same, where the prover stops at another goal than the clause's own: a
                                              loop's invariant, or what a callee requires; of a table, a function that is
                                              not proved (the end of its name), or a file of proofs, and the lemma there
-                                             that is refused: one_tree by unions_hold, ExamplesOfItems by enum_values
+                                             that is refused: one_tree by unions_hold, ItemPlan by item_plan_is
     file: src/token/word.rt                  what it changes,
     in: token::word::Word::new               in which function (left out where the text stands once in the file),
     old: span,                               the text, which stands there once,

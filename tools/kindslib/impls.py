@@ -282,7 +282,7 @@ def copy_struct(source, t, uses):
 
 def copied_payload(source, t, payload, uses):
     """How the payload of a variant is copied."""
-    if source.is_token(t, payload):
+    if source.is_token(t, payload) or source.is_copied(payload):
         return "*value"
     if not t.is_nested:
         return "value.try_clone(alloc)?"
@@ -307,6 +307,8 @@ def copy_enum(source, t, uses):
 
 
 def copy_body(source, t, uses):
+    if t.is_copy:
+        return "        Ok(*self)\n"
     return copy_enum(source, t, uses) if t.is_enum else copy_struct(source, t, uses)
 
 

@@ -40,10 +40,10 @@ def shares(kinds):
 
 def listed_variants(kinds):
     names = "".join(f"    {variant},\n" for variant, _ in kinds)
-    return f"""/// The kinds of items, named as the variants of `Item`.
+    return f"""/// The kinds of items, named as their trees are.
 #[derive(Clone, Copy, Debug, PartialEq, Eq)]
 pub enum ItemKind {{
-{names}    /// An item without a kind of its own, stored verbatim.
+{names}    /// An item without a kind of its own, which is stored verbatim.
     {VERBATIM},
 }}
 """
@@ -51,7 +51,7 @@ pub enum ItemKind {{
 
 def rule_by(kinds):
     arms = "".join(f"        ItemKind::{variant} => Some(Rule::{constant(row.listed)}),\n" for variant, row in kinds)
-    return f"""/// The rule that parses items of this kind.
+    return f"""/// The rule that reads items of this kind.
 #[tactic(auto, unfolding(syn_recognize::specs::Names::rule_of))]
 fn rule_by(kind: ItemKind) -> Option<Rule>
     ensures {{ MatchOption result (kind ≡ K.{VERBATIM}) (λ rule. names.rule_of rule ≡ rule_of kind) }}
@@ -108,7 +108,7 @@ def told_by_word(kinds):
     by_word = {row.more["guess"]: variant for variant, row in kinds if "guess" in row.more} | dict.fromkeys(VERBATIM_WORDS, VERBATIM)
     plain = "".join(f'        "{word}" => Some(ItemKind::{by_word[word]}),\n' for word in sorted(by_word) if not word.endswith("?"))
     before_name = "".join(f'        "{word[:-1]}" => told_before_name(ItemKind::{by_word[word]}, behind),\n' for word in sorted(by_word) if word.endswith("?"))
-    return f"""/// The kind that this keyword indicates, if any.
+    return f"""/// The kind that a word suggests.
 fn told_by_word(word: &str, behind: &Cursor<'_>) -> Option<ItemKind> {{
     match word {{
 {plain}{before_name}        _ => None,
@@ -119,7 +119,7 @@ fn told_by_word(word: &str, behind: &Cursor<'_>) -> Option<ItemKind> {{
 
 def spec_rules(kinds):
     rows = "".join(f"rule_of K.{variant} = rules.{row.listed}\n" for variant, row in kinds)
-    return f"""-- the rule that parses items of this kind
+    return f"""-- the rule that reads items of this kind
 abbrev pub rule_of : ItemKind → Rule
 {rows}rule_of K.{VERBATIM} = rules.{KEPT}
 """
@@ -127,7 +127,7 @@ abbrev pub rule_of : ItemKind → Rule
 
 def are_kinds(kinds):
     rows = "".join(f"is_kind K.{variant} = refl\n" for variant, _ in [*kinds, (VERBATIM, None)])
-    return f"""-- each kind is one of the kinds of `item`
+    return f"""-- each kind is one of those of an item
 pub is_kind : (kind : ItemKind) → IsKind rules.item (rule_of kind)
 {rows}"""
 
@@ -149,7 +149,7 @@ def kept(kinds, table):
         raise Fault(f"the kinds of items in tools/kinds.txt aren't those of the union `item`: {', '.join(sorted(set(rules) ^ set(by_rule)))}")
     steps = "".join(f"(no rules.{rule} {places[by_rule[rule]]}, " for rule in rules)
     common, others, rare = map(spec_list, shares(kinds))
-    return f"""-- an item that no kind parses is verbatim
+    return f"""-- an item that none of the kinds reads is read as a verbatim item
 pub kept : (ts : Stream) (s : Syntax) (r : Stream) → parse_rule rules.item ts ≡ Some (s, r) → NoneOf ({common}) ts →
     NoneOf ({others}) ts → NoneOf ({rare}) ts → (t : Syntax) × (parse_rule rules.{KEPT} ts ≡ Some (t, r))
 kept ts s r e a b c =
@@ -172,7 +172,7 @@ def word_imports(table):
 
 def spec_words(kinds):
     rows = "".join(f'kind_word {row.listed} = codes "{row.listed_word}"\n' for _, row in kinds)
-    return f"""-- the word of a kind of items, by its rule; a verbatim item is `verbatim`
+    return f"""-- how a kind of items is written, by the rule that reads it; `verbatim` for an item that is stored verbatim
 abbrev pub kind_word : Rule → List ℕ
 {rows}kind_word _ = codes "verbatim"
 """
@@ -193,7 +193,7 @@ def item_syntax(kinds):
 
 def word_of(kinds):
     arms = "".join(f'        ItemKind::{variant} => "{row.listed_word}",\n' for variant, row in kinds)
-    return f"""/// The word of a kind of items.
+    return f"""/// How a kind of items is written.
 fn word_of(kind: ItemKind) -> &'static str
     ensures {{ result.now ≡ kind_word (rule_of kind) }}
 {{

@@ -26,7 +26,7 @@ class Type:
         self.is_enum = kind == "enum"
         self.name = name
         self.file = file
-        self.is_copy = "Copy" in attributes
+        self.is_copy = bool(re.search(r"^#\[derive\(.*\bCopy\b", attributes, re.M))
         family = re.search(r"#\[cycle\((\w+)\)\]", attributes)
         self.family = family[1] if family else None
         self.fields = [] if self.is_enum else FIELD.findall(body)
@@ -144,8 +144,13 @@ class Source:
 
     def is_plain_copy(self, owner, kind):
         """Whether a field is copied by itself."""
-        inner = re.fullmatch(r"Option<(\w+)>", kind)
-        return kind in PLAIN or self.is_token(owner, kind) or self.holds_place(kind) or bool(inner and self.is_token(owner, inner[1]))
+        inner = re.fullmatch(r"Option<([\w:]+)>", kind)
+        kind = inner[1] if inner else kind
+        return kind in PLAIN or self.is_token(owner, kind) or kind.startswith("token::") or self.holds_place(kind) or self.is_copied(kind)
+
+    def is_copied(self, kind):
+        """Whether it is a type of these crates that is `Copy`."""
+        return kind in self.types and self.types[kind].is_copy
 
     def files(self):
         """The types that have syntax, by their files."""

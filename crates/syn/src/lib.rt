@@ -168,7 +168,7 @@ pub mod stmt {
     pub use syn_expr::stmt::{Block, Local, LocalInit, LocalModifiers, Stmt, StmtMacro};
 }
 
-/// Parts of trees that are kept as their tokens until they are opened.
+/// Parts of trees that are kept verbatim until they are opened.
 pub mod deferred {
     pub use syn_recognize::deferred::{
         BlockOf, Deferred, DeferredBlock, DeferredConstant, DeferredExpr, DeferredItem,

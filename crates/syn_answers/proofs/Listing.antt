@@ -37,7 +37,7 @@ stepped a_bang (N.Literal l) r = refl
 stepped m (N.Punct p) r = refl
 stepped m (N.Group g) r = refl
 
--- behind the marker; and behind another tree
+-- after the marker; and after another tree
 pub past_marker : (m : Marker) (t : TokenTreeRef) (ts r : Stream) → ts ≡ before_next t r → marks m t ≡ true → past m ts ≡ r
 past_marker m t ts r e q = ap (past m) e ∙ stepped m t r ∙ ap (λ b. pick b r (past m r)) q
 
@@ -64,7 +64,7 @@ past_all m ts i n h e = ap (past m) (none_left ts (omega (arith, h, e)))
 
 -- ---- kinds
 -- Written by tools/kinds.py down to the next such comment; edits are lost.
--- each kind is one of the kinds of `item`
+-- each kind is one of those of an item
 pub is_kind : (kind : ItemKind) → IsKind rules.item (rule_of kind)
 is_kind K.Const = refl
 is_kind K.Enum = refl
@@ -97,12 +97,12 @@ one_of_all P (l ∷ ks) a k i = go (same_rule k l) refl (one_of_all P ks a.1 k) 
     go true e others i = subst P (sym (same_rule_eq k l e)) a.0
     go false e others i = others i
 
--- what this rule reads is kept as tokens
+-- an item that this rule reads is also read as a verbatim item
 abbrev Kept : Stream → Stream → Rule → Type 0
 Kept ts r k = (t : Syntax) → parse_rule k ts ≡ Some (Node t, r) → (u : Syntax) × (parse_rule rules.kept_item ts ≡ Some (u, r))
 
 -- Written by tools/kinds.py down to the next such comment; edits are lost.
--- an item that no kind parses is verbatim
+-- an item that none of the kinds reads is read as a verbatim item
 pub kept : (ts : Stream) (s : Syntax) (r : Stream) → parse_rule rules.item ts ≡ Some (s, r) → NoneOf (K.Fn ∷ K.Struct ∷ K.Impl ∷ K.Enum ∷ K.Use ∷ []) ts →
     NoneOf (K.Const ∷ K.Mod ∷ K.Trait ∷ K.Ty ∷ K.Macro ∷ []) ts → NoneOf (K.Static ∷ K.ExternCrate ∷ K.ForeignMod ∷ K.Union ∷ K.TraitAlias ∷ []) ts → (t : Syntax) × (parse_rule rules.kept_item ts ≡ Some (t, r))
 kept ts s r e a b c =

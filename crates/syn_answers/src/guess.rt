@@ -1,9 +1,9 @@
-//! What an item looks like. A guess decides nothing: it is what is tried first.
+//! What an item looks like. A guess decides nothing: it only selects the kind that is tried first.
 use crate::list::ItemKind;
 use syn_tokens::delimiter::Delimiter;
 use syn_tokens::stream::cursor::{Cursor, TokenTreeRef};
 
-/// The kind that the first words tell which stand in no group. It looks no further than to the end of the item.
+/// The kind that the first words outside of groups suggest. Looks no further than the end of the item.
 pub(crate) fn guess(trees: &Cursor<'_>) -> ItemKind {
     let mut rest = trees.fork();
     for _tree in 0..trees.len() {
@@ -18,7 +18,7 @@ pub(crate) fn guess(trees: &Cursor<'_>) -> ItemKind {
     ItemKind::Verbatim
 }
 
-/// What a tree tells of the item in which it stands, with what stands behind it.
+/// The kind that a tree and the trees after it suggest.
 fn told_by(tree: &TokenTreeRef<'_>, behind: &Cursor<'_>) -> Option<ItemKind> {
     match tree {
         TokenTreeRef::Ident(ident) => told_by_word(ident.text(), behind),
@@ -37,7 +37,7 @@ fn told_by(tree: &TokenTreeRef<'_>, behind: &Cursor<'_>) -> Option<ItemKind> {
 
 // Written by tools/kinds.py down to the next such comment; edits are lost.
 
-/// The kind that this keyword indicates, if any.
+/// The kind that a word suggests.
 fn told_by_word(word: &str, behind: &Cursor<'_>) -> Option<ItemKind> {
     match word {
         "crate" => Some(ItemKind::ExternCrate),
@@ -59,7 +59,7 @@ fn told_by_word(word: &str, behind: &Cursor<'_>) -> Option<ItemKind> {
 
 // End of the part that tools/kinds.py writes.
 
-/// This kind, where a name stands next, or `_`.
+/// This kind, if a name or `_` is next.
 fn told_before_name(kind: ItemKind, behind: &Cursor<'_>) -> Option<ItemKind> {
     let (ident, _) = behind.split_ident()?;
     match ident.text() {

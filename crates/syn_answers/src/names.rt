@@ -1,4 +1,4 @@
-//! Where the names of items stand.
+//! The names of items, found ahead of reading.
 ghost use Rattle.std.specs.Prelude.{◌≡◌};
 ghost use Rattle.syn_grammar.specs.Listed as grammar;
 ghost use Rattle.syn_grammar.specs.Listed.{past};
@@ -12,7 +12,7 @@ use syn_parse::read::refusal::Parsed;
 use syn_tokens::ident::Ident;
 use syn_tokens::stream::cursor::{Cursor, TokenTreeRef};
 
-/// What stands before a name: a word, or the `!` of a macro.
+/// The token before a name: a word, or the `!` of a macro.
 #[derive(Clone, Copy, Debug)]
 pub(crate) enum Marker {
     Word(&'static str),
@@ -53,7 +53,7 @@ fn is_bang(tree: &TokenTreeRef<'_>) -> bool
     }
 }
 
-/// What stands behind the first marker that stands in no group; nothing where there is none.
+/// The trees after the first marker outside of groups; none where there is none.
 #[tactic(auto, using(crate::proofs::Listing::past_marker, crate::proofs::Listing::past_other, crate::proofs::Listing::one_shorter, crate::proofs::Listing::past_all))]
 fn behind<'a>(trees: &Cursor<'a>, marker: Marker) -> Cursor<'a>
     ensures { result ≡ past (marker_of marker) trees.now }
@@ -71,7 +71,7 @@ fn behind<'a>(trees: &Cursor<'a>, marker: Marker) -> Cursor<'a>
     Cursor::none()
 }
 
-/// What stands behind `mut`, where that stands next.
+/// The trees after `mut`, if it is next.
 pub(crate) fn behind_mut<'a>(trees: &Cursor<'a>) -> Cursor<'a>
     ensures { result ≡ grammar.past_mut trees.now }
 {
@@ -84,7 +84,7 @@ pub(crate) fn behind_mut<'a>(trees: &Cursor<'a>) -> Cursor<'a>
     trees.fork()
 }
 
-/// The identifier that stands next.
+/// The identifier that is next.
 fn name(trees: &Cursor<'_>) -> Parsed<Option<Ident>>
     ensures { OrMemory IsSyntax result (λ name. name_of name ≡ grammar.name_next trees.now) }
 {
@@ -94,7 +94,7 @@ fn name(trees: &Cursor<'_>) -> Parsed<Option<Ident>>
     }
 }
 
-/// The identifier that stands behind the first of these words that stands in no group.
+/// The identifier after the first of these words outside of groups.
 fn name_behind(trees: &Cursor<'_>, word: &'static str) -> Parsed<Option<Ident>>
     ensures { OrMemory IsSyntax result (λ name. name_of name ≡ grammar.name_past word.now trees.now) }
 {

@@ -7,7 +7,7 @@ use Rattle.syn_grammar.specs.Rules.{Rule, structure, enumeration, union_item, fu
 use Rattle.syn_grammar.specs.Listed.{Name, Listed, FileLists}
 
 -- Written by tools/kinds.py down to the next such comment; edits are lost.
--- the word of a kind of items, by its rule; a verbatim item is `verbatim`
+-- how a kind of items is written, by the rule that reads it; `verbatim` for an item that is stored verbatim
 abbrev pub kind_word : Rule → List ℕ
 kind_word const_item = codes "const"
 kind_word enumeration = codes "enum"

@@ -14,7 +14,7 @@ use syn_tokens::stream::TokenStream;
 
 // Written by tools/kinds.py down to the next such comment; edits are lost.
 
-/// The word of a kind of items.
+/// How a kind of items is written.
 fn word_of(kind: ItemKind) -> &'static str
     ensures { result.now ≡ kind_word (rule_of kind) }
 {

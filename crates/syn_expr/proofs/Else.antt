@@ -1,4 +1,4 @@
--- What stands behind `else`.
+-- What follows `else`.
 use Rattle.std.proofs.Common.{◌≡◌, ◌≤◌, ◌+◌, ℕ, Bool, true, false, refl, sym, ap, ◌∙◌, true≢false, arith}
 use Rattle.std.specs.Prelude.{Option, Some, None}
 use Rattle.syn_grammar.specs.Shape.{Block, If, expr, choice}
@@ -56,7 +56,7 @@ diverging_smaller (Left s) = omega arith
 diverging_smaller (Right s) = omega arith
 diverging_smaller s = omega arith
 
--- the expression itself, among what stands behind it
+-- the expression itself, among what follows it
 abbrev Branch : Type 0
 Branch = Else × Box Expr-m.the_data Global
 
@@ -101,7 +101,7 @@ plain_block (Expr-m.Unsafe e) = refl
 plain_block (Expr-m.Verbatim e) = refl
 plain_block (Expr-m.While e) = refl
 
--- what stands behind `else`, told by what it looks like there
+-- what follows `else`, by its form there
 out_of_block : Syntax → Syntax
 out_of_block (Group d o c (Shaped choice s)) = s
 out_of_block s = s
@@ -216,7 +216,7 @@ same_behind e f =
     told behind_else out_of_else _ _ (syntax_of_Expr e) (syntax_of_Expr f) (plain_behind e) (plain_behind f)
     (ap out_of_else (plain_behind e) ∙ behind_told e) (ap out_of_else (plain_behind f) ∙ behind_told f)
 
--- two branches are the same where the expressions behind `else` are, however these are printed
+-- two branches are the same where the expressions after `else` are, however these are printed
 abbrev else_and : Branch → Syntax
 else_and p = Both (else_syntax p.0) (syntax_of_Expr p.1.value)
 

@@ -85,7 +85,7 @@ pub unlike_path : (p s : Syntax) → is_path s ≡ false → same_syntax (Shaped
 unlike_path p (Shaped (expr Path) s) h = absurd (true≢false h)
 unlike_path p s h = refl
 
--- a name alone stands for its variable
+-- a name alone represents its variable
 pub named_hidden : (n : Syntax) → hidden n (named_path n) ≡ Nothing
 named_hidden n = ap (λ b. pick b Nothing (Node (named_path n))) (same_syntax_refl (named_path n))
 
@@ -95,7 +95,7 @@ alike true false to from = sym (to refl)
 alike false true to from = from refl
 alike false false to from = refl
 
--- spans tell nothing
+-- spans don't count
 plain_same : (s t : Syntax) → same_syntax (plain_syntax s) (plain_syntax t) ≡ same_syntax s t
 plain_same s t =
     alike (same_syntax (plain_syntax s) (plain_syntax t)) (same_syntax s t)

@@ -1,6 +1,6 @@
--- WHAT SYNTAX EXPRESSIONS STAND FOR, one level at a time, every field.
--- An expression is its variant, its attributes and its fields (`Shaped (expr variant) (Both attributes fields)`). An operand behind a sign, an
--- operator or a word stands in its rule's node; one before it doesn't.
+-- THE SYNTAX OF EXPRESSIONS, one level at a time, every field.
+-- An expression is its variant, its attributes and its fields (`Shaped (expr variant) (Both attributes fields)`). An operand after a sign, an
+-- operator or a word is in its rule's node; one before it isn't.
 use Rattle.std.specs.Prelude.{Bool, true, false, List, [], Option, Some, None}
 use Rattle.syn_grammar.specs.Tokens.{Paren, Brace, Bracket, call_site}
 use Rattle.syn_grammar.specs.Tokens as grammar
@@ -104,7 +104,7 @@ view_ExprReference a = Both (attributes_syntax a.attrs.items) (Both (and_syntax 
 abbrev pub view_ExprUnary : ExprUnary-in.Inside → Syntax
 view_ExprUnary a = Both (attributes_syntax a.attrs.items) (Both (syntax_of_UnOp a.op) (whole a.expr.value))
 
--- WHAT GOES ON BEHIND AN EXPRESSION
+-- AFTER AN EXPRESSION: postfixes and operators
 
 abbrev pub view_ExprCall : ExprCall-in.Inside → Syntax
 view_ExprCall a = Both (attributes_syntax a.attrs.items) (Both (syntax_of_Expr a.func.value) (group_syntax Paren a.paren_token (list_of whole comma_syntax a.args.pairs a.args.last)))

@@ -1,4 +1,4 @@
--- WHAT SYNTAX BLOCKS AND STATEMENTS STAND FOR, one level at a time, every field.
+-- THE SYNTAX OF BLOCKS AND STATEMENTS, one level at a time, every field.
 use Rattle.std.specs.Prelude.{Bool, true, false, List, [], ◌∷◌}
 use Rattle.syn_grammar.specs.Tokens.{Brace}
 use Rattle.syn_grammar.specs.Shape.{Macro, expr, a_local, an_item, listed, said, said_macro, untagged}

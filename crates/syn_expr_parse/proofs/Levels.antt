@@ -1,4 +1,4 @@
--- Casts, comparisons, assignments, whole expressions, and what goes on behind an operand.
+-- Casts, comparisons, assignments, whole expressions, and what continues after an operand.
 use Rattle.std.proofs.Common.{◌≡◌, Bool, true, false, List, [], ◌∷◌, Some, None, refl, sym, ap, ◌∙◌}
 use Rattle.syn_grammar.specs.Words.{w_as, equals}
 use Rattle.syn_grammar.specs.Tokens.{Stream, pick, no, at_word}
@@ -84,7 +84,7 @@ pub whole_are : (p : Spot) (ts : Stream) → parse_rule (within p whole_expressi
 whole_are Spot-m.Anywhere ts = whole_expression_is ts ∙ whole_by disjunction assigned ts
 whole_are Spot-m.Head ts = whole_expression_head_is ts ∙ whole_by disjunction_head assigned_head ts
 
--- WHAT GOES ON BEHIND AN OPERAND
+-- AFTER AN OPERAND: postfixes and operators
 
 -- a shape has nothing around it
 shaped_core : (s : Syntax) → IsShaped s → core s ≡ s

@@ -16,7 +16,7 @@ use Rattle.syn_recognize.proofs.Trailing.{trailing_brace_read}
 abbrev otherwise_form : Grammar
 otherwise_form = shaped untagged (when at_word w_else then diverging_form else empty)
 
--- what stands behind a value that doesn't end with braces
+-- what follows a value that doesn't end with braces
 behind_value : (c : Bool) (ts : Stream) → wrap untag (branch c (parse_form diverging_form ts) (Some (Nothing, ts))) ≡ pick (and c true) (wrap (Shaped untagged) (parse_form diverging_form ts)) (Some (Shaped untagged Nothing, ts))
 behind_value true ts = go (parse_form diverging_form ts)
   where

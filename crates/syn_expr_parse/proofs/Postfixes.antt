@@ -1,4 +1,4 @@
--- What goes on an expression: what one step of the loop reads.
+-- What continues an expression: what one step of the loop reads.
 use Rattle.std.proofs.Common.{◌≡◌, Bool, true, false, List, [], ◌∷◌, Some, None, Result, Ok, Err, refl, sym, ap, ap₂, ◌∙◌, true≢false}
 use Rattle.syn_grammar.specs.Words.{Text, colons, dot}
 use Rattle.syn_grammar.specs.Tokens.{Span, Stream, end, leaf, punct, group, ident, literal, and, pick, Str, ByteStr, CStr, Byte, Char, Int, Float, at_literal}
@@ -45,7 +45,7 @@ module _ (a : Syntax) (more : Rule) where
 pub postfixes_step : (a : Syntax) (ts : Stream) → wrap (onto a) (parse_rule postfixes ts) ≡ follow postfix_links a (parse_rule postfixes) ts
 postfixes_step a ts = ap (wrap (onto a)) (postfixes_is ts) ∙ through_node a _ ∙ links_step a postfixes postfix_links ts
 
--- GENERIC ARGUMENTS behind `::`
+-- GENERIC ARGUMENTS after `::`
 
 abbrev value_in : Out → Syntax
 value_in (Some p) = p.0
@@ -55,7 +55,7 @@ abbrev rest_in : Out → Stream
 rest_in (Some p) = p.1
 rest_in None = end
 
--- where `::` stands next
+-- if `::` is next
 abbrev behind_colons : Stream → Out
 behind_colons ts = and_then (wrap Left (take_mark colons ts)) (parse_rule generic_arguments)
 
@@ -115,7 +115,7 @@ number (leaf (literal Byte x) sp m) h = never (is_index x) (Token (literal Byte 
 number (leaf (literal Char x) sp m) h = never (is_index x) (Token (literal Char x) sp) m
 number (leaf (literal Float x) sp m) h = never (is_index x) (Token (literal Float x) sp) m
 
--- where a literal stands, a member is the number of a field, or nothing is read
+-- if a literal is next, a member is the number of a field, or nothing is read
 pub number_member : (ts : Stream) → sees at_any_literal ts ≡ true → parse_rule member ts ≡ wrap Node (wrap Left (take_token index ts))
 number_member ts h = member_is ts ∙ ap (wrap Node) (number ts h)
 
@@ -139,7 +139,7 @@ no_integer (leaf (literal Float x) sp m) h = refl
 pub named_member : (ts : Stream) → sees at_any_literal ts ≡ false → parse_rule member ts ≡ wrap Node (wrap Right (parse_form named_form ts))
 named_member ts h = member_is ts ∙ rw (no_integer ts h) refl
 
--- behind `.` and where no literal stands next
+-- after `.` and where no literal is next
 pub named_step : (b d : Syntax) (ts m : Stream) → take_mark dot ts ≡ Some (d, m) → sees at_any_literal m ≡ false →
     linked dotted b (and_then (take_mark dot ts) (parse_rule member)) ≡ behind_dot b d (wrap Right (parse_form named_form m))
 named_step b d ts m e h = ap (λ o. linked dotted b (and_then o (parse_rule member))) e ∙ ap (λ o. linked dotted b (wrap (Both d) o)) (named_member m h)

@@ -123,7 +123,7 @@ literal_shows : (a p : Syntax) → own_shown a ≡ true → own_shown (literal_o
 literal_shows (Shaped (expr Path) (Both a s)) p e = e
 literal_shows s p e = refl
 
--- what goes on an expression hides no attributes
+-- what continues an expression hides no attributes
 pub onto_shows : (a l : Syntax) → own_shown a ≡ true → own_shown (onto a l) ≡ true
 onto_shows a Nothing e = e
 onto_shows a (Node l) e = onto_shows a l e
@@ -136,7 +136,7 @@ onto_shows a (Shaped dotted p) e = refl
 onto_shows a (Shaped fields p) e = literal_shows a p e
 onto_shows a l e = refl
 
--- a path, with braces behind it or without
+-- a path, followed by braces or without
 shows_path : (o : Out) (q : Parser) → CoreShown (wrap (shape chain) (and_then (wrap (new Path) o) q))
 shows_path None q = record { is = refl }
 shows_path (Some p) q = go (q p.1)

@@ -1,5 +1,5 @@
 -- WHAT A CHAIN OF OPERATORS MAKES OF THE EXPRESSION BEFORE IT, one operator at a time; and what a level reads by its chain.
--- (The proofs stand here, since each level cites them.)
+-- (The proofs are here, since each level cites them.)
 use Rattle.std.proofs.Common.{◌≡◌, Bool, true, false, List, [], ◌∷◌, Some, None, refl, ap, ◌∙◌}
 use Rattle.syn_grammar.specs.Tokens.{Stream, pick}
 use Rattle.syn_grammar.specs.Shape.{Variant, Binary, operator, chain}
@@ -31,7 +31,7 @@ onto_both a x None = refl
 onto_both a x (Some p) = refl
 
 module _ (v : Variant) (a : Syntax) where
-  -- an operator and its right operand, once or with more behind them
+  -- an operator and its right operand, once or followed by more
   pub one : (x : Syntax) (p : Out) → wrap (onto a) (wrap (Shaped (operator v)) (wrap (Both x) p)) ≡ joined v a x p
   one x None = refl
   one x (Some p) = refl

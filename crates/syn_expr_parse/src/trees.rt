@@ -38,7 +38,7 @@ use syn_tokens::token::{
     In, Let, Loop, Mut, Paren, Question, Return, Semi, Unsafe, While,
 };
 
-/// The trees of expressions, blocks and statements. Each function that may want memory is refused only where that is.
+/// The trees of expressions, blocks and statements. A function that takes memory is refused only if memory is.
 pub trait Trees {
     ghost use Rattle.std.specs.Prelude.{◌≡◌};
     ghost use Rattle.syn_grammar.specs.Grammar.{Syntax};
@@ -62,22 +62,22 @@ pub trait Trees {
     /// Fields of struct literals.
     type FieldValue: Drop;
 
-    /// What an expression stands for, without its rule's node.
+    /// What an expression represents, without its rule's node.
     ghost expr_syntax: { Self.Expr → Syntax };
 
     ghost block_syntax: { Self.Block → Syntax };
 
-    /// What a statement stands for, without its rule's node.
+    /// What a statement represents, without its rule's node.
     ghost stmt_syntax: { Self.Stmt → Syntax };
 
     ghost init_syntax: { Self.LocalInit → Syntax };
 
-    /// What the expression stands for of which a statement is made.
+    /// What the expression represents of which a statement is made.
     ghost held_syntax: { Self.Held → Syntax };
 
     ghost field_syntax: { Self.FieldValue → Syntax };
 
-    /// What an expression stands for is a value of its own.
+    /// What an expression represents is a value of its own.
     ghost core_is: { (e : Self.Expr) → core (Self.expr_syntax e) ≡ Self.expr_syntax e };
 
     /// Expressions in brackets.
@@ -236,7 +236,7 @@ pub trait Trees {
     ) -> Parsed<Box<Self::Expr>>
         ensures { OrMemory IsSyntax result (λ x. Self.expr_syntax x.value ≡ new Parens (group_syntax grammar.Paren paren_token (Node (Right (Both (Node (Self.expr_syntax expr.value)) (Right Nothing)))))) };
 
-    /// A path, perhaps behind a qualified type.
+    /// A path, perhaps after a qualified type.
     fn expr_path(qself: Option<QSelf>, path: Path, alloc: Global) -> Parsed<Box<Self::Expr>>
         ensures { OrMemory IsSyntax result (λ x. Self.expr_syntax x.value ≡ new Paths (path_of qself path)) };
 
@@ -292,7 +292,7 @@ pub trait Trees {
     fn lone_field(attrs: Vec<Attribute>, name: Ident, alloc: Global) -> Parsed<Self::FieldValue>
         ensures { OrMemory IsSyntax result (λ f. Self.field_syntax f ≡ lone_field (attributes_syntax attrs.items) (syntax_of_ident name)) };
 
-    /// `?` behind an expression.
+    /// `?` after an expression.
     fn expr_try(
         expr: Box<Self::Expr>,
         question_token: Question,

@@ -29,7 +29,7 @@ module _ (k : Rule) (ts : Stream) (p : Place) (a v : Syntax) (m : Stream) where
   abbrev run : Out
   run = run_plan (const_turn p a v) k ts m
 
-  -- behind the word that was read
+  -- after the word that was read
   behind : (x : Syntax) (r : Stream) → take_token (word w_const) m ≡ Some (x, r) → run ≡ run_plan (behind_const p a v x) k ts r
   behind x r e = ap (follow (λ c n. run_plan (behind_const p a v c) k ts n)) e
 
@@ -103,7 +103,7 @@ module _ (k : Rule) (ts : Stream) (p : Place) (a v : Syntax) (m : Stream) where
                     happened k ts (went false ∷ went false ∷ went false ∷ went false ∷ went false ∷ []) (behind_const p a v x) r
                     (ap (sees (at_word w_unsafe)) s ∙ no_unsafe, (ap (sees (at_word w_trait)) s ∙ no_trait, (ap (sees (at_word w_auto and_also ahead Begins_item)) s ∙ auto_seen (past m) ∙ no_auto, (ap (sees (at_word w_impl)) s ∙ no_impl, (ap (sees (at_word w_async or_else at_extern or_else at_word w_fn)) s ∙ seen (past m) ∙ h, tt)))))
 
--- AN IMPL behind `const`, by where it stands
+-- AN IMPL after `const`, by its place
 
 module _ (k : Rule) (ts : Stream) (p : Place) (a c u : Syntax) (m : Stream) where
   abbrev const_run : Place → Out
@@ -121,7 +121,7 @@ module _ (k : Rule) (ts : Stream) (p : Place) (a c u : Syntax) (m : Stream) wher
   unfolding const_impl_plan
   plain_follows refusal view y new e f = subst (λ (o : Out). Follows refusal view k ts o y new) (sym (ap const_run e)) f
 
--- BEHIND `const unsafe`
+-- AFTER `const unsafe`
 
 module _ (k : Rule) (ts : Stream) (p : Place) (a v : Syntax) (m : Stream) (next : and (sees (at_word w_const) m) (sees (at_word w_unsafe) (past m)) ≡ true) where
   abbrev both_run : Out

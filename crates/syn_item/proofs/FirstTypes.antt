@@ -1,4 +1,4 @@
--- What stands behind the generics of an impl, as it is read, and what stands behind that.
+-- What follows the generics of an impl, as it is read, and what follows that.
 use Rattle.std.proofs.Common.{◌≡◌, Bool, true, false, [], ◌∷◌, Some, None, refl, sym, ap, ◌∙◌}
 use Rattle.std.specs.Prelude.{Option, Result, Ok, Err}
 use Rattle.syn_grammar.specs.Words.{exclamation, w_for}
@@ -47,7 +47,7 @@ module _ (q : Stream) where
         behind_for ∙ ap (λ o. wrap Node (wrap (Both s) (wrap (Case self_type) o))) e
         ∙ ap (λ (z : Syntax). Some (Node (Both s (Case self_type z)), q3)) (sym (left_as_read (rule type) q2 q3 t refl e))
 
--- `!`, AND WHAT STANDS BEHIND IT
+-- `!`, AND WHAT FOLLOWS IT
 
 module _ (m : Stream) where
   abbrev by_bang : (Stream → Out) → Out → Out
@@ -141,7 +141,7 @@ module _ (m : Stream) where
         go None = refl
         go (Some p) = ap (λ (z : Syntax). Some (Right (Left (Both z (Both (Left (for_type s y)) p.0))), p.1)) (sym (left_as_read (rule type_path) m q t refl path))
 
--- BY WHAT STANDS NEXT
+-- BY THE NEXT TOKEN
 
 pub read_alike : {X E : Type 0} (refusal : E → Type 0) (v : X → Syntax → Syntax) (out like : (Stream → Out) → Out) (x : Result X E) (new : Stream) → ((f : Stream → Out) → out f ≡ like f) →
     ReadsBefore refusal v like x new → ReadsBefore refusal v out x new
@@ -161,7 +161,7 @@ module _ (m : Stream) where
   pub at_type_first : sees at_exclamation m ≡ false → sees at_module_path m ≡ false → (f : Stream → Out) → types_then f m ≡ wrap Right (wrap Right (and_then (parse_rule type m) f))
   at_type_first h i f = ap (λ b. by_looks f b (sees at_module_path m)) h ∙ ap (by_looks f false) i
 
--- THE WHOLE behind `impl`
+-- THE WHOLE after `impl`
 
 module _ (mk : Syntax → Syntax) (m : Stream) where
   abbrev whole : Out

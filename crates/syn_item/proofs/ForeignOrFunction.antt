@@ -1,4 +1,4 @@
--- Behind `extern`, or `unsafe`, by the plan of items: a foreign module, or a function.
+-- After `extern`, or `unsafe`, by the plan of items: a foreign module, or a function.
 use Rattle.std.proofs.Common.{◌≡◌, Bool, true, false, [], ◌∷◌, Some, None, refl, sym, ap, subst, ◌∙◌, true≢false}
 use Rattle.std.specs.Prelude.{Option, Result}
 use Rattle.syn_grammar.specs.Words.{w_async, w_const, w_extern, w_unsafe}
@@ -20,7 +20,7 @@ use Rattle.syn_grammar.proofs.Sets.{and_left, and_right}
 use Rattle.syn_item.specs.ItemTurns.{braces_next, function_turn, module_next, module_or_function_turn, no_visibility}
 use Rattle.syn_item.specs.Planned.{Follows}
 
--- the literal behind `extern`, and what stands in the braces of a foreign module
+-- the literal after `extern`, and what is in the braces of a foreign module
 abbrev text_form : Grammar
 text_form = when at_literal Str then plainly (literal_of (Str ∷ [])) else empty
 
@@ -28,7 +28,7 @@ abbrev members_form : Grammar
 members_form = inside Brace (rule inner_attributes & rule foreign_items)
 
 module _ (k : Rule) (ts : Stream) (a v : Syntax) where
-  -- AN ABI THAT WAS READ, behind these modifiers: `unsafe` as a foreign module has it, and as a signature does
+  -- AN ABI THAT WAS READ, after these modifiers: `unsafe` as a foreign module has it, and as a signature does
 
   abbrev of_module : Out → Out
   of_module o = wrap (λ t. Node (Case foreign_module t)) (wrap (Both a) (wrap Node o))
@@ -54,7 +54,7 @@ module _ (k : Rule) (ts : Stream) (a v : Syntax) where
   ends_module m e None = refl
   ends_module m e (Some p) = refl
 
-  -- by what stands behind an ABI of this word, where no visibility was read
+  -- by what follows an ABI of this word, where no visibility was read
   abbrev by_braces : Syntax → Syntax → Syntax → Syntax → Stream → Bool → Out
   by_braces m u w l r b = by_test b (as_module m (Node (Both w l)) r) (as_function u (Left (Node (Both w l))) r)
 
@@ -103,7 +103,7 @@ module _ (k : Rule) (ts : Stream) (a v : Syntax) where
         go None = refl
         go (Some q) = text_goes p q.0 (parse_form text_form q.1) q.1 refl
 
-    -- what a foreign module and a signature read behind it
+    -- what a foreign module and a signature read after it
     is_module : (p b : Bool) (o : Out) → p ≡ true → braces_next o ≡ true → behind_abi p o ≡ of_module (wrap (Both m) (and_then o (parse_form members_form)))
     is_module p b None h i = absurd (true≢false (sym i))
     is_module p b (Some q) h i = ap (λ c. by_test c (as_module m q.0 q.1) (as_function u (Left q.0) q.1)) (ap (λ c. and c (sees at_brace q.1)) h ∙ i)
@@ -112,7 +112,7 @@ module _ (k : Rule) (ts : Stream) (a v : Syntax) where
     is_function p None h = refl
     is_function p (Some q) h = ap (λ c. by_test c (as_module m q.0 q.1) (as_function u (Left q.0) q.1)) h
 
--- WHERE `extern` STANDS NEXT, or `unsafe`
+-- IF `extern` IS NEXT, or `unsafe`
 
 braces_behind : (f : Syntax → Syntax) (o : Out) → braces_next (wrap f o) ≡ braces_next o
 braces_behind f None = refl
@@ -183,7 +183,7 @@ module _ (k : Rule) (ts : Stream) (p : Place) (a v : Syntax) (m : Stream) where
         ∙ ap (only_unsafe m) no_unsafe
         ∙ ap (λ b. wrap Node (wrap (Both absent) (wrap (Both absent) (wrap (Both (Node absent)) (and_then (branch b (parse_rule abi m) (Some (Nothing, m))) (parse_rule signature_rest)))))) h))
 
-  -- behind `unsafe`
+  -- after `unsafe`
   module _ (h : sees (at_word w_unsafe) m ≡ true) where
     abbrev extern_or_not : Syntax → Stream → Bool → Out
     extern_or_not u r b =
@@ -229,7 +229,7 @@ module _ (k : Rule) (ts : Stream) (p : Place) (a v : Syntax) (m : Stream) where
         go None j = refl
         go (Some q) j = at_abi q.0 q.1 (sees at_extern q.1) refl (ap (and (no_visibility p)) (sym (braces_behind (Both (Left q.0)) (parse_rule abi q.1))) ∙ j)
 
-  -- BY WHICHEVER stands next
+  -- BY WHICHEVER is next
   module_goes : or (sees at_extern m) (sees (at_word w_unsafe) m) ≡ true → and (no_visibility p) (module_next m) ≡ true → run ≡ whole_module
   module_goes b i = go (sees at_extern m) refl b
     where

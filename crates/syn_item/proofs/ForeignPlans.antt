@@ -1,4 +1,4 @@
--- The plan of foreign members, behind their visibility.
+-- The plan of foreign members, after their visibility.
 use Rattle.std.proofs.Common.{◌≡◌, Bool, true, false, List, [], ◌∷◌, Some, None, refl, sym, ap, subst, ◌∙◌, true≢false}
 use Rattle.syn_grammar.specs.Words.{colon, equals, semicolon, w_mut, w_static, w_type, w_where}
 use Rattle.syn_grammar.specs.Tokens.{Stream, at_word}
@@ -20,7 +20,7 @@ use Rattle.syn_item.specs.Stages.{foreign_function_or_kept, foreign_static_or_ke
 use Rattle.syn_item.proofs.Followed.{is_kept, is_refused}
 use Rattle.syn_item.proofs.PlanRows.{on, row_is, row_read, row_refused}
 
--- A FUNCTION: with a body it is kept as tokens
+-- A FUNCTION: with a body it is kept verbatim
 module _ (k : Rule) (ts : Stream) (a v : Syntax) (m : Stream) where
   abbrev function_run : Out
   function_run = run_plan (foreign_function_or_kept a v) k ts m
@@ -48,7 +48,7 @@ module _ (k : Rule) (ts : Stream) (a v : Syntax) (m : Stream) where
     pub function_read : sees at_semicolon r ≡ true → (t : Syntax) (q : Stream) → wrap (foreign_function_of a v s) (parse_form (punctuation semicolon) r) ≡ Some (t, q) → function_run ≡ Some (Node (Case foreign_function t), q)
     function_read h t q e = function_goes h ∙ ap (wrap (λ t. Node (Case foreign_function t))) e
 
--- A STATIC: with a value it is kept as tokens
+-- A STATIC: with a value it is kept verbatim
 module _ (k : Rule) (ts : Stream) (a v : Syntax) (m : Stream) where
   abbrev static_run : Out
   static_run = run_plan (foreign_static_or_kept a v) k ts m
@@ -84,11 +84,11 @@ module _ (k : Rule) (ts : Stream) (a v : Syntax) (m : Stream) where
     pub static_end_refused : sees at_semicolon r ≡ true → parse_form (punctuation semicolon) r ≡ None → static_run ≡ None
     static_end_refused h e = behind_static ∙ is_refused k ts (went true ∷ []) (static_end x) r (h, tt) e
 
--- NO WHERE CLAUSE is read where none stands
+-- NO WHERE CLAUSE is read if there is none
 pub no_clause_read : (ts : Stream) → sees at_where ts ≡ false → parse_rule where_clause ts ≡ Some (no_clause, ts)
 no_clause_read ts h = where_clause_is ts ∙ ap (λ b. wrap Node (vanish false (branch b (parse_form (plainly (word w_where) & rule predicates) ts) (Some (Nothing, ts))))) h
 
--- A TYPE: with a colon or with `=` it is kept as tokens
+-- A TYPE: with a colon or with `=` it is kept verbatim
 module _ (k : Rule) (ts : Stream) (a v : Syntax) (m : Stream) where
   abbrev typed : Out
   typed = run_plan (foreign_type_or_kept a v) k ts m

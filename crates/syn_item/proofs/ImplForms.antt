@@ -1,4 +1,4 @@
--- Impls, printed: what stands behind the generics, and where empty generics are printed.
+-- Impls, printed: what follows the generics, and where empty generics are printed.
 use Rattle.std.proofs.Common.{◌≡◌, Bool, true, false, List, [], ◌∷◌, Option, Some, None, refl, sym, subst, ap, ap₂, ◌∙◌, true≢false}
 use Rattle.syn_grammar.specs.Tokens.{Brace, Delimiter, Span, ◌⧺◌, end, or, pick, at_generics, stands}
 use Rattle.syn_grammar.specs.Shape.{untagged}
@@ -38,7 +38,7 @@ none_within s = go (is_shaped s) (led_part (renew s)) refl
     go false true e = refl
     go false false e = e
 
--- BEHIND THE GENERICS
+-- AFTER THE GENERICS
 
 abbrev of_trait : Option (Syntax × For) → Syntax
 of_trait o = maybe (pair_of itself for_syntax) o
@@ -69,7 +69,7 @@ or_false : (b : Bool) → or b false ≡ b
 or_false true = refl
 or_false false = refl
 
--- where the type behind `for` would be read as generics
+-- where the type after `for` would be read as generics
 abbrev pub led_for : Option (Syntax × For) → Syntax → Bool
 led_for None ty = false
 led_for (Some p) ty = stands at_generics (print ty)
@@ -130,7 +130,7 @@ module _ (i : ItemImpl-in.Inside) (v : Syntax) (view : view_ItemImpl i ≡ v) wh
     pub led_behind_for : (p : Syntax × For) → i.trait_ ≡ Some p → sees at_generics (print ty) ≡ led (renew (behind_generics v))
     led_behind_for p h = sees_stands at_generics (print ty) ∙ sym (led_is ∙ ap₂ or not_first (ap (λ o. led_for o ty) h))
 
--- GENERICS AND WHAT STANDS BEHIND THEM
+-- GENERICS AND WHAT FOLLOWS THEM
 
 abbrev Param : Type 0
 Param = GenericParam-m.the_data

@@ -1,4 +1,4 @@
--- The plan of an impl's members, by what stands next behind the attributes.
+-- The plan of an impl's members, by the next token after the attributes.
 use Rattle.std.proofs.Common.{◌≡◌, Bool, true, false, List, [], ◌∷◌, Some, None, refl, sym, ap, subst, ◌∙◌, true≢false}
 use Rattle.std.specs.Prelude.{Option, Result}
 use Rattle.syn_grammar.specs.Words.{equals, semicolon, colon, exclamation, w_const, w_default, w_pub, w_type}
@@ -26,7 +26,7 @@ use Rattle.syn_item.proofs.Followed.{is_kept, is_refused}
 use Rattle.syn_item.proofs.MemberFunctions.{function_on, other_on}
 use Rattle.syn_item.proofs.PlanRows.{answers, of_macro, row_is, row_read, row_refused, wraps}
 
--- NO VISIBILITY is read where none stands
+-- NO VISIBILITY is read if there is none
 
 no_or : (p q : Bool) → or p q ≡ false → (p ≡ false) × (q ≡ false)
 no_or true q h = absurd (true≢false h)
@@ -42,7 +42,7 @@ none_written ts h =
     go false true x y h i = absurd (true≢false i)
     go false false x y h i = refl
 
--- A MEMBER THAT IS NO MACRO, behind its `default`
+-- A MEMBER THAT IS NO MACRO, after its `default`
 
 module _ (k : Rule) (ts : Stream) (a v d : Syntax) (m : Stream) (no_type : sees (at_word w_type) m ≡ false) where
   abbrev run : Out
@@ -109,7 +109,7 @@ pub type_follows : (k : Rule) (ts : Stream) (a v d : Syntax) (m : Stream) {X E :
 unfolding impl_member_plan
 type_follows k ts a v d m refusal view x new h f = subst (λ (o : Out). Follows refusal view k ts o x new) (sym (happened k ts (went true ∷ []) (impl_member_plan a v d) m (h, tt))) f
 
--- A MEMBER behind its attributes
+-- A MEMBER after its attributes
 
 module _ (k : Rule) (ts : Stream) (a : Syntax) (m : Stream) where
   abbrev whole : Out
@@ -209,7 +209,7 @@ module _ (k : Rule) (ts : Stream) (a : Syntax) (m : Stream) where
   pub macro_refused : impl_macro_next m ≡ true → sees at_no_macro_item m ≡ false → wrap (Both a) (parse_rule member_macro m) ≡ None → whole ≡ None
   macro_refused g h e = macro_goes g ∙ read_on h ∙ attributed (parse_rule member_macro m) ∙ ap (wrap (λ s. Node (Case impl_macro_as_item (among_members s)))) e
 
--- A CONSTANT that is kept as tokens: with generics, without a value, or with a where clause
+-- A CONSTANT that is kept verbatim: with generics, without a value, or with a where clause
 module _ (k : Rule) (ts : Stream) (a v d c n : Syntax) (m r q : Stream) (word_read : parse_form (plainly (word w_const)) m ≡ Some (c, r)) (name_read : parse_form name_or_underscore r ≡ Some (n, q)) where
   pub generics_kept : sees at_less q ≡ true → OnlyKept k ts (run_plan (impl_const_or_kept a v d) k ts m)
   unfolding impl_const_plan kept_end
@@ -229,7 +229,7 @@ module _ (k : Rule) (ts : Stream) (a v d c n : Syntax) (m r q : Stream) (word_re
         is_kept k ts (took c r ∷ took n q ∷ went false ∷ took s q1 ∷ took t q2 ∷ went true ∷ took x q3 ∷ took e q4 ∷ went false ∷ marked ∷ []) (impl_const_or_kept a v d) m
         (word_read, (name_read, (no_less, (colon_read, (type_read, (h, (i, (j, (l, tt))))))))) (λ w. λ z. refl)
 
--- A TYPE: without `=` behind its generics it is kept as tokens
+-- A TYPE: without `=` after its generics it is kept verbatim
 module _ (k : Rule) (ts : Stream) (a v d : Syntax) (m : Stream) where
   abbrev typed : Out
   typed = run_plan (impl_type_plan a v d) k ts m

@@ -23,14 +23,14 @@ use Rattle.syn_item.specs.Signatures.{comma_behind, parameters_of, receiver_argu
 use Rattle.syn_item.specs.declared.sig.FnArg.TheVariants as FnArg-m
 use Rattle.syn_item.proofs.Supplied.{supplied_is, with_name}
 
--- what is behind a comma, or nothing
+-- what is after a comma, or nothing
 abbrev others : Grammar
 others = when at_comma then punctuation comma & rule later_inputs else empty
 
 abbrev typed_form : Grammar
 typed_form = when at_ellipsis then rule variadic else rule type & others
 
--- an answer behind attributes, as parameters
+-- a result after attributes, as parameters
 abbrev made : Syntax → Out → Out
 made a o = wrap Node (wrap (shape parameters) (wrap Right (wrap (Both a) o)))
 
@@ -52,7 +52,7 @@ behind_receiver a r m = go (sees at_comma m)
     go false = refl
 
 module _ (a name : Syntax) where
-  -- as it stands behind its name
+  -- as it follows its name
   abbrev built : Out → Out
   built o = made a (wrap Right (wrap Node (wrap Right (wrap (with_name name) o))))
 
@@ -107,7 +107,7 @@ other_is a m = ap (λ o. made a (wrap Right o)) (input_rest_is m) ∙ go (sees a
     go true = last (parse_rule variadic m)
     go false = ap (λ o. made a (wrap Right (wrap Node (wrap Right o)))) (supplied_is typed_form m refl) ∙ by_name (named_pattern m)
 
--- A PARAMETER, AND THOSE BEHIND IT
+-- A PARAMETER, AND THOSE THAT FOLLOW IT
 
 first_step : (a : Syntax) (m : Stream) → made a (branch (sees at_receiver m) (and_then (parse_rule receiver_rest m) (parse_form others)) (parse_rule input_rest m)) ≡ after (next_parameter true a m) parameters_behind
 first_step a m = go (sees at_receiver m)
@@ -159,7 +159,7 @@ Pairs = List (FnArg-m.the_data × Comma)
 abbrev listed : Pairs → Option FnArg-m.the_data → Syntax
 listed = list_of syntax_of_FnArg comma_syntax
 
--- behind the parameters before it, the list of all of them
+-- after the parameters before it, the list of all of them
 all_before : (l : Pairs) (last : Option FnArg-m.the_data) (behind : Syntax) → before_parameters l (Node (Shaped parameters (Both (listed [] last) behind))) ≡ Node (Shaped parameters (Both (listed l last) behind))
 all_before [] last behind = refl
 all_before (x ∷ l) last behind = ap (λ s. Node (more_members parameters (syntax_of_FnArg x.0) (comma_syntax x.1) s)) (all_before l last behind)
@@ -168,17 +168,17 @@ front_grows : (l : Pairs) (x : FnArg-m.the_data) (c : Comma) (s : Syntax) → be
 front_grows [] x c s = refl
 front_grows (y ∷ l) x c s = ap (λ t. Node (more_members parameters (syntax_of_FnArg y.0) (comma_syntax y.1) t)) (front_grows l x c s)
 
--- the last comma isn't added where one stands
+-- the last comma isn't added if there is one
 comma_stands : (l : Pairs) → comma_behind (listed l None) ≡ listed l None
 comma_stands [] = refl
 comma_stands (x ∷ l) = ap (λ s. Node (Right (Both (syntax_of_FnArg x.0) (Left (Both (comma_syntax x.1) s))))) (comma_stands l)
 
--- behind a parameter, by whether a comma stands next
+-- after a parameter, by whether a comma is next
 abbrev behind : Syntax → Stream → Bool → Out
 behind x m b = pick b (after (take_mark comma m) (λ sign n. wrap (λ t. Node (more_members parameters x sign t)) (parse_rule later_inputs n))) (Some (Node (one_member parameters x Nothing (Right Nothing)), m))
 
 module _ (l : Pairs) (ts : Stream) (goes_on : sees ended ts ≡ false) where
-  -- one more, and a comma behind it
+  -- one more, and a comma after it
   pub one_more : (x : FnArg-m.the_data) (c : Comma) (m r : Stream) → read_parameter (is_first {B = FnArg-m.the_data} l None) ts ≡ Some (Left (syntax_of_FnArg x), m) → sees at_comma m ≡ true → take_mark comma m ≡ Some (comma_syntax c, r) →
       wrap (before_parameters l) (inputs_by (is_first {B = FnArg-m.the_data} l None) ts) ≡ wrap (before_parameters (l ++ (x, c) ∷ [])) (inputs_by false r)
   one_more x c m r e h k =
@@ -186,7 +186,7 @@ module _ (l : Pairs) (ts : Stream) (goes_on : sees ended ts ≡ false) where
       ∙ wrap_wrap (before_parameters l) (λ t. Node (more_members parameters (syntax_of_FnArg x) (comma_syntax c) t)) (parse_rule later_inputs r)
       ∙ wrap_same _ _ (λ s. sym (front_grows l x c s)) (parse_rule later_inputs r)
 
-  -- one, and no comma where it has to stand
+  -- one, and no comma where it is needed
   pub no_comma : (x : FnArg-m.the_data) (m : Stream) → read_parameter (is_first {B = FnArg-m.the_data} l None) ts ≡ Some (Left (syntax_of_FnArg x), m) → sees at_comma m ≡ true → take_mark comma m ≡ None →
       wrap (before_parameters l) (inputs_by (is_first {B = FnArg-m.the_data} l None) ts) ≡ None
   no_comma x m e h k =
@@ -214,7 +214,7 @@ module _ (l : Pairs) (ts : Stream) (goes_on : sees ended ts ≡ false) where
 pub all_read : (l : Pairs) (ts : Stream) → sees ended ts ≡ true → wrap (before_parameters l) (inputs_by (is_first {B = FnArg-m.the_data} l None) ts) ≡ Some (parameters_of (listed l None) (Right Nothing), ts)
 all_read l ts h = ap (wrap (before_parameters l)) (at_end (is_first {B = FnArg-m.the_data} l None) ts h) ∙ ap (λ s. Some (s, ts)) (all_before l None (Right Nothing))
 
--- behind a comma none is the first
+-- after a comma none is the first
 pub later : (l : Pairs) (x : FnArg-m.the_data) (c : Comma) → is_first {B = FnArg-m.the_data} (l ++ (x, c) ∷ []) None ≡ false
 later [] x c = refl
 later (y ∷ l) x c = refl

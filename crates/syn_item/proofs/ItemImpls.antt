@@ -133,7 +133,7 @@ module _ (k : Rule) (ts : Stream) (a d c u w : Syntax) (m : Stream) where
 
 -- THE FIRST TYPES
 
--- what stands past a `!` that was read
+-- the tokens after a `!` that was read
 past_bang : (m : Stream) (p : Syntax × Stream) → take_mark exclamation m ≡ Some p → past m ≡ p.1
 unfolding take_mark
 past_bang end p e = absurd (cc e)
@@ -325,7 +325,7 @@ module _ (k : Rule) (ts : Stream) (a d c u w g : Syntax) (m : Stream) where
       pub end_refused : sees at_for q ≡ false → ended ≡ None → first ≡ None
       end_refused n e = first_goes n ∙ at_last (parse_rule impl_body q) ∙ ap (wrap (λ t. Node (Case impl_definition t))) e
 
--- `impl` BEHIND NOTHING, or behind a visibility
+-- `impl` ALONE, or after a visibility
 
 module _ (k : Rule) (ts : Stream) (p : Place) (a : Syntax) (m : Stream) where
   pub visible_kept : no_visibility p ≡ false → OnlyKept k ts (run_plan (bare_impl_plan p a) k ts m)
@@ -362,7 +362,7 @@ module _ (k : Rule) (ts : Stream) (p : Place) (a : Syntax) (m : Stream) where
         unfolding bare_impl_plan
         generics_follow h = subst Goes (sym (ap bare (plain_is p is_plain) ∙ happened k ts (took w r ∷ went false ∷ went false ∷ []) (bare_impl_plan plain a) m (word_read, (no_restriction, (h, tt)))))
 
--- PARENTHESES that hold one word, behind `impl`
+-- PARENTHESES that hold one word, after `impl`
 
 module _ (k : Rule) (ts : Stream) (a d c u w : Syntax) (m : Stream) where
   abbrev lone : Out

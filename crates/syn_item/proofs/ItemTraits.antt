@@ -91,7 +91,7 @@ module _ (k : Rule) (ts : Stream) (a v : Syntax) (m : Stream) where
     pub named_refused : sees at_equals q ≡ false → trait_out ≡ None → run ≡ None
     named_refused h e = ending_goes h ∙ ap (wrap (λ t. Node (Case trait_definition t))) e
 
--- BEHIND `const` an alias is kept as tokens
+-- AFTER `const` an alias is kept verbatim
 
 module _ (k : Rule) (ts : Stream) (a v c : Syntax) (m : Stream) where
   abbrev behind_const_name : Syntax → Plan

@@ -22,7 +22,7 @@ use Rattle.syn_item.proofs.ItemKinds.{module_goes}
 use Rattle.syn_item.proofs.MemberFunctions.{past_word}
 use Rattle.syn_item.proofs.PlanRows.{row_is}
 
--- a word that stands next, as it is read where it may be absent
+-- a word that is next, as it is read where it may be absent
 abbrev pub ReadWord : Text → Syntax → Stream → Stream → Type 0
 ReadWord w u m r = (x : Syntax) × (u ≡ Left x) × (take_token (word w) m ≡ Some (x, r))
 
@@ -87,13 +87,13 @@ module _ (k : Rule) (ts : Stream) (p : Place) (a v : Syntax) (m : Stream) where
       Follows refusal view k ts (run_plan (module_or_function_turn p a v) k ts m) x new → Follows refusal view k ts extern_run x new
   no_crate_follows refusal view x new e h f = subst (λ (o : Out). Follows refusal view k ts o x new) (sym (no_crate_goes e h)) f
 
--- BEHIND `unsafe`
+-- AFTER `unsafe`
 
 module _ (k : Rule) (ts : Stream) (p : Place) (a v : Syntax) (m : Stream) (at_unsafe : sees (at_word w_unsafe) m ≡ true) where
   abbrev unsafe_run : Out
   unsafe_run = run_plan (unsafe_turn p a v) k ts m
 
-  -- whether a module, or a trait, stands next
+  -- whether a module, or a trait, is next
   abbrev kinds : Syntax → Stream → Bool → Bool → Out
   kinds u r b c = by_test b (run_plan (module_plan a v (Left u)) k ts r) (by_test c (run_plan (trait_plan a v absent (Left u)) k ts r) (run_plan (unsafe_plan p a v u) k ts r))
 

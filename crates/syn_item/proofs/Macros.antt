@@ -18,7 +18,7 @@ use Rattle.syn_tokens.specs.Kinds.{Semi, semi_syntax}
 use Rattle.syn_tokens.specs.Leaves.{maybe}
 use Rattle.syn_item.specs.Macros.{among_items, among_members, ended_behind, ended_group, ended_macro}
 
--- a group and the `;` behind it
+-- a group and the `;` after it
 pub print_ended_group : (o : Option Semi) (s : Syntax) → print (ended_group (maybe semi_syntax o) s) ≡ print s ⧺ print (maybe semi_syntax o)
 print_ended_group o (Left s) = print_ended_group o s
 print_ended_group o (Right s) = print_ended_group o s
@@ -26,7 +26,7 @@ print_ended_group (Some semi) s = refl
 print_ended_group None (Raw d o c i) = sym (append_end (print (Raw d o c i)))
 print_ended_group None s = refl
 
--- a macro and the `;` behind it
+-- a macro and the `;` after it
 pub print_ended_macro : (o : Option Semi) (s : Syntax) → print (ended_macro (maybe semi_syntax o) s) ≡ print s ⧺ print (maybe semi_syntax o)
 print_ended_macro o (Node (Both path (Both bang group))) =
     let semi = print (maybe semi_syntax o) in
@@ -42,7 +42,7 @@ pub print_among_members : (s : Syntax) → print (among_members s) ≡ print s
 print_among_members (Both attrs rest) = refl
 print_among_members s = refl
 
--- AS IT IS READ: a group of any tokens, behind which `;` stands unless it is in braces
+-- AS IT IS READ: a group of any tokens, followed by `;` unless it is in braces
 
 abbrev in_brackets : Grammar
 in_brackets = when at_bracket then raw Bracket & punctuation semicolon else raw Brace
@@ -50,7 +50,7 @@ in_brackets = when at_bracket then raw Bracket & punctuation semicolon else raw 
 abbrev end_form : Grammar
 end_form = when at_paren then raw Paren & punctuation semicolon else in_brackets
 
--- by its delimiters, what was read and the `;` behind it
+-- by its delimiters, what was read and the `;` after it
 group_ended : (ts : Stream) → parse_form end_form ts ≡ after (parse_form any_group_form ts) ended_behind
 unfolding ended_behind
 group_ended ts = go (sees at_paren ts) (sees at_bracket ts)

@@ -17,7 +17,7 @@ module _ {T P : Type 0} (v : T → Syntax) (w : P → Syntax) where
       ap (λ s. print (v x.0) ⧺ (print (w x.1) ⧺ s)) (print_comma_behind l o)
       ∙ sym (append_append (print (v x.0)) (print (w x.1) ⧺ others) (last_comma o) ∙ ap (λ s. print (v x.0) ⧺ s) (append_append (print (w x.1)) others (last_comma o)))
 
--- the parts of a signature, one behind the other
+-- the parts of a signature, one after the other
 module _ (constness asyncness safety abi sign ident generics inputs others : Syntax) where
   pub signature_printed : (b b₁ b₂ b₃ b₄ b₅ b₆ b₇ b₈ b₉ : Building) →
       b₁ ≡ added b (print constness) → b₂ ≡ added b₁ (print asyncness) → b₃ ≡ added b₂ (print safety) → b₄ ≡ added b₃ (print abi) → b₅ ≡ added b₄ (print sign) →

@@ -24,7 +24,7 @@ use Rattle.syn_item.specs.Signatures.{comma_behind, first_receiver, parameters_o
 use Rattle.syn_item.specs.declared.sig.FnArg.TheVariants as FnArg-m
 use Rattle.syn_item.proofs.Supplied.{supplied_is, with_name}
 
--- A RECEIVER ALONE: no attribute stands before it
+-- A RECEIVER ALONE: no attribute is before it
 by_attributes : (ts : Stream) → parse_rule receiver ts ≡ wrap Node (and_then (wrap Node (branch (sees at_pound ts) None (Some (Unshown Nothing, ts)))) (parse_rule receiver_rest))
 by_attributes ts = receiver_is ts ∙ ap (λ o. wrap Node (and_then o (parse_rule receiver_rest))) (no_attributes_is ts)
 
@@ -38,14 +38,14 @@ receiver_alone ts h = by_attributes ts ∙ ap (λ b. wrap Node (and_then (wrap N
 pub no_receiver : (ts : Stream) → sees at_pound ts ≡ true → parse_rule receiver ts ≡ None
 no_receiver ts h = by_attributes ts ∙ ap (λ b. wrap Node (and_then (wrap Node (branch b None (Some (Unshown Nothing, ts)))) (parse_rule receiver_rest))) h
 
--- what is promised of it, read behind no attributes
+-- what is promised of it, read after no attributes
 pub alone_by : {X E : Type 0} (refusal : E → Type 0) (view : X → Syntax) (x : Result X E) (new ts : Stream) (l : List Attribute) → l ≡ [] → sees at_pound ts ≡ false →
     Computes refusal view (wrap (with_attributes (attributes_syntax l)) (parse_rule receiver_rest ts)) x new → Computes refusal view (parse_rule receiver ts) x new
 unfolding outer_listed
 alone_by refusal view x new ts l e h c =
     subst (λ (o : Out). Computes refusal view o x new) (sym (receiver_alone ts h ∙ ap (λ (k : List Attribute). wrap (with_attributes (attributes_syntax k)) (parse_rule receiver_rest ts)) (sym e))) c
 
--- BEHIND `self`: a `::` is refused, and then a colon and a type may stand
+-- AFTER `self`: a `::` is refused, and then a colon and a type may follow
 abbrev behind_self : Grammar
 behind_self = when at_colons then never else kind_form
 
@@ -115,7 +115,7 @@ typed_told (Both (Node (Right (Unshown Nothing))) (Both pat (Left (Both colon ty
 typed_told (Both attrs (Both pat (Left (Both colon ty)))) = refl
 typed_told s = refl
 
--- a comma behind the last one changes nothing of it
+-- a comma after the last one changes nothing of it
 comma_aside : (s : Syntax) → first_receiver (comma_behind s) ≡ first_receiver s
 comma_aside (Node (Right (Both x (Right Nothing)))) = refl
 comma_aside (Node (Right (Both x (Left (Both sign l))))) = refl
@@ -137,7 +137,7 @@ receiver_listed (x ∷ l) last = of_argument x.0
 receiver_listed [] (Some x) = of_argument x
 receiver_listed [] None = refl
 
--- in a signature, whatever stands around its parameters
+-- in a signature, whatever is around its parameters
 module _ (constness asyncness safety abi sign ident generics more : Syntax) (d : Delimiter) (o c : Span) where
   abbrev around : Syntax → Syntax
   around s = Node (Both constness (Both asyncness (Both safety (Both abi (Node (Both sign (Both ident (Both generics (Both (Group d o c s) more)))))))))

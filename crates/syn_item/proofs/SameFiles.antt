@@ -1,4 +1,4 @@
--- Files, compared part by part: inner attributes by themselves are told by what is shown of them, and by what is unshown.
+-- Files, compared part by part: inner attributes by themselves are decided by what is shown of them, and by what is unshown.
 use Rattle.std.proofs.Common.{◌≡◌, Bool, true, false, List, [], ◌∷◌, Option, refl, sym, ap, ap₂, ◌∙◌, true≢false}
 use Rattle.std.specs.Prelude.{String}
 use Rattle.std.specs.declared.alloc.Global.{Global}

@@ -24,7 +24,7 @@ use Rattle.syn_item.specs.Parts.{members_of}
 use Rattle.syn_item.proofs.SameParts.{all_same}
 use Rattle.syn_item.proofs.SameTraits.{before, behind_nine, inside, same_members}
 
--- A PART WITHOUT A SELF TYPE: spans don't tell whether one would be found
+-- A PART WITHOUT A SELF TYPE: spans don't decide whether one would be found
 
 led_part_plain : (s : Syntax) → led_part (plain_syntax s) ≡ led_part s
 led_part_plain (Both s t) = ap₂ or (led_part_plain s) (led_part_plain t)
@@ -66,7 +66,7 @@ told_without s = told_by s (led_part (renew s))
 same_without : (s t : Syntax) → same_syntax (without_self_type s) (without_self_type t) ≡ same_syntax s t
 same_without s t = told without_self_type bared (without_self_type s) (without_self_type t) s t (plain_without s) (plain_without t) (told_without s) (told_without t)
 
--- WHAT STANDS BEHIND THE GENERICS
+-- AFTER THE GENERICS
 
 abbrev parts : Syntax → Syntax → Syntax → Syntax → Syntax
 parts polarity trait_path ty rest = Both polarity (Both trait_path (Both ty rest))
@@ -130,7 +130,7 @@ same_implemented q r o p s t x y =
 
 -- AN IMPL
 
--- the polarity, told among the modifiers
+-- the polarity, one of the modifiers
 moved : (d c u i g p x : Bool) → and d (and c (and u (and i (and g (and p x))))) ≡ and (and d (and c p)) (and u (and i (and g x)))
 moved false c u i g p x = refl
 moved true false u i g p x = refl

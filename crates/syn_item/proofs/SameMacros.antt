@@ -12,7 +12,7 @@ use Rattle.syn_lower.proofs.Compared.{told}
 use Rattle.syn_item.specs.Macros.{ended_group, ended_macro, named_macro}
 use Rattle.syn_item.proofs.SameParts.{all_same, listed_same, semi_of}
 
--- A GROUP, and what stands behind it
+-- A GROUP, and what follows it
 
 abbrev in_side : (Syntax → Syntax) → Syntax → Syntax
 in_side side (Both group semi) = Both (side group) semi
@@ -62,7 +62,7 @@ told_macro o s = refl
 pub same_ended : (o q : Option Semi) (s t : Syntax) → same_syntax (ended_macro (semi_of o) s) (ended_macro (semi_of q) t) ≡ and (same_syntax s t) (same_syntax (semi_of o) (semi_of q))
 same_ended o q s t = told both_ended of_macro (ended_macro (semi_of o) s) (ended_macro (semi_of q) t) (Both s (semi_of o)) (Both t (semi_of q)) (plain_macro o s) (plain_macro q t) (told_macro o s) (told_macro q t)
 
--- behind its attributes
+-- after its attributes
 pub same_member_macro : (l m : List Attribute) (o q : Option Semi) (s t : Syntax) →
     and (listed_same l m) (same_syntax (ended_macro (semi_of o) s) (ended_macro (semi_of q) t)) ≡ and (all_same l m) (and (same_syntax s t) (same_syntax (semi_of o) (semi_of q)))
 same_member_macro l m o q s t = ap₂ and (same_attributes l m) (same_ended o q s t)

@@ -67,7 +67,7 @@ module _ (l m : List Attribute) (a b : Optional) where
   abbrev pub modifiers_aside : Bool
   modifiers_aside = same_syntax (aside (maybe default_syntax a)) (aside (maybe default_syntax b))
 
-  -- behind attributes and a visibility
+  -- after attributes and a visibility
   pub same_modified : (v x : Bool) → and (listed_same l m) (and v (and modifiers_aside x)) ≡ and (all_same l m) (and v (and modifiers x))
   same_modified v x = ap₂ (λ c d. and c (and v (and d x))) (same_attributes l m) (same_aside default_syntax a b)
 
@@ -127,7 +127,7 @@ same_use l m o q s t v u x =
     ap₂ (λ c d. and c (and v (and u (and d x)))) (same_attributes l m) (same_used o q s t)
     ∙ ap (λ d. and (all_same l m) (and v (and u d))) (sym (and_assoc (same_syntax (sign_of o) (sign_of q)) (same_syntax s t) x))
 
--- A TYPE ALIAS, with its where clause before `=` or behind the type
+-- A TYPE ALIAS, with its where clause before `=` or after the type
 
 abbrev place_of : WhereClausePlacement-m.the_data → Syntax
 place_of = syntax_of_WhereClausePlacement
@@ -197,7 +197,7 @@ pub turn : (a b : Bool) → and a b ≡ and b a
 turn true b = sym (and_true b)
 turn false b = sym (and_false b)
 
--- a `;` that is added is told from one that stands
+-- a `;` that is added is distinguished from one that is there
 pub same_or_added : (o q : Option Semi) → same_syntax (or_added semicolon (semi_of o)) (or_added semicolon (semi_of q)) ≡ same_syntax (semi_of o) (semi_of q)
 same_or_added None None = refl
 same_or_added None (Some y) = refl

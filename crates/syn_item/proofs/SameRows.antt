@@ -17,7 +17,7 @@ module _ {T : Type 0} (v : T → Syntax) where
   same_members (x ∷ l) [] = refl
   same_members (x ∷ l) (y ∷ m) = ap (and (same_syntax (v x) (v y))) (same_members l m)
 
-  -- A FOREIGN MODULE: attributes, two parts, and members behind inner attributes
+  -- A FOREIGN MODULE: attributes, two parts, and members after inner attributes
   pub same_foreign_module : (l m : List Attribute) (u a : Bool) (x y : List T) →
       and (same_syntax (attributes_before_body l) (attributes_before_body m)) (and u (and a (and (same_syntax (attributes_in_body l) (attributes_in_body m)) (same_syntax (members_of v x) (members_of v y)))))
       ≡ and (all_same l m) (and u (and a (same_syntax (in_order v x) (in_order v y))))

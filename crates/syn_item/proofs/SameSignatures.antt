@@ -135,7 +135,7 @@ same_argument (FnArg-m.Typed s) (FnArg-m.Typed t) = told typed_argument of_typed
 same_argument (FnArg-m.Receiver s) (FnArg-m.Typed t) = apart s t
 same_argument (FnArg-m.Typed s) (FnArg-m.Receiver t) = turned t s
 
--- PARAMETERS BEFORE A VARIADIC ONE: the comma that is added is told from one that stands
+-- PARAMETERS BEFORE A VARIADIC ONE: the comma that is added is distinguished from one that is there
 
 abbrev Pairs : Type 0
 Pairs = List (FnArg-m.the_data × Comma)
@@ -185,7 +185,7 @@ same_parameters l m o q v u x =
     ap (λ z. and z x) (told both_parameters of_parameters (both_parameters (with_variadic l o v)) (both_parameters (with_variadic m q u)) (with_variadic l o v) (with_variadic m q u) (plain_parameters l o v) (plain_parameters m q u) (told_parameters l o v) (told_parameters m q u))
     ∙ sym (and_assoc (same_syntax (listed l o) (listed m q)) (same_syntax (maybe itself v) (maybe itself u)) x)
 
--- ten tests, one behind the other, that don't all hold: whatever the last one says
+-- ten tests, one after the other, that don't all hold: whatever the last one says
 pub tenth_apart : (v₁ v₂ v₃ v₄ v₅ v₆ v₇ v₈ v₉ v₁₀ a₁ a₂ a₃ a₄ a₅ a₆ a₇ a₈ a₉ a₁₀ x : Bool) →
     v₁ ≡ a₁ → v₂ ≡ and v₁ a₂ → v₃ ≡ and v₂ a₃ → v₄ ≡ and v₃ a₄ → v₅ ≡ and v₄ a₅ → v₆ ≡ and v₅ a₆ → v₇ ≡ and v₆ a₇ → v₈ ≡ and v₇ a₈ → v₉ ≡ and v₈ a₉ → v₁₀ ≡ and v₉ a₁₀ → v₁₀ ≡ false →
     v₁₀ ≡ and a₁ (and a₂ (and a₃ (and a₄ (and a₅ (and a₆ (and a₇ (and a₈ (and a₉ (and a₁₀ x)))))))))

@@ -1,4 +1,4 @@
--- Whether a word stands next is whether it is read.
+-- Whether a word is next is whether it is read.
 use Rattle.std.proofs.Common.{◌≡◌, true, false, Some, None, ap, ◌∙◌}
 use Rattle.syn_grammar.specs.Words.{Text}
 use Rattle.syn_grammar.specs.Tokens.{Stream, at_word}

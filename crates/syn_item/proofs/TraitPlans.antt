@@ -1,4 +1,4 @@
--- The plan of a trait's members, by what stands next behind the attributes.
+-- The plan of a trait's members, by the next token after the attributes.
 use Rattle.std.proofs.Common.{◌≡◌, Bool, true, false, List, [], ◌∷◌, Some, None, refl, sym, ap, subst, ◌∙◌, true≢false}
 use Rattle.std.specs.Prelude.{Option, Result}
 use Rattle.syn_grammar.specs.Words.{colon, semicolon, exclamation, w_Self_type, w_const, w_default, w_pub, w_type}
@@ -133,7 +133,7 @@ module _ (k : Rule) (ts : Stream) (a : Syntax) (m : Stream) where
           pub macro_refused : sees (at_word w_Self_type) m ≡ false → wrap (Both a) (parse_rule member_macro m) ≡ None → run ≡ None
           macro_refused h e = macro_goes h ∙ attributed (parse_rule member_macro m) ∙ ap (wrap (λ s. Node (Case trait_macro_as_item (among_members s)))) e
 
--- A CONSTANT that is kept as tokens: with generics, or with a where clause
+-- A CONSTANT that is kept verbatim: with generics, or with a where clause
 module _ (k : Rule) (ts : Stream) (a c n : Syntax) (m r q : Stream) (word_read : parse_form (plainly (word w_const)) m ≡ Some (c, r)) (name_read : parse_form name_or_underscore r ≡ Some (n, q)) where
   pub generics_kept : sees at_less q ≡ true → OnlyKept k ts (run_plan (trait_const_or_kept a) k ts m)
   unfolding trait_const_plan kept_end

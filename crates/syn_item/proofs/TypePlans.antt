@@ -1,4 +1,4 @@
--- Type aliases, by the plan of items: with a colon behind their generics, or without `=`, they are kept as tokens.
+-- Type aliases, by the plan of items: followed by a colon generics, or without `=`, they are kept verbatim.
 use Rattle.std.proofs.Common.{◌≡◌, Bool, true, false, [], ◌∷◌, Some, None, refl, sym, ap, subst, ◌∙◌}
 use Rattle.syn_grammar.specs.Words.{equals, semicolon, w_type}
 use Rattle.syn_grammar.specs.Tokens.{Stream}

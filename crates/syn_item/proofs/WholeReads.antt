@@ -1,4 +1,4 @@
--- What is read as a whole: attributes, and what the plan reads behind them; or, kept as tokens, all of it.
+-- What is read as a whole: attributes, and what the plan reads after them; or, kept verbatim, all of it.
 use Rattle.std.proofs.Common.{◌≡◌, ◌≤◌, ◌+◌, Bool, true, false, Some, None, refl, sym, ap, ◌∙◌, arith}
 use Rattle.syn_grammar.specs.Tokens.{Stream}
 use Rattle.syn_grammar.specs.Rules.{Rule, attributes, foreign_item, impl_item, item, kept_foreign_item, kept_impl_item, kept_item, kept_trait_item, trait_item}

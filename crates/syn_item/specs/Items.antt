@@ -1,4 +1,4 @@
--- WHAT SYNTAX ITEMS STAND FOR: each by its kind.
+-- THE SYNTAX OF ITEMS: each by its kind.
 -- Written by tools/kinds.py down to the next such comment; edits are lost.
 use Rattle.syn_grammar.specs.Rules.{const_item, enumeration, extern_crate, foreign_module, function, impl_definition, kept_item, macro_as_item, module_item, static_item, structure, trait_alias, trait_definition, type_item, union_item, use_item}
 -- End of the part that tools/kinds.py writes.

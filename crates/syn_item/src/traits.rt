@@ -78,7 +78,7 @@ pub struct TraitItemConst {
     pub semi_token: Semi,
 }
 
-/// A function of a trait, such as `fn f(&self);` or `fn f(&self) {}`. Its body is kept as its tokens.
+/// A function of a trait, such as `fn f(&self);` or `fn f(&self) {}`. Its body is kept verbatim.
 #[derive(Drop)]
 pub struct TraitItemFn {
     pub attrs: Vec<Attribute>,
@@ -110,7 +110,7 @@ pub struct TraitItemMacro {
     pub semi_token: Option<Semi>,
 }
 
-/// What stands behind a trait's name. Without bounds the colon isn't printed.
+/// What follows a trait's name. Without bounds the colon isn't printed.
 #[tactic(auto, using(syn_tokens::proofs::Prints::prints, syn_lower::proofs::GenericPrints::print_bounds))]
 fn print_behind_name(item: &ItemTrait, out: &mut StreamBuilder) -> Result<(), AllocError>
     ensures prints { OnOk result (out.new ≡ added out.old (print (behind_name item.now))) }
@@ -122,7 +122,7 @@ fn print_behind_name(item: &ItemTrait, out: &mut StreamBuilder) -> Result<(), Al
     print_braced(&item.brace_token, &item.attrs, &item.items, out)
 }
 
-/// The word of a trait, its name and what stands behind it.
+/// The word of a trait, its name and what follows it.
 #[tactic(auto, using(syn_tokens::proofs::Prints::prints))]
 fn print_named(item: &ItemTrait, out: &mut StreamBuilder) -> Result<(), AllocError>
     ensures prints { OnOk result (out.new ≡ added out.old (print (behind_auto item.now))) }
@@ -146,7 +146,7 @@ impl Print for ItemTrait {
     }
 }
 
-/// The where clause stands before the braces.
+/// The where clause is before the braces.
 impl Compared for ItemTrait {
     #[tactic(auto, using(crate::proofs::SameTraits::same_trait))]
     fn is_same(&self, other: &ItemTrait) -> bool {
@@ -204,7 +204,7 @@ fn print_function_end(
     }
 }
 
-/// A `;` is printed where there is no body, though there is none, and never behind a body. Modifiers are not printed.
+/// A `;` is printed where there is no body, though there is none, and never after a body. Modifiers are not printed.
 impl Print for TraitItemFn {
     #[tactic(auto, using(syn_tokens::proofs::Prints::prints))]
     fn print_in(&self, out: &mut StreamBuilder) -> Result<(), AllocError> {

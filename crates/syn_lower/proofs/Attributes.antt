@@ -27,7 +27,7 @@ same_filled (MacroDelimiter-m.Bracket d) (MacroDelimiter-m.Paren e) i j = refl
 same_filled (MacroDelimiter-m.Bracket d) (MacroDelimiter-m.Brace e) i j = refl
 same_filled (MacroDelimiter-m.Bracket d) (MacroDelimiter-m.Bracket e) i j = refl
 
--- a group, `=` and nothing are told apart
+-- a group, `=` and nothing are distinguished
 pub group_or_nothing : (d : MacroDelimiter-m.the_data) (i : Stream) → same_syntax (filled i (syntax_of_MacroDelimiter d)) no_value ≡ false
 group_or_nothing (MacroDelimiter-m.Paren d) i = refl
 group_or_nothing (MacroDelimiter-m.Brace d) i = refl

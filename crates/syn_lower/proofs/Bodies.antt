@@ -60,7 +60,7 @@ inner_step l i d h = at_drop_more inner_row l i d h
 pub inner_done : (l : List Attribute) (i : ℕ) → length l ≤ i → inner_row (drop i l) ≡ end
 inner_done l i h = ap inner_row (drop_all i l h)
 
--- COMPARISONS: spans don't tell of which kind an attribute is
+-- COMPARISONS: spans don't decide of which kind an attribute is
 
 outer_plain : (a : Attribute) → is_outer (plain_syntax (syntax_of_Attribute a)) ≡ is_outer (syntax_of_Attribute a)
 outer_plain a = go a.style
@@ -180,7 +180,7 @@ none_shown u (a ∷ l) e = go (none_shown u l) (is_outer (plain_syntax (syntax_o
     go is true h = absurd (true≢false (sym h))
     go is false h = is h
 
--- the outer ones and then the inner ones, where they stand so
+-- the outer ones and then the inner ones, if they are in that order
 places_shown : (u : Syntax) (l : List Attribute) → outer_first (plain_all l) ≡ true →
     followed (shown_of (shown_before is_outer u (plain_all l))) (shown_of (shown_before is_inner Nothing (plain_all l))) ≡ plain_all l
 places_shown u [] e = refl

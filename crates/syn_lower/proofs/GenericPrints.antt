@@ -15,7 +15,7 @@ use Rattle.syn_lower.specs.Bounds.{behind_colon, solid, turned}
 use Rattle.syn_lower.specs.Generics.{default_of}
 use Rattle.syn_lower.specs.GenericPrints.{printed_with}
 
--- A LIST WITH WHAT STANDS BEFORE IT
+-- A LIST WITH WHAT PRECEDES IT
 
 pub none_printed : {T P : Type 0} (head : Syntax) (v : T → Syntax) (w : P → Syntax) (s : Sequence T P) → s ≡ nothing_listed → printed_with head v w s.pairs s.last ≡ end
 none_printed head v w s h = ap (λ (z : Sequence _ _). printed_with head v w z.pairs z.last) h

@@ -41,7 +41,7 @@ abbrev inside : Syntax → Syntax
 inside (Both a s) = s
 inside s = s
 
--- lists stand under a Node
+-- lists are under a Node
 module _ (s : Syntax) where
   abbrev made : Bool → Syntax
   made b = pick b (Both (Added []) (Node (Right s))) (Node (Right s))
@@ -360,7 +360,7 @@ like_none a l o c = and (same_bool false (stands a)) (and (same_bool false (stan
 abbrev none_like : Option Lt → List (Param × Comma) → Option Param → Option Gt → Bool
 none_like a l o c = and (same_bool (stands a) false) (and (same_bool (stands c) false) (same_syntax (one_row l o) Done))
 
--- there is neither a sign nor a parameter; or something stands
+-- there is neither a sign nor a parameter; or there is something
 abbrev Shape : Option Lt → List (Param × Comma) → Option Param → Option Gt → Type 0
 Shape a l o c =
     ((whole a l o c ≡ no_parameters) × (stands a ≡ false) × (stands c ≡ false) × (one_row l o ≡ Done))

@@ -15,7 +15,7 @@ use Rattle.syn_lower.specs.TypeForms.{word_form}
 pub module_words_joined : IsJoined module_words (of segment_form) (by (at_mark colons)) (of (mark false colons))
 module_words_joined = record { is = module_words_is }
 
--- the words behind the first are read as the first ones are
+-- the words after the first are read as the first ones are
 pub more_words : (ts : Stream) → parse_rule more_type_words ts ≡ parse_rule type_words ts
 more_words ts = more_type_words_is ts ∙ sym (type_words_is ts)
 

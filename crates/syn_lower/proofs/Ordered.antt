@@ -11,7 +11,7 @@ use Rattle.syn_tokens.specs.Listing.{list_of}
 use Rattle.syn_lower.specs.Ordered.{place_of, ordered_of}
 use Rattle.syn_lower.specs.OrderedPrints.{sorted_print, comma_at, pair_part, last_part, part_row, comma_between, ordered_row}
 
--- what stands behind all members that are printed first
+-- what follows all members that are printed first
 put : (Syntax → Syntax) → Syntax → Syntax
 put z (More true s sp t) = More true s sp (put z t)
 put z (Last true s) = More true s call_site (z Done)
@@ -61,7 +61,7 @@ module _ {T P : Type 0} (f : Syntax → Bool) (v : T → Syntax) (w : P → Synt
   abbrev sorted : List (T × P) → Option T → Syntax
   sorted l o = sort (renew (ordered_of f (list_of v w l o)))
 
-  -- the comma behind the last member, if it is printed first and others follow it then
+  -- the comma after the last member, if it is printed first and others follow it then
   abbrev last_comma : Option T → Stream
   last_comma None = end
   last_comma (Some t) = pick (f (v t)) (comma_at call_site) end
@@ -74,7 +74,7 @@ module _ {T P : Type 0} (f : Syntax → Bool) (v : T → Syntax) (w : P → Synt
   comma_before_first x l None e = refl
   comma_before_first x l (Some t) e = ap (λ b. pick (and (f (v t)) (not b || list_any (λ (y : T × P). not (f (v y.0))) l)) (comma_at call_site) end) e
 
-  -- what is put behind all members that are printed first stands before the others
+  -- what is put after all members that are printed first is before the others
   put_row : (z : Syntax → Syntax) (zs : Stream) → ((t : Syntax) → show (z t) ≡ zs ⧺ show t) → (l : List (T × P)) (o : Option T) →
       show (put z (sorted l o)) ≡ part_row f v w true l o ⧺ (last_comma o ⧺ (zs ⧺ part_row f v w false l o))
   unfolding put pair_part last_part

@@ -15,7 +15,7 @@ use Rattle.syn_lower.specs.Generics.{as_row, clause_aside, parameters_of, sign_o
 use Rattle.syn_lower.specs.GenericPrints.{added_comma, behind_last, comma_at, generics_part, has_others, is_lifetime, pairs_part, param_part, params_part}
 use Rattle.syn_lower.specs.declared.generics.GenericParam.TheVariants as GenericParam-m
 
--- THE MEMBERS OF THE FIRST FORM THAT STAND IN FRONT, with this behind one that is last; and what follows them
+-- THE LEADING MEMBERS OF THE FIRST FORM, with this after one that is last; and what follows them
 lead : Stream → Syntax → Stream
 lead c (More true s sp t) = show s ⧺ punct 44 false sp (lead c t)
 lead c (Last true s) = show s ⧺ c

@@ -1,4 +1,4 @@
--- A generic parameter is read by its attributes, and then by what stands next.
+-- A generic parameter is read by its attributes, and then by the next token.
 use Rattle.std.proofs.Common.{◌≡◌, Bool, true, false, Some, None, refl, ap, ap₂, ◌∙◌}
 use Rattle.syn_grammar.specs.Words.{w_const}
 use Rattle.syn_grammar.specs.Tokens.{Stream, at_lifetime, at_word, pick}
@@ -23,11 +23,11 @@ lifetime_parameter_is ts = each.lifetime_parameter_is ts ∙ go (parse_rule attr
         inside None = refl
         inside (Some q) = refl
 
--- what isn't a lifetime, behind its attributes
+-- what isn't a lifetime, after its attributes
 abbrev pub other_form : Grammar
 other_form = when at_word w_const then const_form else type_form
 
--- by what stands next
+-- by the next token
 abbrev pub by_next : Syntax → Stream → Out
 by_next attrs ts = pick (sees at_lifetime ts) (wrap Left (lifetime_behind attrs ts)) (pick (sees (at_word w_const) ts) (wrap Right (const_behind attrs ts)) (wrap Right (type_behind attrs ts)))
 

@@ -1,4 +1,4 @@
--- The words of a qualified path: those of the trait stand inside of the `< >`.
+-- The words of a qualified path: those of the trait are inside of the `< >`.
 use Rattle.std.proofs.Common.{◌≡◌, ℕ, suc, true, false, List, [], ◌∷◌, ◌++◌, Option, Some, None, length, refl, sym, ap, ap₂, ◌∙◌, subst, true≢false}
 use Rattle.std.specs.Prelude.{IsSome}
 use Rattle.syn_grammar.specs.Words.{w_as, colons as double, greater, less}
@@ -22,7 +22,7 @@ Words = List (Syntax × PathSep)
 abbrev joined : Words → Option Syntax → Syntax
 joined = joined_of itself path_sep_syntax
 
--- words, one more with `::` behind it, and others
+-- words, one more followed by `::`, and others
 module _ (x : Syntax) (c : PathSep) (m : Words) (o : Option Syntax) where
   abbrev all : Words → Syntax
   all l = joined ((l ++ (x, c) ∷ []) ++ m) o
@@ -54,7 +54,7 @@ module _ (x : Syntax) (c : PathSep) (m : Words) (o : Option Syntax) where
     split [] = refl
     split (y ∷ l) = ap₂ Both (ap (λ s. Left (Both (part as_token) (Node (Both leading s)))) (inside (y ∷ l))) (ap (Both gt) (ap₂ Both (separator (y ∷ l)) (others (y ∷ l))))
 
-    -- what they stand for, where so many words are those of the trait
+    -- what they represent, where so many words are those of the trait
     pub qualified_words : (l : Words) → Goal (length (values (record { pairs = l; last = Some x }))) l
     qualified_words l = subst (λ n. Goal n l) (sym (counted l)) (split l)
 
@@ -66,7 +66,7 @@ held (Some x) h = (x, refl)
 -- WHAT IS READ OF A QUALIFIED PATH
 
 module _ (ts m n : Stream) (lt ty : Syntax) (a : take_mark less ts ≡ Some (lt, m)) (b : parse_rule type m ≡ Some (ty, n)) where
-  -- behind its type, with a trait or without one
+  -- after its type, with a trait or without one
   pub with_trait : sees (at_word w_as) n ≡ true → wrap Node (wrap Left (parse_rule qualified_path ts)) ≡ of_qualified lt ty (and_then (wrap Left (parse_form trait_form n)) (parse_form behind_trait_form))
   with_trait h = ap (λ o. wrap Node (wrap Left o)) (qualified_path_is ts ∙ rw a (rw b (rw h refl)))
 

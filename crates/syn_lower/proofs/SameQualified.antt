@@ -1,4 +1,4 @@
--- Qualified paths are the same where what they hold is: what a value stands for commutes with forgetting spans, and tells the value.
+-- Qualified paths are the same where what they hold is: what a value represents commutes with forgetting spans, and determines the value.
 use Rattle.std.proofs.Common.{◌≡◌, ℕ, zero, suc, ◌+◌, Bool, true, false, List, [], ◌∷◌, Option, Some, None, refl, sym, ap, ap₂, ◌∙◌, arith}
 use Rattle.syn_grammar.specs.Tokens.{and}
 use Rattle.syn_grammar.specs.Grammar.{Syntax, Nothing, Mark, Both, Left, Right, Node, Unshown, plain_syntax}

@@ -32,7 +32,7 @@ use Rattle.syn_lower.specs.declared.ty.TypeReference.TheInside as TypeReference-
 use Rattle.syn_lower.specs.declared.ty.TypeSlice.TheInside as TypeSlice-in
 use Rattle.syn_lower.specs.declared.ty.TypeTuple.TheInside as TypeTuple-in
 
--- QUALIFIED PATHS: nothing that a value holds is lost in what it stands for
+-- QUALIFIED PATHS: nothing that a value holds is lost in what it represents
 
 part_size : (s : Syntax) → tree_size s ≤ tree_size (part s) + 1
 part_size (Left s) = omega arith

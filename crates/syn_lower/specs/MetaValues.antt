@@ -1,4 +1,4 @@
--- WHAT SYNTAX THE VALUE OF A META STANDS FOR.
+-- THE SYNTAX OF THE VALUE OF A META.
 use Rattle.syn_grammar.specs.Grammar.{Syntax, Node}
 use Rattle.syn_tokens.specs.Kinds.{eq_syntax}
 use Rattle.syn_lower.specs.Attributes.{behind_equals, filled, no_value, syntax_of_MacroDelimiter}

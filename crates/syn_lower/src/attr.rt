@@ -33,7 +33,7 @@ pub struct Attribute {
     pub meta: Meta,
 }
 
-/// Whether an attribute belongs to what follows it, or to what it stands in.
+/// Whether an attribute belongs to what follows it, or to what it is in.
 #[derive(Clone, Copy, Debug)]
 pub enum AttrStyle {
     /// `#[a]`
@@ -77,7 +77,7 @@ pub enum MacroDelimiter {
     Bracket(Bracket),
 }
 
-/// What the attribute belongs to is told by what stands behind its `#`.
+/// What the attribute belongs to is decided by what follows its `#`.
 impl Compared for Attribute {
     #[tactic(auto, using(crate::proofs::Attributes::same_behind_pound))]
     fn is_same(&self, other: &Attribute) -> bool {

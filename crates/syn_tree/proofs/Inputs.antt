@@ -20,13 +20,13 @@ use Rattle.syn_tree.specs.declared.data.Fields.TheVariants as Fields-m
 use Rattle.syn_tree.specs.declared.derive.Data.TheVariants as Data-m
 use Rattle.syn_lower.proofs.Compared.{told}
 
--- AS THEY ARE READ: the three rules begin alike, so the beginning is read once, and then the next word tells which it is
+-- AS THEY ARE READ: the three rules begin alike, so the beginning is read once, and then the next word decides which it is
 
--- by the answers of the three rules
+-- by the results of the three rules
 abbrev answer : Out → Out → Out → Out
 answer a b c = wrap Node (named structure a (named enumeration b (named union_item c None)))
 
--- behind attributes and a visibility
+-- after attributes and a visibility
 abbrev behind : Syntax → Syntax → Out → Out
 behind a v o = wrap Node (wrap (Both a) (wrap Node (wrap (Both v) o)))
 
@@ -55,7 +55,7 @@ turn a v r false false e f =
     go None = refl
     go (Some p) = refl
 
--- the rule of one kind, behind the attributes
+-- the rule of one kind, after the attributes
 abbrev behind_attributes : Out → (Stream → Out) → Out
 behind_attributes o p = wrap Node (and_then o (λ m. wrap Node (and_then (parse_rule visibility m) p)))
 
@@ -80,7 +80,7 @@ derive_input_turns ts =
     go None = refl
     go (Some p) = inner p.0 (parse_rule visibility p.1)
 
--- where `union` doesn't stand next, it can't be taken
+-- if `union` isn't next, it can't be taken
 pub no_union : (ts : Stream) → sees (at_word w_union) ts ≡ false → take_token (word w_union) ts ≡ None
 no_union ts h = go (take_token (word w_union) ts) (sym (sees_word w_union ts) ∙ h)
   where
@@ -142,7 +142,7 @@ behind_ident s = second (second (second s))
 abbrev whole : Syntax → Syntax
 whole s = input_of (first s) (first (second s)) (shape_of (first (second (second s))) (first (behind_ident s)) (first (second (behind_ident s))) (second (second (behind_ident s))))
 
--- of a struct behind its parameters
+-- of a struct after its parameters
 abbrev struct_back : Syntax → Syntax → Syntax → Syntax → Syntax → Syntax → Syntax
 struct_back a v i p w body = parts_in_order a v i p (first (second body)) (Left (Both w (Both (first body) (second (second body)))))
 

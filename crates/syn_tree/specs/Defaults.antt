@@ -8,7 +8,7 @@ use Rattle.syn_grammar.specs.Run.{parse_rule}
 use Rattle.syn_grammar.specs.Table.{at_equals}
 use Rattle.syn_parse.specs.Peeks.{past}
 
--- attributes, a visibility and a type stand there, and behind them `=` and a default
+-- attributes, a visibility and a type are there, and after them `=` and a default
 pub record HasDefault (ts default : Stream) : Type 0 where
   pub attrs : Syntax
   pub behind_attrs : Stream
@@ -25,7 +25,7 @@ pub record HasDefault (ts default : Stream) : Type 0 where
 abbrev pub no_default : List ℕ
 no_default = codes "field default value is only supported in structs with named fields"
 
--- where a default stands, nothing is read, and if memory was found, then for this reason
+-- where there is a default, nothing is read, and with enough memory this is the reason
 abbrev pub RefusesDefault : {X E : Type 0} → Stream → (E → Type 0) → (Stream → List ℕ → E → Type 0) → Result X E → Type 0
 RefusesDefault ts refusal reason (Ok x) = (default : Stream) → HasDefault ts default → ⊥
 RefusesDefault ts refusal reason (Err e) = (default : Stream) → HasDefault ts default → refusal e → reason default no_default e

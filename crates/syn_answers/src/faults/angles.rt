@@ -2,11 +2,11 @@
 use syn_tokens::punct::{Punct, Spacing};
 use syn_tokens::stream::cursor::TokenTreeRef;
 
-/// How many `<` are open behind the trees that were passed. The `>` of a `->` closes none.
+/// How many `<` are open after the trees passed so far. The `>` of a `->` closes none.
 #[derive(Drop)]
 pub(crate) struct Angles {
     open: usize,
-    /// Whether the last tree is a `-` that is joined to the mark behind it.
+    /// Whether the last tree is a `-` that is joined to the mark after it.
     behind_dash: bool,
 }
 

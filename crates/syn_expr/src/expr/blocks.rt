@@ -1,4 +1,4 @@
-//! Blocks, loops and `if` as expressions. Inner attributes among `attrs` stand in the braces of the block.
+//! Blocks, loops and `if` as expressions. Inner attributes among `attrs` are in the braces of the block.
 
 use crate::nested::compare::{CompareNested, CompareOf, same_else, same_statements};
 use crate::nested::copy::{CopyNested, CopyOf, copied, copy_else, copy_operand};
@@ -43,7 +43,7 @@ pub struct ExprForLoop {
     pub body: Block,
 }
 
-/// `if` and its branches. What stands behind `else` is a block or another `if`; of a tree made by hand anything else is printed in braces.
+/// `if` and its branches. What follows `else` is a block or another `if`; of a tree made by hand anything else is printed in braces.
 #[cycle(expressions)]
 #[derive(Drop)]
 pub struct ExprIf {

@@ -65,7 +65,7 @@ pub(super) fn body<N: Nested>(
     Ok((attrs, N::Trees::block(brace_token, stmts)))
 }
 
-/// Statements in braces, where inner attributes can't stand.
+/// Statements in braces, without inner attributes.
 #[tactic(auto, using(syn_grammar::proofs::Each::plain_body_is, crate::proofs::Blocks::none_inside), unfolding(syn_grammar::specs::Take::is_end))]
 fn plain_body<N: Nested>(nested: &N, input: &mut ParseBuffer<'_>) -> Parsed<Block<N>>
     requires { MayBelow N.may nested.now input.old }
@@ -79,7 +79,7 @@ fn plain_body<N: Nested>(nested: &N, input: &mut ParseBuffer<'_>) -> Parsed<Bloc
     Ok(N::Trees::block(brace_token, stmts))
 }
 
-/// Refused where an inner attribute stands next.
+/// Refused where an inner attribute is next.
 #[tactic(auto, using(syn_grammar::proofs::Each::no_inner_attributes_is))]
 fn no_inner_attributes(input: &ParseBuffer<'_>) -> Parsed<()>
     ensures { Computes IsSyntax (λ _. none_listed) (parse_rule rules.no_inner_attributes input.now) result input.now }
@@ -90,7 +90,7 @@ fn no_inner_attributes(input: &ParseBuffer<'_>) -> Parsed<()>
     Ok(())
 }
 
-/// A block as an expression, behind `else` or as a constant.
+/// A block as an expression, after `else` or as a constant.
 #[tactic(auto, using(crate::proofs::Blocks::none_before))]
 pub(super) fn else_block<N: Nested>(nested: &N, input: &mut ParseBuffer<'_>) -> Parsed<Box<Expr<N>>>
     requires { MayBelow N.may nested.now input.old }
@@ -160,7 +160,7 @@ fn labelled_expression<N: Nested>(nested: &N, input: &mut ParseBuffer<'_>) -> Pa
     N::Trees::expr_block(attrs, label, block, input.alloc())
 }
 
-/// A loop, behind its label or behind none.
+/// A loop, after its label or after none.
 fn loop_expression<N: Nested>(
     label: Option<(Lifetime, Colon)>,
     nested: &N,
@@ -270,7 +270,7 @@ fn otherwise<N: Nested>(
     Ok(Some((else_token, branch)))
 }
 
-/// A block or another `if`, behind `else`.
+/// A block or another `if`, after `else`.
 #[tactic(auto, using(crate::proofs::Blocks::if_behind_else))]
 fn else_branch<N: Nested>(nested: &N, input: &mut ParseBuffer<'_>) -> Parsed<Box<Expr<N>>>
     requires { MayHere N.may nested.now input.old }

@@ -1,4 +1,4 @@
-//! Parsers of what goes on an expression: calls, indices, `?` and members.
+//! Parsers of what continues an expression: calls, indices, `?` and members.
 ghost use Rattle.std.specs.Prelude.{◌≡◌, true};
 ghost use Rattle.syn_grammar.specs.Rules as rules;
 ghost use Rattle.syn_grammar.specs.Table as table;
@@ -24,7 +24,7 @@ use syn_tokens::ident::Ident;
 use syn_tokens::literal::Literal;
 use syn_tokens::token::{Bracket, Dot, Paren, PathSep, Question, kind};
 
-/// What goes on an expression, any number of times: the arguments of a call, an index, `?`, or `.` and a member.
+/// What continues an expression, any number of times: the arguments of a call, an index, `?`, or `.` and a member.
 #[tactic(auto, using(crate::proofs::Postfixes::postfixes_step))]
 pub(super) fn postfixes<N: Nested>(
     nested: &N,

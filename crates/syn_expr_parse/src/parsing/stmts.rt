@@ -32,12 +32,12 @@ use syn_recognize::item_looks::at_item;
 use syn_recognize::looks::{at_brace_macro, at_crate_macro};
 use syn_tokens::token::{Else, Eq, Let, Semi};
 
-/// Where a statement stands: what may end it.
+/// The place of a statement: what may end it.
 #[derive(Clone, Copy)]
 pub(crate) enum Place {
     /// Alone: a statement that is an expression ends with `;`.
     Alone,
-    /// In a list: the last one may stand without it.
+    /// In a list: the last one needs no `;`.
     Listed,
 }
 
@@ -79,7 +79,7 @@ pub fn statement<N: Nested>(nested: &N, input: &mut ParseBuffer<'_>) -> Parsed<S
     statement_in(Place::Alone, nested, input)
 }
 
-/// A statement with its attributes. Behind them it is seen whether it is an item, which is read with them.
+/// A statement with its attributes. After them it is seen whether it is an item, which is read with them.
 #[tactic(auto, unfolding(crate::specs::StatementForms::statement_by))]
 fn statement_in<N: Nested>(place: Place, nested: &N, input: &mut ParseBuffer<'_>) -> Parsed<Stmt<N>>
     requires { MayHere N.may nested.now input.old }
@@ -95,7 +95,7 @@ fn statement_in<N: Nested>(place: Place, nested: &N, input: &mut ParseBuffer<'_>
     statement_behind(place, attrs, nested, input)
 }
 
-/// Whether an item stands next, behind its attributes. Refused only where memory is.
+/// Whether an item is next, after its attributes. Refused only where memory is.
 fn at_item_statement(place: Place, input: &ParseBuffer<'_>) -> Parsed<bool>
     ensures { OrMemory IsSyntax result (λ b. b ≡ item_next (is_listed place) input.now) }
 {
@@ -108,7 +108,7 @@ fn at_item_statement(place: Place, input: &ParseBuffer<'_>) -> Parsed<bool>
     }
 }
 
-/// Whether a macro of `crate` in braces stands next, and behind it what goes on an expression: alone, it is an item. Refused only where
+/// Whether a macro of `crate` in braces is next, and after it what continues an expression: alone, it is an item. Refused only where
 /// memory is.
 fn at_crate_item(input: &ParseBuffer<'_>) -> Parsed<bool>
     ensures { OrMemory IsSyntax result (λ b. b ≡ crate_item false input.now) }
@@ -124,7 +124,7 @@ fn at_crate_item(input: &ParseBuffer<'_>) -> Parsed<bool>
     }
 }
 
-/// An item, kept as its tokens.
+/// An item, kept verbatim.
 fn item<N: Nested>(input: &mut ParseBuffer<'_>) -> Parsed<Stmt<N>>
     ensures reads { Computes IsSyntax N.Trees.stmt_syntax (item_statement input.old) result input.new }
     ensures moved { Moved input.old result input.new }
@@ -132,7 +132,7 @@ fn item<N: Nested>(input: &mut ParseBuffer<'_>) -> Parsed<Stmt<N>>
     Ok(N::Trees::item(input.read()?))
 }
 
-/// A statement that is no item, behind its attributes.
+/// A statement that is no item, after its attributes.
 fn statement_behind<N: Nested>(
     place: Place,
     attrs: Vec<Attribute>,
@@ -155,7 +155,7 @@ fn statement_behind<N: Nested>(
     }
 }
 
-/// A macro in braces, behind its attributes, as an expression without any.
+/// A macro in braces, after its attributes, as an expression without any.
 #[tactic(auto, using(crate::proofs::Blocks::none_shown))]
 fn macro_expression<N: Nested>(input: &mut ParseBuffer<'_>) -> Parsed<Box<Expr<N>>>
     ensures reads { Computes IsSyntax (λ e. N.Trees.expr_syntax e.value) (wrap (new Macro) (parse_rule rules.macro_invocation input.old)) result input.new }
@@ -166,7 +166,7 @@ fn macro_expression<N: Nested>(input: &mut ParseBuffer<'_>) -> Parsed<Box<Expr<N
     N::Trees::expr_macro(mac, input.alloc())
 }
 
-/// A macro in braces whose path is `crate`: no expression begins with it, so nothing goes on it.
+/// A macro in braces whose path is `crate`: no expression begins with it, so nothing continues it.
 fn crate_macro_statement<N: Nested>(
     place: Place,
     attrs: Vec<Attribute>,
@@ -222,7 +222,7 @@ fn expression_statement<N: Nested>(
     }
 }
 
-/// What follows a block or a macro in braces (`braces`): `;`, what goes on it, or nothing.
+/// What follows a block or a macro in braces (`braces`): `;`, what continues it, or nothing.
 fn statement_of_block<N: Nested>(
     place: Place,
     braces: bool,
@@ -332,7 +332,7 @@ fn local_init<N: Nested>(nested: &N, input: &mut ParseBuffer<'_>) -> Parsed<Opti
     Ok(Some(local_value(eq_token, nested, input)?))
 }
 
-/// The value of a local, behind its `=`; and perhaps `else` and a block.
+/// The value of a local, after its `=`; and perhaps `else` and a block.
 #[tactic(auto, unfolding(crate::specs::StatementForms::local_value))]
 fn local_value<N: Nested>(
     eq_token: Eq,
@@ -349,7 +349,7 @@ fn local_value<N: Nested>(
     Ok(N::Trees::local_init(eq_token, expr, diverge))
 }
 
-/// `else` and a block, where they may stand: behind an expression, read from `start` on, that doesn't end with braces.
+/// `else` and a block, where they are allowed: after an expression, read from `start` on, that doesn't end with braces.
 fn diverging<'a, N: Nested>(
     start: &ParseBuffer<'a>,
     nested: &N,

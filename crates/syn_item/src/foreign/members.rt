@@ -43,8 +43,8 @@ use syn_tokens::token::{
 use syn_tree::item::{FnModifiers, TypeModifiers};
 use syn_tree::restriction::Visibility;
 
-/// A foreign member: attributes, and then what the next words tell. A function with a body, a static with a value, and a type with bounds or
-/// with a type are kept as their tokens.
+/// A foreign member: attributes, and then the next words decide. A function with a body, a static with a value, and a type with bounds or
+/// with a type are kept verbatim.
 impl Read for ForeignItem {
     ghost form = { of (rule rules.foreign_item) };
 
@@ -62,7 +62,7 @@ impl Read for ForeignItem {
     }
 }
 
-/// A foreign member, behind its attributes; `None` where it is kept as its tokens.
+/// A foreign member, after its attributes; `None` where it is kept verbatim.
 #[tactic(auto, using(crate::proofs::ForeignMembers::visibility_refused, crate::proofs::ForeignMembers::type_follows, crate::proofs::ForeignMembers::static_follows, crate::proofs::ForeignMembers::function_follows, crate::proofs::ForeignMembers::marked_refused, crate::proofs::ForeignMembers::self_refused, crate::proofs::ForeignMembers::macro_read, crate::proofs::ForeignMembers::macro_refused))]
 fn foreign_item_behind(
     attrs: Vec<Attribute>,
@@ -90,14 +90,14 @@ fn foreign_item_behind(
     Ok(Some(ForeignItem::Macro(foreign_macro(attrs, input)?)))
 }
 
-/// Whether a visibility stands next, written or not.
+/// Whether a visibility is next, written or not.
 fn at_visibility(input: &ParseBuffer<'_>) -> bool
     ensures { result ≡ or (sees (at_word w_pub) input.now) (sees at_empty_group input.now) }
 {
     input.peek::<Pub>() || at_empty_group(input)
 }
 
-/// Whether `static` stands next, or behind `safe` or `unsafe`.
+/// Whether `static` is next, or after `safe` or `unsafe`.
 fn at_static(input: &ParseBuffer<'_>) -> bool
     ensures { result ≡ static_next input.now }
 {
@@ -108,7 +108,7 @@ fn at_static(input: &ParseBuffer<'_>) -> bool
     }
 }
 
-/// Whether a word of a foreign signature stands next. Where no visibility stands before it (`is_marked`), `safe` may also begin a path.
+/// Whether a word of a foreign signature is next. Where no visibility is before it (`is_marked`), `safe` may also begin a path.
 fn at_foreign_function(is_marked: bool, input: &ParseBuffer<'_>) -> Parsed<bool>
     ensures { OrMemory IsSyntax result (λ answer. answer ≡ foreign_function_next is_marked input.now) }
 {
@@ -124,7 +124,7 @@ fn at_foreign_function(is_marked: bool, input: &ParseBuffer<'_>) -> Parsed<bool>
     )
 }
 
-/// A foreign function, behind its visibility; `None` where it is kept as its tokens: with a body.
+/// A foreign function, after its visibility; `None` where it is kept verbatim: with a body.
 fn foreign_function(
     attrs: Vec<Attribute>,
     vis: Visibility,
@@ -140,7 +140,7 @@ fn foreign_function(
     Ok(Some(ForeignItem::Fn(function)))
 }
 
-/// A foreign function, behind its signature: its `;`.
+/// A foreign function, after its signature: its `;`.
 fn behind_foreign_signature(
     attrs: Vec<Attribute>,
     vis: Visibility,
@@ -160,7 +160,7 @@ fn behind_foreign_signature(
     })
 }
 
-/// A foreign static, behind its visibility; `None` where it is kept as its tokens: with a value.
+/// A foreign static, after its visibility; `None` where it is kept verbatim: with a value.
 fn foreign_static(
     attrs: Vec<Attribute>,
     vis: Visibility,
@@ -176,7 +176,7 @@ fn foreign_static(
     Ok(Some(ForeignItem::Static(whole_static(attrs, vis, bare, semi_token))))
 }
 
-/// A foreign type, behind its visibility; `None` where it is kept as its tokens: with a colon or with `=`.
+/// A foreign type, after its visibility; `None` where it is kept verbatim: with a colon or with `=`.
 fn foreign_type(
     attrs: Vec<Attribute>,
     vis: Visibility,
@@ -331,7 +331,7 @@ impl Read for ForeignItemMacro {
     }
 }
 
-/// A macro in a foreign module, behind its attributes.
+/// A macro in a foreign module, after its attributes.
 fn foreign_macro(attrs: Vec<Attribute>, input: &mut ParseBuffer<'_>) -> Parsed<ForeignItemMacro>
     ensures reads { Computes IsSyntax itself (wrap (Both (attributes_syntax attrs.items)) (parse_rule rules.member_macro input.old)) result input.new }
     ensures moved { Moved input.old result input.new }

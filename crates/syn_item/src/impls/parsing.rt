@@ -34,7 +34,7 @@ use syn_tokens::span::Span;
 use syn_tokens::token::{Brace, Const, Default, For, Impl, Not, PathSep, Unsafe};
 use syn_tree::item::ImplModifiers;
 
-/// What stands before an impl's generics.
+/// What is before an impl's generics.
 #[derive(Drop)]
 pub(crate) struct ImplMarks {
     pub(crate) attrs: Vec<Attribute>,
@@ -52,7 +52,7 @@ pub(crate) struct ImplTypes {
     pub(crate) self_ty: Box<Type>,
 }
 
-/// Attributes, perhaps `default`, perhaps `const`, perhaps `unsafe`, `impl`, generics where they stand and no type does; `!` alone, or `!`,
+/// Attributes, perhaps `default`, perhaps `const`, perhaps `unsafe`, `impl`, generics if they are next and no type is; `!` alone, or `!`,
 /// a path, `for` and a type, or a path with `for` and a type or alone, or a type that is no plain path; a where clause, and inner
 /// attributes and members in braces.
 impl Read for ItemImpl {
@@ -67,7 +67,7 @@ impl Read for ItemImpl {
     }
 }
 
-/// An impl, behind its attributes.
+/// An impl, after its attributes.
 #[tactic(auto, using(syn_grammar::proofs::Each::impl_definition_rest_is))]
 fn impl_definition_rest(attrs: Vec<Attribute>, input: &mut ParseBuffer<'_>) -> Parsed<ItemImpl>
     requires outer { all_attributes_syntax attrs.items ≡ attributes_syntax attrs.items }
@@ -88,7 +88,7 @@ fn impl_definition_rest(attrs: Vec<Attribute>, input: &mut ParseBuffer<'_>) -> P
     behind_impl(marks, input)
 }
 
-/// An impl, behind its word.
+/// An impl, after its word.
 #[tactic(auto, using(crate::proofs::FirstTypes::generics_refused, crate::proofs::FirstTypes::types_refused, crate::proofs::FirstTypes::whole_read, crate::proofs::FirstTypes::whole_refused))]
 fn behind_impl(marks: ImplMarks, input: &mut ParseBuffer<'_>) -> Parsed<ItemImpl>
     requires outer { all_attributes_syntax marks.attrs.items ≡ attributes_syntax marks.attrs.items }
@@ -105,7 +105,7 @@ fn behind_impl(marks: ImplMarks, input: &mut ParseBuffer<'_>) -> Parsed<ItemImpl
     }
 }
 
-/// The refusal of an impl: where its first type is no path of a trait, and `for` stands behind it, it is told where that type begins.
+/// The refusal of an impl: if its first type is no path of a trait, and `for` follows it, it is at the beginning of that type.
 fn told(refusal: Refusal, is_odd: bool, first: Span) -> Refusal
     ensures { IsSyntax result → IsSyntax refusal }
 {
@@ -121,7 +121,7 @@ fn told(refusal: Refusal, is_odd: bool, first: Span) -> Refusal
     }
 }
 
-/// Generics, where they stand next and no type does.
+/// Generics, where they are next and no type does.
 pub(crate) fn impl_generics(input: &mut ParseBuffer<'_>) -> Parsed<Generics>
     ensures reads { Computes IsSyntax (λ g. kept_list (first g)) (parse_form impl_generics_form input.old) result input.new }
     ensures kept { Kept input.old result input.new }
@@ -196,7 +196,7 @@ fn behind_bang(input: &mut ParseBuffer<'_>) -> Parsed<ImplTypes>
     })
 }
 
-/// The `for` behind `!` and a path. Where none stands next, the fault stands at the `!`.
+/// The `for` after `!` and a path. Where none is next, the fault is at the `!`.
 fn for_behind_bang(bang_token: Not, input: &mut ParseBuffer<'_>) -> Parsed<For>
     ensures reads { Computes IsSyntax for_syntax (parse_form (plainly (word w_for)) input.old) result input.new }
     ensures moved { Moved input.old result input.new }
@@ -211,7 +211,7 @@ fn for_behind_bang(bang_token: Not, input: &mut ParseBuffer<'_>) -> Parsed<For>
     }
 }
 
-/// A path as a trait's, with `for` and a self type behind it; or as the self type.
+/// A path as a trait's, followed by `for` and a self type; or as the self type.
 #[tactic(auto, using(crate::proofs::FirstTypes::path_refused, crate::proofs::FirstTypes::plain_read, crate::proofs::FirstTypes::trait_for_refused, crate::proofs::FirstTypes::trait_type_refused, crate::proofs::FirstTypes::trait_read))]
 fn behind_path(input: &mut ParseBuffer<'_>) -> Parsed<ImplTypes>
     ensures reads { ReadsBefore IsSyntax types_before (λ f. wrap Right (wrap Left (path_then f input.old))) result input.new }
@@ -236,7 +236,7 @@ fn behind_path(input: &mut ParseBuffer<'_>) -> Parsed<ImplTypes>
     })
 }
 
-/// The where clause of an impl, if there is one. In it stands no self type.
+/// The where clause of an impl, if there is one. It holds no self type.
 #[tactic(auto, using(crate::proofs::FirstTypes::clause_read))]
 fn impl_clause(input: &mut ParseBuffer<'_>) -> Parsed<Option<WhereClause>>
     ensures reads { Computes IsSyntax (λ w. without_self_type (where_part w)) (parse_rule rules.where_clause input.old) result input.new }
@@ -245,7 +245,7 @@ fn impl_clause(input: &mut ParseBuffer<'_>) -> Parsed<Option<WhereClause>>
     where_clause(input)
 }
 
-/// An impl, behind its types.
+/// An impl, after its types.
 #[tactic(auto, using(syn_grammar::proofs::Each::impl_body_is, crate::proofs::MemberLists::impl_members))]
 pub(crate) fn impl_end(
     marks: ImplMarks,
@@ -276,7 +276,7 @@ pub(crate) fn impl_end(
     })
 }
 
-/// An impl among items, behind its generics; `None` where it is kept as its tokens: with a first type that is no plain path before `for`.
+/// An impl among items, after its generics; `None` where it is kept verbatim: with a first type that is no plain path before `for`.
 #[tactic(auto, using(crate::proofs::ItemImpls::odd_kept, crate::proofs::ItemImpls::first_refused, crate::proofs::ItemImpls::for_kept, crate::proofs::ItemImpls::impl_read, crate::proofs::ItemImpls::end_refused))]
 pub(crate) fn impl_or_kept(
     marks: ImplMarks,
@@ -296,7 +296,7 @@ pub(crate) fn impl_or_kept(
     Ok(Some(impl_end(marks, generics, types, input)?))
 }
 
-/// Whether `!` stands next, with neither braces nor a path in module style behind it.
+/// Whether `!` is next, with neither braces nor a path in module style after it.
 fn at_odd_negative(input: &ParseBuffer<'_>) -> bool
     ensures { result ≡ odd_negative input.now }
 {

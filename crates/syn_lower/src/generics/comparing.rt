@@ -50,7 +50,7 @@ impl Compared for ConstParam {
     }
 }
 
-/// A type and a constant are told apart by what stands behind their attributes.
+/// A type and a constant are distinguished by what follows their attributes.
 impl Compared for GenericParam {
     #[tactic(auto, using(syn_grammar::proofs::Same::and_false))]
     fn is_same(&self, other: &GenericParam) -> bool {

@@ -26,7 +26,7 @@ use syn_tokens::lifetime::Lifetime;
 use syn_tokens::punctuated::Punctuated;
 use syn_tokens::token::{Colon, Comma, Const, Eq, Gt, Lt, Plus};
 
-/// Attributes, a lifetime, and perhaps lifetimes behind a colon.
+/// Attributes, a lifetime, and perhaps lifetimes after a colon.
 impl Read for LifetimeParam {
     ghost form = { of (rule rules.lifetime_parameter) };
 
@@ -58,7 +58,7 @@ impl Read for GenericParam {
     }
 }
 
-/// A lifetime with these attributes, and perhaps lifetimes behind a colon.
+/// A lifetime with these attributes, and perhaps lifetimes after a colon.
 #[tactic(auto, unfolding(crate::specs::Parameters::lifetime_behind))]
 fn lifetime_param(attrs: Vec<Attribute>, input: &mut ParseBuffer<'_>) -> Parsed<LifetimeParam>
     ensures reads { Computes IsSyntax itself (lifetime_behind (attributes_syntax attrs.items) input.old) result input.new }
@@ -156,7 +156,7 @@ fn default_value<T: Read>(input: &mut ParseBuffer<'_>) -> Parsed<(Option<Eq>, Op
     }
 }
 
-/// Parameters in `< >` where `<` stands next, or none; no where clause.
+/// Parameters in `< >` if `<` is next, or none; no where clause.
 impl Read for Generics {
     ghost form = { of (rule rules.generics & unshown) };
 
@@ -170,7 +170,7 @@ impl Read for Generics {
 }
 
 impl Generics {
-    /// Parameters in `< >` where `<` stands next, or none; no where clause.
+    /// Parameters in `< >` if `<` is next, or none; no where clause.
     #[tactic(auto, using(syn_grammar::proofs::Each::generics_is))]
     pub fn read_params(input: &mut ParseBuffer<'_>) -> Parsed<Generics>
         ensures reads { Computes IsSyntax first (parse_rule rules.generics input.old) result input.new }
@@ -189,7 +189,7 @@ impl Generics {
     }
 }
 
-/// Parameters up to `>`, separated by commas; the last comma may stand or not.
+/// Parameters up to `>`, separated by commas; the last comma is optional.
 #[tactic(auto, using(crate::proofs::ParameterRows::parameters_are))]
 fn parameters(input: &mut ParseBuffer<'_>) -> Parsed<Punctuated<GenericParam, Comma>>
     ensures reads { Computes IsSyntax (λ l. as_row (list_of syntax_of_GenericParam comma_syntax l.pairs l.last)) (read_parameters input.old) result input.new }

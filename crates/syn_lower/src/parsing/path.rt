@@ -77,7 +77,7 @@ fn words<N: Nested>(
     joined_list::<PathSep, _, _>(input, |next| word(nested, next))
 }
 
-/// A word of a path in a type: an identifier or `Self`, with its arguments where they stand next; or `self`, `super` or `crate`.
+/// A word of a path in a type: an identifier or `Self`, with its arguments where they are next; or `self`, `super` or `crate`.
 #[tactic(auto, using(crate::proofs::PathWords::other_word))]
 fn word<N: Nested>(nested: &N, input: &mut ParseBuffer<'_>) -> Parsed<PathSegment>
     requires { MayBelow N.may nested.now input.old }
@@ -93,7 +93,7 @@ fn word<N: Nested>(nested: &N, input: &mut ParseBuffer<'_>) -> Parsed<PathSegmen
     })
 }
 
-/// An identifier or `Self`, with its arguments where they stand next. (It is asked for only where one of these stands next.)
+/// An identifier or `Self`, with its arguments if they are next. (It is called only where one of these is next.)
 #[tactic(auto, using(crate::proofs::PathWords::named_word))]
 fn named_word<N: Nested>(nested: &N, input: &mut ParseBuffer<'_>) -> Parsed<PathSegment>
     requires may { MayBelow N.may nested.now input.old }
@@ -107,7 +107,7 @@ fn named_word<N: Nested>(nested: &N, input: &mut ParseBuffer<'_>) -> Parsed<Path
     })
 }
 
-/// A path as a type: a qualified path where `<` stands next, or a path.
+/// A path as a type: a qualified path if `<` is next, or a path.
 #[tactic(auto, using(syn_grammar::proofs::Each::path_as_type_is))]
 pub(crate) fn path_as_type<N: Nested>(nested: &N, input: &mut ParseBuffer<'_>) -> Parsed<TypePath>
     requires { MayBelow N.may nested.now input.old }
@@ -122,7 +122,7 @@ pub(crate) fn path_as_type<N: Nested>(nested: &N, input: &mut ParseBuffer<'_>) -
     })
 }
 
-/// A type in `< >`, perhaps with `as` and a path behind it; `::` and words.
+/// A type in `< >`, perhaps followed by `as` and a path; `::` and words.
 #[tactic(auto, using(syn_grammar::proofs::Each::qualified_path_is))]
 fn qualified_path<N: Nested>(nested: &N, input: &mut ParseBuffer<'_>) -> Parsed<TypePath>
     requires { MayBelow N.may nested.now input.old }
@@ -138,7 +138,7 @@ fn qualified_path<N: Nested>(nested: &N, input: &mut ParseBuffer<'_>) -> Parsed<
     }
 }
 
-/// What stands behind the type of a qualified path without a trait: `>`, `::` and words.
+/// What follows the type of a qualified path without a trait: `>`, `::` and words.
 fn qualified_alone<N: Nested>(
     lt_token: Lt,
     ty: Box<Type>,
@@ -165,7 +165,7 @@ fn qualified_alone<N: Nested>(
     })
 }
 
-/// What stands behind the type of a qualified path with a trait: `as`, the trait's path, `>`, `::` and words.
+/// What follows the type of a qualified path with a trait: `as`, the trait's path, `>`, `::` and words.
 #[tactic(auto, using(syn_grammar::proofs::Each::type_path_is))]
 fn qualified_by_trait<N: Nested>(
     lt_token: Lt,

@@ -72,7 +72,7 @@ fn invisible_groups(rt: HostRuntime) {
     }
 }
 
-/// A variant whose name stands behind an invisible group.
+/// A variant whose name follows an invisible group.
 fn variant_behind(rt: &impl Abort, alloc: Global, text: &str) -> Result<Variant> {
     let mut tokens = grouped(rt, alloc, "", Delimiter::None, text);
     value(rt, push_ident(&mut tokens, "A"));

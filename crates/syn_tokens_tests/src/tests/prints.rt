@@ -15,20 +15,20 @@ use syn_tokens::stream::builder::StreamBuilder;
 use syn_tokens::token::{Comma, DelimiterKind, Delimiters, Pub, kind};
 use syn_whole::parse::parse2;
 
-/// What a value prints behind an `x`.
+/// What a value prints after an `x`.
 fn print_behind<T: ToTokens>(alloc: Global, value: &T) -> Result<TokenStream> {
     let mut out = tokens(alloc, "x")?;
     value.to_tokens(&mut out)?;
     Ok(out)
 }
 
-/// What the text, parsed, prints behind an `x`.
+/// What the text, parsed, prints after an `x`.
 fn reprinted<T: Parse + ToTokens + Drop>(alloc: Global, text: &str) -> Result<TokenStream> {
     let value: T = parse2(tokens(alloc, text)?)?;
     print_behind(alloc, &value)
 }
 
-/// Fails where what the text, parsed, prints behind an `x` is shown by another text.
+/// Fails where what the text, parsed, prints after an `x` is shown by another text.
 fn assert_reprinted<T: Parse + ToTokens + Drop>(
     rt: &impl Abort,
     alloc: Global,
@@ -59,7 +59,7 @@ fn streams(rt: HostRuntime) {
     assert_shown(&rt, &out, "x@0..1 a@0..1 (@1..2 b@2..3 )@3..4");
 }
 
-/// What the list of names that a stream spells prints behind an `x`.
+/// What the list of names that a stream spells prints after an `x`.
 fn list_printed(stream: &TokenStream) -> Result<TokenStream> {
     let list: Punctuated<Ident, Comma> = ParseBuffer::new(stream).parse_terminated()?;
     print_behind(stream.alloc(), &list)

@@ -85,7 +85,7 @@ fn into_groups(rt: HostRuntime) {
     assert!(rt; groups(&sample, "1@2;Bracket@3-4;") == Some(1));
 }
 
-/// Whether there are so many trees left, and none behind them.
+/// Whether there are so many trees left, and none after them.
 fn ends_behind(trees: &mut Iter<'_>, count: usize) -> bool {
     for _ in 0..count {
         if trees.next().is_none() {

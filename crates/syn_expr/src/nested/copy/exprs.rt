@@ -54,7 +54,7 @@ pub fn copy_maybe<N: CopyOf<Expr>>(
     }
 }
 
-/// A copy of what stands behind `else`, if anything does, with that word.
+/// A copy of what follows `else`, if anything does, with that word.
 pub fn copy_else<N: CopyOf<Expr>>(
     nested: &N,
     branch: &Option<(Else, Box<Expr>)>,

@@ -1,4 +1,4 @@
-//! What stands behind `else`: a block or `if`, and anything else in braces.
+//! What follows `else`: a block or `if`, and anything else in braces.
 ghost use Rattle.std.specs.Prelude.{◌≡◌, ◌≤◌, ℕ, OnOk};
 ghost use Rattle.syn_grammar.specs.Grammar.{Both, print};
 ghost use Rattle.syn_tokens.specs.Building.{added};
@@ -87,7 +87,7 @@ fn print_behind<N: PrintOf<Expr>>(
     }
 }
 
-/// `else` of an `if` and what stands behind it, if there is one.
+/// `else` of an `if` and what follows it, if there is one.
 #[tactic(auto, using(syn_tokens::proofs::Prints::prints, crate::proofs::Else::else_smaller))]
 pub fn print_else<N: PrintOf<Expr>>(
     nested: &N,
@@ -107,7 +107,7 @@ pub fn print_else<N: PrintOf<Expr>>(
     }
 }
 
-/// `else` of a local and what stands behind it, if there is one.
+/// `else` of a local and what follows it, if there is one.
 #[tactic(auto, using(syn_tokens::proofs::Prints::prints, crate::proofs::Else::block_smaller))]
 pub fn print_diverging<N: PrintOf<Expr>>(
     nested: &N,

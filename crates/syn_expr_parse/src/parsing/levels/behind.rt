@@ -1,4 +1,4 @@
-//! What stands behind an expression and isn't a chain of operators: casts, what it is compared with, what is assigned to it.
+//! What follows an expression and isn't a chain of operators: casts, what it is compared with, what is assigned to it.
 ghost use Rattle.std.specs.Prelude.{◌≡◌};
 ghost use Rattle.syn_grammar.specs.Rules as rules;
 ghost use Rattle.syn_grammar.specs.Shape.{Cast};
@@ -39,7 +39,7 @@ pub(super) fn cast<N: Nested>(
     casts::<N>(first, input)
 }
 
-/// `as` and a type behind an expression, any number of times.
+/// `as` and a type after an expression, any number of times.
 #[tactic(auto, using(crate::proofs::Levels::casts_step))]
 pub(super) fn casts<N: Nested>(
     left: Box<Expr<N>>,

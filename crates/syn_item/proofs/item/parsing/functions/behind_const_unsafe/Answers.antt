@@ -27,7 +27,7 @@ use Rattle.std.specs.Prelude.{Err}
 use Rattle.syn_item.proofs.Followed.{refused_by}
 use Rattle.syn_item.proofs.item.parsing.functions.behind_const_unsafe.Goals as goal
 
--- a word that stands next and isn't read where it may be absent is no token
+-- a word that is next and isn't read where it may be absent is no token
 no_token : (o : Out) → wrap Left o ≡ None → o ≡ None
 no_token None h = refl
 no_token (Some q) h = absurd (cc (sym h))
