@@ -37,7 +37,7 @@ use syn_tree::derive::DeriveInput;
 use syn_tree::item::{ItemEnum, ItemStruct, ItemUnion};
 use syn_tree::restriction::Visibility;
 
-/// What comes of the row as a tree of the type of this name; else what `other_tree` says.
+/// The result of the row as a tree of the type of this name; else that of `other_tree`.
 pub(crate) fn tree_as(
     alloc: Global,
     question: TreeQuestion,
@@ -66,7 +66,7 @@ pub(crate) fn tree_as(
     }
 }
 
-/// The same of further kinds.
+/// The same for further types.
 fn tree_as_1(
     alloc: Global,
     question: TreeQuestion,
@@ -95,7 +95,7 @@ fn tree_as_1(
     }
 }
 
-/// The same of further kinds.
+/// The same for further types.
 fn tree_as_2(
     alloc: Global,
     question: TreeQuestion,
@@ -124,7 +124,7 @@ fn tree_as_2(
     }
 }
 
-/// The same of further kinds.
+/// The same for further types.
 fn tree_as_3(
     alloc: Global,
     question: TreeQuestion,

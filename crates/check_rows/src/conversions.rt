@@ -1,6 +1,6 @@
 //! Written by tools/kinds.py; edits are lost.
 //!
-//! The trees that are made of others, by their calls.
+//! Conversions between trees, by their names.
 
 use crate::call::Converted;
 use crate::called::called;
@@ -26,7 +26,7 @@ use syn_tree::data::{Fields, FieldsNamed, FieldsUnnamed};
 use syn_tree::derive::DeriveInput;
 use syn_tree::item::{ItemEnum, ItemStruct, ItemUnion};
 
-/// What comes of the row as what is made of a tree.
+/// The result of the row as a tree made by the conversion of this name.
 pub(crate) fn converted_as(
     alloc: Global,
     question: TreeQuestion,
@@ -63,7 +63,7 @@ pub(crate) fn converted_as(
     }
 }
 
-/// The same of further kinds.
+/// The same for further types.
 fn converted_as_1(
     alloc: Global,
     question: TreeQuestion,
@@ -120,7 +120,7 @@ fn converted_as_1(
     }
 }
 
-/// The same of further kinds.
+/// The same for further types.
 fn converted_as_2(
     alloc: Global,
     question: TreeQuestion,

@@ -10,7 +10,7 @@ use syn::reader::{read_tokens, token_text};
 use syn::{Error, Result, Span};
 use syn_test_support::fault;
 
-/// What comes of the row as a `T`.
+/// The result of the row as a `T`.
 pub(crate) fn form<T: Canonical + Drop>(
     alloc: Global,
     question: FormQuestion,

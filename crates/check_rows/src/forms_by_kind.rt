@@ -33,7 +33,7 @@ use syn_tree::derive::DeriveInput;
 use syn_tree::item::{ItemEnum, ItemStruct, ItemUnion};
 use syn_tree::restriction::Visibility;
 
-/// What comes of the row by the canonical print of the type of this name.
+/// The result of the row by the canonical print of the type of this name.
 pub(crate) fn form_as(
     alloc: Global,
     question: FormQuestion,
@@ -62,7 +62,7 @@ pub(crate) fn form_as(
     }
 }
 
-/// The same of further kinds.
+/// The same for further types.
 fn form_as_1(
     alloc: Global,
     question: FormQuestion,
@@ -91,7 +91,7 @@ fn form_as_1(
     }
 }
 
-/// The same of further kinds.
+/// The same for further types.
 fn form_as_2(
     alloc: Global,
     question: FormQuestion,
@@ -120,7 +120,7 @@ fn form_as_2(
     }
 }
 
-/// The same of further kinds.
+/// The same for further types.
 fn form_as_3(
     alloc: Global,
     question: FormQuestion,

@@ -1,4 +1,4 @@
-//! What a row asks, by the word of its kind: types that have no rule of their own, and calls. All other types are in `by_kind`.
+//! The kinds of rows by their words: here types without a rule of their own, and calls; all other types are in `by_kind`.
 
 use crate::answer::answer;
 use crate::by_kind::tree_as;
@@ -21,7 +21,7 @@ use syn::deferred::{DeferredBlock, DeferredConstant, DeferredItem};
 use syn::item::StaticMutability;
 use syn::lower::{BoundLifetimes, GenericParam, TraitBound, TraitBoundModifier, WhereClause};
 
-/// What comes of the row as the kind of this word, which stands in the heading.
+/// The result of the row as the kind of this word of the heading.
 pub(crate) fn answer_as(
     alloc: Global,
     heading: &Heading<'_>,
@@ -37,7 +37,7 @@ pub(crate) fn answer_as(
     }
 }
 
-/// Parts of trees that no rule reads by itself; else the result of `call_as`.
+/// Parts of trees without a rule of their own; else the result of `call_as`.
 pub(crate) fn other_tree(
     alloc: Global,
     question: TreeQuestion,
