@@ -19,6 +19,7 @@ use Rattle.syn_answers.specs.declared.names.Marker.TheVariants as M
 
 -- KINDS AND NAMES
 
+-- Written by tools/kinds.py down to the next such comment; edits are lost.
 -- the rule that reads items of this kind
 abbrev pub rule_of : ItemKind → Rule
 rule_of K.Const = rules.const_item
@@ -37,6 +38,8 @@ rule_of K.Ty = rules.type_item
 rule_of K.Union = rules.union_item
 rule_of K.Use = rules.use_item
 rule_of K.Verbatim = rules.kept_item
+
+-- End of the part that tools/kinds.py writes.
 
 -- an identifier as a name
 abbrev pub name_of : Option IdentValue → Option Name

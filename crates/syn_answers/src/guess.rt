@@ -35,6 +35,8 @@ fn known_by(tree: &TokenTreeRef<'_>, behind: &Cursor<'_>) -> Option<ItemKind> {
     }
 }
 
+// Written by tools/kinds.py down to the next such comment; edits are lost.
+
 /// The kind that a word suggests.
 fn known_by_word(word: &str, behind: &Cursor<'_>) -> Option<ItemKind> {
     match word {
@@ -54,6 +56,8 @@ fn known_by_word(word: &str, behind: &Cursor<'_>) -> Option<ItemKind> {
         _ => None,
     }
 }
+
+// End of the part that tools/kinds.py writes.
 
 /// This kind, if a name or `_` is next.
 fn known_before_name(kind: ItemKind, behind: &Cursor<'_>) -> Option<ItemKind> {

@@ -20,6 +20,8 @@ use syn_tokens::error::Result;
 use syn_tokens::ident::Ident;
 use syn_tokens::stream::TokenStream;
 
+// Written by tools/kinds.py down to the next such comment; edits are lost.
+
 /// The kinds of items, named as their trees are.
 #[derive(Clone, Copy, Debug, PartialEq, Eq)]
 pub enum ItemKind {
@@ -42,6 +44,8 @@ pub enum ItemKind {
     Verbatim,
 }
 
+// End of the part that tools/kinds.py writes.
+
 /// The kind of an item, and its name. An impl, a use, a foreign module and a verbatim item have none, nor has a macro without a name after
 /// its `!`. The name of a constant may be `_`, that of an extern crate `self`.
 #[derive(Debug, Drop)]
@@ -49,6 +53,8 @@ pub struct ListedItem {
     pub kind: ItemKind,
     pub name: Option<Ident>,
 }
+
+// Written by tools/kinds.py down to the next such comment; edits are lost.
 
 /// The rule that reads items of this kind.
 #[tactic(auto, unfolding(syn_recognize::specs::Names::rule_of))]
@@ -75,6 +81,8 @@ fn rule_by(kind: ItemKind) -> Option<Rule>
     }
 }
 
+// End of the part that tools/kinds.py writes.
+
 /// Reads an item of this kind, and returns whether there was one; if there was none, nothing is read.
 fn try_kind(kind: ItemKind, input: &mut ParseBuffer<'_>) -> Parsed<bool>
     ensures { KindTried IsSyntax kind input.old result input.new }
@@ -93,7 +101,9 @@ fn try_kind(kind: ItemKind, input: &mut ParseBuffer<'_>) -> Parsed<bool>
     }
 }
 
-/// Reads an item of one of the kinds that are most common.
+// Written by tools/kinds.py down to the next such comment; edits are lost.
+
+/// Tries the most common kinds.
 fn try_common(input: &mut ParseBuffer<'_>) -> Parsed<Option<ItemKind>>
     ensures { KindsTried IsSyntax (K.Fn ∷ K.Struct ∷ K.Impl ∷ K.Enum ∷ K.Use ∷ []) input.old result input.new }
 {
@@ -115,7 +125,7 @@ fn try_common(input: &mut ParseBuffer<'_>) -> Parsed<Option<ItemKind>>
     Ok(None)
 }
 
-/// Reads an item of one of these kinds.
+/// Tries the kinds that are neither common nor rare.
 fn try_others(input: &mut ParseBuffer<'_>) -> Parsed<Option<ItemKind>>
     ensures { KindsTried IsSyntax (K.Const ∷ K.Mod ∷ K.Trait ∷ K.Ty ∷ K.Macro ∷ []) input.old result input.new }
 {
@@ -137,7 +147,7 @@ fn try_others(input: &mut ParseBuffer<'_>) -> Parsed<Option<ItemKind>>
     Ok(None)
 }
 
-/// Reads an item of one of the kinds that are rare.
+/// Tries the rarest kinds.
 fn try_rare(input: &mut ParseBuffer<'_>) -> Parsed<Option<ItemKind>>
     ensures { KindsTried IsSyntax (K.Static ∷ K.ExternCrate ∷ K.ForeignMod ∷ K.Union ∷ K.TraitAlias ∷ []) input.old result input.new }
 {
@@ -158,6 +168,8 @@ fn try_rare(input: &mut ParseBuffer<'_>) -> Parsed<Option<ItemKind>>
     }
     Ok(None)
 }
+
+// End of the part that tools/kinds.py writes.
 
 /// Reads an item of any kind, and returns its kind: verbatim where none of the kinds reads it.
 #[tactic(auto, using(crate::proofs::Listing::kept), unfolding(syn_recognize::specs::Names::rule_of))]

@@ -101,6 +101,8 @@ fn name_behind(trees: &Cursor<'_>, word: &'static str) -> Parsed<Option<Ident>>
     name(&behind(trees, Marker::Word(word)))
 }
 
+// Written by tools/kinds.py down to the next such comment; edits are lost.
+
 /// The name of the item of this kind that begins here.
 pub(crate) fn name_ahead(kind: ItemKind, input: &ParseBuffer<'_>) -> Parsed<Option<Ident>>
     ensures { OrMemory IsSyntax result (λ name. name_of name ≡ grammar.name_ahead (rule_of kind) input.now) }
@@ -125,3 +127,5 @@ pub(crate) fn name_ahead(kind: ItemKind, input: &ParseBuffer<'_>) -> Parsed<Opti
         ItemKind::Verbatim => Ok(None),
     }
 }
+
+// End of the part that tools/kinds.py writes.
