@@ -87,7 +87,7 @@ def name_of(place):
     word, _, optional = place.partition(",")
     if optional not in ("", "mut"):
         raise Fault(f"name={place} in tools/kinds.txt: only `mut` may be between a keyword and a name")
-    return f'name(&behind_mut(&behind(&trees, Marker::Word("{word}"))))' if optional else f'name_behind(&trees, "{word}")'
+    return f'name(&after_mut(&behind(&trees, Marker::Word("{word}"))))' if optional else f'name_behind(&trees, "{word}")'
 
 
 def name_ahead(kinds):
@@ -104,12 +104,12 @@ pub(crate) fn name_ahead(kind: ItemKind, input: &ParseBuffer<'_>) -> Parsed<Opti
 """
 
 
-def told_by_word(kinds):
+def known_by_word(kinds):
     by_word = {row.more["guess"]: variant for variant, row in kinds if "guess" in row.more} | dict.fromkeys(VERBATIM_WORDS, VERBATIM)
     plain = "".join(f'        "{word}" => Some(ItemKind::{by_word[word]}),\n' for word in sorted(by_word) if not word.endswith("?"))
-    before_name = "".join(f'        "{word[:-1]}" => told_before_name(ItemKind::{by_word[word]}, behind),\n' for word in sorted(by_word) if word.endswith("?"))
+    before_name = "".join(f'        "{word[:-1]}" => known_before_name(ItemKind::{by_word[word]}, behind),\n' for word in sorted(by_word) if word.endswith("?"))
     return f"""/// The kind that a word suggests.
-fn told_by_word(word: &str, behind: &Cursor<'_>) -> Option<ItemKind> {{
+fn known_by_word(word: &str, behind: &Cursor<'_>) -> Option<ItemKind> {{
     match word {{
 {plain}{before_name}        _ => None,
     }}
@@ -215,7 +215,7 @@ def listing(source, rows, table, crates):
             "\n".join(tries(name, words, share) for (name, words), share in zip(TRIES, shares(kinds))),
         ],
         "syn_answers/src/names.rt": [name_ahead(kinds)],
-        "syn_answers/src/guess.rt": [told_by_word(kinds)],
+        "syn_answers/src/guess.rt": [known_by_word(kinds)],
         "syn_answers/specs/Listing.antt": [spec_rules(kinds)],
         "syn_answers/proofs/Listing.antt": [are_kinds(kinds), kept(kinds, table)],
         "syn_canon/specs/Lines.antt": [word_imports(table), spec_words(kinds)],
