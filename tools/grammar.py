@@ -6,7 +6,7 @@
     tools/grammar.py --lower    writes tools/untold_borders.txt, of the rules of which fewer borders lack an example than it says
     tools/grammar.py --crate F  the same of the crate in the folder F
 
-Fails, with a complaint for each fault, where the table breaks a test that the laws need (docs/GRAMMAR.md says what each means)."""
+Fails, with a complaint for each fault, where the table breaks a test that the laws need (`EXPLAINED` of tools/grammarlib/complaints.py says what each means, and the output of this script)."""
 import argparse
 import sys
 from pathlib import Path
@@ -79,11 +79,11 @@ def read_table(crate):
 def tell_unexplained(source):
     for name in source.without_sentence():
         print(f'grammar: no sentence explains `{name}`', file=sys.stderr)
-    page = HERE.parent / 'docs' / 'GRAMMAR.md'
-    told = page.read_text() if page.exists() else ''
+    page = HERE.parent / 'docs' / 'reference' / 'RULES.md'
+    rows = page.read_text() if page.exists() else ''
     for rule in source.rules:
-        if f'`{rule}`' not in told:
-            print(f'grammar: docs/GRAMMAR.md doesn\'t tell of the rule `{rule}`', file=sys.stderr)
+        if f'`{rule}`' not in rows:
+            print(f'grammar: docs/reference/RULES.md has no row for the rule `{rule}`', file=sys.stderr)
 
 
 def lower(borders):

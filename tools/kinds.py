@@ -18,7 +18,7 @@ and beside them:
 
     crates/syn_tree/src/comma_lists.rt  the function of each rule that is a comma list, with its proof (proofs/CommaLists)
     crates/syn/src/kinds.rt             `Canonical`, of the kinds below and of what else is read by one rule
-    docs/GRAMMAR.md                     the table of rules, each in the words above it, with what reads it
+    docs/reference/RULES.md             the table of rules, each in the words above it, with what reads it
     crates/syn_canon                    src/kind.rt, src/by_kind.rt, specs/Kinds.antt: the program's list of kinds
     crates/tree_answers/src/by_kind.rt  the same kinds, by their trees and by their rules
     crates/cut_streams/src/by_kind.rt   the same of all types that are read by one rule
@@ -182,7 +182,7 @@ def outputs():
         files.update(copies(crate))
         files.update(comparisons(crate))
         files.update(prints(crate, UNPRINTED))
-    table, page = CRATES / "syn_grammar/specs/Table.antt", Path("docs/GRAMMAR.md")
+    table, page = CRATES / "syn_grammar/specs/Table.antt", Path("docs/reference/RULES.md")
     files.update(comma_lists(source, table))
     files[page] = rows(source, table, page, patterns, operators, expressions, items)
     trees = together(crates)

@@ -8,25 +8,27 @@ from .lookaheads import ENDED, mentions_fact, unique
 from .summaries import Summary, Summaries
 
 EXPLAINED = {
-    'SEAM': 'a part asks what stands behind it, and the answer may differ in the print, where the next part begins with another terminal. '
-            'First: which facts does the token before it tell (plainly, telling, asking)? Then: does somebody ask who needn\'t?',
+    'SEAM': 'a part tests what follows it, and in the print the next part may begin with another terminal, so that the result differs. '
+            'First: let the token that moves promise the facts (telling, asking). Then: a form that needn\'t test can be `plainly`.',
     'HALT': 'an optional part was absent because a look was false; in the print of what follows it may be true. '
-            'First: let the token that follows tell that fact (telling, asking); then: is the look too wide?',
-    'SHUN': 'a part that vanishes from the print asks that something doesn\'t follow, but that may follow. Narrow the look of the vanishing part.',
-    'GONE': 'what follows may vanish from the print, and a look before it asks for it. Ask for what surely stays, or don\'t let it vanish.',
-    'KEPT': 'a `when` may turn the other way in the print, because the terminal that it asks for is printed otherwise. '
-            'Let the form keep its first token, or ask by a look that both terminals answer alike.',
-    'END': 'the content of a group may end where a vanishing part asks that nothing of the kind follows.',
-    'ENDED': 'a rule\'s last part asks that the stream doesn\'t end. Every rule must be readable alone.',
-    'SUPPLIED': 'the name before a supplied `_ :` may read or print nothing.',
+            'First: let the token that follows promise that fact (telling, asking). Then: is the look too wide?',
+    'SHUN': 'a part that vanishes from the print requires that something doesn\'t follow, but that may follow. Narrow the look of the vanishing part, '
+            'or let what follows begin otherwise.',
+    'GONE': 'what follows may vanish from the print, and a look before it tests for it. Test for what surely remains, or don\'t let it vanish.',
+    'KEPT': 'a `when` may turn the other way in the print, because the terminal that it tests for is printed otherwise. '
+            'Let the form keep its first token or promise the fact, or choose a look with the same result for both terminals.',
+    'END': 'the content of a group may end where a vanishing part requires that it doesn\'t. As SHUN.',
+    'ENDED': 'a rule\'s last part requires that the stream doesn\'t end. Every rule must be readable alone: move the condition to the rule that calls it.',
+    'SUPPLIED': 'the name before a supplied `_ :` may read or print nothing. Let it keep its first token in the print.',
     'WILD': 'a supplied `_` would be printed as something that is taken for a nameless form again.',
     'NAMED': 'a written name may be printed as something that is taken for a nameless form.',
-    'OPEN': 'a captured part must end by itself (with a group or a mark that asks nothing) and read at least one token.',
-    'LEAD': 'each member of such generics must begin a parameter in the print too, and what follows them must read and print something and end by itself.',
-    'LIST': 'a member of a list may read or print nothing, or begins with `>`.',
-    'MEMBER': 'a member of a list asks what stands behind it, and `,` and `>` answer differently.',
+    'OPEN': 'a captured part must end by itself (with a group, or a mark of one character that begins no longer one) and read at least one token.',
+    'LEAD': 'each member of such generics must begin a parameter in the print too, and what follows them must read and print something and end by itself. '
+            'Begin each member with `#`, a lifetime, `const`, or a name after which no type continues.',
+    'LIST': 'a member of a list may read or print nothing, or begins with `>`. Move the optional part after one that is always there.',
+    'MEMBER': 'a member of a list tests what follows it, and the result differs between `,` and `>`. Narrow the look.',
     'UNION': 'two alternatives of a union may read the same stream. Let one turn away where the other reads (`when look then never else ..`), '
-             'or make them one rule with a choice by what stands next.',
+             'or make them one rule with a choice by lookahead.',
     'LEFT': 'a rule calls itself before it has read anything. Write the repetition to the right: an operand, and then the others.',
 }
 
