@@ -2,7 +2,7 @@
 """Asks what is read of streams and texts that are cut short or changed, and compares it with another reading of the grammar.
 
     tools/cuts.py streams [--bin PROGRAM]           by the program `cut_streams`, built by trial, or PROGRAM
-    tools/cuts.py texts [--bin PROGRAM] [--jobs N]  by `syn_canon` as `rt ci` or `./run --prove` has built it, or PROGRAM
+    tools/cuts.py texts [--bin PROGRAM] [--jobs N]  by `syn_canon` as `./prove` has built it, or PROGRAM
     --part I/N                                      of N parts of the texts the I-th
     --invisible I/N                                 the same for the streams with an invisible group
 

@@ -18,7 +18,6 @@ The status is 0 where nothing is wrong, 1 where something is, and 2 where a prog
 """
 import argparse
 import re
-import shutil
 import subprocess
 import sys
 import tempfile
@@ -27,6 +26,7 @@ from dataclasses import dataclass
 from pathlib import Path
 
 import try_tests
+from gatelib.kit import kit_for_trials
 
 TOP = Path(__file__).resolve().parent.parent
 HEAP = TOP / "tools/refusing_heap.c"
@@ -104,34 +104,10 @@ def listed(opening, texts, closing):
     return opening + ", ".join(texts) + closing
 
 
-def kit():
-    """The folder of the kit."""
-    path = shutil.which("rt")
-    if not path:
-        raise RuntimeError("there is no rt here")
-    return Path(path).resolve().parent.parent
-
-
-def linked(folder, to, but=()):
-    """Makes a folder of links to all that stands in another, but these."""
-    to.mkdir()
-    for path in folder.iterdir():
-        if path.name not in but:
-            (to / path.name).symlink_to(path)
-
-
 def kit_over_heap(room, *words):
-    """Makes a kit whose trial builds have the heap that refuses, compiled with these words, and answers its command rt."""
-    own, made = kit(), room / "kit"
-    linked(own, made, ("bin", "c"))
-    linked(own / "c", made / "c", ("liblibc_c.a",))
-    # what rt is made of looks for the kit around the place where it stands, and asks the prover for nothing but a hint
-    scripts = [path.name for path in (own / "bin").iterdir() if path.name == "rtlib.py" or path.read_bytes()[:2] == b"#!"]
-    linked(own / "bin", made / "bin", (*scripts, "rattle"))
-    for name in scripts:
-        shutil.copy(own / "bin" / name, made / "bin" / name)
-    (made / "bin/rattle").symlink_to(shutil.which("true"))
-    compiler = [own / "toolchain/bin/clang", "-O2", "-fPIC", *words, "-c", HEAP, "-o", made / "c/liblibc_c.a"]
+    """Makes a kit whose trial builds have the refusing heap, compiled with these words, and returns its command rt."""
+    made = kit_for_trials(room, ("liblibc_c.a",))
+    compiler = [made / "toolchain/bin/clang", "-O2", "-fPIC", *words, "-c", HEAP, "-o", made / "c/liblibc_c.a"]
     subprocess.run(compiler, check=True)
     return made / "bin/rt"
 

@@ -33,7 +33,7 @@ from pathlib import Path
 from compare_answers import ORACLE, STAGE, WORDS, random_texts, there
 from cutlib.texts import REFUSAL
 from fuzz_reader import random_text
-from real_inputs import PROGRAM, library
+from real_files import PROGRAM, library
 
 # How many inputs are made at once, and how many derivations.
 BATCH, DERIVATIONS = 100, 40

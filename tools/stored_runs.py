@@ -1,8 +1,8 @@
 #!/usr/bin/env python3
 """Runs the built programs as their files crates/NAME/runs.txt say, and fails where a status or a byte that one wrote differs.
 
-Each program is run as it stands in crates/NAME/out: what `./run --prove` or `rt run` has built, and both builds that `rt ci`
-leaves there. A program that isn't built, or is older than a file that it is built of, is a failure too. Names of crates may be given: then
+Each program is run as it stands in crates/NAME/out: what `./prove` or `rt run` has built, with both builds that `rt ci` leaves
+there. A program that isn't built, or is older than a file that it is built of, is a failure too. Names of crates may be given: then
 those alone are run.
 
 A file runs.txt holds runs apart by empty lines. Each line of one is a word, a colon and a value; a line with `#` is a comment.
@@ -217,7 +217,7 @@ def builds_of(crate):
     """The builds of a program. It fails where there is none, or a source is newer."""
     builds = [path for path in (TOP / "crates" / crate / "out" / (crate + end) for end in BUILDS) if path.is_file()]
     if not builds:
-        raise ValueError(f"{crate} isn't built: ./run --prove, rt run in its folder or rt ci builds it")
+        raise ValueError(f"{crate} isn't built: ./prove or rt run in its folder builds it")
     files = [it for name in sources_of(crate) for it in (TOP / "crates" / name / "src").rglob("*.rt")]
     newest = max(files, key=lambda it: it.stat().st_mtime)
     for path in builds:
