@@ -2,6 +2,7 @@
 """Tests of try_tests.py, with a command in the place of rt: which runs it takes for well ended. Run it with no arguments."""
 
 import contextlib
+import functools
 import io
 import tempfile
 import unittest
@@ -68,6 +69,20 @@ class Tests(Trial):
     def test_no_end(self):
         for log, status in ((PASSED, 0), (PASSED + "run=none proved=no\n", 2), (PASSED + ENDED, 1), (PASSED + ENDED.replace("status=0", "status=3"), 0)):
             self.assertIn("did not end", self.tried(log, status))
+
+
+class Refused(Trial):
+    """Tests with a request for memory refused."""
+
+    def refused(self, log):
+        self.write("log", log)
+        run = functools.partial(try_tests.run_refused, 7)
+        return self.answered(run, "high", f'[ "$4 $5" = "--fail-alloc 7" ] && cat {self.top}/log\nexit 1\n')
+
+    def test_those_of_the_module_have_to_pass(self):
+        self.assertEqual(self.refused("test tests::a ... FAILED\ntest tests::scarce_memory::b ... ok\n"), "")
+        self.assertIn("tests::scarce_memory::b failed", self.refused("test tests::scarce_memory::b ... FAILED\n"))
+        self.assertIn("no test failed", self.refused("test tests::scarce ... ok\n"))
 
 
 class Programs(Trial):

@@ -2,6 +2,7 @@
 """Runs the tests of the crates, and each program on its own input, by trial builds: nothing is proved.
 
     tools/try_tests.py [--jobs N] [--seconds N] [CRATE ..]     all crates if none is named
+    tools/try_tests.py --refused N CRATE ..                    the tests of a module `scarce_memory`, with the Nth request for memory refused
 
 Up to --jobs crates run side by side (default: one for each processor). A run may take --seconds (default: 300), and four times as long
 with its build.
@@ -15,6 +16,7 @@ A trial run checks only some of the calls that break a `requires`. What passes h
 
 import argparse
 import concurrent.futures
+import functools
 import os
 import re
 import shutil
@@ -30,6 +32,8 @@ TOP = Path(__file__).resolve().parent.parent
 COMMAND = ["rt", "try"]
 # How long a run may take without its build (the deep tests take a minute on a busy machine), and how many times that with its build.
 SECONDS, WITH_BUILD = 300, 4
+# The tests that pass even if one request for memory is refused are in modules of this name.
+MODULE = "scarce_memory"
 NOT_COPIED = ("out", "edits", "must-fail")
 TEST = re.compile(r"(?m)^test (\S+) \.\.\. (ok|FAILED)$")
 COUNT = re.compile(r"(?m)^tests: (\d+)$")
@@ -105,6 +109,18 @@ def without_passed(text):
     return re.sub(r"(?m)^test \S+ \.\.\. ok\n", "", text)
 
 
+def run_refused(number, folder, seconds=SECONDS):
+    """Runs the tests of the crate, each with this request for memory refused. Those of a module `scarce_memory` have to pass, others may
+    fail. Returns the same as `run_tests`."""
+    wrote, said, _ = called(["--test", "--fail-alloc", str(number)], folder, seconds)
+    tests = [it for it in TEST.findall(wrote.decode(errors="replace") + said) if MODULE in it[0].split("::")]
+    failed = [name for name, outcome in tests if outcome != "ok"]
+    told = f"{len(tests) - len(failed)} tests passed without request {number}"
+    if failed or not tests:
+        return told, f"{', '.join(failed) or 'no test'} failed\n{end_of(said)}"
+    return told, ""
+
+
 def run_tests(folder, seconds=SECONDS):
     """Runs the tests of the crate. Returns a text with the number that passed, and the error, or an empty text."""
     wrote, said, status = called(["--test"], folder, seconds)
@@ -153,11 +169,14 @@ def main():
     parser = argparse.ArgumentParser(description=__doc__, formatter_class=argparse.RawDescriptionHelpFormatter)
     parser.add_argument("--jobs", type=int, default=len(os.sched_getaffinity(0)))
     parser.add_argument("--seconds", type=int, default=SECONDS)
+    parser.add_argument("--refused", type=int, help="the request for memory that is refused")
     parser.add_argument("crates", nargs="*", help="the crates whose tests and programs are run")
     options = parser.parse_args()
     if options.jobs < 1 or options.seconds < 1:
         parser.error("--jobs and --seconds are at least 1")
     tasks = tasks_of(TOP, options.crates)
+    if options.refused:
+        tasks = [(name, functools.partial(run_refused, options.refused)) for name, run in tasks if run is run_tests]
     with tempfile.TemporaryDirectory(prefix="try_tests-") as room:
         copied(TOP, Path(room))
         kit_for_trials(room)
