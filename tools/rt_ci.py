@@ -320,7 +320,7 @@ def proved(rt, left_out, edits):
         status = rt.main(["ci"])
         os.chdir(TOP)
         report.flush()
-    if not status and PROGRAM not in left_out:
+    if not status and PROGRAM not in left_out and (TOP / "crates" / PROGRAM / "out" / PROGRAM).is_file():
         subprocess.run(["bash", STAMP, "write", before], check=True)
     return status
 

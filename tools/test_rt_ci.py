@@ -151,10 +151,13 @@ class Proved(unittest.TestCase):
         rt, said, stamps = SimpleNamespace(main=main, processors=lambda: 2, free=lambda: 100), io.StringIO(), []
         script = lambda words, **_: stamps.append(words[2:]) or SimpleNamespace(stdout="sum\n")
         before = Path.cwd()
-        self.addCleanup(os.chdir, before)
-        with tempfile.TemporaryDirectory() as folder, contextlib.redirect_stdout(said), mock.patch.object(rt_ci.subprocess, "run", script), \
+        with tempfile.TemporaryDirectory() as folder, mock.patch.object(rt_ci, "TOP", Path(folder)), contextlib.redirect_stdout(said), mock.patch.object(rt_ci.subprocess, "run", script), \
                 mock.patch.object(rt_ci, "repository", lambda _: contextlib.nullcontext(folder)):
+            program = Path(folder, "crates", rt_ci.PROGRAM, "out", rt_ci.PROGRAM)
+            program.parent.mkdir(parents=True)
+            program.touch()
             self.assertEqual(rt_ci.proved(rt, left_out, rt_ci.Edits(0, 0, 1)), status)
+            os.chdir(before)
         return said.getvalue().splitlines(), stamps
 
     def test_a_proved_program_is_stamped(self):

@@ -87,7 +87,8 @@ class Progress:
 
     def tell(self):
         """Reports the running tasks."""
-        names = [it.key[0] or "edits" for it in self.tasks if it.key in self.started and it.key not in self.ended and it.lines]
+        running = [it for it in self.tasks if it.key in self.started and it.key not in self.ended and it.lines]
+        names = {" ".join(it.key[:1] if it.key[1] == "proof" else map(str, it.key)).strip(): None for it in running}
         self.say(f"{self.line()}; running: {', '.join(names)}")
 
     def line(self):
