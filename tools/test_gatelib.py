@@ -101,6 +101,12 @@ class Reports(unittest.TestCase):
         text = "== low\nerror: this\nrt: low NOT PROVED\n0 passed, 1 failed\n"
         self.assertEqual(self.told(text), text)
 
+    def test_output_of_tests(self):
+        to = io.StringIO()
+        report = Report(to)
+        report.buffer.write(b"test a ... ok\n")
+        self.assertEqual(to.getvalue(), "test a ... ok\n")
+
     def test_what_has_no_result_is_shown(self):
         self.assertEqual(self.told("== low\nerror\n== high\nmore\n", "end"), "== low\nerror\n== high\nmore\nend")
 

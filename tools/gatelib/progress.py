@@ -16,8 +16,12 @@ class Report:
 
     def __init__(self, to):
         self.to, self.part, self.details, self.lock = to, "", None, threading.RLock()
+        # rt writes the output of tests as bytes
+        self.buffer = self
 
     def write(self, text):
+        if isinstance(text, bytes):
+            text = text.decode(errors="replace")
         with self.lock:
             *lines, self.part = (self.part + text).splitlines(keepends=True) or [""]
             if self.part.endswith("\n"):
