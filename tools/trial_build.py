@@ -5,7 +5,7 @@
 
 `rt try` compiles a program with LLVM and with checks of each memory access, runs it and deletes it. Here one C file is linked into
 it, tools/gatelib/keep.c, which copies the executable when it starts. A kept executable is slower than a proved one and reserves
-terabytes of address space; otherwise it behaves in the same way. A build takes some 30 seconds of processor.
+terabytes of address space; otherwise it behaves in the same way. A build takes 30 seconds of processor, and 140 with the crates of trees.
 
 The status is 0 if all were built, else 1.
 """
