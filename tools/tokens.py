@@ -1,6 +1,6 @@
 #!/usr/bin/env python3
 """Writes the kinds of words and marks of crates/syn_tokens: src/token.rt, src/token/kind.rt,
-src/token/kind/*.rt, specs/Kinds*.antt; and of each kind the wrong bodies edits/text_of_*.edit and edits/fault_of_*.edit.
+src/token/kind/*.rt, specs/Kinds*.antt.
 
 Run it at the top of the repository; what it writes is committed. With --check it writes nothing, and fails where a file
 isn't as it would write it."""
@@ -284,36 +284,6 @@ def antt_name(name):
     return "«Type»" if name == "Type" else name
 
 
-def wrong_body(file, function, right, wrong):
-    """An edit that has a function of a kind answer something else."""
-    return f"""clause: returns
-file: src/token/kind/{file}.rt
-in: token::kind::{file}::{function}
-old: {right}
-new: {wrong}
-"""
-
-
-def wrong_bodies(file, kinds, impl, answer):
-    """Of each kind: its text, and what a fault says of it, are those of the next one."""
-    for (name, text), (_, other) in zip(kinds, kinds[1:] + kinds[:1]):
-        (right, function), (wrong, _) = answer(text), answer(other)
-        yield f"text_of_{snake(name)}", wrong_body(file, f"{name}{impl}::{function}", right, wrong)
-        yield f"fault_of_{snake(name)}", wrong_body(file, f"{name}{impl}::expected", f'"expected `{text}`"', f'"expected `{other}`"')
-
-
-def edits():
-    """The wrong bodies of all words and marks."""
-    found = []
-    for file, _, kinds in WORD_FILES:
-        pairs = [(name, text) for name, text, _ in kinds]
-        found += wrong_bodies(file, pairs, "WordKind", lambda text: (f'"{text}"', "text"))
-    for file, kinds in (("marks", MARKS), ("long_marks", LONG_MARKS)):
-        for length, trait in TRAITS.items():
-            found += wrong_bodies(file, [it for it in kinds if len(it[1]) == length], trait, characters)
-    return {CRATE / "edits" / f"{name}.edit": text for name, text in found}
-
-
 def outputs():
     """What stands in each file that this script writes."""
     kind = CRATE / "src/token/kind"
@@ -326,7 +296,7 @@ def outputs():
     files[CRATE / "specs/KindsOfWords.antt"] = word_specs()
     files[CRATE / "specs/KindsOfMarks.antt"] = mark_specs()
     files[CRATE / "specs/Kinds.antt"] = group_specs()
-    return {**files, **edits()}
+    return files
 
 
 def main():

@@ -1,7 +1,7 @@
 #!/usr/bin/env python3
 """Tries edits that the prover has to refuse: wrong bodies, each of which breaks a clause of a contract.
 
-    tools/try_edits.py [CRATE [NAME..]]     the edits of crates/CRATE/edits (or those of these names); of every crate
+    tools/try_edits.py [CRATE [NAME..]]     the edits of crates/CRATE/edits.toml (or those of these names); of every crate
     tools/try_edits.py --check              only whether each edit can be applied and names what it breaks; proves nothing
     tools/try_edits.py --lacking [CRATE]    lists the public functions and methods of traits whose bodies no edit changes
     tools/try_edits.py --record [CRATE ..]  also writes the clause into the edits that name none
@@ -14,22 +14,19 @@
     --users-of OTHER                        only of crates that use this one
     --one-by-one                            one crate after another, and not those of two side by side
 
-An edit is a file of lines:
+An edit is a table of crates/CRATE/edits.toml (editlib/stored.py): it names the clause that it breaks, the function, the file, the
+old text and the new one. What `clause` may say:
 
-    clause: reads                            the clause that it breaks, by its name in the contract; `returns` for a clause
-                                             without a name, `invariant` for that of a type
-    clause: same or equal                    the same, of a body that breaks several clauses at once, of which the prover doesn't
-                                             always tell the same one: one of them has to be refused
-    clause: skips by loop-character-preserved      the same, where the prover stops at another goal than the clause's own: a
-                                             loop's invariant, or what a callee requires; of a table, a function that is
-                                             not proved (the end of its name), or a file of proofs, and the lemma there
-                                             that is refused: one_tree by unions_hold, ExamplesOfItems by enum_values
-    file: src/token/word.rt                  what it changes,
-    in: token::word::Word::new               in which function (left out where the text stands once in the file),
-    old: span,                               the text, which stands there once,
-    new: span: Span::call_site(),            and what takes its place, in one line
+    reads                                    a clause by its name in the contract; `returns` for a clause without a name,
+                                             `invariant` for that of a type
+    same or equal                            of a body that breaks several clauses at once, of which the prover doesn't always
+                                             report the same one: one of them has to be refused
+    skips by loop-character-preserved        the prover stops at another goal than the clause's own: a loop's invariant, or what
+                                             a callee requires; of a table, a function that is not proved (the end of its name),
+                                             or a file of proofs, and the lemma there that is refused: one_tree by unions_hold,
+                                             ExamplesOfItems by enum_values
 
-Those of must-fail/ are tried by `rt ci`, one after another, so a few stand there; here only where they are named. All others
+`rt ci` tries the edits of must-fail/ one after another, so there are few; this script tries them only by their names. All others
 are tried many at once: a copy of the crate is changed by all edits that touch bodies of different functions, and of that the
 changed functions are checked, and those that they call. Contracts are as they were, so each function that was changed has to
 be refused for itself, and not only because it calls another one that is refused. What changes something else than bodies, as
@@ -52,8 +49,8 @@ import time
 from concurrent.futures import ThreadPoolExecutor
 from pathlib import Path
 
-from editlib import prover, rooms
-from editlib.edits import edits_of, packs, with_clauses
+from editlib import prover, rooms, stored
+from editlib.edits import Source, applying, packs
 from editlib.refusals import answer_of, clause_of
 
 TOP = Path(__file__).resolve().parent.parent
@@ -70,9 +67,12 @@ class Trial:
         self.crate, self.lower, self.folder, self.end = crate, lower, folder, end
         self.lanes = 1
         self.size = SIZE if end is None else SMALL
-        self.source, found, self.unfit = edits_of(crate, lower, names)
+        self.source = Source(crate, lower)
+        read, unread = stored.read(crate)
+        found, unfit = applying(self.source, [edit for edit in read if not names or edit.name in names])
+        self.unfit = [*unfit, *((name, why) for name, why in unread if not names or name in names)]
         self.edits = turned(found, start)
-        self.refused, self.untried, self.wrong = {}, [], [f"{path.stem}: can't be applied: {why}" for path, why in self.unfit]
+        self.refused, self.untried, self.wrong = {}, [], [f"{name}: can't be applied: {why}" for name, why in self.unfit]
 
     def is_late(self):
         """Whether no time is left for another check."""
@@ -147,13 +147,14 @@ class Trial:
 
     def compare(self, is_recording):
         """Compares what was refused with what the edits name."""
+        recorded = []
         for edit in self.edits:
             if edit.name not in self.refused:
                 continue
             clauses, others = self.clauses(edit)
             if not edit.clauses and is_recording:
                 edit.clauses = clauses[:1] or [f"{(self.whole(edit) or ['returns'])[0].removeprefix(f'{self.crate.name}::')} by {others[0]}"]
-                edit.path.write_text(with_clauses(edit.path.read_text(), edit.clauses))
+                recorded.append(edit)
             for clause in edit.clauses:
                 name, _, goal = clause.partition(" by ")
                 if goal:
@@ -163,6 +164,7 @@ class Trial:
                     fits = not set(alternatives(name)).isdisjoint(clauses)
                 if not fits:
                     self.wrong.append(f"{edit.name}: names {clause}, but refused were: {', '.join([*clauses, *others])}")
+        stored.record(recorded)
 
 
 def turned(things, start):
@@ -204,7 +206,7 @@ def unnamed(trial):
     for edit in trial.edits:
         known = trial.source.clauses(edit)
         if not edit.clauses:
-            yield f"{edit.name}: names no clause (a line `clause: NAME`; --record writes what is refused)"
+            yield f"{edit.name}: names no clause (a line `clause = 'NAME'`; --record writes what is refused)"
         for clause in edit.clauses:
             for name in alternatives(clause.partition(" by ")[0]):
                 if known and name not in known and name != "invariant":
@@ -223,13 +225,13 @@ def trials_of(options, top):
     lower = {name: [folder / it for it in rooms.below(name, uses)] for name in uses}
     names = [options.crate] if options.crate else sorted(uses, key=lambda name: len(lower[name]))
     names = [name for name in names if is_wanted(lower[name], options)]
-    has_edits = [name for name in names if [*(folder / name).glob("edits/*"), *(folder / name).glob("must-fail/*")]]
+    has_edits = [name for name in names if [*(folder / name).glob("edits.toml"), *(folder / name).glob("must-fail/*")]]
     end = None if options.minutes is None else time.monotonic() + 60 * options.minutes
     rounds = options.turn // max(1, len(has_edits))
     trials = [Trial(folder / name, lower[name], options.names, options.said, end, SMALL * rounds) for name in has_edits]
     if not options.check and not options.names and not options.lacking:
         for trial in trials:
-            trial.edits = [edit for edit in trial.edits if edit.path.parent.name != "must-fail"]
+            trial.edits = [edit for edit in trial.edits if not edit.is_of_kit]
     return turned([trial for trial in trials if trial.edits or trial.unfit], options.turn)
 
 

@@ -29,7 +29,7 @@ TOP = Path(__file__).resolve().parent.parent
 COMMAND = ["rt", "try"]
 # How long a run may take that is built (the deep tests take a minute on a machine with other work), and how often that with its build.
 SECONDS, WITH_BUILD = 300, 4
-NOT_COPIED = ("out", "edits", "must-fail")
+NOT_COPIED = ("out", "edits.toml", "must-fail")
 TEST = re.compile(r"(?m)^test (\S+) \.\.\. (ok|FAILED)$")
 COUNT = re.compile(r"(?m)^tests: (\d+)$")
 ENDED = re.compile(r"(?m)^run=ended status=(\d+) .*proved=no\s*\Z")
