@@ -136,7 +136,7 @@ class Program(InCrate):
     def test_without_time_nothing_is_tried_and_it_says_so(self):
         (self.top / "crates.txt").write_text("low:\n")
         self.edit("a", clause="value", new="        4")
-        options = SimpleNamespace(crate=None, names=[], said=None, minutes=-1, turn=0, record=False, check=False, lacking=False, built=False, users_of=None, one_by_one=False)
+        options = SimpleNamespace(crate=None, names=[], said=None, minutes=-1, turn=0, record=False, check=False, operators=False, lacking=False, built=False, users_of=None, one_by_one=False)
         said = io.StringIO()
         with contextlib.redirect_stdout(said):
             status = try_edits.tell(options, try_edits.trials_of(options, self.top))
@@ -150,12 +150,13 @@ class Program(InCrate):
             with self.subTest(clause), self.program("--check") as (said, ended):
                 self.assertEqual(ended, status, said)
 
-    def test_public_functions_without_an_edit_are_listed(self):
+    def test_public_functions_that_nothing_changes_are_listed(self):
         (self.top / "crates.txt").write_text("low:\n")
-        self.edit("a", clause="value", new="        4")
+        (self.crate / "src/lib.rt").write_text(SOURCE.replace("        2\n", "        LIMIT\n"))
+        self.edit("b", old="        3", new="        4", clause="returns")
         with self.program("--lacking") as (said, ended):
-            self.assertEqual((said, ended), ("low::BoxCompared::is_same\n", None))
-        self.edit("b", clause="same", old="        true", new="        false")
+            self.assertEqual((said, ended), ("low::Name::first\n", None))
+        self.edit("a", old="        LIMIT", new="        4", clause="value")
         with self.program("--lacking") as (said, _):
             self.assertEqual(said.strip(), "")
 
@@ -237,7 +238,7 @@ class Program(InCrate):
         try_edits.SMALL = 1
         found = []
         for turn in range(4):
-            options = SimpleNamespace(crate=None, names=[], said=None, minutes=None, turn=turn, check=False, lacking=False, built=False, users_of=None, one_by_one=False)
+            options = SimpleNamespace(crate=None, names=[], said=None, minutes=None, turn=turn, check=False, operators=False, lacking=False, built=False, users_of=None, one_by_one=False)
             found.append([edit.name for trial in try_edits.trials_of(options, self.top) for edit in trial.edits])
         self.assertEqual(found, [["a", "b", "c"], ["c", "a", "b"], ["b", "a", "c"], ["c", "b", "a"]])
 
