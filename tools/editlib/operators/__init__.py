@@ -10,6 +10,7 @@ What each operator shows of the contracts, by the traits and functions that have
     `eq`, `is_same`: the part of that name                part_exchanged, function_exchanged
     `try_clone`, `copy_nested`, `From`: each part stays   field_left_out, fields_exchanged, arm_for_another, variant_exchanged
     `print_in`, `print_nested`: each part is printed      statement_left_out, outcome_for_call
+    `print_in`, `print_nested`: each part once            printed_twice
     `print_in`, `print_nested`: in this order             statements_exchanged, part_exchanged
     `open`, `close`: of this delimiter, at this place     method_exchanged, variant_exchanged, part_exchanged
     `text`, `character(s)`, `expected`: these words       constant_exchanged, text_returned, function_exchanged

@@ -30,6 +30,25 @@ def statements_exchanged(body):
             yield start, last, body.text[other:last] + "?;" + body.text[end:other] + body.text[start : end - 2]
 
 
+def printed_twice(body):
+    """A part printed twice."""
+    if "out" not in body.parameters or nothing_for(body) != "Ok(())":
+        return
+    for start, end in body.statements:
+        if body.plain[start:end].endswith("?;") and not is_let(body.plain[start:end]):
+            yield end, end, " " + " ".join(body.text[start:end].split())
+    for start, end in ends_of(body):
+        call = " ".join(body.text[start:end].split())
+        if re.match(r"(?!match |if |Ok\(|return )[^{}]*\(", body.plain[start:end]):
+            yield start, end, f"{{ {call}?; {call} }}"
+
+
+def ends_of(body):
+    """The places of the value of a function: what is at its end, and the results of arms where a `match` is."""
+    arms = [(start, end) for _, _, start, end in body.arms] if body.tail and "match " in body.plain[slice(*body.tail)] else []
+    return [*([body.tail] if body.tail else []), *arms]
+
+
 def nothing_for(body):
     """What a function of this result may return that says nothing; None where that isn't known."""
     result = body.result
@@ -45,9 +64,7 @@ def nothing_for(body):
 def outcome_for_call(body):
     """`Ok(())`, `Ok(None)`, `Ok(false)` or `None` in place of a call at the end of a function, or of an arm."""
     nothing = nothing_for(body)
-    ends = [body.tail] if body.tail else []
-    ends += [(start, end) for _, _, start, end in body.arms] if body.tail and "match " in body.plain[slice(*body.tail)] else []
-    for start, end in ends if nothing else []:
+    for start, end in ends_of(body) if nothing else []:
         if re.match(r"(?!match |if |return )[^{}]*\(", body.plain[start:end]) and body.text[start:end] != nothing:
             yield start, end, nothing
 
@@ -114,6 +131,7 @@ def arguments_exchanged(body):
 OPERATORS = [
     statement_left_out,
     statements_exchanged,
+    printed_twice,
     outcome_for_call,
     refused_always,
     read_from_fork,

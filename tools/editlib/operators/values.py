@@ -33,7 +33,7 @@ def constant_exchanged(body):
     for match in body.find(r"'_+'"):
         yield match.start(), match.end(), "'#'" if body.text[match.start() : match.end()] != "'#'" else "'!'"
     for match in body.find(r"(?<![\w.])\d+(?![\w.])"):
-        if not body.is_pattern(match.start()):
+        if not body.is_pattern(match.start()) and not body.plain[: match.start()].endswith("; "):
             yield match.start(), match.end(), str(int(match[0]) + 1)
 
 
@@ -79,7 +79,7 @@ def token_exchanged(body):
         if len(known) > 1:
             yield match.start(2), match.end(2), after(known, match[2])
     for match in body.find(r"\bpunctuated_list::<(\w+), (\w+),"):
-        yield match.start(1), match.end(2), f"{match[2]}, {match[1]}"
+        yield match.start(1), match.end(1), match[2]
 
 
 def method_exchanged(body):
@@ -90,13 +90,13 @@ def method_exchanged(body):
 
 
 def arms_exchanged(body):
-    """The result of an arm exchanged with the next one's, where neither needs what its own pattern binds."""
+    """The result of an arm exchanged with the next one's, where neither needs what its pattern binds."""
     for (pattern, pattern_end, start, end), (pattern2, pattern_end2, start2, end2) in zip(body.arms, body.arms[1:]):
         is_next = body.plain[end : end + 1] in ",\n" and not body.plain[end:pattern2].strip(" ,\n") and end2 > start2
         first, second = body.text[start:end], body.text[start2:end2]
         bound, bound2 = (names_in(body.plain[it]) for it in (slice(pattern, pattern_end), slice(pattern2, pattern_end2)))
         used, used2 = names_in(body.plain[start:end]), names_in(body.plain[start2:end2])
-        if is_next and first != second and used & bound <= bound2 and used2 & bound2 <= bound:
+        if is_next and first != second and not used & bound and not used2 & bound2:
             first, second = in_place_of(second, first), in_place_of(first, second)
             yield start, end2, second + body.text[end:start2] + first
 
