@@ -92,7 +92,7 @@ class Mutants:
             path, function = functions[place % len(functions)]
             by_operator = self.of(path, function)
             if by_operator:
-                chosen = place // len(functions) + turn + number_of(function.name)
+                chosen = number_of(f"{function.name} {place // len(functions)}")
                 operator = sorted(by_operator)[chosen % len(by_operator)]
                 found.append(by_operator[operator][chosen // len(by_operator) % len(by_operator[operator])])
         return found

@@ -94,21 +94,20 @@ def read_from_fork(body):
 
 def function_exchanged(body):
     """Another function of the same type called."""
-    known, text = body.around.types.signatures, body.around.plain
-    calls = {match[1] for match in re.finditer(r"(?<![\w.:])([a-z]\w*)(?:::<[^()]*>)?\(", text)}
-    imported = {match[1] for match in re.finditer(r"(?m)^(?:pub(?:\([^)]*\))? )?(?:const )?fn (\w+)", text)}
-    here = sorted(name for name in (calls | imported) & set(known) if name in imported or f"{name}," in text or f"{name}}}" in text or f"::{name};" in text)
-    for match in body.find(r"(?<![\w.:])([a-z]\w*)(?=\()"):
-        own = known.get(match[1])
-        others = [name for name in here if name != match[1] and own and known[name] == own and f" {name}(" not in body.head]
-        if others and others[0] != body.function.name.rpartition("::")[2]:
-            yield match.start(), match.end(), next_of(others, match[1])
+    known, here, own = body.around.types.signatures, names_here(body.around.plain), body.function.name.rpartition("::")[2]
     methods = body.around.types.methods(body.around.path)
-    for match in body.find(r"(?<=self\.)([a-z]\w*)(?=\()"):
-        own = methods.get(match[1])
-        others = [name for name, it in methods.items() if name != match[1] and it == own]
-        if others:
-            yield match.start(), match.end(), next_of(others, match[1])
+    for pattern, types, names in [(r"(?<![\w.:])([a-z]\w*)(?=\()", known, here), (r"(?<=self\.)([a-z]\w*)(?=\()", methods, methods)]:
+        for match in body.find(pattern):
+            others = [it for it in names if it not in (own, match[1]) and match[1] in types and types.get(it) == types[match[1]]]
+            if others:
+                yield match.start(), match.end(), next_of(others, match[1])
+
+
+def names_here(text):
+    """The free functions that a file has or imports."""
+    own = re.findall(r"(?m)^(?:pub(?:\([^)]*\))? )?(?:const )?fn (\w+)", text)
+    uses = " ".join(re.findall(r"(?m)^(?:pub )?use ([^;]*);", text))
+    return list(dict.fromkeys([*own, *re.findall(r"(?:::|[{,] *\n? *)([a-z]\w*)(?= *[,};\n]|$)", uses)]))
 
 
 def next_of(names, name):
